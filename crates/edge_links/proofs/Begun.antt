@@ -1,4 +1,4 @@
--- What is shown while places are added.
+-- The view of the places while places are added.
 use Rattle.std.proofs.Common.{◌≡◌, ℕ, suc, ◌+◌, ◌-◌, ◌<◌, false, List, [], ◌∷◌, ◌++◌, length, set, get_or, refl, sym}
 use Rattle.std.proofs.Common.{◌∙◌, ap, subst, arith, inl, inr, get_or-set_same, get_or-set_other, length-set}
 use Rattle.std.proofs.lemmas.Bool.{cases_eq}
@@ -25,7 +25,7 @@ no_list : (xs : List ℕ) → length xs ≡ 0 → xs ≡ []
 no_list [] e = refl
 no_list (x ∷ xs) e = cc
 
--- place 0 is new
+-- place 0 is added
 module _ (s t : Owners) (nodes : List ℕ) (links : AreLinks s nodes) (begun : IsBegun s t) where
   pub begun_links : AreLinks t nodes
   begun_links = elim begun [
@@ -56,7 +56,7 @@ module _ (s t : Owners) (nodes : List ℕ) (links : AreLinks s nodes) (begun : I
         (ap (λ xs. times 0 xs - 1) first ∙ sym (ap (λ xs. times 0 xs - 1) none))
   ]
 
--- one more head
+-- one more head is added
 module _ (s t : Owners) (nodes : List ℕ) (n v : ℕ) (e : AreEdges s.users s.keys) (links : AreLinks s nodes)
     (some : 0 < length s.users)
     (is : n ≡ length s.users) (more_is : t ≡ with_head s n v) where
@@ -108,7 +108,7 @@ module _ (s t : Owners) (nodes : List ℕ) (n v : ℕ) (e : AreEdges s.users s.k
   name_new = ap (λ xs. get_or xs n 0) ns
       ∙ (ap (λ k. get_or (s.names ++ v ∷ []) k 0) (is ∙ sym links.size) ∙ get_or-append_seam s.names v [] 0)
 
-  -- the new head owns itself alone
+  -- the new head owns only itself
   pub grown_alone : (p : ℕ) → p < length t.users → (user t p ≡ n → p ≡ n) × (key_of t p ≡ n → p ≡ n)
   grown_alone p l = elim (cases_eq p n) [
     | inl q ↦ (λ _. q, λ _. q)

@@ -1,15 +1,15 @@
--- How many places a head owns.
+-- The number of places that a head owns.
 use Rattle.std.proofs.Common.{◌≡◌, ℕ, zero, suc, ◌+◌, ◌<◌, ◌≤◌, cond, List, [], ◌∷◌, ◌++◌, length, set, get_or, nat_eq}
 use Rattle.std.proofs.Common.{refl, sym, arith, inl, inr}
 use Rattle.std.proofs.lemmas.Bool.{cond-true, cond-false, eq-eqb, ne_eqb, cases_eq}
 use Rattle.edge_links.specs.Owners.{owned}
 use Rattle.edge_links.specs.Times.{times}
 
--- one less here is one more there
+-- if a is 1 and b is 0, b + c is one less than a + c
 ones : (a b c : ℕ) → a ≡ 1 → b ≡ 0 → b + c + 1 ≡ a + c
 ones a b c e f = omega arith
 
--- a place that gets another owner is one less of the old one
+-- moving a place to another owner decreases the count of the old owner by one
 pub owned_less : (x y : ℕ) (xs : List ℕ) (p : ℕ) → p < length xs → get_or xs p 0 ≡ x → (y ≡ x → ⊥)
     → owned x (set xs p y) + 1 ≡ owned x xs
 owned_less x y [] p l e ne = absurd (omega arith)
@@ -18,7 +18,7 @@ owned_less x y (z ∷ xs) zero l e ne =
     let b : cond (nat_eq y x) 1 0 ≡ 0 = cond-false (nat_eq y x) 1 0 (ne_eqb y x ne) in ones _ _ _ a b
 owned_less x y (z ∷ xs) (suc p) l e ne = omega (arith, owned_less x y xs p (omega arith) e ne)
 
--- and one more of the new one
+-- moving a place to another owner increases the count of the new owner by one
 pub owned_more : (x : ℕ) (xs : List ℕ) (p : ℕ) → p < length xs → (get_or xs p 0 ≡ x → ⊥)
     → owned x (set xs p x) ≡ owned x xs + 1
 owned_more x [] p l ne = absurd (omega arith)
@@ -27,7 +27,7 @@ owned_more x (z ∷ xs) zero l ne =
     let b : cond (nat_eq z x) 1 0 ≡ 0 = cond-false (nat_eq z x) 1 0 (ne_eqb z x ne) in sym (ones _ _ _ a b)
 owned_more x (z ∷ xs) (suc p) l ne = omega (arith, owned_more x xs p (omega arith) ne)
 
--- an owner has no more places than there are
+-- an owner has at most as many places as there are
 pub owned_le : (x : ℕ) (xs : List ℕ) → owned x xs ≤ length xs
 owned_le x [] = omega arith
 owned_le x (z ∷ xs) = elim (cases_eq z x) [
@@ -43,7 +43,7 @@ owned_le x (z ∷ xs) = elim (cases_eq z x) [
     le_none : (a b c : ℕ) → a ≡ 0 → b ≤ c → a + b ≤ suc c
     le_none a b c e h = omega arith
 
--- place 0 is its own
+-- place 0 owns itself
 pub owned_zero : (xs : List ℕ) → 0 < length xs → get_or xs 0 0 ≡ 0 → 1 ≤ times 0 xs
 owned_zero [] l e = omega (arith, l)
 owned_zero (z ∷ xs) l e = some _ _ (cond-true (nat_eq z 0) 1 0 (eq-eqb z 0 e))
@@ -51,12 +51,12 @@ owned_zero (z ∷ xs) l e = some _ _ (cond-true (nat_eq z 0) 1 0 (eq-eqb z 0 e))
     some : (a c : ℕ) → a ≡ 1 → 1 ≤ a + c
     some a c e = omega arith
 
--- one more place at the end
+-- appending a place increases the count of its owner by one, and changes no other count
 pub owned_end : (x : ℕ) (xs : List ℕ) (y : ℕ) → times x (xs ++ y ∷ []) ≡ times x xs + cond (nat_eq y x) 1 0
 owned_end x [] y = omega arith
 owned_end x (z ∷ xs) y = omega (arith, owned_end x xs y)
 
--- what stands often enough stands somewhere
+-- a number that occurs in a list is at some index
 pub some_place : (x : ℕ) (xs : List ℕ) → 0 < times x xs → (p : ℕ) × (p < length xs) × (get_or xs p 0 ≡ x)
 some_place x [] l = absurd (omega (arith, l))
 some_place x (z ∷ xs) l = elim (cases_eq z x) [
@@ -68,7 +68,7 @@ some_place x (z ∷ xs) l = elim (cases_eq z x) [
     rest : (a c : ℕ) → a ≡ 0 → 0 < a + c → 0 < c
     rest a c e h = omega arith
 
--- a head that owns no other owns one place at most
+-- a head that owns no other place owns at most one
 pub lone_zero : (xs : List ℕ) → ((p : ℕ) → p < length xs → get_or xs p 0 ≡ 0 → p ≡ 0) → 1 < times 0 xs → ⊥
 lone_zero [] f l = omega (arith, l)
 lone_zero (z ∷ xs) f l =

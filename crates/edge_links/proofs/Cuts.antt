@@ -1,11 +1,11 @@
--- A loop that takes out places.
+-- A loop that removes places.
 use Rattle.std.proofs.Common.{◌≡◌, ℕ, ◌<◌, length, set, get_or, refl, sym, ◌∙◌, ap, subst, arith}
 use Rattle.std.proofs.Common.{◌⊎◌, inl, inr, get_or-set_same, get_or-set_other, length-set}
 use Rattle.std.proofs.lemmas.Bool.{cases_eq}
 use Rattle.edge_links.specs.Changes.{IsCut}
 use Rattle.edge_links.specs.Owners.{Owners}
 
--- of the old places whose test holds some are free by now, and all others are as before
+-- some of the old places that satisfy the test are free now, and all others are unchanged
 pub record IsCutting (Test : ℕ → Type 0) (old new : Owners) : Type 0 where
   pub size : length new.users ≡ length old.users
   pub names : new.names ≡ old.names
@@ -13,15 +13,15 @@ pub record IsCutting (Test : ℕ → Type 0) (old new : Owners) : Type 0 where
       → (Test p × (get_or new.users p 0 ≡ 0) × (get_or new.keys p 0 ≡ 0)) ⊎
       ((get_or new.users p 0 ≡ get_or old.users p 0) × (get_or new.keys p 0 ≡ get_or old.keys p 0))
 
--- a place without user and key
+-- the places with one of them made free
 abbrev pub freed : Owners → ℕ → Owners
 freed s p = record s { users = set s.users p 0; keys = set s.keys p 0 }
 
--- at the start no place is free
+-- at the start nothing has changed
 pub cutting_start : (Test : ℕ → Type 0) (s : Owners) → IsCutting Test s s
 cutting_start Test s = record { size = refl; names = refl; each = λ p l. inr (refl, refl) }
 
--- one more of these places becomes free
+-- one more place that satisfies the test becomes free
 pub cutting_next :
     (Test : ℕ → Type 0) (old s : Owners) (place : ℕ) → IsCutting Test old s → length s.keys ≡ length s.users
     → place < length s.users
@@ -54,7 +54,7 @@ cutting_next Test old s place c ks l test = record {
   ];
 }
 
--- a loop that has nothing left
+-- if no place is left, all places that satisfied the test are free
 pub cutting_end : (Test : ℕ → Type 0) (old s : Owners) → IsCutting Test old s
     → ((p : ℕ) → p < length old.users → Test p → (get_or s.users p 0 ≡ get_or old.users p 0)
     × (get_or s.keys p 0 ≡ get_or old.keys p 0) → ⊥)

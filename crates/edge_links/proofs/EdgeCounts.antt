@@ -1,11 +1,11 @@
--- How often an edge stands among edges.
+-- The number of occurrences of an edge.
 use Rattle.std.proofs.Common.{◌≡◌, ℕ, ◌+◌, ◌<◌, Bool, true, false, nat_eq, List, [], ◌∷◌, ◌++◌, refl, ap, arith, inl}
 use Rattle.std.proofs.Common.{inr}
 use Rattle.std.proofs.lemmas.Bool.{cases_eq, cond-true, cond-false, eq-eqb, ne_eqb}
 use Rattle.std.specs.Prelude.{◌&&◌}
 use Rattle.edge_links.specs.Edges.{Edge, edge, edge_count}
 
--- edges of two lists are counted together
+-- the count in two concatenated lists is the sum of both counts
 pub count_append : (es ds : List Edge) (x y : ℕ) → edge_count (es ++ ds) x y ≡ edge_count es x y + edge_count ds x y
 count_append [] ds x y = omega arith
 count_append (e ∷ es) ds x y = plus _ _ _ _ (count_append es ds x y)
@@ -13,17 +13,17 @@ count_append (e ∷ es) ds x y = plus _ _ _ _ (count_append es ds x y)
     plus : (a b d f : ℕ) → b ≡ d + f → a + b ≡ a + d + f
     plus a b d f h = omega arith
 
--- two tests that hold hold together
+-- if two tests hold, their conjunction holds
 pub and_true : (x y : Bool) → x ≡ true → y ≡ true → x && y ≡ true
 and_true true y e f = f
 and_true false y e f = cc
 
--- they do not where the first does not
+-- a conjunction does not hold if its first test does not
 pub and_left : (x y : Bool) → x ≡ false → x && y ≡ false
 and_left true y e = cc
 and_left false y e = refl
 
--- nor where the second does not
+-- a conjunction does not hold if its second test does not
 pub and_right : (x y : Bool) → y ≡ false → x && y ≡ false
 and_right true y e = e
 and_right false y e = refl
@@ -33,11 +33,11 @@ pub count_self : (a b : ℕ) → edge_count (edge a b ∷ []) a b ≡ 1
 count_self a b =
     ap (λ k. k + 0) (cond-true (nat_eq a a && nat_eq b b) 1 0 (and_true _ _ (eq-eqb a a refl) (eq-eqb b b refl)))
 
--- never from another user
+-- an edge is not counted for another user
 pub count_other : (a b x y : ℕ) → (a ≡ x → ⊥) → edge_count (edge a b ∷ []) x y ≡ 0
 count_other a b x y ne = ap (λ k. k + 0) (cond-false (nat_eq a x && nat_eq b y) 1 0 (and_left _ _ (ne_eqb a x ne)))
 
--- an edge that is counted is the one
+-- an edge that is counted is the one between these nodes
 pub count_found : (a b x y : ℕ) → 0 < edge_count (edge a b ∷ []) x y → (a ≡ x) × (b ≡ y)
 count_found a b x y l = elim (cases_eq a x) [
   | inr ne ↦ absurd (none _ (count_other a b x y ne) l)

@@ -1,6 +1,6 @@
--- What is shown after edges were cut off.
+-- The view of the places after edges were removed.
 use Rattle.std.proofs.Common.{◌≡◌, ◌⊎◌, ℕ, zero, suc, ◌+◌, ◌-◌, ◌<◌, ◌≤◌, Bool, false, cond, nat_eq, List, [], ◌∷◌}
-use Rattle.std.proofs.Common.{length}
+use Rattle.std.proofs.Common.{length, map, Contains}
 use Rattle.std.proofs.Common.{get_or, refl, sym, ◌∙◌, ap, subst, arith, inl, inr}
 use Rattle.std.proofs.lemmas.Bool.{cond-true, cond-false, eq-eqb, ne_eqb}
 use Rattle.std.proofs.lemmas.List.{length-append}
@@ -8,24 +8,26 @@ use Rattle.edge_links.specs.Edges.{Edge, edge_count}
 use Rattle.edge_links.specs.Changes.{IsParted}
 use Rattle.edge_links.specs.Owners.{Owners, AreEdges, IsHead}
 use Rattle.edge_links.specs.PlaceReach.{IsCutOff}
+use Rattle.edge_links.specs.Once.{ClearsEachOnce, ClearsPlacesOnce}
 use Rattle.edge_links.specs.Reach.{IsAffected, Forgets, IsCleared}
 use Rattle.edge_links.specs.Shown.{edge_at, edges_below, AreLinks}
 use Rattle.edge_links.specs.PlaceReach as place
 use Rattle.edge_links.specs.Times.{times}
 use Rattle.edge_links.proofs.Counting.{owned_zero}
 use Rattle.edge_links.proofs.Linked.{same_heads}
+use Rattle.edge_links.proofs.Membership.{contains_map, contains_origin, apart_map}
 use Rattle.edge_links.proofs.EdgeCounts.{count_other}
 use Rattle.edge_links.proofs.Listed.{user, key_of, by_edge, at_none, at_free, at_edge, at_same, counts_same}
 use Rattle.edge_links.proofs.Listed.{counts_none}
 use Rattle.edge_links.proofs.Put.{read}
 use Rattle.edge_links.proofs.Reaching.{user_head, affected_down, affected_up, affected_there}
 
--- how many of the first n places are free
+-- the number of free places among the first n
 abbrev pub frees : (ℕ → ℕ) → ℕ → ℕ
 frees f zero = 0
 frees f (suc n) = cond (nat_eq (f n) 0) 1 0 + frees f n
 
--- free places are counted from the front
+-- free places can be counted from the front
 frees_front : (f : ℕ → ℕ) (n : ℕ) → frees f (suc n) ≡ cond (nat_eq (f 0) 0) 1 0 + frees (λ k. f (suc k)) n
 frees_front f zero = refl
 frees_front f (suc n) = swapped _ _ _ _ (frees_front f n)
@@ -33,7 +35,7 @@ frees_front f (suc n) = swapped _ _ _ _ (frees_front f n)
     swapped : (a b d e : ℕ) → b ≡ d + e → a + b ≡ d + (a + e)
     swapped a b d e h = omega arith
 
--- they are as many as there are zeros
+-- the number of free places is the number of zeros
 frees_times : (xs : List ℕ) → frees (λ k. get_or xs k 0) (length xs) ≡ times 0 xs
 frees_times [] = refl
 frees_times (x ∷ xs) = frees_front (λ k. get_or (x ∷ xs) k 0) (length xs)
@@ -57,7 +59,7 @@ module _ (s : Owners) (e : AreEdges s.users s.keys) (nodes : List ℕ) (links : 
   abbrev old : List Edge
   old = edges_below s n
 
-  -- what stays is shown as before, and what is cut off is not
+  -- a place that stays has the same edge as before
   abbrev Stays : ℕ → Type 0
   Stays p = (IsCutOff s (get_or nodes key 0) p → ⊥) × (edge_at t p ≡ edge_at s p)
 
@@ -88,7 +90,7 @@ module _ (s : Owners) (e : AreEdges s.users s.keys) (nodes : List ℕ) (links : 
   pub links_after : AreLinks t nodes
   links_after = same_heads s t nodes size same_names heads_stay heads_were idle links
 
-  -- the edge of an affected user is cut off, and no other
+  -- the edge of a user is removed if and only if the user is affected
   cut_off_affected : (p : ℕ) → p < n → IsCutOff s (get_or nodes key 0) p
       → IsAffected old key (get_or s.names (user s p) 0)
   cut_off_affected p l c = affected_up s e nodes links key (user s p) there c.2
@@ -130,7 +132,7 @@ module _ (s : Owners) (e : AreEdges s.users s.keys) (nodes : List ℕ) (links : 
     kept = λ x y f. ap (λ m. edge_count (edges_below t m) x y) size ∙ counts_same s t x y n (kept_at x y f);
   }
 
-  -- each place is as often free as it is not an edge
+  -- for each place, its number of edges, plus 1 if it is free, does not change
   weight : (p : ℕ) → p < n
       → length (edge_at t p) + cond (nat_eq (user t p) 0) 1 0 ≡ length (edge_at s p) + cond (nat_eq (user s p) 0) 1 0
   weight p l = elim (cut p l) [
@@ -156,7 +158,7 @@ module _ (s : Owners) (e : AreEdges s.users s.keys) (nodes : List ℕ) (links : 
           → a + (i + k) ≡ f + (j + o)
       sums a b d f g h i j k o p q r u = omega arith
 
-  -- place 0 stays
+  -- place 0 does not change
   zero_stays : 0 < n → get_or t.users 0 0 ≡ 0
   zero_stays l = elim (cut 0 l) [ inl c ↦ c.1 | inr c ↦ c.1 ∙ e.zero ]
 
@@ -183,3 +185,35 @@ module _ (s : Owners) (e : AreEdges s.users s.keys) (nodes : List ℕ) (links : 
     kept = λ m f. kept m (λ x h a q. f (subst (λ z. IsAffected old key z) q
         (affected_up s e nodes links key x there (subst (λ z. place.IsAffected s z x) is_head a))));
   }
+
+  -- the name of a place
+  abbrev name : ℕ → ℕ
+  name x = get_or s.names x 0
+
+  pub once : {M : Type 0} (IsCall : ℕ → M → M → Type 0) (m k : M)
+      → ClearsPlacesOnce IsCall s.names (λ x. IsHead s x × place.IsAffected s head x) m k
+      → ClearsEachOnce IsCall (IsAffected old key) m k
+  once IsCall m k calls = record {
+    nodes = map name calls.places;
+    apart = apart_map name calls.places
+        (λ x y i j same. let a = links.named x ((calls.affected x).0 i).0 in
+        let b = links.named y ((calls.affected y).0 j).0 in
+        sym a.1 ∙ (ap (λ z. get_or nodes z 0) same ∙ b.1))
+        calls.apart;
+    affected = λ x. (λ i. named_affected x (contains_origin name x calls.places i), λ f. affected_named x f);
+    calls = calls.calls;
+  }
+    where
+      named_affected : (x : ℕ) → ((p : ℕ) × Contains calls.places p × (name p ≡ x)) → IsAffected old key x
+      named_affected x (p, i, same) = subst (λ z. IsAffected old key z) same
+          (affected_up s e nodes links key p there
+          (subst (λ z. place.IsAffected s z p) is_head ((calls.affected p).0 i).1))
+
+      affected_named : (x : ℕ) → IsAffected old key x → Contains (map name calls.places) x
+      affected_named x f = let h = affected_there s e nodes links key x there f in
+          subst (λ z. Contains (map name calls.places) z) h.1 (contains_map name (get_or nodes x 0) calls.places
+          ((calls.affected (get_or nodes x 0)).1 (
+            h.0,
+            subst (λ z. place.IsAffected s z (get_or nodes x 0)) (sym is_head)
+                (affected_down s e nodes links key x f),
+          )))

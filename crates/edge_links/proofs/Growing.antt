@@ -7,7 +7,7 @@ use Rattle.std.proofs.Math.Seq.{get_or-append_seam}
 use Rattle.edge_links.specs.Columns.{Ring, no_ring, with_alone}
 use Rattle.edge_links.specs.Rings.{IsRing, AreRings}
 
--- no places are rings
+-- the empty lists are rings
 pub no_rings : AreRings no_ring
 no_rings = record {
   sizes = (refl, refl);
@@ -24,7 +24,7 @@ no_rings = record {
   };
 }
 
--- a place is one of before or the new one
+-- a place is an old one or the new one
 pub by_new : (n : ℕ) (P : ℕ → Type 0) → ((p : ℕ) → p < n → P p) → P n → (p : ℕ) → p < n + 1 → P p
 by_new n P old new p l =
     elim (cases_eq p n) [
@@ -32,7 +32,7 @@ by_new n P old new p l =
       | inr ne ↦ old p (omega arith)
     ]
 
--- a ring of one more place, which stands alone, is one
+-- a ring with one more place, which is alone, is a ring
 grown : (n : ℕ) (next prev owner next2 prev2 owner2 : ℕ → ℕ) → IsRing n next prev owner
     → ((p : ℕ) → p < n → next2 p ≡ next p) → ((p : ℕ) → p < n → prev2 p ≡ prev p)
     → ((p : ℕ) → p < n → owner2 p ≡ owner p)
@@ -58,15 +58,15 @@ grown n next prev owner next2 prev2 owner2 r sn sp so en ep eo = record {
       (λ f. absurd (f eo));
 }
 
--- what comes behind a list stands at its length
+-- the item appended to a list is at its former length
 pub at_end : (xs : List ℕ) (n : ℕ) → length xs ≡ n → get_or (xs ++ n ∷ []) n 0 ≡ n
 at_end xs n e = ap (λ k. get_or (xs ++ n ∷ []) k 0) (sym e) ∙ get_or-append_seam xs n [] 0
 
--- and makes it one longer
+-- appending an item makes a list one longer
 longer : (xs : List ℕ) (n : ℕ) → length (xs ++ n ∷ []) ≡ length xs + 1
 longer xs n = length-append xs (n ∷ [])
 
--- rings with one more place that stands alone are rings
+-- rings with one more place, which is alone, are rings
 pub grown_ring : (r : Ring) (n : ℕ) → AreRings r → n ≡ length r.owner → AreRings (with_alone r n)
 grown_ring r n are e =
     let next_size : length r.next ≡ n = are.sizes.0 ∙ sym e in

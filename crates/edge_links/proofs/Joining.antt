@@ -1,4 +1,4 @@
--- A head that owns itself alone goes into another ring.
+-- A head that owns only itself moves into another ring.
 use Rattle.std.proofs.Common.{◌≡◌, ℕ, ◌+◌, ◌<◌, ◌≤◌, length, set, get_or, refl, sym, ◌∙◌, ap, subst, arith, inl, inr}
 use Rattle.std.proofs.Common.{length-set}
 use Rattle.std.proofs.lemmas.Bool.{cases_eq}
@@ -151,7 +151,7 @@ module _ (n : ℕ) (next prev owner : ℕ → ℕ) (r : IsRing n next prev owner
         let d : r.rank (prev x) < r.rank x = r.falls x l k.0 in omega arith);
   }
 
--- the ring with the place e behind the head h
+-- the ring with the place e after the head h
 abbrev pub with_joined : Ring → ℕ → ℕ → Ring
 with_joined r e h = record {
   next = set (set r.next e (get_or r.next h 0)) h e;
@@ -159,7 +159,7 @@ with_joined r e h = record {
   owner = set r.owner e h;
 }
 
--- a place that stood alone joins the ring of another
+-- a place that was alone joins the ring of another
 pub joined_ring : (r : Ring) (e h : ℕ) → AreRings r → e < length r.owner → h < length r.owner → (e ≡ h → ⊥)
     → get_or r.owner e 0 ≡ e
     → ((p : ℕ) → p < length r.owner → get_or r.owner p 0 ≡ e → p ≡ e) → get_or r.owner h 0 ≡ h

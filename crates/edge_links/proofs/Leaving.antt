@@ -1,4 +1,4 @@
--- A place is taken out of its ring and stands alone.
+-- A place leaves its ring and is then alone.
 use Rattle.std.proofs.Common.{◌≡◌, ℕ, zero, suc, ◌<◌, length, set, get_or, refl, sym, ◌∙◌, ap, subst, arith, inl, inr}
 use Rattle.std.proofs.Common.{length-set}
 use Rattle.std.proofs.lemmas.Bool.{cases_eq}
@@ -7,7 +7,7 @@ use Rattle.edge_links.specs.Rings.{put, IsRing, AreRings}
 use Rattle.edge_links.proofs.Put.{put_same, put_other, set_put, as_lists}
 
 module _ (n : ℕ) (next prev owner : ℕ → ℕ) (r : IsRing n next prev owner) where
-  -- a head that is next to itself owns no other
+  -- a head whose neighbour is itself owns no other place
   alone_within : (d h p : ℕ) → h < n → next h ≡ h → p < n → owner p ≡ h → r.rank p < d → p ≡ h
   alone_within zero h p l e q o b = absurd (omega arith)
   alone_within (suc d) h p l e q o b =
@@ -24,7 +24,7 @@ module _ (n : ℕ) (next prev owner : ℕ → ℕ) (r : IsRing n next prev owner
   pub alone : (h p : ℕ) → h < n → next h ≡ h → p < n → owner p ≡ h → p ≡ h
   alone h p l e q o = alone_within (suc (r.rank p)) h p l e q o (omega arith)
 
-  -- e is taken out
+  -- e is removed
   module _ (e : ℕ) (there : e < n) (no_head : owner e ≡ e → ⊥) where
     abbrev before : ℕ
     before = prev e
@@ -151,7 +151,7 @@ module _ (n : ℕ) (next prev owner : ℕ → ℕ) (r : IsRing n next prev owner
           let g : r.rank (prev x) < r.rank x = r.falls x l (λ q. f (own_other x b ∙ q)) in omega arith);
     }
 
--- the ring with the place e taken out
+-- the ring with the place e removed
 abbrev pub without : Ring → ℕ → Ring
 without r e = record {
   next = set (set r.next (get_or r.prev e 0) (get_or r.next e 0)) e e;
@@ -159,7 +159,7 @@ without r e = record {
   owner = set r.owner e e;
 }
 
--- a place that is no head leaves its ring
+-- a place that is not a head leaves its ring
 pub left_ring : (r : Ring) (e : ℕ) → AreRings r → e < length r.owner → (get_or r.owner e 0 ≡ e → ⊥)
     → AreRings (without r e)
 left_ring r e are there no_head =

@@ -1,4 +1,4 @@
--- A free place that becomes an edge, and heads that stay.
+-- A free place that becomes an edge, and heads that do not change.
 use Rattle.std.proofs.Common.{◌≡◌, ℕ, ◌+◌, ◌<◌, false, List, [], ◌∷◌, length, get_or, refl, sym, ◌∙◌, ap}
 use Rattle.std.proofs.Common.{subst, arith, inl, inr, get_or-set_same, get_or-set_other, length-set}
 use Rattle.std.proofs.lemmas.Bool.{cases_eq}
@@ -8,7 +8,7 @@ use Rattle.edge_links.specs.Owners.{Owners, AreEdges, IsHead}
 use Rattle.edge_links.specs.Shown.{edge_at, edges_below, AreLinks}
 use Rattle.edge_links.proofs.Listed.{user, key_of, at_free, at_edge, at_same, counts_one}
 
--- the same heads have the same s.names
+-- if the heads and the names do not change, the nodes are still linked to their places
 pub same_heads : (s t : Owners) (nodes : List ℕ) → length t.users ≡ length s.users → t.names ≡ s.names
     → ((x : ℕ) → IsHead s x → IsHead t x) → ((x : ℕ) → IsHead t x → IsHead s x)
     → ((x : ℕ) → get_or t.waits x false ≡ false) → AreLinks s nodes → AreLinks t nodes
@@ -21,7 +21,7 @@ same_heads s t nodes size same to from idle links = record {
   idle = idle;
 }
 
--- s with the place q filled
+-- the places s with the place q filled
 module _ (s : Owners) (q u k : ℕ) (l : q < length s.users) (kl : q < length s.keys) (is_free : user s q ≡ 0)
     (nz : q ≡ 0 → ⊥)
     (uq : u ≡ q → ⊥) (unz : u ≡ 0 → ⊥) where
@@ -83,7 +83,7 @@ module _ (s t : Owners) (nodes : List ℕ) (e : AreEdges s.users s.keys) (links 
   apart : u ≡ f.place → ⊥
   apart q = u_is.0.2 (sym u_is.0.1 ∙ (ap (user s) q ∙ f.free.1))
 
-  -- the edge that was added, and no other
+  -- the edges are the new one and those before
   pub linked_counts : (x y : ℕ)
       → edge_count (edges_below t (length t.users)) x y ≡ edge_count (edge a b ∷ edges_below s (length s.users)) x y
   linked_counts x y =

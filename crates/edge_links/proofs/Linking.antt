@@ -1,4 +1,4 @@
--- Columns of whose rings one is another, or which have one more place.
+-- Columns with one ring replaced, or with one more place.
 use Rattle.std.proofs.Common.{◌≡◌, ℕ, List, [], ◌∷◌, ◌++◌, Bool, false, Option, None, length, set, get_or, refl, sym}
 use Rattle.std.proofs.Common.{◌∙◌, ap, arith}
 use Rattle.std.proofs.lemmas.List.{length-append}
@@ -20,23 +20,23 @@ pub owners_at : (side : Side) (c : Columns) → owners_of side (owners c) ≡ (r
 owners_at User c = refl
 owners_at Key c = refl
 
--- the rings of each side are such
+-- both sides have rings
 pub rings_at : (side : Side) (c : Columns) (top : Option ℕ) → AreLinked c top → AreRings (ring_of side c)
 rings_at User c top l = l.users
 rings_at Key c top l = l.keys
 
--- and as long as the names
+-- the ring of a side is as long as the names
 pub size_at : (side : Side) (c : Columns) (top : Option ℕ) → AreLinked c top
     → length (ring_of side c).owner ≡ length c.names
 size_at User c top l = l.users_size
 size_at Key c top l = l.keys_size
 
--- a ring that is put leaves the names
+-- replacing a ring does not change the names
 pub names_kept : (side : Side) (c : Columns) (r : Ring) → (with_ring side c r).names ≡ c.names
 names_kept User c r = refl
 names_kept Key c r = refl
 
--- another ring of as many places
+-- columns with a ring replaced by one of the same length are linked
 pub relinked : (side : Side) (c : Columns) (top : Option ℕ) (r : Ring) → AreLinked c top → AreRings r
     → length r.owner ≡ length (ring_of side c).owner → AreLinked (with_ring side c r) top
 relinked User c top r l are size = record {
@@ -56,13 +56,13 @@ relinked Key c top r l are size = record {
   waits_size = l.waits_size;
 }
 
--- and shows the owner that it puts
+-- columns with a ring replaced show its owners
 pub shown_as : (side : Side) (c : Columns) (r : Ring) (p h : ℕ) → r.owner ≡ set (ring_of side c).owner p h
     → owners (with_ring side c r) ≡ with_owner side (owners c) p h
 shown_as User c r p h e = ap (λ xs. record (owners c) { users = xs }) e
 shown_as Key c r p h e = ap (λ xs. record (owners c) { keys = xs }) e
 
--- other lists of those that wait
+-- columns with other waiting lists are linked
 pub rewaiting : (c : Columns) (top top2 : Option ℕ) (waits : List Bool) (behind : List (Option ℕ)) → AreLinked c top
     → length waits ≡ length c.waits → AreWaiting waits behind top2
     → AreLinked (record c { waits = waits; behind = behind }) top2
@@ -75,7 +75,7 @@ rewaiting c top top2 waits behind l size w = record {
   waits_size = size ∙ l.waits_size;
 }
 
--- the three writes that put a place behind a head
+-- the three writes that put a place after a head
 pub joined_columns : (side : Side) (c : Columns) (p h f : ℕ) → f ≡ get_or (ring_of side c).next h 0
     → with_next side (with_prev side (with_seat side c p (record { next = f; prev = h; owner = h })) f p) h p
     ≡ with_ring side c
@@ -85,7 +85,7 @@ joined_columns User c p h f e =
 joined_columns Key c p h f e =
     ap (λ x. with_next Key (with_prev Key (with_seat Key c p (record { next = x; prev = h; owner = h })) x p) h p) e
 
--- the three writes that take a place out
+-- the three writes that remove a place
 pub left_columns : (side : Side) (c : Columns) (p b a : ℕ) → b ≡ get_or (ring_of side c).prev p 0
     → a ≡ get_or (ring_of side c).next p 0
     → with_seat side (with_prev side (with_next side c b a) a b) p (record { next = p; prev = p; owner = p })
@@ -96,7 +96,7 @@ left_columns User c p b a e f = λ i. with_seat User (with_prev User (with_next 
 left_columns Key c p b a e f = λ i. with_seat Key (with_prev Key (with_next Key c (e i) (f i)) (f i) (e i)) p
     (record { next = p; prev = p; owner = p })
 
--- no columns are linked
+-- empty columns are linked
 pub none_linked : AreLinked no_columns None
 none_linked = record {
   users = no_rings;
@@ -107,7 +107,7 @@ none_linked = record {
   waits_size = refl;
 }
 
--- so are columns with one more place
+-- columns with one more place are linked
 pub grown_linked : (c : Columns) (top : Option ℕ) (p name : ℕ) → AreLinked c top → p ≡ length c.names
     → AreLinked (with_slot c p name) top
 grown_linked c top p name l e = record {

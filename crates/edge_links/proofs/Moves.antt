@@ -1,4 +1,4 @@
--- A place leaves a ring or joins one, seen as owners.
+-- A place that leaves or joins a ring, in terms of owners.
 use Rattle.std.proofs.Common.{◌≡◌, ◌<◌, ℕ, List, Option, length, set, get_or, refl, sym, ◌∙◌, ap, subst, inl, inr}
 use Rattle.std.proofs.Common.{length-set, get_or-set_other}
 use Rattle.std.proofs.lemmas.Bool.{cases_eq}
@@ -12,18 +12,18 @@ use Rattle.edge_links.proofs.Joining.{with_joined, joined_ring}
 use Rattle.edge_links.proofs.Leaving.{without, left_ring, not_owner}
 use Rattle.edge_links.proofs.Linking.{owners_at, rings_at, relinked, shown_as, joined_columns, left_columns}
 
--- an owner that is put on a side stands there
+-- setting an owner sets it on its side
 owner_set : (side : Side) (s : Owners) (p h : ℕ) → owners_of side (with_owner side s p h) ≡ set (owners_of side s) p h
 owner_set User s p h = refl
 owner_set Key s p h = refl
 
--- of two that are put at a place the last stands
+-- of two owners set at the same place, the last one remains
 pub owner_twice : (side : Side) (s : Owners) (p g h : ℕ)
     → with_owner side (with_owner side s p g) p h ≡ with_owner side s p h
 owner_twice User s p g h = ap (λ (xs : List ℕ). record s { users = xs }) (set-set s.users p g h)
 owner_twice Key s p g h = ap (λ (xs : List ℕ). record s { keys = xs }) (set-set s.keys p g h)
 
--- owners that are shown are those of each ring
+-- the owners on a side are those of its ring
 pub same_owners : (side : Side) (c : Columns) (now : Owners) → owners c ≡ now
     → owners_of side now ≡ (ring_of side c).owner
 same_owners side c now v = sym (ap (owners_of side) v) ∙ owners_at side c
@@ -37,7 +37,7 @@ module _ (side : Side) (c : Columns) (top : Option ℕ) (now : Owners) (linked :
   within : (q : ℕ) → q < length (owners_of side now) → q < length (ring_of side c).owner
   within q l = subst (λ xs. q < length xs) same l
 
-  -- the three writes that take the place out
+  -- the three writes that remove the place
   module _ (no_head : get_or (owners_of side now) p 0 ≡ p → ⊥) (b a : ℕ)
       (is_before : b ≡ get_or (ring_of side c).prev p 0)
       (is_after : a ≡ get_or (ring_of side c).next p 0)
@@ -77,7 +77,7 @@ module _ (side : Side) (c : Columns) (top : Option ℕ) (now : Owners) (linked :
               (sym (get_or-set_other (ring_of side c).owner p q p 0 ne) ∙ subst (λ xs. get_or xs q 0 ≡ p) new o))
         ]
 
-  -- the three writes that put it behind the head
+  -- the three writes that put the place after the head
   module _ (h : ℕ) (head_there : h < length (owners_of side now)) (apart : p ≡ h → ⊥)
       (alone : (q : ℕ) → q < length (owners_of side now) → get_or (owners_of side now) q 0 ≡ p → q ≡ p)
       (is_own : get_or (owners_of side now) p 0 ≡ p) (is_head : get_or (owners_of side now) h 0 ≡ h) (f : ℕ)

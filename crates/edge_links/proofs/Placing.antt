@@ -1,4 +1,4 @@
--- One place gets other owners, or one more place comes.
+-- Setting the owners of a place, and adding a place.
 use Rattle.std.proofs.Common.{◌≡◌, ℕ, ◌+◌, ◌-◌, ◌^◌, ◌<◌, nat_eq, List, [], ◌∷◌, ◌++◌, length, set, get_or, sym, ◌∙◌}
 use Rattle.std.proofs.Common.{ap, subst, arith, ◌↔◌, inl, inr, get_or-set_same, get_or-set_other, length-set}
 use Rattle.std.proofs.lemmas.Bool.{cases_eq, cond-true, cond-false, eq-eqb, ne_eqb}
@@ -9,7 +9,7 @@ use Rattle.edge_links.specs.Times.{times}
 use Rattle.edge_links.specs.Changes.{with_both}
 use Rattle.edge_links.specs.Owners.{Owners, AreEdges, ArePlaces, with_head}
 
--- what is no head owns nothing
+-- a place that is not a head owns nothing
 pub owns_none : (us ks : List ℕ) (q : ℕ) → AreEdges us ks → (get_or us q 0 ≡ q → ⊥) → (p : ℕ) → p < length us
     → (get_or us p 0 ≡ q → ⊥) × (get_or ks p 0 ≡ q → ⊥)
 owns_none us ks q e ne p l = (
@@ -75,7 +75,7 @@ placed us ks q u k e l nz ul kl uq kq hu hk zz none =
       ];
     }
 
--- a place that is no head becomes free
+-- a place that is not a head becomes free
 pub freed_edges : (us ks : List ℕ) (q : ℕ) → AreEdges us ks → q < length us → (get_or us q 0 ≡ q → ⊥)
     → AreEdges (set us q 0) (set ks q 0)
 freed_edges us ks q e l ne =
@@ -84,7 +84,7 @@ freed_edges us ks q e l ne =
     placed us ks q 0 0 e l nz some some (λ r. nz (sym r)) (λ r. nz (sym r)) e.zero e.zero (λ h. h, λ h. h)
     (λ p m _. owns_none us ks q e ne p m)
 
--- a head that owns itself alone becomes free
+-- a head that owns only itself becomes free
 pub emptied_edges : (us ks : List ℕ) (q : ℕ) → AreEdges us ks → q < length us → (q ≡ 0 → ⊥)
     → ((p : ℕ) → p < length us → (get_or us p 0 ≡ q → p ≡ q) × (get_or ks p 0 ≡ q → p ≡ q))
     → AreEdges (set us q 0) (set ks q 0)
@@ -102,7 +102,7 @@ filled_edges us ks q u k e l nz is_free ul kl unz knz hu hk =
     (λ r. knz (sym hk ∙ (ap (λ x. get_or us x 0) r ∙ is_free))) hu hk
     (λ r. absurd (unz r), λ r. absurd (knz r)) (λ p m _. owns_none us ks q e (λ r. nz (sym r ∙ is_free)) p m)
 
--- one more head
+-- one more head is added
 pub grown_edges : (us ks : List ℕ) (n : ℕ) → n ≡ length us → AreEdges us ks → AreEdges (us ++ n ∷ []) (ks ++ n ∷ [])
 grown_edges us ks n e a =
     let us_size : length (us ++ n ∷ []) ≡ n + 1 = let z = length-append us (n ∷ []) in omega arith in
@@ -152,18 +152,18 @@ grown_edges us ks n e a =
           (ap (λ x. get_or (us ++ n ∷ []) x 0) k_new ∙ (u_new ∙ sym k_new));
     }
 
--- the number of free places
+-- the number of free places increases by one if a place becomes free
 pub spare_freed : (us : List ℕ) (q s : ℕ) → s ≡ times 0 us - 1 → q < length us → get_or us 0 0 ≡ 0
     → (get_or us q 0 ≡ 0 → ⊥)
     → s + 1 ≡ times 0 (set us q 0) - 1
 spare_freed us q s e l z ne = let a = owned_more 0 us q l ne in let b = owned_zero us (omega arith) z in omega arith
 
--- a free place that is filled is one less
+-- the number of free places decreases by one if a free place is filled
 pub spare_filled : (us : List ℕ) (q u s : ℕ) → s ≡ times 0 us - 1 → q < length us → get_or us q 0 ≡ 0 → (u ≡ 0 → ⊥)
     → s - 1 ≡ times 0 (set us q u) - 1
 spare_filled us q u s e l z ne = let a = owned_less 0 u us q l z ne in omega arith
 
--- a new place is not free
+-- the number of free places does not change if a head is added
 pub spare_grown : (us : List ℕ) (n s : ℕ) → n ≡ length us → s ≡ times 0 us - 1 → s ≡ times 0 (us ++ n ∷ []) - 1
 spare_grown us n s l e =
     elim (cases_eq n 0) [
@@ -178,15 +178,15 @@ spare_grown us n s l e =
     later : (t b d s : ℕ) → t ≡ b + d → d ≡ 0 → s ≡ b - 1 → s ≡ t - 1
     later t b d s h i k = omega arith
 
--- a number counts the free places
+-- the number of free places fits in 64 bits
 pub spare_fits : (s : Owners) (spare : ℕ) → ArePlaces s spare → spare + 1 < 2 ^ 64
 spare_fits s spare p = let a = owned_le 0 s.users in let b = p.counted in let c = p.size in omega arith
 
--- what is put at a place leaves how many there are
+-- setting an owner does not change the number of places
 still_sized : (us : List ℕ) (q u : ℕ) → length us < 2 ^ 64 → length (set us q u) < 2 ^ 64
 still_sized us q u l = subst (λ n. n < 2 ^ 64) (sym (length-set us q u)) l
 
--- an edge that is forgotten leaves a free place
+-- removing an edge leaves a free place
 pub freed_places : (s : Owners) (q spare : ℕ) → ArePlaces s spare → q < length s.users → (get_or s.users q 0 ≡ q → ⊥)
     → (get_or s.users q 0 ≡ 0 → ⊥) → ArePlaces (with_both s q 0 0) (spare + 1)
 freed_places s q spare p l no_head live = record {
@@ -195,7 +195,7 @@ freed_places s q spare p l no_head live = record {
   size = still_sized s.users q 0 p.size;
 }
 
--- so does a node without edges
+-- removing a node without edges leaves a free place
 pub emptied_places : (s : Owners) (q spare : ℕ) → ArePlaces s spare → q < length s.users → (q ≡ 0 → ⊥)
     → get_or s.users q 0 ≡ q
     → ((p : ℕ) → p < length s.users → (get_or s.users p 0 ≡ q → p ≡ q) × (get_or s.keys p 0 ≡ q → p ≡ q))
@@ -206,7 +206,7 @@ emptied_places s q spare p l nz head alone = record {
   size = still_sized s.users q 0 p.size;
 }
 
--- an edge that is put takes a free place
+-- adding an edge uses a free place
 pub filled_places : (s : Owners) (q u k spare : ℕ) → ArePlaces s spare → q < length s.users → (q ≡ 0 → ⊥)
     → get_or s.users q 0 ≡ 0
     → u < length s.users → k < length s.users
@@ -218,7 +218,7 @@ filled_places s q u k spare p l nz is_free ul kl unz knz hu hk = record {
   size = still_sized s.users q u p.size;
 }
 
--- a new node takes a new place
+-- adding a node adds a place
 pub grown_places : (s : Owners) (p name spare : ℕ) → ArePlaces s spare → p ≡ length s.users → p + 1 < 2 ^ 64
     → ArePlaces (with_head s p name) spare
 grown_places s p name spare places is fits = record {

@@ -1,19 +1,19 @@
--- A list with one number put, as a function.
+-- A list with one number replaced, as a function.
 use Rattle.std.proofs.Common.{◌≡◌, ℕ, ◌<◌, List, length, set, get_or, sym, ◌∙◌, ap, subst, inl, inr, nat_eq}
 use Rattle.std.proofs.Common.{get_or-set_same, get_or-set_other}
 use Rattle.std.proofs.lemmas.List.{get_or_default}
 use Rattle.std.proofs.lemmas.Bool.{cond-true, cond-false, cases_eq, eq-eqb, ne_eqb}
 use Rattle.edge_links.specs.Rings.{put, IsRing}
 
--- what is put at a place stands there
+-- the number at the index is the new one
 pub put_same : (f : ℕ → ℕ) (i v k : ℕ) → k ≡ i → put f i v k ≡ v
 put_same f i v k e = cond-true (nat_eq k i) _ _ (eq-eqb k i e)
 
--- and all others stay
+-- the numbers at all other indices do not change
 pub put_other : (f : ℕ → ℕ) (i v k : ℕ) → (k ≡ i → ⊥) → put f i v k ≡ f k
 put_other f i v k ne = cond-false (nat_eq k i) _ _ (ne_eqb k i ne)
 
--- the same of lists, seen as functions
+-- replacing a number in a list is replacing it in its function
 pub set_put : (xs : List ℕ) (i v : ℕ) → i < length xs
     → ◌≡◌ {A = ℕ → ℕ} (λ k. get_or (set xs i v) k 0) (put (λ k. get_or xs k 0) i v)
 set_put xs i v h j k = at k j
@@ -26,11 +26,11 @@ set_put xs i v h j k = at k j
           | inr ne ↦ get_or-set_other xs i k v 0 ne ∙ sym (put_other (λ k. get_or xs k 0) i v k ne)
         ]
 
--- what was read at an index that is there
+-- the number read at an index within the list does not depend on the default
 pub read : (xs : List ℕ) (k x : ℕ) → k < length xs → x ≡ get_or xs k x → x ≡ get_or xs k 0
 read xs k x h e = e ∙ get_or_default xs k x 0 h
 
--- equal lists, as functions, are the same ring
+-- equal lists, as functions, give the same ring
 pub as_lists : (n m : ℕ) (next prev owner next' prev' owner' : ℕ → ℕ) → n ≡ m → next' ≡ next → prev' ≡ prev
     → owner' ≡ owner
     → IsRing n next prev owner → IsRing m next' prev' owner'

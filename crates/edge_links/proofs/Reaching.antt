@@ -1,4 +1,4 @@
--- What is reached by edges is what is reached by places.
+-- Reachability by edges is reachability by places.
 use Rattle.std.proofs.Common.{◌≡◌, ℕ, zero, suc, ◌+◌, ◌<◌, List, ◌++◌, length, get_or, sym, ◌∙◌, ap, subst, arith, inl}
 use Rattle.std.proofs.Common.{inr}
 use Rattle.std.proofs.lemmas.Bool.{cases_eq}
@@ -11,14 +11,14 @@ use Rattle.edge_links.specs.Shown.{edge_at, edges_below, AreLinks}
 use Rattle.edge_links.proofs.EdgeCounts.{count_append, count_found, count_self}
 use Rattle.edge_links.proofs.Listed.{user, key_of, by_edge, at_none, at_edge}
 
--- an edge that is counted stands at a place
+-- an edge that is counted is at a place
 pub record Stands (s : Owners) (n x y : ℕ) : Type 0 where
   pub place : ℕ
   pub there : place < n
   pub edge : (user s place ≡ place → ⊥) × (user s place ≡ 0 → ⊥)
   pub names_it : (get_or s.names (user s place) 0 ≡ x) × (get_or s.names (key_of s place) 0 ≡ y)
 
--- an edge that is counted stands at a place
+-- an edge that is counted is at a place
 pub stands : (s : Owners) (x y n : ℕ) → 0 < edge_count (edges_below s n) x y → Stands s n x y
 stands s x y zero l = absurd (omega (arith, l))
 stands s x y (suc n) l = elim (by_edge s n) [
@@ -66,7 +66,7 @@ module _ (s : Owners) (e : AreEdges s.users s.keys) (nodes : List ℕ) (links : 
   abbrev pub shown_edges : List Edge
   shown_edges = edges_below s (length s.users)
 
-  -- the user of an edge is a head, and so is its key
+  -- the user and the key of an edge are heads
   pub user_head : (p : ℕ) → p < length s.users → (user s p ≡ 0 → ⊥) → IsHead s (user s p)
   user_head p l nz = (e.within p l, e.top p l, nz)
 

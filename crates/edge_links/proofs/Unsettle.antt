@@ -1,10 +1,12 @@
--- What is cleared so far, and what is left at the end.
-use Rattle.std.proofs.Common.{◌≡◌, ℕ, ◌<◌, Bool, true, false, cond, nat_eq, List, [], ◌∷◌, length, set, get_or}
+-- The state of the loop that clears nodes, and its end.
+use Rattle.std.proofs.Common.{◌≡◌, ℕ, zero, suc, ◌<◌, Bool, true, false, cond, nat_eq, List, [], ◌∷◌, length, set}
+use Rattle.std.proofs.Common.{get_or}
 use Rattle.std.proofs.Common.{Contains, ◌⊎◌, ◌↔◌}
-use Rattle.std.proofs.Common.{refl, sym, ◌∙◌, ap, subst, inl, inr, arith, get_or-set_other}
+use Rattle.std.proofs.Common.{refl, sym, ◌∙◌, ap, subst, inl, inr, arith, get_or-set_other, map}
 use Rattle.std.proofs.lemmas.Bool.{cases_eq, cond-true, cond-false, eq-eqb, ne_eqb}
 use Rattle.edge_links.specs.Changes.{IsCut, IsParted, HasUser, HasKey}
 use Rattle.edge_links.specs.Owners.{Owners, AreEdges, Waits, IsHead}
+use Rattle.edge_links.specs.Waiting.{AreApart}
 use Rattle.edge_links.specs.PlaceReach.{IsEdge, Reaches, at_once, further, IsAffected, IsCutOff}
 use Rattle.edge_links.proofs.Membership.{contains_none, contains_first, contains_later, contains_cases}
 
@@ -16,21 +18,22 @@ user s p = get_or s.users p 0
 abbrev pub key_of : Owners → ℕ → ℕ
 key_of s p = get_or s.keys p 0
 
--- a place that was taken out: its user is done or waits
+-- the place was removed, and its user is done or waiting
 abbrev pub IsOut : Owners → Owners → List ℕ → ℕ → Type 0
 IsOut old s done p = (user s p ≡ 0) × (key_of s p ≡ 0) × (user old p ≡ p → ⊥)
     × (Contains done (user old p) ⊎ Waits s (user old p))
 
--- a place is as before
+-- the place is unchanged
 abbrev pub IsSame : Owners → Owners → ℕ → Type 0
 IsSame old s p = (user s p ≡ user old p) × (key_of s p ≡ key_of old p)
 
--- a place has an edge
+-- the place is an edge
 abbrev pub IsLive : Owners → ℕ → Type 0
 IsLive s p = (user s p ≡ p → ⊥) × (user s p ≡ 0 → ⊥)
 
--- what is forgotten so far of the affected nodes, and what waits
-pub record IsUnsettling (old s : Owners) (name : ℕ → ℕ) (marks now : ℕ → Bool) (key : ℕ) : Type 0 where
+-- the state so far: the edges removed for the affected nodes, the waiting places, and the effect of the calls
+pub record IsUnsettling (old s : Owners) (name : ℕ → ℕ) (marks now : ℕ → Bool) (key : ℕ)
+    (Called : List ℕ → Type 0) : Type 0 where
   pub size : length s.users ≡ length old.users
   pub done : List ℕ
   pub each : (p : ℕ) → p < length old.users → IsOut old s done p ⊎ IsSame old s p
@@ -41,17 +44,27 @@ pub record IsUnsettling (old s : Owners) (name : ℕ → ℕ) (marks now : ℕ �
   pub cleared : (x : ℕ) → Contains done x → now (name x) ≡ false
   pub kept : (m : ℕ) → ((x : ℕ) → Contains done x → name x ≡ m → ⊥) → now m ≡ marks m
   pub begun : Contains done key ⊎ Waits s key
+  pub apart : AreApart done
+  pub idle : (x : ℕ) → Contains done x → Waits s x → ⊥
+  pub calls : Called (map name done)
+
+-- the item set to false is false
+set_false : (bs : List Bool) (i : ℕ) → get_or (set bs i false) i false ≡ false
+set_false [] i = refl
+set_false (b ∷ bs) zero = refl
+set_false (b ∷ bs) (suc i) = set_false bs i
 
 module _ (old : Owners) (old_edges : AreEdges old.users old.keys) (key : ℕ) (name : ℕ → ℕ) where
   -- s: with x taken from the list; t and v: after the cuts
-  module _ (s0 s t v : Owners) (x : ℕ) (marks now : ℕ → Bool)
-      (u : IsUnsettling old s0 name marks now key)
+  module _ (s0 s t v : Owners) (x : ℕ) (marks now : ℕ → Bool) (Called Called2 : List ℕ → Type 0)
+      (u : IsUnsettling old s0 name marks now key Called)
       (popped : (x < length s0.users) × Waits s0 x × (s.waits ≡ set s0.waits x false))
       (same_users : s.users ≡ s0.users) (same_keys : s.keys ≡ s0.keys) (edges : AreEdges s.users s.keys)
       (cut_users : IsCut (HasUser s x) s t) (t_waits : t.waits ≡ s.waits) (t_size : length t.users ≡ length s.users)
       (cut_keys : IsCut (HasKey t x) t v) (v_waits : (y : ℕ) → Waits v y ↔
       (Waits t y ⊎ ((p : ℕ) × (p < length t.users) × HasKey t x p × (get_or t.users p 0 ≡ y))))
       (v_size : length v.users ≡ length t.users)
+      (called : (ms : List ℕ) → Called ms → Called2 (name x ∷ ms))
       (now2 : ℕ → Bool) (cleared_x : (m : ℕ) → now2 m ≡ cond (nat_eq m (name x)) false (now m)) where
     x_facts : (x < length old.users) × (user old x ≡ x) × (x ≡ 0 → ⊥) × IsAffected old key x
     x_facts = u.reached x (inr popped.1)
@@ -68,7 +81,7 @@ module _ (old : Owners) (old_edges : AreEdges old.users old.keys) (key : ℕ) (n
     sk : (p : ℕ) → key_of s p ≡ key_of s0 p
     sk p = ap (λ xs. get_or xs p 0) same_keys
 
-    -- a place after both cuts
+    -- the state of a place after both cuts
     both : (p : ℕ) → p < length old.users
         → ((user v p ≡ 0) × (key_of v p ≡ 0) × (p ≡ x → ⊥) × ((user s p ≡ x) ⊎ (key_of s p ≡ x)))
         ⊎ ((user v p ≡ user s p) × (key_of v p ≡ key_of s p) × ((p ≡ x) ⊎ ((user s p ≡ x → ⊥) × (key_of s p ≡ x → ⊥))))
@@ -102,7 +115,7 @@ module _ (old : Owners) (old_edges : AreEdges old.users old.keys) (key : ℕ) (n
               ∙ (get_or-set_other s0.waits x y false false ne ∙ h))))
         ]
 
-    -- an edge to x makes its user wait
+    -- the user of an edge to x is waiting
     user_waits : (p : ℕ) → p < length old.users → (p ≡ x → ⊥) → key_of s p ≡ x → (user s p ≡ x → ⊥) → Waits v (user s p)
     user_waits p l ne e nu =
         let a = (cut_users p (in_s p l)).1 (λ h. nu h.1)
@@ -149,7 +162,7 @@ module _ (old : Owners) (old_edges : AreEdges old.users old.keys) (key : ℕ) (n
           ]
         ]
 
-    -- what is live was live, and has nothing to do with x
+    -- a place that is an edge now was one before, and its user and key are not x
     live_was : (p : ℕ) → p < length old.users → IsLive v p
         → (user v p ≡ user s0 p) × (key_of v p ≡ key_of s0 p) × IsLive s0 p × (user s p ≡ x → ⊥) × (key_of s p ≡ x → ⊥)
     live_was p l h =
@@ -178,6 +191,19 @@ module _ (old : Owners) (old_edges : AreEdges old.users old.keys) (key : ℕ) (n
               | inr w ↦ su q ∙ (w.0 ∙ (ap (user old) e ∙ x_facts.1))
             ]
 
+    before : (z : ℕ) → get_or (set s0.waits x false) z false ≡ true → Waits s0 z
+    before z q =
+        elim (cases_eq z x) [
+          | inl e ↦ subst (λ k. Waits s0 k) (sym e) popped.1
+          | inr ne ↦ sym (get_or-set_other s0.waits x z false false ne) ∙ q
+        ]
+
+    uncut : (p : ℕ) → p < length old.users → HasKey t x p → (user s p ≡ x → ⊥) × (user t p ≡ user s p)
+        × (key_of t p ≡ key_of s p)
+    uncut p l k =
+        let n : user s p ≡ x → ⊥ = λ e. let a = (cut_users p (in_s p l)).0 (k.0, e) in x_facts.2 (sym k.1 ∙ a.1) in
+        let a = (cut_users p (in_s p l)).1 (λ w. n w.1) in (n, a.0, a.1)
+
     reached_new : (y : ℕ) → Waits v y → (y < length old.users) × (user old y ≡ y) × (y ≡ 0 → ⊥) × IsAffected old key y
     reached_new y h =
         elim ((v_waits y).0 h) [
@@ -205,21 +231,43 @@ module _ (old : Owners) (old_edges : AreEdges old.users old.keys) (key : ℕ) (n
                     )
               ]
         ]
+
+    -- no place that is done is waiting again
+    idle_new : (y : ℕ) → Contains (x ∷ u.done) y → Waits v y → ⊥
+    idle_new y i h =
+        elim ((v_waits y).0 h) [
+          | inl q ↦
+              let was_set : get_or (set s0.waits x false) y false ≡ true =
+              ap (λ b. get_or b y false) (sym (t_waits ∙ popped.2)) ∙ q in
+              elim (contains_cases y x u.done i) [
+                | inl e ↦ still_set (subst (λ z. get_or (set s0.waits x false) z false ≡ true) e was_set)
+                | inr j ↦ u.idle y j (before y was_set)
+              ]
+          | inr w ↦
+              let p : ℕ = w.0 in
+              let lo : p < length old.users = let a : length s.users ≡ length s0.users = ap length same_users in let b =
+              u.size in let d =
+              w.1 in omega arith in
+              let was : (user s p ≡ x → ⊥) × (user t p ≡ user s p) × (key_of t p ≡ key_of s p) = uncut p lo w.2 in
+              let ks : key_of s p ≡ x = sym was.2 ∙ w.2.1 in
+              elim (contains_cases y x u.done i) [
+                | inl e ↦ was.0 (sym was.1 ∙ (w.3 ∙ e))
+                | inr j ↦ elim (u.each p lo) [
+                  | inl o ↦ absurd (x_facts.2 (sym ks ∙ (sk p ∙ o.1)))
+                  | inr m ↦
+                      let ko : key_of old p ≡ x = sym m.1 ∙ (sym (sk p) ∙ ks) in
+                      u.out_user p lo (
+                        λ q. w.2.0 (sym ((old_edges.heads p lo).0 (sym m.0 ∙ q)) ∙ ko),
+                        λ q. x_facts.2 (sym ko ∙ (old_edges.free p lo).0 (sym m.0 ∙ q)),
+                      ) (subst (λ z. Contains u.done z) (sym (sym (su p) ∙ (sym was.1 ∙ w.3))) j)
+                ]
+              ]
+        ]
       where
-        before : (z : ℕ) → get_or (set s0.waits x false) z false ≡ true → Waits s0 z
-        before z q =
-            elim (cases_eq z x) [
-              | inl e ↦ subst (λ k. Waits s0 k) (sym e) popped.1
-              | inr ne ↦ sym (get_or-set_other s0.waits x z false false ne) ∙ q
-            ]
+        still_set : get_or (set s0.waits x false) x false ≡ true → ⊥
+        still_set q = let f = set_false s0.waits x in cc
 
-        uncut : (p : ℕ) → p < length old.users → HasKey t x p → (user s p ≡ x → ⊥) × (user t p ≡ user s p)
-            × (key_of t p ≡ key_of s p)
-        uncut p l k =
-            let n : user s p ≡ x → ⊥ = λ e. let a = (cut_users p (in_s p l)).0 (k.0, e) in x_facts.2 (sym k.1 ∙ a.1) in
-            let a = (cut_users p (in_s p l)).1 (λ w. n w.1) in (n, a.0, a.1)
-
-    pub step : IsUnsettling old v name marks now2 key
+    pub step : IsUnsettling old v name marks now2 key Called2
     step = record {
       size = v_size ∙ (t_size ∙ (ap length same_users ∙ u.size));
       done = x ∷ u.done;
@@ -253,14 +301,18 @@ module _ (old : Owners) (old_edges : AreEdges old.users old.keys) (key : ℕ) (n
         | inr q ↦ elim (still key q)
             [ inl e ↦ inl (contains_first key x u.done e) | inr r ↦ inr r ]
       ];
+      apart = (λ i. u.idle x i popped.1, u.apart);
+      idle = idle_new;
+      calls = called (map name u.done) u.calls;
     }
 
-  pub begin : (s : Owners) (marks : ℕ → Bool) → ((x : ℕ) → get_or old.waits x false ≡ false) → key < length old.users
+  pub begin : (s : Owners) (marks : ℕ → Bool) (Called : List ℕ → Type 0) → Called []
+      → ((x : ℕ) → get_or old.waits x false ≡ false) → key < length old.users
       → user old key ≡ key
       → (key ≡ 0 → ⊥)
       → s.users ≡ old.users → s.keys ≡ old.keys → ((x : ℕ) → Waits s x ↔ (Waits old x ⊎ (x ≡ key)))
-      → IsUnsettling old s name marks marks key
-  begin s marks idle l h nz us ks q = record {
+      → IsUnsettling old s name marks marks key Called
+  begin s marks Called called idle l h nz us ks q = record {
     size = ap length us;
     done = [];
     each = λ p m. inr (ap (λ xs. get_or xs p 0) us, ap (λ xs. get_or xs p 0) ks);
@@ -281,10 +333,14 @@ module _ (old : Owners) (old_edges : AreEdges old.users old.keys) (key : ℕ) (n
     cleared = λ x i. absurd (contains_none x i);
     kept = λ x n. refl;
     begun = inr ((q key).1 (inr refl));
+    apart = tt;
+    idle = λ x i. absurd (contains_none x i);
+    calls = called;
   }
 
-  -- nothing waits any more
-  module _ (s : Owners) (marks now : ℕ → Bool) (u : IsUnsettling old s name marks now key)
+  -- no place is waiting at the end
+  module _ (s : Owners) (marks now : ℕ → Bool) (Called : List ℕ → Type 0)
+      (u : IsUnsettling old s name marks now key Called)
       (idle : (x : ℕ) → get_or s.waits x false ≡ false) where
     none : (x : ℕ) → Waits s x → ⊥
     none x h = let f = idle x in cc
@@ -328,3 +384,12 @@ module _ (old : Owners) (old_edges : AreEdges old.users old.keys) (key : ℕ) (n
 
     pub all_kept : (m : ℕ) → ((x : ℕ) → IsHead old x → IsAffected old key x → name x ≡ m → ⊥) → now m ≡ marks m
     all_kept m n = u.kept m (λ x i. let r = u.reached x (inl i) in n x (r.0, r.1, r.2) r.3)
+
+    pub all_once : (places : List ℕ) × AreApart places
+        × ((x : ℕ) → Contains places x ↔ (IsHead old x × IsAffected old key x)) × Called (map name places)
+    all_once = (
+      u.done,
+      u.apart,
+      λ x. (λ i. let r = u.reached x (inl i) in ((r.0, r.1, r.2), r.3), λ h. affected_done x h.1),
+      u.calls,
+    )

@@ -14,16 +14,16 @@ use Rattle.edge_links.proofs.Listed.{user, key_of, by_edge, at_none, at_edge}
 use Rattle.edge_links.proofs.Reaching.{key_head}
 use Rattle.edge_links.proofs.Weighing.{summed, weighed, weighed_summed, many}
 
--- 1 where the user of a place has this name
+-- 1 if the user of a place has this name, and 0 otherwise
 abbrev pub has_user : Owners → ℕ → ℕ → ℕ
 has_user s x p = cond (nat_eq (get_or s.names (user s p) 0) x) 1 0
 
--- a sum with one more
+-- the sum over a list with one more item is the sum plus that of the item
 pub summed_end : (f : ℕ → ℕ) (xs : List ℕ) (y : ℕ) → summed f (xs ++ y ∷ []) ≡ summed f xs + f y
 summed_end f [] y = omega arith
 summed_end f (x ∷ xs) y = omega (arith, summed_end f xs y)
 
--- one more user is put at the end
+-- one more user is appended
 pub user_put : (s : Owners) (users more seen : List ℕ) (place name x : ℕ) → name ≡ get_or s.names (user s place) 0
     → more ≡ users ++ name ∷ []
     → times x users ≡ summed (has_user s x) seen → times x more ≡ summed (has_user s x) (seen ++ place ∷ [])
@@ -34,7 +34,7 @@ user_put s users more seen place name x n e h =
     sums : (a b d f i : ℕ) → {j k : ℕ} → a ≡ b → b ≡ d + j → j ≡ k → i ≡ f + k → d ≡ f → a ≡ i
     sums a b d f i h j k l m = omega arith
 
--- a member of a list stands in it
+-- each item of a list occurs in it
 pub stands_in : (xs : List ℕ) (i : ℕ) → i < length xs → 0 < times (get_or xs i 0) xs
 stands_in [] i l = absurd (omega arith)
 stands_in (x ∷ xs) zero l = pos _ _ (cond-true (nat_eq x x) 1 0 (eq-eqb x x refl))
@@ -64,7 +64,7 @@ module _ (s : Owners) (e : AreEdges s.users s.keys) (nodes : List ℕ) (links : 
   none zero h v = refl
   none (suc t) h v = cc
 
-  -- a place counts as often as it stands in the list
+  -- the edge at a place is counted as often as the place occurs in the list
   at_place : (x p : ℕ) → p < length s.users → edge_count (edge_at s p) x key ≡ many (times p places) (has_user s x p)
   at_place x p l = elim (cases_eq (key_of s p) head) [
     | inl q ↦ elim (cases_eq p head) [
@@ -123,7 +123,7 @@ module _ (s : Owners) (e : AreEdges s.users s.keys) (nodes : List ℕ) (links : 
   are_users users h x = h x ∙ (sym (weighed_summed (has_user s x) places (length s.users) member_there) ∙ sym
       (below x (length s.users) (omega arith)))
 
--- a front as long as the list is the list
+-- a prefix as long as the list is the list
 pub all_taken : (xs : List ℕ) (i : ℕ) → length xs ≤ i → take i xs ≡ xs
 all_taken [] zero l = refl
 all_taken [] (suc i) l = refl

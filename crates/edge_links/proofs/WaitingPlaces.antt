@@ -1,4 +1,4 @@
--- The list of what waits.
+-- The stack of the waiting places.
 use Rattle.std.proofs.Common.{◌≡◌, ℕ, zero, suc, ◌+◌, ◌<◌, ◌≤◌, Bool, true, false, List, [], ◌∷◌, ◌++◌, length, set}
 use Rattle.std.proofs.Common.{get_or, Contains, Option, Some, None, ◌↔◌}
 use Rattle.std.proofs.Common.{refl, sym, ◌∙◌, ap, subst, inl, inr, arith, get_or-set_same, get_or-set_other, length-set}
@@ -7,7 +7,7 @@ use Rattle.std.proofs.lemmas.List.{get_or_append_left, length-append}
 use Rattle.edge_links.proofs.Membership.{contains_none, contains_first, contains_later, contains_cases}
 use Rattle.edge_links.specs.Waiting.{AreApart, IsChain, AreWaiting, waiting_count}
 
--- what is put off a chain leaves it
+-- setting a link outside a chain does not change the chain
 chain_set : (behind : List (Option ℕ)) (x : ℕ) (v top : Option ℕ) (xs : List ℕ) → (Contains xs x → ⊥)
     → IsChain behind top xs
     → IsChain (set behind x v) top xs
@@ -21,7 +21,7 @@ chain_set behind x v top (y ∷ xs) off h =
           (sym (get_or-set_other behind x y v None (λ e. off (contains_first x y xs (sym e))))) h.2),
     )
 
--- a place that does not wait may be put on top
+-- a place that is not waiting can be pushed
 pub pushed : (q : List Bool) (behind : List (Option ℕ)) (top : Option ℕ) (x : ℕ) → AreWaiting q behind top
     → x < length q
     → get_or q x false ≡ false
@@ -54,7 +54,7 @@ pushed q behind top x w l new =
       apart = (off, w.apart);
     }
 
--- where nothing is on top, nothing waits
+-- if the stack has no top, no place is waiting
 pub nothing : (q : List Bool) (behind : List (Option ℕ)) (x : ℕ) → AreWaiting q behind None → get_or q x false ≡ false
 nothing q behind x w = none w.places w.chain (w.flags x).0
   where
@@ -62,7 +62,7 @@ nothing q behind x w = none w.places w.chain (w.flags x).0
     none [] c f = false_from_ne_true _ (λ e. contains_none x (f e))
     none (y ∷ xs) c f = absurd (let e : None ≡ Some y = c.0 in cc)
 
--- the top may be taken off
+-- the top of the stack can be popped
 pub popped : (q : List Bool) (behind : List (Option ℕ)) (top : Option ℕ) (x : ℕ) (after : Option ℕ)
     → AreWaiting q behind top
     → top ≡ Some x → after ≡ get_or behind x None
@@ -102,7 +102,7 @@ popped q behind top x after w t a = go w.places w.chain w.flags w.apart
           },
         )
 
--- it is one of the places
+-- the top of the stack is one of the places
 pub top_there : (q : List Bool) (behind : List (Option ℕ)) (top : Option ℕ) (x : ℕ) → AreWaiting q behind top
     → top ≡ Some x
     → (x < length behind) × (x < length q)
@@ -115,7 +115,7 @@ top_there q behind top x w t = go w.places w.chain
         let n : x < length behind = subst (λ k. k < length behind) (sym e) c.1 in
         let l : x < length q = let s = w.size in omega arith in (n, l)
 
--- a new place leaves a chain
+-- adding a place does not change a chain
 chain_grown : (behind : List (Option ℕ)) (top : Option ℕ) (xs : List ℕ) → IsChain behind top xs
     → IsChain (behind ++ None ∷ []) top xs
 chain_grown behind top [] h = h
@@ -126,14 +126,14 @@ chain_grown behind top (x ∷ xs) h = (
       (chain_grown behind (get_or behind x None) xs h.2),
 )
 
--- and does not wait
+-- a new place is not waiting
 pub down_at_end : (q : List Bool) (x : ℕ) → get_or (q ++ false ∷ []) x false ≡ get_or q x false
 down_at_end [] zero = refl
 down_at_end [] (suc x) = refl
 down_at_end (b ∷ q) zero = refl
 down_at_end (b ∷ q) (suc x) = down_at_end q x
 
--- one more place, which does not wait
+-- adding a place that is not waiting does not change the stack
 pub grown : (q : List Bool) (behind : List (Option ℕ)) (top : Option ℕ) → AreWaiting q behind top
     → AreWaiting (q ++ false ∷ []) (behind ++ None ∷ []) top
 grown q behind top w = record {
@@ -145,7 +145,7 @@ grown q behind top w = record {
   apart = w.apart;
 }
 
--- a place taken off is one less that waits
+-- popping a place decreases the number of waiting places by one
 pub waiting_set : (q : List Bool) (x : ℕ) → get_or q x false ≡ true
     → waiting_count (set q x false) + 1 ≡ waiting_count q
 waiting_set [] x e = cc
@@ -154,7 +154,7 @@ waiting_set (false ∷ q) zero e = cc
 waiting_set (true ∷ q) (suc x) e = omega (arith, waiting_set q x e)
 waiting_set (false ∷ q) (suc x) e = waiting_set q x e
 
--- a place put on is at most one more
+-- pushing a place increases the number of waiting places by at most one
 pub waiting_push : (q : List Bool) (x : ℕ) → waiting_count (set q x true) ≤ waiting_count q + 1
 waiting_push [] x = omega arith
 waiting_push (true ∷ q) zero = omega arith
@@ -162,7 +162,7 @@ waiting_push (false ∷ q) zero = omega arith
 waiting_push (true ∷ q) (suc x) = omega (arith, waiting_push q x)
 waiting_push (false ∷ q) (suc x) = waiting_push q x
 
--- of no places none waits
+-- without places, no place is waiting
 pub none_waiting : AreWaiting [] [] None
 none_waiting = record {
   size = refl;

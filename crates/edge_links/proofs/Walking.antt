@@ -1,4 +1,4 @@
--- The walk back through a ring.
+-- Walking backwards through a ring.
 use Rattle.std.proofs.Common.{◌≡◌, ◌⊎◌, ℕ, zero, suc, ◌+◌, ◌<◌, ◌≤◌, nat_eq, List, [], ◌∷◌, ◌++◌, length, get_or}
 use Rattle.std.proofs.Common.{refl, sym, ◌∙◌, ap, subst, arith, inl, inr}
 use Rattle.std.proofs.lemmas.Bool.{cases_eq, cond-true, cond-false, eq-eqb, ne_eqb}
@@ -9,18 +9,18 @@ use Rattle.std.proofs.lemmas.List.{length-append}
 use Rattle.edge_links.proofs.Counting.{owned_end}
 use Rattle.edge_links.proofs.Weighing.{at_most}
 
--- one more of a number
+-- appending a number increases its count by one
 times_same : (x y : ℕ) (xs : List ℕ) → y ≡ x → times x (xs ++ y ∷ []) ≡ times x xs + 1
 times_same x y xs e = owned_end x xs y ∙ ap (λ k. times x xs + k) (cond-true (nat_eq y x) 1 0 (eq-eqb y x e))
 
--- another one is none more
+-- appending another number does not change the count
 times_other : (x y : ℕ) (xs : List ℕ) → (y ≡ x → ⊥) → times x (xs ++ y ∷ []) ≡ times x xs
 times_other x y xs ne = more _ _ _ (owned_end x xs y) (cond-false (nat_eq y x) 1 0 (ne_eqb y x ne))
   where
     more : (a b d : ℕ) → a ≡ b + d → d ≡ 0 → a ≡ b
     more a b d e f = omega arith
 
--- what stood there stands there with one more
+-- a number that occurs in a list occurs in it with one more item
 times_more : (x y : ℕ) (xs : List ℕ) → 0 < times x xs → 0 < times x (xs ++ y ∷ [])
 times_more x y xs l = let a = owned_end x xs y in more _ _ _ (owned_end x xs y) l
   where
@@ -32,7 +32,7 @@ module _ (n : ℕ) (next prev owner : ℕ → ℕ) (r : IsRing n next prev owner
   abbrev Met : List ℕ → ℕ → Type 0
   Met met p = (p ≡ head) ⊎ (0 < times p met)
 
-  -- places from the end of the ring down to behind this one were met
+  -- the places from the end of the ring back to the one after this place have been met
   pub record IsWalk (place : ℕ) (met : List ℕ) : Type 0 where
     pub here : (place < n) × (owner place ≡ head)
     pub owned : (p : ℕ) → 0 < times p met → (p < n) × (owner p ≡ head) × (p ≡ head → ⊥)
@@ -104,7 +104,7 @@ module _ (n : ℕ) (next prev owner : ℕ → ℕ) (r : IsRing n next prev owner
         first a zero e f = omega arith
         first a (suc b) e f = absurd (f (omega arith))
 
-  -- at the head all were met
+  -- at the head, all places have been met
   module _ (met : List ℕ) (w : IsWalk head met) where
     met_within : (d p : ℕ) → p < n → owner p ≡ head → r.rank p < d → Met met p
     met_within zero p l o b = absurd (omega arith)
@@ -134,7 +134,7 @@ pub record IsWalking (r : Ring) (head place : ℕ) (met : List ℕ) : Type 0 whe
       (λ k. get_or r.owner k 0) rings.ring head there
       is_head place met
 
--- a walk begins at the place before the head
+-- a walk starts at the place before the head
 pub walking_start : (r : Ring) (head : ℕ) → AreRings r → head < length r.owner → get_or r.owner head 0 ≡ head
     → IsWalking r head (get_or r.prev head 0) []
 walking_start r head are there is_head = record {
@@ -145,7 +145,7 @@ walking_start r head are there is_head = record {
       (λ k. get_or r.owner k 0) are.ring head there is_head;
 }
 
--- and goes on to the one before
+-- a walk continues with the place before
 pub walking_next : (r : Ring) (head place : ℕ) (met : List ℕ) → IsWalking r head place met → (place ≡ head → ⊥)
     → IsWalking r head (get_or r.prev place 0) (met ++ place ∷ [])
 walking_next r head place met w on = record {
@@ -157,7 +157,7 @@ walking_next r head place met w on = record {
       w.is_head place met w.walk on;
 }
 
--- before it is back it has met fewer places than there are
+-- before the walk is back at the head, it has met fewer places than there are
 pub walking_less : (r : Ring) (head place : ℕ) (met : List ℕ) → IsWalking r head place met → (place ≡ head → ⊥)
     → length met < length r.owner
 walking_less r head place met w on =
@@ -168,7 +168,7 @@ walking_less r head place met w on =
     let a = at_most (length r.owner) (met ++ place ∷ []) (λ p l. (more.owned p l).0) more.once in
     let b = length-append met (place ∷ []) in omega arith
 
--- back at the head it has met all members
+-- a walk that is back at the head has met all members
 pub walking_end : (r : Ring) (head : ℕ) (met : List ℕ) → IsWalking r head head met → AreMembers r.owner head met
 walking_end r head met w = record {
   owned = λ p l. let o = w.walk.owned p l in (o.0, o.1, o.2);

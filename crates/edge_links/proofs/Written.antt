@@ -1,4 +1,4 @@
--- One slot is written.
+-- Writing one slot.
 use Rattle.std.proofs.Common.{◌≡◌, ℕ, List, Bool, Option, map, set, get_or, refl, ap, ◌∙◌}
 use Rattle.std.proofs.lemmas.List.{map-set}
 use Rattle.std.proofs.Math.Seq.{map-set_same}
@@ -7,7 +7,7 @@ use Rattle.edge_links.specs.declared.slots.Slot.{Slot}
 use Rattle.edge_links.specs.Columns.{Ring, ring, columns}
 
 module _ (slots : List Slot) (i : ℕ) (s : Slot) (at : s ≡ get_or slots i s) where
-  -- a list that does not tell the new slot from the old one
+  -- a column in which the new slot equals the old one does not change
   kept : {A : Type 0} (f : Slot → A) (t : Slot) → f t ≡ f s → map f (set slots i t) ≡ map f slots
   kept f t e = map-set_same f slots i t s (e ∙ ap f at)
 
@@ -46,7 +46,7 @@ module _ (slots : List Slot) (i : ℕ) (s : Slot) (at : s ≡ get_or slots i s) 
     owner = map-set (λ x. (seat x).owner) slots i t j;
   }
 
-  -- a slot with another seat in one of its rings
+  -- writing a slot with another seat in one of its rings
   user_set : (user : Seat) (r : Ring) → ring (λ x. x.user) (set slots i (record s { user = user })) ≡ r
       → columns (set slots i (record s { user = user })) ≡ record (columns slots) { users = r }
   user_set user r e =

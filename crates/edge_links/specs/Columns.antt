@@ -1,17 +1,18 @@
--- What stands at each place, as lists.
+-- The data of each place, as lists.
 use Rattle.std.specs.Prelude.{ℕ, List, [], ◌∷◌, ◌++◌, Bool, false, Option, None, map, slice_set}
 use Rattle.edge_links.specs.declared.slots.Seat.{Seat}
 use Rattle.edge_links.specs.declared.slots.Side.{Side}
 use Rattle.edge_links.specs.declared.slots.Side.TheVariants.{User, Key}
 use Rattle.edge_links.specs.declared.slots.Slot.{Slot}
 
--- of each place the ones beside it in a ring, and the head that owns it
+-- for each place its neighbours in a ring, and the head that owns it
 pub record Ring : Type 0 where
   pub next : List ℕ
   pub prev : List ℕ
   pub owner : List ℕ
 
--- the ring of each place's user and of its key, whether it waits, what waited before it, and its name
+-- for each place its position in the ring of its user and of its key, whether it is waiting, the place that began to
+-- wait before it, and its name
 pub record Columns : Type 0 where
   pub users : Ring
   pub keys : Ring
@@ -49,7 +50,7 @@ abbrev pub with_ring : Side → Columns → Ring → Columns
 with_ring User c r = record c { users = r }
 with_ring Key c r = record c { keys = r }
 
--- one number of one place is another
+-- the columns with one number of one place replaced
 abbrev pub with_next : Side → Columns → ℕ → ℕ → Columns
 with_next side c p q = with_ring side c (record (ring_of side c) { next = slice_set (ring_of side c).next p q })
 
@@ -69,11 +70,11 @@ with_waits c p flag = record c { waits = slice_set c.waits p flag }
 abbrev pub with_behind : Columns → ℕ → Option ℕ → Columns
 with_behind c p q = record c { behind = slice_set c.behind p q }
 
--- a ring with one more place, alone
+-- a ring with one more place, which is alone
 abbrev pub with_alone : Ring → ℕ → Ring
 with_alone r p = record { next = r.next ++ p ∷ []; prev = r.prev ++ p ∷ []; owner = r.owner ++ p ∷ [] }
 
--- one more place, alone in both rings, with this name
+-- the columns with one more place, which is alone in both rings and has this name
 abbrev pub with_slot : Columns → ℕ → ℕ → Columns
 with_slot c p name = record {
   users = with_alone c.users p;

@@ -1,7 +1,7 @@
--- Edges, and what is seen of linked edges.
+-- Edges, and the view of linked edges.
 use Rattle.std.specs.Prelude.{◌≡◌, ◌&&◌, ℕ, ◌+◌, nat_eq, if◌then◌else◌, List, [], ◌∷◌}
 
--- a user that looked at a key
+-- an edge from a user to a key that it looked at
 pub record Edge : Type 0 where
   pub user : ℕ
   pub key : ℕ
@@ -9,16 +9,16 @@ pub record Edge : Type 0 where
 abbrev pub edge : ℕ → ℕ → Edge
 edge user key = record { user = user; key = key }
 
--- how many edges lead from a user to a key
+-- the number of edges from a user to a key
 abbrev pub edge_count : List Edge → ℕ → ℕ → ℕ
 edge_count [] user key = 0
 edge_count (e ∷ es) user key = (if nat_eq e.user user && nat_eq e.key key then 1 else 0) + edge_count es user key
 
--- two lists have the same edges, in whatever order
+-- two lists have the same edges, in any order
 abbrev pub SameEdges : List Edge → List Edge → Type 0
 SameEdges es ds = (user key : ℕ) → edge_count es user key ≡ edge_count ds user key
 
--- the number of nodes, the edges, whose order says nothing, and for how many more there is room
+-- the number of nodes, the edges, whose order does not matter, and the number of edges for which there is more room
 pub record Graph : Type 0 where
   pub nodes : ℕ
   pub edges : List Edge

@@ -4,6 +4,7 @@ pub mod Edges
 pub mod Into
 pub mod Laws
 pub mod Linked
+pub mod Once
 pub mod Owners
 pub mod PlaceReach
 pub mod Reach

@@ -1,4 +1,4 @@
--- Both rings of each place are whole, and so is the list of those that wait.
+-- Both rings of each place are well-formed, and so is the list of the waiting places.
 use Rattle.std.specs.Prelude.{◌≡◌, ℕ, length, Option}
 use Rattle.edge_links.specs.Columns.{Columns}
 use Rattle.edge_links.specs.Rings.{AreRings}

@@ -1,4 +1,4 @@
--- Places by their owners: each is a head, an edge from a user to a key, or free, which is from 0 to 0.
+-- Places and their owners: each place is a head, an edge from a user to a key, or free, that is, an edge from 0 to 0.
 use Rattle.std.specs.Prelude.{◌≡◌, ◌↔◌, ℕ, ◌-◌, ◌^◌, ◌<◌, List, [], ◌∷◌, ◌++◌, length, Bool, true, false}
 use Rattle.std.specs.Prelude.{slice_index, slice_index_or, slice_set}
 use Rattle.edge_links.specs.declared.slots.Side.{Side}
@@ -6,7 +6,7 @@ use Rattle.edge_links.specs.declared.slots.Side.TheVariants.{User, Key}
 use Rattle.edge_links.specs.Columns.{Columns}
 use Rattle.edge_links.specs.Times.{times}
 
--- the user and the key of each place, whether it waits, and its name
+-- the user and the key of each place, whether it is waiting, and its name
 pub record Owners : Type 0 where
   pub users : List ℕ
   pub keys : List ℕ
@@ -23,16 +23,16 @@ abbrev pub owners_of : Side → Owners → List ℕ
 owners_of User s = s.users
 owners_of Key s = s.keys
 
--- one place with another owner
+-- the places with another owner for one of them
 abbrev pub with_owner : Side → Owners → ℕ → ℕ → Owners
 with_owner User s p head = record s { users = slice_set s.users p head }
 with_owner Key s p head = record s { keys = slice_set s.keys p head }
 
--- one place that waits or does not
+-- the places with one of them waiting or not
 abbrev pub with_waits : Owners → ℕ → Bool → Owners
 with_waits s p flag = record s { waits = slice_set s.waits p flag }
 
--- one more place, a head that owns itself alone
+-- the places with one more, which is a head that owns only itself
 abbrev pub with_head : Owners → ℕ → ℕ → Owners
 with_head s p name = record {
   users = s.users ++ p ∷ [];
@@ -56,15 +56,15 @@ pub record AreEdges (users keys : List ℕ) : Type 0 where
 abbrev pub IsHead : Owners → ℕ → Type 0
 IsHead s x = (x < length s.users) × (slice_index s.users x ≡ x) × (x ≡ 0 → ⊥)
 
--- a place waits
+-- the place is waiting
 abbrev pub Waits : Owners → ℕ → Type 0
 Waits s x = slice_index_or s.waits x false ≡ true
 
--- how many places a head owns
+-- the number of places that a head owns
 abbrev pub owned : ℕ → List ℕ → ℕ
 owned x owners = times x owners
 
--- the free places are counted, but for the first, and a number counts all places
+-- the number of free places, without place 0, is `spare`, and the number of places fits in 64 bits
 pub record ArePlaces (s : Owners) (spare : ℕ) : Type 0 where
   pub edges : AreEdges s.users s.keys
   pub counted : spare ≡ owned 0 s.users - 1

@@ -1,4 +1,4 @@
--- Places in rings. Each ring has one head, which owns itself and the others of its ring.
+-- Places in rings. Each ring has one head, which owns itself and the other places of the ring.
 use Rattle.std.specs.Prelude.{◌≡◌, ℕ, ◌<◌, nat_eq, List, length, slice_index, if◌then◌else◌}
 use Rattle.edge_links.specs.Columns.{Ring}
 use Rattle.edge_links.specs.Times.{times}
@@ -6,8 +6,8 @@ use Rattle.edge_links.specs.Times.{times}
 abbrev pub put : (ℕ → ℕ) → ℕ → ℕ → ℕ → ℕ
 put f i v k = if nat_eq k i then v else f k
 
--- the next and the one before lead back, a ring has one owner, and on the way back from a place the
--- rank falls until the head
+-- `next` and `prev` are inverse to each other, all places of a ring have the same owner, and the rank decreases along
+-- `prev` until the head
 pub record IsRing (n : ℕ) (next prev owner : ℕ → ℕ) : Type 0 where
   pub next_in : (p : ℕ) → p < n → next p < n
   pub prev_in : (p : ℕ) → p < n → prev p < n

@@ -1,4 +1,4 @@
--- What is seen of places: the edges between the nodes that their heads are.
+-- The view of places: the edges between the nodes whose heads they connect.
 use Rattle.std.specs.Prelude.{◌≡◌, ◌==◌, ◌||◌, ℕ, zero, suc, ◌-◌, ◌<◌, if◌then◌else◌, List, [], ◌∷◌, ◌++◌, length}
 use Rattle.std.specs.Prelude.{false}
 use Rattle.std.specs.Prelude.{slice_index, slice_index_or}
@@ -23,7 +23,7 @@ graph_of s nodes = record {
   spare = owned 0 s.users - 1;
 }
 
--- each node is a head by its place, each head a node by its name, and no place waits
+-- each node is the name of its place, which is a head, each head is the place of its name, and no place is waiting
 pub record AreLinks (s : Owners) (nodes : List ℕ) : Type 0 where
   pub size : length s.names ≡ length s.users
   pub places : (i : ℕ) → i < length nodes

@@ -1,4 +1,4 @@
-//! Edges between nodes, forgotten at the cost of what is forgotten.
+//! Edges between nodes. The cost of removing edges depends only on the edges that are removed.
 #![tactic(auto)]
 
 mod laws;

@@ -2,6 +2,7 @@
 
 ghost use Rattle.std.specs.Prelude.{◌≡◌, ◌+◌, ◌<◌, ◌≤◌, [], ◌∷◌, length, IfOk, OnOk, OnErr};
 ghost use Rattle.edge_links.specs.Edges.{edge, SameEdges};
+ghost use Rattle.edge_links.specs.Once.{ClearsEachOnce};
 ghost use Rattle.edge_links.specs.Reach.{IsAffected, Forgets, IsCleared};
 ghost use Rattle.edge_links.specs.Into.{AreUsers};
 
@@ -12,7 +13,7 @@ use std::alloc::{AllocError, Global};
 use std::marker::Model;
 use units_io::List;
 
-/// Nodes, in a list.
+/// A list of nodes.
 pub type Nodes = List<usize>;
 
 /// Edges, each from a user to a key. Nodes are numbered from 0.
@@ -20,7 +21,7 @@ pub type Nodes = List<usize>;
 pub struct Links {
     places: Places,
 
-    // the place of each node, whose name is the node
+    // the place of each node; the name of the place is the node
     nodes: Vec<Place>,
 }
 
@@ -36,7 +37,7 @@ impl Model for Links {
 }
 
 impl Links {
-    /// No node and no edge. It takes no memory.
+    /// Creates a graph without nodes and edges. It allocates no memory.
     pub fn new(alloc: Global) -> Links
         ensures { result ≡ record { nodes = 0; edges = []; spare = 0 } }
     {
@@ -46,7 +47,7 @@ impl Links {
         }
     }
 
-    /// A new node, whose name is the number of nodes before. A refusal changes nothing.
+    /// Adds a node and returns it; its number is the previous number of nodes. On an error nothing changes.
     pub fn add_node(&mut self, _alloc: Global) -> Result<usize, AllocError>
         ensures ok { IfOk result (λ node. (node ≡ self.old.nodes)
             × (self.new ≡ record self.old { nodes = self.old.nodes + 1 })) }
@@ -61,14 +62,14 @@ impl Links {
         Ok(node)
     }
 
-    /// How many nodes there are.
+    /// Returns the number of nodes.
     pub fn node_count(&self) -> usize
         ensures { result ≡ self.now.nodes }
     {
         self.nodes.len()
     }
 
-    /// Makes room for at least `n` further edges. A refusal leaves the nodes and the edges.
+    /// Reserves room for at least `n` more edges. An error changes neither the nodes nor the edges.
     pub fn reserve_edges(&mut self, _alloc: Global, n: usize) -> Result<(), AllocError>
         ensures room { OnOk result (n ≤ self.new.spare) }
         ensures no_less { self.old.spare ≤ self.new.spare }
@@ -80,14 +81,14 @@ impl Links {
         Ok(())
     }
 
-    /// How many edges can be added before more room is needed.
+    /// Returns the number of edges that can be added before more room is needed.
     pub fn spare(&self) -> usize
         ensures { result ≡ self.now.spare }
     {
         self.places.spare()
     }
 
-    /// Adds an edge. It takes no memory.
+    /// Adds an edge. It allocates no memory.
     pub fn link(&mut self, user: usize, key: usize)
         requires there { (user < self.old.nodes) × (key < self.old.nodes) }
         requires room { 0 < self.old.spare }
@@ -100,8 +101,8 @@ impl Links {
         self.places.fill(user, key);
     }
 
-    /// Clears a key and every node from which it is reached, and removes the edges of which these
-    /// are the users. It takes no memory, and its cost is that of the edges that it removes.
+    /// Clears a key and every node from which the key can be reached, each once, and removes the edges of which these
+    /// nodes are the users. It allocates no memory, and its cost depends only on the edges that it removes.
     pub fn unsettle<K: Marks>(&mut self, key: usize, marks: &mut K)
         requires { key < self.old.nodes }
         ensures edges { Forgets key self.old.edges self.new.edges }
@@ -109,12 +110,13 @@ impl Links {
         ensures nodes { self.new.nodes ≡ self.old.nodes }
         ensures marks { IsCleared (IsAffected self.old.edges key) (K.is_marked marks.old) (K.is_marked marks.new) }
         ensures rest { K.stays marks.old marks.new }
+        ensures once { ClearsEachOnce K.is_call (IsAffected self.old.edges key) marks.old marks.new }
     {
         let place = self.nodes[key];
         self.places.unsettle(place, marks);
     }
 
-    /// The users of the edges to a key, each as often as there are such edges, in no stated order.
+    /// Returns the users of the edges to a key, in unspecified order. Each user occurs once per such edge.
     pub fn edges_into(&self, alloc: Global, key: usize) -> Result<Nodes, AllocError>
         requires { key < self.now.nodes }
         ensures { IfOk result (AreUsers self.now.edges key) }
@@ -128,7 +130,7 @@ impl Links {
         Ok(users)
     }
 
-    // One more free place. A refusal changes nothing.
+    // Adds a free place. On an error nothing changes.
     fn add_free(&mut self) -> Result<(), AllocError>
         ensures ok { OnOk result (self.new ≡ record self.old { spare = self.old.spare + 1 }) }
         ensures err { OnErr result (self.new ≡ self.old) }

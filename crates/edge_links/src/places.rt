@@ -11,8 +11,8 @@ use crate::slots::{Place, Side};
 use std::alloc::{AllocError, Global};
 use std::marker::Model;
 
-// Each place is a head, an edge from one head to another, or free. An edge stands in two rings,
-// that of its user and that of its key, and a free place in the two rings of place 0.
+// A list of places. Each place is a head, an edge from one head to another, or free. An edge is in two rings, that of
+// its user and that of its key, and a free place is in the two rings of place 0.
 #[derive(Drop)]
 pub(crate) struct Places {
     pub(crate) rings: Rings,
@@ -30,7 +30,7 @@ impl Model for Places {
 }
 
 impl Places {
-    // No place.
+    // Creates a list without places.
     pub(crate) fn new(alloc: Global) -> Places
         ensures { result ≡ no_owners }
     {
@@ -40,7 +40,7 @@ impl Places {
         }
     }
 
-    // Sees that place 0 is there, to which the free places belong. A refusal changes nothing.
+    // Ensures that place 0 exists, to which the free places belong. On an error nothing changes.
     pub(crate) fn begin(&mut self) -> Result<(), AllocError>
         ensures some { OnOk result (0 < length self.new.users) }
         ensures begun { IsBegun self.old self.new }
@@ -51,14 +51,14 @@ impl Places {
         Ok(())
     }
 
-    // How many free places there are.
+    // Returns the number of free places.
     pub(crate) fn spare(&self) -> usize
         ensures { result ≡ owned 0 self.now.users - 1 }
     {
         self.spare
     }
 
-    // One more place, a head that owns itself alone. A refusal changes nothing.
+    // Adds a place, which is a head that owns only itself. On an error nothing changes.
     pub(crate) fn add_head(&mut self, name: u32) -> Result<Place, AllocError>
         ensures was { AreEdges self.old.users self.old.keys }
         ensures ok { IfOk result (λ p. (p ≡ length self.old.users) × (self.new ≡ with_head self.old p name)) }
@@ -67,7 +67,7 @@ impl Places {
         self.rings.add_head(name)
     }
 
-    // Makes a head that owns itself alone a free place. It takes no memory.
+    // Turns a head that owns only itself into a free place. It allocates no memory.
     pub(crate) fn add_free(&mut self, place: Place)
         requires there { (place < length self.old.users) × (place ≡ 0 → ⊥) }
         requires alone { (p : ℕ) → p < length self.old.users
@@ -80,7 +80,7 @@ impl Places {
         self.spare += 1;
     }
 
-    // Makes a free place an edge. It takes no memory.
+    // Turns a free place into an edge. It allocates no memory.
     pub(crate) fn fill(&mut self, user: Place, key: Place)
         requires there { (user < length self.old.users) × (key < length self.old.users) }
         requires some { (user ≡ 0 → ⊥) × (key ≡ 0 → ⊥) }
@@ -97,7 +97,7 @@ impl Places {
         }
     }
 
-    // Takes an edge out, which leaves a free place. It takes no memory.
+    // Removes an edge, which becomes a free place. It allocates no memory.
     pub(crate) fn free(&mut self, place: Place)
         requires there { place < length self.old.users }
         requires edge { (slice_index self.old.users place ≡ place → ⊥) × (slice_index self.old.users place ≡ 0 → ⊥) }
@@ -108,7 +108,7 @@ impl Places {
         self.spare += 1;
     }
 
-    // The name of a place.
+    // Returns the name of a place.
     pub(crate) fn name(&self, place: Place) -> u32
         requires { place < length self.now.users }
         ensures { result ≡ slice_index self.now.names place }
@@ -116,7 +116,7 @@ impl Places {
         self.rings.name(place)
     }
 
-    // The user of an edge.
+    // Returns the user of an edge.
     pub(crate) fn user_of(&self, place: Place) -> Place
         requires { place < length self.now.users }
         ensures { (result ≡ slice_index self.now.users place) × (result < length self.now.users)
@@ -125,7 +125,7 @@ impl Places {
         self.rings.owner(Side::User, place)
     }
 
-    // The edges to a key, each once.
+    // Returns the edges to a key, each once.
     pub(crate) fn edges_into(&self, alloc: Global, key: Place) -> Result<Vec<Place>, AllocError>
         requires there { key < length self.now.users }
         requires head { slice_index self.now.users key ≡ key }
@@ -135,7 +135,7 @@ impl Places {
         self.rings.members(alloc, Side::Key, key)
     }
 
-    // A place of a user, other than its own.
+    // Returns a place that the user owns, other than the user itself.
     pub(crate) fn first_of(&self, user: Place) -> Option<Place>
         requires there { user < length self.now.users }
         requires head { slice_index self.now.users user ≡ user }
@@ -147,7 +147,7 @@ impl Places {
         self.rings.first(Side::User, user)
     }
 
-    // A place of a key, other than its own.
+    // Returns a place that the key owns, other than the key itself.
     pub(crate) fn first_into(&self, key: Place) -> Option<Place>
         requires there { key < length self.now.users }
         requires head { slice_index self.now.users key ≡ key }

@@ -1,4 +1,4 @@
-//! Places in rings, by index.
+//! Places in rings, addressed by index.
 
 ghost use Rattle.std.specs.Prelude.{◌≡◌, ℕ, ◌+◌, ◌^◌, ◌<◌, length};
 ghost use Rattle.std.specs.Prelude.{slice_index, MatchOption, IfOk, OnErr};
@@ -9,8 +9,8 @@ use crate::slots::{Place, Seat, Side, Slots};
 use std::alloc::{AllocError, Global};
 use std::marker::Model;
 
-// Places, each owned by the head of its ring on either side. A head owns itself. Those that wait
-// are a stack.
+// A list of places, each owned on either side by the head of its ring. A head owns itself. The waiting places form a
+// stack.
 #[derive(Drop)]
 pub(crate) struct Rings {
     pub(crate) slots: Slots,
@@ -29,7 +29,7 @@ impl Model for Rings {
 }
 
 impl Rings {
-    // No place.
+    // Creates a list without places.
     pub(crate) fn new(alloc: Global) -> Rings
         ensures { result ≡ no_owners }
     {
@@ -39,14 +39,14 @@ impl Rings {
         }
     }
 
-    // How many places there are.
+    // Returns the number of places.
     pub(crate) fn len(&self) -> usize
         ensures { result ≡ length self.now.users }
     {
         self.slots.len()
     }
 
-    // One more place, a head that owns itself alone. A refusal changes nothing.
+    // Adds a place, which is a head that owns only itself. On an error nothing changes.
     pub(crate) fn add_head(&mut self, name: u32) -> Result<Place, AllocError>
         ensures ok { IfOk result (λ place. (place ≡ length self.old.users) × (place + 1 < 2 ^ 64)
             × (self.new ≡ with_head self.old place name)) }
@@ -55,7 +55,7 @@ impl Rings {
         self.slots.push(name)
     }
 
-    // A place that the head owns, and not the head.
+    // Returns a place that the head owns, other than the head itself.
     pub(crate) fn first(&self, side: Side, head: Place) -> Option<Place>
         requires there { head < length (owners_of side self.now) }
         requires head { slice_index (owners_of side self.now) head ≡ head }
@@ -68,7 +68,7 @@ impl Rings {
         if place == head { None } else { Some(place) }
     }
 
-    // The head that owns a place.
+    // Returns the head that owns a place.
     pub(crate) fn owner(&self, side: Side, place: Place) -> Place
         requires { place < length (owners_of side self.now) }
         ensures { result ≡ slice_index (owners_of side self.now) place }
@@ -76,7 +76,7 @@ impl Rings {
         self.slots.seat(side, place).owner
     }
 
-    // The name of a place.
+    // Returns the name of a place.
     pub(crate) fn name(&self, place: Place) -> u32
         requires { place < length self.now.users }
         ensures { result ≡ slice_index self.now.names place }
@@ -84,7 +84,7 @@ impl Rings {
         self.slots.name(place)
     }
 
-    // Gives a place another owner. It takes no memory.
+    // Moves a place to another owner. It allocates no memory.
     pub(crate) fn move_to(&mut self, side: Side, place: Place, head: Place)
         requires there { (place < length (owners_of side self.old)) × (head < length (owners_of side self.old)) }
         requires place { slice_index (owners_of side self.old) place ≡ place → ⊥ }
@@ -95,7 +95,7 @@ impl Rings {
         self.join(side, place, head);
     }
 
-    // Takes a place out of its ring, which leaves it alone as its own head.
+    // Removes a place from its ring. The place becomes a head that owns only itself.
     fn leave(&mut self, side: Side, place: Place)
         requires there { place < length (owners_of side self.old) }
         requires place { slice_index (owners_of side self.old) place ≡ place → ⊥ }
@@ -114,7 +114,7 @@ impl Rings {
         self.slots.set_seat(side, place, alone);
     }
 
-    // Gives a head that owns itself alone to another head. It takes no memory.
+    // Moves a head that owns only itself into the ring of another head. It allocates no memory.
     pub(crate) fn join(&mut self, side: Side, place: Place, head: Place)
         requires there { (place < length (owners_of side self.old)) × (head < length (owners_of side self.old)) }
         requires other { place ≡ head → ⊥ }
@@ -135,7 +135,7 @@ impl Rings {
         self.slots.set_next(side, head, place);
     }
 
-    // The places that the head owns, without the head, each once.
+    // Returns the places that the head owns, without the head, each once.
     pub(crate) fn members(
         &self,
         alloc: Global,

@@ -1,4 +1,4 @@
-//! The lowest layer: one vector, with what stands at each place.
+//! The lowest layer: one vector with the data of each place.
 
 ghost use Rattle.std.specs.Prelude.{◌≡◌, ◌+◌, ◌^◌, ◌<◌, length, slice_index, slice_index_or, IfOk, OnErr, false, None};
 ghost use Rattle.edge_links.specs.Columns.{no_columns, ring_of};
@@ -7,17 +7,17 @@ ghost use Rattle.edge_links.specs.Columns.{with_behind, with_next, with_prev, wi
 use std::alloc::{AllocError, Global};
 use std::marker::Model;
 
-// The two rings of a place: that of its user, and that of its key.
+// The two rings of a place: that of its user and that of its key.
 #[derive(Clone, Copy, Drop)]
 pub(crate) enum Side {
     User,
     Key,
 }
 
-// The number of a place, half as wide as an index: a table has many places, and never so many.
+// The number of a place. It is half as wide as an index, since a table has many places but never that many.
 pub(crate) type Place = u32;
 
-// A place in a ring: the places beside it, and the head that owns it.
+// The position of a place in a ring: its neighbours, and the head that owns it.
 #[derive(Clone, Copy, Drop)]
 pub(crate) struct Seat {
     pub(crate) next: Place,
@@ -25,7 +25,7 @@ pub(crate) struct Seat {
     pub(crate) owner: Place,
 }
 
-// What stands at a place. A place that waits leads to the one that waited before it.
+// The data of a place. A waiting place links to the one that began to wait before it.
 #[derive(Drop)]
 struct Slot {
     user: Seat,
@@ -35,7 +35,7 @@ struct Slot {
     waits: bool,
 }
 
-// What stands at each place.
+// The data of each place.
 #[derive(Drop)]
 pub(crate) struct Slots {
     slots: Vec<Slot>,
@@ -50,7 +50,7 @@ impl Model for Slots {
 }
 
 impl Slots {
-    // No place.
+    // Creates a vector without places.
     pub(crate) fn new(alloc: Global) -> Slots
         ensures { result ≡ no_columns }
     {
@@ -59,14 +59,14 @@ impl Slots {
         }
     }
 
-    // How many places there are.
+    // Returns the number of places.
     pub(crate) fn len(&self) -> usize
         ensures { result ≡ length self.now.names }
     {
         self.slots.len()
     }
 
-    // One more place, alone in both rings. A refusal changes nothing.
+    // Adds a place, which is alone in both rings. On an error nothing changes.
     pub(crate) fn push(&mut self, name: u32) -> Result<Place, AllocError>
         ensures ok { IfOk result (λ place. (place ≡ length self.old.names) × (place + 1 < 2 ^ 64)
             × (self.new ≡ with_slot self.old place name)) }
@@ -88,7 +88,7 @@ impl Slots {
         Ok(place)
     }
 
-    // Where a place sits in its ring.
+    // Returns the position of a place in its ring.
     pub(crate) fn seat(&self, side: Side, place: Place) -> Seat
         requires { place < length self.now.names }
         ensures next { result.next ≡ slice_index (ring_of side self.now).next place }
@@ -101,7 +101,7 @@ impl Slots {
         }
     }
 
-    // The name of a place.
+    // Returns the name of a place.
     pub(crate) fn name(&self, place: Place) -> u32
         requires { place < length self.now.names }
         ensures { result ≡ slice_index self.now.names place }
@@ -109,7 +109,7 @@ impl Slots {
         self.slots[place as usize].name
     }
 
-    // Whether a place waits.
+    // Reports whether a place is waiting.
     pub(crate) fn waits(&self, place: Place) -> bool
         requires { place < length self.now.names }
         ensures { result ≡ slice_index_or self.now.waits place false }
@@ -117,7 +117,7 @@ impl Slots {
         self.slots[place as usize].waits
     }
 
-    // The place that waited before this one.
+    // Returns the place that began to wait before this one.
     pub(crate) fn behind(&self, place: Place) -> Option<Place>
         requires { place < length self.now.names }
         ensures { result ≡ slice_index_or self.now.behind place None }
@@ -170,7 +170,7 @@ impl Slots {
     }
 }
 
-// An index as the number of a place. Beyond the last there is no memory for a place.
+// Converts an index into the number of a place. Fails with an out-of-memory error if the index is too large.
 pub(crate) fn place_of(index: usize) -> Result<Place, AllocError>
     ensures { IfOk result (λ place. (place ≡ index) × (place + 1 < 2 ^ 64)) }
 {

@@ -1,8 +1,9 @@
-//! Forgetting what leads to a place.
+//! Removing the edges that lead to a place.
 
 ghost use Rattle.std.specs.Prelude.{◌≡◌, ◌⊎◌, ◌↔◌, ℕ, ◌+◌, ◌<◌, ◌≤◌, false, length};
 ghost use Rattle.std.specs.Prelude.{MatchOption, slice_index, slice_index_or};
 ghost use Rattle.edge_links.specs.Changes.{HasKey, HasUser, IsCut, IsPaid, IsParted};
+ghost use Rattle.edge_links.specs.Once.{ClearsPlacesOnce};
 ghost use Rattle.edge_links.specs.Owners.{AreEdges, IsHead, Waits, with_waits};
 ghost use Rattle.edge_links.specs.PlaceReach.{IsAffected, IsCutOff};
 ghost use Rattle.edge_links.specs.Waiting.{waiting_count};
@@ -12,8 +13,8 @@ use crate::places::Places;
 use crate::slots::Place;
 
 impl Places {
-    // Clears the names of a key and of what leads to it, and takes out the edges of which these are
-    // the users. It takes no memory.
+    // Clears the names of a key and of all places that lead to it, and removes the edges of which these are the users.
+    // It allocates no memory.
     pub(crate) fn unsettle<K: Marks>(&mut self, key: Place, marks: &mut K)
         requires there { IsHead self.old key }
         requires idle { (x : ℕ) → slice_index_or self.old.waits x false ≡ false }
@@ -27,6 +28,8 @@ impl Places {
             → ((x : ℕ) → IsHead self.old x → IsAffected self.old key x → slice_index self.old.names x ≡ m → ⊥)
             → K.is_marked marks.new m ≡ K.is_marked marks.old m }
         ensures rest { K.stays marks.old marks.new }
+        ensures once { ClearsPlacesOnce K.is_call self.old.names
+            (λ x. IsHead self.old x × IsAffected self.old key x) marks.old marks.new }
         ensures idle { (x : ℕ) → slice_index_or self.new.waits x false ≡ false }
     {
         self.wait(key);
@@ -37,7 +40,7 @@ impl Places {
         }
     }
 
-    // Lets a place wait.
+    // Adds a place to the waiting ones.
     fn wait(&mut self, place: Place)
         requires { place < length self.old.users }
         ensures was { AreEdges self.old.users self.old.keys }
@@ -48,7 +51,7 @@ impl Places {
         self.rings.wait(place);
     }
 
-    // One that waits, which waits no more.
+    // Removes one of the waiting places and returns it.
     fn take(&mut self) -> Option<Place>
         ensures edges { AreEdges self.new.users self.new.keys }
         ensures taken { MatchOption result
@@ -58,7 +61,7 @@ impl Places {
         self.rings.pop_waiting()
     }
 
-    // Takes out the edges of a user.
+    // Removes the edges of a user.
     fn cut_users(&mut self, user: Place)
         requires there { (user < length self.old.users) × (user ≡ 0 → ⊥) }
         requires head { slice_index self.old.users user ≡ user }
@@ -73,7 +76,7 @@ impl Places {
         }
     }
 
-    // Takes out the edges to a key. Their users wait.
+    // Removes the edges to a key, and adds their users to the waiting places.
     fn cut_keys(&mut self, key: Place)
         requires there { (key < length self.old.users) × (key ≡ 0 → ⊥) }
         requires head { slice_index self.old.users key ≡ key }

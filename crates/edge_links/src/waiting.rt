@@ -1,4 +1,4 @@
-//! Places that wait, in a stack threaded through them.
+//! The stack of waiting places, linked through the places themselves.
 
 ghost use Rattle.std.specs.Prelude.{◌≡◌, ℕ, ◌+◌, ◌<◌, ◌≤◌, length};
 ghost use Rattle.std.specs.Prelude.{slice_index_or, MatchOption, true, false, ◌⊎◌, ◌↔◌};
@@ -9,7 +9,7 @@ use crate::rings::Rings;
 use crate::slots::Place;
 
 impl Rings {
-    // Lets a place wait, unless it does.
+    // Adds a place to the waiting ones, unless it is waiting already.
     pub(crate) fn wait(&mut self, place: Place)
         requires { place < length self.old.users }
         ensures rest { self.new ≡ record self.old { waits = self.new.waits } }
@@ -21,7 +21,7 @@ impl Rings {
         }
     }
 
-    // Lets a place wait that does not.
+    // Adds a place that is not waiting to the waiting ones.
     fn push_waiting(&mut self, place: Place)
         requires there { place < length self.old.users }
         requires new { slice_index_or self.old.waits place false ≡ false }
@@ -32,7 +32,7 @@ impl Rings {
         self.last_waiting = Some(place);
     }
 
-    // One that waits, which waits no more.
+    // Removes one of the waiting places and returns it.
     pub(crate) fn pop_waiting(&mut self) -> Option<Place>
         ensures { MatchOption result
             (((x : ℕ) → slice_index_or self.old.waits x false ≡ false) × (self.new ≡ self.old))

@@ -1,4 +1,4 @@
--- Nodes and edges are sound where what an edit affects was forgotten, and what it does not affect is kept.
+-- After the names that an edit affects are forgotten, the nodes and edges are sound, and the other names are stored.
 use Rattle.std.proofs.Common.{◌≡◌, ◌↔◌, ◌<◌, ℕ, zero, suc, Bool, true, false, not, cond, List, [], ◌∷◌}
 use Rattle.std.proofs.Common.{length, map, Contains}
 use Rattle.std.proofs.Common.{Option, Some, None, is_some, get_or, refl, sym, ◌∙◌, ap, subst, inl, inr, arith}
@@ -61,26 +61,26 @@ same_lists (x ∷ xs) (y ∷ ys) e h =
     let rest : xs ≡ ys = same_lists xs ys (omega (arith, e)) (λ n l. h (suc n) (omega (arith, l))) in
     λ i. first i ∷ rest i
 
--- what stands at a place of an image is the image of what stands there
+-- an item of a mapped list is the image of the item at its place
 map_at : {A B : Type 0} (f : A → B) (xs : List A) (n : ℕ) (d : A) → n < length xs
     → slice_get (map f xs) n ≡ Some (f (get_or xs n d))
 map_at f [] n d l = absurd (omega (arith, l))
 map_at f (x ∷ xs) zero d l = refl
 map_at f (x ∷ xs) (suc n) d l = map_at f xs n d (omega (arith, l))
 
--- a flag and a mark say the same
+-- a flagged number is settled
 pub flag_settled : (bs : List Bool) (n : ℕ) → is_flagged bs n ≡ true → IsSettled bs n
 flag_settled [] n e = cc
 flag_settled (b ∷ bs) zero e = ap Some e
 flag_settled (b ∷ bs) (suc n) e = flag_settled bs n e
 
--- a settled number has its flag
+-- a settled number is flagged
 pub settled_flag : (bs : List Bool) (n : ℕ) → IsSettled bs n → is_flagged bs n ≡ true
 settled_flag [] n e = cc
 settled_flag (b ∷ bs) zero e = some_same b true e
 settled_flag (b ∷ bs) (suc n) e = settled_flag bs n e
 
--- ---- the steps of words that are looked up as before
+-- ---- the steps of words whose lookup does not change
 module _ (before after : Table) (key : ℕ → Key) (dead_end : ℕ → Option Key → NameFault) where
   same_word : (u : WordUse) (x y : Step) → word_lookup before u ≡ word_lookup after u → IsWord before key dead_end u x y
       → IsWord after key dead_end u x y
@@ -245,7 +245,7 @@ module _ (before after : Contents) (l m : Listed) (g h : NameGraph) (r : ℕ) (k
     is_before : (n : ℕ) → IsSettled m.settled n → IsAsBefore (table before) (table after) (key_at l.keys n)
     is_before n e = as_before n (settled_flag m.settled n e)
 
-    -- what a name leads to is affected only where the name is
+    -- a name that a settled name leads to is affected only if the settled name is
     below_free : (n q : ℕ) → IsSettled m.settled n → LeadsTo l.graph n q → IsSettled l.settled q
         → AreAffected g f.numbers q → ⊥
     below_free n q e way s a =

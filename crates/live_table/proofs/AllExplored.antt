@@ -1,4 +1,4 @@
--- All below a query is explored: each name that is known has a number, its steps and its looks.
+-- All names below a query are explored: each known name has a number, its steps and its looks.
 use Rattle.std.proofs.Common.{◌≡◌, ◌<◌, ◌||◌, ℕ, Bool, true, false, List, [], length, Option, Some, None, refl, ap}
 use Rattle.std.proofs.Common.{inl, inr, arith}
 use Rattle.std.specs.List.{slice_get}
@@ -18,22 +18,22 @@ use Rattle.live_table.specs.Sound.{AreNodes, HasLooksIfLed, HasStartsOf}
 use Rattle.live_table.specs.Stored.{Listed, key_at}
 use Rattle.live_table.proofs.Growing.{known_within}
 
--- a mark that is up is there
+-- a mark that is set is present
 is_flag : (o : Option Bool) → is_marked o ≡ true → o ≡ Some true
 is_flag None e = cc
 is_flag (Some b) e = ap Some e
 
--- one of two tests holds where the first does
+-- a disjunction holds if the first test does
 or_left : (a b : Bool) → a ≡ true → (a || b) ≡ true
 or_left true b e = refl
 or_left false b e = cc
 
--- and where the second does
+-- a disjunction holds if the second test does
 or_right : (a b : Bool) → b ≡ true → (a || b) ≡ true
 or_right true b e = refl
 or_right false b e = e
 
--- a number that is found to be known is
+-- a number that is found to be known is known
 pub from_known : (l : Listed) (before list : List ℕ) (n : ℕ) → is_known l.settled before list n ≡ true
     → IsKnown l before list n
 from_known l before list n k =
@@ -43,7 +43,7 @@ from_known l before list n k =
           [ inl e ↦ inr (inl (on-In before n e)) | inr e ↦ inr (inr (on-In list n e)) ]
     ]
 
--- and the other way round
+-- a known number is found to be known
 pub to_known : (l : Listed) (before list : List ℕ) (n : ℕ) → IsKnown l before list n
     → is_known l.settled before list n ≡ true
 to_known l before list n (inl e) =
@@ -63,7 +63,7 @@ module _ (t : Table) (l : Listed) (before list : List ℕ) (ends : List DeadEnd)
   is_within : (n : ℕ) → known n ≡ true → n < length l.keys
   is_within n k = known_within t l before list nodes s.listed n (from_known l before list n k)
 
-  -- what was explored before leads to what is known with no list, and so to what is known
+  -- a name that is known without a list is known with one
   without_list : (n : ℕ) → IsKnown l before [] n → IsKnown l before list n
   without_list n (inl e) = inl e
   without_list n (inr (inl i)) = inr (inl i)

@@ -1,4 +1,4 @@
--- What is answered to a query, from what asking for its names gave.
+-- The result of a query, from the result of querying its names.
 use Rattle.std.proofs.Common.{◌≡◌, ℕ, Option, None, refl, sym, ap, subst, inl, inr}
 use Rattle.std.specs.Prelude.{Result, Err}
 use Rattle.quantity.specs.Amount.{Amount}
@@ -26,7 +26,7 @@ module _ {A : Type 0} (event : Event) (fault : Option NameFault) (Given : A → 
   fault_query (Value v) a = absurd a
   fault_query OutOfMemory a = a
 
--- where there is no name fault, the answer is that of the worth
+-- if there is no name fault, the result of the query is that of the evaluation
 pub worth_answer : (fault : Option NameFault) (worth : Worth) (r : Result Amount QueryFault) → fault ≡ None
     → Answers r (by_names None worth) → Answers r (by_names fault worth)
 worth_answer fault worth r e a = subst (λ (o : Option NameFault). Answers r (by_names o worth)) (sym e) a

@@ -1,4 +1,4 @@
--- What is answered where words are asked for.
+-- The result of a query of words.
 use Rattle.smallvec.specs.SmallVec.{SmallVec}
 use Rattle.std.proofs.Common.{◌≡◌, ◌<◌, ℕ, List, [], ◌∷◌, map, length, Option, Some, None, option_map, refl, sym, ◌∙◌}
 use Rattle.std.proofs.Common.{ap, subst, inl, arith}
@@ -38,21 +38,21 @@ use Rattle.live_table.proofs.QueryWords.{cut_words}
 use Rattle.live_table.proofs.Stages.{AreAllStages, AreStages, IsSettledAfter, Stages, explored_there, known_there}
 use Rattle.live_table.proofs.Stages.{same_start, sound_there}
 
--- ---- words that were written, and then what they lead to was explored
+-- ---- words were written, and then the names that they lead to were explored
 module _ (s : Stages) (are : AreStages s) (us : List WordUse) (xs : List Step)
     (written : AreWritten (table s.deck) s.led s.before s.list [] us xs) where
-  -- they are written so still
+  -- the steps of the words are still written
   still_written : AreWritten (table s.deck) s.explored s.before s.there s.more us xs
   still_written =
       written_more (table s.deck) s.led s.explored s.before s.list s.there s.ends s.more are.first.nodes
       are.first.listed are.second us xs
       (written_led (table s.deck) s.led s.before s.list s.ends us xs are.first.nodes are.first.listed written)
 
-  -- and lead to what is known
+  -- the steps lead to known names
   pub all_known : LeadToKnown (known_there s) xs
   all_known n i = to_known s.explored s.before s.there n (still_written.targets n i)
 
--- ---- all below them was explored
+-- ---- all names below the words were explored
 module _ (s : Stages) (are : AreAllStages s) (us : List WordUse) (xs : List Step)
     (written : AreWritten (table s.deck) s.led s.before s.list [] us xs) where
   abbrev fault : Option NameFault
@@ -84,7 +84,7 @@ module _ (s : Stages) (are : AreAllStages s) (us : List WordUse) (xs : List Step
       (are_marks s.deck s.explored s.reductions s.more (known_there s) sound.numbers explored) us xs order words targets
       none c
 
-  -- no answer, or the fault of the words
+  -- the result is lack of memory, or the fault of the words
   pub explored_fault : {A : Type 0} (Given : A → Type 0) (now : Shown) (old later : ℕ) → IsRightTable now
       → (f : QueryFault)
       → IsAnswered (table s.deck) s.explored s.more xs (Err f) (shown s.deck s.explored s.reductions) now old later
@@ -98,7 +98,7 @@ module _ (s : Stages) (are : AreAllStages s) (us : List WordUse) (xs : List Step
       s.reductions s.more xs sound (words_query (table s.deck) us) by_name (reach_law.listed (table s.deck) us) new
       Given now old later right f a)
 
-  -- or what they reach is settled
+  -- or the names that the words reach are settled
   pub explored_settled : (now : Listed) (count old later : ℕ) → IsSettledAfter s xs now count old later
       → (v : SmallVec Step) → v.items ≡ xs
       → IsAsked (AsksWords us) (name_fault (table s.deck) us) (λ (x : SmallVec Step). AreSettledWords (table s.deck)
@@ -128,7 +128,7 @@ module _ (s : Stages) (are : AreAllStages s) (us : List WordUse) (xs : List Step
             after.sound.numbers after.keys after.closing.closes after.all m (within m i) (m, i, inl refl);
       }
 
--- ---- the words before one that leads nowhere, and then that one, have a fault
+-- ---- the words before one that leads nowhere, together with that word, have a fault
 pub explored_cut : {A : Type 0} (Given : A → Type 0) (s : Stages) → AreAllStages s → (us : List WordUse)
     (xs : List Step) (end : DeadEnd) (old : ℕ)
     → AreCutAt (table s.deck) s.led s.before s.list us xs end

@@ -1,4 +1,4 @@
--- What is answered where a key is asked for.
+-- The result of a query of a key.
 use Rattle.std.proofs.Common.{◌≡◌, ◌⊎◌, ◌↔◌, ◌<◌, ℕ, true, List, [], ◌∷◌, map, length, Contains, None}
 use Rattle.std.proofs.Common.{refl, sym, ◌∙◌, ap, subst, inl, inr, arith}
 use Rattle.std.specs.Prelude.{Result, Ok, Err}
@@ -33,7 +33,7 @@ use Rattle.live_table.proofs.Queries.{are_marks, asked_fault, asked_none, is_kep
 use Rattle.live_table.proofs.Stages.{AreAllStages, AreStages, IsSettledAfter, Stages, explored_there, known_there}
 use Rattle.live_table.proofs.Stages.{same_start, sound_there}
 
--- a closed key reaches what its list says
+-- a closed key reaches exactly the keys in its list
 key_reached : (t : Table) (k : Key) → IsClosed t k → (n : Key) → Contains (k ∷ key_reach t k) n ↔
     ((n ≡ k) ⊎ Reaches t k n)
 key_reached t k closed n = (
@@ -59,7 +59,7 @@ abbrev number_of : Step → ℕ
 number_of (To n) = n
 number_of (Nowhere n) = n
 
--- ---- what is below it was explored
+-- ---- the names below the key were explored
 module _ (s : Stages) (are : AreStages s) (key : Key) (n : ℕ) (number : IsNumber s key n) where
   number_known : known_there s n ≡ true
   number_known = to_known s.explored s.before s.there n (known_still (table s.deck) s.led s.explored s.before s.list
@@ -69,12 +69,12 @@ module _ (s : Stages) (are : AreStages s) (key : Key) (n : ℕ) (number : IsNumb
   key_is = key_same s.led.keys s.explored.keys n are.second.keys_more (known_within (table s.deck) s.led s.before s.list
       are.first.nodes are.first.listed n number.known) ∙ sym number.is
 
-  -- so a query of it leads to what is known
+  -- a query of the number leads to known names
   pub one_known : LeadToKnown (known_there s) (To n ∷ [])
   one_known p (inl e) = subst (λ (x : ℕ). known_there s x ≡ true) (sym (ap number_of e)) number_known
   one_known p (inr i) = absurd i
 
--- ---- the key of a known number, where all below it was explored
+-- ---- the key of a known number, if all names below it were explored
 module _ (s : Stages) (are : AreAllStages s) (n : ℕ) (known : known_there s n ≡ true) where
   abbrev k : Key
   k = key_at s.explored.keys n
@@ -131,9 +131,9 @@ module _ (s : Stages) (are : AreAllStages s) (n : ℕ) (known : known_there s n 
           let a : n < length s.explored.graph = explored.numbered.within n known in
           let b : length s.explored.graph ≡ length s.explored.keys = sound.numbers.step_count in omega arith
 
--- ---- the key that was given the number
+-- ---- the key with this number
 module _ (s : Stages) (are : AreAllStages s) (key : Key) (n : ℕ) (number : IsNumber s key n) where
-  -- no answer, or its fault
+  -- the result is lack of memory, or the fault of the key
   pub key_explored_fault : {A : Type 0} (Given : A → Type 0) (now : Shown) (old later : ℕ) → IsRightTable now
       → (f : QueryFault)
       → IsAnswered (table s.deck) s.explored s.more (To n ∷ []) (Err f) (shown s.deck s.explored s.reductions) now old
@@ -148,7 +148,7 @@ module _ (s : Stages) (are : AreAllStages s) (key : Key) (n : ℕ) (number : IsN
       (λ i. (same_start s are.stages i, key_is s are.stages key n number i))
       (known_fault s are n (number_known s are.stages key n number) Given now old later right f a))
 
-  -- or what it reaches is settled, and it is
+  -- or the names that the key reaches are settled, and so is the key
   pub key_explored_settled : (now : Listed) (count old later : ℕ) → IsSettledAfter s (To n ∷ []) now count old later
       → IsAsked (AsksKey key) (key_fault (table s.deck) key) (IsSettledKey now key) (Ok n)
       (shown s.deck s.start s.reductions) (shown s.deck now count) old later

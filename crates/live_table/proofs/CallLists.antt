@@ -1,4 +1,4 @@
--- The names that lists of calls leave kept.
+-- The names that lists of calls leave stored.
 use Rattle.std.proofs.Common.{◌≡◌, ◌↔◌, ℕ, Bool, true, false, cond, List, [], ◌∷◌, ◌++◌, map, Contains, Result, Ok, Err}
 use Rattle.std.proofs.Common.{refl, sym, ◌∙◌, subst}
 use Rattle.std.specs.Option.{is_none}
@@ -27,26 +27,26 @@ use Rattle.live_table.specs.CallLists.{AreCalls, AllComplete, Call, DeckKindsLaw
 use Rattle.live_table.specs.CallLists.{Unapply, IsCall, IsKeptSince, RefusedEdit, SettleAll, Value, all_events, events_in}
 use Rattle.live_table.specs.CallLists.{has_answer, is_complete, last_shown, last_steps}
 
--- the law of the kinds of a deck's keys
+-- the law of the kinds of the keys of a deck
 pub deck_kinds_law : DeckKindsLaw
 deck_kinds_law = fits_kinds
 
--- the law of edits that can be
+-- the law of possible edits
 pub edits_can_be_law : ChangedLaw → EditsCanBeLaw
 edits_can_be_law changed before later s is =
     subst (λ (t : Table). AreChanged t (table later) (changed_keys t (table later))) (sym is) (changed before later).changed
 
--- ---- events one behind another
+-- ---- events in turn
 can_both : (es fs : List Event) (s : State) → AllCanBe es s → AllCanBe fs (after_all es s) → AllCanBe (es ++ fs) s
 can_both [] fs s a b = b
 can_both (e ∷ es) fs s a b = (a.0, can_both es fs (after e s) a.1 b)
 
--- a query leaves the table
+-- a query does not change the table
 query_table : (b : Bool) (keys : List Key) (s : State) → (after_query b keys s).table ≡ s.table
 query_table true keys s = refl
 query_table false keys s = refl
 
--- queries of keys that have an entry can be
+-- queries of keys that have entries are possible
 names_can : (keys : List Key) (s : State) → ((k : Key) → Contains keys k → is_present s.table k ≡ true)
     → AllCanBe (queries_of keys) s
 names_can [] s h = tt
@@ -67,7 +67,7 @@ names_can (k ∷ keys) s h =
     by asked left false = left
 
 -- ---- one call
--- an answer that is no want of memory
+-- a result that is not lack of memory
 with_answer : (event : Event) (r : Result Amount QueryFault) (s t : Shown) (n m : ℕ) → has_answer r ≡ true
     → IsQuery event r s t n m → Follows (event ∷ []) s t n m
 with_answer event (Ok q) s t n m e h = h
@@ -102,7 +102,7 @@ call_follows RefusedEdit s t n m right h made =
     subst (λ (x : Shown). Follows [] s x n m) (sym h.1)
     (subst (λ (k : ℕ). Follows [] s s n k) (sym h.0) (run_law.none s n right))
 
--- ---- several
+-- ---- several calls
 right_after : (ds : List MadeCall) (s : Shown) (n : ℕ) → IsRightTable s → AreCalls ds s n → IsRightTable (last_shown ds s)
 right_after [] s n right h = right
 right_after (d ∷ ds) s n right h =
@@ -132,7 +132,7 @@ module _ (edits : EditsCanBeLaw) (whole : WholeLaw) where
             n d.steps (last_steps ds d.steps) f rest.1,
       )
 
-  -- what is right is so whatever was counted
+  -- the outcomes are right whatever the counts
   right_at : (s : Shown) (n : ℕ) → IsRightTable s → IsRight (state s n)
   right_at s n r = record { present = r.present; closed = r.closed; below = r.below; right = r.right }
 

@@ -1,4 +1,4 @@
--- How many names there are, and how many are settled.
+-- The numbers of names and of settled names.
 use Rattle.std.proofs.Common.{◌≡◌, ◌+◌, ◌≤◌, ℕ, Bool, true, false, cond, List, [], ◌∷◌, map, filter}
 use Rattle.std.proofs.Common.{length}
 use Rattle.std.proofs.Common.{Option, Some, None, is_some, refl, sym, ◌∙◌, ap, arith}
@@ -41,17 +41,17 @@ by_kinds (k ∷ ks) =
     one_more k.kind k (of_kind kind.Unit ks) (of_kind kind.Prefix ks) (of_kind kind.Func ks) (names_among ks)
     (by_kinds ks)
 
--- how many names a table has
+-- the number of names of a table
 abbrev name_count : Table → ℕ
 name_count t = (key_count t kind.Unit + key_count t kind.Prefix) + key_count t kind.Func
 
--- counted by kinds
+-- these are the counts of the names of each kind
 pub record AreCounts (t : Table) (u p f : ℕ) : Type 0 where
   pub units : u ≡ key_count t kind.Unit
   pub prefixes : p ≡ key_count t kind.Prefix
   pub functions : f ≡ key_count t kind.Func
 
--- that is the length of their list
+-- the sum of the counts is the length of the list of names
 all_counted : WholeLaw → (t : Table) → name_count t ≡ length (names_in t)
 all_counted law t =
     let count = (law t).count in
@@ -62,13 +62,13 @@ all_counted law t =
     + length (of_kind kind.Func (table_keys t)) ≡ length (names_in t) = by_kinds (table_keys t) in
     omega (arith, u, p, f, all)
 
--- ---- no more than the deck has lines
+-- ---- there are no more names than lines
 shorter : (b : Bool) (k : Key) (ks ls : List Key) → length ks ≤ length ls
     → length (cond b ks (k ∷ ks)) ≤ length (k ∷ ls)
 shorter true k ks ls h = omega (arith, h)
 shorter false k ks ls h = omega (arith, h)
 
--- each key once is no more than all
+-- a list without its duplicates is no longer than the list
 once_short : (ks : List Key) → length (each_once ks) ≤ length ks
 once_short [] = omega arith
 once_short (k ∷ ks) = shorter (is_among ks k) k (each_once ks) ks (once_short ks)
@@ -98,7 +98,7 @@ module _ (d : Contents) (units prefixes functions : ℕ) (are : AreCounts (table
       let c : (units + prefixes) + functions ≡ name_count (table d) = is in
       omega (arith, a, b, c)
 
--- ---- as many are kept as are marked
+-- ---- as many outcomes are stored as marks are set
 kept_length : (ks : List Key) (os : List (Option Outcome)) → AreApart ks → length os ≡ length ks
     → length (filter (λ b. b) (map is_some os)) ≡ map_of.len (kept_of ks os)
 kept_length [] [] a h = sym (map_of.len-empty _ _)
@@ -114,7 +114,7 @@ kept_length (k ∷ ks) (Some o ∷ os) a h =
     (ap is_some (absent ks os k (λ n l. first_apart k ks a n l))) in
     omega (arith, rest, more)
 
--- as many numbers are settled as outcomes are kept
+-- as many numbers are settled as outcomes are stored
 pub kept_counted : (t : Table) (l : Listed) → AreNodes t l
     → count_by (λ b. b) l.settled ≡ map_of.len (kept_of l.keys l.outcomes)
 kept_counted t l nodes =

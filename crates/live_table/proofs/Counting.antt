@@ -1,4 +1,4 @@
--- Events never lower the count of names newly settled.
+-- Events never lower the count of newly settled names.
 use Rattle.std.proofs.Common.{◌≤◌, ◌^◌, ◌+◌, ◌-◌, ℕ, min, Bool, true, false, List, [], ◌∷◌, arith}
 use Rattle.std.specs.Option.{is_none}
 use Rattle.def_entry.specs.declared.key.Key.{Key}
@@ -8,7 +8,7 @@ use Rattle.live_table.specs.Shown.{state}
 use Rattle.live_table.specs.States.{AsksKey, AsksWords, Becomes, Event, State, after, after_all, after_query}
 use Rattle.live_table.specs.Runs.{CountLaw}
 
--- a count that a live table can have, and no less than before
+-- a count that a live table can have, and that is not lower than before
 abbrev Counts : ℕ → State → Type 0
 Counts before s = (before ≤ s.reductions) × (s.reductions ≤ 2 ^ 64 - 1)
 

@@ -1,4 +1,4 @@
--- The table of a deck: what its lines define fits the kinds of their keys.
+-- In the table of a deck the definitions of the lines fit the kinds of their keys.
 use Rattle.std.proofs.Common.{◌≡◌, ◌+◌, ℕ, List, [], ◌∷◌, Bool, true, false, cond}
 use Rattle.std.proofs.Common.{reverse, Option, Some, None, Result, Ok, Err, refl, sym, ap, subst, ◌∙◌}
 use Rattle.std.specs.List.{AllByRecursion}
@@ -27,7 +27,7 @@ of_line : (r : Result (Key × Entry) EntryFault) (p : Key × Entry) → defined_
 of_line (Ok q) p e = ap Ok (some_same q p e)
 of_line (Err fault) p e = cc
 
--- what a reading defines is the entry of its text
+-- the definition of a reading is the entry of its text
 by_kind : (text : List ℕ) (k : Kind) (p : Key × Entry) → defined_by (reading_by text k) ≡ Some p → entry_of text ≡ Ok p
 by_kind text line.Definition p e = of_line (entry_of text) p e
 by_kind text line.UnitList p e = of_line (entry_of text) p e
@@ -46,7 +46,7 @@ by_kind text line.Prompt p e = cc
 by_kind text line.UnknownDirective p e = cc
 by_kind text line.BadDirective p e = cc
 
--- so is what a line defines
+-- the definition of a line is the entry of its text
 defined : (x : DeckLine) (p : Key × Entry) → entry_in x ≡ Some p → entry_of x.text ≡ Ok p
 unfolding entry_in reading_of
 defined x p e = by x.mark refl
@@ -57,11 +57,11 @@ defined x p e = by x.mark refl
     by false q = by_kind x.text (kind_of x.text) p (sym
         (ap (λ b. cond b None (defined_by (reading_by x.text (kind_of x.text)))) q) ∙ e)
 
--- ---- so each definition fits the kind of its key
+-- ---- each definition fits the kind of its key
 abbrev Fits : Key × (ℕ × Entry) → Type 0
 Fits p = may_say p.0.kind p.1.1.what ≡ true
 
--- it says what may be said of its key
+-- the definition of a single line fits its key
 one_fits : (place : ℕ) (active : Bool) (o : Option (Key × Entry))
     → ((p : Key × Entry) → o ≡ Some p → may_say p.0.kind p.1.what ≡ true)
     → AllByRecursion Fits (definition_by place active o)
@@ -69,7 +69,7 @@ one_fits place active None h = tt
 one_fits place true (Some p) h = (h p refl, tt)
 one_fits place false (Some p) h = tt
 
--- so does what lines define
+-- the definitions of lines fit their keys
 from_fits : (place : ℕ) (flags : List Bool) (lines : List DeckLine)
     → AllByRecursion Fits (definitions_from place flags lines)
 from_fits place [] lines = tt
@@ -79,14 +79,14 @@ from_fits place (f ∷ flags) (x ∷ lines) =
     (one_fits place f (entry_in x) (λ p e. line_says x.text p.0 p.1 (defined x p e)))
     (from_fits (place + 1) flags lines)
 
--- what holds of all holds in the other order
+-- a property of all items is a property of all items in reverse order
 all_reverse : {A : Type 0} (P : A → Type 0) (xs : List A) → AllByRecursion P xs → AllByRecursion P (reverse xs)
 all_reverse P [] h = tt
 all_reverse P (x ∷ xs) h =
     subst (AllByRecursion P) (sym (reverse-append (x ∷ []) xs))
     (all_append P (reverse xs) (x ∷ []) (all_reverse P xs h.1) (h.0, tt))
 
--- so an entry that is found says what may be said of its key
+-- an entry that is found fits its key
 found_fits : (ds : Definitions) → AllByRecursion Fits ds → (k : Key) (e : Entry) → entry_at (table_of ds) k ≡ Some e
     → may_say k.kind e.what ≡ true
 found_fits [] h k e q = cc
@@ -101,7 +101,7 @@ found_fits (d ∷ ds) h k e q = by (found_fits ds h.1 k e) (is_same k d.0) refl
         (subst (λ (x : Entry). may_say d.0.kind x.what ≡ true) is h.0)
     by rest false s = rest (sym (ap (λ b. cond b (Some d.1.1) (entry_at (table_of ds) k)) s) ∙ q)
 
--- so do all entries of a deck
+-- all entries of a deck fit their keys
 pub fits_kinds : (d : Contents) → FitsKinds (table d)
 unfolding definitions
 fits_kinds d = found_fits (definitions d.settings d.lines) (all_reverse Fits _

@@ -31,7 +31,7 @@ use Rattle.live_table.specs.Looks.{AreLooks}
 use Rattle.live_table.specs.Sound.{AreNodes, HasLooksOf, HasStartsOf, IsFaithful}
 use Rattle.live_table.specs.Stored.{Listed, Looks, key_at, looks_of}
 
--- ---- steps that all lead somewhere are those of their words, whatever the dead ends are
+-- ---- steps that all lead somewhere are those of their words, whatever the dead ends
 module _ (t : Table) (key : ℕ → Key) (one other : ℕ → Option Key → NameFault) where
   any_word : (u : WordUse) (x y : Step) → ((b : ℕ) → x ≡ Nowhere b → ⊥) → IsWord t key one u x y
       → IsWord t key other u x y
@@ -54,7 +54,7 @@ no_end : (g : Graph) (k n b : ℕ) → EndsWithin g k n → In (Nowhere b) (step
 no_end g zero n b e i = e
 no_end g (suc k) n b e i = all_at (walk.LeadsInto (EndsWithin g k)) (steps g n) (Nowhere b) e i
 
--- ---- what is known of each name of an order
+-- ---- the facts known about each name of an order
 record IsReady (t : Table) (l : Listed) (n : ℕ) : Type 0 where
   pub within : n < length l.keys
   pub present : is_present t (key_at l.keys n) ≡ true
@@ -74,7 +74,7 @@ record AreSettledFirst (l now : Listed) (before later : List ℕ) : Type 0 where
   pub fresh : (m : ℕ) → In m later → IsSettled now.settled m → ⊥
   pub callees : (m : ℕ) → In m later → slice_get now.callees m ≡ slice_get l.callees m
 
--- a number that is not settled is marked so
+-- a number that is not settled has a mark that is not set
 unsettled : (bs : List Bool) (m : ℕ) → m < length bs → (slice_get bs m ≡ Some true → ⊥) → slice_get bs m ≡ Some false
 unsettled [] m h f = absurd (omega arith)
 unsettled (true ∷ bs) zero h f = absurd (f refl)
@@ -109,7 +109,7 @@ module _ (t : Table) (l : Listed) where
       inside = let a : length now.keys ≡ length l.keys = ap length s.keys in let b : n < length l.keys = r.within in
           omega arith
 
-  -- one more is settled
+  -- one more name is settled
   next : (now : Listed) (before ns : List ℕ) (n : ℕ) (o : Outcome) (c : Callee) → n < length l.keys
       → AreSettledFirst l now before (n ∷ ns)
       → ((m : ℕ) → In m ns → m ≡ n → ⊥) → AreSettledFirst l (with_outcome n o c now) (before ++ n ∷ []) ns

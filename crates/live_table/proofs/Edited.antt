@@ -1,4 +1,4 @@
--- From nodes before an edit to the answer of its call.
+-- From the nodes before an edit to the result of its call.
 use Rattle.std.proofs.Common.{◌≡◌, ℕ, length, ◌∙◌, ap, subst}
 use Rattle.std.specs.Prelude.{Result, Ok}
 use Rattle.std.proofs.lemmas.List.{length-map}
@@ -13,7 +13,7 @@ use Rattle.live_table.specs.Forgotten.{CanForget}
 use Rattle.live_table.specs.Shown.{Shown}
 use Rattle.live_table.specs.Stored.{Listed, shown}
 
--- a live table may forget
+-- a live table meets the precondition of forgetting
 pub live_can : (deck : Contents) (l : Listed) (e : LateEdges) (r : ℕ) → IsLive deck l e r → CanForget l e.made
 live_can deck l e r live = record {
   apart = live.sound.numbers.apart;
@@ -21,18 +21,18 @@ live_can deck l e r live = record {
   names = live.edges.names;
 }
 
--- with other edges a live table is live
+-- a live table with other edges is live
 pub live_as : (deck : Contents) (l : Listed) (e f : LateEdges) (r : ℕ) → IsLive deck l e r
     → HasLateEdges deck l f.waiting.items f.made → IsLive deck l f r
 live_as deck l e f r live edges = record { sound = live.sound; edges = edges }
 
--- an edit of the deck that is shown has its outcome
+-- an edit of the visible deck has its outcome
 pub same_outcome : (outcome : Contents → Result Contents DeckFault) (before after : Contents) (l : Listed) (r : ℕ)
     (old : Shown)
     → shown before l r ≡ old → outcome before ≡ Ok after → outcome old.deck ≡ Ok after
 same_outcome outcome before after l r old is e = subst (λ (s : Shown). outcome s.deck ≡ Ok after) is e
 
--- what is shown has been edited
+-- the visible state has been edited
 pub same_edit : (old now : Shown) (before : Contents) (l : Listed) (r : ℕ) → shown before l r ≡ old
     → IsEdit (shown before l r) now → IsEdit old now
 same_edit old now before l r is edit = subst (λ (s : Shown). IsEdit s now) is edit

@@ -1,4 +1,4 @@
--- What stands after an edit, by names.
+-- The state after an edit, by names.
 use Rattle.std.proofs.Common.{◌≡◌, ℕ, Bool, not, List, ◌∷◌, sym, ◌∙◌, subst, inl, inr}
 use Rattle.std.specs.FinMap as map_of
 use Rattle.std.specs.List.{list_any}
@@ -19,7 +19,7 @@ use Rattle.live_table.specs.Shown.{IsRightTable, Shown, state}
 use Rattle.live_table.specs.States.{Becomes, after}
 use Rattle.live_table.proofs.Events.{one_step}
 
--- of the names that a change of these keys affects nothing is kept
+-- the visible state without the outcomes of the names that a change of these keys affects
 abbrev pub left_in : Shown → Contents → List Key → Shown
 left_in s deck keys = record {
   deck = deck;
@@ -27,7 +27,7 @@ left_in s deck keys = record {
   reductions = s.reductions;
 }
 
--- what is affected depends on which keys are changed alone
+-- the set of affected names depends only on which keys have changed
 abbrev by_test : Table → (Key → Bool) → Key → Bool
 by_test t among n = among n || list_any (λ m. list_any among (key_looked_keys t m)) (n ∷ key_reach t n)
 
@@ -58,7 +58,7 @@ module _ (law : ChangedLaw) (before : Shown) (deck : Contents) (keys : List Key)
         i));
   }
 
-  -- all that is said of an accepted edit
+  -- an accepted edit meets its definition
   pub edit_follows : IsEdit before (left_in before deck keys)
   edit_follows steps = record {
     stands = stands steps;

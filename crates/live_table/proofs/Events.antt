@@ -1,4 +1,4 @@
--- What queries settle and edits leave stays right.
+-- Outcomes stay right after queries and edits.
 use Rattle.std.proofs.Common.{◌≡◌, ◌⊎◌, Bool, true, false, cond, not, List, [], ◌∷◌, Contains}
 use Rattle.std.proofs.Common.{Option, Some, None, is_none, is_some, refl, sym, ◌∙◌, ap, subst, inl, inr}
 use Rattle.std.specs.FinMap as map_of
@@ -28,8 +28,8 @@ use Rattle.live_table.specs.States.{AsksKey, AsksWords, Becomes, CanBe, Event, O
 use Rattle.live_table.specs.States.{after, after_edit, after_query, with_settled}
 use Rattle.live_table.proofs.Outcomes.{left_in, left_out, put_in}
 
--- ---- what a query settles
--- closed keys that have entries, with all that they reach
+-- ---- the names that a query settles
+-- closed keys that have entries, with all keys that they reach
 pub record AreWhole (t : Table) (keys : List Key) : Type 0 where
   present : (n : Key) → Contains keys n → is_present t n ≡ true
   closed : (n : Key) → Contains keys n → IsClosed t n
@@ -105,23 +105,23 @@ module _ (s : State) (keys : List Key) (whole : AreWhole s.table keys) (h : IsRi
       some_same : (p o : Outcome) → Some p ≡ Some o → o ≡ p
       some_same p o e = cc
 
--- a query leaves all right
+-- a query leaves all outcomes right
 query_right : (s : State) (keys : List Key) (b : Bool) → (b ≡ true → AreWhole s.table keys) → IsRight s
     → IsRight (after_query b keys s)
 query_right s keys true whole h = grown_right s keys (whole refl) h
 query_right s keys false whole h = h
 
--- what is found to be none is none
+-- an option that is found to be `None` is `None`
 pub none_is : {A : Type 0} (o : Option A) → is_none o ≡ true → o ≡ None
 none_is None e = refl
 none_is (Some x) e = cc
 
--- ---- what an edit leaves
+-- ---- the outcomes that an edit leaves
 left_some : (b : Bool) (o : Option Outcome) → is_some (cond b o None) ≡ true → (b ≡ true) × (is_some o ≡ true)
 left_some true o e = (refl, e)
 left_some false o e = cc
 
--- an outcome that is left is the one that was there
+-- an outcome that is left is the previous one
 left_is : (b : Bool) (o : Option Outcome) (x : Outcome) → cond b o None ≡ Some x → o ≡ Some x
 left_is true o x e = e
 left_is false o x e = cc
@@ -167,7 +167,7 @@ module _ (s : State) (table : Table) (keys : List Key) (changed : AreChanged s.t
         ∙ (as_before n (ap is_some e)).outcome;
   }
 
--- ---- one event, and a list of them
+-- ---- a single event, and a list of events
 pub one_step : (e : Event) (s : State) → CanBe e s → IsRight s → IsRight (after e s)
 one_step (AsksWords words) s can h =
     query_right s (reach s.table words) (is_none (name_fault s.table words))
@@ -182,7 +182,7 @@ pub right_law : RightLaw
 right_law [] s can h = h
 right_law (e ∷ es) s can h = right_law es (after e s) can.1 (one_step e s can.0 h)
 
--- the law of events one behind another
+-- the law of events in turn
 pub order_law : OrderLaw
 order_law [] fs s = refl
 order_law (e ∷ es) fs s = order_law es fs (after e s)

@@ -1,4 +1,4 @@
--- What the entries of names say is found as these are gone through.
+-- The definitions of names are found while the names are processed.
 use Rattle.std.proofs.Common.{◌≡◌, ◌+◌, ◌<◌, ℕ, List, [], ◌∷◌, ◌++◌, length, Some, ap, refl, sym, ◌∙◌, subst, inl}
 use Rattle.std.proofs.Common.{inr, arith, length-append}
 use Rattle.std.specs.Borrow.{Bor}
@@ -20,7 +20,7 @@ use Rattle.live_table.specs.Stored.{Listed, key_at}
 use Rattle.live_table.proofs.Growing.{key_same}
 use Rattle.live_table.proofs.Places.{element, get_lt, get_pushed, some_same}
 
--- the words of what the entry of a key says are those of the key
+-- the words of the definition of a key are those of the key
 pub said_words : (t : Table) (k : Key) (what : What) (us : List WordUse) (begins : PartStarts) → Says t k what
     → AreEntryWords what us begins → AreKeyWords t k us begins
 said_words t k what us begins says m = record {
@@ -30,17 +30,17 @@ said_words t k what us begins says m = record {
       (some_same says.0 e (sym says.1 ∙ at)));
 }
 
--- ---- where the names are gone through
+-- ---- the state of processing the names
 pub record IsFinding (t : Table) (keys : List Key) (list : List ℕ) (found : List (Bor MadeWhat)) (place : ℕ) : Type 0
   where
     pub are : AreFound t keys list found
     pub count : length found ≡ place
 
--- at the start nothing is found
+-- at the start no definition is found
 pub finding_start : (t : Table) (keys : List Key) (list : List ℕ) → IsFinding t keys list [] 0
 finding_start t keys list = record { are = λ i n what at got. cc; count = refl }
 
--- a number at a place among more was there before
+-- a number at a place of a longer list was there before
 same_place : (list there : List ℕ) (i n : ℕ) → IsMore list there → i < length list → slice_get there i ≡ Some n
     → slice_get list i ≡ Some n
 same_place list there i n more h at =
@@ -52,7 +52,7 @@ module _ (t : Table) (l m : Listed) (before list there : List ℕ) (ends more : 
     (is : slice_get list place ≡ Some n)
     (says : Says t (key_at l.keys n) (what_view what.now)) (s : IsFinding t l.keys list found place)
     (grown : AreGrown t l m before list there ends more) where
-  -- what was found is so still
+  -- the definitions found before do not change
   said_still : (i k : ℕ) (w : Bor MadeWhat) → slice_get list i ≡ Some k → slice_get (found ++ what ∷ []) i ≡ Some w
       → Says t (key_at l.keys k) (what_view w.now)
   said_still i k w at got = elim (get_pushed found what i w got) [

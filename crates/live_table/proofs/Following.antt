@@ -1,4 +1,4 @@
--- Queries one behind another.
+-- Queries in turn.
 use Rattle.std.proofs.Common.{◌≡◌, ◌≤◌, ℕ, Bool, true, false, List, [], ◌∷◌, ◌++◌, refl, sym}
 use Rattle.std.proofs.Common.{◌∙◌, ap, arith}
 use Rattle.std.specs.Prelude.{Result, Ok, Err}
@@ -14,29 +14,29 @@ use Rattle.live_table.specs.Shown.{Follows, IsCutOff, IsRightTable, Shown, state
 use Rattle.live_table.specs.States.{AsksKey, AsksWords, Becomes, Event, State, after, after_all, after_query}
 use Rattle.live_table.proofs.Events.{order_law}
 
--- a query takes no step back
+-- a query never lowers the count of steps
 query_rises : (b : Bool) (keys : List Key) (s : State) → s.steps ≤ (after_query b keys s).steps
 query_rises true keys s = omega arith
 query_rises false keys s = omega arith
 
--- nor does an event
+-- an event never lowers the count of steps
 event_rises : (e : Event) (s : State) → s.steps ≤ (after e s).steps
 event_rises (AsksWords words) s = query_rises (is_none (name_fault s.table words)) (reach s.table words) s
 event_rises (AsksKey n) s = query_rises (is_none (key_fault s.table n)) (n ∷ key_reach s.table n) s
 event_rises (Becomes t) s = omega arith
 
--- nor do several
+-- events never lower the count of steps
 pub steps_rise : (es : List Event) (s : State) → s.steps ≤ (after_all es s).steps
 steps_rise [] s = omega arith
 steps_rise (e ∷ es) s =
     let a : s.steps ≤ (after e s).steps = event_rises e s in
     let b : (after e s).steps ≤ (after_all es (after e s)).steps = steps_rise es (after e s) in omega arith
 
--- no event leaves a right table as it is
+-- an empty run leaves a right table unchanged
 pub follows_none : (s : Shown) (n : ℕ) → IsRightTable s → Follows [] s s n n
 follows_none s n right = record { stands = refl; right = right }
 
--- what follows in two parts follows as a whole
+-- two runs in turn are one run
 pub follows_both : (es fs : List Event) (a b c : Shown) (o n m : ℕ) → Follows es a b o n → Follows fs b c n m
     → Follows (es ++ fs) a c o m
 follows_both es fs a b c o n m f g = record {
@@ -44,7 +44,7 @@ follows_both es fs a b c o n m f g = record {
   right = g.right;
 }
 
--- cut off in the midst of others
+-- events that are cut off in the midst of others
 pub cut_both : (es fs gs : List Event) (a b c : Shown) (o n m : ℕ) → b.deck ≡ a.deck → Follows es a b o n
     → IsCutOff fs b c n m → IsCutOff (es ++ (fs ++ gs)) a c o m
 cut_both es fs gs a b c o n m same f g = record {
@@ -65,7 +65,7 @@ cut_both es fs gs a b c o n m same f g = record {
       omega arith;
 }
 
--- an answer that is no want of memory, or is told as want of memory after all
+-- a query that was made in full meets `IsQuery`, whatever its result
 pub query_answer : (e : Event) (r : Result Amount QueryFault) (a b : Shown) (o n : ℕ) → b.deck ≡ a.deck
     → Follows (e ∷ []) a b o n → IsQuery e r a b o n
 query_answer e (Ok q) a b o n same f = f

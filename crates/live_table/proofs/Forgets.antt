@@ -1,4 +1,4 @@
--- Keys forgotten one after another.
+-- Forgetting keys in turn.
 use Rattle.std.proofs.Common.{◌≡◌, ◌⊎◌, ◌+◌, ◌<◌, ◌≤◌, ℕ, zero, suc, Bool, true, false, List, [], ◌∷◌, ◌++◌, length}
 use Rattle.std.proofs.Common.{take, set, Contains}
 use Rattle.std.proofs.Common.{Option, Some, refl, sym, ◌∙◌, ap, subst, inl, inr, arith}
@@ -25,7 +25,7 @@ use Rattle.live_table.specs.Keeping.{IsLeft, left_at_first, left_on}
 use Rattle.live_table.specs.Stored.{Listed, key_at}
 use Rattle.live_table.proofs.Places.{get_lt, some_same}
 
--- no change affects nothing
+-- an empty change affects no name
 no_key : (g : NameGraph) (n : ℕ) → AreAffected g [] n → ⊥
 no_key g n a = no_member a.0 a.1
 
@@ -40,7 +40,7 @@ module _ (t : Table) (l : Listed) (g : NameGraph) where
   same_rest : IsRest l l
   same_rest = record { keys = refl; callees = refl; graph = refl; looks = refl }
 
-  -- nothing changes where none of the keys has a number
+  -- nothing changes if none of the keys has a number
   pub none_forgotten : (keys : List Key) → ((n : ℕ) → n < length l.keys → Contains keys (key_at l.keys n) → ⊥)
       → g.names ≤ length l.keys → AreForgotten t keys l l g g
   none_forgotten keys none few = record {
@@ -160,7 +160,7 @@ module _ (t : Table) (k : Key) (l : Listed) (n : ℕ) (found : slice_get l.keys 
     }
 
     module _ (rest : IsRest l m) (g h : NameGraph) where
-      -- it has edges
+      -- the number has edges
       pub one_forgotten : n < g.names → g.names ≤ length l.keys → Forgets (IsAffected g n) g h
           → IsCleared (IsAffected g n) (is_flagged l.settled) (is_flagged m.settled)
           → IsLeft l.settled m.settled l.count m.count l.outcomes m.outcomes → AreForgotten t (k ∷ []) l m g h
@@ -196,7 +196,7 @@ module _ (t : Table) (k : Key) (l : Listed) (n : ℕ) (found : slice_get l.keys 
           single : (i : ℕ) → Contains (n ∷ []) i → i ≡ n
           single i c = elim (member_cases i n [] c) [ inl e ↦ e | inr j ↦ absurd (no_member i j) ]
 
-    -- it has none
+    -- the number has no edges
     module _ (rest : IsRest l m) (g : NameGraph) (settled : m.settled ≡ l.settled) (count : m.count ≡ l.count)
         (outcomes : m.outcomes ≡ l.outcomes) where
       pub flag_forgotten : (n < g.names → ⊥) → g.names ≤ length l.keys → AreForgotten t (k ∷ []) l m g g
@@ -231,7 +231,7 @@ absent_forgotten t k l g few absent = none_forgotten t l g (k ∷ []) none few
       | inr j ↦ no_member (key_at l.keys n) j
     ]
 
--- ---- one key after another
+-- ---- keys in turn
 pub take_next : (ks : List Key) (i : ℕ) (k : Key) → slice_get ks i ≡ Some k → take (i + 1) ks ≡ take i ks ++ k ∷ []
 take_next [] i k e = cc
 take_next (x ∷ ks) zero k e = ap (λ (z : Key). z ∷ []) (some_same x k e)
@@ -240,7 +240,7 @@ take_next (x ∷ ks) (suc i) k e = ap (λ n. take n (x ∷ ks)) (later i) ∙ ap
     later : (i : ℕ) → suc i + 1 ≡ suc (i + 1)
     later i = omega arith
 
--- a table that has forgotten may forget again
+-- a table that has forgotten keys meets the precondition of forgetting again
 pub can_forget : (t : Table) (keys : List Key) (l m : Listed) (g h : NameGraph) → AreForgotten t keys l m g h
     → CanForget l g → CanForget m h
 can_forget t keys l m g h f can = record {

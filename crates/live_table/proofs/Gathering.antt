@@ -1,4 +1,4 @@
--- Numbers that are put in, each once.
+-- Numbers that are gathered, each once.
 use Rattle.std.proofs.Common.{◌≡◌, ◌⊎◌, ◌↔◌, ◌+◌, ◌∷◌, [], ◌++◌, ℕ, cond, List, Some, take, length}
 use Rattle.std.proofs.Common.{sym, ◌∙◌, subst, inl, inr, arith}
 use Rattle.std.specs.List.{slice_get}
@@ -8,11 +8,11 @@ use Rattle.name_walk.specs.Lists.{In}
 use Rattle.name_walk.proofs.Lists.{In-left, In-push, In-right, on-In, take_at}
 use Rattle.std.proofs.lemmas.List.{take_all}
 
--- the first of these numbers are put in
+-- the first of these numbers are gathered
 abbrev pub IsGathering : List ℕ → List ℕ → List ℕ → ℕ → Type 0
 IsGathering old now ns i = (m : ℕ) → In m now ↔ (In m old ⊎ In m (take i ns))
 
--- one number is put where it is not there
+-- a number is appended if it is not there
 pub put_one : (now next : List ℕ) (n : ℕ) → next ≡ cond (on now n) now (now ++ n ∷ []) → (m : ℕ)
     → In m next ↔ (In m now ⊎ (m ≡ n))
 put_one now next n e m = elim (cases_Bool (on now n)) [
@@ -32,7 +32,7 @@ put_one now next n e m = elim (cases_Bool (on now n)) [
 pub gathering_start : (old ns : List ℕ) → IsGathering old old ns 0
 gathering_start old ns m = (λ i. inl i, λ h. elim h [ inl i ↦ i | inr z ↦ absurd z ])
 
--- the next number is
+-- the next number is gathered
 pub gathering_next : (old now next ns : List ℕ) (i n : ℕ) → slice_get ns i ≡ Some n → IsGathering old now ns i
     → next ≡ cond (on now n) now (now ++ n ∷ []) → IsGathering old next ns (i + 1)
 gathering_next old now next ns i n at g e m = (to, from)
@@ -54,7 +54,7 @@ gathering_next old now next ns i n at g e m = (to, from)
       | inr is ↦ (put_one now next n e m).1 (inr is)
     ]
 
--- at the end all are
+-- at the end all numbers are gathered
 pub gathered_all : (old now ns : List ℕ) (i : ℕ) → length ns ≡ i → IsGathering old now ns i → (m : ℕ)
     → In m now ↔ (In m old ⊎ In m ns)
 gathered_all old now ns i e g m =

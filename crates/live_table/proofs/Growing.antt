@@ -1,4 +1,4 @@
--- What was written of words stays so where names, listed numbers and dead ends are added.
+-- The written steps of words stay right when names, listed numbers and dead ends are added.
 use Rattle.std.proofs.Common.{◌≡◌, ◌<◌, ◌≤◌, ℕ, zero, suc, true, List, [], ◌∷◌, ◌++◌, take, length, Option, Some}
 use Rattle.std.proofs.Common.{None, refl, sym, ◌∙◌, ap, subst, inl, inr, arith}
 use Rattle.std.specs.List.{slice_get}
@@ -28,7 +28,7 @@ more_length (x ∷ xs) [] m = let e : None ≡ Some x = m 0 x refl in cc
 more_length (x ∷ xs) (y ∷ ys) m = let h : length xs ≤ length ys = more_length xs ys (λ i z e. m (suc i) z e) in
     omega arith
 
--- a front is the same where more comes behind
+-- the front of a list does not change when items are appended
 pub take_more : {A : Type 0} (xs ys : List A) (k : ℕ) → IsMore xs ys → k ≤ length xs → take k ys ≡ take k xs
 take_more xs ys zero m h = refl
 take_more [] ys (suc k) m h = absurd (omega arith)
@@ -38,39 +38,39 @@ take_more (x ∷ xs) (y ∷ ys) (suc k) m h =
     let t : take k ys ≡ take k xs = take_more xs ys k (λ i z q. m (suc i) z q) (omega arith) in
     λ i. e i ∷ t i
 
--- so a member stays one
+-- a member of a list is a member of a longer one
 pub in_more : (xs ys : List ℕ) (x : ℕ) → IsMore xs ys → In x xs → In x ys
 in_more [] ys x m i = absurd i
 in_more (y ∷ xs) [] x m i = let e : None ≡ Some y = m 0 y refl in cc
 in_more (y ∷ xs) (z ∷ ys) x m (inl e) = let q : z ≡ y = some_same z y (m 0 y refl) in inl (e ∙ sym q)
 in_more (y ∷ xs) (z ∷ ys) x m (inr i) = inr (in_more xs ys x (λ j w q. m (suc j) w q) i)
 
--- what comes behind makes more
+-- appending items makes a longer list
 pub push_more : {A : Type 0} (xs ys : List A) → IsMore xs (xs ++ ys)
 push_more [] ys i x e = cc
 push_more (y ∷ xs) ys zero x e = e
 push_more (y ∷ xs) ys (suc i) x e = push_more xs ys i x e
 
--- a number within has its key
+-- a number within the keys has its key
 pub key_read : (ks : List Key) (n : ℕ) → n < length ks → slice_get ks n ≡ Some (key_at ks n)
 key_read ks n h = slice_get-get_or ks n _ h
 
--- and a key that is found is that of its number
+-- a key that is found is that of its number
 pub key_found : (ks : List Key) (n : ℕ) (k : Key) → slice_get ks n ≡ Some k → (n < length ks) × (k ≡ key_at ks n)
 key_found ks n k e = (get_lt ks n k e, some_same k (key_at ks n) (sym e ∙ key_read ks n (get_lt ks n k e)))
 
--- numbers keep their keys where more come
+-- numbers have the same keys when keys are added
 pub key_same : (ks ls : List Key) (n : ℕ) → IsMore ks ls → n < length ks → key_at ls n ≡ key_at ks n
 key_same ks ls n m h = sym (key_found ls n (key_at ks n) (m n (key_at ks n) (key_read ks n h))).1
 
--- dead ends keep their faults
+-- dead ends have the same faults when dead ends are added
 pub fault_same : (ends more : List DeadEnd) (t : ℕ) → IsMore ends more → t < length ends → (holder : Option Key)
     → fault_at more t holder ≡ fault_at ends t holder
 fault_same ends more t m h holder =
     let s : (x : DeadEnd) × (slice_get ends t ≡ Some x) = element ends t h in
     ap (λ (w : Option DeadEnd). fault_of w holder) (m t s.0 s.1 ∙ sym s.1)
 
--- ---- steps say the same where keys and dead ends do
+-- ---- steps mean the same if the keys and dead ends do
 module _ (t : Table) (key later : ℕ → Key) (ends other : ℕ → Option Key → NameFault) where
   same_word : (u : WordUse) (x y : Step) → ((r : ℕ) → In (To r) (x ∷ y ∷ []) → later r ≡ key r)
       → ((b : ℕ) → In (Nowhere b) (x ∷ y ∷ []) → (holder : Option Key) → other b holder ≡ ends b holder)
@@ -98,21 +98,21 @@ module _ (t : Table) (key later : ℕ → Key) (ends other : ℕ → Option Key 
     same_words us xs (λ r i. h r (inr (inr i))) (λ b i. k b (inr (inr i))) w.1,
   )
 
--- a settled number is within
+-- a settled number is within the keys
 pub settled_within : (t : Table) (l : Listed) → AreNodes t l → (n : ℕ) → IsSettled l.settled n → n < length l.keys
 settled_within t l nodes n e =
     let a : n < length l.settled = get_lt l.settled n true e in
     let b : length l.settled ≡ length l.outcomes = ap length nodes.marked ∙ length-map l.outcomes _ in
     let c : length l.outcomes ≡ length l.keys = nodes.outcome_count in omega arith
 
--- so is a known one
+-- a known number is within the keys
 pub known_within : (t : Table) (l : Listed) (before list : List ℕ) → AreNodes t l → AreListed t l before list → (n : ℕ)
     → IsKnown l before list n → n < length l.keys
 known_within t l before list nodes right n (inl e) = settled_within t l nodes n e
 known_within t l before list nodes right n (inr (inl i)) = right.gone n i
 known_within t l before list nodes right n (inr (inr i)) = right.within n i
 
--- ---- what was written stays written
+-- ---- written steps stay written
 module _ (t : Table) (l m : Listed) (before here there : List ℕ) (ends more : List DeadEnd) (nodes : AreNodes t l)
     (right : AreListed t l before here)
     (grown : AreGrown t l m before here there ends more) where
@@ -136,7 +136,7 @@ module _ (t : Table) (l m : Listed) (before here there : List ℕ) (ends more : 
         let q : length ends ≤ length more = more_length ends more grown.ends_more in omega arith;
   }
 
--- ---- what is added behind what was added
+-- ---- additions in turn
 -- no numbers are listed
 pub none_listed : (t : Table) (l : Listed) (before list : List ℕ) → ((n : ℕ) → In n before → n < length l.keys)
     → list ≡ [] → AreListed t l before list
@@ -149,7 +149,7 @@ none_listed t l before list gone e = subst (AreListed t l before) (sym e) (recor
   once = nothing_twice;
 })
 
--- a table has grown with none of its listed numbers
+-- a table has grown, with none of its listed numbers
 pub grown_alone : (t : Table) (l m : Listed) (before here there : List ℕ) (ends more : List DeadEnd)
     → AreGrown t l m before here there ends more → AreGrown t l m before [] [] ends more
 grown_alone t l m before here there ends more grown = record {
@@ -162,7 +162,7 @@ grown_alone t l m before here there ends more grown = record {
   ends_more = grown.ends_more;
 }
 
--- a table is grown by nothing
+-- a table is a growth of itself
 pub grown_none : (t : Table) (l : Listed) (before list : List ℕ) (ends more : List DeadEnd) → AreNodes t l
     → AreListed t l before list → IsMore ends more
     → AreGrown t l l before list list ends more
@@ -176,7 +176,7 @@ grown_none t l before list ends more nodes right growing = record {
   ends_more = growing;
 }
 
--- grown twice, a table is grown
+-- two growths in turn are one growth
 pub grown_both : (t : Table) (l m k : Listed) (before here list there : List ℕ) (xs ys zs : List DeadEnd)
     → AreGrown t l m before here list xs ys → AreGrown t m k before list there ys zs
     → AreGrown t l k before here there xs zs
@@ -199,7 +199,7 @@ added_none t l before list ends more nodes right growing = record {
   same = record { steps = λ n h o. refl; callees = λ n h o. refl; looks = λ n h o. refl };
 }
 
--- added twice, numbers are added
+-- two additions in turn are one addition
 pub added_both : (t : Table) (l m k : Listed) (before here list there : List ℕ) (xs ys zs : List DeadEnd)
     → AreAdded t l m before here list xs ys → AreAdded t m k before list there ys zs
     → AreAdded t l k before here there xs zs

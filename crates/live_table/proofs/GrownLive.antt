@@ -1,4 +1,4 @@
--- Exploring changes nothing that is shown.
+-- An exploration does not change the visible state.
 use Rattle.std.proofs.Common.{◌≡◌, ◌∷◌, [], ℕ, List, Option, is_none, sym, ap, subst}
 use Rattle.std.specs.Prelude.{Result, Err}
 use Rattle.expr_tree.specs.declared.word_list.WordUse.{WordUse}
@@ -23,13 +23,13 @@ use Rattle.live_table.specs.Stored.{Listed, shown}
 use Rattle.live_table.proofs.WaitingNames.{grown_edges}
 use Rattle.live_table.proofs.Queries.{IsQueryOf, cut_off}
 
--- the same is shown of a table that has grown
+-- the visible state of a table that has grown is the same
 pub same_shown : (deck : Contents) (l m : Listed) (before here there : List ℕ) (ends more : List DeadEnd)
     (r : ℕ) → AreGrown (table deck) l m before here there ends more
     → shown deck m r ≡ shown deck l r
 same_shown deck l m before here there ends more r g = λ i. record { deck = deck; kept = g.kept i; reductions = r }
 
--- it is sound
+-- a table that has grown is sound
 pub grown_sound : (deck : Contents) (l m : Listed) (before here there : List ℕ) (ends more : List DeadEnd) (r : ℕ)
     → AreGrown (table deck) l m before here there ends more
     → IsSound deck l r → IsSound deck m r
@@ -39,7 +39,7 @@ grown_sound deck l m before here there ends more r g s = record {
   few = s.few;
 }
 
--- and has its edges
+-- a table that has grown has its edges
 pub grown_live : (deck : Contents) (l m : Listed) (before here there : List ℕ) (ends more : List DeadEnd) (r : ℕ)
     → AreGrown (table deck) l m before here there ends more → (e : LateEdges)
     → IsLive deck l e r → IsLive deck m e r
@@ -54,12 +54,12 @@ pub words_query : (t : Table) (us : List WordUse) → IsQueryOf (AsksWords us) t
 words_query t us =
     record { after = λ s e. ap (λ (x : Table). after_query (is_none (name_fault x us)) (reach x us) s) e }
 
--- what a query of a key asks for
+-- the subject of a query of a key
 pub key_query : (t : Table) (k : Key) → IsQueryOf (AsksKey k) t (key_fault t k) (k ∷ key_reach t k)
 key_query t k =
     record { after = λ s e. ap (λ (x : Table). after_query (is_none (key_fault x k)) (k ∷ key_reach x k) s) e }
 
--- ---- want of memory before the walk
+-- ---- memory runs out before the walk
 pub cut_short : {A : Type 0} (Given : A → Type 0) (event : Event) (fault : Option NameFault) (reached : List Key)
     (deck : Contents) (l m : Listed) (before here there : List ℕ) (ends more : List DeadEnd) (r old : ℕ)
     → AreGrown (table deck) l m before here there ends more → IsSound deck l r

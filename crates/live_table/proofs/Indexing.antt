@@ -1,4 +1,4 @@
--- Keys as bytes, by number.
+-- Keys in the form of bytes, by number.
 use Rattle.smallvec.specs.SmallVec.{SmallVec}
 use Rattle.std.proofs.Common.{◌≡◌, ◌<◌, ◌≤◌, ◌||◌, ◌&&◌, ℕ, zero, suc, Bool, true, false, not, cond, eqb, List, []}
 use Rattle.std.proofs.Common.{◌∷◌, ◌++◌, length, Option, Some, None, is_some, option_map, refl, sym, ◌∙◌, ap, subst}
@@ -20,7 +20,7 @@ use Rattle.def_entry.specs.SameKeys.{is_among, is_same, is_same_kind}
 use Rattle.def_entry.proofs.SameKeys.{same_keys}
 use Rattle.live_table.specs.Indexed.{IsAdded, IsStored, key_in, keys_in, stored}
 
--- ---- what holds of each of some
+-- ---- properties of all items
 all_head : {A : Type 0} (P : A → Type 0) (x : A) (xs : List A) → All P (x ∷ xs) → P x
 all_head P x xs h = h 0 x (omega arith)
 
@@ -34,8 +34,8 @@ all_push P [] x h p (suc k) d lt = absurd (omega arith)
 all_push P (y ∷ xs) x h p zero d lt = all_head P y xs h
 all_push P (y ∷ xs) x h p (suc k) d lt = all_push P xs x (all_tail P y xs h) p k d (omega arith)
 
--- ---- a key as bytes
--- kinds have the same number where they are the same
+-- ---- a key in the form of bytes
+-- kinds have the same number exactly if they are equal
 kinds : (a b : Kind) → eqb (kind_number a) (kind_number b) ≡ is_same_kind a b
 kinds kind.Unit kind.Unit = refl
 kinds kind.Unit kind.Prefix = refl
@@ -54,23 +54,23 @@ kinds kind.List kind.Prefix = refl
 kinds kind.List kind.Func = refl
 kinds kind.List kind.List = refl
 
--- the bytes of a key are it
+-- the bytes of a key encode the key
 read_back : (k : Key) → key_in (stored k) ≡ k
 read_back k = λ i. record { kind = kind_back k.kind i; name = k.name }
 
--- and equal other bytes where those are the key
+-- the bytes of a key equal other bytes exactly if those encode the key
 same_bytes : (k : Key) (s : List ℕ) → stored (key_in s) ≡ s → bytes_eq (stored k) s ≡ is_same k (key_in s)
 same_bytes k s e =
     ap (bytes_eq (stored k)) (sym e)
     ∙ ap (λ (b : Bool). b && bytes_eq k.name (key_in s).name) (kinds k.kind (key_in s).kind)
 
--- bytes that are told to be those of a key are it
+-- bytes that are found equal to those of a key encode the key
 told : (k : Key) (w s : List ℕ) → w ≡ stored k → bytes_eq w s ≡ true → key_in s ≡ k
 told k w s e t = ap key_in (sym ((bytes_decides w s).0 t) ∙ e) ∙ read_back k
 
 -- ---- the keys of an index
 module _ (room : ℕ) where
-  -- a key is among them where its bytes are among theirs
+  -- a key is among the keys exactly if its bytes are among theirs
   among_stored : (ss : List (SmallVec ℕ)) (k : Key) → All (IsStored room) ss
       → list_any (λ s. bytes_eq (stored k) s.items) ss ≡ is_among (keys_in ss) k
   among_stored [] k h = refl
@@ -81,12 +81,12 @@ module _ (room : ℕ) where
       (all_tail (IsStored room) s ss h) in
       λ i. here i || there i
 
-  -- also where the bytes that are sought are written elsewhere
+  -- a key is among the keys exactly if equal bytes are among theirs
   pub among_found : (ss : List (SmallVec ℕ)) (k : Key) (w : List ℕ) → All (IsStored room) ss → w ≡ stored k
       → list_any (λ s. bytes_eq w s.items) ss ≡ is_among (keys_in ss) k
   among_found ss k w h e = ap (λ (b : List ℕ). list_any (λ s. bytes_eq b s.items) ss) e ∙ among_stored ss k h
 
-  -- none of them is longer than the room
+  -- none of the keys is longer than the room
   pub too_long : (ss : List (SmallVec ℕ)) (k : Key) → All (IsStored room) ss → room ≤ length k.name
       → is_among (keys_in ss) k ≡ false
   too_long [] k h le = refl
@@ -102,7 +102,7 @@ module _ (room : ℕ) where
           let fits : length s.items ≤ room = p.1 in
           absurd (omega arith))
 
-  -- what a look-up tells
+  -- the result of a lookup
   pub number_in : (ss : List (SmallVec ℕ)) (k : Key) (w : List ℕ) (r : Option ℕ) → All (IsStored room) ss → w ≡ stored k
       → r ≡ position (λ s. bytes_eq w s.items) ss → is_some r ≡ list_any (λ s. bytes_eq w s.items) ss
       → MatchOption r (is_among (keys_in ss) k ≡ false) (λ n. slice_get (keys_in ss) n ≡ Some k)
@@ -114,7 +114,7 @@ module _ (room : ℕ) where
       ∙ (ap (option_map (λ (s : SmallVec ℕ). key_in s.items)) (slice_get-get_or ss n none p.0)
       ∙ ap Some (told k w (get_or ss n none).items e p.1))
 
-  -- with more room they still fit
+  -- keys that fit fit into more room
   pub more_room : (later : ℕ) (ss : List (SmallVec ℕ)) → All (IsStored room) ss → room ≤ later
       → All (IsStored later) ss
   more_room later ss h le = λ k d lt. wider (slice_index_or ss k d) (h k d lt)
@@ -125,7 +125,7 @@ module _ (room : ℕ) where
 -- ---- one more key
 module _ (room : ℕ) (ss more : List (SmallVec ℕ)) (k : Key) (v : SmallVec ℕ) (h : All (IsStored room) ss)
     (is : v.items ≡ stored k) (put : more ≡ insert_key (λ a b. bytes_eq a.items b.items) ss v) where
-  -- it fits where there is room for it
+  -- the additional key fits if there is room for it
   pub stored_more : (later : ℕ) → room ≤ later → length v.items ≤ later → All (IsStored later) more
   stored_more later le fits =
       subst (All (IsStored later)) (sym put) (by (list_any (λ s. bytes_eq v.items s.items) ss))
@@ -140,12 +140,12 @@ module _ (room : ℕ) (ss more : List (SmallVec ℕ)) (k : Key) (v : SmallVec �
       by true = before
       by false = all_push (IsStored later) ss v before own
 
-  -- the keys of more are these where b says that one is new
+  -- these are the keys, with the additional one if it is new
   abbrev AreThose : Bool → Type 0
   AreThose b = MatchBool b ((is_among (keys_in ss) k ≡ false) × (keys_in more ≡ keys_in ss ++ k ∷ []))
       (keys_in more ≡ keys_in ss)
 
-  -- it has a number, the next where it had none
+  -- a key has a number, the next one if it had none
   pub added : (n : ℕ) (is_new : Bool) → is_new ≡ not (list_any (λ s. bytes_eq v.items s.items) ss)
       → ((s : SmallVec ℕ) × (slice_get more n ≡ Some s) × (bytes_eq v.items s.items ≡ true))
       → IsAdded k (keys_in ss) (keys_in more) n is_new
@@ -164,7 +164,7 @@ module _ (room : ℕ) (ss more : List (SmallVec ℕ)) (k : Key) (v : SmallVec �
             ∙ (λ i. keys_in ss ++ (ap key_in is ∙ read_back k) i ∷ [])),
       )
 
--- a key that had no number is one more
+-- a key that had no number is appended
 pub one_more : (k : Key) (old new : List Key) (n : ℕ) (is_new : Bool) → IsAdded k old new n is_new → not is_new ≡ false
     → (is_among old k ≡ false) × (new ≡ old ++ k ∷ [])
 one_more k old new n true is e = is.keys

@@ -1,4 +1,4 @@
--- What is kept of numbers, by their keys.
+-- The stored outcomes of numbers, by their keys.
 use Rattle.std.proofs.Common.{◌≡◌, ◌<◌, ℕ, zero, suc, Bool, true, false, cond, List, [], ◌∷◌, map, set, length}
 use Rattle.std.proofs.Common.{Option, Some, None, is_some, refl, sym, ◌∙◌, ap, arith}
 use Rattle.std.specs.FinMap as map_of
@@ -25,11 +25,11 @@ use Rattle.live_table.proofs.Places.{get_lt, some_same}
 abbrev pub AreApart : List Key → Type 0
 AreApart ks = (n m : ℕ) → n < length ks → m < length ks → key_at ks n ≡ key_at ks m → n ≡ m
 
--- keys that differ do so without the first
+-- keys that differ still do without the first
 pub apart_tail : (k : Key) (ks : List Key) → AreApart (k ∷ ks) → AreApart ks
 apart_tail k ks a n m h j e = let q : suc n ≡ suc m = a (suc n) (suc m) (omega arith) (omega arith) e in omega arith
 
--- the first of them is none of the others
+-- the first key is none of the others
 pub first_apart : (k : Key) (ks : List Key) → AreApart (k ∷ ks) → (n : ℕ) → n < length ks → k ≡ key_at ks n → ⊥
 first_apart k ks a n h e = let z : 0 ≡ suc n = a 0 (suc n) (omega arith) (omega arith) e in omega arith
 
@@ -40,12 +40,12 @@ chosen true true x y z h = absurd (h refl refl)
 chosen true false x y z h = refl
 chosen false b x y z h = refl
 
--- what a map with one more outcome has for a key
+-- the outcome of a key in a map with one more outcome
 inserted : (m : Kept) (k : Key) (x : Outcome) (q : Key) → map_of.get (map_of.insert m k x) q ≡ cond (eq_by_cmp
     key_cmp q k) (Some x) (map_of.get m q)
 inserted m k x q = map_of.get-insert key_order.total m k x q
 
--- outcomes of two keys may be put in either order
+-- the outcomes of two keys may be inserted in either order
 swapped : (m : Kept) (k l : Key) (x y : Outcome) → (k ≡ l → ⊥)
     → map_of.insert (map_of.insert m l y) k x ≡ map_of.insert (map_of.insert m k x) l y
 swapped m k l x y ne = map_of.same_map key_order.total key_order.exact _ _ (λ q.
@@ -55,13 +55,13 @@ swapped m k l x y ne = map_of.same_map key_order.total key_order.exact _ _ (λ q
     (λ a b. ne (sym (one_key q k a) ∙ one_key q l b))
     ∙ sym (inserted (map_of.insert m k x) l y q ∙ ap (cond (eq_by_cmp key_cmp q l) (Some y)) (inserted m k x q)))))
 
--- so may one that there may be
+-- an optional outcome and another may be inserted in either order
 onto_swapped : (m : Kept) (k l : Key) (x : Option Outcome) (y : Outcome) → (k ≡ l → ⊥)
     → onto k x (map_of.insert m l y) ≡ map_of.insert (onto k x m) l y
 onto_swapped m k l None y ne = refl
 onto_swapped m k l (Some x) y ne = swapped m k l x y ne
 
--- an outcome more of a number is one more of its key
+-- to set the outcome of a number is to insert that of its key
 pub put_at : (ks : List Key) (os : List (Option Outcome)) (n : ℕ) (o : Outcome) → AreApart ks → n < length ks
     → slice_get os n ≡ Some None
     → kept_of ks (set os n (Some o)) ≡ map_of.insert (kept_of ks os) (key_at ks n) o
@@ -73,7 +73,7 @@ put_at (k ∷ ks) (x ∷ os) (suc n) o a h e =
     ap (onto k x) (put_at ks os n o (apart_tail k ks a) (omega arith) e)
     ∙ onto_swapped (kept_of ks os) k (key_at ks n) x o (first_apart k ks a n (omega arith))
 
--- ---- the outcome of a number is what is kept of its key
+-- ---- the outcome of a number is the one that is stored for its key
 pub onto_other : (m : Kept) (k q : Key) (x : Option Outcome) → (q ≡ k → ⊥) → map_of.get (onto k x m) q ≡ map_of.get m q
 onto_other m k q None ne = refl
 onto_other m k q (Some x) ne = inserted m k x q ∙ by (eq_by_cmp key_cmp q k) refl
@@ -82,7 +82,7 @@ onto_other m k q (Some x) ne = inserted m k x q ∙ by (eq_by_cmp key_cmp q k) r
     by true e = absurd (ne (one_key q k e))
     by false e = refl
 
--- it is there afterwards
+-- the inserted outcome of a key is there afterwards
 pub onto_self : (m : Kept) (k : Key) (x : Option Outcome) → map_of.get m k ≡ None → map_of.get (onto k x m) k ≡ x
 onto_self m k None e = e
 onto_self m k (Some x) e = inserted m k x k ∙ ap (λ b. cond b (Some x) (map_of.get m k)) (tied k k refl)
@@ -96,7 +96,7 @@ absent (k ∷ ks) (x ∷ os) q h =
     onto_other (kept_of ks os) k q x (h 0 (omega arith))
     ∙ absent ks os q (λ n l. h (suc n) (omega arith))
 
--- the outcome at a number is the one that is kept of its key
+-- the outcome at a number is the one that is stored for its key
 pub kept_at : (ks : List Key) (os : List (Option Outcome)) (n : ℕ) → AreApart ks → n < length ks → length os ≡ length ks
     → slice_get os n ≡ Some (map_of.get (kept_of ks os) (key_at ks n))
 kept_at [] os n a h e = absurd (omega arith)
@@ -114,7 +114,7 @@ marked_at [] n o e = cc
 marked_at (x ∷ os) zero o e = ap (λ (y : Option Outcome). Some (is_some y)) (some_same x o e)
 marked_at (x ∷ os) (suc n) o e = marked_at os n o e
 
--- where the mark is down there is none
+-- if the mark of a number is not set, it has no outcome
 pub no_outcome : (os : List (Option Outcome)) (n : ℕ) → slice_get (map is_some os) n ≡ Some false
     → slice_get os n ≡ Some None
 no_outcome [] n e = cc
@@ -148,7 +148,7 @@ module _ (deck : Contents) (l : Listed) (r : ℕ) (nodes : AreNodes (table deck)
       → IsSettled l.settled n
   number_settled n h e = mark_is n h ∙ ap Some e
 
-  -- the outcome of a settled number is there, and is that of its key
+  -- a settled number has an outcome, which is that of its key
   pub right_outcome : IsRightTable (shown deck l r) → (n : ℕ) → IsSettled l.settled n
       → slice_get l.outcomes n ≡ Some (Some (outcome (table deck) (key_at l.keys n)))
   right_outcome right n e = kept_is n (settled_within n e) ∙ ap Some (by (map_of.get kept (key_at l.keys n)) refl)

@@ -1,4 +1,4 @@
--- The kept names are those of the list.
+-- The stored names are those of the list.
 use Rattle.std.proofs.Common.{◌≡◌, ◌⊎◌, ◌↔◌, Bool, true, false, cond, not, List, [], ◌∷◌, ◌++◌, Contains, Option, Some, None}
 use Rattle.std.proofs.Common.{is_none, refl, sym, ◌∙◌, ap, subst, inl, inr}
 use Rattle.std.specs.List.{filter}
@@ -49,7 +49,7 @@ passes p (y ∷ ys) x i t = by (λ j. passes p ys x j t) (p y) refl (member_case
     by rest false e (inl q) = let z : true ≡ false = sym t ∙ (ap p q ∙ e) in cc
     by rest false e (inr j) = rest j
 
--- ---- truths
+-- ---- truth values
 none_is : {A : Type 0} (o : Option A) → is_none o ≡ true → o ≡ None
 none_is None e = refl
 none_is (Some x) e = cc
@@ -62,7 +62,7 @@ not_false : (b : Bool) → (b ≡ true → ⊥) → not b ≡ true
 not_false true h = absurd (h refl)
 not_false false h = refl
 
--- ---- one event
+-- ---- a single event
 module _ (s : State) (keys : List Key) (listed : (n : Key) → Contains keys n ↔ IsSettled s n) where
   -- a query
   query_listed : (more : List Key) (Closed : Type 0) (Reached : Key → Type 0)
@@ -130,7 +130,7 @@ module _ (s : State) (keys : List Key) (listed : (n : Key) → Contains keys n �
       (key_reached k) (is_none (key_fault s.table k)) (none_is (key_fault s.table k)) (λ e. ap is_none e) n
   event_listed (Becomes later) right n = edit_listed later right n
 
--- ---- the table behind an event
+-- ---- the table after an event
 query_table : (b : Bool) (keys : List Key) (s : State) → (after_query b keys s).table ≡ s.table
 query_table true keys s = refl
 query_table false keys s = refl
@@ -140,7 +140,7 @@ event_table (AsksWords words) s = query_table (is_none (name_fault s.table words
 event_table (AsksKey k) s = query_table (is_none (key_fault s.table k)) (k ∷ key_reach s.table k) s
 event_table (Becomes later) s = refl
 
--- the law of the list of kept names
+-- the law of the list of stored names
 pub kept_list_law : KeptListLaw
 kept_list_law [] s keys can right listed n = listed n
 kept_list_law (e ∷ es) s keys can right listed n =

@@ -1,4 +1,4 @@
--- Which names are kept after queries and edits.
+-- The names that are stored after queries and edits.
 use Rattle.std.proofs.Common.{◌≡◌, ◌⊎◌, ◌↔◌, Bool, true, false, List, [], ◌∷◌, Contains, is_none, refl, sym}
 use Rattle.std.proofs.Common.{ap, subst, inl, inr}
 use Rattle.std.proofs.lemmas.Bool.{true≢false}
@@ -38,7 +38,7 @@ module _ (s : State) (keys : List Key) (h : IsRight s) (Closed : Type 0) (Reache
   query_kept false is of n =
       (λ i. inl i, λ k. elim k [ inl j ↦ j | inr r ↦ absurd (true≢false (sym (of r.0))) ])
 
--- ---- one event
+-- ---- a single event
 key_listed : (table : Table) (k : Key) → IsClosed table k → (n : Key)
     → Contains (k ∷ key_reach table k) n ↔ ((n ≡ k) ⊎ Reaches table k n)
 key_listed table k closed n = (
@@ -52,7 +52,7 @@ key_listed table k closed n = (
     words : (n : Key) → Contains (key_reach table k) n ↔ Reaches table k n
     words = reach_law.listed table (key_words table k) ((closed_law.key table k).0 closed)
 
--- an event keeps the names that are said
+-- the names that are stored after an event are those of `IsKeptBy`
 event_kept : (e : Event) (s : State) → CanBe e s → IsRight s → (n : Key)
     → IsSettled (after e s) n ↔ IsKeptBy e s.table (IsSettled s) n
 event_kept (AsksWords words) s can h =
@@ -68,33 +68,33 @@ event_kept (Becomes later) s can h = λ n. (
   λ i. stays_in s later (changed_keys s.table later) can h n i.0 i.1,
 )
 
--- a query leaves the table
+-- a query does not change the table
 query_table : (b : Bool) (keys : List Key) (s : State) → (after_query b keys s).table ≡ s.table
 query_table true keys s = refl
 query_table false keys s = refl
 
--- an event leaves the one that it says
+-- the table after an event is that of `table_after`
 event_table : (e : Event) (s : State) → (after e s).table ≡ table_after e s.table
 event_table (AsksWords words) s = query_table (is_none (name_fault s.table words)) (reach s.table words) s
 event_table (AsksKey k) s = query_table (is_none (key_fault s.table k)) (k ∷ key_reach s.table k) s
 event_table (Becomes later) s = refl
 
--- ---- a list of them
--- as many are kept later where as many were kept at first
+-- ---- a list of events
+-- `IsKeptBy` is monotone in the stored names
 same_by : (e : Event) (table : Table) (A B : Key → Type 0) → ((n : Key) → A n → B n) → (n : Key)
     → IsKeptBy e table A n → IsKeptBy e table B n
 same_by (AsksWords words) table A B f n k = elim k [ inl i ↦ inl (f n i) | inr r ↦ inr r ]
 same_by (AsksKey q) table A B f n k = elim k [ inl i ↦ inl (f n i) | inr r ↦ inr r ]
 same_by (Becomes later) table A B f n k = (f n k.0, k.1)
 
--- events keep alike what was kept alike
+-- `IsKeptByAll` is monotone in the stored names
 same_by_all : (es : List Event) (table : Table) (A B : Key → Type 0) → ((n : Key) → A n → B n) → (n : Key)
     → IsKeptByAll es table A n → IsKeptByAll es table B n
 same_by_all [] table A B f n k = f n k
 same_by_all (e ∷ es) table A B f n k =
     same_by_all es (table_after e table) (IsKeptBy e table A) (IsKeptBy e table B) (same_by e table A B f) n k
 
--- so events keep the names that are said
+-- the names that are stored after events are those of `IsKeptByAll`
 names_kept : (es : List Event) (s : State) → AllCanBe es s → IsRight s → (n : Key)
     → IsSettled (after_all es s) n ↔ IsKeptByAll es s.table (IsSettled s) n
 names_kept [] s can h n = (λ i. i, λ i. i)
@@ -109,6 +109,6 @@ names_kept (e ∷ es) s can h n =
           (subst (λ (t : Table). IsKeptByAll es t (IsKeptBy e s.table (IsSettled s)) n) (sym (event_table e s)) i)),
     )
 
--- the law of kept names
+-- the law of stored names
 pub kept_law : KeptLaw
 kept_law es s can h = record { names = names_kept es s can h; outcomes = (right_law es s can h).right }

@@ -1,4 +1,4 @@
--- Numbers for keys.
+-- The numbers of keys.
 use Rattle.std.proofs.Common.{◌≡◌, ◌<◌, ◌++◌, ◌∷◌, [], ℕ, Bool, false, List, length, map}
 use Rattle.std.proofs.Common.{refl, sym, ◌∙◌, ap, subst, inl, inr, arith}
 use Rattle.std.proofs.lemmas.List.{map-append}
@@ -16,7 +16,7 @@ use Rattle.live_table.specs.Stored.{Listed, key_at, listed}
 use Rattle.live_table.proofs.Growing.{added_none, key_same, more_length, push_more}
 use Rattle.live_table.proofs.Named.{named_added, not_there}
 
--- ---- what is kept
+-- ---- the data that do not change
 pub kept_same : (keys : List Key) (a b : Nodes) → listed b ≡ listed a → b.gathered ≡ a.gathered → IsExtension keys a b
 kept_same keys a b e f = record {
   added = λ t is nodes before list ends right.
@@ -25,7 +25,7 @@ kept_same keys a b e f = record {
   gathered = f;
 }
 
--- a key is present in a table exactly where it is among its keys
+-- a key is present in a table exactly if it is among its keys
 pub present_among : (t : Table) (keys : List Key) (k : Key) → keys_of t ≡ keys → is_among keys k ≡ is_present t k
 present_among t keys k e = ap (λ (ks : List Key). is_among ks k) (sym e) ∙ sym (is_some-lookup (is_same k) t)
 
@@ -51,11 +51,11 @@ kept_numbered keys a b k flag n numbered is e = elim numbered.names [
 ]
 
 -- ---- flags
--- those of the same names
+-- the flags of the same names
 pub flagged_same : (keys : List Key) (a b : Nodes) → listed b ≡ listed a → AreFlagged keys a → AreFlagged keys b
 flagged_same keys a b e f = subst (λ (l : Listed). l.present ≡ map (is_among keys) l.keys) (sym e) f
 
--- those with a new name
+-- the flags with a new name
 flagged_named : (keys : List Key) (a b : Nodes) (k : Key) (flag : Bool) → IsNamed k flag (listed a) (listed b)
     → flag ≡ is_among keys k
     → AreFlagged keys a → AreFlagged keys b
@@ -64,7 +64,7 @@ flagged_named keys a b k flag named is f =
     ∙ ((λ i. f i ++ is i ∷ []) ∙ (sym (map-append (is_among keys) a.keys (k ∷ []))
     ∙ ap (λ (l : Listed). map (is_among keys) l.keys) (sym named.named)))
 
--- those where a key has a number
+-- the flags after a key has a number
 pub flagged_numbered : (keys : List Key) (a b : Nodes) (k : Key) (flag : Bool) (n : ℕ)
     → IsNumbered k flag n (listed a) (listed b) → flag ≡ is_among keys k → AreFlagged keys a → AreFlagged keys b
 flagged_numbered keys a b k flag n numbered is f = elim numbered.names [
@@ -72,16 +72,16 @@ flagged_numbered keys a b k flag n numbered is f = elim numbered.names [
   | inr new ↦ flagged_named keys a b k flag new.1 is f
 ]
 
--- there are no fewer keys of the same names
+-- there are no fewer keys if the names are the same
 pub more_same : (a b : Nodes) → listed b ≡ listed a → IsMore a.keys b.keys
 more_same a b e = subst (λ (l : Listed). IsMore a.keys l.keys) (sym e) (λ i x q. q)
 
--- with a new name there are more
+-- there are no fewer keys with a new name
 more_named : (a b : Nodes) (k : Key) (flag : Bool) → IsNamed k flag (listed a) (listed b) → IsMore a.keys b.keys
 more_named a b k flag named = subst (IsMore a.keys) (ap (λ (l : Listed). l.keys) (sym named.named))
     (push_more a.keys (k ∷ []))
 
--- nor where a key has a number
+-- there are no fewer keys after a key has a number
 pub more_numbered : (a b : Nodes) (k : Key) (flag : Bool) (n : ℕ) → IsNumbered k flag n (listed a) (listed b)
     → IsMore a.keys b.keys
 more_numbered a b k flag n numbered = elim numbered.names [
@@ -89,7 +89,7 @@ more_numbered a b k flag n numbered = elim numbered.names [
   | inr new ↦ more_named a b k flag new.1
 ]
 
--- ---- one more number
+-- ---- one additional number
 pub numbered_push : (ks ls : List Key) (ns : List ℕ) (n : ℕ) (k : Key) → IsMore ks ls
     → ((m : ℕ) → In m ns → m < length ks) → k ≡ key_at ls n
     → map (key_at ls) (ns ++ n ∷ []) ≡ map (key_at ks) ns ++ k ∷ []
@@ -99,7 +99,7 @@ numbered_push ks ls (m ∷ ns) n k more within is =
     numbered_push ks ls ns n k more (λ q i. within q (inr i)) is in
     λ i. key_same ks ls m more (within m (inl refl)) i ∷ rest i
 
--- numbers within stay so where keys are added, and with one more that is
+-- numbers within the keys stay so when keys are added, and so does one additional number
 pub within_push : (ks ls : List Key) (ns : List ℕ) (n : ℕ) → IsMore ks ls → ((m : ℕ) → In m ns → m < length ks)
     → n < length ls
     → (m : ℕ) → In m (ns ++ n ∷ []) → m < length ls
@@ -108,7 +108,7 @@ within_push ks ls ns n more within h m i = elim (In-push ns n m i) [
   | inr e ↦ subst (λ (x : ℕ). x < length ls) (sym e) h
 ]
 
--- ---- a table's flags, by whether keys are present
+-- ---- the flags of a table say whether keys are present
 pub flagged_by : (t : Table) (a : Nodes) → a.present.items ≡ map (is_present t) a.keys → AreFlagged (keys_of t) a
 flagged_by t a f = f ∙ map_same (is_present t) (is_among (keys_of t)) a.keys
     (λ k i. sym (present_among t (keys_of t) k refl))

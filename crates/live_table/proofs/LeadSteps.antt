@@ -1,4 +1,4 @@
--- The steps of a word, by what it leads to.
+-- The steps of a word, by its lead.
 use Rattle.std.proofs.Common.{◌≡◌, ◌<◌, ◌++◌, ℕ, true, List, [], ◌∷◌, length, Some, None, refl, sym, subst, inl, inr}
 use Rattle.expr_tree.specs.declared.word_list.WordUse.{WordUse}
 use Rattle.def_entry.specs.declared.key.Key.{Key}
@@ -21,7 +21,7 @@ use Rattle.live_table.proofs.Written.{first_present, one_present, refused_writte
 use Rattle.live_table.proofs.Written.{unknown_written}
 
 -- ---- targets
--- a lead says more than that of a query
+-- the lead of a word of an entry is that of a word of a query
 pub query_lead : (t : Table) (keys : List Key) (u : WordUse) (old new : List ℕ) (lead : Lead)
     → IsLead t keys u old new lead → IsQueryLead t keys u lead
 query_lead t keys u old new Refused h = h
@@ -40,7 +40,7 @@ module _ (t : Table) (keys : List Key) (u : WordUse) where
   is_there : (m n : ℕ) → m ≡ n → is_present t (key_at keys n) ≡ true → is_present t (key_at keys m) ≡ true
   is_there m n e p = subst (λ (x : ℕ). is_present t (key_at keys x) ≡ true) (sym e) p
 
-  -- and entries
+  -- targets have entries
   pub lead_present : (lead : Lead) → IsQueryLead t keys u lead → (m : ℕ) → In m (numbers lead)
       → is_present t (key_at keys m) ≡ true
   lead_present Refused h m i = absurd i
@@ -52,7 +52,7 @@ module _ (t : Table) (keys : List Key) (u : WordUse) where
       is_there m p e (second_present t u (key_at keys n) (key_at keys p) h.1)
   lead_present (Two n p) h m (inr (inr i)) = absurd i
 
-  -- ---- the keys at which a word looks, where it has targets
+  -- ---- the keys at which a word with targets looks
   abbrev Put : (old new : List ℕ) → WordSteps → Type 0
   Put old new s = AreLooksPut t keys u (s.first ∷ s.second ∷ []) old new
 
@@ -87,7 +87,7 @@ module _ (t : Table) (l : Listed) (before list : List ℕ) (ends : List DeadEnd)
       subst Written (sym (some_same s w e))
       (two_written t l before list u ends n m (ForTwo n m h.0 h.1) (known n (inl refl)) (known m (inr (inl refl))))
 
-  -- of one that leads nowhere
+  -- the steps of a word that leads nowhere
   pub nowhere_written : (more : List DeadEnd) (lead : Lead) (x y : Step) → IsQueryLead t l.keys u lead
       → None ≡ steps_to lead
       → more ≡ ends ++ record { text = u.text; is_refused = is_refused_lead lead } ∷ []

@@ -1,4 +1,4 @@
--- The targets of a word are put on the agenda, one behind the other.
+-- The targets of a word are put on the agenda in turn.
 use Rattle.std.proofs.Common.{◌≡◌, ◌++◌, ◌∷◌, [], ℕ, List, cond, refl, sym, ◌∙◌, subst, inl, inr}
 use Rattle.std.proofs.lemmas.Bool.{cases_Bool, cond-false, cond-true}
 use Rattle.name_walk.specs.Faults.{on}
@@ -10,33 +10,33 @@ use Rattle.live_table.specs.Leading.{numbers}
 use Rattle.live_table.specs.Stored.{Listed}
 use Rattle.live_table.proofs.Growing.{in_more, push_more}
 
--- what stood on the agenda stands there still
+-- the numbers on the agenda stay there
 pub put_more : (list there : List ℕ) (n : ℕ) → there ≡ cond (on list n) list (list ++ n ∷ []) → IsMore list there
 put_more list there n e = elim (cases_Bool (on list n)) [
   | inl q ↦ subst (IsMore list) (sym (e ∙ cond-true (on list n) list (list ++ n ∷ []) q)) (λ i x h. h)
   | inr q ↦ subst (IsMore list) (sym (e ∙ cond-false (on list n) list (list ++ n ∷ []) q)) (push_more list (n ∷ []))
 ]
 
--- the number of a word's one target
+-- the number of the only target of a word
 pub one_in : (lead : Lead) (n : ℕ) → lead ≡ One n → In n (numbers lead)
 one_in lead n e = subst (λ (x : Lead). In n (numbers x)) (sym e) (inl refl)
 
--- the first of two
+-- the number of the first of two targets
 pub first_in : (lead : Lead) (n m : ℕ) → lead ≡ Two n m → In n (numbers lead)
 first_in lead n m e = subst (λ (x : Lead). In n (numbers x)) (sym e) (inl refl)
 
--- and the second
+-- the number of the second of two targets
 pub second_in : (lead : Lead) (n m : ℕ) → lead ≡ Two n m → In m (numbers lead)
 second_in lead n m e = subst (λ (x : Lead). In m (numbers x)) (sym e) (inr (inl refl))
 
--- what is known stays known where more is put
+-- known numbers stay known when numbers are added to the agenda
 pub known_more : (l : Listed) (before list there : List ℕ) (n : ℕ) → IsMore list there → IsKnown l before list n
     → IsKnown l before there n
 known_more l before list there n more (inl e) = inl e
 known_more l before list there n more (inr (inl i)) = inr (inl i)
 known_more l before list there n more (inr (inr i)) = inr (inr (in_more list there n more i))
 
--- of two targets both are known, once both are put
+-- both of two targets are known once both are on the agenda
 pub two_known : (l : Listed) (before list there : List ℕ) (lead : Lead) (n p : ℕ) → lead ≡ Two n p → IsMore list there
     → IsKnown l before list n → IsKnown l before there p
     → (m : ℕ) → In m (numbers lead) → IsKnown l before there m

@@ -1,4 +1,4 @@
--- Outcomes of which some are taken out, by their keys.
+-- Outcomes of which some are removed, by their keys.
 use Rattle.std.proofs.Common.{◌≡◌, ◌<◌, ℕ, suc, Bool, true, false, cond, List, [], ◌∷◌, length}
 use Rattle.std.proofs.Common.{Option, Some, None, refl, sym, ◌∙◌, ap, subst, arith}
 use Rattle.std.specs.FinMap as map_of
@@ -13,18 +13,18 @@ use Rattle.live_table.specs.Stored.{kept_of, key_at, onto}
 use Rattle.live_table.proofs.Kept.{AreApart, absent, apart_tail, first_apart, onto_other, onto_self}
 use Rattle.live_table.proofs.Outcomes.{left_in, one_key, tied}
 
--- each number has the outcome that it had, or none, as a test of its key says
+-- each number has its previous outcome, or none if its key does not pass the test
 abbrev pub AreTaken : (Key → Bool) → List Key → List (Option Outcome) → List (Option Outcome) → Type 0
 AreTaken stays ks os new = (n : ℕ) (x y : Option Outcome) → n < length ks → slice_get os n ≡ Some x
     → slice_get new n ≡ Some y
     → y ≡ cond (stays (key_at ks n)) x None
 
--- where both parts are nothing, so is the choice
+-- if both branches are `None`, so is the result
 none_either : (b : Bool) (x y : Option Outcome) → x ≡ None → y ≡ None → x ≡ cond b y None
 none_either true x y e f = e ∙ sym f
 none_either false x y e f = e
 
--- what is taken out leaves the outcomes of the keys that stay
+-- removing outcomes leaves those of the keys that pass the test
 taken_at : (stays : Key → Bool) (ks : List Key) (os new : List (Option Outcome)) → AreApart ks → length os ≡ length ks
     → length new ≡ length ks
     → AreTaken stays ks os new → (q : Key) → map_of.get (kept_of ks new) q ≡ cond (stays q)
@@ -63,7 +63,7 @@ taken_at stays (k ∷ ks) (x ∷ os) (y ∷ new) a h j t q =
     by rest true e = here (one_key q k e)
     by rest false e = there rest (λ f. true≢false (sym (tied q k f) ∙ e))
 
--- so the others are kept no more
+-- only the outcomes of the keys that pass the test are still stored
 pub kept_left : (stays : Key → Bool) (ks : List Key) (os new : List (Option Outcome)) → AreApart ks
     → length os ≡ length ks → length new ≡ length ks
     → AreTaken stays ks os new → kept_of ks new ≡ map_of.retain_keys (kept_of ks os) stays

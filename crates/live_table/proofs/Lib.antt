@@ -3,6 +3,7 @@ pub mod AllExplored
 pub mod Answering
 pub mod AskedFor
 pub mod AskedKeys
+pub mod Cached
 pub mod CallLists
 pub mod Counted
 pub mod Counting
@@ -23,13 +24,14 @@ pub mod Kept
 pub mod KeptLists
 pub mod KeptNames
 pub mod KeyNumbers
+pub mod KnownFaults
 pub mod LeadSteps
 pub mod LeadTargets
 pub mod Left
 pub mod LinkedNames
 pub mod Looking
-pub mod NameQueries
 pub mod Named
+pub mod NameQueries
 pub mod New
 pub mod OneLess
 pub mod Outcomes
@@ -48,6 +50,7 @@ pub mod SettleOne
 pub mod Stages
 pub mod Starting
 pub mod StillExplored
+pub mod StopAnswers
 pub mod Telling
 pub mod ToldWords
 pub mod TriedNumbers

@@ -1,4 +1,4 @@
--- The edges of settled names where the first of those that wait gets its own.
+-- The edges of settled names after the first waiting name gets its own.
 use Rattle.std.proofs.Common.{◌≡◌, ◌⊎◌, ◌↔◌, ◌<◌, ◌≤◌, ℕ, Bool, true, List, [], ◌∷◌, ◌++◌}
 use Rattle.std.proofs.Common.{length, map, max, Contains}
 use Rattle.std.proofs.Common.{Some, get_or, refl, sym, ◌∙◌, ap, subst, inl, inr, arith}
@@ -56,11 +56,11 @@ pub gathered : (targets : List ℕ) (xs : List Step) → ((m : ℕ) → In m tar
     → Contains targets m ↔ In (To m) xs
 gathered targets xs are m = (λ c. (are m).0 (member_in m targets c), λ i. in_member m targets ((are m).1 i))
 
--- ---- names are covered
+-- ---- names are covered by the edges
 module _ (deck : Contents) (l : Listed) (g h : NameGraph) (rest : h ≡ record g { names = h.names })
     (no_less : g.names ≤ h.names)
     (within : h.names ≤ max g.names (length l.keys)) where
-  -- the edges are still theirs
+  -- the edges are still those of the settled names
   pub covered_edges : (waiting : List ℕ) → HasLateEdges deck l waiting g → HasLateEdges deck l waiting h
   covered_edges waiting edges = record {
     names = let a = edges.names in omega (arith, a, within);
@@ -78,14 +78,14 @@ module _ (deck : Contents) (l : Listed) (g h : NameGraph) (rest : h ≡ record g
           → AreEdges (table deck) (key_at l.keys) h.names now (record g { names = h.names })
       renamed a = record { within = a.within; below = a.below; beside = a.beside; used = a.used; looked = a.looked }
 
-  -- so do other names after a failure
+  -- the edges are still those of the settled names after a failure
   pub covered_on_err : {A E : Type 0} (k : NameGraph) → k ≡ h → (r : Result A E)
       → OnErr r ((waiting : List ℕ) → HasLateEdges deck l waiting g → HasLateEdges deck l waiting k)
   covered_on_err k same (Ok x) = tt
   covered_on_err k same (Err e) = λ waiting edges.
       subst (HasLateEdges deck l waiting) (sym same) (covered_edges waiting edges)
 
--- ---- the first that waits gets its edges
+-- ---- the first waiting name gets its edges
 module _ (law : LinkingLaw) (deck : Contents) (l : Listed) (r n : ℕ) (g h : NameGraph) (used looked rest : List ℕ)
     (sound : IsSound deck l r) (settled : IsSettled l.settled n) (edges : HasLateEdges deck l (n ∷ rest) g)
     (room : n < g.names)
@@ -162,7 +162,7 @@ module _ (law : LinkingLaw) (deck : Contents) (l : Listed) (r n : ℕ) (g h : Na
   not_before : was n ≡ true → ⊥
   not_before e = not_waiting (n ∷ rest) n (linked_facts l.settled (n ∷ rest) n e).1 (inl refl)
 
-  -- what its words lead to waits no more
+  -- the names to which the words of the first waiting name lead are not waiting
   target_linked : (m : ℕ) → Contains used m → was m ≡ true
   target_linked m c =
       let way = (used_is m).0 c in
@@ -170,7 +170,7 @@ module _ (law : LinkingLaw) (deck : Contents) (l : Listed) (r n : ℕ) (g h : Na
       (λ i. edges.order.0 m i
       (lead_of_step (table deck) (key_at l.keys) dead_end the_words (steps l.graph n) words m way))
 
-  -- so it has its edges, and the others wait
+  -- the first waiting name has its edges, and the others still wait
   pub linked_edges : HasLateEdges deck l rest h
   linked_edges = record {
     names = let a = edges.names in omega (arith, a, names);
@@ -185,12 +185,12 @@ module _ (law : LinkingLaw) (deck : Contents) (l : Listed) (r n : ℕ) (g h : Na
     order = edges.order.2;
   }
 
--- ---- what the call reads
+-- ---- the values that the call reads
 pub looks_at : (looks : Looks) (n : ℕ) (v : Vec ℕ Global) → n < length looks → v ≡ get_or looks n v
     → v.items ≡ looks_of looks n
 looks_at looks n v l e = sym (ap numbers_in (slice_get-get_or looks n v l ∙ ap Some (sym e)))
 
--- the first of a list, and the others
+-- a list that is not empty is its first item and the others
 pub first_of : (ns : List ℕ) (n : ℕ) → 0 < length ns → n ≡ slice_index_or ns 0 n → ns ≡ n ∷ drop 1 ns
 first_of [] n some e = absurd (omega (arith, some))
 first_of (m ∷ ns) n some e = λ i. sym e i ∷ ns

@@ -1,4 +1,4 @@
--- The keys at which words look, one word behind another, and where names are added.
+-- The keys at which words look, for words in turn and when names are added.
 use Rattle.std.proofs.Common.{◌≡◌, ◌⊎◌, ◌↔◌, ◌<◌, ◌≤◌, ℕ, List, [], ◌∷◌, ◌++◌, length, Contains, refl, sym, ◌∙◌, ap}
 use Rattle.std.proofs.Common.{subst, inl, inr, arith}
 use Rattle.std.proofs.lemmas.List.Elements.{Contains-append_cases, Contains-append_left, Contains-append_right}
@@ -17,13 +17,13 @@ use Rattle.live_table.specs.Looks.{AllLead, AreLooks, AreLooksPut, IsSeen, Words
 use Rattle.live_table.specs.Stored.{key_at}
 use Rattle.live_table.proofs.Growing.{key_same, more_length}
 
--- a member of two lists is in one of them
+-- a member of the concatenation of two lists is in one of them
 pub in_both : {A : Type 0} (xs ys : List A) (s : A) → In s (xs ++ ys) → In s xs ⊎ In s ys
 in_both [] ys s i = inr i
 in_both (x ∷ xs) ys s (inl e) = inl (inl e)
 in_both (x ∷ xs) ys s (inr i) = elim (in_both xs ys s i) [ inl j ↦ inl (inr j) | inr j ↦ inr j ]
 
--- no words look at nothing
+-- without words there are no keys at which they look
 pub looks_none : (t : Table) (keys : List Key) (xs : List Step) (ns : List ℕ) → xs ≡ [] → ns ≡ []
     → AreLooks t keys [] xs ns
 looks_none t keys xs ns e f =
@@ -32,7 +32,7 @@ looks_none t keys xs ns e f =
       exactly = λ k. (λ (u, i, j). absurd (no_member u i), λ (m, i, e). absurd (elim i [ inl j ↦ j | inr j ↦ j ]));
     })
 
--- keys of numbers stay where keys are added
+-- the keys of numbers do not change when keys are added
 module _ (ks ls : List Key) (more : IsMore ks ls) (xs : List Step) (ns : List ℕ)
     (inside : (m : ℕ) → In (To m) xs → m < length ks) (within : (m : ℕ) → In m ns → m < length ks) where
   here : (m : ℕ) → In (To m) xs ⊎ In m ns → key_at ls m ≡ key_at ks m
@@ -45,7 +45,7 @@ module _ (ks ls : List Key) (more : IsMore ks ls) (xs : List Step) (ns : List �
   seen_before : (k : Key) → IsSeen ls xs ns k → IsSeen ks xs ns k
   seen_before k (m, i, e) = (m, i, e ∙ here m i)
 
--- words look at the same where keys are added
+-- the keys at which words look do not change when keys are added
 pub looks_more : (t : Table) (ks ls : List Key) (us : List WordUse) (xs : List Step) (ns : List ℕ) → IsMore ks ls
     → ((m : ℕ) → In (To m) xs → m < length ks) → AreLooks t ks us xs ns → AreLooks t ls us xs ns
 looks_more t ks ls us xs ns more inside l = record {
@@ -57,15 +57,15 @@ looks_more t ks ls us xs ns more inside l = record {
   );
 }
 
--- where all steps lead somewhere, the first do
+-- if all steps lead somewhere, so do the first ones
 pub lead_left : (xs ys : List Step) → AllLead (xs ++ ys) → AllLead xs
 lead_left xs ys h t i = h t (In-left xs ys (Nowhere t) i)
 
--- and the others
+-- if all steps lead somewhere, so do the last ones
 pub lead_right : (xs ys : List Step) → AllLead (xs ++ ys) → AllLead ys
 lead_right xs ys h t i = h t (In-right xs ys (Nowhere t) i)
 
--- one more word
+-- one more word looks at its own keys
 module _ (t : Table) (keys : List Key) (us : List WordUse) (u : WordUse) (xs zs : List Step) (old new : List ℕ)
     (l : AreLooks t keys us xs old) (p : AreLooksPut t keys u zs old new) where
   seen_first : (k : Key) → IsSeen keys xs old k → IsSeen keys (xs ++ zs) new k
@@ -131,7 +131,7 @@ module _ (t : Table) (keys : List Key) (u : WordUse) (ns old new : List ℕ) (xs
 same_number : (n m : ℕ) → To n ≡ To m → n ≡ m
 same_number n m q = cc
 
--- a word of one target has it twice
+-- a word with a single target has it as both steps
 pub one_step : (n m : ℕ) → In (To m) (To n ∷ To n ∷ []) ↔ In m (n ∷ [])
 one_step n m = (there, λ i. elim i [ inl e ↦ inl (ap To e) | inr z ↦ absurd z ])
   where
@@ -140,7 +140,7 @@ one_step n m = (there, λ i. elim i [ inl e ↦ inl (ap To e) | inr z ↦ absurd
     there (inr (inl e)) = inl (same_number m n e)
     there (inr (inr z)) = absurd z
 
--- one of two has each once
+-- a word with two targets has each of them as one step
 pub two_steps : (n p m : ℕ) → In (To m) (To n ∷ To p ∷ []) ↔ In m (n ∷ p ∷ [])
 two_steps n p m = (there, back)
   where
@@ -154,7 +154,7 @@ two_steps n p m = (there, back)
     back (inr (inl e)) = inr (inl (ap To e))
     back (inr (inr z)) = absurd z
 
--- a word that leads nowhere owes nothing
+-- the steps of a word that leads nowhere need no looks
 pub nowhere_put : (t : Table) (keys : List Key) (u : WordUse) (x y : Step) (b : ℕ) (old new : List ℕ) → x ≡ Nowhere b
     → AllLead (x ∷ y ∷ []) → AreLooksPut t keys u (x ∷ y ∷ []) old new
 nowhere_put t keys u x y b old new e h = absurd (h b (inl (sym e)))

@@ -1,4 +1,4 @@
--- A query of each name, one behind another.
+-- Queries of all names, in turn.
 use Rattle.std.proofs.Common.{◌≡◌, ◌+◌, ◌≤◌, ℕ, zero, suc, Bool, true, false, List, [], ◌∷◌, ◌++◌, map, take, drop}
 use Rattle.std.proofs.Common.{length, if◌then◌else◌}
 use Rattle.std.proofs.Common.{Option, Some, refl, sym, ◌∙◌, ap, subst, arith, ◌||◌}
@@ -22,11 +22,11 @@ use Rattle.live_table.specs.States.{AsksKey, Event}
 use Rattle.live_table.proofs.Following.{cut_both, follows_both, follows_none, steps_rise}
 use Rattle.name_walk.proofs.Lists.{drop_at, take_at}
 
--- ---- one key
+-- ---- a single key
 pub list_asks_nothing : (k : Key) → k.kind ≡ kind.List → queries_of (k ∷ []) ≡ []
 list_asks_nothing k e = ap (λ (c : Kind). map AsksKey (if is_name_kind c then k ∷ [] else [])) e
 
--- a key that is no list is a query
+-- a key that is not a list is queried
 name_asks : (k : Key) (c : Kind) → (c ≡ kind.List → ⊥) → map AsksKey (if is_name_kind c then k ∷ [] else []) ≡ AsksKey k
     ∷ []
 name_asks k kind.Unit h = refl
@@ -34,7 +34,7 @@ name_asks k kind.Prefix h = refl
 name_asks k kind.Func h = refl
 name_asks k kind.List h = absurd (h refl)
 
--- and one query alone
+-- a key that is not a list is queried once
 pub asks_once : (k : Key) → (k.kind ≡ kind.List → ⊥) → queries_of (k ∷ []) ≡ AsksKey k ∷ []
 asks_once k h = name_asks k k.kind h
 
@@ -77,16 +77,16 @@ is_here (x ∷ ks) (suc i) k e = by (is_same k x) (is_here ks i k e)
     by true h = refl
     by false h = h
 
--- nothing was asked for yet
+-- no key has been queried yet
 pub cut_at_once : (es : List Event) (s : Shown) (n : ℕ) → IsRightTable s → IsCutOff es s s n n
 cut_at_once es s n right = record { deck = refl; right = right; least = omega arith; most = steps_rise es (state s n) }
 
--- the first of the keys were asked for
+-- the first of the keys were queried
 pub record IsAsking (keys : List Key) (i : ℕ) (before now : Shown) (old new : ℕ) : Type 0 where
   pub deck : now.deck ≡ before.deck
   pub follows : Follows (queries_of (take i keys)) before now old new
 
--- at the start nothing is asked
+-- at the start no key has been queried
 pub asking_start : (keys : List Key) (s : Shown) (n : ℕ) → IsRightTable s → IsAsking keys 0 s s n n
 asking_start keys s n right = record { deck = refl; follows = follows_none s n right }
 

@@ -1,4 +1,4 @@
--- One more name at the end changes nothing of the others.
+-- One additional name at the end changes nothing about the others.
 use Rattle.smallvec.specs.SmallVec.{SmallVec}
 use Rattle.std.proofs.Common.{◌≡◌, ◌+◌, ◌<◌, ℕ, zero, suc, Bool, true, false, List, [], ◌∷◌, ◌++◌}
 use Rattle.std.proofs.Common.{length, Vec, Option, Some, None, nat_eq, refl, sym, ◌∙◌, ap, subst, inl, inr, arith}
@@ -42,43 +42,43 @@ nothing_kept [] (o ∷ os) k e = absurd (omega arith)
 nothing_kept (x ∷ ks) [] k e = absurd (omega arith)
 nothing_kept (x ∷ ks) (o ∷ os) k e = ap (onto x o) (nothing_kept ks os k (omega arith))
 
--- it has the next number
+-- a new name has the next number
 last_key : (ks : List Key) (k : Key) → key_at (ks ++ k ∷ []) (length ks) ≡ k
 last_key [] k = refl
 last_key (x ∷ ks) k = last_key ks k
 
--- a mark that is up was so before
+-- a mark that is set was set before
 was_true : (bs : List Bool) (n : ℕ) → slice_get (bs ++ false ∷ []) n ≡ Some true → slice_get bs n ≡ Some true
 was_true [] zero e = cc
 was_true [] (suc n) e = cc
 was_true (b ∷ bs) zero e = e
 was_true (b ∷ bs) (suc n) e = was_true bs n e
 
--- the steps of all others stay
+-- the steps of all other names stay the same
 steps_front : (g : Graph) (v : SmallVec Step) (n : ℕ) → v.items ≡ [] → steps (g ++ v ∷ []) n ≡ steps g n
 steps_front [] v zero e = e
 steps_front [] v (suc n) e = refl
 steps_front (w ∷ g) v zero e = refl
 steps_front (w ∷ g) v (suc n) e = steps_front g v n e
 
--- so do their looks
+-- the looks of all other names stay the same
 looks_front : (g : Looks) (v : Vec ℕ Global) (n : ℕ) → v.items ≡ [] → looks_of (g ++ v ∷ []) n ≡ looks_of g n
 looks_front [] v zero e = e
 looks_front [] v (suc n) e = refl
 looks_front (w ∷ g) v zero e = refl
 looks_front (w ∷ g) v (suc n) e = looks_front g v n e
 
--- so does what stands at each place
+-- the item at each previous place stays the same
 get_front : {A : Type 0} (xs : List A) (x : A) (n : ℕ) → n < length xs → slice_get (xs ++ x ∷ []) n ≡ slice_get xs n
 get_front [] x n h = absurd (omega arith)
 get_front (y ∷ xs) x zero h = refl
 get_front (y ∷ xs) x (suc n) h = get_front xs x n (omega arith)
 
--- and there is one more
+-- the length is one more
 one_more : {A : Type 0} (xs : List A) (x : A) → length (xs ++ x ∷ []) ≡ suc (length xs)
 one_more xs x = let e : length (xs ++ x ∷ []) ≡ length xs + 1 = length-append xs (x ∷ []) in omega arith
 
--- a key that is not among some is at none of their places
+-- a key that is not among keys is at none of their places
 pub not_there : (ks : List Key) (k : Key) → is_among ks k ≡ false → (n : ℕ) → n < length ks → key_at ks n ≡ k → ⊥
 not_there ks k e n h q =
     let t : is_among ks k ≡ true = among_member ks k (member_at ks n k (key_read ks n h ∙ ap Some q)) in

@@ -1,4 +1,4 @@
--- To settle what is reached is to settle what is new of it.
+-- To settle the reached names is to settle the new ones among them.
 use Rattle.std.proofs.Common.{◌≡◌, ◌+◌, ◌-◌, ◌^◌, min, ℕ, true, false, List, [], ◌∷◌, length, Contains}
 use Rattle.std.proofs.Common.{Option, Some, None, is_some, refl, sym, ◌∙◌, ap, inl, inr, arith}
 use Rattle.std.specs.FinMap as map_of
@@ -20,12 +20,12 @@ use Rattle.live_table.specs.Right.{IsRight, IsSettled}
 use Rattle.live_table.specs.States.{Kept, State, with_outcomes, with_settled}
 use Rattle.live_table.proofs.Outcomes.{inserted, left_out, one_key, put_in}
 
--- an outcome that is there, and is no other, is this
+-- an option that is not empty, and has no other value, has this value
 some_of : (o : Option Outcome) (x : Outcome) → is_some o ≡ true → ((y : Outcome) → o ≡ Some y → y ≡ x) → o ≡ Some x
 some_of None x e h = cc
 some_of (Some y) x e h = ap Some (h y refl)
 
--- as many more are kept as are put in, where none was kept and none stands twice
+-- the number of stored outcomes grows by the number of inserted ones, if they are distinct and none was stored
 count : (table : Table) (names : List Key) (kept : Kept) → IsDistinct is_same names
     → ((n : Key) → Contains names n → is_some (map_of.get kept n) ≡ false)
     → map_of.len (with_outcomes table names kept) ≡ map_of.len kept + length names

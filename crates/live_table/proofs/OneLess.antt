@@ -1,4 +1,4 @@
--- One name less is settled.
+-- One settled name fewer.
 use Rattle.std.proofs.Common.{◌≡◌, ◌+◌, ◌-◌, ◌<◌, ℕ, zero, suc, Bool, true, false, List, [], ◌∷◌, filter, length}
 use Rattle.std.proofs.Common.{set}
 use Rattle.std.proofs.Common.{Option, Some, None, is_some, sym, ◌∙◌, ap, inl, inr, arith}
@@ -12,7 +12,7 @@ use Rattle.tree_eval.specs.declared.outcome.Outcome.{Outcome}
 use Rattle.live_table.specs.Keeping.{IsLeft}
 use Rattle.live_table.proofs.Places.{get_lt}
 
--- a flag that goes down is one less
+-- a flag that is cleared is one fewer
 fewer : (bs : List Bool) (n : ℕ) → slice_get bs n ≡ Some true → length (filter (λ b. b) (set bs n false)) + 1 ≡ length
     (filter (λ b. b) bs)
 fewer [] n e = cc
@@ -21,7 +21,7 @@ fewer (false ∷ bs) zero e = cc
 fewer (true ∷ bs) (suc n) e = let r = fewer bs n e in omega (arith, r)
 fewer (false ∷ bs) (suc n) e = fewer bs n e
 
--- so it is counted
+-- the count after a flag is cleared is one less
 counted_less : (bs : List Bool) (n : ℕ) → slice_get bs n ≡ Some true → count_by (λ b. b) (set bs n false) + 1 ≡ count_by
     (λ b. b) bs
 counted_less bs n e =

@@ -1,4 +1,4 @@
--- What is kept of each name where outcomes are put in, or some are taken out.
+-- The outcomes of names after outcomes are inserted or removed.
 use Rattle.std.proofs.Common.{◌≡◌, ◌⊎◌, Bool, true, false, cond, List, [], ◌∷◌, Contains, Some, None, refl, sym, ◌∙◌}
 use Rattle.std.proofs.Common.{ap, subst, inl, inr}
 use Rattle.std.specs.Cmp.{Equal-is, tied_itself}
@@ -12,11 +12,11 @@ use Rattle.table_names.specs.Meanings.{outcome}
 use Rattle.table_names.proofs.Members.{member_cases, member_first, member_later, no_member}
 use Rattle.live_table.specs.States.{Kept, with_outcomes}
 
--- a key ties with itself
+-- equal keys compare as equal
 pub tied : (k l : Key) → k ≡ l → eq_by_cmp key_cmp k l ≡ true
 tied k l e = subst (λ (x : Key). eq_by_cmp key_cmp k x ≡ true) e (ap is_eq (tied_itself key_order.total k))
 
--- and with no other
+-- keys that compare as equal are equal
 pub one_key : (k l : Key) → eq_by_cmp key_cmp k l ≡ true → k ≡ l
 one_key k l e = key_order.exact k l ((Equal-is (key_cmp k l)).0 e)
 
@@ -25,7 +25,7 @@ module _ (table : Table) where
       (eq_by_cmp key_cmp n k) (Some (outcome table k)) (map_of.get kept n)
   inserted kept k n = map_of.get-insert key_order.total kept k (outcome table k) n
 
-  -- a key that is put in has its outcome, any other what it had
+  -- an inserted key has its outcome, any other key its previous one
   pub put_in : (keys : List Key) (kept : Kept) (n : Key)
       → Contains keys n ⊎ (map_of.get kept n ≡ Some (outcome table n))
       → map_of.get (with_outcomes table keys kept) n ≡ Some (outcome table n)
@@ -61,7 +61,7 @@ module _ (table : Table) where
       by true q = absurd (out (member_first n k keys (one_key n k q)))
       by false q = refl
 
--- what a test of keys leaves
+-- the outcomes that a test of keys leaves
 pub left_in : (kept : Kept) (p : Key → Bool) (n : Key) → map_of.get (map_of.retain_keys kept p) n ≡ cond (p n)
     (map_of.get kept n) None
 left_in kept p n = map_of.get-retain_keys kept p n (λ x e. ap p (sym (key_order.exact n x e)))

@@ -19,7 +19,7 @@ use Rattle.table_names.specs.Words.{what_words}
 use Rattle.name_numbers.specs.Numbered.{AreWords, IsWord}
 use Rattle.live_table.specs.Callees.{start_of}
 
--- ---- the words of a part stand behind those of the parts before it
+-- ---- the words of a part come after those of the parts before it
 from_zero : (ws : List WordUse) (k : ℕ) (u : WordUse) → slice_get ws k ≡ Some u → slice_get ws (0 + k) ≡ Some u
 from_zero ws k u e = let z : 0 + k ≡ k = omega arith in ap (slice_get ws) z ∙ e
 
@@ -58,7 +58,7 @@ module _ (d : FunctionDef) (k : ℕ) (u : WordUse) where
       subst (λ (n : ℕ). slice_get (function_words d) (n + k) ≡ Some u) z
       (get_right (ins ++ outs ++ forwards) inverses k u e)
 
--- the words of a part stand among those of its entry
+-- the words of a part are among those of its entry
 pub part_stands : (w : What) (p : Part) (k : ℕ) (u : WordUse) → slice_get (part_words w p) k ≡ Some u
     → slice_get (what_words w) (start_of w p + k) ≡ Some u
 part_stands (what.Body x) part.Body k u e = from_zero (words_in x) k u e
@@ -98,11 +98,11 @@ pub record IsStepped (table : Table) (key : ℕ → Key) (dead_end : ℕ → Opt
   pub at_second : slice_get xs (2 * k + 1) ≡ Some y
   pub word : IsWord table key dead_end u x y
 
--- twice one more is two more
+-- twice the successor is two more
 two_more : (k : ℕ) → 2 * suc k ≡ suc (suc (2 * k))
 two_more k = omega arith
 
--- so it is with one behind
+-- twice the successor, plus one, is two more
 two_more_odd : (k : ℕ) → 2 * suc k + 1 ≡ suc (suc (2 * k + 1))
 two_more_odd k = omega arith
 

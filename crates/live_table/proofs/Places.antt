@@ -1,4 +1,4 @@
--- What stands at the places of lists.
+-- The items at the places of lists.
 use Rattle.std.proofs.Common.{◌≡◌, ◌⊎◌, ◌<◌, ℕ, zero, suc, List, [], ◌∷◌, ◌++◌, length, Some, refl, sym, ap, inl, inr}
 use Rattle.std.proofs.Common.{arith}
 use Rattle.std.specs.List.{slice_get}
@@ -18,18 +18,18 @@ module _ {A : Type 0} where
   element (x ∷ xs) zero h = (x, refl)
   element (x ∷ xs) (suc k) h = element xs k (omega arith)
 
-  -- a member stands at a place
+  -- a member has a place
   pub place_in : (xs : List A) (x : A) → In x xs → (k : ℕ) × (slice_get xs k ≡ Some x)
   place_in [] x i = absurd i
   place_in (y ∷ xs) x (inl e) = (0, ap Some (sym e))
   place_in (y ∷ xs) x (inr i) = let r = place_in xs x i in (suc r.0, r.1)
 
-  -- one more stands behind all others
+  -- an appended item is at the last place
   pub get_last : (xs : List A) (y : A) → slice_get (xs ++ y ∷ []) (length xs) ≡ Some y
   get_last [] y = refl
   get_last (x ∷ xs) y = get_last xs y
 
-  -- what stands where one more came stood there before, or is that one
+  -- an item of a list with one item appended was there before, or is the appended one
   pub get_pushed : (xs : List A) (y : A) (k : ℕ) (x : A) → slice_get (xs ++ y ∷ []) k ≡ Some x
       → (slice_get xs k ≡ Some x) ⊎ ((k ≡ length xs) × (y ≡ x))
   get_pushed [] y zero x e = inr (refl, some_same y x e)

@@ -19,7 +19,7 @@ use Rattle.live_table.specs.Agendas.{AreSamePlaces, IsPlaced}
 use Rattle.live_table.proofs.Growing.{push_more}
 use Rattle.live_table.proofs.Places.{get_last, get_lt, get_pushed, place_in, some_same}
 
--- a place among more room was kept before
+-- a place in a longer table was there before
 in_front : (places : List ℕ) (k m i : ℕ) → slice_get (places ++ replicate k 0) m ≡ Some (i + 1)
     → slice_get places m ≡ Some (i + 1)
 in_front [] zero m i e = cc
@@ -28,7 +28,7 @@ in_front [] (suc k) (suc m) i e = in_front [] k m i e
 in_front (p ∷ places) k zero i e = e
 in_front (p ∷ places) k (suc m) i e = in_front places k m i e
 
--- nothing has a place at first
+-- at the start no number has a place
 pub nothing_placed : IsPlaced [] []
 nothing_placed = record { placed = λ n i. ((λ e. cc), (λ e. cc)); once = nothing_twice }
 
@@ -43,33 +43,33 @@ same_resized places end h =
       push_more places (replicate (end - length places) 0) n (i + 1),
     ))
 
--- places that are filled up are the same
+-- a table that is filled up has the same places
 pub same_after : (b : Bool) (old new : List ℕ) (end size : ℕ) → size ≡ length old → length old ≤ end
     → new ≡ cond b (take end old ++ replicate (end - size) 0) old → AreSamePlaces old new
 same_after true old new end size s h e =
     subst (AreSamePlaces old) (sym (e ∙ ap (λ n. take end old ++ replicate (end - n) 0) s)) (same_resized old end h)
 same_after false old new end size s h e = subst (AreSamePlaces old) (sym e) (λ n i. ((λ q. q), (λ q. q)))
 
--- the same places are those of the same numbers
+-- tables with the same places are those of the same numbers
 pub placed_same : (old new numbers : List ℕ) → AreSamePlaces old new → IsPlaced old numbers → IsPlaced new numbers
 placed_same old new numbers s m = record {
   placed = λ n i. (λ e. (m.placed n i).0 ((s n i).0 e), λ e. (s n i).1 ((m.placed n i).1 e));
   once = m.once;
 }
 
--- what is read at a place, 0 where there is none
+-- the entry that is read at a place, or 0 if there is none
 pub read : (o : Option (Bor ℕ)) (kept : ℕ) → kept ≡ unwrap_or (option_copied o) 0
     → kept ≡ unwrap_or (option_map (λ p. p.now) o) 0
 read None kept e = e
 read (Some p) kept e = e
 
--- what is kept and is not 0 stands there
+-- an entry that is read and is not 0 is stored
 held : (places : List ℕ) (n kept : ℕ) → kept ≡ get_or places n 0 → 1 ≤ kept → slice_get places n ≡ Some kept
 held [] n kept e h = absurd (omega (arith, e, h))
 held (p ∷ places) zero kept e h = ap Some (sym e)
 held (p ∷ places) (suc n) kept e h = held places n kept e h
 
--- what is kept of a number tells its place
+-- the stored entry of a number determines its place
 pub place_told : (places numbers : List ℕ) (n kept : ℕ) (r : Option ℕ) → kept ≡ get_or places n 0
     → SomeIff r (1 ≤ kept) (kept - 1) → IsPlaced places numbers
     → MatchOption r (on numbers n ≡ false) (λ i. slice_get numbers i ≡ Some n)
@@ -87,7 +87,7 @@ pub there : (numbers : List ℕ) (n : ℕ) (r : Option ℕ)
 there numbers n None h = sym h
 there numbers n (Some i) h = sym (In-on numbers n (get_In numbers i n h))
 
--- one more number
+-- one more number is appended
 pub placed_put : (places numbers : List ℕ) (n kept : ℕ) → kept ≡ length numbers + 1 → n < length places
     → on numbers n ≡ false → IsPlaced places numbers
     → IsPlaced (set places n kept) (numbers ++ n ∷ [])
@@ -117,7 +117,7 @@ placed_put places numbers n kept k h new m = record {
           ap (slice_get (set places n kept)) (sym last.1) ∙ (get_set_same places n kept h ∙ ap Some own)
     ]
 
--- the last number is taken out
+-- the last number is removed
 pub placed_popped : (places numbers : List ℕ) (n : ℕ) → n < length places → IsPlaced places (numbers ++ n ∷ [])
     → IsPlaced (set places n 0) numbers
 placed_popped places numbers n h m = record {

@@ -1,4 +1,4 @@
--- A number that is put on the agenda.
+-- A number is put on the agenda.
 use Rattle.std.proofs.Common.{◌≡◌, ◌<◌, ◌++◌, ◌∷◌, [], ℕ, Bool, true, false, cond, List, Some, length}
 use Rattle.std.proofs.Common.{get_or, sym, ◌∙◌, ap, subst, inl, inr, arith}
 use Rattle.std.proofs.lemmas.Bool.{cases_Bool, cond-false, cond-true, true≢false}
@@ -20,7 +20,7 @@ use Rattle.live_table.proofs.Growing.{push_more}
 pub sizes : (t : Table) (l : Listed) → AreNodes t l → length l.settled ≡ length l.keys
 sizes t l nodes = nodes.net.size ∙ nodes.step_count
 
--- a mark that is down says that a number is not settled
+-- a number whose mark is not set is not settled
 pub unsettled : (t : Table) (l : Listed) → AreNodes t l → (n : ℕ) (b : Bool) → n < length l.keys
     → b ≡ get_or l.settled n b → b ≡ false → IsSettled l.settled n → ⊥
 unsettled t l nodes n b h e f s =
@@ -31,14 +31,14 @@ unsettled t l nodes n b h e f s =
 pub not_on : (ns : List ℕ) (n : ℕ) → on ns n ≡ false → In n ns → ⊥
 not_on ns n e i = true≢false (sym (In-on ns n i) ∙ e)
 
--- a number that is put is in the list
+-- a number that is put on a list is in it
 pub put_there : (list there : List ℕ) (n : ℕ) → there ≡ cond (on list n) list (list ++ n ∷ []) → In n there
 put_there list there n e = elim (cases_Bool (on list n)) [
   | inl q ↦ subst (λ (ns : List ℕ). In n ns) (sym (e ∙ cond-true (on list n) list (list ++ n ∷ []) q)) (on-In list n q)
   | inr q ↦ subst (λ (ns : List ℕ). In n ns) (sym (e ∙ cond-false (on list n) list (list ++ n ∷ []) q)) (In-last list n)
 ]
 
--- a list with one more number is one of such numbers
+-- a list of numbers to be explored stays one with an additional number
 pub listed_push : (t : Table) (l : Listed) (before list : List ℕ) (n : ℕ) → AreListed t l before list
     → n < length l.keys → is_present t (key_at l.keys n) ≡ true
     → (IsSettled l.settled n → ⊥) → (In n before → ⊥) → on list n ≡ false → AreListed t l before (list ++ n ∷ [])
@@ -58,7 +58,7 @@ listed_push t l before list n right h present fresh new other = record {
   once = IsDistinct-push nat_eq_equiv list n right.once other;
 }
 
--- so a number is added
+-- putting a number on the agenda is an addition
 pub put_added : (t : Table) (l m : Listed) (before list there : List ℕ) (ends : List DeadEnd) (n : ℕ)
     → AreAdded t l m before list list ends ends → n < length m.keys
     → is_present t (key_at m.keys n) ≡ true → (IsSettled m.settled n → ⊥) → (In n before → ⊥)

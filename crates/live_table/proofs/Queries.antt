@@ -1,4 +1,4 @@
--- What a query owes, from what its walk found and what was settled.
+-- The postcondition of a query, from the result of its walk and the names that were settled.
 use Rattle.std.proofs.Common.{◌≡◌, ◌⊎◌, ◌↔◌, ◌+◌, ◌<◌, ◌≤◌, ℕ, Bool, true, false, List, [], ◌∷◌, map}
 use Rattle.std.proofs.Common.{length, Contains, Option, Some, None, is_none, is_some, option_map, refl, sym, ◌∙◌}
 use Rattle.std.proofs.Common.{ap, subst, inl, inr, arith}
@@ -36,16 +36,16 @@ use Rattle.live_table.proofs.Kept.{key_settled, number_settled}
 use Rattle.live_table.proofs.New.{new_law}
 use Rattle.live_table.proofs.Outcomes as outcomes
 
--- what is right does not depend on what was counted
+-- outcomes that are right do not depend on the counts
 right_at : (s : Shown) (old : ℕ) → IsRightTable s → IsRight (state s old)
 right_at s old h = record { present = h.present; closed = h.closed; below = h.below; right = h.right }
 
--- ---- no query takes steps back, nor another deck
+-- ---- no query lowers the count of steps or changes the deck
 query_rises : (b : Bool) (keys : List Key) (s : State) → s.steps ≤ (after_query b keys s).steps
 query_rises true keys s = omega arith
 query_rises false keys s = omega arith
 
--- a query by its name fault and what it reaches
+-- a query by its name fault and the names that it reaches
 pub record IsQueryOf (event : Event) (t : Table) (fault : Option NameFault) (reached : List Key) : Type 0 where
   pub after : (s : State) → s.table ≡ t → after event s ≡ after_query (is_none fault) reached s
 
@@ -113,7 +113,7 @@ are_new before old Asked reached keys same new = record {
   once = new.once;
 }
 
--- marks are those of kept names
+-- the marks are those of the stored names
 pub are_marks : (deck : Contents) (l : Listed) (r : ℕ) (ends : List DeadEnd) (known : ℕ → Bool)
     → AreNodes (table deck) l → AreExplored (table deck) l ends known
     → AreMarks (key_at l.keys) known l.settled (is_kept (shown deck l r).kept)
@@ -123,7 +123,7 @@ are_marks deck l r ends known nodes explored n k = (
       let b : length l.graph ≡ length l.keys = nodes.step_count in omega arith) e,
 )
 
--- ---- from the answer by number to that by name
+-- ---- from the result by number to that by name
 module _ (event : Event) (fault : Option NameFault) (reached : List Key) (Asked : Key → Type 0) (deck : Contents)
     (l : Listed) (r : ℕ) (ends : List DeadEnd)
     (query : List Step) (sound : IsSound deck l r) (is : IsQueryOf event (table deck) fault reached)
@@ -142,7 +142,7 @@ module _ (event : Event) (fault : Option NameFault) (reached : List Key) (Asked 
   new_names old order c = are_new start old Asked reached (map (key_at l.keys) order) (same (no_fault c.none))
       (new (no_fault c.none) order c.closes)
 
-  -- with a part for what is given where there is no fault
+  -- the same result with an additional part if there is no fault
   module _ {A : Type 0} (Given : A → Type 0) (now : Shown) (old then : ℕ) (right_now : IsRightTable now) where
     pub asked_fault : (q : QueryFault) → IsAnswered (table deck) l ends query (Err q) start now old then
         → IsAsked event fault Given (Err q) start now old then
@@ -173,7 +173,7 @@ module _ (event : Event) (fault : Option NameFault) (reached : List Key) (Asked 
           (new_names old order c) now then all right_now,
     )
 
--- what a query reaches is settled behind it
+-- the names that a query reaches are settled after it
 pub reached_settled : (deck : Contents) (l now : Listed) (r count old then : ℕ) (query : List Step) (order : List ℕ)
     → IsSound deck l r → AreNodes (table deck) now
     → now.keys ≡ l.keys → AreNewlyClosed l.graph l.settled query order

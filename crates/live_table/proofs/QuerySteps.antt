@@ -1,4 +1,4 @@
--- The steps of the words of a query, one word behind another.
+-- The steps of the words of a query, word after word.
 use Rattle.std.proofs.Common.{◌≡◌, ◌+◌, ◌++◌, ◌∷◌, [], ℕ, zero, suc, List, take, drop, Some}
 use Rattle.std.proofs.Common.{None, sym, ◌∙◌, ap, subst}
 use Rattle.std.specs.List.{slice_get}
@@ -22,13 +22,13 @@ use Rattle.live_table.proofs.Growing.{added_both, added_none, grown_none, writte
 use Rattle.live_table.proofs.LeadSteps.{steps_written}
 use Rattle.live_table.proofs.Written.{written_behind, written_none}
 
--- ---- where the loop over words stands
+-- ---- the state of the loop over words
 pub record IsStepping (t : Table) (old now : Listed) (before here list : List ℕ) (us : List WordUse) (xs : List Step)
     (i : ℕ) : Type 0 where
   pub added : (ends : List DeadEnd) → AreAdded t old now before here list ends ends
   pub written : AreWritten t now before list [] (take i us) xs
 
--- at first there are no steps
+-- at the start there are no steps
 pub stepping_start : (t : Table) (l : Listed) (before list : List ℕ) (us : List WordUse) (xs : List Step) → AreNodes t l
     → AreListed t l before list → xs ≡ [] → IsStepping t l l before list list us xs 0
 stepping_start t l before list us xs nodes right e = record {
@@ -59,7 +59,7 @@ module _ (t : Table) (old now m : Listed) (before here list there : List ℕ) (u
       (turn.start.added []).grown.listed (then []).grown (take i us) xs turn.start.written
 
   module _ (lead : Lead) (is : IsQueryLead t m.keys u lead) where
-    -- its steps go behind those before it
+    -- the steps of the word are appended
     pub stepping_next : ((n : ℕ) → In n (numbers lead) → IsKnown m before there n) → (w : WordSteps)
         → Some w ≡ steps_to lead → (ys zs : List Step) → ys ≡ xs ++ w.first ∷ [] → zs ≡ ys ++ w.second ∷ []
         → IsStepping t old m before here there us zs (i + 1)
@@ -74,7 +74,7 @@ module _ (t : Table) (old now m : Listed) (before here list there : List ℕ) (u
         all : zs ≡ xs ++ w.first ∷ w.second ∷ []
         all = b ∙ (ap (λ (qs : List Step). qs ++ w.second ∷ []) a ∙ append_assoc xs (w.first ∷ []) (w.second ∷ []))
 
-    -- or it leads nowhere
+    -- or the word leads nowhere
     pub stepping_cut : None ≡ steps_to lead → (end : DeadEnd)
         → end ≡ record { text = u.text; is_refused = is_refused_lead lead } → AreCutAt t m before there us xs end
     stepping_cut none end e = record {
@@ -106,7 +106,7 @@ module _ (t : Table) (old now m : Listed) (before here list there : List ℕ) (u
         dead (One p) h n q = cc
         dead (Two p r) h n q = cc
 
--- ---- steps that all lead somewhere say the same whatever the dead ends are
+-- ---- steps that all lead somewhere mean the same whatever the dead ends
 pub written_led : (t : Table) (l : Listed) (before list : List ℕ) (ends : List DeadEnd) (us : List WordUse)
     (xs : List Step)
     → AreNodes t l → AreListed t l before list → AreWritten t l before list [] us xs

@@ -1,4 +1,4 @@
--- The name fault of a query that is cut before a word which leads nowhere.
+-- The name fault of a query that is cut before a word that leads nowhere.
 use Rattle.std.proofs.Common.{◌≡◌, ◌-◌, ◌++◌, ◌∷◌, [], ℕ, Bool, true, false, cond, List, length, Option, Some, None}
 use Rattle.std.proofs.Common.{option_map, refl, sym, ◌∙◌, ap}
 use Rattle.std.specs.Option.{option_or}
@@ -42,7 +42,7 @@ module _ (t : Table) (deeper : Deeper) (u : WordUse) where
       by_flag (is_refused u.text) (targets t u) d.nowhere
       ∙ (λ i. Some (cond (sym d.refused i) (Refused (sym d.text i) None) (Unknown (sym d.text i) None)))
 
--- the words behind it do not count
+-- the words after a word that leads nowhere do not matter
 pub cut_words : (t : Table) (front rest : List WordUse) (u : WordUse) (end : DeadEnd) → IsDeadEnd t u end
     → fault_before (name_fault t front) end ≡ name_fault t (front ++ u ∷ rest)
 cut_words t front rest u end d = sym (first_of_both f front (u ∷ rest) ∙ ap (option_or (first f front)) own)
@@ -54,7 +54,7 @@ cut_words t front rest u end d = sym (first_of_both f front (u ∷ rest) ∙ ap 
     own = ap (λ (o : Option NameFault). option_or o (first f rest))
         (its_fault t (fault_within t (length t - 0)) u end d)
 
--- ---- what a walk of the words before it found
+-- ---- the result of a walk of the words before it
 module _ (t : Table) (l : Listed) (ends : List DeadEnd) (query : List Step) (end : DeadEnd) where
   pub faulty_before : (f : NameFault) → IsFaulty t l ends query f → fault_before (fault_in t l ends query) end ≡ Some f
   faulty_before f w =

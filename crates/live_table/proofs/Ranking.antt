@@ -49,7 +49,7 @@ alias_rank name (One x) e = cc
 alias_rank name (Two x y) e = cc
 alias_rank name (Callee f) e = omega arith
 
--- a function has a rank one above those of its words
+-- the rank of a function is one above those of its words
 said_rank : (means : WordUse → Meaning) (name : List ℕ) (w : What) → is_callee (meaning_of means name w) ≡ true
     → rank_of_meaning (meaning_of means name w) ≡ suc (greatest_rank means (what_words w))
 said_rank means name what.Primitive e = cc
@@ -60,19 +60,19 @@ said_rank means name (what.Function d) e = refl
 said_rank means name (what.Table d) e = refl
 said_rank means name (what.Alias target) e = alias_rank name (means (inverted_word target)) e
 
--- what is no function has none
+-- a meaning that is not a function has rank 0
 pub no_rank : (m : Meaning) → (outcome_of m ≡ outcomes.Callable → ⊥) → rank_of_meaning m ≡ 0
 no_rank (One x) h = refl
 no_rank (Two x y) h = refl
 no_rank (Callee f) h = absurd (h refl)
 
--- an outcome that may be called is that of a function
+-- a meaning whose outcome is `Callable` is a function
 pub callable_meaning : (m : Meaning) → outcome_of m ≡ outcomes.Callable → is_callee m ≡ true
 callable_meaning (One x) h = absurd (not_callable (value x None) h)
 callable_meaning (Two x y) h = absurd (not_callable (value (Prefixed x y) None) h)
 callable_meaning (Callee f) h = refl
 
--- of equal ranks each is the greater
+-- equal ranks are equal to their maximum
 same_rank : (w x y k : ℕ) → w ≡ k → x ≡ k → y ≡ k → w ≡ max x y
 same_rank w x y k e f g = omega (arith, e, f, g)
 
@@ -153,7 +153,7 @@ module _ (deck : Contents) (l : Listed) (asked : Asked) (is : IsSurrounding deck
         settled = λ m i. h.settled m (inr (inr i));
       }
 
-  -- ---- so it is of a name at hand that is a function
+  -- ---- the rank of a name at hand that is a function
   module _ (n : ℕ) (hand : is_at_hand s n ≡ true) (x : Entry) (entry : entry_at (table deck) (key n) ≡ Some x) where
     pub function_rank : is_callee (key_meaning (table deck) (key n)) ≡ true
         → key_rank (key n) ≡ suc (greatest_step_rank l.callees (steps l.graph n))
@@ -166,7 +166,7 @@ module _ (deck : Contents) (l : Listed) (asked : Asked) (is : IsSurrounding deck
         ∙ words_rank (key_words (table deck) (key n)) (steps l.graph n)
         (key_settled_words deck l asked is n (at_hand deck l asked is n hand))))
 
--- ---- so it is of a name that is due, and small
+-- ---- the rank of a name that is due, and its bound
 module _ (deck : Contents) (l : Listed) (r n : ℕ) (sound : IsSound deck l r) (due : IsDue (table deck) l n)
     (callable : outcome (table deck) (key_at l.keys n) ≡ outcomes.Callable) (g : ℕ)
     (greatest : g ≡ greatest_step_rank l.callees (steps l.graph n)) where

@@ -1,4 +1,4 @@
--- The names below a query get their steps, one name after another.
+-- The names below a query get their steps in turn.
 use Rattle.smallvec.specs.SmallVec.{SmallVec}
 use Rattle.std.proofs.Common.{◌≡◌, ◌+◌, ◌<◌, ◌≤◌, ℕ, zero, suc, true, false, List, [], ◌∷◌, ◌++◌, set}
 use Rattle.std.proofs.Common.{take, length, Vec, Some, None, nat_eq, refl, sym, ◌∙◌, ap, subst, inl, inr, arith}
@@ -24,6 +24,7 @@ use Rattle.live_table.specs.declared.dead_end.DeadEnd.{DeadEnd}
 use Rattle.live_table.specs.Callees.{HasStarts}
 use Rattle.live_table.specs.Exploring.{AreAdded, AreAllExplored, AreGrown, AreListed, AreSame, AreWritten}
 use Rattle.live_table.specs.Exploring.{IsWritten, WereExplored, with_steps}
+use Rattle.live_table.specs.KnownFaults.{HaveSameSteps}
 use Rattle.live_table.specs.Looks.{AllLead, AreLooks}
 use Rattle.live_table.specs.Sound.{AreNodes, HasLooksOf}
 use Rattle.live_table.specs.Stored.{Listed, Looks, key_at, looks_of, numbers_in}
@@ -36,7 +37,7 @@ use Rattle.live_table.proofs.Places.{get_lt, some_same}
 steps_other : (g : Graph) (n m : ℕ) (v : SmallVec Step) → (m ≡ n → ⊥) → steps (set g n v) m ≡ steps g m
 steps_other g n m v ne = ap items_of (get_set_other g n m v ne)
 
--- steps that are put for a number are its steps
+-- the steps that are set for a number are its steps
 steps_same : (g : Graph) (n : ℕ) (v : SmallVec Step) → n < length g → steps (set g n v) n ≡ v.items
 steps_same g n v h = ap items_of (get_set_same g n v h)
 
@@ -44,7 +45,7 @@ steps_same g n v h = ap items_of (get_set_same g n v h)
 looks_other : (g : Looks) (n m : ℕ) (w : Vec ℕ Global) → (m ≡ n → ⊥) → looks_of (set g n w) m ≡ looks_of g m
 looks_other g n m w ne = ap numbers_in (get_set_other g n m w ne)
 
--- and those that are put are there
+-- the looks that are set for a number are its looks
 looks_same : (g : Looks) (n : ℕ) (w : Vec ℕ Global) → n < length g → looks_of (set g n w) n ≡ w.items
 looks_same g n w h = ap numbers_in (get_set_same g n w h)
 
@@ -121,7 +122,7 @@ module _ (t : Table) (l : Listed) (n : ℕ) (c : Callee) (v : SmallVec Step) (w 
         };
   }
 
--- a name on the list gets its steps, behind what was added for its words
+-- a name on the list gets its steps, after the additions for its words
 module _ (t : Table) (l m : Listed) (before here there : List ℕ) (ends more : List DeadEnd) (n : ℕ) (c : Callee)
     (v : SmallVec Step) (w : Vec ℕ Global)
     (added : AreAdded t l m before here there ends more) (right : AreListed t l before here) (is_listed : In n here)
@@ -199,7 +200,7 @@ module _ (t : Table) (l m : Listed) (before here there : List ℕ) (ends more : 
       own : (callee : Callee) → slice_get (set m.callees n c) n ≡ Some callee → c ≡ callee
       own callee is = some_same c callee (sym (get_set_same m.callees n c in_callees) ∙ is)
 
--- ---- what was written of a name stays written
+-- ---- written steps of a name stay written
 module _ (t : Table) (l m : Listed) (before here there : List ℕ) (ends more : List DeadEnd) (x : ℕ)
     (nodes : AreNodes t l) (right : AreListed t l before here) (grown : AreGrown t l m before here there ends more)
     (is_within : x < length l.keys) (same_steps : steps m.graph x ≡ steps l.graph x)
@@ -228,7 +229,7 @@ module _ (t : Table) (l m : Listed) (before here there : List ℕ) (ends more : 
     looks = λ all. still_looked (written.looks (subst AllLead same_steps all));
   }
 
--- so what was explored before stays explored, where a name that was not gets its steps
+-- explored names stay explored when a name that was not explored gets its steps
 module _ (t : Table) (l m : Listed) (before here there : List ℕ) (ends more : List DeadEnd) (n : ℕ)
     (nodes : AreNodes t l) (grown : AreGrown t l m before here there ends more)
     (same : AreSame (λ q. q ≡ n → ⊥) l m) (other : In n before → ⊥) (explored : WereExplored t l before ends) where
@@ -247,12 +248,13 @@ module _ (t : Table) (l m : Listed) (before here there : List ℕ) (ends more : 
         (same.looks x (explored.within x i) (apart x i)) (explored.written x i);
   }
 
--- ---- where the loop stands
+-- ---- the state of the loop
 pub record IsExploring (t : Table) (old now : Listed) (before here list : List ℕ) (ends more : List DeadEnd)
     (place : ℕ) : Type 0 where
   pub grown : AreGrown t old now before here list ends more
   pub explored : WereExplored t now before more
   pub gone : (n : ℕ) → In n (take place list) → IsWritten t now before list more n
+  pub stay : HaveSameSteps before old now
   pub within : place ≤ length list
 
 -- at the start no listed number is explored
@@ -263,17 +265,18 @@ exploring_start t l before list ends nodes right explored = record {
   grown = grown_none t l before list ends ends nodes right (λ i x e. e);
   explored = explored;
   gone = λ n i. absurd i;
+  stay = λ n i. refl;
   within = omega arith;
 }
 
--- a member of a front is one of the list
+-- a member of the front of a list is a member of the list
 in_take : {A : Type 0} (k : ℕ) (xs : List A) (x : A) → In x (take k xs) → In x xs
 in_take zero xs x i = absurd i
 in_take (suc k) [] x i = i
 in_take (suc k) (y ∷ xs) x (inl e) = inl e
 in_take (suc k) (y ∷ xs) x (inr i) = inr (in_take k xs x i)
 
--- a number that stands once is not before its place
+-- a number that occurs once is not before its place
 distinct_at : (ns : List ℕ) (i n : ℕ) → IsDistinct nat_eq ns → slice_get ns i ≡ Some n → In n (take i ns) → ⊥
 unfolding IsDistinct
 distinct_at [] i n d e j = cc
@@ -293,6 +296,11 @@ module _ (t : Table) (old now m : Listed) (before here list there : List ℕ) (e
   pub explored_next : WereExplored t m before most
   explored_next = still_explored t now m before list there more most n s.grown.nodes grown same
       (s.grown.listed.new n listed_now) s.explored
+
+  pub stay_next : HaveSameSteps before old m
+  stay_next x i =
+      same.steps x (s.explored.within x i) (λ e. s.grown.listed.new n listed_now (subst (λ (y : ℕ). In y before) e i))
+      ∙ s.stay x i
 
   gone_old : (x : ℕ) → In x (take place list) → IsWritten t m before there most x
   gone_old x i =
@@ -319,18 +327,19 @@ module _ (t : Table) (old now m : Listed) (before here list there : List ℕ) (e
       | inl j ↦ gone_old x j
       | inr e ↦ subst (λ (y : ℕ). IsWritten t m before there most y) (sym e) written
     ];
+    stay = stay_next;
     within =
         let h : length list ≤ length there = more_length list there grown.list_more in
         let e : place < length list = enough in omega arith;
   }
 
--- after the last place there is nothing
+-- there is no item after the last place
 pub at_end : (list : List ℕ) (place : ℕ) → slice_get list place ≡ None → length list ≤ place
 at_end [] place e = omega arith
 at_end (x ∷ list) zero e = cc
 at_end (x ∷ list) (suc place) e = let h : length list ≤ place = at_end list place e in omega arith
 
--- ---- at the end all is explored
+-- ---- at the end all names are explored
 pub exploring_end : (t : Table) (old now : Listed) (before here list : List ℕ) (ends more : List DeadEnd) (place : ℕ)
     → IsExploring t old now before here list ends more place → length list ≤ place
     → AreAllExplored t now before list more

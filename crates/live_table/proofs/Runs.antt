@@ -1,4 +1,4 @@
--- Events one behind another, of which the last may have been cut off, and the steps that they take.
+-- Events in turn, of which the last may have been cut off, and the steps that they take.
 use Rattle.std.proofs.Common.{◌≡◌, ◌+◌, ◌≤◌, ℕ, Bool, true, false, List, [], ◌∷◌, ◌++◌, refl, ◌∙◌, ap, subst}
 use Rattle.std.proofs.Common.{arith}
 use Rattle.std.specs.Option.{is_none}
@@ -17,7 +17,7 @@ steps_both : (es fs : List Event) (s : State)
     → (after_all (es ++ fs) s).steps ≡ (after_all fs (after_all es s)).steps
 steps_both es fs s = ap (λ (s : State). s.steps) (order_law es fs s)
 
--- events that were cut off are so as the first of more
+-- events that were cut off are a cut-off run with further events after them
 cut_before : (es fs : List Event) (a b : Shown) (n m : ℕ) → IsCutOff es a b n m → IsCutOff (es ++ fs) a b n m
 cut_before es fs a b n m q = record {
   deck = q.deck;
@@ -32,13 +32,13 @@ cut_before es fs a b n m q = record {
       omega arith;
 }
 
--- so are the last, behind others that were made
+-- events that were cut off are a cut-off run with complete events before them
 cut_behind : (es fs : List Event) (a b c : Shown) (n m k : ℕ) → b.deck ≡ a.deck → Follows es a b n m
     → IsCutOff fs b c m k → IsCutOff (es ++ fs) a c n k
 cut_behind es fs a b c n m k same p q =
     subst (λ (gs : List Event). IsCutOff (es ++ gs) a c n k) (append-nil fs) (cut_both es fs [] a b c n m k same p q)
 
--- events that were made are a case of those cut off
+-- events that were made are a case of events that were cut off
 cut_after : (es : List Event) (a b : Shown) (n m : ℕ) → b.deck ≡ a.deck → Follows es a b n m → IsCutOff es a b n m
 cut_after es a b n m same p = record {
   deck = same;
@@ -50,7 +50,7 @@ cut_after es a b n m same p = record {
   most = let y : m ≡ (after_all es (state a n)).steps = ap (λ (s : State). s.steps) p.stands in omega arith;
 }
 
--- the law of events in parts
+-- the law of runs
 pub run_law : RunLaw
 run_law = record {
   none = follows_none;
@@ -61,11 +61,11 @@ run_law = record {
 }
 
 -- ---- steps that were counted before
--- so many steps more
+-- a state with this number of additional steps
 abbrev later : ℕ → State → State
 later n s = record s { steps = n + s.steps }
 
--- a query does the same at a later count
+-- a query has the same effect at a later count
 query_later : (b : Bool) (keys : List Key) (n : ℕ) (s : State)
     → after_query b keys (later n s) ≡ later n (after_query b keys s)
 query_later true keys n s = ap (λ k. record (after_query true keys s) { steps = k }) (regroup n s.steps _)
@@ -74,18 +74,18 @@ query_later true keys n s = ap (λ k. record (after_query true keys s) { steps =
     regroup n k m = omega arith
 query_later false keys n s = refl
 
--- so does an event
+-- an event has the same effect at a later count
 event_later : (e : Event) (n : ℕ) (s : State) → after e (later n s) ≡ later n (after e s)
 event_later (AsksWords words) n s = query_later (is_none (name_fault s.table words)) (reach s.table words) n s
 event_later (AsksKey k) n s = query_later (is_none (key_fault s.table k)) (k ∷ key_reach s.table k) n s
 event_later (Becomes t) n s = refl
 
--- so do several
+-- events have the same effect at a later count
 all_later : (es : List Event) (n : ℕ) (s : State) → after_all es (later n s) ≡ later n (after_all es s)
 all_later [] n s = refl
 all_later (e ∷ es) n s = ap (after_all es) (event_later e n s) ∙ all_later es n (after e s)
 
--- what was counted is a later count
+-- a state with previous steps is a state at a later count
 counted_before : (s : Shown) (n : ℕ) → state s n ≡ later n (state s 0)
 counted_before s n = ap (state s) (plain n)
   where

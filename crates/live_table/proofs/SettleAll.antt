@@ -18,17 +18,17 @@ use Rattle.live_table.specs.States.{Kept, with_outcomes}
 use Rattle.live_table.specs.Stored.{Listed, key_at, shown}
 use Rattle.name_walk.proofs.Lists.{drop_at, take_at}
 
--- ---- outcomes put in one behind another
+-- ---- outcomes inserted in turn
 with_more : (t : Table) (ks : List Key) (k : Key) (m : Kept)
     → with_outcomes t (k ∷ []) (with_outcomes t ks m) ≡ with_outcomes t (ks ++ k ∷ []) m
 with_more t [] k m = refl
 with_more t (x ∷ ks) k m = with_more t ks k (map_of.insert m x (outcome t x))
 
--- one more is counted, up to the end
+-- one more is counted, up to the maximum
 count_more : (r n m : ℕ) → m ≡ n + 1 → min (2 ^ 64 - 1) (min (2 ^ 64 - 1) (r + n) + 1) ≡ min (2 ^ 64 - 1) (r + m)
 count_more r n m e = omega (arith, e)
 
--- one more key is put in behind others
+-- one more key is inserted after others
 put_more : (s : Shown) (ks : List Key) (k : Key) → put_in (put_in s ks) (k ∷ []) ≡ put_in s (ks ++ k ∷ [])
 put_more s ks k = λ i. record {
   deck = s.deck;
@@ -36,20 +36,20 @@ put_more s ks k = λ i. record {
   reductions = count_more s.reductions (length ks) (length (ks ++ k ∷ [])) (length-append ks (k ∷ [])) i;
 }
 
--- no key changes nothing
+-- inserting no key changes nothing
 put_none : (s : Shown) → s.reductions ≤ 2 ^ 64 - 1 → put_in s [] ≡ s
 put_none s h =
     let e : min (2 ^ 64 - 1) (s.reductions + 0) ≡ s.reductions = omega (arith, h) in
     λ i. record { deck = s.deck; kept = s.kept; reductions = e i }
 
--- what stands at a place of an image is the image of what stands there
+-- an item of a mapped list is the image of the item at its place
 get_map : {A B : Type 0} (f : A → B) (xs : List A) (i : ℕ) (x : A) → slice_get xs i ≡ Some x
     → slice_get (map f xs) i ≡ Some (f x)
 get_map f [] i x e = cc
 get_map f (y ∷ xs) zero x e = cc
 get_map f (y ∷ xs) (suc i) x e = get_map f xs i x e
 
--- ---- where the loop stands
+-- ---- the state of the loop
 pub record IsStanding (deck : Contents) (old now : Listed) (r count : ℕ) (order : List ℕ) (i before after : ℕ) : Type
     0 where
   pub sound : IsSound deck now count
@@ -58,7 +58,7 @@ pub record IsStanding (deck : Contents) (old now : Listed) (r count : ℕ) (orde
   pub put : shown deck now count ≡ put_in (shown deck old r) (take i (map (key_at old.keys) order))
   pub steps : after ≡ before + i
 
--- at the start nothing is settled
+-- at the start no name is settled
 pub standing_start : (deck : Contents) (old : Listed) (r : ℕ) (order : List ℕ) (before : ℕ) → IsSound deck old r
     → AreDue (table deck) old order
     → IsStanding deck old old r r order 0 before before
@@ -79,7 +79,7 @@ module _ (deck : Contents) (old now : Listed) (r count : ℕ) (order : List ℕ)
   pub is_due : IsDue (table deck) now n
   is_due = due_now.0
 
-  -- one more is settled
+  -- one more name is settled
   pub standing_next : (later : Listed) (counted then : ℕ) (o : Outcome) (c : Callee) → IsSound deck later counted
       → later ≡ with_outcome n o c now
       → shown deck later counted ≡ put_in (shown deck now count) (key_at now.keys n ∷ []) → then ≡ after + 1

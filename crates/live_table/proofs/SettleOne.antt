@@ -1,4 +1,4 @@
--- A name that is due is settled: its outcome is put in, and the nodes stay sound.
+-- A name that is due is settled: its outcome is stored, and the nodes stay sound.
 use Rattle.std.proofs.Common.{◌≡◌, ◌⊎◌, ◌+◌, ◌-◌, ◌^◌, ◌<◌, min, ℕ, Bool, true, false, List, []}
 use Rattle.std.proofs.Common.{◌∷◌, set, length, Contains, Some, is_some, get_or, sym, ◌∙◌}
 use Rattle.std.proofs.Common.{ap, subst, inl, inr, arith}
@@ -53,12 +53,12 @@ use Rattle.live_table.proofs.Places.{element, get_lt, some_same}
 use Rattle.live_table.proofs.Telling.{at_hand_settled, key_settled_words, led_by}
 use Rattle.live_table.proofs.ToldWords.{IsLedBy}
 
--- what is right does not depend on what was counted
+-- outcomes that are right do not depend on the counts
 pub right_anyhow : (deck : Contents) (l : Listed) (r q : ℕ) → IsRightTable (shown deck l r)
     → IsRightTable (shown deck l q)
 right_anyhow deck l r q h = record { present = h.present; closed = h.closed; below = h.below; right = h.right }
 
--- a settled number that is asked for
+-- a settled number that is queried
 pub function_surrounded : (deck : Contents) (l : Listed) (r : ℕ) → IsSound deck l r → (n : ℕ) → IsSettled l.settled n
     → IsSurrounding deck l (Name n)
 function_surrounded deck l r sound n e = record {
@@ -67,14 +67,14 @@ function_surrounded deck l r sound n e = record {
   subject = at_hand_settled deck l sound.numbers (right_anyhow deck l r 0 sound.right) n e;
 }
 
--- what is kept of a function stays but for its rank
+-- the data of a function do not change except for its rank
 pub put_is : (l : Listed) (n : ℕ) (o : Outcome) (rank : ℕ) (found : Callee) → found ≡ get_or l.callees n found
     → (c : Callee) → slice_get l.callees n ≡ Some c
     → with_outcome n o (ranked rank found) l ≡ with_outcome n o (ranked rank c) l
 put_is l n o rank found at c e =
     ap (λ (x : Callee). with_outcome n o (ranked rank x) l) (at ∙ get_or_from_slice_get l.callees n c found e)
 
--- ---- by name: a closed key of which all that it leads to is settled
+-- ---- by name: a closed key that leads only to settled names
 module _ (s : Shown) (k : Key) (right : IsRightTable s) (there : is_present (table s.deck) k ≡ true)
     (closed : IsClosed (table s.deck) k)
     (below : (m : Key) → WordsLeadTo (table s.deck) (key_words (table s.deck) k) m → right_of.IsSettled (state s 0) m)
@@ -122,14 +122,14 @@ module _ (s : Shown) (k : Key) (right : IsRightTable s) (there : is_present (tab
       let h = subst IsRight (new_law before reached (k ∷ []) right is_new) settles in
       record { present = h.present; closed = h.closed; below = h.below; right = h.right }
 
--- the outcome of a name was put in with its rank, and one more was counted
+-- the outcome of a name was stored with its rank, and one more was counted
 pub record IsPut (deck : Contents) (l : Listed) (r n : ℕ) (o : Outcome) (rank now : ℕ) (later : Listed) : Type 0 where
   pub outcome_is : o ≡ outcome (table deck) (key_at l.keys n)
   pub rank_is : rank ≡ rank_of_meaning (key_meaning (table deck) (key_at l.keys n))
   pub counted : now ≡ min (2 ^ 64 - 1) (r + 1)
   pub put : (c : Callee) → slice_get l.callees n ≡ Some c → later ≡ with_outcome n o (ranked rank c) l
 
--- ---- what is due, by number
+-- ---- a name that is due, by number
 module _ (deck : Contents) (l : Listed) (r n : ℕ) (sound : IsSound deck l r) (due : IsDue (table deck) l n) where
   abbrev the_key : Key
   the_key = key_at l.keys n
@@ -279,7 +279,7 @@ module _ (deck : Contents) (l : Listed) (r n : ℕ) (sound : IsSound deck l r) (
       few = omega (arith, count);
     }
 
-  -- with what was kept of a function, and its rank
+  -- the previous data of a function, with its rank
   module _ (o : Outcome) (rank now : ℕ) (later : Listed) (is : IsPut deck l r n o rank now later) where
     old_callee : (c : Callee) × (slice_get l.callees n ≡ Some c)
     old_callee = element l.callees n (let a : n < length l.keys = due.within in let b : length l.callees ≡ length

@@ -1,4 +1,4 @@
--- The stages of a query: the names before it, then with those that it leads to, and then with all below them.
+-- The stages of a query: the previous names, then also those that it leads to, and then also all below them.
 use Rattle.std.proofs.Common.{◌≡◌, ℕ, Bool, List, Option, map}
 use Rattle.std.specs.Prelude.{Result, Err}
 use Rattle.def_entry.specs.declared.key.Key.{Key}
@@ -40,7 +40,7 @@ pub record Stages : Type 0 where
   pub there : List ℕ
   pub more : List DeadEnd
 
--- those of a query over nodes
+-- the stages of a query over nodes
 abbrev pub stages_of :
     Contents → ℕ → Explored → (start led explored : Nodes) (here list there : List ℕ) → List DeadEnd → Stages
 stages_of deck reductions before start led explored here list there more = record {
@@ -57,20 +57,20 @@ stages_of deck reductions before start led explored here list there more = recor
   more = more;
 }
 
--- the first is sound, and each adds to the one before it
+-- the first stage is sound, and each one adds to the one before it
 pub record AreStages (s : Stages) : Type 0 where
   pub sound : IsSound s.deck s.start s.reductions
   pub first : AreGrown (table s.deck) s.start s.led s.before s.here s.list s.ends s.ends
   pub second : AreGrown (table s.deck) s.led s.explored s.before s.list s.there s.ends s.more
 
--- the last has all names below the query, and the laws of numbers hold
+-- the last stage has all names below the query, and the laws of numbers hold
 pub record AreAllStages (s : Stages) : Type 0 where
   pub stages : AreStages s
   pub all : AreAllExplored (table s.deck) s.explored s.before s.there s.more
   pub faults : NumberedFaultLaw
   pub settles : SettlingLaw
 
--- behind the last, the names that a query newly closes were settled
+-- after the last stage, the names that a query newly closes were settled
 pub record IsSettledAfter (s : Stages) (query : List Step) (now : Listed) (count old later : ℕ) : Type 0 where
   pub sound : IsSound s.deck now count
   pub keys : now.keys ≡ s.explored.keys
@@ -80,32 +80,32 @@ pub record IsSettledAfter (s : Stages) (query : List Step) (now : Listed) (count
       AreAllSettled (map (key_at s.explored.keys) order) (shown s.deck s.explored s.reductions) (shown s.deck now count)
       old later
 
--- what is known in the last
+-- the names that are known in the last stage
 abbrev pub known_there : Stages → ℕ → Bool
 known_there s = is_known s.explored.settled s.before s.there
 
 module _ (s : Stages) (are : AreStages s) where
-  -- the last adds to the first
+  -- the last stage adds to the first
   added : AreGrown (table s.deck) s.start s.explored s.before s.here s.there s.ends s.more
   added =
       grown_both (table s.deck) s.start s.led s.explored s.before s.here s.list s.there s.ends s.ends s.more are.first
       are.second
 
-  -- the same is shown of it
+  -- the visible state of the last stage is that of the first
   pub same_start : shown s.deck s.explored s.reductions ≡ shown s.deck s.start s.reductions
   same_start = same_shown s.deck s.start s.explored s.before s.here s.there s.ends s.more s.reductions added
 
-  -- it is sound
+  -- the last stage is sound
   pub sound_there : IsSound s.deck s.explored s.reductions
   sound_there =
       grown_sound s.deck s.start s.explored s.before s.here s.there s.ends s.more s.reductions added are.sound
 
-  -- and it has its edges
+  -- the last stage has its edges
   pub live_there : (e : LateEdges) → IsLive s.deck s.start e s.reductions → IsLive s.deck s.explored e s.reductions
   live_there e live =
       grown_live s.deck s.start s.explored s.before s.here s.there s.ends s.more s.reductions added e live
 
-  -- want of memory there cuts the query short
+  -- lack of memory in the last stage cuts the query short
   pub cut_there : {A : Type 0} (Given : A → Type 0) (event : Event) (fault : Option NameFault) (reached : List Key)
       (old : ℕ) → IsQueryOf event (table s.deck) fault reached
       → (result : Result A QueryFault) → result ≡ Err OutOfMemory
@@ -115,7 +115,7 @@ module _ (s : Stages) (are : AreStages s) where
       cut_short Given event fault reached s.deck s.start s.explored s.before s.here s.there s.ends s.more s.reductions
       old added are.sound is result e
 
--- where all is explored, what is known by number is so by name
+-- if all names are explored, those known by number are known by name
 pub explored_there : (s : Stages) → AreAllStages s
     → AreExplored (table s.deck) s.explored s.more (is_known s.explored.settled s.before s.there)
 explored_there s are =

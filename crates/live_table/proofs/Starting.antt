@@ -1,4 +1,4 @@
--- A live table of which no name is settled.
+-- A live table with no settled name.
 use Rattle.std.proofs.Common.{◌≡◌, false, true, None, is_some, refl, sym, ◌∙◌, ap, subst, arith}
 use Rattle.std.specs.FinMap as map_of
 use Rattle.def_entry.specs.declared.key.Key.{Key}

@@ -1,4 +1,4 @@
--- What was explored stays explored, until an edit.
+-- Explored names stay explored until an edit.
 use Rattle.std.proofs.Common.{◌≡◌, ◌⊎◌, ◌↔◌, ◌<◌, ℕ, true, List, [], set, length, Some, refl, sym, ◌∙◌, ap, subst}
 use Rattle.std.proofs.Common.{inl, inr}
 use Rattle.std.specs.List.{slice_get}
@@ -21,14 +21,14 @@ use Rattle.live_table.proofs.Growing.{grown_alone, key_same, none_listed}
 use Rattle.live_table.proofs.Places.{element, get_lt, some_same}
 use Rattle.live_table.proofs.Reached.{still_written}
 
--- of no names nothing is claimed
+-- about no names nothing is claimed
 pub none_explored : (t : Table) (l : Listed) (names : List ℕ) (ends : List DeadEnd) → names ≡ []
     → WereExplored t l names ends
 none_explored t l names ends e =
     subst (λ (ns : List ℕ). WereExplored t l ns ends) (sym e)
     (record { within = λ n i. absurd i; present = λ n i. absurd i; written = λ n i. absurd i })
 
--- what is written stays so where more is known
+-- written steps stay written when more names are known
 pub written_wider : (t : Table) (l : Listed) (before list names more : List ℕ) (ends : List DeadEnd) (n : ℕ)
     → ((m : ℕ) → IsKnown l before list m → IsKnown l names more m) → IsWritten t l before list ends n
     → IsWritten t l names more ends n
@@ -42,7 +42,7 @@ written_wider t l before list names more ends n wider w = record {
   looks = w.looks;
 }
 
--- where names are added
+-- explored names stay explored when names are added
 pub added_explored : (t : Table) (l m : Listed) (before here there : List ℕ) (ends more : List DeadEnd) → AreNodes t l
     → AreAdded t l m before here there ends more → WereExplored t l before ends → WereExplored t m before more
 added_explored t l m before here there ends more nodes added were = record {
@@ -56,7 +56,7 @@ added_explored t l m before here there ends more nodes added were = record {
       (added.same.looks n (were.within n i) tt) (were.written n i);
 }
 
--- ---- where a name is settled
+-- ---- explored names stay explored when a name is settled
 module _ (t : Table) (l : Listed) (n : ℕ) (o : Outcome) (rank : ℕ) (c : Callee) (at : slice_get l.callees n ≡ Some c)
     (before : List ℕ) (ends : List DeadEnd) (were : WereExplored t l before ends) where
   abbrev after : Listed
@@ -103,7 +103,7 @@ module _ (t : Table) (l : Listed) (n : ℕ) (o : Outcome) (rank : ℕ) (c : Call
     written = λ m i. written_after m (were.written m i);
   }
 
--- with what is kept of a function there, whatever it is
+-- explored names stay explored when a name is settled, whatever the data of a function there
 pub settled_explored : (t : Table) (l later : Listed) (n : ℕ) (o : Outcome) (rank : ℕ) → n < length l.callees
     → ((c : Callee) → slice_get l.callees n ≡ Some c → later ≡ with_outcome n o (ranked rank c) l)
     → (before : List ℕ) (ends : List DeadEnd) → WereExplored t l before ends → WereExplored t later before ends
@@ -112,7 +112,7 @@ settled_explored t l later n o rank h put before ends were =
     subst (λ (x : Listed). WereExplored t x before ends) (sym (put found.0 found.1))
     (explored_after t l n o rank found.0 found.1 before ends were)
 
--- ---- what was explored below a query is put to it
+-- ---- the names explored below a query are added to the explored ones
 module _ (t : Table) (l : Listed) (before list names : List ℕ) (ends : List DeadEnd)
     (all : AreAllExplored t l before list ends) (same : (m : ℕ) → In m names ↔ (In m before ⊎ In m list)) where
   known_before : (m : ℕ) → IsKnown l before [] m → IsKnown l names [] m

@@ -1,4 +1,4 @@
--- What the nodes tell of words and of functions is right.
+-- The facts that the nodes report about words and functions are right.
 use Rattle.std.proofs.Common.{◌≡◌, ◌+◌, ◌*◌, ◌<◌, ◌||◌, ℕ, Bool, true, false, cond, Bor}
 use Rattle.std.proofs.Common.{List, [], ◌∷◌, length, Contains, Option, Some, None, is_some}
 use Rattle.std.proofs.Common.{nat_eq, get_or, refl, sym, ap, subst, ◌∙◌, inl, inr, arith}
@@ -90,7 +90,7 @@ module _ (deck : Contents) (l : Listed) (asked : Asked) (is : IsSurrounding deck
     | inr q ↦ name_at_hand asked n is.subject q
   ]
 
-  -- ---- of settled words each leads to settled names
+  -- ---- each of the settled words leads to settled names
   module _ (us : List WordUse) (xs : List Step) (words : AreSettledWords (table deck) l us xs) (k : ℕ) (u : WordUse)
       (at : slice_get us k ≡ Some u) where
     led_word : LeadsInto (table deck) (IsClosed (table deck)) u
@@ -158,12 +158,12 @@ module _ (deck : Contents) (l : Listed) (asked : Asked) (is : IsSurrounding deck
           ∙ ap (λ (b : ℕ). slice_get (what_words x.what) (b + k)) (h.starts x c q at p)
           ∙ part_stands x.what p k u e
 
-  -- ---- what is told of the entry of a name at hand
+  -- ---- the entry of a name at hand
   pub settled_right : (n : ℕ) → IsSettled l.settled n → slice_get l.outcomes n ≡ Some (Some
       (outcome (table deck) (key n)))
   settled_right n e = right_outcome deck l 0 is.numbers is.right n e
 
-  -- the outcome that stands there is that of its key
+  -- the stored outcome is that of its key
   pub outcome_told : (v : Scene) → scene deck l asked ≡ v → (n : ℕ) → IsSettled v.settled n
       → (found : Option Outcome) → found ≡ get_or l.outcomes n found
       → (o : Outcome) → found ≡ Some o → o ≡ outcome (table v.deck) (key_at v.keys n)
@@ -208,7 +208,7 @@ module _ (deck : Contents) (l : Listed) (asked : Asked) (is : IsSurrounding deck
             (kind_law.inverses (table deck) (fits_kinds deck) target
             ((closed_law.words (table deck) _).0 closed (inverted_word target) in_it))
 
-  -- ---- what is told of a function
+  -- ---- the reported function
   module _ (n : ℕ) (has : has_callee s n ≡ true) where
     pub callee_settled : IsSettled l.settled n
     callee_settled = settled_from l.settled n (and_parts (is_settled s n) (is_callee (number_means s n)) has).0
@@ -254,7 +254,7 @@ module _ (deck : Contents) (l : Listed) (asked : Asked) (is : IsSurrounding deck
       (callee_when (number_means s n) (subst (λ (x : Kind). may_mean x (key_meaning (table deck) (key n)) ≡ true) k
       may))
 
-  -- ---- of the words of a holder each leads to settled names, by its steps
+  -- ---- each word of a holder leads to settled names, by its steps
   module _ (v : Scene) (seen : scene deck l asked ≡ v) (holder : Holder) (k : ℕ)
       (within : k < length (holder_words v holder)) where
     module _ (us : Bor (List WordUse)) (xs : Bor (List Step)) (query : asked ≡ subject.Expression us xs)
@@ -312,11 +312,11 @@ module _ (deck : Contents) (l : Listed) (asked : Asked) (is : IsSurrounding deck
           (subst (λ (b : ℕ). IsLedBy s u (steps l.graph n) (b + k)) (sym (starts c.0 c.1))
           (part_led n part_hand p c.0 c.1 k u here)))
 
--- where the steps of a word lead, its place among them is small
+-- the place of a word that leads to names is small
 pub led_place : (s : Scene) (us : List WordUse) (k : ℕ) (xs : List Step) (j : ℕ) → k < length us
     → ((u : WordUse) → slice_get us k ≡ Some u → IsLedBy s u xs j) → 2 * j < length xs
 led_place s us k xs j within each = let e = to_first s us k xs j within each in get_lt xs (2 * j) (To e.0) e.1
 
--- the name that is asked for is at hand
+-- the queried name is at hand
 pub name_hand : (deck : Contents) (l : Listed) (n : ℕ) → is_at_hand (scene deck l (subject.Name n)) n ≡ true
 name_hand deck l n = or_right (is_settled (scene deck l (subject.Name n)) n) (nat_eq n n) (eq-eqb n n refl)

@@ -1,4 +1,4 @@
--- What is told of a word by the numbers to which it leads is right.
+-- The meaning of a word, as reported by the numbers to which it leads, is right.
 use Rattle.std.proofs.Common.{◌≡◌, ◌⊎◌, ◌+◌, ◌*◌, ◌<◌, ℕ, Bool, true, false, Bor}
 use Rattle.std.proofs.Common.{List, [], ◌∷◌, length, Contains, Option, Some, None, Ok, Err}
 use Rattle.std.proofs.Common.{refl, sym, ap, subst, ◌∙◌, inl, inr, arith}
@@ -44,11 +44,11 @@ settled_from settled n h = by (slice_get settled n) refl
     by None q = let z : false ≡ true = sym (ap (λ o. unwrap_or o false) q) ∙ h in cc
     by (Some b) q = q ∙ ap Some (sym (ap (λ o. unwrap_or o false) q) ∙ h)
 
--- the mark of a settled number is up
+-- the mark of a settled number is set
 pub settled_to : (settled : List Bool) (n : ℕ) → IsSettled settled n → unwrap_or (slice_get settled n) false ≡ true
 settled_to settled n h = ap (λ o. unwrap_or o false) h
 
--- ---- what may stand for a key
+-- ---- the meanings that a key may have
 -- an outcome of an expression is never that of a function
 pub not_callable : (w : Worth) → kept w ≡ outcomes.Callable → ⊥
 not_callable (Ok q) e = cc
@@ -58,11 +58,11 @@ not_callable (Err fault) e = cc
 pub first_same : {A : Type 0} (x y : A) (xs ys : List A) → x ∷ xs ≡ y ∷ ys → x ≡ y
 first_same x y xs ys e = cc
 
--- and one second
+-- equal lists have the same second member
 pub second_same : {A : Type 0} (x y z w : A) (xs ys : List A) → x ∷ y ∷ xs ≡ z ∷ w ∷ ys → y ≡ w
 second_same x y z w xs ys e = cc
 
--- a list of one is none of two
+-- a list of one member is not a list of two
 pub not_both : {A : Type 0} (x y z : A) → x ∷ [] ≡ y ∷ z ∷ [] → ⊥
 not_both {A} x y z e = let n : 1 ≡ 2 = ap (λ (ws : List A). length ws) e in omega (arith, n)
 
@@ -83,19 +83,19 @@ callee_name means name (what.Function d) g e = sym (ap (λ m. name_of (callee_in
 callee_name means name (what.Table d) g e = sym (ap (λ m. name_of (callee_in m)) e)
 callee_name means name (what.Alias target) g e = alias_name name (means (inverted_word target)) g e
 
--- what is a function is the one that it has
+-- a meaning that is a function is the function that it has
 pub is_its_callee : (m : Meaning) → is_callee m ≡ true → m ≡ Callee (callee_in m)
 is_its_callee (One x) e = cc
 is_its_callee (Two x y) e = cc
 is_its_callee (Callee f) e = refl
 
--- what a function may stand for is one
+-- a meaning that a function key may have is a function
 pub callee_from : (m : Meaning) → may_mean kind.Func m ≡ true → (f : Callable) × (m ≡ Callee f)
 callee_from (One x) e = cc
 callee_from (Two x y) e = cc
 callee_from (Callee f) e = (f, refl)
 
--- so it is found to be
+-- a meaning that a function key may have is found to be a function
 pub callee_when : (m : Meaning) → may_mean kind.Func m ≡ true → is_callee m ≡ true
 callee_when (One x) e = cc
 callee_when (Two x y) e = cc
@@ -113,7 +113,7 @@ pub record IsLedBy (s : Scene) (u : WordUse) (xs : List Step) (k : ℕ) : Type 0
 to_same : (n m : ℕ) → Some (To n) ≡ Some (To m) → n ≡ m
 to_same n m e = cc
 
--- a word with these steps is led so
+-- a word with these steps is led by them
 pub led_as : (s : Scene) (u : WordUse) (xs : List Step) (k : ℕ) → IsLedBy s u xs k → (n m : ℕ)
     → slice_get xs (2 * k) ≡ Some (To n)
     → slice_get xs (2 * k + 1) ≡ Some (To m) → IsLed s u n m
@@ -143,7 +143,7 @@ module _ (s : Scene) (us : List WordUse) (k : ℕ) (xs : List Step) (j : ℕ) (w
     pub second_settled : IsSettled s.settled m
     second_settled = (are_led some_word.0 some_word.1).second
 
--- ---- what is told of a word by the numbers to which it leads
+-- ---- the reported meaning of a word, by the numbers to which it leads
 module _ (v : Scene) (u : WordUse) (n m : ℕ) (led : IsLed v u n m) where
   abbrev first_key : Key
   first_key = key_at v.keys n

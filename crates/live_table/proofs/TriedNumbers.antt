@@ -29,7 +29,7 @@ use Rattle.live_table.proofs.Growing.{added_both, added_none, key_read, key_same
 use Rattle.live_table.proofs.KeyNumbers.{numbered_push, within_push}
 use Rattle.live_table.proofs.Looking.{in_both}
 
--- ---- keys that are no targets
+-- ---- keys that are not targets
 -- at the start no number is gathered
 pub gathered_start : (keys others : List Key) (old : List ℕ) → others ≡ [] → AreGathered keys others old old
 gathered_start keys others old e = record {
@@ -39,7 +39,7 @@ gathered_start keys others old e = record {
   put = λ m. (λ i. inl i, λ h. elim h [ inl i ↦ i | inr z ↦ absurd z ]);
 }
 
--- keys that are gathered stay so where others are added
+-- gathered keys stay gathered when keys are added
 gathered_more : (ks ls others : List Key) (old new : List ℕ) → IsMore ks ls → AreGathered ks others old new
     → AreGathered ls others old new
 gathered_more ks ls others old new more g = record {
@@ -84,31 +84,31 @@ gathered_next ks ls tried old now next place n more h g p e = record {
       | inr (inr z) ↦ absurd z
     ]
 
--- ---- numbers for keys, one behind another
--- nothing but names is added
+-- ---- numbers for keys in turn
+-- only names are added
 abbrev pub AddsNames : Table → Listed → Listed → Type 0
 AddsNames t l m = (before list : List ℕ) (ends : List DeadEnd) → AreListed t l before list
     → AreAdded t l m before list list ends ends
 
--- no name is
+-- no name is added
 adds_none : (t : Table) (l : Listed) → AreNodes t l → AddsNames t l l
 adds_none t l nodes before list ends right = added_none t l before list ends ends nodes right (λ i x e. e)
 
--- names are added twice
+-- two additions of names are one
 pub adds_both : (t : Table) (l m k : Listed) → AddsNames t l m → AddsNames t m k → AddsNames t l k
 adds_both t l m k a b before list ends right =
     let first = a before list ends right in
     added_both t l m k before list list list ends ends ends first (b before list ends first.grown.listed)
 
--- what is grown with no listed number
+-- an addition of names is a growth without listed numbers
 grown_names : (t : Table) (l m : Listed) → AddsNames t l m → AreGrown t l m [] [] [] [] []
 grown_names t l m a = (a [] [] [] (none_listed t l [] [] (λ n i. absurd i) refl)).grown
 
--- then the nodes are right
+-- after an addition the nodes are right
 pub added_nodes : (t : Table) (l m : Listed) → AddsNames t l m → AreNodes t m
 added_nodes t l m a = (grown_names t l m a).nodes
 
--- and each key keeps its number
+-- after an addition each key has the same number
 pub added_keys : (t : Table) (l m : Listed) → AddsNames t l m → IsMore l.keys m.keys
 added_keys t l m a = (grown_names t l m a).keys_more
 
@@ -118,7 +118,7 @@ pub record AreFirstGathered (t : Table) (l m : Listed) (tried : List Key) (old n
     pub added : AddsNames t l m
     pub gathered : AreGathered m.keys (take place tried) old new
 
--- at the start none is
+-- at the start no key is gathered
 pub first_start : (t : Table) (l : Listed) (tried : List Key) (old : List ℕ) → AreNodes t l
     → AreFirstGathered t l l tried old old 0
 first_start t l tried old nodes = record {
@@ -126,7 +126,7 @@ first_start t l tried old nodes = record {
   gathered = gathered_start l.keys [] old refl;
 }
 
--- the next key is
+-- the next key is gathered
 pub first_next : (t : Table) (l m k : Listed) (tried : List Key) (old now mid next : List ℕ) (place n : ℕ)
     → AreFirstGathered t l m tried old now place → AddsNames t m k → place < length tried
     → (n < length k.keys) × (key_at tried place ≡ key_at k.keys n) → mid ≡ now
@@ -172,7 +172,7 @@ leads_to_two ks ls tried i j n m h e f more p q =
     inside below k (inr (inl s)) = subst (λ (x : ℕ). x < length ls) (sym s) q.0
     inside below k (inr (inr z)) = absurd z
 
--- ---- what a search among the keys of a table found, where none was tried before
+-- ---- the targets that a search among the keys of a table found, if none was tried before
 pub found_by : (t : Table) (u : WordUse) (law : LookupLaw) (w : Targets) (before tried : List Key) (kind : WordKind)
     (text : List ℕ)
     → before ≡ [] → kind ≡ u.kind → text ≡ u.text
@@ -204,7 +204,7 @@ module _ (t : Table) (u : WordUse) (w : Targets) (tried : List Key) (found : Are
     pub none_found : count w ≡ 0 → targets t u ≡ []
     none_found e = none_there (targets t u) (found.many ∙ e)
 
-    -- what a word of a query leads to
+    -- the lead of a word of a query
     pub is_query_lead : (keys : List Key) (lead : Lead) → is_refused u.text ≡ false
         → LeadsTo keys (last_keys (count w) tried) lead → IsQueryLead t keys u lead
     is_query_lead keys Refused fine led = absurd led
@@ -212,7 +212,7 @@ module _ (t : Table) (u : WordUse) (w : Targets) (tried : List Key) (found : Are
     is_query_lead keys (One n) fine led = (fine, targets_are ∙ led.0, led.1)
     is_query_lead keys (Two n m) fine led = (fine, targets_are ∙ led.0, led.1)
 
-    -- ---- the targets, and the other keys
+    -- ---- the targets and the other keys
     module _ (ks ls : List Key) (more : IsMore ks ls) (old mid new : List ℕ) (ns : List ℕ)
         (led : last_keys (count w) tried ≡ map (key_at ls) ns) (inside : (m : ℕ) → In m ns → m < length ls)
         (g : AreGathered ks (take (length tried - count w) tried) old mid) (same : new ≡ mid) where
@@ -250,7 +250,7 @@ module _ (t : Table) (u : WordUse) (w : Targets) (tried : List Key) (found : Are
         exactly = λ k. (to k, from k);
       }
 
-    -- what a word of an entry leads to
+    -- the lead of a word of an entry
     pub is_lead : (ks ls : List Key) (more : IsMore ks ls) (old mid new : List ℕ) (lead : Lead)
         → is_refused u.text ≡ false
         → LeadsTo ls (last_keys (count w) tried) lead

@@ -14,7 +14,7 @@ use Rattle.live_table.proofs.Gathering.{put_one}
 abbrev pub AreUsed : List ℕ → List Step → Type 0
 AreUsed targets xs = (m : ℕ) → In m targets ↔ In (To m) xs
 
--- one more step puts in the name to which it leads
+-- one more step adds the name to which it leads
 abbrev pub IsUsed : List ℕ → List ℕ → Step → Type 0
 IsUsed old new x = (m : ℕ) → In m new ↔ (In m old ⊎ (x ≡ To m))
 
@@ -22,7 +22,7 @@ IsUsed old new x = (m : ℕ) → In m new ↔ (In m old ⊎ (x ≡ To m))
 same_to : (m n : ℕ) → To m ≡ To n → m ≡ n
 same_to m n e = cc
 
--- a step to a number puts it
+-- a step to a number adds the number
 pub target_used : (old new : List ℕ) (n : ℕ) (x : Step) → x ≡ To n → new ≡ cond (on old n) old (old ++ n ∷ [])
     → IsUsed old new x
 target_used old new n x is e m = (
@@ -33,18 +33,18 @@ target_used old new n x is e m = (
   ],
 )
 
--- one that leads nowhere puts nothing
+-- a step that leads nowhere adds nothing
 pub nowhere_used : (old : List ℕ) (t : ℕ) (x : Step) → x ≡ Nowhere t → IsUsed old old x
 nowhere_used old t x is m = (λ i. inl i, λ h. elim h [ inl j ↦ j | inr q ↦ absurd (apart (sym is ∙ q)) ])
   where
     apart : Nowhere t ≡ To m → ⊥
     apart q = cc
 
--- no steps use nothing
+-- without steps no names are used
 pub none_used : (xs : List Step) → AreUsed [] (take 0 xs)
 none_used xs m = (λ c. absurd c, λ i. absurd i)
 
--- the next step goes with those before it
+-- the next step is used with those before it
 pub one_used : (old new : List ℕ) (xs : List Step) (i : ℕ) (x : Step) → slice_get xs i ≡ Some x
     → AreUsed old (take i xs) → IsUsed old new x → AreUsed new (take (i + 1) xs)
 one_used old new xs i x at are put = subst (AreUsed new) (sym (take_at xs i x at)) (λ m. (
@@ -58,7 +58,7 @@ one_used old new xs i x at are put = subst (AreUsed new) (sym (take_at xs i x at
   ],
 ))
 
--- at the end all are used
+-- at the end all steps are used
 pub all_used : (targets : List ℕ) (xs : List Step) (i : ℕ) → length xs ≤ i → AreUsed targets (take i xs)
     → AreUsed targets xs
 all_used targets xs i l are = subst (AreUsed targets) (take_all i xs l) are

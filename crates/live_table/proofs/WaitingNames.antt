@@ -1,4 +1,4 @@
--- Names that wait for their edges: where names are added, where one more is settled, and where none waits.
+-- Names that wait for their edges: after names are added, after one more is settled, and if none waits.
 use Rattle.std.proofs.Common.{◌≡◌, ◌⊎◌, ◌↔◌, ◌<◌, ◌≤◌, ℕ, Bool, true, false, List, [], ◌∷◌, ◌++◌, length, set}
 use Rattle.std.proofs.Common.{Option, Some, is_some, refl, sym, ◌∙◌, ap, subst, inl, inr, arith}
 use Rattle.std.specs.FinMap as map_of
@@ -40,17 +40,17 @@ use Rattle.live_table.proofs.Growing.{key_same, more_length}
 use Rattle.live_table.proofs.Kept.{absent, key_settled, number_settled, settled_within}
 use Rattle.live_table.proofs.Places.{get_lt}
 
--- ---- a name has its edges where it is settled and does not wait
+-- ---- a name has its edges if it is settled and does not wait
 chosen : (b f : Bool) → (if b then false else f) ≡ true → (f ≡ true) × (b ≡ false)
 chosen true f e = absurd (true≢false (sym e))
 chosen false f e = (e, refl)
 
--- it is settled, and not among those that wait
+-- a name with its edges is settled, and does not wait
 pub linked_facts : (settled : List Bool) (waiting : List ℕ) (n : ℕ) → is_linked settled waiting n ≡ true
     → (is_flagged settled n ≡ true) × (on waiting n ≡ false)
 linked_facts settled waiting n e = chosen (on waiting n) (is_flagged settled n) e
 
--- a number that is not on a list is not in it
+-- a number that is not found on a list is not in it
 pub not_waiting : (waiting : List ℕ) (n : ℕ) → on waiting n ≡ false → In n waiting → ⊥
 not_waiting waiting n e i = true≢false (sym (In-on waiting n i) ∙ e)
 
@@ -62,11 +62,11 @@ linked_where settled waiting n e out = elim (cases_Bool (on waiting n)) [
   | inr o ↦ ap (λ b. if b then false else is_flagged settled n) o ∙ e
 ]
 
--- ---- what the words of a closed name lead to is one of its steps
+-- ---- the names to which the words of a closed name lead are among its steps
 pub dead_end : ℕ → Option Key → NameFault
 dead_end t holder = Unknown [] holder
 
--- by number
+-- the names to which the words of a closed name lead, by number
 pub number_of_lead : (deck : Contents) (l : Listed) (n : ℕ) → IsClosed (table deck) (key_at l.keys n)
     → IsFaithful (table deck) l n → (k : Key) → WordsLeadTo (table deck) (key_words (table deck) (key_at l.keys n)) k
     → (m : ℕ) × (k ≡ key_at l.keys m) × In (To m) (steps l.graph n)
@@ -151,7 +151,7 @@ module _ (deck : Contents) (l m : Listed) (before here there : List ℕ) (ends m
           (not_waiting waiting n p.1),
     )
 
-    -- the edges are still theirs
+    -- the edges are still those of the settled names
     pub grown_edges : (g : NameGraph) → HasLateEdges deck l waiting g → HasLateEdges deck m waiting g
     grown_edges g edges = record {
       names = let a = edges.names in let b = more_length l.keys m.keys grown.keys_more in omega (arith, a, b);
@@ -166,18 +166,18 @@ module _ (deck : Contents) (l m : Listed) (before here there : List ℕ) (ends m
           edges.order;
     }
 
--- ---- one more is settled, and waits
+-- ---- one more name is settled, and waits
 module _ (deck : Contents) (l : Listed) (r n : ℕ) (sound : IsSound deck l r) (due : IsDue (table deck) l n) where
   fresh : IsSettled l.settled n → ⊥
   fresh s = let z : Some false ≡ Some true = sym due.fresh ∙ s in cc
 
-  -- a settled number whose key is its own is it
+  -- the key of a settled number is not that of the new name
   not_own : (m : ℕ) → IsSettled l.settled m → key_at l.keys n ≡ key_at l.keys m → ⊥
   not_own m s e =
       let same : n ≡ m = sound.numbers.apart n m due.within (settled_within deck l r sound.numbers m s) e in
       fresh (subst (IsSettled l.settled) (sym same) s)
 
-  -- no settled name leads to it, nor does it itself
+  -- neither a settled name nor the new name leads to the new name
   not_led : (m : ℕ) → IsSettled l.settled m
       → WordsLeadTo (table deck) (key_words (table deck) (key_at l.keys m)) (key_at l.keys n) → ⊥
   not_led m s w =
@@ -227,7 +227,7 @@ module _ (deck : Contents) (l : Listed) (r n : ℕ) (sound : IsSound deck l r) (
     settled_more m (inr e) =
         subst (IsSettled now) (sym e) (get_set_same l.settled n true (get_lt l.settled n false due.fresh))
 
-    -- the edges are still those of the others
+    -- the edges are still those of the other names
     pub waiting_edges : (o : Outcome) (c : Callee) → HasLateEdges deck (with_outcome n o c l) (waiting ++ n ∷ []) g
     waiting_edges o c = record {
       names = edges.names;
@@ -238,7 +238,7 @@ module _ (deck : Contents) (l : Listed) (r n : ℕ) (sound : IsSound deck l r) (
           (λ m i. not_led m (edges.settled m i)) not_self;
     }
 
--- ---- at first
+-- ---- at the start
 no_edges : (deck : Contents) → HasLateEdges deck no_names [] (record { names = 0; uses = []; looks = [] })
 no_edges deck = record {
   names = omega arith;
@@ -256,21 +256,21 @@ no_edges deck = record {
     none : (n : ℕ) → is_linked [] [] n ≡ true → ⊥
     none n e = true≢false (sym e)
 
--- without names there are the right edges
+-- without names the edges are right
 pub start_edges : (deck : Contents) (l : Listed) (waiting : List ℕ) (g : NameGraph) → l ≡ no_names → waiting ≡ []
     → g ≡ record { names = 0; uses = []; looks = [] } → HasLateEdges deck l waiting g
 start_edges deck l waiting g e w f =
     subst (λ (p : Listed × List ℕ × NameGraph). HasLateEdges deck p.0 p.1 p.2) (λ i. (sym e i, sym w i, sym f i))
     (no_edges deck)
 
--- ---- where none waits, all have their edges
+-- ---- if no name waits, all have their edges
 pub linked_of : (deck : Contents) (l : Listed) (e : LateEdges) (r : ℕ) → e.waiting.items ≡ [] → IsLive deck l e r
     → IsLinked deck l e.made r
 linked_of deck l e r none live =
     let all = subst (λ (ns : List ℕ). HasLateEdges deck l ns e.made) none live.edges in
     record { sound = live.sound; edges = record { names = all.names; are = all.are } }
 
--- and where all have theirs, none waits
+-- if all names have their edges, none waits
 pub none_waits : (deck : Contents) (l : Listed) (waiting : List ℕ) (g : NameGraph) → waiting ≡ []
     → HasEdges deck l g → HasLateEdges deck l waiting g
 none_waits deck l waiting g none edges =

@@ -1,4 +1,4 @@
--- Steps of words, one word behind another.
+-- The steps of words, word after word.
 use Rattle.std.proofs.Common.{◌≡◌, ◌+◌, ◌<◌, ℕ, true, false, List, [], ◌∷◌, ◌++◌, take, length, Option, Some, refl}
 use Rattle.std.proofs.Common.{sym, subst, inl, inr, arith, length-append}
 use Rattle.std.specs.Prelude.{Contains, IfOk, Result, Ok, Err}
@@ -24,7 +24,7 @@ use Rattle.live_table.specs.Looks.{AllLead, AreLooks}
 use Rattle.live_table.proofs.Growing.{added_both, known_within, written_more}
 use Rattle.live_table.proofs.Looking.{in_both, lead_left, lead_right, looks_behind, looks_more}
 
--- ---- one word behind others
+-- ---- one word after others
 words_behind : (t : Table) (key : ℕ → Key) (ends : ℕ → Option Key → NameFault) (us vs : List WordUse)
     (xs ys : List Step)
     → AreWords t key ends us xs → AreWords t key ends vs ys → AreWords t key ends (us ++ vs) (xs ++ ys)
@@ -34,7 +34,7 @@ words_behind t key ends (u ∷ us) vs [] ys w v = absurd w
 words_behind t key ends (u ∷ us) vs (x ∷ []) ys w v = absurd w
 words_behind t key ends (u ∷ us) vs (x ∷ y ∷ xs) ys w v = (w.0, words_behind t key ends us vs xs ys w.1 v)
 
--- steps of words behind those of others are those of all
+-- the steps of words after those of others are those of all
 pub written_behind : (t : Table) (l : Listed) (before list : List ℕ) (ends : List DeadEnd) (us vs : List WordUse)
     (xs ys : List Step)
     → AreWritten t l before list ends us xs → AreWritten t l before list ends vs ys → AreWritten t l before list ends
@@ -45,21 +45,21 @@ written_behind t l before list ends us vs xs ys a b = record {
   nowhere = λ n i. elim (in_both xs ys (Nowhere n) i) [ inl j ↦ a.nowhere n j | inr j ↦ b.nowhere n j ];
 }
 
--- no words have no steps
+-- without words there are no steps
 pub written_none : (t : Table) (l : Listed) (before list : List ℕ) (ends : List DeadEnd) (xs : List Step) → xs ≡ []
     → AreWritten t l before list ends [] xs
 written_none t l before list ends xs e =
     subst (AreWritten t l before list ends []) (sym e)
     (record { words = tt; targets = λ n i. absurd i; nowhere = λ n i. absurd i })
 
--- ---- where the loop over words stands
+-- ---- the state of the loop over words
 pub record IsPutting (t : Table) (old now : Listed) (before here list : List ℕ) (ends more : List DeadEnd)
     (gathered : List ℕ) (us : List WordUse) (xs : List Step) (i : ℕ) : Type 0 where
   pub added : AreAdded t old now before here list ends more
   pub written : AreWritten t now before list more (take i us) xs
   pub looks : AllLead xs → AreLooks t now.keys (take i us) xs gathered
 
--- the steps of the next word go behind those before it
+-- the steps of the next word are appended
 pub putting_next : (t : Table) (old now m : Listed) (before here list there : List ℕ) (ends more most : List DeadEnd)
     (first next : List ℕ) (us : List WordUse) (xs ys : List Step) (i : ℕ) (u : WordUse)
     → slice_get us i ≡ Some u → IsPutting t old now before here list ends more first us xs i
@@ -172,7 +172,7 @@ pub first_present : (t : Table) (u : WordUse) (k l : Key) → targets t u ≡ k 
 first_present t u k l e =
     target_present t u k (subst (λ (ks : List Key). Contains ks k) (sym e) (member_first k k (l ∷ []) refl))
 
--- so is the second
+-- the second of two targets is present
 pub second_present : (t : Table) (u : WordUse) (k l : Key) → targets t u ≡ k ∷ l ∷ [] → is_present t l ≡ true
 second_present t u k l e =
     target_present t u l (subst (λ (ks : List Key). Contains ks l) (sym e)

@@ -1,4 +1,4 @@
--- What queries answer.
+-- The results of queries.
 use Rattle.std.specs.Prelude.{◌≡◌, ◌⊎◌, ℕ, List, Option, Some, None, Result, Ok, Err}
 use Rattle.expr_tree.specs.Syntax.{Syntax}
 use Rattle.expr_tree.specs.Words.{words_in}
@@ -15,27 +15,32 @@ use Rattle.table_names.specs.Meanings.{expansion, key_meaning}
 use Rattle.live_table.specs.declared.fault.QueryFault.{QueryFault}
 use Rattle.live_table.specs.declared.fault.QueryFault.TheVariants.{Name, Value, OutOfMemory}
 
--- the name fault where there is one, and else the value or its first fault
+-- the name fault if there is one, and else the value or its first fault
 abbrev pub by_names : Option NameFault → Worth → Result Amount QueryFault
 by_names (Some fault) worth = Err (Name fault)
 by_names None (Ok q) = Ok q
 by_names None (Err fault) = Err (Value fault)
 
--- what a tree is worth
+-- the result of a query of a tree
 abbrev pub answer : Table → Syntax → Result Amount QueryFault
 answer table e = by_names (name_fault table (words_in e)) (value (expansion table e) None)
 
--- the inverse of what a function key stands for; of anything else there is none
+-- the inverse of a key that is a function; any other key has none
 abbrev pub inverse_at : Meaning → Amount → Worth
 inverse_at (Callee f) b = unapplied f b
 inverse_at (One x) b = Ok one
 inverse_at (Two x y) b = Ok one
 
--- the inverse of the function of this name
+-- the inverse of the function with this name
 abbrev pub inverse_answer : Table → List ℕ → Amount → Result Amount QueryFault
 inverse_answer table name b =
     by_names (key_fault table (key kind.Func name)) (inverse_at (key_meaning table (key kind.Func name)) b)
 
--- this answer, or want of memory
+-- the result is this one, or memory ran out
 abbrev pub Answers : Result Amount QueryFault → Result Amount QueryFault → Type 0
 Answers result answer = (result ≡ Err OutOfMemory) ⊎ (result ≡ answer)
+
+-- the value of a result, or `None` if it is a fault
+abbrev pub value_in : Result Amount QueryFault → Option Amount
+value_in (Ok x) = Some x
+value_in (Err fault) = None

@@ -1,4 +1,4 @@
--- What asking for names does to a live table.
+-- The effects of queries on a live table.
 use Rattle.std.specs.Prelude.{◌≡◌, ◌⊎◌, ◌+◌, ◌^◌, ◌-◌, ◌≤◌, ℕ, min, List, [], ◌∷◌, map, take, length, Option, Some}
 use Rattle.std.specs.Prelude.{None, MatchOption, Result, Ok, Err, option_map}
 use Rattle.std.specs.declared.alloc.AllocError.{AllocError}
@@ -20,7 +20,7 @@ use Rattle.live_table.specs.Stored.{Listed, key_at}
 use Rattle.live_table.specs.Shown.{Follows, IsCutOff, Shown}
 use Rattle.live_table.specs.States.{AsksKey, Event, with_outcomes}
 
--- the outcome of each key put in, and that many counted
+-- the outcome of each key added, and as many reductions counted
 abbrev pub put_in : Shown → List Key → Shown
 put_in s keys = record {
   deck = s.deck;
@@ -28,12 +28,12 @@ put_in s keys = record {
   reductions = min (2 ^ 64 - 1) (s.reductions + length keys);
 }
 
--- all keys of a walk's order are settled, each with one step
+-- all keys in the order of a walk are settled, each with one step
 pub record AreAllSettled (keys : List Key) (before now : Shown) (old new : ℕ) : Type 0 where
   pub shown : now ≡ put_in before keys
   pub steps : new ≡ old + length keys
 
--- the first of them are settled, each with one step, and perhaps one step was taken for the next
+-- the first of the keys are settled, each with one step, and perhaps one step was taken for the next
 pub record AreSomeSettled (keys : List Key) (before now : Shown) (old new : ℕ) : Type 0 where
   pub count : ℕ
   pub within : count ≤ length keys
@@ -41,12 +41,13 @@ pub record AreSomeSettled (keys : List Key) (before now : Shown) (old new : ℕ)
   pub least : old + count ≤ new
   pub most : new ≤ old + length keys
 
--- all, or some and then want of memory
+-- all keys are settled, or some of them were settled before memory ran out
 abbrev pub AreSettledBy : List Key → Result (Unit {0}) AllocError → Shown → Shown → ℕ → ℕ → Type 0
 AreSettledBy keys (Ok _) before now old new = AreAllSettled keys before now old new
 AreSettledBy keys (Err _) before now old new = AreSomeSettled keys before now old new
 
--- names were asked for that have this name fault: none, and they are settled; or it; or want of memory
+-- a query of names with this name fault: without a fault they are settled; else the result is the fault; or memory ran
+-- out
 abbrev pub IsAsked : {A : Type 0} → Event → Option NameFault → (A → Type 0) → Result A QueryFault → Shown → Shown → ℕ
     → ℕ → Type 0
 IsAsked event fault Given (Ok x) before now old new = (fault ≡ None) × Given x × Follows (event ∷ []) before now old new
@@ -54,11 +55,11 @@ IsAsked event fault Given (Err (Name f)) before now old new = (fault ≡ Some f)
 IsAsked event fault Given (Err (Value _)) before now old new = ⊥
 IsAsked event fault Given (Err OutOfMemory) before now old new = IsCutOff (event ∷ []) before now old new
 
--- a settled key has this number
+-- a settled key with this number
 abbrev pub IsSettledKey : Listed → Key → ℕ → Type 0
 IsSettledKey l key n = (key ≡ key_at l.keys n) × IsSettled l.settled n
 
--- a key was asked for
+-- a query of a key
 abbrev pub IsKeyAsked : Key → Listed → Result ℕ QueryFault → Shown → Shown → ℕ → ℕ → Type 0
 IsKeyAsked key l result before now old new =
     IsAsked (AsksKey key) (key_fault (table before.deck) key) (IsSettledKey l key) result before now old new
@@ -75,11 +76,6 @@ pub record IsFaulty (table : Table) (l : Listed) (ends : List DeadEnd) (query : 
     pub some : walk.fault l.graph [] query ≡ Some fault
     pub by_name : f ≡ named table (key_at l.keys) (fault_at ends) fault
 
--- the walk of a query: the order of the names that it newly closes, or its first fault by name
-abbrev pub IsWalkedByName : Table → Listed → List DeadEnd → List Step → List ℕ → Option NameFault → Type 0
-IsWalkedByName table l ends query order fault =
-    MatchOption fault (IsClosing l query order) (IsFaulty table l ends query)
-
 -- the first fault of a query, by name
 abbrev pub fault_in : Table → Listed → List DeadEnd → List Step → Option NameFault
 fault_in table l ends query = option_map (named table (key_at l.keys) (fault_at ends)) (walk.fault l.graph [] query)
@@ -89,7 +85,7 @@ pub record IsStill (before now : Shown) (old new : ℕ) : Type 0 where
   pub shown : now ≡ before
   pub steps : new ≡ old
 
--- a query by number: the names that it newly closes are settled; or it has a fault; or want of memory
+-- a query by number: the names that it newly closes are settled; or it has a fault; or memory ran out
 abbrev pub IsAnswered : Table → Listed → List DeadEnd → List Step → Result (Unit {0}) QueryFault → Shown → Shown → ℕ → ℕ
     → Type 0
 IsAnswered table l ends query (Ok _) before now old new =

@@ -1,4 +1,4 @@
--- Lists of calls of one live table, and the outcomes that they leave kept. Each call is described by its contract.
+-- Lists of calls of one live table, and the outcomes that they leave stored. Each call is described by its contract.
 use Rattle.std.specs.Prelude.{◌≡◌, ◌↔◌, ⊤, ℕ, Bool, true, false, List, [], ◌∷◌, ◌++◌, Some, Result, Ok, Err}
 use Rattle.std.specs.FinMap as map_of
 use Rattle.std.specs.declared.alloc.AllocError.{AllocError}
@@ -22,8 +22,8 @@ use Rattle.live_table.specs.Right.{IsSettled}
 use Rattle.live_table.specs.Shown.{Follows, IsRightTable, Shown, state}
 use Rattle.live_table.specs.States.{AsksKey, AsksWords, Becomes, CanBe, Event, State}
 
--- a call of a live table, with its result: `value` of an expression, `unapply` of a function, `settle_all`, or any edit,
--- accepted or refused
+-- a call of a live table, with its result: `value` of an expression, `unapply` of a function, `settle_all`, or any
+-- edit, accepted or refused
 pub data Call : Type 0 where
   Value : Syntax → Result Amount QueryFault → Call
   Unapply : List ℕ → Result Amount QueryFault → Call
@@ -57,7 +57,7 @@ is_complete (SettleAll (Err x)) = false
 is_complete AcceptedEdit = true
 is_complete RefusedEdit = true
 
--- the events that a call stands for
+-- the events that a call represents
 abbrev pub events_in : Call → Shown → Shown → List Event
 events_in (Value e result) before after = AsksWords (words_in e) ∷ []
 events_in (Unapply name result) before after = AsksKey (key kind.Func name) ∷ []
@@ -76,12 +76,12 @@ abbrev pub AreCalls : List MadeCall → Shown → ℕ → Type 0
 AreCalls [] s n = ⊤
 AreCalls (d ∷ ds) s n = IsCall d.call s d.shown n d.steps × AreCalls ds d.shown d.steps
 
--- memory sufficed for all of them
+-- memory sufficed for all calls
 abbrev pub AllComplete : List MadeCall → Type 0
 AllComplete [] = ⊤
 AllComplete (d ∷ ds) = (is_complete d.call ≡ true) × AllComplete ds
 
--- the table after all of them, and the count of steps
+-- the table after all calls, and the count of steps
 abbrev pub last_shown : List MadeCall → Shown → Shown
 last_shown [] s = s
 last_shown (d ∷ ds) s = last_shown ds d.shown
@@ -90,13 +90,13 @@ abbrev pub last_steps : List MadeCall → ℕ → ℕ
 last_steps [] n = n
 last_steps (d ∷ ds) n = last_steps ds d.steps
 
--- the events that they stand for
+-- the events that the calls represent
 abbrev pub all_events : List MadeCall → Shown → List Event
 all_events [] s = []
 all_events (d ∷ ds) s = events_in d.call s d.shown ++ all_events ds d.shown
 
--- after these calls a name is kept exactly if it was kept before or a query reached it, and no later edit affected it;
--- its outcome is that of the present table
+-- after these calls a name is stored exactly if it was stored before or a query reached it, and no later edit affected
+-- it; its outcome is that of the present table
 pub record IsKeptSince (ds : List MadeCall) (s : Shown) (n : ℕ) : Type 0 where
   pub follows : Follows (all_events ds s) s (last_shown ds s) n (last_steps ds n)
   pub names : (k : Key) → IsSettled (state (last_shown ds s) 0) k
@@ -104,7 +104,7 @@ pub record IsKeptSince (ds : List MadeCall) (s : Shown) (n : ℕ) : Type 0 where
   pub outcomes : (k : Key) (o : Outcome) → map_of.get (last_shown ds s).kept k ≡ Some o
       → o ≡ outcome (table (last_shown ds s).deck) k
 
--- law: an edit from any deck to any other is an event that can be, whatever is kept
+-- law: an edit from any deck to any other is a possible event, whatever names are stored
 abbrev pub EditsCanBeLaw : Type 0
 EditsCanBeLaw = (before after : Contents) (s : State) → s.table ≡ table before → CanBe (Becomes (table after)) s
 
@@ -112,8 +112,8 @@ EditsCanBeLaw = (before after : Contents) (s : State) → s.table ≡ table befo
 abbrev pub DeckKindsLaw : Type 0
 DeckKindsLaw = (deck : Contents) → FitsKinds (table deck)
 
--- law: after any calls every kept outcome is right. If memory sufficed for all of them, exactly the names that they
--- reached and did not affect later are kept
+-- law: after any calls every stored outcome is right. If memory sufficed for all calls, the stored names are exactly
+-- those that the calls reached and no later call affected
 pub record CallListLaw : Type 0 where
   pub right : (ds : List MadeCall) (s : Shown) (n : ℕ) → IsRightTable s → AreCalls ds s n → IsRightTable (last_shown ds s)
   pub kept : (ds : List MadeCall) (s : Shown) (n : ℕ) → IsRightTable s → AreCalls ds s n → AllComplete ds → IsKeptSince ds s n

@@ -1,4 +1,4 @@
--- What is kept of a function beside its entry.
+-- The data that are stored of a function besides its entry.
 use Rattle.std.specs.Prelude.{◌≡◌, ◌+◌, ℕ, List, Some, length}
 use Rattle.def_entry.specs.Entries as what
 use Rattle.def_entry.specs.Entries.{Entry, What}
@@ -14,8 +14,8 @@ use Rattle.live_table.specs.declared.callee.Callee.{Callee}
 use Rattle.live_table.specs.declared.callee.PartStarts.{PartStarts}
 use Rattle.table_names.specs.Words.{key_words, what_words}
 
--- where the words of a tree begin among those of its entry: the in unit, the out unit, the forward tree and
--- the inverse stand behind one another, any other tree stands alone
+-- the place at which the words of a tree begin among those of its entry: the in unit, the out unit, the forward tree
+-- and the inverse follow one another; any other tree is the only one
 abbrev pub start_of : What → Part → ℕ
 start_of (what.Function d) part.OutUnit = length (words_if d.in_unit)
 start_of (what.Function d) part.Forward = length (words_if d.in_unit) + length (words_if d.out_unit)
@@ -23,27 +23,27 @@ start_of (what.Function d) part.Inverse =
     length (words_if d.in_unit) + length (words_if d.out_unit) + length (words_in d.forward)
 start_of _ _ = 0
 
--- the same as it is kept
+-- the start of a tree, as it is stored
 abbrev pub start_at : PartStarts → Part → ℕ
 start_at starts part.OutUnit = starts.out_unit
 start_at starts part.Forward = starts.forward
 start_at starts part.Inverse = starts.inverse
 start_at starts _ = 0
 
--- the trees of an entry begin there
+-- the trees of an entry begin at these starts
 abbrev pub HasStarts : What → Callee → Type 0
 HasStarts what callee = (p : Part) → start_at callee.starts p ≡ start_of what p
 
--- the rank is that of what the key stands for, 0 where that is no function
+-- the stored rank is that of the meaning of the key, or 0 if it is not a function
 abbrev pub HasRank : Meaning → Callee → Type 0
 HasRank meaning callee = callee.rank ≡ rank_of_meaning meaning
 
--- these are the words of an entry, and its trees begin there among them
+-- these are the words of an entry, and its trees begin at these starts
 pub record AreEntryWords (what : What) (us : List WordUse) (begins : PartStarts) : Type 0 where
   pub words : us ≡ what_words what
   pub starts : (p : Part) → start_at begins p ≡ start_of what p
 
--- the same of the entry of a key
+-- these are the words of the entry of a key, and its trees begin at these starts
 pub record AreKeyWords (table : Table) (k : Key) (us : List WordUse) (begins : PartStarts) : Type 0 where
   pub words : us ≡ key_words table k
   pub starts : (e : Entry) → entry_at table k ≡ Some e → (p : Part) → start_at begins p ≡ start_of e.what p

@@ -1,4 +1,4 @@
--- What the calls of a live table do to it.
+-- The effects of calls on a live table.
 use Rattle.std.specs.Prelude.{◌≡◌, ℕ, Bool, true, false, List, [], ◌∷◌, map, filter, Result, Ok, Err}
 use Rattle.std.specs.declared.alloc.AllocError.{AllocError}
 use Rattle.quantity.specs.Amount.{Amount}
@@ -14,12 +14,12 @@ use Rattle.live_table.specs.declared.fault.QueryFault.TheVariants.{OutOfMemory}
 use Rattle.live_table.specs.Shown.{Follows, IsCutOff, Shown}
 use Rattle.live_table.specs.States.{AsksKey, Becomes, Event}
 
--- a query: it was answered, or cut off by want of memory
+-- a query: it was answered, or cut off for lack of memory
 abbrev pub IsQuery : Event → Result Amount QueryFault → Shown → Shown → ℕ → ℕ → Type 0
 IsQuery event (Err OutOfMemory) before after old new = IsCutOff (event ∷ []) before after old new
 IsQuery event answer before after old new = Follows (event ∷ []) before after old new
 
--- several queries were made, one behind another, or want of memory cut them off
+-- several queries in turn, or they were cut off for lack of memory
 abbrev pub AreQueries : {A : Type 0} → List Event → Result A AllocError → Shown → Shown → ℕ → ℕ → Type 0
 AreQueries events (Ok _) before after old new = Follows events before after old new
 AreQueries events (Err _) before after old new = IsCutOff events before after old new
@@ -28,7 +28,7 @@ AreQueries events (Err _) before after old new = IsCutOff events before after ol
 abbrev pub IsEdit : Shown → Shown → Type 0
 IsEdit before after = (steps : ℕ) → Follows (Becomes (table after.deck) ∷ []) before after steps steps
 
--- a unit, a prefix or a function, and no list
+-- the kind is a unit, a prefix or a function, not a list
 abbrev pub is_name_kind : Kind → Bool
 is_name_kind kind.List = false
 is_name_kind _ = true
@@ -37,11 +37,11 @@ is_name_kind _ = true
 abbrev pub ArePresent : Table → List Key → Type 0
 ArePresent table keys = (k : Key) → is_among keys k ≡ true → is_present table k ≡ true
 
--- the units, prefixes and functions of some keys
+-- the units, prefixes and functions among some keys
 abbrev pub names_among : List Key → List Key
 names_among keys = filter (λ k. is_name_kind k.kind) keys
 
--- a query of each of them
+-- a query of each of the names among these keys
 abbrev pub queries_of : List Key → List Event
 queries_of keys = map AsksKey (names_among keys)
 
@@ -49,6 +49,6 @@ queries_of keys = map AsksKey (names_among keys)
 abbrev pub names_in : Table → List Key
 names_in table = names_among (table_keys table)
 
--- a query of each
+-- a query of each name that has an entry
 abbrev pub all_names : Table → List Event
 all_names table = queries_of (table_keys table)

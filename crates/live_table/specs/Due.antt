@@ -1,4 +1,4 @@
--- Names that are to be settled next.
+-- Names that can be settled next.
 use Rattle.std.specs.Prelude.{◌≡◌, ◌+◌, ◌<◌, ⊤, ℕ, true, false, List, [], ◌∷◌, length, Some, slice_get, slice_set}
 use Rattle.def_entry.specs.Tables.{Table, is_present}
 use Rattle.name_walk.specs.Closed.{IsSettled}
@@ -10,8 +10,8 @@ use Rattle.live_table.specs.declared.callee.Callee.{Callee}
 use Rattle.live_table.specs.Sound.{HasLooksOf, HasStartsOf, IsFaithful}
 use Rattle.live_table.specs.Stored.{Listed, key_at}
 
--- it has an entry, no name fault, the steps of its words and the keys at which they look; it is not settled, what
--- it leads to is
+-- the name has an entry, no name fault, the steps of its words and the keys at which they look; it is not settled, but
+-- the names to which it leads are
 pub record IsDue (table : Table) (l : Listed) (n : ℕ) : Type 0 where
   pub within : n < length l.keys
   pub fresh : slice_get l.settled n ≡ Some false
@@ -23,7 +23,7 @@ pub record IsDue (table : Table) (l : Listed) (n : ℕ) : Type 0 where
   pub starts : HasStartsOf table l n
   pub looks : HasLooksOf table l n
 
--- with its outcome, and what is kept of a function
+-- the nodes after a name is settled, with its outcome and the data of a function
 abbrev pub with_outcome : ℕ → Outcome → Callee → Listed → Listed
 with_outcome n o c l = record l {
   callees = slice_set l.callees n c;

@@ -24,7 +24,7 @@ pub record HasEdges (deck : Contents) (l : Listed) (g : NameGraph) : Type 0 wher
   pub names : g.names ≤ length l.keys
   pub are : AreEdges (table deck) (key_at l.keys) g.names (is_flagged l.settled) g
 
--- nodes are sound, and each settled name has its edges
+-- the nodes are sound, and each settled name has its edges
 pub record IsLinked (deck : Contents) (l : Listed) (g : NameGraph) (reductions : ℕ) : Type 0 where
   pub sound : IsSound deck l reductions
   pub edges : HasEdges deck l g
@@ -33,7 +33,7 @@ pub record IsLinked (deck : Contents) (l : Listed) (g : NameGraph) (reductions :
 abbrev pub is_linked : List Bool → List ℕ → ℕ → Bool
 is_linked settled waiting n = if on waiting n then false else is_flagged settled n
 
--- names in an order in which each stands once, behind the others to which its words lead
+-- distinct names in an order in which each comes after the other names to which its words lead
 abbrev pub AreInOrder : Table → (ℕ → Key) → List ℕ → Type 0
 AreInOrder t key [] = ⊤
 AreInOrder t key (n ∷ rest) =
@@ -47,7 +47,7 @@ pub record HasLateEdges (deck : Contents) (l : Listed) (waiting : List ℕ) (g :
   pub settled : (n : ℕ) → In n waiting → IsSettled l.settled n
   pub order : AreInOrder (table deck) (key_at l.keys) waiting
 
--- a live table is sound, and has its edges but for those that wait
+-- a live table is sound, and has its edges except those of the waiting names
 pub record IsLive (deck : Contents) (l : Listed) (e : LateEdges) (reductions : ℕ) : Type 0 where
   pub sound : IsSound deck l reductions
   pub edges : HasLateEdges deck l e.waiting.items e.made

@@ -1,4 +1,4 @@
--- Which names a few queries and edits leave kept. The expected lists were found by hand.
+-- The names that a few queries and edits leave stored. The expected lists were found by hand.
 use Rattle.std.specs.Prelude.{◌≡◌, ℕ, List, [], ◌∷◌, codes, pos}
 use Rattle.expr_tree.specs.Syntax.{Number, Word}
 use Rattle.def_entry.specs.declared.key.Key.{Key}
@@ -33,23 +33,23 @@ plain =
     ∷ (k, entry (codes "k- 2") (Body (Number (record { coefficient = 2; scale = pos 0 }))))
     ∷ (m, entry (codes "m !") Primitive) ∷ []
 
--- with `km m` added: the unit `km` is tried before the prefix `k-` and the unit `m`
+-- the lines with `km m` added: the unit `km` is tried before the prefix `k-` and the unit `m`
 abbrev pub shadowed : Table
 shadowed = (km, entry (codes "km m") (Body (Word (codes "m")))) ∷ plain
 
--- with `m c` added, which closes a cycle
+-- the lines with `m c` added, which closes a cycle
 abbrev pub cyclic : Table
 cyclic = (m, entry (codes "m c") (Body (Word (codes "c")))) ∷ plain
 
 abbrev pub asks_c : Event
 asks_c = AsksWords (alone (codes "c"))
 
--- the names that are kept after events, if none was kept before
+-- the names that are stored after events, if none was stored before
 abbrev pub kept_after : List Event → List Key
 kept_after es = each_once (kept_list es plain [])
 
 pub record EventExamples : Type 0 where
-  -- a query keeps the names that it reaches
+  -- a query stores the names that it reaches
   pub asked : kept_after (asks_c ∷ []) ≡ c ∷ k ∷ m ∷ []
   -- `km` is defined: `c` is forgotten, since its word `km` looked for that unit, although no name below `c` has changed
   pub came : kept_after (asks_c ∷ Becomes shadowed ∷ []) ≡ k ∷ m ∷ []
@@ -57,7 +57,7 @@ pub record EventExamples : Type 0 where
   pub again : kept_after (asks_c ∷ Becomes shadowed ∷ asks_c ∷ []) ≡ k ∷ c ∷ km ∷ m ∷ []
   -- the edit is undone: `c` and `km` are forgotten
   pub undone : kept_after (asks_c ∷ Becomes shadowed ∷ asks_c ∷ Becomes plain ∷ []) ≡ k ∷ m ∷ []
-  -- an edit makes a cycle: the names on it are forgotten, and a query of one keeps nothing
+  -- an edit makes a cycle: the names on it are forgotten, and a query of one of them stores nothing
   pub made : kept_after (asks_c ∷ Becomes cyclic ∷ asks_c ∷ []) ≡ k ∷ []
-  -- the cycle is broken, and the query keeps all three names again
+  -- the cycle is broken, and the query stores all three names again
   pub broken : kept_after (asks_c ∷ Becomes cyclic ∷ asks_c ∷ Becomes plain ∷ asks_c ∷ []) ≡ c ∷ k ∷ m ∷ []

@@ -1,4 +1,4 @@
--- What is known of the names below a query before it is walked.
+-- The facts known about the names below a query before it is walked.
 use Rattle.std.specs.Prelude.{◌≡◌, ℕ, true, Bool, if◌then◌else◌, List, Option, Some, None, [], slice_get}
 use Rattle.def_entry.specs.declared.key.Key.{Key}
 use Rattle.def_entry.specs.Tables.{Table}
@@ -9,7 +9,7 @@ use Rattle.live_table.specs.declared.dead_end.DeadEnd.{DeadEnd}
 use Rattle.live_table.specs.Sound.{HasLooksIfLed, HasStartsOf}
 use Rattle.live_table.specs.Stored.{Listed, key_at}
 
--- the fault of a word that leads nowhere, by the key in whose entry it stands
+-- the fault of a word that leads nowhere, by the key whose entry contains it
 abbrev pub fault_of : Option DeadEnd → Option Key → NameFault
 fault_of None holder = Unknown [] holder
 fault_of (Some word) holder = if word.is_refused then Refused word.text holder else Unknown word.text holder

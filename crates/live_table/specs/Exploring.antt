@@ -1,5 +1,5 @@
--- Where an exploring of names stands: names that are still to be gone through are on an agenda. Those that were
--- explored before, and of which nothing has changed since, are not gone through again.
+-- The state of an exploration: the names that are still to be processed are on an agenda. Names that were explored
+-- before and have not changed since are not processed again.
 use Rattle.std.specs.Prelude.{◌≡◌, ◌⊎◌, ◌||◌, ◌++◌, ◌∷◌, [], ◌<◌, ℕ, Bool, true, false, List, length, Option, Some}
 use Rattle.std.specs.Prelude.{None, Vec, nat_eq, slice_get, slice_set}
 use Rattle.std.specs.declared.alloc.Global.{Global}
@@ -23,7 +23,7 @@ use Rattle.live_table.specs.Looks.{AllLead, AreLooksPut}
 use Rattle.live_table.specs.Sound.{AreNodes, HasLooksIfLed, HasStartsOf}
 use Rattle.live_table.specs.Stored.{Listed, kept_of, key_at, looks_of}
 
--- numbers of names that have an entry, are not settled and were not explored before, each once
+-- distinct numbers of names that have an entry, are not settled and were not explored before
 pub record AreListed (table : Table) (l : Listed) (before list : List ℕ) : Type 0 where
   pub gone : (n : ℕ) → In n before → n < length l.keys
   pub within : (n : ℕ) → In n list → n < length l.keys
@@ -32,11 +32,11 @@ pub record AreListed (table : Table) (l : Listed) (before list : List ℕ) : Typ
   pub present : (n : ℕ) → In n list → is_present table (key_at l.keys n) ≡ true
   pub once : IsDistinct nat_eq list
 
--- what stands in the one stands in the other at its place
+-- the first list is an initial part of the second
 abbrev pub IsMore : {A : Type 0} → List A → List A → Type 0
 IsMore {A} xs ys = (i : ℕ) (x : A) → slice_get xs i ≡ Some x → slice_get ys i ≡ Some x
 
--- names, listed numbers and dead ends are added, and of the settled names the same is kept
+-- names, listed numbers and dead ends are added, and the data of the settled names do not change
 pub record AreGrown (table : Table) (l m : Listed) (before here there : List ℕ) (ends more : List DeadEnd) : Type 0
   where
     pub nodes : AreNodes table m
@@ -47,23 +47,23 @@ pub record AreGrown (table : Table) (l m : Listed) (before here there : List ℕ
     pub list_more : IsMore here there
     pub ends_more : IsMore ends more
 
--- the names before have the same steps and looks, but perhaps one
+-- the previous names for which `Other` holds have the same steps, callees and looks
 pub record AreSame (Other : ℕ → Type 0) (l m : Listed) : Type 0 where
   pub steps : (n : ℕ) → n < length l.keys → Other n → steps m.graph n ≡ steps l.graph n
   pub callees : (n : ℕ) → n < length l.keys → Other n → slice_get m.callees n ≡ slice_get l.callees n
   pub looks : (n : ℕ) → n < length l.keys → Other n → looks_of m.looks n ≡ looks_of l.looks n
 
--- they are added, and nothing else changes
+-- names, listed numbers and dead ends are added, and nothing else changes
 pub record AreAdded (table : Table) (l m : Listed) (before here there : List ℕ) (ends more : List DeadEnd) : Type 0
   where
     pub grown : AreGrown table l m before here there ends more
     pub same : AreSame (λ _. Unit {0}) l m
 
--- settled, or explored before, or listed
+-- the name is settled, was explored before, or is listed
 abbrev pub IsKnown : Listed → (before list : List ℕ) → ℕ → Type 0
 IsKnown l before list n = IsSettled l.settled n ⊎ (In n before ⊎ In n list)
 
--- the same, computed
+-- the computed form of `IsKnown`
 abbrev pub is_marked : Option Bool → Bool
 is_marked None = false
 is_marked (Some b) = b
@@ -78,7 +78,7 @@ pub record AreWritten (table : Table) (l : Listed) (before list : List ℕ) (end
   pub targets : (n : ℕ) → In (To n) xs → IsKnown l before list n
   pub nowhere : (t : ℕ) → In (Nowhere t) xs → t < length ends
 
--- behind other steps those of one more word, whose looks are put in
+-- the steps of one more word are appended, and its looks are added
 pub record AreWrittenBehind (table : Table) (l : Listed) (before list : List ℕ) (ends : List DeadEnd)
     (old new : List ℕ) (u : WordUse) (xs ys : List Step) : Type 0 where
   pub own : List Step
@@ -86,31 +86,32 @@ pub record AreWrittenBehind (table : Table) (l : Listed) (before list : List ℕ
   pub written : AreWritten table l before list ends (u ∷ []) own
   pub looks : AllLead own → AreLooksPut table l.keys u own old new
 
--- the steps of a number are those of its words, and where all lead somewhere so are the keys at which they look
+-- the steps of a number are those of its words, and if all of them lead somewhere, its looks are the keys at which its
+-- words look
 pub record IsWritten (table : Table) (l : Listed) (before list : List ℕ) (ends : List DeadEnd) (n : ℕ) : Type 0 where
   pub steps : AreWritten table l before list ends (key_words table (key_at l.keys n)) (steps l.graph n)
   pub starts : HasStartsOf table l n
   pub looks : HasLooksIfLed table l n
 
--- names that were explored before: they have an entry and their steps, and what these lead to is settled or explored
--- too
+-- names that were explored before: they have an entry and their steps, and the names to which these lead are settled or
+-- explored too
 pub record WereExplored (table : Table) (l : Listed) (before : List ℕ) (ends : List DeadEnd) : Type 0 where
   pub within : (n : ℕ) → In n before → n < length l.keys
   pub present : (n : ℕ) → In n before → is_present table (key_at l.keys n) ≡ true
   pub written : (n : ℕ) → In n before → IsWritten table l before [] ends n
 
--- names that were explored before are so still
+-- names that were explored before still are
 abbrev pub StayExplored : Table → Listed → Listed → Type 0
 StayExplored table l m =
     (before : List ℕ) (ends : List DeadEnd) → WereExplored table l before ends → WereExplored table m before ends
 
--- all below a query is explored: what was before, and what is on the agenda
+-- all names below a query are explored: those from before, and those on the agenda
 pub record AreAllExplored (table : Table) (l : Listed) (before list : List ℕ) (ends : List DeadEnd) : Type 0 where
   pub listed : AreListed table l before list
   pub explored : WereExplored table l before ends
   pub written : (n : ℕ) → In n list → IsWritten table l before list ends n
 
--- one more name, with no steps yet
+-- the nodes with one more name, which is not settled
 abbrev pub with_name : Key → Bool → Callee → SmallVec Step → Vec ℕ Global → Listed → Listed
 with_name k b c v w l = record {
   keys = l.keys ++ k ∷ [];
@@ -131,7 +132,7 @@ pub record IsNamed (k : Key) (b : Bool) (l m : Listed) : Type 0 where
   pub no_looks : looks.items ≡ []
   pub named : m ≡ with_name k b callee steps looks l
 
--- other steps and looks of one name, with where its trees begin
+-- the nodes with other steps and looks of one name, and with the starts of its trees
 abbrev pub with_steps : ℕ → Callee → SmallVec Step → Vec ℕ Global → Listed → Listed
 with_steps n c v w l = record l {
   callees = slice_set l.callees n c;

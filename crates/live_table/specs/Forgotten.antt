@@ -1,4 +1,4 @@
--- What is left of nodes and edges where keys have changed.
+-- The nodes and edges that are left after keys have changed.
 use Rattle.std.specs.Prelude.{◌≡◌, ◌<◌, ◌≤◌, ℕ, List, Some, length, slice_get, Contains}
 use Rattle.def_entry.specs.declared.key.Key.{Key}
 use Rattle.def_entry.specs.Tables.{Table, is_present}
@@ -10,7 +10,7 @@ use Rattle.live_table.specs.Edged.{is_flagged}
 use Rattle.live_table.specs.Keeping.{IsLeft}
 use Rattle.live_table.specs.Stored.{Listed, key_at}
 
--- whether keys have an entry is known anew of the changed ones
+-- the flags say of the changed keys whether they have an entry now
 pub record AreFlaggedAnew (t : Table) (keys : List Key) (l m : Listed) : Type 0 where
   pub count : length m.present ≡ length l.present
   pub changed : (n : ℕ) → n < length l.keys → Contains keys (key_at l.keys n)
@@ -18,14 +18,14 @@ pub record AreFlaggedAnew (t : Table) (keys : List Key) (l m : Listed) : Type 0 
   pub others : (n : ℕ) → n < length l.keys → (Contains keys (key_at l.keys n) → ⊥)
       → slice_get m.present n ≡ slice_get l.present n
 
--- what has no part in it
+-- the parts of the nodes that do not change
 pub record IsRest (l m : Listed) : Type 0 where
   pub keys : m.keys ≡ l.keys
   pub callees : m.callees ≡ l.callees
   pub graph : m.graph ≡ l.graph
   pub looks : m.looks ≡ l.looks
 
--- what a change of these keys affects is forgotten, and nothing else
+-- the names that a change of these keys affects are forgotten, and no others
 pub record AreForgotten (t : Table) (keys : List Key) (l m : Listed) (g h : NameGraph) : Type 0 where
   pub numbers : List ℕ
   pub of : AreNumbersOf (key_at l.keys) g.names keys numbers
@@ -35,7 +35,7 @@ pub record AreForgotten (t : Table) (keys : List Key) (l m : Listed) (g h : Name
   pub present : AreFlaggedAnew t keys l m
   pub rest : IsRest l m
 
--- what that needs: keys of different numbers differ, each has a flag, and no edge leads beyond them
+-- the precondition of forgetting: keys of different numbers differ, each has a flag, and no edge leads beyond them
 pub record CanForget (l : Listed) (g : NameGraph) : Type 0 where
   pub apart : (n m : ℕ) → n < length l.keys → m < length l.keys → key_at l.keys n ≡ key_at l.keys m → n ≡ m
   pub flags : length l.present ≡ length l.keys

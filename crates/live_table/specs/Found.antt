@@ -1,4 +1,4 @@
--- What the entries of names say, found once and used again.
+-- The definitions of names, found once and used again.
 use Rattle.std.specs.Prelude.{◌≡◌, ℕ, List, Some, slice_get}
 use Rattle.std.specs.Borrow.{Bor}
 use Rattle.def_entry.specs.declared.key.Key.{Key}
@@ -8,11 +8,11 @@ use Rattle.def_entry.specs.Tables.{Table, entry_at}
 use Rattle.def_entry.specs.Views.{what_view}
 use Rattle.live_table.specs.Stored.{key_at}
 
--- the key has an entry, which says this
+-- the key has an entry with this definition
 abbrev pub Says : Table → Key → What → Type 0
 Says table k what = (e : Entry) × (entry_at table k ≡ Some e) × (e.what ≡ what)
 
--- what was found at the place of a number is what the entry of its key says
+-- the definition at the place of a number is that of its key
 abbrev pub AreFound : Table → List Key → (numbers : List ℕ) → List (Bor MadeWhat) → Type 0
 AreFound table keys numbers found =
     (i n : ℕ) (what : Bor MadeWhat) → slice_get numbers i ≡ Some n → slice_get found i ≡ Some what

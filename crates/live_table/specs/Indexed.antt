@@ -1,4 +1,4 @@
--- What an index of keys holds.
+-- The contents of an index of keys.
 use Rattle.smallvec.specs.SmallVec.{SmallVec}
 use Rattle.std.specs.Prelude.{◌≡◌, ◌≤◌, ◌++◌, ◌∷◌, ℕ, Bool, false, List, [], map, length, Some, MatchBool, slice_get}
 use Rattle.def_entry.specs.declared.key.Key.{Key}
@@ -7,11 +7,11 @@ use Rattle.def_entry.specs.KeyOrder.{kind_at, kind_number}
 use Rattle.def_entry.specs.Keys.{key}
 use Rattle.def_entry.specs.SameKeys.{is_among}
 
--- a key as bytes: the number of its kind, and its name
+-- a key in the form of bytes: the number of its kind, then its name
 abbrev pub stored : Key → List ℕ
 stored k = kind_number k.kind ∷ k.name
 
--- the key that bytes are
+-- the key that these bytes encode
 abbrev pub key_in : List ℕ → Key
 key_in [] = key kind.Unit []
 key_in (byte ∷ name) = key (kind_at byte) name
@@ -20,11 +20,11 @@ key_in (byte ∷ name) = key (kind_at byte) name
 abbrev pub keys_in : List (SmallVec ℕ) → List Key
 keys_in held = map (λ bytes. key_in bytes.items) held
 
--- bytes are a key, and take no more than so much room
+-- the bytes encode a key, and take no more than this room
 abbrev pub IsStored : ℕ → SmallVec ℕ → Type 0
 IsStored room bytes = (stored (key_in bytes.items) ≡ bytes.items) × (length bytes.items ≤ room)
 
--- a key has a number, the next where it had none
+-- a key has a number, the next one if it had none
 pub record IsAdded (k : Key) (old new : List Key) (n : ℕ) (is_new : Bool) : Type 0 where
   pub number : slice_get new n ≡ Some k
   pub keys : MatchBool is_new ((is_among old k ≡ false) × (new ≡ old ++ k ∷ [])) (new ≡ old)

@@ -1,11 +1,10 @@
--- What is left of kept outcomes where some names are forgotten.
+-- The outcomes that are left after some names are forgotten.
 use mathlib.Core.Path.{refl, ◌∙◌}
 use Rattle.std.specs.Prelude.{◌≡◌, ℕ, Bool, List, Option, Some, map, length, count_by, slice_get}
 use Rattle.std.specs.Option.{is_some}
 use Rattle.tree_eval.specs.declared.outcome.Outcome.{Outcome}
 
--- no number is gone, the settled names are counted, an outcome stands where a name is settled, and none is another
--- than before
+-- all numbers remain, the count is that of the settled names, each settled name has an outcome, and no outcome is new
 pub record IsLeft (settled still : List Bool) (count rest : ℕ) (old new : List (Option Outcome)) : Type 0 where
   pub size : length still ≡ length settled
   pub outcome_count : length new ≡ length old

@@ -1,4 +1,4 @@
--- The kept names as a list, which can be computed for a given table.
+-- The stored names as a list, which can be computed for a given table.
 use Rattle.std.specs.Prelude.{◌↔◌, not, List, [], ◌∷◌, ◌++◌, Contains, is_none, if◌then◌else◌}
 use Rattle.std.specs.List.{filter}
 use Rattle.def_entry.specs.declared.key.Key.{Key}
@@ -17,7 +17,7 @@ kept_by (AsksWords words) table keys = if is_none (name_fault table words) then 
 kept_by (AsksKey k) table keys = if is_none (key_fault table k) then keys ++ k ∷ key_reach table k else keys
 kept_by (Becomes later) table keys = filter (λ n. not (is_affected table (changed_keys table later) n)) keys
 
--- events one after another
+-- the list after events in turn
 abbrev pub kept_list : List Event → Table → List Key → List Key
 kept_list [] table keys = keys
 kept_list (e ∷ es) table keys = kept_list es (table_after e table) (kept_by e table keys)

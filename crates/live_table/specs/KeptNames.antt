@@ -1,4 +1,4 @@
--- Which names are kept after queries and edits, and what is kept of them.
+-- The names and outcomes that are stored after queries and edits.
 use Rattle.std.specs.Prelude.{◌≡◌, ◌⊎◌, ◌↔◌, List, [], ◌∷◌, Some}
 use Rattle.std.specs.FinMap as map_of
 use Rattle.def_entry.specs.declared.key.Key.{Key}
@@ -18,23 +18,23 @@ table_after (Becomes later) table = later
 table_after (AsksWords words) table = table
 table_after (AsksKey k) table = table
 
--- a query without a name fault adds what it reaches, and an edit takes out what it affects
+-- a query without a name fault adds the names that it reaches, and an edit removes the names that it affects
 abbrev pub IsKeptBy : Event → Table → (Key → Type 0) → Key → Type 0
 IsKeptBy (AsksWords words) table Kept n = Kept n ⊎ (AreClosed table words × WordsReach table words n)
 IsKeptBy (AsksKey k) table Kept n = Kept n ⊎ (IsClosed table k × ((n ≡ k) ⊎ Reaches table k n))
 IsKeptBy (Becomes later) table Kept n = Kept n × (IsAffected table (changed_keys table later) n → ⊥)
 
--- one event after another, from a table of which some names are kept
+-- events in turn, from a table in which some names are stored
 abbrev pub IsKeptByAll : List Event → Table → (Key → Type 0) → Key → Type 0
 IsKeptByAll [] table Kept = Kept
 IsKeptByAll (e ∷ es) table Kept = IsKeptByAll es (table_after e table) (IsKeptBy e table Kept)
 
--- after these events exactly those names are kept, each with its outcome in the present table
+-- after these events exactly those names are stored, each with its outcome in the present table
 pub record KeptAfter (es : List Event) (s : State) : Type 0 where
   pub names : (n : Key) → IsSettled (after_all es s) n ↔ IsKeptByAll es s.table (IsSettled s) n
   pub outcomes : (n : Key) (o : Outcome) → map_of.get (after_all es s).kept n ≡ Some o
       → o ≡ outcome (after_all es s).table n
 
--- law: so it is after any queries and edits
+-- law: `KeptAfter` holds after any queries and edits
 abbrev pub KeptLaw : Type 0
 KeptLaw = (es : List Event) (s : State) → AllCanBe es s → IsRight s → KeptAfter es s

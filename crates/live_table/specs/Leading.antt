@@ -1,4 +1,4 @@
--- What a word leads to, and the keys at which it looks, by number.
+-- The targets of a word and the keys at which it looks, by number.
 use Rattle.std.specs.Prelude.{◌≡◌, ◌⊎◌, ◌↔◌, ◌<◌, ℕ, true, false, List, [], ◌∷◌, length, map, Contains, Option, Some}
 use Rattle.std.specs.Prelude.{Bool, None}
 use Rattle.expr_tree.specs.declared.word_list.WordUse.{WordUse}
@@ -20,18 +20,18 @@ numbers Nowhere = []
 numbers (One n) = n ∷ []
 numbers (Two n m) = n ∷ m ∷ []
 
--- it is a refused name
+-- the lead is a refused name
 abbrev pub is_refused_lead : Lead → Bool
 is_refused_lead Refused = true
 is_refused_lead lead = false
 
--- the steps to the targets: to the one and there again, or to the prefix and to the unit
+-- the steps to the targets: twice to the only one, or to the prefix and to the unit
 abbrev pub steps_to : Lead → Option WordSteps
 steps_to (One n) = Some (record { first = To n; second = To n })
 steps_to (Two n m) = Some (record { first = To n; second = To m })
 steps_to lead = None
 
--- these are the numbers of the targets of a word, and those of the other keys at which it looks are put in
+-- these are the numbers of the targets of a word, and those of the other keys at which it looks are added
 pub record AreTargets (table : Table) (keys : List Key) (u : WordUse) (ns old new : List ℕ) : Type 0 where
   pub targets : targets table u ≡ map (key_at keys) ns
   pub inside : (m : ℕ) → In m ns → m < length keys

@@ -16,6 +16,7 @@ pub mod Indexed
 pub mod Keeping
 pub mod KeptLists
 pub mod KeptNames
+pub mod KnownFaults
 pub mod Leading
 pub mod Looks
 pub mod New
@@ -28,6 +29,7 @@ pub mod Scenes
 pub mod Shown
 pub mod Sound
 pub mod States
+pub mod Stops
 pub mod Stored
 pub mod Surrounded
 pub mod TriedKeys

@@ -13,16 +13,16 @@ use Rattle.live_table.specs.Stored.{key_at}
 abbrev pub WordsLookAt : Table → List WordUse → Key → Type 0
 WordsLookAt table us k = (u : WordUse) × Contains us u × Contains (looked_keys table u) k
 
--- the key is that of a target in steps, or of one of these numbers
+-- the key is that of a target of these steps, or of one of these numbers
 abbrev pub IsSeen : List Key → List Step → List ℕ → Key → Type 0
 IsSeen keys xs ns k = (m : ℕ) × (In (To m) xs ⊎ In m ns) × (k ≡ key_at keys m)
 
--- the keys at which words look are those of the targets in their steps and those of these numbers
+-- the keys at which words look are those of the targets of their steps and those of these numbers
 pub record AreLooks (table : Table) (keys : List Key) (us : List WordUse) (xs : List Step) (ns : List ℕ) : Type 0 where
   pub within : (m : ℕ) → In m ns → m < length keys
   pub exactly : (k : Key) → WordsLookAt table us k ↔ IsSeen keys xs ns k
 
--- one more word puts in its own
+-- one more word adds its own looks
 pub record AreLooksPut (table : Table) (keys : List Key) (u : WordUse) (xs : List Step) (old new : List ℕ) : Type 0
   where
     pub own : List ℕ
@@ -30,6 +30,6 @@ pub record AreLooksPut (table : Table) (keys : List Key) (u : WordUse) (xs : Lis
     pub within : (m : ℕ) → In m own → m < length keys
     pub exactly : (k : Key) → Contains (looked_keys table u) k ↔ IsSeen keys xs own k
 
--- none of the steps leads nowhere
+-- each of the steps leads somewhere
 abbrev pub AllLead : List Step → Type 0
 AllLead xs = (t : ℕ) → In (Nowhere t) xs → ⊥

@@ -1,4 +1,4 @@
--- Names that a query newly settles.
+-- The names that a query newly settles.
 use Rattle.std.specs.Prelude.{◌≡◌, ◌↔◌, ◌+◌, ◌-◌, ◌^◌, min, List, length, Contains}
 use Rattle.std.specs.List.{IsDistinct}
 use Rattle.def_entry.specs.declared.key.Key.{Key}
@@ -6,12 +6,12 @@ use Rattle.def_entry.specs.SameKeys.{is_same}
 use Rattle.live_table.specs.Right.{IsRight, IsSettled}
 use Rattle.live_table.specs.States.{State, with_outcomes, with_settled}
 
--- the names among these that are not settled, each once
+-- the distinct names among these that are not settled
 pub record AreNew (s : State) (reached names : List Key) : Type 0 where
   pub exactly : (n : Key) → Contains names n ↔ (Contains reached n × (IsSettled s n → ⊥))
   pub once : IsDistinct is_same names
 
--- law: to settle what a query reaches is to put in the outcomes of the new names, in any order, and to count
+-- law: to settle the names that a query reaches is to add the outcomes of the new names, in any order, and to count
 -- them
 abbrev pub NewLaw : Type 0
 NewLaw = (s : State) (reached names : List Key) → IsRight s → AreNew s reached names

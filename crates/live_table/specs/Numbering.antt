@@ -1,4 +1,4 @@
--- Numbers for keys.
+-- The numbers of keys.
 use Rattle.std.specs.Prelude.{◌≡◌, ◌⊎◌, ℕ, Bool, false, Some, List, map, slice_get}
 use Rattle.def_entry.specs.declared.key.Key.{Key}
 use Rattle.def_entry.specs.SameKeys.{is_among}
@@ -9,18 +9,18 @@ use Rattle.live_table.specs.Exploring.{AreAdded, AreListed, IsNamed}
 use Rattle.live_table.specs.Sound.{AreNodes}
 use Rattle.live_table.specs.Stored.{Listed, listed}
 
--- of each number it is known whether its key is among these
+-- each number has a flag that says whether its key is among these
 abbrev pub AreFlagged : List Key → Nodes → Type 0
 AreFlagged keys nodes = nodes.present.items ≡ map (is_among keys) nodes.keys
 
--- over a table of these keys nothing but new names is added
+-- over a table of these keys only new names are added
 pub record IsExtension (keys : List Key) (start now : Nodes) : Type 0 where
   pub added : (table : Table) → keys_of table ≡ keys → AreNodes table (listed start)
       → (before list : List ℕ) (ends : List DeadEnd) → AreListed table (listed start) before list
       → AreAdded table (listed start) (listed now) before list list ends ends
   pub gathered : now.gathered ≡ start.gathered
 
--- a key has a number: where it had none there is one more name, with this flag, and else nothing has changed
+-- a key has a number: if it had none, there is one more name, with this flag; nothing else has changed
 pub record IsNumbered (k : Key) (flag : Bool) (n : ℕ) (l m : Listed) : Type 0 where
   pub number : slice_get m.keys n ≡ Some k
   pub names : (m ≡ l) ⊎ ((is_among l.keys k ≡ false) × IsNamed k flag l m)

@@ -12,7 +12,7 @@ use Rattle.live_table.specs.Explored.{fault_of}
 use Rattle.live_table.specs.Exploring.{AreWritten}
 use Rattle.live_table.specs.Stored.{Listed}
 
--- a word that leads nowhere: a name that is refused, or one that has no targets
+-- a word that leads nowhere: a refused name, or a name without targets
 pub record IsDeadEnd (table : Table) (u : WordUse) (end : DeadEnd) : Type 0 where
   pub text : end.text ≡ u.text
   pub refused : end.is_refused ≡ is_refused u.text

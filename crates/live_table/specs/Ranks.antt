@@ -12,11 +12,11 @@ abbrev pub step_rank : List Callee → Step → ℕ
 step_rank callees (Nowhere t) = 0
 step_rank callees (To n) = rank_in (slice_get callees n)
 
--- the greatest, 0 where there is none
+-- the greatest rank, or 0 if there are none
 abbrev pub greatest_step_rank : List Callee → List Step → ℕ
 greatest_step_rank callees [] = 0
 greatest_step_rank callees (x ∷ xs) = max (step_rank callees x) (greatest_step_rank callees xs)
 
--- with another rank
+-- a callee with another rank
 abbrev pub ranked : ℕ → Callee → Callee
 ranked rank c = record { rank = rank; starts = c.starts }

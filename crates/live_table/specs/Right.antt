@@ -1,4 +1,4 @@
--- Kept outcomes that are right.
+-- Stored outcomes that are right.
 use Rattle.std.specs.Prelude.{◌≡◌, true, List, Some}
 use Rattle.std.specs.FinMap as map_of
 use Rattle.std.specs.Option.{is_some}
@@ -10,18 +10,18 @@ use Rattle.table_names.specs.Leads.{Reaches}
 use Rattle.table_names.specs.Meanings.{outcome}
 use Rattle.live_table.specs.States.{AllCanBe, Event, State, after_all}
 
--- a settled name
+-- the name is settled
 abbrev pub IsSettled : State → Key → Type 0
 IsSettled s n = is_some (map_of.get s.kept n) ≡ true
 
--- each settled name has an entry and no name fault, what it reaches is settled, and what is kept of it is
--- its outcome in the present table
+-- each settled name has an entry and no name fault, the names that it reaches are settled, and its stored outcome is
+-- that of the present table
 pub record IsRight (s : State) : Type 0 where
   pub present : (n : Key) → IsSettled s n → is_present s.table n ≡ true
   pub closed : (n : Key) → IsSettled s n → IsClosed s.table n
   pub below : (n m : Key) → IsSettled s n → Reaches s.table n m → IsSettled s m
   pub right : (n : Key) (o : Outcome) → map_of.get s.kept n ≡ Some o → o ≡ outcome s.table n
 
--- law: so it is after any queries and edits
+-- law: the stored outcomes are right after any queries and edits
 abbrev pub RightLaw : Type 0
 RightLaw = (es : List Event) (s : State) → AllCanBe es s → IsRight s → IsRight (after_all es s)

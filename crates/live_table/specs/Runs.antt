@@ -1,10 +1,10 @@
--- Events one behind another, of which the last may have been cut off.
+-- Events in turn, of which the last may have been cut off.
 use Rattle.std.specs.Prelude.{◌≡◌, ◌≤◌, ◌^◌, ◌+◌, ◌-◌, ℕ, List, [], ◌++◌}
 use Rattle.live_table.specs.Shown.{Follows, IsCutOff, IsRightTable, Shown, state}
 use Rattle.live_table.specs.States.{Event, after_all}
 
--- law: no event leaves a table whose outcomes are right as it is; what follows in two parts follows as a whole; and
--- where events of an unchanged deck were made in part, or in whole, they were cut off as a part of more
+-- law: an empty run of events leaves a table whose outcomes are right unchanged; two runs in turn are one run; and if
+-- events over an unchanged deck were made in part or in full, they are a cut-off part of more events
 pub record RunLaw : Type 0 where
   pub none : (s : Shown) (n : ℕ) → IsRightTable s → Follows [] s s n n
   pub both : (es fs : List Event) (a b c : Shown) (n m k : ℕ) → Follows es a b n m → Follows fs b c m k
@@ -15,7 +15,8 @@ pub record RunLaw : Type 0 where
   pub cut_between : (es fs : List Event) (a b : Shown) (n m : ℕ) → b.deck ≡ a.deck → Follows es a b n m
       → IsCutOff (es ++ fs) a b n m
 
--- law: what stands after events is the same whatever was counted before, but for the steps, to which it adds as many
+-- law: the state after events does not depend on previous counts, except for the steps, to which the events add a fixed
+-- number
 abbrev pub StepsLaw : Type 0
 StepsLaw = (es : List Event) (s : Shown) (n : ℕ)
     → after_all es (state s n) ≡ record (after_all es (state s 0)) { steps = n + (after_all es (state s 0)).steps }

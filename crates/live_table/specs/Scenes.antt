@@ -1,4 +1,4 @@
--- What an evaluation over the nodes is told of words and of functions.
+-- The facts that an evaluation over the nodes learns about words and functions.
 use Rattle.std.specs.Prelude.{◌≡◌, ◌⊎◌, ◌&&◌, ◌||◌, ℕ, Bool, true, false, List, [], ◌∷◌, if◌then◌else◌, Option, Some}
 use Rattle.std.specs.Prelude.{None, nat_eq, slice_get}
 use Rattle.std.specs.Option.{unwrap_or}
@@ -19,8 +19,7 @@ use Rattle.table_names.specs.Leads.{targets}
 use Rattle.table_names.specs.Meanings.{key_meaning, word_meaning}
 use Rattle.live_table.specs.Stored.{key_at}
 
--- a deck, the keys of the numbers, which of them are settled, the words of the expression that is asked for,
--- and the name that is asked for
+-- a deck, the keys of the numbers, which of them are settled, the words of the queried expression, and the queried name
 pub record Scene : Type 0 where
   pub deck : Contents
   pub keys : List Key
@@ -35,7 +34,7 @@ abbrev pub is_name : Option ℕ → ℕ → Bool
 is_name None n = false
 is_name (Some m) n = nat_eq m n
 
--- settled, or the name that is asked for
+-- the name is settled, or is the queried one
 abbrev pub is_at_hand : Scene → ℕ → Bool
 is_at_hand s n = is_settled s n || is_name s.name n
 
@@ -49,7 +48,7 @@ holder_words s Query = s.words
 holder_words s (Of n p) =
     if is_at_hand s n then words_in_part (entry_at (table s.deck) (key_at s.keys n)) p else []
 
--- what words and numbers stand for in the present table
+-- the meanings of words and numbers in the present table
 abbrev pub word_means : Scene → WordUse → Meaning
 word_means s u = word_meaning (table s.deck) u
 
@@ -60,7 +59,7 @@ abbrev pub is_callee : Meaning → Bool
 is_callee (Callee f) = true
 is_callee _ = false
 
--- a function; for anything else an empty table, which nobody asks for
+-- a function; for any other meaning an empty table, which is never used
 abbrev pub callee_in : Meaning → Callable
 callee_in (Callee f) = f
 callee_in _ = Table [] 0 Dimensionless []
@@ -71,7 +70,7 @@ has_callee s n = is_settled s n && is_callee (number_means s n)
 abbrev pub callee_at : Scene → ℕ → Callable
 callee_at s n = callee_in (number_means s n)
 
--- a word leads to settled names: to one, or to a prefix and a unit
+-- a word leads to settled names: to a single one, or to a prefix and a unit
 pub record IsLed (s : Scene) (u : WordUse) (n m : ℕ) : Type 0 where
   pub word : LeadsInto (table s.deck) (IsClosed (table s.deck)) u
   pub are : ((targets (table s.deck) u ≡ key_at s.keys n ∷ []) × (n ≡ m))

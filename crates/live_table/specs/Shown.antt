@@ -1,4 +1,4 @@
--- What contracts see of a live table.
+-- The view of a live table that contracts see.
 use Rattle.std.specs.Prelude.{◌≡◌, ◌≤◌, ℕ, List, refl}
 use Rattle.std.specs.Coded.{Coded, code_by, coded×, coded_ℕ}
 use Rattle.std.specs.FinMap as map_of
@@ -10,33 +10,33 @@ use Rattle.deck.specs.Tables.{table}
 use Rattle.live_table.specs.Right.{IsRight}
 use Rattle.live_table.specs.States.{Event, Kept, State, after_all}
 
--- the deck, the settled names with their outcomes, and how many names were settled
+-- the deck, the settled names with their outcomes, and the number of names that were settled
 pub record Shown : Type 0 where
   pub deck : Contents
   pub kept : Kept
   pub reductions : ℕ
 
--- it is stored as its parts
+-- the code of a view is that of its parts
 abbrev pub shown_code : Coded Shown
 shown_code =
     code_by _ (coded× deck.the_row.coded (coded× (map_of.code key_code outcome.the_row.coded) coded_ℕ))
     (λ s. (s.deck, (s.kept, s.reductions))) (λ p. record { deck = p.0; kept = p.1.0; reductions = p.1.1 }) (λ _. refl)
 
--- a live table with so many steps
+-- a live table with this number of steps
 abbrev pub state : Shown → ℕ → State
 state s steps = record { table = table s.deck; kept = s.kept; reductions = s.reductions; steps = steps }
 
--- what is kept is right, whatever was counted
+-- the stored outcomes are right, whatever the counts
 abbrev pub IsRightTable : Shown → Type 0
 IsRightTable s = IsRight (state s 0)
 
--- what stands after these events
+-- the state after these events
 pub record Follows (events : List Event) (before after : Shown) (old new : ℕ) : Type 0 where
   pub stands : state after new ≡ after_all events (state before old)
   pub right : IsRightTable after
 
--- after want of memory: the deck is as before, each kept outcome is right, and no more steps were
--- taken than the query would have
+-- after memory ran out: the deck is unchanged, each stored outcome is right, and no more steps were taken than by the
+-- whole query
 pub record IsCutOff (events : List Event) (before after : Shown) (old new : ℕ) : Type 0 where
   pub deck : after.deck ≡ before.deck
   pub right : IsRightTable after

@@ -1,4 +1,4 @@
--- What the nodes of a live table owe at any time.
+-- The invariants of the nodes of a live table.
 use Rattle.std.specs.Prelude.{◌≡◌, ◌<◌, ◌≤◌, ◌^◌, ◌-◌, ℕ, true, Option, count_by, map, length, Some, nat_eq, slice_get}
 use Rattle.std.specs.List.{IsDistinct}
 use Rattle.std.specs.Option.{is_some}
@@ -20,35 +20,35 @@ use Rattle.live_table.specs.Looks.{AllLead, AreLooks}
 use Rattle.live_table.specs.Shown.{IsRightTable}
 use Rattle.live_table.specs.Stored.{Listed, key_at, looks_of, shown}
 
--- the steps of a number are those of the words of its key, whatever the words that lead nowhere are
+-- the steps of a number are those of the words of its key, whatever the faults of the words that lead nowhere
 abbrev pub IsFaithful : Table → Listed → ℕ → Type 0
 IsFaithful table l n =
     (dead_end : ℕ → Option Key → NameFault)
     → AreWords table (key_at l.keys) dead_end (key_words table (key_at l.keys n)) (steps l.graph n)
 
--- so are the places where the trees of its entry begin
+-- the stored starts of a number are those of the trees of its entry
 abbrev pub HasStartsOf : Table → Listed → ℕ → Type 0
 HasStartsOf table l n =
     (e : Entry) (c : Callee) → entry_at table (key_at l.keys n) ≡ Some e → slice_get l.callees n ≡ Some c
     → HasStarts e.what c
 
--- and its rank
+-- the stored rank of a number is that of its key
 abbrev pub HasRankOf : Table → Listed → ℕ → Type 0
 HasRankOf table l n =
     (c : Callee) → slice_get l.callees n ≡ Some c → HasRank (key_meaning table (key_at l.keys n)) c
 
--- so are the keys at which its words look, each once beside their targets
+-- the stored looks of a number are the keys at which its words look besides their targets, each once
 pub record HasLooksOf (table : Table) (l : Listed) (n : ℕ) : Type 0 where
   pub looks : AreLooks table l.keys (key_words table (key_at l.keys n)) (steps l.graph n) (looks_of l.looks n)
   pub once : IsDistinct nat_eq (looks_of l.looks n)
 
--- the same where all its steps lead somewhere
+-- the stored looks of a number are right if all its steps lead somewhere
 abbrev pub HasLooksIfLed : Table → Listed → ℕ → Type 0
 HasLooksIfLed table l n = AllLead (steps l.graph n) → HasLooksOf table l n
 
--- each number has a key of its own, of which it is known whether it has an entry, and steps; what a settled name
--- leads to is settled, it has an entry, and its steps and the keys at which it looks are those of its words in the
--- present table. Of any other name the steps may be stale.
+-- each number has a key of its own, a flag that says whether the key has an entry, and steps; the names to which a
+-- settled name leads are settled, it has an entry, and its steps and the keys at which it looks are those of its words
+-- in the present table. The steps of any other name may be stale.
 pub record AreNodes (table : Table) (l : Listed) : Type 0 where
   pub step_count : length l.graph ≡ length l.keys
   pub outcome_count : length l.outcomes ≡ length l.keys
@@ -65,7 +65,7 @@ pub record AreNodes (table : Table) (l : Listed) : Type 0 where
   pub ranks : (n : ℕ) → IsSettled l.settled n → HasRankOf table l n
   pub looked : (n : ℕ) → IsSettled l.settled n → HasLooksOf table l n
 
--- a live table: its nodes, and of each settled name the right outcome
+-- a live table: its nodes, and the right outcome of each settled name
 pub record IsSound (deck : Contents) (l : Listed) (reductions : ℕ) : Type 0 where
   pub numbers : AreNodes (table deck) l
   pub right : IsRightTable (shown deck l reductions)

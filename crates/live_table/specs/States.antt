@@ -1,4 +1,4 @@
--- What queries settle, and what edits forget.
+-- The names that queries settle, and those that edits forget.
 use Rattle.std.specs.Prelude.{◌≡◌, ⊤, true, ℕ, ◌+◌, ◌-◌, ◌^◌, min, not, Bool, List, [], ◌∷◌, ◌++◌, if◌then◌else◌}
 use Rattle.std.specs.FinMap as map_of
 use Rattle.std.specs.Option.{is_none}
@@ -14,40 +14,40 @@ use Rattle.table_names.specs.Meanings.{outcome}
 use Rattle.table_names.specs.Reach.{key_reach, reach}
 use Rattle.deck.specs.Changes.{changed_keys}
 
--- the settled names with the outcomes that are kept of them
+-- the settled names with their stored outcomes
 abbrev pub Kept : Type 0
 Kept = map_of.FinMap key_cmp Outcome
 
--- a table with what is kept over it, and what was counted: names newly settled, up to 2^64 - 1, and steps
+-- a table with the outcomes stored over it and the counts: names newly settled, up to 2^64 - 1, and steps
 pub record State : Type 0 where
   pub table : Table
   pub kept : Kept
   pub reductions : ℕ
   pub steps : ℕ
 
--- the words of an expression are asked for, or a key is, or an accepted edit gives another table
+-- a query of the words of an expression, a query of a key, or an accepted edit to another table
 pub data Event : Type 0 where
   AsksWords : List WordUse → Event
   AsksKey : Key → Event
   Becomes : Table → Event
 
--- the outcome of each of these keys is kept too
+-- the outcome of each of these keys is stored too
 abbrev pub with_outcomes : Table → List Key → Kept → Kept
 with_outcomes table [] kept = kept
 with_outcomes table (k ∷ keys) kept = with_outcomes table keys (map_of.insert kept k (outcome table k))
 
--- these names are settled too; each that is new is counted once
+-- these names are settled too; each new one is counted once
 abbrev pub with_settled : List Key → State → State
 with_settled keys s =
     let kept = with_outcomes s.table keys s.kept in
     let new = map_of.len kept - map_of.len s.kept in
     record s { kept = kept; reductions = min (2 ^ 64 - 1) (s.reductions + new); steps = s.steps + new }
 
--- a query without a name fault settles what it reaches, one with a name fault nothing
+-- a query without a name fault settles the names that it reaches; one with a name fault settles nothing
 abbrev pub after_query : Bool → List Key → State → State
 after_query closed keys s = if closed then with_settled keys s else s
 
--- an edit forgets what it affects, and keeps the rest as it is
+-- an edit forgets the names that it affects, and leaves the others unchanged
 abbrev pub after_edit : Table → List Key → State → State
 after_edit table keys s =
     record s { table = table; kept = map_of.retain_keys s.kept (λ n. not (is_affected s.table keys n)) }
@@ -57,13 +57,13 @@ after (AsksWords words) s = after_query (is_none (name_fault s.table words)) (re
 after (AsksKey n) s = after_query (is_none (key_fault s.table n)) (n ∷ key_reach s.table n) s
 after (Becomes table) s = after_edit table (changed_keys s.table table) s
 
--- after one event behind another
+-- the state after events in turn
 abbrev pub after_all : List Event → State → State
 after_all [] s = s
 after_all (e ∷ es) s = after_all es (after e s)
 
--- an event that can be: a key that is asked for has an entry, and of two tables the changed keys are those
--- whose texts differ
+-- a possible event: a queried key has an entry, and the keys that differ between two tables are those whose texts
+-- differ
 abbrev pub CanBe : Event → State → Type 0
 CanBe (AsksWords words) s = ⊤
 CanBe (AsksKey n) s = is_present s.table n ≡ true
@@ -73,6 +73,6 @@ abbrev pub AllCanBe : List Event → State → Type 0
 AllCanBe [] s = ⊤
 AllCanBe (e ∷ es) s = CanBe e s × AllCanBe es (after e s)
 
--- law: events follow one another as lists do
+-- law: the state after concatenated events is that after the first ones and then the others
 abbrev pub OrderLaw : Type 0
 OrderLaw = (es fs : List Event) (s : State) → after_all (es ++ fs) s ≡ after_all fs (after_all es s)

@@ -1,4 +1,4 @@
--- What a live table holds, and what of it contracts see.
+-- The contents of a live table, and the part of them that contracts see.
 use Rattle.std.specs.Prelude.{ℕ, Bool, List, [], ◌∷◌, Option, Some, None, Vec, slice_get, slice_index_or}
 use Rattle.std.specs.declared.alloc.Global.{Global}
 use Rattle.std.specs.FinMap as map_of
@@ -13,11 +13,11 @@ use Rattle.live_table.specs.declared.nodes.Nodes.{Nodes}
 use Rattle.live_table.specs.Shown.{Shown}
 use Rattle.live_table.specs.States.{Kept}
 
--- the key of a number, an empty name beyond the last
+-- the key of a number; its name is empty beyond the last
 abbrev pub key_at : List Key → ℕ → Key
 key_at keys n = slice_index_or keys n (key kind.Unit [])
 
--- one more outcome, where there is one
+-- one more outcome, if there is one
 abbrev pub onto : Key → Option Outcome → Kept → Kept
 onto k None kept = kept
 onto k (Some o) kept = map_of.insert kept k o
@@ -28,7 +28,7 @@ kept_of [] outcomes = map_of.empty
 kept_of (k ∷ keys) [] = map_of.empty
 kept_of (k ∷ keys) (o ∷ outcomes) = onto k o (kept_of keys outcomes)
 
--- of each name the numbers of the keys at which its words look beside their targets
+-- for each name the numbers of the keys at which its words look besides their targets
 abbrev pub Looks : Type 0
 Looks = List (Vec ℕ Global)
 
@@ -36,13 +36,13 @@ abbrev pub numbers_in : Option (Vec ℕ Global) → List ℕ
 numbers_in None = []
 numbers_in (Some v) = v.items
 
--- those of one name, none where no name has the number
+-- the looks of one name, none if there is no name with this number
 abbrev pub looks_of : Looks → ℕ → List ℕ
 looks_of looks n = numbers_in (slice_get looks n)
 
--- nodes as lists, whatever their places in memory: of each number the key, whether it has an entry, what is kept
--- of a function, the outcome of a settled name, the steps of its words, the keys at which they look beside their
--- targets, and whether it is settled; and how many are
+-- nodes as lists, whatever their layout in memory: for each number the key, whether it has an entry, the data of a
+-- function, the outcome of a settled name, the steps of its words, the keys at which they look besides their targets,
+-- and whether it is settled; and the number of settled names
 pub record Listed : Type 0 where
   pub keys : List Key
   pub present : List Bool

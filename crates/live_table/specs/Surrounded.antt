@@ -1,4 +1,4 @@
--- What nodes owe to an evaluation.
+-- The invariants on which an evaluation over the nodes relies.
 use Rattle.std.specs.Prelude.{◌≡◌, ◌<◌, ℕ, true, List, [], Option, Some, None, length}
 use Rattle.expr_tree.specs.declared.word_list.WordUse.{WordUse}
 use Rattle.def_entry.specs.declared.key.Key.{Key}
@@ -20,14 +20,14 @@ use Rattle.live_table.specs.Sound.{AreNodes, HasStartsOf, IsFaithful}
 use Rattle.live_table.specs.Shown.{IsRightTable}
 use Rattle.live_table.specs.Stored.{Listed, key_at, shown}
 
--- words without a name fault with their steps, all of which lead to settled names
+-- words without a name fault, with their steps, all of which lead to settled names
 pub record AreSettledWords (table : Table) (l : Listed) (us : List WordUse) (xs : List Step) : Type 0 where
   pub dead_end : ℕ → Option Key → NameFault
   pub words : AreWords table (key_at l.keys) dead_end us xs
   pub closed : AreClosed table us
   pub settled : (m : ℕ) → In (To m) xs → IsSettled l.settled m
 
--- a name of which all that it leads to is settled, with the steps of its words
+-- a name with the steps of its words, which leads only to settled names
 pub record IsAtHand (table : Table) (l : Listed) (n : ℕ) : Type 0 where
   pub within : n < length l.keys
   pub present : is_present table (key_at l.keys n) ≡ true
@@ -36,18 +36,18 @@ pub record IsAtHand (table : Table) (l : Listed) (n : ℕ) : Type 0 where
   pub faithful : IsFaithful table l n
   pub starts : HasStartsOf table l n
 
--- what is asked for, over these nodes
+-- the subject of an evaluation fits these nodes
 abbrev pub IsAsked : Table → Listed → Asked → Type 0
 IsAsked table l (Expression us xs) = AreSettledWords table l us.now xs.now
 IsAsked table l (Name n) = IsAtHand table l n
 
--- nodes with the right outcomes, and what is asked for over them
+-- nodes with the right outcomes, and a subject that fits them
 pub record IsSurrounding (deck : Contents) (l : Listed) (asked : Asked) : Type 0 where
   pub numbers : AreNodes (table deck) l
   pub right : IsRightTable (shown deck l 0)
   pub subject : IsAsked (table deck) l asked
 
--- what an evaluation is told by them
+-- the facts that an evaluation learns from them
 abbrev pub words_of : Asked → List WordUse
 words_of (Expression us xs) = us.now
 words_of (Name n) = []

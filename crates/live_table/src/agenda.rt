@@ -1,4 +1,4 @@
-//! Numbers that are to be gone through.
+//! An ordered set of numbers that are still to be processed.
 
 ghost use Rattle.std.specs.Prelude.{◌≡◌, ◌⊎◌, ◌↔◌, ◌+◌, ◌^◌, ◌<◌, ◌++◌, ◌∷◌, [], ℕ, length, if◌then◌else◌, nat_eq};
 ghost use Rattle.std.specs.Prelude.{IfOk, IfSome, MatchOption, OnOk, OnErr, Some, false, slice_get};
@@ -10,11 +10,11 @@ ghost use Rattle.live_table.specs.Agendas.{AreSamePlaces};
 use std::alloc::{AllocError, Global};
 use std::marker::Model;
 
-/// Numbers in order, each once. It keeps its memory from one query to the next.
+/// Distinct numbers in insertion order. The memory is reused from one query to the next.
 #[derive(Drop)]
 pub(crate) struct Agenda {
     numbers: Vec<usize>,
-    // of each number that is there its place and 1, 0 of any other, none beyond the last
+    // for each number in the agenda, its place plus 1; 0 for any other number; no entry beyond the last
     places: Vec<u32>,
 }
 
@@ -30,7 +30,7 @@ impl Model for Agenda {
 }
 
 impl Agenda {
-    /// No number.
+    /// Returns an empty agenda.
     pub(crate) fn new(alloc: Global) -> Agenda
         ensures { result ≡ [] }
     {
@@ -40,7 +40,7 @@ impl Agenda {
         }
     }
 
-    /// The number at a place, from 0.
+    /// Returns the number at a place, counted from 0, or `None` beyond the last.
     pub(crate) fn get(&self, place: usize) -> Option<usize>
         ensures number { result ≡ slice_get self.now place }
         ensures few { IfSome result (λ _. place + 1 < 2 ^ 64) }
@@ -48,14 +48,14 @@ impl Agenda {
         self.numbers.get(place).copied()
     }
 
-    /// Whether a number is there.
+    /// Whether the agenda contains a number.
     pub(crate) fn has(&self, n: usize) -> bool
         ensures { result ≡ on self.now n }
     {
         self.place_of(n).is_some()
     }
 
-    /// The place at which a number stands, from 0, or none where it is not there.
+    /// Returns the place of a number, counted from 0, or `None` if the agenda does not contain it.
     pub(crate) fn place_of(&self, n: usize) -> Option<usize>
         ensures { MatchOption result (on self.now n ≡ false) (λ place. slice_get self.now place ≡ Some n) }
     {
@@ -63,7 +63,7 @@ impl Agenda {
         (kept as usize).checked_sub(1)
     }
 
-    /// Puts a number, which is below `end`, behind the others, if it is not there. A refusal changes nothing.
+    /// Appends a number, which is below `end`, unless it is there already. On failure nothing changes.
     pub(crate) fn put(&mut self, n: usize, end: usize) -> Result<(), AllocError>
         requires { n < end }
         ensures ok { OnOk result (self.new ≡ (if on self.old n then self.old else self.old ++ n ∷ [])) }
@@ -79,8 +79,8 @@ impl Agenda {
         Ok(())
     }
 
-    /// Puts numbers, which are below `end`, behind the others, each that is not there. After a refusal some of
-    /// them may be there.
+    /// Appends the numbers, which are below `end`, that are not there already. On failure some of them may have been
+    /// appended.
     pub(crate) fn put_all(&mut self, numbers: &[usize], end: usize) -> Result<(), AllocError>
         requires { (m : ℕ) → In m numbers.now → m < end }
         ensures { OnOk result ((m : ℕ) → In m self.new ↔ (In m self.old ⊎ In m numbers.now)) }
@@ -91,14 +91,14 @@ impl Agenda {
         Ok(())
     }
 
-    /// The numbers, in order.
+    /// Borrows the numbers, in order.
     pub(crate) fn as_slice(&self) -> &[usize]
         ensures { result.now ≡ self.now }
     {
         &self.numbers
     }
 
-    /// A copy of the numbers. The only error is want of memory.
+    /// Returns a copy of the numbers. The only error is lack of memory.
     pub(crate) fn to_vec(&self, alloc: Global) -> Result<Vec<usize>, AllocError>
         ensures copy { IfOk result (λ numbers. numbers.items ≡ self.now) }
         ensures once { IsDistinct nat_eq self.now }
@@ -106,7 +106,7 @@ impl Agenda {
         Vec::from_slice(alloc, &self.numbers)
     }
 
-    /// Takes all numbers out, at the cost of how many there are.
+    /// Removes all numbers. The cost is proportional to their count.
     pub(crate) fn clear(&mut self)
         ensures { self.new ≡ [] }
     {
@@ -128,7 +128,7 @@ fn cover(places: &mut Vec<u32>, n: usize, end: usize) -> Result<(), AllocError>
     places.resize(end, 0)
 }
 
-// A place as it is kept. No memory holds so many numbers that it would not fit.
+// The stored form of a place. No memory holds so many numbers that a place would not fit.
 fn kept_place(place: usize) -> Result<u32, AllocError>
     ensures { IfOk result (λ kept. kept ≡ place + 1) }
 {

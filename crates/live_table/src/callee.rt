@@ -1,6 +1,7 @@
-//! What is kept of a function beside its entry.
+//! The data that are stored of a function besides its entry.
 
-/// Where the words of the trees of a function begin among all its words. Those of its in unit come first.
+/// The places at which the words of the trees of a function begin among all its words. The words of its in unit come
+/// first.
 #[derive(Clone, Copy, Drop)]
 pub(crate) struct PartStarts {
     pub(crate) out_unit: u32,
@@ -8,7 +9,7 @@ pub(crate) struct PartStarts {
     pub(crate) inverse: u32,
 }
 
-/// The rank of a name, 0 where it is no function, and where the words of its trees begin.
+/// The rank of a name, or 0 if it is not a function, and the places at which the words of its trees begin.
 #[derive(Clone, Copy, Drop)]
 pub(crate) struct Callee {
     pub(crate) rank: u32,

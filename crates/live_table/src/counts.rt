@@ -1,12 +1,12 @@
 //! Counts of a live table.
 
-/// What a live table has counted.
+/// The counts of a live table.
 #[derive(Clone, Copy, Debug, PartialEq, Eq, Drop)]
 pub struct Counts {
-    /// The settled names.
+    /// The number of settled names.
     pub settled: usize,
-    /// The units, prefixes and functions that have an entry.
+    /// The number of units, prefixes and functions that have an entry.
     pub names: usize,
-    /// The names newly settled since the table was made, 2^64 - 1 at most.
+    /// The number of names newly settled since the table was created, at most 2^64 - 1.
     pub reductions: u64,
 }

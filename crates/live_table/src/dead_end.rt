@@ -12,7 +12,7 @@ use std::alloc::{AllocError, Global};
 use table_names::NameFault;
 use units_io::Text;
 
-/// A word that leads nowhere: a name that is refused, or one that is unknown.
+/// A word that leads nowhere: a refused name, or an unknown one.
 #[derive(Drop)]
 pub(crate) struct DeadEnd {
     pub(crate) text: Text,
@@ -20,7 +20,7 @@ pub(crate) struct DeadEnd {
 }
 
 impl DeadEnd {
-    /// A word that leads nowhere by its lead. The only error is want of memory.
+    /// Creates the dead end of a word from its lead. The only error is lack of memory.
     pub(crate) fn new(alloc: Global, u: &WordUse<'_>, lead: Lead) -> Result<DeadEnd, AllocError>
         ensures { IfOk result (λ end. end ≡ record { text = u.now.text; is_refused = is_refused_lead lead }) }
     {
@@ -29,7 +29,8 @@ impl DeadEnd {
         Ok(DeadEnd { text, is_refused })
     }
 
-    /// The fault of the word in the entry of a key, or in the expression that is asked for.
+    /// Returns the fault of the word in the entry of a key, or in the queried expression if `holder` is `None`. The
+    /// only error is lack of memory.
     pub(crate) fn fault(&self, alloc: Global, holder: Option<Key>) -> Result<NameFault, AllocError>
         ensures { IfOk result (λ fault. fault ≡ fault_of (Some self.now) holder) }
     {

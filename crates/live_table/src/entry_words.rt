@@ -16,8 +16,8 @@ use expr_tree::{Tree, WordKind, WordUse, Words, put_words};
 use std::alloc::{AllocError, Global};
 use units_io::Text;
 
-/// Writes the words of what an entry says over those that were there, one tree after another, and gives where the trees
-/// of a function begin among them. The only error is want of memory.
+/// Overwrites `words` with the words of a definition, tree after tree, and returns the places at which the words of the
+/// trees of a function begin. The only error is lack of memory.
 pub(crate) fn write_entry_words<'a>(
     alloc: Global,
     words: &mut Words<'a>,
@@ -35,7 +35,7 @@ pub(crate) fn write_entry_words<'a>(
     }
 }
 
-// Where the words of a tree begin that stands alone.
+// The starts for a tree that is the only one.
 fn alone() -> PartStarts
     ensures { result ≡ record { out_unit = 0; forward = 0; inverse = 0 } }
 {
@@ -46,7 +46,7 @@ fn alone() -> PartStarts
     }
 }
 
-// Puts the words of a tree that stands alone.
+// Writes the words of a tree that is the only one.
 fn put_tree<'a>(
     alloc: Global,
     words: &mut Words<'a>,
@@ -59,7 +59,7 @@ fn put_tree<'a>(
     Ok(alone())
 }
 
-// Puts the word of an alias.
+// Writes the word of an alias.
 fn put_alias<'a>(
     alloc: Global,
     words: &mut Words<'a>,
@@ -72,7 +72,7 @@ fn put_alias<'a>(
     Ok(alone())
 }
 
-// Puts the words of the trees of a function, where there are none yet.
+// Writes the words of the trees of a function into an empty list.
 fn put_function<'a>(
     alloc: Global,
     words: &mut Words<'a>,
@@ -95,7 +95,7 @@ fn put_function<'a>(
     })
 }
 
-// A count of words as a start. No memory holds so many words that it would not fit.
+// Converts a count of words into a start. No memory holds so many words that it would not fit.
 fn start_of(count: usize) -> Result<u32, AllocError>
     ensures { IfOk result (λ start. start ≡ count) }
 {
@@ -105,7 +105,7 @@ fn start_of(count: usize) -> Result<u32, AllocError>
     }
 }
 
-// Puts the words of a tree, where there is one, behind others.
+// Appends the words of an optional tree.
 fn put_words_if<'a>(
     alloc: Global,
     words: &mut Words<'a>,

@@ -1,4 +1,4 @@
-//! What expressions and inverses are worth where their names are settled.
+//! Evaluation of expressions and inverses whose names are settled.
 
 ghost use Rattle.std.specs.Prelude.{◌≡◌, ℕ, None};
 ghost use Rattle.expr_tree.specs.Trees.{syntax};
@@ -25,7 +25,7 @@ use quantity::Quantity;
 use std::alloc::Global;
 use tree_eval::{EvalFault, Holder, eval, unapply};
 
-/// The value of a tree with these words and their steps, or its first fault.
+/// Returns the value of a tree, given its words and their steps, or its first fault.
 pub(crate) fn worth<'a, 'w>(
     alloc: Global,
     deck: &'a Deck,
@@ -47,7 +47,7 @@ pub(crate) fn worth<'a, 'w>(
     answered(eval(alloc, &surroundings, Holder::Query, tree, None))
 }
 
-/// The inverse of the settled function of this number at a value, or its first fault.
+/// Returns the inverse of the settled function with number `n` at a value, or its first fault.
 pub(crate) fn inverse_worth<'a>(
     alloc: Global,
     deck: &'a Deck,
@@ -69,7 +69,7 @@ pub(crate) fn inverse_worth<'a>(
     answered(unapply(alloc, &surroundings, n, value))
 }
 
-// The answer of an evaluation as that of a query.
+// Converts the result of an evaluation into the result of a query.
 fn answered(worth: Result<Quantity, EvalFault>) -> Result<Quantity, QueryFault>
     ensures { (expected : Worth) → eval_spec.Answers worth expected → Answers result (by_names None expected) }
 {

@@ -1,10 +1,11 @@
-//! Numbers and steps for all names below a query.
+//! Assigns numbers and steps to all names below a query.
 
 ghost use Rattle.std.specs.Prelude.{◌≡◌, IfOk};
 ghost use Rattle.def_entry.specs.Views.{what_view};
 ghost use Rattle.deck.specs.Tables.{table};
 ghost use Rattle.name_walk.specs.Lists.{In};
 ghost use Rattle.live_table.specs.Exploring.{AreAllExplored, AreGrown, AreListed, AreSame, IsWritten, WereExplored};
+ghost use Rattle.live_table.specs.KnownFaults.{HaveSameSteps};
 ghost use Rattle.live_table.specs.Found.{AreFound, Says};
 ghost use Rattle.live_table.specs.Sound.{AreNodes};
 ghost use Rattle.live_table.specs.Stored.{key_at, listed};
@@ -21,12 +22,12 @@ use def_entry::{Kind, What};
 use expr_tree::Words;
 use std::alloc::{AllocError, Global};
 
-// Few queries go through so many names.
+// Few queries process so many names.
 const MANY: usize = 1024;
 
-/// Numbers all names that those on the agenda reach, but for those that are settled or were explored, and gives them
-/// their steps in the present table. Then all of them are on the agenda, and what their entries say is given in its
-/// order. The only error is want of memory.
+/// Numbers all names that the names on the agenda reach, except those that are settled or were explored, and computes
+/// their steps in the present table. Afterwards all of them are on the agenda. Returns their definitions, in the order
+/// of the agenda. The only error is lack of memory.
 pub(crate) fn explore<'a>(
     alloc: Global,
     deck: &'a Deck,
@@ -42,6 +43,7 @@ pub(crate) fn explore<'a>(
     ensures grown { AreGrown (table deck.now) (listed nodes.old) (listed nodes.new) explored.now
         agenda.old agenda.new dead_ends.old.items dead_ends.new.items }
     ensures before { WereExplored (table deck.now) (listed nodes.new) explored.now dead_ends.new.items }
+    ensures stay { HaveSameSteps explored.now (listed nodes.old) (listed nodes.new) }
     ensures all { IfOk result (λ _. AreAllExplored (table deck.now) (listed nodes.new) explored.now agenda.new
         dead_ends.new.items) }
     ensures found { IfOk result (λ found. AreFound (table deck.now) nodes.new.keys agenda.new found.items) }
@@ -61,8 +63,8 @@ pub(crate) fn explore<'a>(
     Ok(found)
 }
 
-// Gives a name on the agenda, whose entry says this, its steps and its looks. Its words are written over those of the
-// name before.
+// Computes the steps and the looks of a name on the agenda from its definition. Its words overwrite those of the
+// previous name.
 fn explore_name<'a>(
     alloc: Global,
     deck: &Deck,
@@ -96,8 +98,8 @@ fn explore_name<'a>(
     Ok(())
 }
 
-// Where a query has gone through many names it may well go through all that the deck has. So that these are not copied
-// again and again as they grow in number, room is made for all of them at once.
+// Makes room for all names of the deck at once after a query has processed many names, since it may well process all of
+// them. This avoids copying the names again and again as they grow in number.
 fn make_room(deck: &Deck, nodes: &mut Nodes, gone: usize) -> Result<(), AllocError>
     ensures { listed nodes.new ≡ listed nodes.old }
 {

@@ -1,17 +1,17 @@
-//! Why a query has no answer.
+//! Why a query has no result.
 
 use std::alloc::AllocError;
 use table_names::NameFault;
 use tree_eval::ValueFault;
 
-/// Why a query has no answer.
+/// Why a query has no result.
 #[derive(Drop)]
 pub enum QueryFault {
-    /// Its names lead to no value.
+    /// The names of the query lead to no value.
     Name(NameFault),
-    /// It has no value.
+    /// The query has no value.
     Value(ValueFault),
-    /// Want of memory.
+    /// Memory ran out.
     OutOfMemory,
 }
 

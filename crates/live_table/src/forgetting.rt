@@ -1,4 +1,4 @@
-//! Forgetting what an edit affects.
+//! Invalidation of the outcomes that an edit affects.
 
 ghost use Rattle.std.specs.Prelude.{◌≡◌, ◌<◌, ◌∷◌, [], ℕ};
 ghost use Rattle.deck.specs.Changes.{IsChange};
@@ -6,11 +6,13 @@ ghost use Rattle.deck.specs.Decks.{Contents};
 ghost use Rattle.deck.specs.Tables.{table};
 ghost use Rattle.edge_links.specs.Reach.{IsCleared};
 ghost use Rattle.name_edges.specs.Affected.{Forgets, IsAffected};
+ghost use Rattle.name_walk.specs.Findings.{IsNothing};
 ghost use Rattle.live_table.specs.Calls.{IsEdit};
 ghost use Rattle.live_table.specs.Edged.{IsLive, is_flagged};
 ghost use Rattle.live_table.specs.Exploring.{WereExplored};
 ghost use Rattle.live_table.specs.Forgotten.{AreForgotten, CanForget};
 ghost use Rattle.live_table.specs.Keeping.{IsLeft};
+ghost use Rattle.live_table.specs.KnownFaults.{AreFaultsKnown};
 ghost use Rattle.live_table.specs.Stored.{listed, shown};
 
 use crate::deck_table::DeckTable;
@@ -22,11 +24,12 @@ use deck::{Deck, changes_are_computed};
 use def_entry::{Key, Keys};
 use name_edges::NameEdges;
 use name_lookup::Present;
+use name_walk::findings_law;
 use std::alloc::Global;
 use std::mem;
 
-/// Forgets what a change of keys of the deck affects: a table that was live over the deck before is live over this one,
-/// and what is shown of it follows the edit. It takes no memory.
+/// Forgets the outcomes that a change of keys of the deck affects. A table that was live over the previous deck is live
+/// over this one, and its visible state follows the edit. It allocates no memory.
 pub(crate) fn forget_changed(
     alloc: Global,
     deck: &Deck,
@@ -44,7 +47,9 @@ pub(crate) fn forget_changed(
         → IsEdit (shown before (listed nodes.old) reductions) (shown deck.now (listed nodes.new) reductions) }
     ensures explored { WereExplored (table deck.now) (listed nodes.new) explored.new.names
         explored.new.dead_ends.items }
+    ensures faults { AreFaultsKnown (listed nodes.new) explored.new.names explored.new.findings }
 {
+    findings_law();
     changes_are_computed();
     forget(
         alloc,
@@ -56,8 +61,8 @@ pub(crate) fn forget_changed(
     );
 }
 
-// Forgets the settled names that a change of keys affects, and all that was explored without being settled, and finds
-// anew where each of these keys has its entry, if it has one.
+// Forgets the settled names that a change of keys affects, and all names that were explored without being settled, and
+// looks up again where each of these keys has its entry, if it has one.
 fn forget(
     alloc: Global,
     deck: &Deck,
@@ -71,14 +76,16 @@ fn forget(
         edges.old edges.new }
     ensures names { explored.new.names ≡ [] }
     ensures dead_ends { explored.new.dead_ends.items ≡ [] }
+    ensures findings { IsNothing explored.new.findings }
 {
-    explored.clear();
+    explored.clear(alloc);
     for key in keys {
         forget_key(alloc, deck, nodes, edges, key);
     }
 }
 
-// The same for one key. One that has no number was never looked at.
+// Forgets the settled names that a change of one key affects, and looks up its entry again. A key without a number was
+// never looked at.
 fn forget_key(alloc: Global, deck: &Deck, nodes: &mut Nodes, edges: &mut NameEdges, key: &Key)
     requires { CanForget (listed nodes.old) edges.old }
     ensures { AreForgotten (table deck.now) (key.now ∷ []) (listed nodes.old) (listed nodes.new) edges.old edges.new }
@@ -92,7 +99,7 @@ fn forget_key(alloc: Global, deck: &Deck, nodes: &mut Nodes, edges: &mut NameEdg
     }
 }
 
-// Forgets what a change of the key of a number affects.
+// Forgets the settled names that a change of the key with number `n` affects.
 fn forget_number(alloc: Global, nodes: &mut Nodes, edges: &mut NameEdges, n: usize)
     requires { n < edges.old.names }
     ensures edges { Forgets (IsAffected edges.old n) edges.old edges.new }

@@ -1,9 +1,9 @@
-//! What is kept of settled names, by number.
+//! The stored outcomes of settled names, by number.
 
 use edge_links::Marks;
 use tree_eval::Outcome;
 
-// Whether each name is settled, how many are, and the outcome of each.
+// Whether each name is settled, the number of settled names, and the outcome of each.
 #[derive(Drop)]
 pub(crate) struct Kept {
     pub(crate) settled: Vec<bool>,

@@ -1,4 +1,4 @@
-//! Keys by number, and numbers by key.
+//! A two-way index between keys and numbers.
 
 ghost use Rattle.std.specs.Prelude.{◌≡◌, ◌<◌, [], Some, false, length, slice_get};
 ghost use Rattle.std.specs.Prelude.{IfOk, IfSome, MatchOption, OnErr};
@@ -12,17 +12,17 @@ use def_entry::{Key, Kind};
 use indexmap::IndexSet;
 use std::alloc::{AllocError, Global};
 use std::marker::Model;
-use units_io::Text;
+use units_io::{HashSeed, Text};
 
-/// Keys, each with the number of keys that came before it.
+/// Keys in insertion order. The number of a key is the number of keys before it.
 #[derive(Drop)]
 pub(crate) struct KeyIndex {
-    keys: IndexSet<StoredKey>,
-    // the key that was looked up last, with room for the longest of all: so it takes no memory to look one up
+    keys: IndexSet<StoredKey, HashSeed>,
+    // the key that was looked up last, with room for the longest of all keys, so that a lookup allocates no memory
     wanted: StoredKey,
 }
 
-/// The number of a key, and whether it had none before.
+/// The number of a key, and whether the key is new.
 #[derive(Clone, Copy, Drop)]
 pub(crate) struct Added {
     pub(crate) number: usize,
@@ -43,24 +43,24 @@ impl Model for KeyIndex {
 }
 
 impl KeyIndex {
-    /// No key.
-    pub(crate) fn new(alloc: Global) -> KeyIndex
+    /// Returns an empty index that uses a hash seed.
+    pub(crate) fn new(alloc: Global, seed: HashSeed) -> KeyIndex
         ensures { result ≡ [] }
     {
         KeyIndex {
-            keys: IndexSet::new(alloc),
+            keys: IndexSet::with_hasher(alloc, seed),
             wanted: StoredKey::new(alloc),
         }
     }
 
-    /// How many keys there are.
+    /// The number of keys.
     pub(crate) fn len(&self) -> usize
         ensures { result ≡ length self.now }
     {
         self.keys.len()
     }
 
-    /// The number of a key. It takes no memory.
+    /// Returns the number of a key, or `None` if it has none. It allocates no memory.
     pub(crate) fn number_of(&mut self, kind: Kind, name: &[u8]) -> Option<usize>
         ensures kept { self.new ≡ self.old }
         ensures number { MatchOption result (is_among self.old (key kind name.now) ≡ false)
@@ -73,7 +73,21 @@ impl KeyIndex {
         self.keys.get_index_of(&self.wanted)
     }
 
-    /// The kind of the key of a number.
+    /// Returns the number of a key, or `None` if it has none. The only error is lack of memory.
+    pub(crate) fn find(
+        &self,
+        alloc: Global,
+        kind: Kind,
+        name: &[u8],
+    ) -> Result<Option<usize>, AllocError>
+        ensures { IfOk result (λ number. MatchOption number (is_among self.now (key kind name.now) ≡ false)
+            (λ n. slice_get self.now n ≡ Some (key kind name.now))) }
+    {
+        let wanted = store(alloc, kind, name)?;
+        Ok(self.keys.get_index_of(&wanted))
+    }
+
+    /// Returns the kind of the key with number `n`.
     pub(crate) fn kind(&self, n: usize) -> Kind
         requires { n < length self.now }
         ensures { result ≡ (key_at self.now n).kind }
@@ -81,7 +95,7 @@ impl KeyIndex {
         kind_told(self.bytes(n)[0])
     }
 
-    /// Its name.
+    /// Returns the name of the key with number `n`.
     pub(crate) fn name(&self, n: usize) -> &[u8]
         requires { n < length self.now }
         ensures { result.now ≡ (key_at self.now n).name }
@@ -89,7 +103,7 @@ impl KeyIndex {
         &self.bytes(n)[1..]
     }
 
-    // Its bytes.
+    // Returns the bytes of the key with number `n`.
     fn bytes(&self, n: usize) -> &[u8]
         requires { n < length self.now }
         ensures { result.now ≡ stored (key_at self.now n) }
@@ -97,7 +111,8 @@ impl KeyIndex {
         self.keys.as_slice()[n].as_slice()
     }
 
-    /// A copy of the key of a number, of an empty name beyond the last. The only error is want of memory.
+    /// Returns a copy of the key with number `n`, or a key with an empty name beyond the last. The only error is lack
+    /// of memory.
     pub(crate) fn copy(&self, alloc: Global, n: usize) -> Result<Key, AllocError>
         ensures { IfOk result (λ key. key ≡ key_at self.now n) }
     {
@@ -113,14 +128,14 @@ impl KeyIndex {
         Ok(Key { kind, name })
     }
 
-    /// Makes room for so many more keys.
+    /// Makes room for `more` further keys.
     pub(crate) fn reserve(&mut self, more: usize) -> Result<(), AllocError>
         ensures { self.new ≡ self.old }
     {
         self.keys.reserve(more)
     }
 
-    /// The number of a key, the next where it has none. A refusal changes nothing.
+    /// Returns the number of a key, and adds the key with the next number if it has none. On failure nothing changes.
     pub(crate) fn add(
         &mut self,
         alloc: Global,
@@ -139,7 +154,8 @@ impl KeyIndex {
         self.insert(alloc, kind, name)
     }
 
-    // The number of a key that takes memory of its own where it is stored: so that none is taken for one that is known.
+    // Returns the number of a key that is too long to be stored inline, if it has one. So no memory is allocated for a
+    // key that is known.
     fn number_of_long(&mut self, kind: Kind, name: &[u8]) -> Option<usize>
         ensures kept { self.new ≡ self.old }
         ensures number { IfSome result (λ n. slice_get self.old n ≡ Some (key kind name.now)) }
@@ -150,13 +166,13 @@ impl KeyIndex {
         self.number_of(kind, name)
     }
 
-    // The number of a key, stored where it has none.
+    // Returns the number of a key, and stores the key if it has none.
     fn insert(&mut self, alloc: Global, kind: Kind, name: &[u8]) -> Result<Added, AllocError>
         ensures ok { IfOk result (λ added. IsAdded (key kind name.now) self.old self.new added.number added.is_new) }
         ensures err { OnErr result (self.new ≡ self.old) }
     {
         let bytes = store(alloc, kind, name)?;
-        // Room to look it up, before it is there.
+        // Makes room to look the key up before it is added.
         self.wanted.clear();
         self.wanted.reserve(bytes.len())?;
         let (number, is_new) = self.keys.insert_full(bytes)?;

@@ -7,19 +7,19 @@ use name_edges::NameEdges;
 use std::alloc::Global;
 use std::collections::VecDeque;
 
-/// Which settled names use which, and which looked at which other keys. An edit asks for that, and no query does: the
-/// names that were settled since the last edit wait for their edges until the next one.
+/// Which settled names use which, and which other keys each has looked at. Only edits need the edges, queries do not:
+/// names settled since the last edit get their edges at the next one.
 #[derive(Drop)]
 pub(crate) struct LateEdges {
     pub(crate) made: NameEdges,
     // the names without edges, in the order in which they were settled
     pub(crate) waiting: VecDeque<usize>,
-    // the names to which the words of one lead
+    // the names to which the words of one name lead
     pub(crate) targets: Agenda,
 }
 
 impl LateEdges {
-    /// No name. It takes no memory.
+    /// Returns an empty set of edges. It allocates no memory.
     pub(crate) fn new(alloc: Global) -> LateEdges
         ensures made { result.made ≡ record { names = 0; uses = []; looks = [] } }
         ensures waiting { result.waiting.items ≡ [] }

@@ -1,4 +1,4 @@
-//! Laws of kept outcomes.
+//! Laws of stored outcomes.
 
 ghost use Rattle.live_table.specs.CallLists.{CallListLaw, DeckKindsLaw, EditsCanBeLaw};
 ghost use Rattle.live_table.specs.EventExamples.{EventExamples};
@@ -11,38 +11,38 @@ ghost use Rattle.live_table.specs.States.{OrderLaw};
 
 use deck::{changes_are_computed, table_keys_are_whole};
 
-/// After any queries and edits each kept outcome is that of the present table.
+/// After any queries and edits each stored outcome is that of the present table.
 pub fn right_law()
     ensures { RightLaw }
 {}
 
-/// What stands after events depends on them one behind another.
+/// The state after a list of events and then another is the state after their concatenation.
 pub fn order_law()
     ensures { OrderLaw }
 {}
 
-/// Queries one behind another, where one of them may be cut off.
+/// Runs of events compose, even if the last one was cut off.
 pub fn run_law()
     ensures { RunLaw }
 {}
 
-/// What stands after events does not depend on the steps that were counted before.
+/// The state after events does not depend on the steps that were counted before.
 pub fn steps_law()
     ensures { StepsLaw }
 {}
 
-/// What a query settles, by the names that are new.
+/// The state after a query, in terms of the names that are new.
 pub fn new_law()
     ensures { NewLaw }
 {}
 
-/// After any queries and edits the kept names are exactly those that the queries reached and no later edit affected,
+/// After any queries and edits the stored names are exactly those that the queries reached and no later edit affected,
 /// each with its outcome in the present table.
 pub fn kept_law()
     ensures { KeptLaw }
 {}
 
-/// Events never lower the count of names newly settled.
+/// Events never lower the count of newly settled names.
 pub fn count_law()
     ensures { CountLaw }
 {}
@@ -52,15 +52,15 @@ pub fn deck_kinds_law()
     ensures { DeckKindsLaw }
 {}
 
-/// An edit from any deck to any other is an event that can be.
+/// An edit from any deck to any other is a possible event.
 pub fn edits_can_be_law()
     ensures { EditsCanBeLaw }
 {
     changes_are_computed();
 }
 
-/// After any list of calls each kept outcome is right. If memory sufficed for all of them, exactly the names that the
-/// queries reached and no later edit affected are kept.
+/// After any list of calls each stored outcome is right. If memory sufficed for all calls, the stored names are exactly
+/// those that the queries reached and no later edit affected.
 pub fn call_list_law()
     ensures { CallListLaw }
 {
@@ -68,12 +68,12 @@ pub fn call_list_law()
     table_keys_are_whole();
 }
 
-/// The kept names as a list that can be computed.
+/// The stored names are a list that can be computed.
 pub fn kept_list_law()
     ensures { KeptListLaw }
 {}
 
-/// The names that a few queries and edits leave kept.
+/// The names that are stored after a few queries and edits.
 pub fn event_examples()
     ensures { EventExamples }
 {}

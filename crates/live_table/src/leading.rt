@@ -1,4 +1,4 @@
-//! What a word leads to.
+//! The targets of a word.
 
 ghost use Rattle.std.specs.Prelude.{◌≡◌, ℕ, List, IfOk};
 ghost use Rattle.deck.specs.Tables.{table};
@@ -18,22 +18,22 @@ use name_lookup::resolve;
 use std::alloc::{AllocError, Global};
 use table_names::lookup_law;
 
-/// What a word leads to.
+/// The targets of a word.
 #[derive(Clone, Copy, Drop)]
 pub(crate) enum Lead {
-    /// It is a name that is refused.
+    /// The word is a refused name.
     Refused,
-    /// Nowhere.
+    /// The word has no target.
     Nowhere,
     /// A unit, a prefix or a function, by number.
     One(usize),
-    /// A prefix, and a unit.
+    /// A prefix and a unit, by number.
     Two(usize, usize),
 }
 
-/// What a word of an entry leads to in the table of a deck. If it has targets, each key that its lookup tries gets a
-/// number, and those that are no targets are gathered. A word that leads nowhere gives no key a number. The only error
-/// is want of memory.
+/// Returns the lead of a word of an entry in the table of a deck. If it has targets, each key that its lookup tries
+/// gets a number, and the keys that are not targets are gathered. A word that leads nowhere gives no key a number. The
+/// only error is lack of memory.
 pub(crate) fn lead_of(
     alloc: Global,
     deck: &Deck,
@@ -61,8 +61,8 @@ pub(crate) fn lead_of(
     number_targets(alloc, deck, nodes, tried, targets)
 }
 
-/// What a word of a query leads to in the table of a deck. Its targets get numbers, and no other key does. The only
-/// error is want of memory.
+/// Returns the lead of a word of a query in the table of a deck. Its targets get numbers, and no other key does. The
+/// only error is lack of memory.
 pub(crate) fn query_lead(
     alloc: Global,
     deck: &Deck,

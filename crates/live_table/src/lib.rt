@@ -1,4 +1,4 @@
-//! A deck with the outcome of each name that was asked for.
+//! A deck with the outcome of each name that was queried.
 #![tactic(auto)]
 
 mod agenda;
@@ -25,8 +25,10 @@ mod nodes;
 mod numbering;
 mod query_words;
 mod scratch;
+mod searching;
 mod settling;
 mod stepping;
+mod stop;
 mod stored_keys;
 mod surroundings;
 mod tried_keys;

@@ -1,4 +1,4 @@
-//! The edges of settled names, when an edit asks for them.
+//! Creates the edges of settled names when an edit needs them.
 
 ghost use Rattle.std.specs.Prelude.{◌≡◌, ◌⊎◌, ◌↔◌, ◌<◌, ◌∷◌, [], ℕ, List, OnErr, OnOk};
 ghost use Rattle.name_walk.specs.Closed.{IsSettled};
@@ -16,7 +16,7 @@ use name_edges::{NameEdges, linking_law};
 use name_walk::Step;
 use std::alloc::{AllocError, Global};
 
-/// Makes the edges of the names that wait for them. After want of memory those that have none yet wait still.
+/// Creates the edges of the names that wait for them. If memory runs out, the names without edges go on waiting.
 pub(crate) fn link_waiting(
     alloc: Global,
     deck: &Deck,
@@ -35,8 +35,8 @@ pub(crate) fn link_waiting(
     Ok(())
 }
 
-// Adds the edges of the name that waits first: to each name to which its words lead, which are gathered in `targets`,
-// and to each other key at which they look. Want of memory adds none.
+// Adds the edges of the first waiting name: to each name to which its words lead, which are gathered in `targets`, and
+// to each other key at which they look. If memory runs out, no edge is added.
 fn link(
     alloc: Global,
     deck: &Deck,
@@ -60,7 +60,7 @@ fn link(
     Ok(())
 }
 
-// Gathers the names to which steps lead, which are below `end`, each once.
+// Gathers the distinct names to which steps lead. They are below `end`.
 fn gather_targets(targets: &mut Agenda, steps: &[Step], end: usize) -> Result<(), AllocError>
     requires { (m : ℕ) → In (Step.To m) steps.now → m < end }
     ensures { OnOk result ((m : ℕ) → In m targets.new ↔ In (Step.To m) steps.now) }
@@ -72,7 +72,7 @@ fn gather_targets(targets: &mut Agenda, steps: &[Step], end: usize) -> Result<()
     Ok(())
 }
 
-// Gathers the name to which a step leads.
+// Gathers the name to which a step leads, if any.
 fn gather_target(targets: &mut Agenda, step: Step, end: usize) -> Result<(), AllocError>
     requires { (m : ℕ) → step ≡ Step.To m → m < end }
     ensures { OnOk result ((m : ℕ) → In m targets.new ↔ (In m targets.old ⊎ (step ≡ Step.To m))) }

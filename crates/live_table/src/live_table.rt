@@ -1,6 +1,6 @@
-//! A deck with the outcome of each name that was asked for.
+//! A deck with the outcome of each name that was queried.
 
-ghost use Rattle.std.specs.Prelude.{◌≡◌, ◌∷◌, [], true, length, Err, OnErr, OnOk};
+ghost use Rattle.std.specs.Prelude.{◌≡◌, ◌∷◌, [], true, length, Err, IfOk, None, OnErr, OnOk};
 ghost use Rattle.std.specs.FinMap as map_of;
 ghost use Rattle.expr_tree.specs.Trees.{syntax};
 ghost use Rattle.expr_tree.specs.Words.{words_in};
@@ -8,13 +8,16 @@ ghost use Rattle.def_entry.specs.Keys as key_spec;
 ghost use Rattle.def_entry.specs.declared.key.Kind.TheVariants as kind;
 ghost use Rattle.def_entry.specs.Tables.{is_present};
 ghost use Rattle.deck.specs.Tables.{table};
-ghost use Rattle.live_table.specs.declared.fault.QueryFault.TheVariants.{OutOfMemory};
+ghost use Rattle.live_table.specs.declared.fault.QueryFault.TheVariants as query_fault;
+ghost use Rattle.live_table.specs.declared.stop.Stop.TheVariants.{OutOfMemory};
 ghost use Rattle.live_table.specs.Answers as spec;
 ghost use Rattle.live_table.specs.Calls.{ArePresent, AreQueries, IsQuery, all_names, names_in, queries_of};
 ghost use Rattle.live_table.specs.Shown.{IsRightTable};
 ghost use Rattle.live_table.specs.States.{AsksKey, AsksWords};
 
+mod cached;
 mod editing;
+mod setting;
 
 use crate::asking::{ask_key, ask_words};
 use crate::counts::Counts;
@@ -24,17 +27,19 @@ use crate::fault::QueryFault;
 use crate::late_edges::LateEdges;
 use crate::nodes::Nodes;
 use crate::scratch::Scratch;
+use crate::stop::{Stop, fault_of_stop};
 use deck::{Deck, key_lists_are_one, table_keys_are_whole, tables_are_of_lines};
 use def_entry::{Key, Kind};
 use expr_tree::{Tree, words};
+use name_walk::findings_law;
 use quantity::Quantity;
 use std::alloc::{AllocError, Global};
 use std::marker::Model;
 use std::sync::ledger::Ledger;
 use units_io::Steps;
 
-/// A deck with one kept outcome for each settled name. Contracts see the deck, a finite map from
-/// the settled names to their outcomes, and how many names were settled.
+/// A deck with one cached outcome for each settled name. Contracts see the deck, a finite map from the settled names to
+/// their outcomes, and the number of names that were settled.
 pub struct LiveTable {
     deck: Deck,
     nodes: Nodes,
@@ -44,7 +49,7 @@ pub struct LiveTable {
     reductions: u64,
 }
 
-// By hand, so that who drops a table proves nothing of what it holds.
+// By hand, so that code that drops a table has nothing to prove about its contents.
 impl Drop for LiveTable {
     fn drop(self) {
         let LiveTable {
@@ -63,6 +68,7 @@ impl Model for LiveTable {
     ghost use Rattle.deck.specs.Tables.{table};
     ghost use Rattle.live_table.specs.Edged.{IsLive};
     ghost use Rattle.live_table.specs.Exploring.{WereExplored};
+    ghost use Rattle.live_table.specs.KnownFaults.{AreFaultsKnown};
     ghost use Rattle.live_table.specs.Stored.{listed, shown};
 
     ghost Value = { Shown };
@@ -72,17 +78,20 @@ impl Model for LiveTable {
     ghost view = { λ t. shown t.deck (listed t.nodes) t.reductions };
 
     ghost invariant = { λ t. IsLive t.deck (listed t.nodes) t.edges t.reductions
-        × WereExplored (table t.deck) (listed t.nodes) t.explored.names t.explored.dead_ends.items };
+        × (WereExplored (table t.deck) (listed t.nodes) t.explored.names t.explored.dead_ends.items
+        × AreFaultsKnown (listed t.nodes) t.explored.names t.explored.findings) };
 }
 
 impl LiveTable {
-    /// A deck of which no name is settled. It takes no memory.
+    /// Creates a table over a deck, with no name settled. It allocates no memory.
     pub fn new(alloc: Global, deck: Deck) -> LiveTable
         ensures { result ≡ record { deck = deck; kept = map_of.empty; reductions = 0 } }
     {
+        findings_law();
+        let seed = deck.settings().vars.seed();
         LiveTable {
             deck,
-            nodes: Nodes::new(alloc),
+            nodes: Nodes::new(alloc, seed),
             edges: LateEdges::new(alloc),
             explored: Explored::new(alloc),
             scratch: Scratch::new(alloc),
@@ -90,14 +99,14 @@ impl LiveTable {
         }
     }
 
-    /// A law of each live table: what is kept is right.
+    /// A law of every live table: the cached outcomes are right.
     pub fn kept_right(&self)
         ensures { IsRightTable self.now }
     {
         let _ = &self.deck;
     }
 
-    /// The deck.
+    /// Borrows the deck.
     pub fn deck(&self) -> &Deck
         ensures deck { result.now ≡ self.now.deck }
         ensures right { IsRightTable self.now }
@@ -105,9 +114,9 @@ impl LiveTable {
         &self.deck
     }
 
-    /// What an expression is worth in the table of the present deck: its name fault where it has
-    /// one, or else its value or the first fault of its whole expansion. Without a name fault the
-    /// names that it reaches are settled from then on, each with one step.
+    /// Returns the value of an expression in the table of the present deck. Fails with `Name` and its name fault if it
+    /// has one, else with `Value` and the first fault of its whole expansion if it has one, and with `OutOfMemory` if
+    /// memory runs out. Without a name fault the names that it reaches are settled afterwards, each with one step.
     pub fn value<L: Ledger>(
         &mut self,
         alloc: Global,
@@ -131,11 +140,48 @@ impl LiveTable {
             &mut self.reductions,
             &words,
             steps,
-        )?;
-        worth(alloc, deck, &self.nodes, tree, &words, query.as_slice())
+        );
+        let nodes = &self.nodes;
+        match query {
+            Ok(query) => worth(alloc, deck, nodes, tree, &words, query.as_slice()),
+            Err(stop) => Err(fault_of_stop(alloc, deck, nodes, &self.explored, &stop)),
+        }
     }
 
-    /// The inverse of a function that has an entry at a value, as `value` answers. It asks for the function.
+    /// Returns the value of an expression, as `value` does, or `None` if it has a fault, which is not named. The only
+    /// error is lack of memory.
+    pub fn value_if_any<L: Ledger>(
+        &mut self,
+        alloc: Global,
+        tree: &Tree,
+        steps: &mut Steps<L>,
+    ) -> Result<Option<Quantity>, AllocError>
+        ensures deck { self.new.deck ≡ self.old.deck }
+        ensures value { IfOk result (λ x. x ≡ spec.value_in (spec.answer (table self.old.deck) (syntax tree.now))) }
+        ensures after { AreQueries (AsksWords (words_in (syntax tree.now)) ∷ []) result
+            self.old self.new steps.old steps.new }
+    {
+        let deck = &self.deck;
+        let words = words(alloc, tree)?;
+        let query = ask_words(
+            alloc,
+            deck,
+            &mut self.nodes,
+            &mut self.edges,
+            &mut self.explored,
+            &mut self.scratch,
+            &mut self.reductions,
+            &words,
+            steps,
+        );
+        match query {
+            Ok(query) => value_of(worth(alloc, deck, &self.nodes, tree, &words, query.as_slice())),
+            Err(stop) => no_value(&stop),
+        }
+    }
+
+    /// Returns the inverse, at a value, of a function that has an entry. It queries the function, and fails as `value`
+    /// does.
     pub fn unapply<L: Ledger>(
         &mut self,
         alloc: Global,
@@ -149,7 +195,7 @@ impl LiveTable {
         ensures after { IsQuery (AsksKey (key_spec.key kind.Func name.now)) result
             self.old self.new steps.old steps.new }
     {
-        let n = ask_key(
+        let answer = ask_key(
             alloc,
             &self.deck,
             &mut self.nodes,
@@ -160,12 +206,18 @@ impl LiveTable {
             Kind::Func,
             name,
             steps,
-        )?;
-        inverse_worth(alloc, &self.deck, &self.nodes, n, value)
+        );
+        let nodes = &self.nodes;
+        let n = match answer {
+            Ok(n) => n,
+            Err(stop) => {
+                return Err(fault_of_stop(alloc, &self.deck, nodes, &self.explored, &stop));
+            }
+        };
+        inverse_worth(alloc, &self.deck, nodes, n, value)
     }
 
-    /// Asks for each unit, prefix and function, in byte order of names. The only error is want of
-    /// memory.
+    /// Queries each unit, prefix and function, in byte order of names. The only error is lack of memory.
     pub fn settle_all<L: Ledger>(
         &mut self,
         alloc: Global,
@@ -179,7 +231,7 @@ impl LiveTable {
         self.settle_keys(alloc, keys.as_slice(), steps)
     }
 
-    // Asks for each unit, prefix and function of keys that have entries.
+    // Queries each unit, prefix and function among keys that have entries.
     fn settle_keys<L: Ledger>(
         &mut self,
         alloc: Global,
@@ -197,7 +249,7 @@ impl LiveTable {
         Ok(())
     }
 
-    // Asks for a key that has an entry, unless it is a list.
+    // Queries a key that has an entry, unless it is a list.
     fn settle_key<L: Ledger>(
         &mut self,
         alloc: Global,
@@ -227,7 +279,7 @@ impl LiveTable {
         only_memory(&answer)
     }
 
-    /// What was counted.
+    /// Returns the counts of the table.
     pub fn counts(&self) -> Counts
         ensures settled { result.settled ≡ map_of.len self.now.kept }
         ensures names { result.names ≡ length (names_in (table self.now.deck)) }
@@ -248,13 +300,38 @@ impl LiveTable {
     }
 }
 
-// Want of memory, where that is why there is no answer.
-fn only_memory(answer: &Result<usize, QueryFault>) -> Result<(), AllocError>
+// Fails if the query stopped for lack of memory.
+fn only_memory(answer: &Result<usize, Stop>) -> Result<(), AllocError>
     ensures ok { OnOk result (answer.now ≡ Err OutOfMemory → ⊥) }
     ensures err { OnErr result (answer.now ≡ Err OutOfMemory) }
 {
     match answer {
-        Err(QueryFault::OutOfMemory) => Err(AllocError),
+        Err(Stop::OutOfMemory) => Err(AllocError),
         _ => Ok(()),
+    }
+}
+
+// Returns `None`, or fails if the query stopped for lack of memory.
+fn no_value(stop: &Stop) -> Result<Option<Quantity>, AllocError>
+    ensures value { IfOk result (λ value. value ≡ None) }
+    ensures ok { OnOk result (stop.now ≡ OutOfMemory → ⊥) }
+    ensures err { OnErr result (stop.now ≡ OutOfMemory) }
+{
+    match stop {
+        Stop::At(_) | Stop::Below(_) => Ok(None),
+        Stop::OutOfMemory => Err(AllocError),
+    }
+}
+
+// Returns the value of a result, or `None` if it is a fault. Lack of memory is an error.
+fn value_of(answer: Result<Quantity, QueryFault>) -> Result<Option<Quantity>, AllocError>
+    ensures ok { IfOk result (λ value. value ≡ spec.value_in answer) }
+    ensures some { OnOk result (answer ≡ Err query_fault.OutOfMemory → ⊥) }
+    ensures err { OnErr result (answer ≡ Err query_fault.OutOfMemory) }
+{
+    match answer {
+        Ok(value) => Ok(Some(value)),
+        Err(QueryFault::OutOfMemory) => Err(AllocError),
+        Err(_) => Ok(None),
     }
 }

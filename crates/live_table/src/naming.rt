@@ -1,4 +1,4 @@
-//! Name faults by name.
+//! Converts name faults by number into faults by name.
 
 ghost use Rattle.std.specs.Prelude.{◌≡◌, IfOk, map};
 ghost use Rattle.def_entry.specs.Tables.{Table};
@@ -15,7 +15,7 @@ use std::alloc::{AllocError, Global};
 use table_names::NameFault;
 use units_io::Text;
 
-/// A fault by number as a fault by name. The only error is want of memory.
+/// Converts a fault by number into a fault by name. The only error is lack of memory.
 pub(crate) fn named_fault(
     alloc: Global,
     keys: &KeyIndex,
@@ -35,7 +35,7 @@ pub(crate) fn named_fault(
     }
 }
 
-// The fault of a word that leads nowhere.
+// Returns the fault of a word that leads nowhere.
 fn dead_end_fault(
     alloc: Global,
     dead_ends: &[DeadEnd],
@@ -50,7 +50,7 @@ fn dead_end_fault(
     }
 }
 
-// The keys of numbers.
+// Returns the keys of numbers.
 fn keys_of(alloc: Global, keys: &KeyIndex, names: &[usize]) -> Result<Keys, AllocError>
     ensures { IfOk result (λ list. list ≡ map (key_at keys.now) names.now) }
 {

@@ -1,4 +1,4 @@
-//! Names by number.
+//! The names of a live table, by number.
 
 ghost use Rattle.std.specs.Prelude.{◌≡◌, ◌<◌, IfOk, OnErr, length, slice_set};
 ghost use Rattle.std.specs.Option.{is_some};
@@ -15,10 +15,11 @@ use name_lookup::Present;
 use name_walk::StepList;
 use std::alloc::{AllocError, Global};
 use tree_eval::Outcome;
+use units_io::HashSeed;
 
-/// Names by number, absent ones too: the key of each, whether it has an entry, what is kept of a function, its
-/// outcome where it is settled, the steps of its words, the numbers of the keys at which they look beside their
-/// targets, and whether it is settled; and how many are.
+/// The names of a live table by number, absent names included: the key of each, whether it has an entry, the data of a
+/// function, the outcome of a settled name, the steps of its words, the numbers of the keys at which they look besides
+/// their targets, and whether it is settled; and the number of settled names.
 #[derive(Drop)]
 pub(crate) struct Nodes {
     pub(crate) keys: KeyIndex,
@@ -29,20 +30,20 @@ pub(crate) struct Nodes {
     pub(crate) looks: Vec<Vec<usize>>,
     pub(crate) settled: Vec<bool>,
     pub(crate) settled_count: usize,
-    // near which the entry of each stands in the deck, as was found when the name was added or its key last changed. An
-    // edit of other lines may have moved it since
+    // the place in the deck near which the entry of each name was found when the name was added or its key last
+    // changed; an edit of other lines may have moved the entry since
     pub(crate) places: Vec<u32>,
-    // at which the words of a name have looked so far beside their targets
+    // the keys at which the words of one name have looked so far besides their targets
     pub(crate) gathered: Agenda,
 }
 
 impl Nodes {
-    /// No name.
-    pub(crate) fn new(alloc: Global) -> Nodes
+    /// Returns an empty list of names. The table of keys uses the seed.
+    pub(crate) fn new(alloc: Global, seed: HashSeed) -> Nodes
         ensures { listed result ≡ no_names }
     {
         Nodes {
-            keys: KeyIndex::new(alloc),
+            keys: KeyIndex::new(alloc, seed),
             present: Vec::new(alloc),
             callees: Vec::new(alloc),
             outcomes: Vec::new(alloc),
@@ -55,8 +56,8 @@ impl Nodes {
         }
     }
 
-    /// The number of a key. Where it has none, there is one more name, which is not settled and has no steps yet: then
-    /// alone the table is asked where the key stands in the deck. A refusal changes nothing.
+    /// Returns the number of a key. If it has none, a name is added, which is not settled and has no steps yet; only
+    /// then is the table queried for the place of the key in the deck. On failure nothing changes.
     pub(crate) fn add<P: Present>(
         &mut self,
         alloc: Global,
@@ -91,7 +92,7 @@ impl Nodes {
         Ok(added.number)
     }
 
-    /// Notes anew where the key of a name stands in the deck, and so whether it has an entry.
+    /// Updates the place of the key of a name in the deck, and so whether it has an entry.
     pub(crate) fn note(&mut self, n: usize, place: Option<usize>)
         requires { n < length self.old.present.items }
         ensures present { self.new.present.items ≡ slice_set self.old.present.items n (is_some place) }
@@ -103,7 +104,7 @@ impl Nodes {
         }
     }
 
-    /// Makes room for so many names in all.
+    /// Makes room for `count` names in total.
     pub(crate) fn make_room(&mut self, count: usize) -> Result<(), AllocError>
         ensures listed { listed self.new ≡ listed self.old }
         ensures gathered { self.new.gathered ≡ self.old.gathered }
@@ -119,7 +120,7 @@ impl Nodes {
         self.places.reserve(more)
     }
 
-    /// The place in the deck near which the entry of a name stood when it was last found.
+    /// Returns the place in the deck near which the entry of a name was when it was last found.
     pub(crate) fn place(&self, n: usize) -> usize {
         match self.places.get(n) {
             Some(place) => *place as usize,
@@ -128,7 +129,7 @@ impl Nodes {
     }
 }
 
-// A place as it is kept, 0 where there is none or it does not fit.
+// The stored form of a place, 0 if there is none or it does not fit.
 fn short(place: Option<usize>) -> u32 {
     match place {
         Some(place) => u32::try_from(place).unwrap_or(0),
@@ -136,7 +137,7 @@ fn short(place: Option<usize>) -> u32 {
     }
 }
 
-// What is kept of a name before its entry is read.
+// The data of a name before its entry is read.
 fn no_callee() -> Callee {
     let starts = PartStarts {
         out_unit: 0,

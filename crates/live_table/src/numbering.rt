@@ -1,4 +1,4 @@
-//! Numbers for keys.
+//! Assigns numbers to keys.
 
 ghost use Rattle.std.specs.Prelude.{◌≡◌, ◌<◌, true, List, IfOk, length};
 ghost use Rattle.def_entry.specs.Keys as keys;
@@ -18,8 +18,8 @@ use def_entry::Kind;
 use name_lookup::Present;
 use std::alloc::{AllocError, Global};
 
-/// The number of a key that has an entry, a new one where it has none. Where it is not settled and was not explored, it
-/// is put on the agenda. The only error is want of memory.
+/// Returns the number of a key that has an entry, a new one if it has none. If the name is not settled and was not
+/// explored, the number is put on the agenda. The only error is lack of memory.
 pub(crate) fn put_key(
     alloc: Global,
     deck: &Deck,
@@ -43,8 +43,8 @@ pub(crate) fn put_key(
     Ok(n)
 }
 
-/// Puts the number of a key that has an entry on the agenda, where it is not settled and was not explored. The only
-/// error is want of memory.
+/// Puts the number of a key that has an entry on the agenda if the name is not settled and was not explored. The only
+/// error is lack of memory.
 pub(crate) fn put_target(
     nodes: &Nodes,
     explored: &Agenda,
@@ -67,7 +67,8 @@ pub(crate) fn put_target(
     Ok(())
 }
 
-/// The number of a key, a new one where it has none. Only for a new one the table is asked where it stands.
+/// Returns the number of a key, a new one if it has none. The table is queried for the place of the key only if the
+/// number is new.
 pub(crate) fn number<P: Present>(
     alloc: Global,
     table: &P,

@@ -19,16 +19,16 @@ use expr_tree::Words;
 use name_walk::StepList;
 use std::alloc::{AllocError, Global};
 
-/// The steps of the words of a query before the first that leads nowhere, and that one.
+/// The steps of the words of a query before the first one that leads nowhere, and that word, if any.
 #[derive(Drop)]
 pub(crate) struct QuerySteps {
     pub(crate) steps: StepList,
     pub(crate) end: Option<DeadEnd>,
 }
 
-/// The steps of the words of a query, two for each, up to the first that leads nowhere: none behind it is looked at. A
-/// target that has no number gets one, and is put on the agenda where it is not known; no other key that is
-/// tried gets a number. The only error is want of memory.
+/// Returns the steps of the words of a query, two for each, up to the first word that leads nowhere; the words after it
+/// are not looked up. A target without a number gets one, and is put on the agenda if it is not known; no other key
+/// that is tried gets a number. The only error is lack of memory.
 pub(crate) fn query_steps(
     alloc: Global,
     deck: &Deck,

@@ -1,11 +1,11 @@
-//! What queries use again.
+//! Memory that queries reuse.
 
 use crate::agenda::Agenda;
 use crate::tried_keys::TriedKeys;
 use name_walk::Walker;
 use std::alloc::Global;
 
-/// Memory that a query uses and leaves to the next.
+/// Memory that one query leaves to the next.
 #[derive(Drop)]
 pub(crate) struct Scratch {
     pub(crate) agenda: Agenda,
@@ -14,7 +14,7 @@ pub(crate) struct Scratch {
 }
 
 impl Scratch {
-    /// It takes no memory.
+    /// Returns empty scratch memory. It allocates nothing.
     pub(crate) fn new(alloc: Global) -> Scratch {
         Scratch {
             agenda: Agenda::new(alloc),

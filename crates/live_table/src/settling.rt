@@ -1,4 +1,4 @@
-//! The outcomes of names, in the order of a walk.
+//! Computes the outcomes of names in the order of a walk.
 
 ghost use Rattle.std.specs.Prelude.{◌≡◌, ◌+◌, ◌^◌, ◌<◌, ◌∷◌, [], ℕ, map, true, IfOk, OnErr, OnOk, Some, length};
 ghost use Rattle.std.specs.Prelude.{slice_get};
@@ -14,6 +14,7 @@ ghost use Rattle.live_table.specs.Due.{AreDue, IsDue, with_outcome};
 ghost use Rattle.live_table.specs.Edged.{HasLateEdges};
 ghost use Rattle.live_table.specs.Exploring.{StayExplored};
 ghost use Rattle.live_table.specs.Found.{AreFound, Says};
+ghost use Rattle.live_table.specs.KnownFaults.{IsLater};
 ghost use Rattle.live_table.specs.Ranks as ranks;
 ghost use Rattle.live_table.specs.Sound.{IsSound};
 ghost use Rattle.live_table.specs.Stored.{key_at, listed, shown};
@@ -31,8 +32,8 @@ use std::sync::ledger::Ledger;
 use tree_eval::{Outcome, reduce};
 use units_io::Steps;
 
-/// Settles the names of a walk, targets before users, each with one step. Their edges wait. What the entries of the
-/// names on the agenda say was found in its order.
+/// Settles the names of a walk, targets before users, each with one step. Their edges are not created yet. `found`
+/// holds the definitions of the names on the agenda, in its order.
 pub(crate) fn settle<'a, L: Ledger>(
     alloc: Global,
     deck: &'a Deck,
@@ -51,6 +52,7 @@ pub(crate) fn settle<'a, L: Ledger>(
     ensures sound { IsSound deck.now (listed nodes.new) reductions.new }
     ensures edges { HasLateEdges deck.now (listed nodes.new) edges.new.waiting.items edges.new.made }
     ensures explored { StayExplored (table deck.now) (listed nodes.old) (listed nodes.new) }
+    ensures later { IsLater (listed nodes.old) (listed nodes.new) }
     ensures settled { AreSettledBy (map (key_at nodes.old.keys) order.now) result
         (shown deck.now (listed nodes.old) reductions.old) (shown deck.now (listed nodes.new) reductions.new)
         steps.old steps.new }
@@ -63,7 +65,7 @@ pub(crate) fn settle<'a, L: Ledger>(
     Ok(())
 }
 
-// What the entry of a name says. A name that was explored before stands on no agenda.
+// Returns the definition of a name. A name that was explored before is not on the agenda.
 fn what_of<'a>(
     deck: &'a Deck,
     nodes: &Nodes,
@@ -85,7 +87,7 @@ fn what_of<'a>(
     }
 }
 
-// Settles a name, whose entry says this, with one step. Want of memory leaves it as it was.
+// Settles a name, given its definition, with one step. If memory runs out, the name is unchanged.
 fn settle_one<L: Ledger>(
     alloc: Global,
     deck: &Deck,
@@ -103,6 +105,7 @@ fn settle_one<L: Ledger>(
     ensures sound { IsSound deck.now (listed nodes.new) reductions.new }
     ensures edges { HasLateEdges deck.now (listed nodes.new) edges.new.waiting.items edges.new.made }
     ensures explored { StayExplored (table deck.now) (listed nodes.old) (listed nodes.new) }
+    ensures later { IsLater (listed nodes.old) (listed nodes.new) }
     ensures nodes { OnOk result
         ((o : Outcome) × (c : Callee) × (listed nodes.new ≡ with_outcome n o c (listed nodes.old))) }
     ensures ok { OnOk result (shown deck.now (listed nodes.new) reductions.new
@@ -119,7 +122,7 @@ fn settle_one<L: Ledger>(
     Ok(())
 }
 
-// Puts in the outcome and the rank of a name, which is settled then.
+// Stores the outcome and the rank of a name and marks it as settled.
 fn put(nodes: &mut Nodes, n: usize, outcome: Outcome, rank: u32)
     requires callees { n < length (listed nodes.old).callees }
     requires outcomes { n < length (listed nodes.old).outcomes }
@@ -135,7 +138,7 @@ fn put(nodes: &mut Nodes, n: usize, outcome: Outcome, rank: u32)
     nodes.settled_count += 1;
 }
 
-// The outcome of a name, whose entry says this, in one step.
+// Computes the outcome of a name, given its definition, in one step.
 fn outcome_of<'a, L: Ledger>(
     alloc: Global,
     deck: &'a Deck,
@@ -158,7 +161,7 @@ fn outcome_of<'a, L: Ledger>(
     reduce(alloc, &surroundings, n, nodes.keys.name(n), what, steps)
 }
 
-// The rank of a name with this outcome.
+// Returns the rank of a name with this outcome.
 fn rank_of(deck: &Deck, nodes: &Nodes, n: usize, outcome: &Outcome) -> u32
     requires sound { (reductions : ℕ) × IsSound deck.now (listed nodes.now) reductions }
     requires due { IsDue (table deck.now) (listed nodes.now) n }
@@ -174,7 +177,7 @@ fn rank_of(deck: &Deck, nodes: &Nodes, n: usize, outcome: &Outcome) -> u32
     }
 }
 
-// The greatest rank of the names to which the steps lead, 0 where there is none.
+// Returns the greatest rank of the names to which the steps lead, or 0 if there are none.
 fn greatest_rank(callees: &[Callee], steps: &[Step]) -> u32
     requires { (m : ℕ) → In (Step.To m) steps.now → m < length callees.now }
     ensures { result ≡ ranks.greatest_step_rank callees.now steps.now }
@@ -186,7 +189,7 @@ fn greatest_rank(callees: &[Callee], steps: &[Step]) -> u32
     greatest
 }
 
-// The rank of the name to which a step leads.
+// Returns the rank of the name to which a step leads, or 0 if it leads nowhere.
 fn step_rank(callees: &[Callee], step: Step) -> u32
     requires { (m : ℕ) → step ≡ Step.To m → m < length callees.now }
     ensures { result ≡ ranks.step_rank callees.now step }

@@ -1,4 +1,4 @@
-//! Steps for words.
+//! Computes the steps of words.
 
 ghost use Rattle.std.specs.Prelude.{◌≡◌, ◌<◌, ◌++◌, ◌∷◌, [], ℕ, List, true, IfOk, length};
 ghost use Rattle.def_entry.specs.Tables.{Table, is_present};
@@ -22,8 +22,9 @@ use expr_tree::{WordUse, Words};
 use name_walk::{Step, StepList};
 use std::alloc::{AllocError, Global};
 
-/// The steps of the words of an entry, two for each. If a word has targets, each key that its lookup tries gets a number,
-/// targets that are not settled go on the agenda, and the other keys are gathered. The only error is want of memory.
+/// Returns the steps of the words of an entry, two for each. If a word has targets, each key that its lookup tries gets
+/// a number, the targets that are not settled go on the agenda, and the other keys are gathered. The only error is lack
+/// of memory.
 pub(crate) fn put_words(
     alloc: Global,
     deck: &Deck,
@@ -53,7 +54,7 @@ pub(crate) fn put_words(
     Ok(steps)
 }
 
-// Puts the steps of one word behind those of others.
+// Appends the steps of one word.
 fn put_word(
     alloc: Global,
     deck: &Deck,
@@ -85,7 +86,7 @@ pub(crate) struct WordSteps {
     pub(crate) second: Step,
 }
 
-// The steps of one word.
+// Returns the steps of one word.
 fn word_steps(
     alloc: Global,
     deck: &Deck,
@@ -113,8 +114,8 @@ fn word_steps(
     }
 }
 
-/// The steps to the targets of a word, which are put on the agenda where they are not known, or none where it has no
-/// target. The only error is want of memory.
+/// Returns the steps to the targets of a word and puts the targets that are not known on the agenda. Returns `None` if
+/// the word has no target. The only error is lack of memory.
 pub(crate) fn target_steps(
     nodes: &Nodes,
     explored: &Agenda,
@@ -151,7 +152,7 @@ pub(crate) fn target_steps(
     }
 }
 
-// The steps of a word that leads nowhere.
+// Stores a word that leads nowhere and returns its steps.
 fn put_dead_end(
     alloc: Global,
     u: &WordUse<'_>,

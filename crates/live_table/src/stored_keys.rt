@@ -1,4 +1,4 @@
-//! Keys as bytes.
+//! Keys in the form of bytes.
 
 ghost use Rattle.std.specs.Prelude.{◌≡◌, ◌<◌, ◌≤◌, IfOk, IsOk, OnOk, length};
 ghost use Rattle.def_entry.specs.KeyOrder.{kind_at, kind_number};
@@ -9,13 +9,13 @@ use def_entry::Kind;
 use smallvec::SmallVec;
 use std::alloc::{AllocError, Global};
 
-/// A key as bytes: one that tells its kind, and those of its name. A short one takes no memory of its own.
+/// A key in the form of bytes: one for its kind, then those of its name. A short key is stored inline.
 pub(crate) type StoredKey = SmallVec<u8, ROOM>;
 
-// The bytes for which a key has room where it lies.
+// The number of bytes that a key stores inline.
 const ROOM: usize = 16;
 
-// So each takes four words where it lies.
+// So each key takes four words.
 const _: () = prove!(size_of::<StoredKey>() == 32);
 
 const UNIT: u8 = Kind::Unit as u8;
@@ -24,12 +24,12 @@ const PREFIX: u8 = Kind::Prefix as u8;
 
 const FUNC: u8 = Kind::Func as u8;
 
-/// Whether a key of this name takes no memory of its own.
+/// Whether a key with this name is stored inline.
 pub(crate) fn is_short(name: &[u8]) -> bool {
     name.len() < ROOM
 }
 
-/// A key as bytes. The only error is want of memory.
+/// Converts a key into bytes. The only error is lack of memory.
 pub(crate) fn store(alloc: Global, kind: Kind, name: &[u8]) -> Result<StoredKey, AllocError>
     ensures { IfOk result (λ bytes. bytes.items ≡ stored (key kind name.now)) }
 {
@@ -38,7 +38,7 @@ pub(crate) fn store(alloc: Global, kind: Kind, name: &[u8]) -> Result<StoredKey,
     Ok(bytes)
 }
 
-/// Writes a key over what was there. It takes memory only where the key does not fit.
+/// Overwrites the bytes with a key. It allocates memory only if the key does not fit.
 pub(crate) fn overwrite(bytes: &mut StoredKey, kind: Kind, name: &[u8]) -> Result<(), AllocError>
     ensures ok { OnOk result (bytes.new.items ≡ stored (key kind name.now)) }
     ensures room { bytes.old.capacity ≤ bytes.new.capacity }
@@ -49,14 +49,14 @@ pub(crate) fn overwrite(bytes: &mut StoredKey, kind: Kind, name: &[u8]) -> Resul
     bytes.extend_from_slice(name)
 }
 
-// The byte that tells a kind.
+// The byte that encodes a kind.
 fn kind_byte(kind: Kind) -> u8
     ensures { result ≡ kind_number kind }
 {
     kind as u8
 }
 
-/// The kind that a byte tells.
+/// The kind that a byte encodes.
 pub(crate) fn kind_told(byte: u8) -> Kind
     ensures { result ≡ kind_at byte }
 {

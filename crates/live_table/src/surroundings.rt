@@ -1,4 +1,4 @@
-//! What an evaluation asks of the nodes.
+//! The environment that the nodes provide to an evaluation.
 
 ghost use Rattle.std.specs.Prelude.{◌≡◌, ◌+◌, ◌*◌, ◌^◌, ◌<◌, ℕ, true, Some, length, slice_get};
 ghost use Rattle.def_entry.specs.Tables.{entry_at, is_present};
@@ -17,12 +17,12 @@ use name_walk::Step;
 use std::marker::Model;
 use tree_eval::{Env, Holder, Meaning, Outcome, Part};
 
-/// What is asked for.
+/// The subject of an evaluation.
 #[derive(Clone, Copy, Drop)]
 pub(crate) enum Asked<'a, 'w> {
     /// An expression with these words and their steps.
     Expression(&'a Words<'w>, &'a [Step]),
-    /// The name of this number.
+    /// The name with this number.
     Name(usize),
 }
 
@@ -75,7 +75,7 @@ impl<'a, 'w> Env for Surroundings<'a, 'w> {
     }
 }
 
-// The numbers to which a word leads: its one target twice, or a prefix and a unit.
+// The numbers of the targets of a word: a single target twice, or a prefix and a unit.
 #[derive(Clone, Copy, Drop)]
 struct Targets {
     first: usize,
@@ -89,7 +89,7 @@ impl<'a, 'w> Surroundings<'a, 'w> {
     ghost use Rattle.name_walk.specs.Closed.{IsSettled};
     ghost use Rattle.live_table.specs.Scenes as scenes;
 
-    // The numbers to which the word at the place leads.
+    // Returns the numbers of the targets of the word at a place.
     fn targets(&self, holder: Holder, place: usize) -> Targets
         requires { place < length (scenes.holder_words self.now holder) }
         ensures led { (u : WordUse) → slice_get (scenes.holder_words self.now holder) place ≡ Some u
@@ -110,7 +110,7 @@ impl<'a, 'w> Surroundings<'a, 'w> {
         }
     }
 
-    // What is told of a word by the numbers to which it leads.
+    // Returns the meaning of a word, given the numbers of its targets.
     fn told(&self, targets: Targets) -> Meaning<'_>
         requires first { IsSettled self.now.settled targets.first }
         requires second { IsSettled self.now.settled targets.second }
@@ -127,7 +127,7 @@ impl<'a, 'w> Surroundings<'a, 'w> {
         }
     }
 
-    // The outcome of a settled name.
+    // Returns the outcome of a settled name.
     fn outcome(&self, n: usize) -> &Outcome
         requires { IsSettled self.now.settled n }
         ensures { result.now ≡ names.outcome (table self.now.deck) (key_at self.now.keys n) }
@@ -139,7 +139,7 @@ impl<'a, 'w> Surroundings<'a, 'w> {
     }
 }
 
-/// The entry of the key of a number.
+/// Returns the entry of the key with number `n`.
 pub(crate) fn entry<'a>(deck: &'a Deck, nodes: &Nodes, n: usize) -> Entry<'a>
     requires within { n < length nodes.now.keys }
     requires present { is_present (table deck.now) (key_at nodes.now.keys n) ≡ true }
@@ -150,7 +150,7 @@ pub(crate) fn entry<'a>(deck: &'a Deck, nodes: &Nodes, n: usize) -> Entry<'a>
     deck.entry_near(nodes.place(n), kind, name).unwrap()
 }
 
-/// The steps of a number.
+/// Borrows the steps of the name with number `n`.
 pub(crate) fn steps_of(nodes: &Nodes, n: usize) -> &[Step]
     requires { n < length nodes.now.steps.items }
     ensures is { result.now ≡ steps nodes.now.steps.items n }
@@ -159,7 +159,7 @@ pub(crate) fn steps_of(nodes: &Nodes, n: usize) -> &[Step]
     nodes.steps[n].as_slice()
 }
 
-// Where the words of a part begin among those of the entry of a number.
+// Returns the place at which the words of a part begin among those of the entry of the name with number `n`.
 fn start_of(nodes: &Nodes, n: usize, part: Part) -> usize
     requires { n < length nodes.now.callees.items }
     ensures { (c : Callee) → slice_get nodes.now.callees.items n ≡ Some c → result ≡ callees.start_at c.starts part }
@@ -173,7 +173,7 @@ fn start_of(nodes: &Nodes, n: usize, part: Part) -> usize
     }
 }
 
-// The numbers to which the steps of the word at the place lead.
+// Returns the numbers to which the steps of the word at a place lead.
 fn targets_at(steps: &[Step], place: usize) -> Targets
     requires first { (n : ℕ) × (slice_get steps.now (2 * place) ≡ Some (Step.To n)) }
     requires second { (n : ℕ) × (slice_get steps.now (2 * place + 1) ≡ Some (Step.To n)) }
@@ -187,7 +187,7 @@ fn targets_at(steps: &[Step], place: usize) -> Targets
     }
 }
 
-// The number to which a step leads.
+// Returns the number to which a step leads.
 fn number_of(step: Step) -> usize
     requires { (n : ℕ) × (step ≡ Step.To n) }
     ensures { step ≡ Step.To result }

@@ -1,4 +1,4 @@
-//! Numbers for the keys that the lookup of a word tried.
+//! Assigns numbers to the keys that the lookup of a word tried.
 
 ghost use Rattle.std.specs.Prelude.{◌≡◌, ◌<◌, ◌≤◌, ◌-◌, ℕ, List, IfOk, length, take};
 ghost use Rattle.deck.specs.Tables.{table};
@@ -18,7 +18,7 @@ use deck::Deck;
 use name_lookup::Targets;
 use std::alloc::{AllocError, Global};
 
-/// Gives numbers to the keys that were tried before the targets, and gathers them. The only error is want of memory.
+/// Gives numbers to the keys that were tried before the targets, and gathers them. The only error is lack of memory.
 pub(crate) fn gather_others(
     alloc: Global,
     deck: &Deck,
@@ -40,8 +40,8 @@ pub(crate) fn gather_others(
     Ok(())
 }
 
-/// Gives numbers to the targets among the keys that were tried: what a word leads to by number. The only error is want
-/// of memory.
+/// Gives numbers to the targets among the keys that were tried, and returns the lead of the word by number. The only
+/// error is lack of memory.
 pub(crate) fn number_targets(
     alloc: Global,
     deck: &Deck,
@@ -71,7 +71,7 @@ pub(crate) fn number_targets(
     }
 }
 
-// The number of the key that was tried at a place, a new one if it has none.
+// Returns the number of the key that was tried at a place, a new one if it has none.
 fn number_at(
     alloc: Global,
     deck: &Deck,

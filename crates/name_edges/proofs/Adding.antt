@@ -11,7 +11,7 @@ use Rattle.edge_links.proofs.EdgeCounts.{count_append}
 use Rattle.name_edges.proofs.Linked.{one_other_key, one_other_user}
 use Rattle.name_edges.proofs.Nodes.{counted}
 
--- both nodes of a name are there
+-- the second node of a name is in range
 pub both_there : (k nodes : ℕ) → k < nodes / 2 → k * 2 + 1 < nodes
 both_there k nodes l = let e : nodes / 2 * 2 + nodes % 2 ≡ nodes = node_of nodes in omega (arith, l, e)
 
@@ -19,57 +19,57 @@ both_there k nodes l = let e : nodes / 2 * 2 + nodes % 2 ≡ nodes = node_of nod
 none_sum : (a b : ℕ) → a ≡ 0 → b ≡ 0 → a + b ≡ 0
 none_sum a b e f = omega (arith, e, f)
 
--- edges of one user are none of another
+-- edges from one user are not edges from another
 from_other : (r user : ℕ) (keys : List ℕ) (x y : ℕ) → (user ≡ x → ⊥) → edge_count (map (edge_to r user) keys) x y ≡ 0
 from_other r user [] x y ne = refl
 from_other r user (k ∷ keys) x y ne =
     none_sum _ _ (one_other_user user (k * 2 + r) x y ne) (from_other r user keys x y ne)
 
--- edges to nodes of one kind are none to a node of the other
+-- edges to nodes of one kind are not edges to a node of the other kind
 to_other : (r s user : ℕ) (keys : List ℕ) (x k : ℕ) → ((j : ℕ) → j * 2 + r ≡ k * 2 + s → ⊥)
     → edge_count (map (edge_to r user) keys) x (k * 2 + s) ≡ 0
 to_other r s user [] x k ne = refl
 to_other r s user (j ∷ keys) x k ne =
     none_sum _ _ (one_other_key user (j * 2 + r) x (k * 2 + s) (ne j)) (to_other r s user keys x k ne)
 
--- names are equal where their nodes are
+-- names are equal exactly if their first nodes are equal
 same_user : (u x : ℕ) → nat_eq (u * 2) (x * 2) ≡ nat_eq u x
 same_user u x = elim (cases_eq u x) [
   | inl e ↦ eq-eqb (u * 2) (x * 2) (ap (λ z. z * 2) e) ∙ sym (eq-eqb u x e)
   | inr ne ↦ ne_eqb (u * 2) (x * 2) (λ e. ne (omega (arith, e))) ∙ sym (ne_eqb u x ne)
 ]
 
--- so they are by their nodes of either kind
+-- names are equal exactly if their nodes of the same kind are equal
 same_key : (r j k : ℕ) → nat_eq (j * 2 + r) (k * 2 + r) ≡ nat_eq j k
 same_key r j k = elim (cases_eq j k) [
   | inl e ↦ eq-eqb (j * 2 + r) (k * 2 + r) (ap (λ z. z * 2 + r) e) ∙ sym (eq-eqb j k e)
   | inr ne ↦ ne_eqb (j * 2 + r) (k * 2 + r) (λ e. ne (omega (arith, e))) ∙ sym (ne_eqb j k ne)
 ]
 
--- each edge between nodes is there as often as between the names
+-- each edge occurs as often between nodes as between their names
 as_often : (r user : ℕ) (keys : List ℕ) (x k : ℕ)
     → edge_count (map (edge_to r (user * 2)) keys) (x * 2) (k * 2 + r) ≡ edge_count (map (edge user) keys) x k
 as_often r user [] x k = refl
 as_often r user (j ∷ keys) x k =
     λ i. cond (same_user user x i && same_key r j k i) 1 0 + as_often r user keys x k i
 
--- a first node has no 1 behind it
+-- the number of a first node has remainder 0
 plain : (n : ℕ) → n * 2 ≡ n * 2 + 0
 plain n = omega arith
 
--- no second node is a first one
+-- no second node is a first node
 odd_even : (j k : ℕ) → j * 2 + 1 ≡ k * 2 + 0 → ⊥
 odd_even j k e = omega (arith, e)
 
--- nor the other way round
+-- no first node, with remainder 0, is a second node
 even_odd : (j k : ℕ) → j * 2 + 0 ≡ k * 2 + 1 → ⊥
 even_odd j k e = omega (arith, e)
 
--- a first node is no second one
+-- no first node is a second node
 first_second : (j k : ℕ) → j * 2 ≡ k * 2 + 1 → ⊥
 first_second j k e = omega (arith, e)
 
--- the first nodes of these keys are linked, and then the second of those
+-- the first nodes of the used names are linked, and then the second nodes of the keys that were looked at
 module _ (user : ℕ) (used looked : List ℕ) (old mid new : List Edge)
     (first : SameEdges mid (map (edge_to 0 (user * 2)) used ++ old))
     (second : SameEdges new (map (edge_to 1 (user * 2)) looked ++ mid)) where

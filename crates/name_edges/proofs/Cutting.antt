@@ -1,4 +1,4 @@
--- Edges that are cut one after another, and what then leads where.
+-- Edges that are cut one after another, and the ways that remain.
 use Rattle.std.proofs.Common.{◌≡◌, ◌⊎◌, ℕ, zero, suc, ◌<◌, get_or, Bool, List, [], ◌∷◌, ◌++◌, Contains}
 use Rattle.std.proofs.Common.{refl, sym, ◌∙◌, subst, inl, inr, arith}
 use Rattle.std.proofs.lemmas.Bool.{cases_eq, cases_Bool, true≢false}
@@ -8,14 +8,14 @@ use Rattle.edge_links.specs.Reach.{HasEdge, Reaches, at_once, further, IsCleared
 use Rattle.name_edges.specs.Affected.{AreAffected, Forgets, IsAffected, IsCut, Needs}
 use Rattle.name_edges.specs.NameGraphs.{NameGraph}
 
--- what two cuts cut together
+-- two cuts together cut the edges of these users
 pub record IsBoth (A B D : ℕ → Type 0) : Type 0 where
   pub first : (x : ℕ) → A x → D x
   pub second : (x : ℕ) → B x → D x
   pub either : (x : ℕ) → D x → (A x → ⊥) → (B x → ⊥) → ⊥
 
 module _ (A B D : ℕ → Type 0) (both : IsBoth A B D) where
-  -- an edge that was cut in the first place is not there afterwards
+  -- an edge that the first cut removed is still absent after the second cut
   gone_still : (old mid new : List Edge) → IsCut A old mid → IsCut B mid new → (x y : ℕ) → A x
       → (edge_count new x y ≡ 0 → ⊥) → ⊥
   gone_still old mid new a b x y h some =
@@ -42,7 +42,7 @@ module _ (A B D : ℕ → Type 0) (both : IsBoth A B D) where
     kept = λ x free. b.kept x (λ i. free (both.second x i)) ∙ a.kept x (λ i. free (both.first x i));
   }
 
--- what is there after a cut was there before, and is no edge of what was cut
+-- an edge after a cut existed before, and its user was not cut
 module _ (A : ℕ → Type 0) (old new : List Edge) (cut : IsCut A old new) where
   pub was_free : (x y : ℕ) → HasEdge new x y → A x → ⊥
   was_free x y h i = let z : edge_count new x y ≡ 0 = cut.gone x y i in omega (arith, h, z)
@@ -57,7 +57,7 @@ module _ (A : ℕ → Type 0) (old new : List Edge) (cut : IsCut A old new) wher
   reached_before (at_once h) = at_once (was_there _ _ h)
   reached_before (further h r) = further (was_there _ _ h) (reached_before r)
 
-  -- a way of which no user was cut is there still
+  -- a way without a cut user still exists
   module _ (up : (x y : ℕ) → HasEdge old x y → A y → A x) where
     pub reached_still : {x y : ℕ} → Reaches old x y → (A x → ⊥) → Reaches new x y
     reached_still (at_once h) free = at_once (stays_there _ _ free h)
@@ -73,7 +73,7 @@ module _ (g : NameGraph) where
   needs_more {n = n} h (inl e) = inr (at_once (subst (λ z. HasEdge g.uses n z) e h))
   needs_more h (inr r) = inr (further h r)
 
-  -- what uses an affected name is affected
+  -- a name that uses an affected name is affected
   pub user_affected : (key n m : ℕ) → HasEdge g.uses n m → IsAffected g key m → IsAffected g key n
   user_affected key n m h (inl i) = inl (needs_more h i)
   user_affected key n m h (inr (k, l, i)) = inr (k, l, needs_more h i)
@@ -94,7 +94,7 @@ module _ (g : NameGraph) where
   pub in_alone : (key n : ℕ) → IsAffected g key n → AreAffected g (key ∷ []) n
   in_alone key n i = (key, (0, omega arith, refl), i)
 
--- other keys, in what was left
+-- other keys are forgotten in the remaining graph
 module _ (keys others : List ℕ) (old mid : NameGraph) (left : Forgets (AreAffected old keys) old mid) where
   abbrev Before : ℕ → Type 0
   Before = AreAffected old keys

@@ -9,15 +9,15 @@ use Rattle.std.specs.Prelude.{◌&&◌}
 pub node_name : (n r : ℕ) → r < 2 → (n * 2 + r) / 2 ≡ n
 node_name n r l = div-mul-add n 2 r l
 
--- which of the two nodes of its name it is
+-- the remainder of a node is the kind of the node
 pub node_kind : (n r : ℕ) → r < 2 → (n * 2 + r) % 2 ≡ r
 node_kind n r l = mod-mul-add n 2 r l
 
--- each node is one of its name
+-- each node is a node of its name
 pub node_of : (x : ℕ) → x / 2 * 2 + x % 2 ≡ x
 node_of x = div-add-mod' x 2
 
--- a node is this one of a name exactly where its remainder and its half say so
+-- a node is the node of a name with remainder r exactly if its half is the name and its remainder is r
 pub is_node : (x n r : ℕ) → r < 2 → nat_eq x (n * 2 + r) ≡ (nat_eq (x % 2) r && nat_eq (x / 2) n)
 is_node x n r l = elim (cases_eq x (n * 2 + r)) [
   | inl e ↦

@@ -11,7 +11,7 @@ use Rattle.edge_links.proofs.EdgeCounts.{and_left, and_right, and_true, count_ap
 use Rattle.edge_links.proofs.Membership.{contains_cases, contains_first, contains_later, contains_none}
 use Rattle.name_edges.specs.Nodes.{edge_to}
 
--- how often the one edge is the other
+-- 1 if the edge from a to b is that from x to y, or else 0
 abbrev pub one_count : ℕ → ℕ → ℕ → ℕ → ℕ
 one_count a b x y = cond (nat_eq a x && nat_eq b y) 1 0
 
@@ -19,15 +19,15 @@ one_count a b x y = cond (nat_eq a x && nat_eq b y) 1 0
 pub one_self : (a b x y : ℕ) → a ≡ x → b ≡ y → one_count a b x y ≡ 1
 one_self a b x y e f = cond-true (nat_eq a x && nat_eq b y) 1 0 (and_true _ _ (eq-eqb a x e) (eq-eqb b y f))
 
--- and never from another user
+-- an edge is not counted from another user
 pub one_other_user : (a b x y : ℕ) → (a ≡ x → ⊥) → one_count a b x y ≡ 0
 one_other_user a b x y ne = cond-false (nat_eq a x && nat_eq b y) 1 0 (and_left _ _ (ne_eqb a x ne))
 
--- nor to another key
+-- an edge is not counted to another key
 pub one_other_key : (a b x y : ℕ) → (b ≡ y → ⊥) → one_count a b x y ≡ 0
 one_other_key a b x y ne = cond-false (nat_eq a x && nat_eq b y) 1 0 (and_right _ _ (ne_eqb b y ne))
 
--- the edges of a user lead from it, and to these keys
+-- the edges of a user to some keys lead from the user and to these keys
 edges_from : (user : ℕ) (keys : List ℕ) (x y : ℕ) → HasEdge (map (edge user) keys) x y → (x ≡ user) × Contains keys y
 edges_from user [] x y h = absurd (omega (arith, h))
 edges_from user (k ∷ keys) x y h = elim (cases_eq (one_count user k x y) 0) [
@@ -83,11 +83,11 @@ item_at [] n l = absurd (omega (arith, l))
 item_at (x ∷ keys) zero l = refl
 item_at (x ∷ keys) (suc n) l = item_at keys n (omega (arith, l))
 
--- what stands at a place is a member
+-- the item at a place is a member
 pub item_in : (keys : List ℕ) (n : ℕ) → n < length keys → Contains keys (get_or keys n 0)
 item_in keys n l = (n, l, item_at keys n l)
 
--- one place more takes what stands there
+-- taking one more place appends the item at that place
 take_next : (keys : List ℕ) (n k : ℕ) → n < length keys → get_or keys n k ≡ k
     → take (n + 1) keys ≡ take n keys ++ k ∷ []
 take_next [] n k l e = absurd (omega (arith, l))
@@ -98,12 +98,13 @@ take_next (x ∷ keys) (suc n) k l e =
     one_later : (n : ℕ) → suc n + 1 ≡ suc (n + 1)
     one_later n = omega arith
 
--- the images of a list with one more
+-- mapping a list with one more item appends the image of that item
 map_behind : (f : ℕ → Edge) (keys : List ℕ) (k : ℕ) → map f (keys ++ k ∷ []) ≡ map f keys ++ f k ∷ []
 map_behind f [] k = refl
 map_behind f (x ∷ keys) k = ap (λ es. f x ∷ es) (map_behind f keys k)
 
--- where edges to the first n keys are added, and then one to the next, edges to n + 1 are
+-- if edges to the first n keys are added, and then an edge to the next key, then edges to the first n + 1 keys are
+-- added
 pub one_linked : (r user : ℕ) (keys : List ℕ) (n : ℕ) → n < length keys → (old before now : List Edge) (x y : ℕ)
     → edge_count before x y ≡ edge_count (map (edge_to r user) (take n keys)) x y + edge_count old x y
     → edge_count now x y ≡ edge_count (edge_to r user (get_or keys n 0) ∷ before) x y
@@ -117,7 +118,7 @@ one_linked r user keys n l old before now x y was is =
     sums : (a b d f g h : ℕ) → a ≡ b + d → d ≡ f + g → h ≡ f + (b + 0) → a ≡ h + g
     sums a b d f g h i j k = omega (arith, i, j, k)
 
--- where edges to as many as there are were added, edges to all were
+-- if edges to the first n keys were added and there are at most n keys, then edges to all keys were added
 pub all_linked : (r user : ℕ) (keys : List ℕ) (n : ℕ) → length keys ≤ n → (old now : List Edge) (x y : ℕ)
     → edge_count now x y ≡ edge_count (map (edge_to r user) (take n keys)) x y + edge_count old x y
     → edge_count now x y ≡ edge_count (map (edge_to r user) keys ++ old) x y

@@ -1,4 +1,4 @@
--- What stands between nodes is what stands between names.
+-- Edges between nodes are edges between names.
 use Rattle.std.proofs.Common.{◌≡◌, ◌⊎◌, ℕ, ◌+◌, ◌*◌, ◌/◌, ◌%◌, ◌<◌, Bool, true, false, cond, nat_eq, List, [], ◌∷◌}
 use Rattle.std.proofs.Common.{refl, sym, ◌∙◌, ap, subst, inl, inr, arith}
 use Rattle.std.proofs.lemmas.Bool.{cases_eq}
@@ -13,11 +13,11 @@ use Rattle.name_edges.specs.Nodes.{AreNodes, edges_to, name_graph}
 use Rattle.name_edges.proofs.Cutting.{IsBoth, cleared_on, cut_on, reached_before, reached_still, was_there}
 use Rattle.name_edges.proofs.Halves.{is_node, node_kind, node_name, node_of}
 
--- a first node has no 1 behind it
+-- the number of a first node has remainder 0
 plain : (n : ℕ) → n * 2 + 0 ≡ n * 2
 plain n = omega arith
 
--- none and n are n
+-- 0 is the unit of addition
 none_more : (n : ℕ) → n ≡ 0 + n
 none_more n = omega arith
 
@@ -35,7 +35,7 @@ one_edge true b false d p q n f g e es u k h i j = j
     none false = refl
 one_edge false b c d p q n f g e es u k h i j = j ∙ (none_more n ∙ sym (ap (λ z. cond (z && q) 1 0 + n) f))
 
--- as many edges between names as between their nodes
+-- there are as many edges between names as between their nodes
 pub counted : (r : ℕ) → r < 2 → (es : List Edge) (u k : ℕ) → edge_count (edges_to r es) u k ≡ edge_count es (u * 2)
     (k * 2 + r)
 counted r l [] u k = refl

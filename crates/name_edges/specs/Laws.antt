@@ -1,12 +1,12 @@
--- What holds of what is forgotten and of what is linked.
+-- Laws of forgetting and of linking.
 use Rattle.std.specs.Prelude.{◌≡◌, ◌⊎◌, ◌↔◌, ◌++◌, ℕ, Bool, List, [], ◌∷◌, map, Contains}
 use Rattle.edge_links.specs.Edges.{Edge, edge, SameEdges}
 use Rattle.edge_links.specs.Reach.{HasEdge, IsCleared}
 use Rattle.name_edges.specs.Affected.{AreAffected, Forgets, IsAffected}
 use Rattle.name_edges.specs.NameGraphs.{NameGraph}
 
--- law: without a changed key nothing is forgotten; one changed key affects what it affects alone; and where other
--- keys are forgotten in what was left, all that the keys together affect is forgotten, and no other mark is taken
+-- law: without a changed key nothing is forgotten; a list of one key affects what the key affects; and forgetting some
+-- keys and then others forgets exactly what all of them together affect, and clears no other mark
 pub record ForgettingLaw : Type 0 where
   pub none : (g : NameGraph) → Forgets (AreAffected g []) g g
   pub none_cleared : (g : NameGraph) (marks : ℕ → Bool) → IsCleared (AreAffected g []) marks marks
@@ -19,7 +19,7 @@ pub record ForgettingLaw : Type 0 where
       → IsCleared (AreAffected old keys) marks then → IsCleared (AreAffected mid others) then now
       → IsCleared (AreAffected old (keys ++ others)) marks now
 
--- law: a linked name has the edges that were added, and all edges from before stand
+-- law: a linked name has the edges that were added, and all earlier edges stay
 abbrev pub LinkingLaw : Type 0
 LinkingLaw = (user : ℕ) (keys : List ℕ) (old new : List Edge) → SameEdges new (map (edge user) keys ++ old)
     → (x y : ℕ) → HasEdge new x y ↔ (((x ≡ user) × Contains keys y) ⊎ HasEdge old x y)

@@ -3,11 +3,11 @@ use Rattle.std.specs.Prelude.{◌≡◌, ◌&&◌, ℕ, ◌+◌, ◌*◌, ◌/�
 use Rattle.edge_links.specs.Edges.{Edge, edge, edge_count, Graph}
 use Rattle.name_edges.specs.NameGraphs.{NameGraph}
 
--- the edge from a node to that node of a key which has this remainder
+-- the edge from a node to the node of a key that has this remainder
 abbrev pub edge_to : ℕ → ℕ → ℕ → Edge
 edge_to remainder user key = edge user (key * 2 + remainder)
 
--- the edges between the first nodes of names, or from these to the second, by the numbers of the names
+-- the edges from first nodes to first nodes (remainder 0) or to second nodes (remainder 1), by the numbers of the names
 abbrev pub edges_to : ℕ → List Edge → List Edge
 edges_to remainder [] = []
 edges_to remainder (e ∷ es) =
@@ -15,7 +15,7 @@ edges_to remainder (e ∷ es) =
     then edge (e.user / 2) (e.key / 2) ∷ edges_to remainder es
     else edges_to remainder es
 
--- a last node that stands alone belongs to no name yet
+-- the graph of names; a last node without a partner belongs to no name yet
 abbrev pub name_graph : Graph → NameGraph
 name_graph g = record { names = g.nodes / 2; uses = edges_to 0 g.edges; looks = edges_to 1 g.edges }
 

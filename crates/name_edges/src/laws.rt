@@ -2,12 +2,12 @@
 
 ghost use Rattle.name_edges.specs.Laws.{ForgettingLaw, LinkingLaw};
 
-/// What is forgotten where one key after another has changed is what all of them together affect.
+/// Forgetting what changed keys affect, one key after another, forgets exactly what all of them together affect.
 pub fn forgetting_law()
     ensures { ForgettingLaw }
 {}
 
-/// Which names use which, and which looked at which keys, where a name was linked.
+/// After a name is linked, it has the added edges, and all earlier edges stay.
 pub fn linking_law()
     ensures { LinkingLaw }
 {}

@@ -1,5 +1,5 @@
-//! Which names use which, and which looked at which keys, by number: what a change of a key affects is
-//! forgotten at the cost of what is forgotten.
+//! A graph of numbered names: which names use which, and which names looked at which keys. Everything that a change of
+//! a key affects can be forgotten at a cost proportional to what is forgotten.
 #![tactic(auto)]
 
 mod laws;

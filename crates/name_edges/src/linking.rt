@@ -6,7 +6,7 @@ ghost use Rattle.name_edges.specs.Nodes.{edge_to};
 
 use edge_links::Links;
 
-// Adds an edge from a node to that node of each key which has this remainder. It takes no memory.
+// Adds an edge from the node `user` to the node of each key that has this remainder. Allocates no memory.
 pub(crate) fn link_all(links: &mut Links, user: usize, keys: &[usize], remainder: usize)
     requires user { user < links.old.nodes }
     requires keys { (k : ℕ) → Contains keys.now k → k * 2 + remainder < links.old.nodes }

@@ -11,10 +11,10 @@ use edge_links::{Links, Marks};
 use std::alloc::{AllocError, Global};
 use std::marker::Model;
 
-/// Which names use which, and which looked at which other keys. Names and keys are numbered from 0.
+/// Which names use which, and which names looked at which other keys. Names and keys are numbered from 0.
 ///
-/// A number has two nodes. By the first a name uses and is used; the second is that of its key where
-/// others looked at it and use it not, and is never a user, so that nothing is forgotten through it.
+/// Each number has two nodes. The first stands for the name, which uses names and is used. The second stands for the
+/// key, for names that looked at it but do not use it. It is never a user, so nothing is forgotten through it.
 #[derive(Drop)]
 pub struct NameEdges {
     links: Links,
@@ -32,7 +32,7 @@ impl Model for NameEdges {
 }
 
 impl NameEdges {
-    /// No name. It takes no memory.
+    /// Returns a graph without names. It allocates no memory.
     pub fn new(alloc: Global) -> NameEdges
         ensures { result ≡ record { names = 0; uses = []; looks = [] } }
     {
@@ -41,14 +41,14 @@ impl NameEdges {
         }
     }
 
-    /// How many names there are.
+    /// Returns the number of names.
     pub fn names(&self) -> usize
         ensures { result ≡ self.now.names }
     {
         self.links.node_count() / 2
     }
 
-    /// Sees that there are at least `count` names. A refusal leaves what the names use and looked at.
+    /// Ensures that there are at least `count` names. On an error, some names may have been added, but the edges stay.
     pub fn cover(&mut self, alloc: Global, count: usize) -> Result<(), AllocError>
         ensures covered { OnOk result (count ≤ self.new.names) }
         ensures within { self.new.names ≤ max self.old.names count }
@@ -61,7 +61,7 @@ impl NameEdges {
         Ok(())
     }
 
-    /// One more name, whose number is the number of names before. A refusal changes nothing.
+    /// Adds a name, whose number is the previous number of names. On an error nothing changes.
     pub fn add_name(&mut self, alloc: Global) -> Result<(), AllocError>
         ensures ok { OnOk result (self.new ≡ record self.old { names = self.old.names + 1 }) }
         ensures err { OnErr result (self.new ≡ self.old) }
@@ -73,7 +73,7 @@ impl NameEdges {
         Ok(())
     }
 
-    /// Adds that a name uses these names, and looked at these other keys. A refusal changes nothing.
+    /// Records that a name uses the names `used`, and looked at the other keys `looked`. On an error nothing changes.
     pub fn link(
         &mut self,
         alloc: Global,
@@ -95,8 +95,8 @@ impl NameEdges {
         Ok(())
     }
 
-    /// Clears the names that a change of a key affects, and removes what they use and looked at. It takes
-    /// no memory, and its cost is that of the edges that it removes.
+    /// Clears the marks of the names that a change of a key affects, and removes the edges from these names. Allocates
+    /// no memory. The cost is proportional to the number of removed edges.
     pub fn forget<K: Marks>(&mut self, key: usize, names: K) -> K
         requires { key < self.old.names }
         ensures edges { Forgets (IsAffected self.old key) self.old self.new }

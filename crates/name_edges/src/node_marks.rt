@@ -1,10 +1,10 @@
-//! Marks on names, seen as marks on nodes.
+//! Marks on names, viewed as marks on nodes.
 
 ghost use Rattle.std.specs.Prelude.{◌≡◌, ◌&&◌, ◌/◌, ◌%◌, nat_eq};
 
 use edge_links::Marks;
 
-// The marks of names, each on the node by which a name uses others. The other nodes have no mark.
+// The marks of names, each on the first node of its name. The other nodes have no mark.
 #[derive(Drop)]
 pub(crate) struct NodeMarks<K: Marks> {
     pub(crate) names: K,

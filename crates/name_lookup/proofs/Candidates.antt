@@ -14,11 +14,11 @@ use Rattle.name_lookup.specs.Plans.{Asks, Gives, Plan, after, run}
 use Rattle.name_lookup.specs.Plurals.{has_ending, without}
 
 module _ (has : Key → Bool) where
-  -- a plan leads to what these candidates lead to
+  -- a plan has the result of these candidates
   abbrev Tries : Plan → List (List Key) → Type 0
   Tries p cs = run has p ≡ found has cs
 
-  -- one key, and then what follows
+  -- a plan that tries one key tries it as the first candidate
   key_tried : (k : Key) (next : Plan) (cs : List (List Key)) → Tries next cs → Tries (try_key k next) ((k ∷ []) ∷ cs)
   key_tried k next cs h = by (has k)
     where
@@ -30,7 +30,7 @@ module _ (has : Key → Bool) where
       by true = refl
       by false = ap (after k) h
 
-  -- a prefix with the rest of its word
+  -- a plan that tries a prefix with the rest of its word tries the candidate of both
   prefix_tried : (front rest : List ℕ) (next : Plan) (cs : List (List Key)) → Tries next cs
       → Tries (Asks (key kind.Prefix front) (with_prefix (key kind.Prefix front) rest next) next)
       (prefix_candidate front rest ∷ cs)
@@ -54,7 +54,7 @@ module _ (has : Key → Bool) where
       by true false = ap (λ (x : Found). after p (after u x)) h
       by false d = ap (after p) h
 
-  -- the prefixes of a word
+  -- a plan that tries the prefixes of a word tries their candidates
   prefixes_tried : (k : ℕ) (word : List ℕ) (next : Plan) (cs : List (List Key)) → Tries next cs
       → Tries (try_prefixes k word next) (prefix_candidates_within k word ++ cs)
   prefixes_tried zero word next cs h = h
@@ -63,7 +63,7 @@ module _ (has : Key → Bool) where
       (prefix_candidates_within k word ++ cs)
       (prefixes_tried k word next cs h)
 
-  -- stems, one after another
+  -- tries stems one after another
   abbrev try_each : List (List ℕ) → Plan → Plan
   try_each [] next = next
   try_each (v ∷ vs) next = try_stem v (try_each vs next)
@@ -79,7 +79,7 @@ module _ (has : Key → Bool) where
       (prefixes_tried (length v) v (try_each vs next) (flat_map singular_candidates vs ++ cs)
       (each_tried vs next cs h)))
 
-  -- up to three stems
+  -- a plan that tries up to three stems tries their candidates
   three_tried : (a b c : Bool) (u v w : List ℕ) (next : Plan) (cs : List (List Key)) → Tries next cs
       → Tries (try_stem_if a u (try_stem_if b v (try_stem_if c w next)))
       (flat_map singular_candidates (cond a (u ∷ []) [] ++ cond b (v ∷ []) [] ++ cond c (w ∷ []) []) ++ cs)
@@ -92,7 +92,7 @@ module _ (has : Key → Bool) where
   three_tried false false true u v w next cs h = each_tried (w ∷ []) next cs h
   three_tried false false false u v w next cs h = h
 
-  -- two kinds, and then the parts of the word
+  -- a plan that tries two kinds and then the parts of a word tries their candidates
   kinds_tried : (one two : Kind) (word : List ℕ)
       → Tries (try_kinds one two word (Gives [])) ((key one word ∷ []) ∷ (key two word ∷ []) ∷ part_candidates word)
   kinds_tried one two word =

@@ -1,4 +1,4 @@
--- A search of a whole word has found the targets.
+-- A search for a whole word finds the targets.
 use Rattle.std.proofs.Common.{◌≡◌, ℕ, ◌+◌, ◌-◌, ◌≤◌, List, [], ◌++◌, length, drop, Result, Ok, Err, IfOk, Bool, ap, sym}
 use Rattle.std.proofs.Common.{◌∙◌, arith, refl, subst}
 use Rattle.std.proofs.Math.ListN.{drop_of_length-le}
@@ -15,11 +15,11 @@ use Rattle.name_lookup.specs.Steps.{IsTaken, behind, with_rest}
 use Rattle.name_lookup.specs.Targets.{AreFound, count, last_keys}
 use Rattle.name_lookup.proofs.Candidates.{candidates_law}
 
--- no target, and no key that was looked at
+-- the result without targets and keys that were looked at
 abbrev nothing : Found
 nothing = record { targets = []; looked = [] }
 
--- the last keys of a list are those of its end, where that is long enough
+-- the last keys of two joined lists are those of the second list, if that is long enough
 last_behind : (n : ℕ) (before looked : List Key) → n ≤ length looked
     → last_keys n (before ++ looked) ≡ last_keys n looked
 last_behind n before looked h =
@@ -27,11 +27,11 @@ last_behind n before looked h =
     let e : length (before ++ looked) - n ≡ length before + (length looked - n) = omega arith in
     ap (λ k. drop k (before ++ looked)) e ∙ drop-append-add before looked (length looked - n)
 
--- so many last keys are so many where there are as many
+-- the list of the last n keys has length n, if there are n keys
 length_last : (n : ℕ) (keys : List Key) → n ≤ length keys → length (last_keys n keys) ≡ n
 length_last n keys h = let l = length-drop (length keys - n) keys in omega arith
 
--- where the targets are the last of the keys that were looked at, they are found
+-- if the targets are the last of the keys that were looked at, they are found
 ended :
     (which : Targets) (n : ℕ) (before after : List Key) (found : Found) → count which ≡ n
     → length before + n ≤ length after
@@ -48,7 +48,7 @@ ended which n before after found c enough t l =
       many = ap length last ∙ (length_last n found.looked h ∙ sym c);
     }
 
--- so they are where a search ends in them
+-- if a search ends with some targets, they are found
 found_by :
     (which : Targets) (before after : List Key) (found : Found) → behind before found ≡ with_rest which after nothing
     → length before + count which ≤ length after → AreFound which before after found
@@ -62,7 +62,7 @@ found_by LastTwo before after found runs enough =
     ended LastTwo 2 before after found refl enough (ap (λ (f : Found). f.targets) runs)
     (ap (λ (f : Found). f.looked) runs)
 
--- a search by the plan of a word finds what the plan leads to
+-- a search by the plan of a word finds the result of the plan
 pub all_found :
     {E : Type 0} (has : Key → Bool) (kind : WordKind) (word : List ℕ) (before after : List Key) (r : Result Targets E)
     → IfOk r (λ which. IsTaken has (try_word kind word) before after which)
@@ -71,7 +71,7 @@ all_found has kind word before after (Ok which) h =
     found_by which before after (run has (plan kind word)) (h.runs (Gives [])) h.enough
 all_found has kind word before after (Err e) h = h
 
--- and so it finds the first candidate of which every key is present
+-- a search by the plan of a word finds the first candidate whose keys are all present
 pub all_chosen :
     {E : Type 0} (has : Key → Bool) (kind : WordKind) (word : List ℕ) (before after : List Key) (r : Result Targets E)
     → IfOk r (λ which. IsTaken has (try_word kind word) before after which)

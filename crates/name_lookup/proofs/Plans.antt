@@ -1,4 +1,4 @@
--- What the run of a plan depends on.
+-- The keys that the run of a plan depends on.
 use Rattle.std.proofs.Common.{◌≡◌, ◌⊎◌, ℕ, zero, suc, Bool, true, false, List, [], ◌∷◌, ◌++◌, length, take, drop, codes}
 use Rattle.std.proofs.Common.{if◌then◌else◌, ◌<◌, slice_index_or, Contains, refl, sym, ◌∙◌, ap, subst, inl, inr, arith}
 use Rattle.expr_tree.specs.declared.word_list.WordKind.{WordKind}
@@ -15,7 +15,7 @@ use Rattle.name_lookup.specs.Plans.{Plan, Gives, Asks, after, run}
 use Rattle.name_lookup.specs.Plurals.{has_ending, without}
 use Rattle.name_lookup.proofs.Candidates.{candidates_law}
 
--- the key is one of these, by recursion
+-- the key is in the list, by recursion
 abbrev IsIn : Key → List Key → Type 0
 IsIn k [] = ⊥
 IsIn k (x ∷ xs) = (k ≡ x) ⊎ IsIn k xs
@@ -33,28 +33,28 @@ contained (x ∷ xs) k (inl is) = (0, omega arith, sym is)
 contained (x ∷ xs) k (inr i) = let there : Contains xs k =
     contained xs k i in (suc there.0, omega (arith, there.1), there.2)
 
--- what a plan gives was asked for, and was present
+-- a plan is honest after some present keys: each target that it gives was looked up and present
 abbrev IsHonest : List Key → Plan → Type 0
 IsHonest ks (Gives ts) = (n : Key) → IsIn n ts → IsIn n ks
 IsHonest ks (Asks k present absent) = IsHonest (k ∷ ks) present × IsHonest ks absent
 
--- where a key is present and all others of a list are, all with it are
+-- if a key and all keys of a list are present, then all keys of the list with that key in front are present
 now_there : (has : Key → Bool) (k : Key) (ks : List Key) → has k ≡ true → ((q : Key) → IsIn q ks → has q ≡ true)
     → (q : Key) → IsIn q (k ∷ ks) → has q ≡ true
 now_there has k ks e there q (inl f) = subst (λ (x : Key). has x ≡ true) (sym f) e
 now_there has k ks e there q (inr f) = there q f
 
--- of three cases the second comes first
+-- a disjunction of three cases may be regrouped with the second case first
 regroup : (A B C : Type 0) → ((A ⊎ B) ⊎ C) → B ⊎ (A ⊎ C)
 regroup A B C (inl (inl a)) = inr (inl a)
 regroup A B C (inl (inr b)) = inl b
 regroup A B C (inr c) = inr (inr c)
 
--- what a plan finds behind the answer for a key
+-- the result of the rest of a plan after the answer for a key
 abbrev rest_of : (Key → Bool) → Plan → Plan → Bool → Found
 rest_of has present absent b = if b then run has present else run has absent
 
--- each target of a plan is present, and was asked for before it or by it
+-- each target of an honest plan is present, and was looked up before the plan or by it
 targets_asked :
     (has : Key → Bool) (ks : List Key) (p : Plan) → ((k : Key) → IsIn k ks → has k ≡ true) → IsHonest ks p
     → (n : Key) → IsIn n (run has p).targets → (has n ≡ true) × (IsIn n ks ⊎ IsIn n (run has p).looked)
@@ -73,7 +73,7 @@ targets_asked has ks (Asks k present absent) there h n i =
           (r.0, elim r.1 [ inl f ↦ inl f | inr f ↦ inr (inr f) ])
     ]) refl i
 
--- plans that are honest whatever was asked before
+-- a plan is sound if it is honest whatever keys were looked up before
 abbrev IsSound : Plan → Type 0
 IsSound p = (ks : List Key) → IsHonest ks p
 
@@ -81,28 +81,28 @@ IsSound p = (ks : List Key) → IsHonest ks p
 nothing_given : IsSound (Gives [])
 nothing_given ks n i = absurd i
 
--- one target is the key that was asked for last
+-- a single target is the key that was looked up last
 gives_itself : (ks : List Key) (k n : Key) → IsIn n (k ∷ []) → IsIn n (k ∷ ks)
 gives_itself ks k n (inl e) = inl e
 gives_itself ks k n (inr e) = absurd e
 
--- two targets are the two that were asked for last
+-- two targets are the two keys that were looked up last
 gives_both : (ks : List Key) (p u n : Key) → IsIn n (p ∷ u ∷ []) → IsIn n (u ∷ p ∷ ks)
 gives_both ks p u n (inl e) = inr (inl e)
 gives_both ks p u n (inr (inl e)) = inl e
 gives_both ks p u n (inr (inr e)) = absurd e
 
--- a key before a sound plan makes a sound plan
+-- trying a key before a sound plan is a sound plan
 key_sound : (k : Key) (next : Plan) → IsSound next → IsSound (try_key k next)
 key_sound k next h ks = (gives_itself ks k, h ks)
 
--- so does a unit behind a prefix that is present
+-- trying a unit after a present prefix, before a sound plan, is honest
 with_prefix_sound : (p : Key) (rest : List ℕ) (next : Plan) → IsSound next → (ks : List Key)
     → IsHonest (p ∷ ks) (with_prefix p rest next)
 with_prefix_sound p [] next h ks = gives_itself ks p
 with_prefix_sound p (b ∷ bs) next h ks = (gives_both ks p (key kind.Unit (b ∷ bs)), h (p ∷ ks))
 
--- so do prefixes
+-- trying prefixes before a sound plan is a sound plan
 prefixes_sound : (k : ℕ) (w : List ℕ) (next : Plan) → IsSound next → IsSound (try_prefixes k w next)
 prefixes_sound zero w next h ks = h ks
 prefixes_sound (suc k) w next h ks = (
@@ -111,16 +111,16 @@ prefixes_sound (suc k) w next h ks = (
   prefixes_sound k w next h ks,
 )
 
--- so does a stem
+-- trying a stem before a sound plan is a sound plan
 stem_sound : (v : List ℕ) (next : Plan) → IsSound next → IsSound (try_stem v next)
 stem_sound v next h = key_sound (key kind.Unit v) (try_prefixes (length v) v next) (prefixes_sound (length v) v next h)
 
--- so does a stem that there may be
+-- trying an optional stem before a sound plan is a sound plan
 stem_if_sound : (b : Bool) (v : List ℕ) (next : Plan) → IsSound next → IsSound (try_stem_if b v next)
 stem_if_sound true v next h = stem_sound v next h
 stem_if_sound false v next h = h
 
--- so do the stems of a plural
+-- trying the stems of a plural before a sound plan is a sound plan
 stems_sound : (w : List ℕ) (next : Plan) → IsSound next → IsSound (try_stems w next)
 stems_sound w next h =
     let third = try_stem_if (has_ending 4 (codes "ies") w) (without 3 w ++ codes "y") next in
@@ -129,7 +129,7 @@ stems_sound w next h =
     let second_sound : IsSound second = stem_if_sound (has_ending 3 (codes "es") w) (without 2 w) third third_sound in
     stem_if_sound (has_ending 2 (codes "s") w) (without 1 w) second second_sound
 
--- two kinds and then the parts of a word are a sound plan
+-- trying two kinds and then the parts of a word is a sound plan
 kinds_sound : (first second : Kind) (w : List ℕ) → IsSound (try_kinds first second w (Gives []))
 kinds_sound first second w =
     let parts = try_prefixes (length w) w (Gives []) in
@@ -143,12 +143,12 @@ plan_sound place.Plain w = kinds_sound kind.Unit kind.Func w
 plan_sound place.Call w = kinds_sound kind.Func kind.Unit w
 plan_sound place.Inverse w = key_sound (key kind.Func w) (Gives []) nothing_given
 
--- where no key was asked for before, it was by the plan
+-- if no key was looked up before, a key that was looked up was looked up by the plan
 of_looked : (A : Type 0) → (⊥ ⊎ A) → A
 of_looked A (inl e) = absurd e
 of_looked A (inr a) = a
 
--- what a plan gives was looked at, and is present
+-- each target of the plan of a word was looked at and is present
 planned_present : (has : Key → Bool) (at : WordKind) (w : List ℕ) (k : Key) → Contains (run has (plan at w)).targets k
     → Contains (run has (plan at w)).looked k × (has k ≡ true)
 planned_present has at w k i =
@@ -163,7 +163,7 @@ targets_are_present has at w k i =
     subst (λ (f : Found). Contains f.looked k × (has k ≡ true)) e
     (planned_present has at w k (subst (λ (f : Found). Contains f.targets k) (sym e) i))
 
--- equal answers behind a key lead to the same
+-- equal answers after a key give equal results
 same_rest :
     (has had : Key → Bool) (present absent : Plan) (b c : Bool) → b ≡ c
     → (((k : Key) → IsIn k (run has present).looked → has k ≡ had k) → run has present ≡ run had present)
@@ -175,7 +175,7 @@ same_rest has had present absent true false e f g h = cc
 same_rest has had present absent false true e f g h = cc
 same_rest has had present absent false false e f g h = g h
 
--- equal answers to the keys that a plan looks at lead to the same
+-- equal answers to the keys that a plan looks at give equal results
 same_run : (has had : Key → Bool) (p : Plan) → ((k : Key) → IsIn k (run has p).looked → has k ≡ had k)
     → run has p ≡ run had p
 same_run has had (Gives ts) h = refl

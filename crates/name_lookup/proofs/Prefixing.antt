@@ -11,17 +11,17 @@ use Rattle.name_lookup.specs.Plans.{Plan, Asks, run}
 use Rattle.name_lookup.specs.Steps.{IsTaken, behind}
 use Rattle.name_lookup.specs.Targets.{are_some}
 
--- a prefix with what is left of its word
+-- tries a prefix with the rest of its word
 abbrev pub split_step : List ℕ → List ℕ → Plan → Plan
 split_step front rest next = Asks (key kind.Prefix front) (with_prefix (key kind.Prefix front) rest next) next
 
--- the prefixes of so many bytes at most are still to be tried
+-- the prefixes of at most k bytes are still to be tried
 pub record AreTried (has : Key → Bool) (word : List ℕ) (before now : List Key) (k : ℕ) : Type 0 where
   pub taken : (next : Plan)
       → behind before (run has (try_prefixes (length word) word next)) ≡ behind now (run has (try_prefixes k word next))
   pub enough : length before ≤ length now
 
--- the step of a front and a rest is that of the prefix
+-- the step for a front and a rest of a word is that for the prefix of the front's length
 split_there :
     (has : Key → Bool) (word front rest : List ℕ) (k : ℕ) (old new : List Key) (targets : Targets) → front ≡ take k word
     → rest ≡ drop k word → IsTaken has (split_step front rest) old new targets

@@ -8,7 +8,7 @@ use Rattle.name_lookup.specs.Plans.{Plan}
 use Rattle.name_lookup.specs.Steps.{IsTaken}
 use Rattle.name_lookup.specs.Targets.{are_some}
 
--- a step that ends a search ends it whatever follows
+-- a step that ends a search ends it, whatever follows
 pub ended_there :
     (has : Key → Bool) (s t : Plan → Plan) (old new : List Key) (targets : Targets) → are_some targets ≡ true
     → IsTaken has s old new targets → IsTaken has (λ next. s (t next)) old new targets
@@ -16,7 +16,7 @@ ended_there has s t old new Nowhere e h = cc
 ended_there has s t old new Last e h = record { runs = λ next. h.runs (t next); enough = h.enough }
 ended_there has s t old new LastTwo e h = record { runs = λ next. h.runs (t next); enough = h.enough }
 
--- and one that does not is followed by the next one
+-- a step that does not end a search is followed by the next step
 pub went_on :
     (has : Key → Bool) (s t : Plan → Plan) (old mid new : List Key) (first second : Targets) → are_some first ≡ false
     → IsTaken has s old mid first → IsTaken has t mid new second → IsTaken has (λ next. s (t next)) old new second
@@ -29,7 +29,7 @@ went_on has s t old mid new Nowhere second e h i =
 went_on has s t old mid new Last second e h i = cc
 went_on has s t old mid new LastTwo second e h i = cc
 
--- the last step may fail
+-- the next step may fail with an error
 pub then_last :
     {E : Type 0} (has : Key → Bool) (s t : Plan → Plan) (old mid new : List Key) (first : Targets)
     (r : Result Targets E)

@@ -1,5 +1,5 @@
--- What stays kept while keys are looked at.
+-- Relations that looking at keys preserves.
 
--- what is kept of a start, whichever it is, is kept of it afterwards
+-- if `kept` relates a starting state to the state before, then it relates it to the state after, for each start
 abbrev pub StaysKept : {A : Type 0} → (A → A → Type 0) → (before after : A) → Type 0
 StaysKept {A} kept before after = (start : A) → kept start before → kept start after

@@ -6,7 +6,7 @@ use Rattle.name_lookup.specs.Candidates.{candidates, found}
 use Rattle.name_lookup.specs.Order.{plan}
 use Rattle.name_lookup.specs.Plans.{run}
 
--- law: whichever keys are present, the search for a word finds the first candidate of which every key is present, and
+-- law: whichever keys are present, the search for a word finds the first candidate whose keys are all present, and
 -- looks at the keys of the candidates up to that one
 abbrev pub CandidatesLaw : Type 0
 CandidatesLaw = (has : Key → Bool) (kind : WordKind) (word : List ℕ)
@@ -18,7 +18,8 @@ TargetsLaw = (has : Key → Bool) (kind : WordKind) (word : List ℕ) (k : Key)
     → Contains (found has (candidates kind word)).targets k
     → Contains (found has (candidates kind word)).looked k × (has k ≡ true)
 
--- law: equal answers to the keys that are looked at give equal targets, and the same keys that are looked at
+-- law: if two tables agree on the keys that a lookup looks at in the first, then the lookup has the same result in
+-- both
 abbrev pub SameLaw : Type 0
 SameLaw = (has had : Key → Bool) (kind : WordKind) (word : List ℕ)
     → ((k : Key) → Contains (found has (candidates kind word)).looked k → has k ≡ had k)

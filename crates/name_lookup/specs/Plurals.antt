@@ -7,13 +7,14 @@ use Rattle.std.specs.Str.{bytes_eq}
 abbrev pub without : ℕ → List ℕ → List ℕ
 without k word = take (length word - k) word
 
--- the word has more than so many bytes, and ends in these
+-- the word has more than `more` bytes and ends in `ending`
 abbrev pub has_ending : ℕ → List ℕ → List ℕ → Bool
 has_ending more ending word =
     nat_lt more (length word) && bytes_eq (drop (length word - length ending) word) ending
 
--- A word of at least three bytes may lose an `s`, one of at least four an `es`, and in one of at least five an `ies`
--- may become a `y`. A word that has several of these endings has several singulars, in this order.
+-- the singulars of a word: a word of at least three bytes may lose an `s`, one of at least four bytes an `es`, and in
+-- one of at least five bytes an `ies` may become a `y`; a word with several of these endings has several singulars, in
+-- this order
 abbrev pub singulars : List ℕ → List (List ℕ)
 singulars word =
     (if has_ending 2 (codes "s") word then without 1 word ∷ [] else [])

@@ -1,4 +1,4 @@
--- Steps that a search has taken of a plan.
+-- The steps of a plan that a search has taken.
 use Rattle.std.specs.Prelude.{◌≡◌, ◌++◌, ◌+◌, ◌≤◌, Bool, List, length}
 use Rattle.def_entry.specs.declared.key.Key.{Key}
 use Rattle.name_lookup.specs.declared.targets.Targets.{Targets}
@@ -7,17 +7,18 @@ use Rattle.name_lookup.specs.Candidates.{Found}
 use Rattle.name_lookup.specs.Plans.{Plan, run}
 use Rattle.name_lookup.specs.Targets.{count, last_keys}
 
--- what a plan leads to, behind the keys that were looked at before
+-- a result with the keys that were looked at earlier put before its own
 abbrev pub behind : List Key → Found → Found
 behind before f = record { targets = f.targets; looked = before ++ f.looked }
 
--- what is found once these keys were looked at: the targets, or what the rest of the plan leads to
+-- the overall result after these keys were looked at: the targets if there are any, or else the result of the rest of
+-- the plan
 abbrev pub with_rest : Targets → List Key → Found → Found
 with_rest Nowhere looked f = behind looked f
 with_rest Last looked f = record { targets = last_keys 1 looked; looked = looked }
 with_rest LastTwo looked f = record { targets = last_keys 2 looked; looked = looked }
 
--- a step was taken: the search has ended in these targets, or goes on with what follows
+-- a step was taken: the search has ended with these targets, or continues with the rest of the plan
 pub record IsTaken (has : Key → Bool) (step : Plan → Plan) (before after : List Key) (targets : Targets) : Type 0 where
   pub runs : (next : Plan) → behind before (run has (step next)) ≡ with_rest targets after (run has next)
   pub enough : length before + count targets ≤ length after

@@ -3,7 +3,7 @@
 ghost use Rattle.name_lookup.specs.Examples.{ExamplesLaw};
 ghost use Rattle.name_lookup.specs.Laws.{CandidatesLaw, SameLaw, TargetsLaw};
 
-/// The search for a word finds its first candidate of which every key is present.
+/// The search for a word finds its first candidate whose keys are all present.
 pub fn candidates_law()
     ensures { CandidatesLaw }
 {}
@@ -13,13 +13,13 @@ pub fn targets_are_present()
     ensures { TargetsLaw }
 {}
 
-/// Tables that agree on the keys that were looked at give the same targets and the same
-/// looked-at keys.
+/// If two tables agree on the keys that a lookup looked at, then the lookup has the same targets and looks at the same
+/// keys in both tables.
 pub fn same_answers()
     ensures { SameLaw }
 {}
 
-/// Some words have the singulars, the candidates and the targets that were found by hand.
+/// The examples hold: some words have the singulars, candidates and targets that were worked out by hand.
 pub fn examples_law()
     ensures { ExamplesLaw }
 {}

@@ -1,4 +1,4 @@
-//! Lookup: the keys that a word leads to, and the keys that are looked at on the way.
+//! Lookup of words: the keys that a word refers to, and the keys that are looked at to find them.
 #![tactic(auto)]
 
 mod laws;

@@ -1,4 +1,4 @@
-//! What is looked at.
+//! A record of the keys that a lookup looks at.
 
 ghost use Rattle.std.specs.Prelude.{◌≡◌, ◌++◌, ◌∷◌, [], IfOk, List};
 ghost use Rattle.def_entry.specs.Keys.{key};
@@ -10,18 +10,19 @@ use crate::present::Present;
 use def_entry::Kind;
 use std::alloc::{AllocError, Global};
 
-/// The keys that were looked at, in a form of their owner's.
+/// A record of the keys that were looked at. Its implementor chooses how to store them.
 pub trait Looking {
     // the keys that were looked at, in order
     ghost looked: { Self → List Key };
 
-    // whether it may look at a table of these keys
+    // states that `look` may be called with a table of these keys
     ghost can_look: { List Key → Self → Type 0 };
 
-    // what its owner keeps while it looks at a table of these keys
+    // the relation to an earlier state that is preserved by looking at a table of these keys
     ghost is_kept: { List Key → Self → Self → Type 0 };
 
-    /// Looks at the key of this kind and name: whether it is present. The only error is want of memory.
+    /// Looks at the key with this kind and name, and returns whether the table has it. The only error is running out of
+    /// memory.
     fn look<P: Present>(
         &mut self,
         alloc: Global,

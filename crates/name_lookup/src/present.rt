@@ -1,7 +1,7 @@
-//! Which keys are present.
+//! Tables that know which keys are present.
 
 ghost use Rattle.std.specs.Option.{is_some};
-ghost use Rattle.std.specs.Prelude.{◌≡◌, List};
+ghost use Rattle.std.specs.Prelude.{◌≡◌, ℕ, List, Option};
 ghost use Rattle.def_entry.specs.Keys.{key};
 ghost use Rattle.def_entry.specs.declared.key.Key.{Key};
 ghost use Rattle.def_entry.specs.SameKeys.{is_among};
@@ -10,10 +10,15 @@ use def_entry::Kind;
 
 /// A table of keys.
 pub trait Present {
-    // The keys that are present.
+    // the keys that are present
     ghost keys: { Self → List Key };
 
-    /// Where the key of this kind and name stands, as its table counts, or `None` where it is not present.
+    // the place of each key in the table's own numbering, or `None` if it is not present
+    ghost place: { Self → Key → Option ℕ };
+
+    /// Returns the place of the key with this kind and name, in the table's own numbering, or `None` if the key is not
+    /// present.
     fn find(&self, kind: Kind, name: &[u8]) -> Option<usize>
-        ensures { is_some result ≡ is_among (keys self.now) (key kind name.now) };
+        ensures present { is_some result ≡ is_among (keys self.now) (key kind name.now) }
+        ensures place { result ≡ place self.now (key kind name.now) };
 }

@@ -1,4 +1,4 @@
-//! The order of lookup.
+//! The order in which the keys of a word are looked up.
 
 ghost use Rattle.std.specs.Prelude.{◌++◌, codes, IfOk, length};
 ghost use Rattle.def_entry.specs.SameKeys.{is_among};
@@ -18,13 +18,13 @@ use def_entry::Kind;
 use expr_tree::WordKind;
 use std::alloc::{AllocError, Global};
 
-/// Finds the keys that a word stands for: how many of the keys last looked at they are. All keys are looked at in
-/// order, absent ones too.
+/// Finds the keys that a word refers to and returns how many of the last keys passed to `looking` they are. `looking`
+/// gets every key that is tried, in order, including absent ones.
 ///
 /// A word alone is a unit, or else a function; a word before an argument in parentheses is a function, or else a unit;
-/// a word after a `~` can only be a function. Any other word may be a plural in `s`, `es` or `ies`: of a unit, or of a
-/// prefix with or without a unit, the longest prefix first. Or else it is itself a prefix with or without a unit. The
-/// only error is want of memory.
+/// a word after a `~` can only be a function. A word alone or before an argument that is neither may be a plural in
+/// `s`, `es` or `ies`: of a unit, or of a prefix with or without a unit, the longest prefix first. Otherwise it may
+/// itself be a prefix with or without a unit. The only error is running out of memory.
 pub fn resolve<P: Present, L: Looking>(
     alloc: Global,
     table: &P,
@@ -45,7 +45,7 @@ pub fn resolve<P: Present, L: Looking>(
 }
 
 impl<'a, P: Present> Search<'a, P> {
-    // What the word leads to at its place.
+    // Resolves the word by the kind of place in which it occurs.
     fn try_word<L: Looking>(
         &self,
         looking: &mut L,
@@ -65,7 +65,7 @@ impl<'a, P: Present> Search<'a, P> {
         }
     }
 
-    // What the word leads to as one kind, or else as the other, or else by its parts.
+    // Tries the word as a key of the first kind, then as one of the second kind, and then its parts.
     fn try_kinds<L: Looking>(
         &self,
         looking: &mut L,
@@ -90,7 +90,7 @@ impl<'a, P: Present> Search<'a, P> {
         self.try_parts(looking, word)
     }
 
-    // What a stem of the word leads to, or a prefix of the word.
+    // Tries the stems of the word, and then the prefixes of the word itself.
     fn try_parts<L: Looking>(&self, looking: &mut L, word: &[u8]) -> Result<Targets, AllocError>
         requires { L.can_look (P.keys self.now.table.now) looking.old }
         ensures taken { IfOk result (λ targets. IsTaken (is_among (P.keys self.now.table.now))
@@ -105,7 +105,7 @@ impl<'a, P: Present> Search<'a, P> {
         self.try_prefixes(looking, word)
     }
 
-    // What a stem of the word leads to.
+    // Tries the stems of the word: without `s`, without `es`, and with `y` instead of `ies`.
     fn try_stems<L: Looking>(&self, looking: &mut L, word: &[u8]) -> Result<Targets, AllocError>
         requires { L.can_look (P.keys self.now.table.now) looking.old }
         ensures taken { IfOk result (λ targets. IsTaken (is_among (P.keys self.now.table.now))
@@ -124,7 +124,7 @@ impl<'a, P: Present> Search<'a, P> {
         self.try_with_y(looking, word)
     }
 
-    // What the word leads to without its ending, where it has more than so many bytes and ends so.
+    // Tries the word without `ending`, if it has more than `more` bytes and ends in `ending`.
     fn try_without<L: Looking>(
         &self,
         looking: &mut L,
@@ -145,7 +145,7 @@ impl<'a, P: Present> Search<'a, P> {
         }
     }
 
-    // What the word leads to with a `y` in the place of its `ies`, where it ends so.
+    // Tries the word with `y` instead of its final `ies`, if it has more than four bytes and ends in `ies`.
     fn try_with_y<L: Looking>(&self, looking: &mut L, word: &[u8]) -> Result<Targets, AllocError>
         requires { L.can_look (P.keys self.now.table.now) looking.old }
         ensures taken { IfOk result (λ targets. IsTaken (is_among (P.keys self.now.table.now))

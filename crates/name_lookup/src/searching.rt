@@ -1,4 +1,4 @@
-//! A search through the keys of a word.
+//! A search through the keys that a word may refer to.
 
 ghost use Rattle.std.specs.Prelude.{◌≡◌, ◌++◌, ◌∷◌, [], ◌<◌, IfOk, length, take, drop};
 ghost use Rattle.def_entry.specs.Keys.{key};
@@ -23,7 +23,7 @@ pub(crate) struct Search<'a, P> {
 }
 
 impl<'a, P: Present> Search<'a, P> {
-    // The key, where it is present.
+    // Tries one key: it is the target if it is present.
     pub(crate) fn try_key<L: Looking>(
         &self,
         looking: &mut L,
@@ -42,7 +42,7 @@ impl<'a, P: Present> Search<'a, P> {
         Ok(Targets::Nowhere)
     }
 
-    // The longest prefix of the word that leads to a target.
+    // Tries the prefixes of the word, the longest first, up to the first that leads to a target.
     pub(crate) fn try_prefixes<L: Looking>(
         &self,
         looking: &mut L,
@@ -66,7 +66,7 @@ impl<'a, P: Present> Search<'a, P> {
         Ok(Targets::Nowhere)
     }
 
-    // A prefix that is present, with the rest of the word as a unit.
+    // Tries `front` as a prefix and `rest`, unless it is empty, as a unit. Both have to be present.
     fn try_prefix<L: Looking>(
         &self,
         looking: &mut L,
@@ -93,7 +93,7 @@ impl<'a, P: Present> Search<'a, P> {
         Ok(Targets::Nowhere)
     }
 
-    // A stem that is present as a unit, or the longest prefix of it that leads to a target.
+    // Tries the stem as a unit, and then its prefixes, the longest first.
     pub(crate) fn try_stem<L: Looking>(
         &self,
         looking: &mut L,

@@ -1,21 +1,21 @@
-//! What a word stands for.
+//! The result of a lookup.
 
 ghost use Rattle.std.specs.Prelude.{◌≡◌};
 ghost use Rattle.name_lookup.specs.Targets as spec;
 
-/// What a word stands for, by the keys that were looked at.
+/// The keys that a word refers to, given as the last of the keys that were looked at.
 #[derive(Clone, Copy, Debug, PartialEq, Eq, Drop)]
 pub enum Targets {
-    /// None of them: the word is unknown.
+    /// No key: the word is unknown.
     Nowhere,
-    /// The last one.
+    /// The last key.
     Last,
-    /// The last two, a prefix and a unit.
+    /// The last two keys: a prefix and a unit.
     LastTwo,
 }
 
 impl Targets {
-    /// How many keys these are.
+    /// Returns the number of keys: 0, 1 or 2.
     pub fn count(self) -> usize
         ensures { result ≡ spec.count self }
     {
@@ -26,7 +26,7 @@ impl Targets {
         }
     }
 
-    // Whether there are any.
+    // Reports whether there is at least one key.
     pub(crate) fn are_some(self) -> bool
         ensures { result ≡ spec.are_some self }
     {

@@ -1,4 +1,4 @@
--- What a change affects, by edges and by words.
+-- The names that a change affects, by edges and by words.
 use Rattle.std.proofs.Common.{◌≡◌, ◌⊎◌, ℕ, Bool, true, List, Contains, refl, sym, ap, subst, inl, inr}
 use Rattle.expr_tree.specs.declared.word_list.WordUse.{WordUse}
 use Rattle.def_entry.specs.declared.key.Key.{Key}
@@ -35,7 +35,7 @@ module _ (table : Table) (key : ℕ → Key) (size : ℕ) (settled : ℕ → Boo
   needs_onward {n = n} h (inl e) = inr (edges.at_once (subst (λ x. HasEdge g.uses n x) e h))
   needs_onward h (inr r) = inr (edges.further h r)
 
-  -- the last edge of a way
+  -- each way ends with an edge
   last_edge : {n i : ℕ} → edges.Reaches g.uses n i → (m : ℕ) × Needs g n m × HasEdge g.uses m i
   last_edge (edges.at_once {x = n} h) = (n, inl refl, h)
   last_edge (edges.further h r) = let l = last_edge r in (l.0, needs_onward h l.1, l.2)
@@ -86,7 +86,7 @@ module _ (table : Table) (key : ℕ → Key) (size : ℕ) (settled : ℕ → Boo
       let w = way_up r n s refl in
       by_look n w.0 (inr w.1) (ends w.1) (subst (λ (x : Key). HasLooked table keys x) w.2 h)
 
--- the law of what edges affect
+-- the law of affected numbers
 pub affected_numbers_law : AffectedNumbersLaw
 affected_numbers_law table key size settled g are keys numbers of n s = (
   λ a. by_words table key size settled g are keys numbers of n a.0 a.1 a.2,

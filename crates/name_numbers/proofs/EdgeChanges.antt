@@ -1,4 +1,4 @@
--- The edges of settled names where names are added, where one more is settled, and where some are forgotten.
+-- The edges of settled names when names are added, when one more is settled, and when some are forgotten.
 use Rattle.std.proofs.Common.{◌≡◌, ◌⊎◌, ◌↔◌, ◌<◌, ◌≤◌, ℕ, Bool, true, List, Contains, refl, sym, ◌∙◌, ap, subst, inl}
 use Rattle.std.proofs.Common.{inr, arith}
 use Rattle.expr_tree.specs.declared.word_list.WordUse.{WordUse}
@@ -14,7 +14,7 @@ use Rattle.table_names.specs.Leads.{LooksAt, WordsLeadTo}
 use Rattle.table_names.specs.Words.{entry_words, key_words}
 use Rattle.name_numbers.specs.EdgeLaws.{AreEdges}
 
--- ---- more names
+-- ---- names are added
 module _ (table : Table) (key later : ℕ → Key) (size more : ℕ) (settled now : ℕ → Bool) (g : NameGraph)
     (are : AreEdges table key size settled g) (grown : size ≤ more) (same : (n : ℕ) → n < size → later n ≡ key n)
     (marks : (n : ℕ) → (now n ≡ true) ↔ (settled n ≡ true)) where
@@ -47,7 +47,7 @@ module _ (table : Table) (key later : ℕ → Key) (size more : ℕ) (settled no
     );
   }
 
--- ---- one more settled name, with edges to these
+-- ---- one more name is settled, with edges to these names and keys
 module _ (table : Table) (key : ℕ → Key) (size : ℕ) (settled now : ℕ → Bool) (g h : NameGraph) (n : ℕ)
     (used looked : List ℕ)
     (are : AreEdges table key size settled g) (there : n < size) (fresh : settled n ≡ true → ⊥)
@@ -73,7 +73,7 @@ module _ (table : Table) (key : ℕ → Key) (size : ℕ) (settled now : ℕ →
     new_look x y (inl (e, i)) = ((marks x).1 (inl e), looked_there y i)
     new_look x y (inr h) = ((marks x).1 (inr (are.beside x y h).0), (are.beside x y h).1)
 
-    -- the edges of the new name, and those of the others
+    -- each name that the new name uses is one of those added
     use_of_new : (y : ℕ) → HasEdge h.uses n y → Contains used y
     use_of_new y e = elim ((uses n y).0 e) [ inl i ↦ i.1 | inr o ↦ absurd (fresh (are.below n y o).0) ]
 
@@ -136,7 +136,7 @@ module _ (table : Table) (key : ℕ → Key) (size : ℕ) (settled now : ℕ →
       looked = λ x e. looked_by x ((marks x).0 e);
     }
 
--- ---- a key that is as before: its words lead to the same keys, and look at the same
+-- ---- a key that is as before: its words lead to the same keys, and look at the same keys
 module _ (before after : Table) (k : Key) (is : IsAsBefore before after k) where
   pub same_words : key_words before k ≡ key_words after k
   same_words = ap entry_words is.entry
@@ -167,7 +167,7 @@ module _ (before after : Table) (k : Key) (is : IsAsBefore before after k) where
         (u, j, subst (λ (f : Found). Contains f.looked m) (sym (is.lookups u j)) t),
   )
 
--- ---- affected names are forgotten, and the others are as before
+-- ---- affected names are forgotten, and the other names are as before
 module _ (before after : Table) (key : ℕ → Key) (size : ℕ) (settled now : ℕ → Bool) (g h : NameGraph)
     (Affected : ℕ → Type 0)
     (are : AreEdges before key size settled g) (cut : Forgets Affected g h)

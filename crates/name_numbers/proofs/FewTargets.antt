@@ -1,4 +1,4 @@
--- How many targets a word has.
+-- The number of targets of a word.
 use Rattle.std.proofs.Common.{◌≡◌, ◌≢◌, List, [], ◌∷◌, sym, ◌∙◌, ap}
 use Rattle.def_entry.specs.declared.key.Key.{Key}
 use Rattle.def_entry.specs.declared.key.Kind.TheVariants as kind
@@ -6,7 +6,7 @@ use Rattle.table_names.specs.Leads.{targets}
 use Rattle.table_names.proofs.TargetKinds.{AreTargets, are_targets}
 use Rattle.name_numbers.specs.LookupLaws.{AreFew, FewTargetsLaw}
 
--- a prefix is no unit
+-- a prefix and a unit are different keys
 apart : (n m : Key) → n.kind ≡ kind.Prefix → m.kind ≡ kind.Unit → n ≢ m
 apart n m p u e = let q : kind.Prefix ≡ kind.Unit = sym p ∙ (ap (λ (k : Key). k.kind) e ∙ u) in cc
 

@@ -22,13 +22,13 @@ use Rattle.name_numbers.specs.SettlingLaws.{AreMarks, AreNewKeys, SettlingLaw}
 use Rattle.name_numbers.proofs.Paths.{AllKnown, distinct_keys}
 use Rattle.name_numbers.proofs.Reached.{key_reached, key_way, known_reached, number_below, number_reached}
 
--- the key of a number that is among some is among their keys
+-- the key of a member of some numbers is a member of their keys
 pub key_in : (key : ℕ → Key) (ns : List ℕ) (n : ℕ) → In n ns → Contains (map key ns) (key n)
 key_in key [] n i = absurd i
 key_in key (m ∷ ns) n (inl e) = member_first (key n) (key m) (map key ns) (ap key e)
 key_in key (m ∷ ns) n (inr i) = member_later (key n) (key m) (map key ns) (key_in key ns n i)
 
--- a key among those of some numbers is that of one of them
+-- a member of the keys of some numbers is the key of one of them
 pub number_in : (key : ℕ → Key) (ns : List ℕ) (k : Key) → Contains (map key ns) k → (n : ℕ) × (k ≡ key n) × In n ns
 number_in key [] k i = absurd (no_member k i)
 number_in key (m ∷ ns) k i = elim (member_cases k (key m) (map key ns) i) [
@@ -36,7 +36,7 @@ number_in key (m ∷ ns) k i = elim (member_cases k (key m) (map key ns) i) [
   | inr j ↦ let r : (n : ℕ) × (k ≡ key n) × In n ns = number_in key ns k j in (r.0, r.1, inr r.2)
 ]
 
--- numbers of which each is known are all known
+-- if each number of a list is known, then all are known
 all_known : (known : ℕ → Bool) (ns : List ℕ) → ((n : ℕ) → In n ns → known n ≡ true) → AllKnown known ns
 all_known known [] h = tt
 all_known known (n ∷ ns) h = (h n (inl refl), all_known known ns (λ m i. h m (inr i)))
@@ -47,7 +47,7 @@ module _ (same_keys : SameKeysLaw) (closed_law : ClosedLaw) (table : Table) (key
   all_reached : (xs : List Step) → LeadToKnown known xs → (n : ℕ) → IsReached g xs n → known n ≡ true
   all_reached = known_reached table key dead_end g known numbered
 
-  -- a query of which the same is reached by number and by name
+  -- the new keys of a query that reaches the same keys by number and by name
   new_keys :
       (Asked : Key → Type 0) (xs : List Step) (order : List ℕ) → LeadToKnown known xs → AreNewlyClosed g marks xs order
       → ((n : ℕ) → IsReached g xs n → Asked (key n))

@@ -12,17 +12,17 @@ use Rattle.name_walk.specs.Lists as walk
 use Rattle.table_names.specs.Faults as names
 use Rattle.table_names.specs.Faults.{chain}
 
--- all of these numbers are known
+-- all numbers of a list are known
 abbrev pub AllKnown : (ℕ → Bool) → List ℕ → Type 0
 AllKnown known p = AllByRecursion (λ n. known n ≡ true) p
 
--- known numbers with one more that is known are known
+-- known numbers with one more known number appended are all known
 pub known_push :
     (known : ℕ → Bool) (p : List ℕ) (n : ℕ) → AllKnown known p → known n ≡ true → AllKnown known (p ++ n ∷ [])
 known_push known [] n ks k = (k, tt)
 known_push known (m ∷ p) n ks k = (ks.0, known_push known p n ks.1 k)
 
--- the keys of numbers with one more behind them
+-- mapping numbers with one more appended appends its key
 pub map_push : (key : ℕ → Key) (p : List ℕ) (n : ℕ) → map key (p ++ n ∷ []) ≡ map key p ++ key n ∷ []
 map_push key p n = map-append key p (n ∷ [])
 
@@ -32,7 +32,7 @@ same_last key [] = refl
 same_last key (n ∷ []) = refl
 same_last key (n ∷ m ∷ p) = same_last key (m ∷ p)
 
--- a test of equality may be turned
+-- the equality test is symmetric
 turned : (n m : ℕ) → nat_eq n m ≡ nat_eq m n
 turned n m = elim (cases_eq n m) [
   | inl e ↦ eq-eqb n m e ∙ sym (eq-eqb m n (sym e))
@@ -41,7 +41,7 @@ turned n m = elim (cases_eq n m) [
 
 module _ (same_keys : SameKeysLaw) (key : ℕ → Key) (known : ℕ → Bool)
     (apart : (n m : ℕ) → known n ≡ true → known m ≡ true → key n ≡ key m → n ≡ m) where
-  -- known numbers are equal where their keys are
+  -- known numbers are equal exactly if their keys are equal
   same_test : (n m : ℕ) → known n ≡ true → known m ≡ true → is_same (key n) (key m) ≡ nat_eq n m
   same_test n m kn km = elim (cases_eq n m) [
     | inl e ↦ (same_keys (key n) (key m)).1 (ap key e) ∙ sym (eq-eqb n m e)

@@ -1,4 +1,4 @@
--- The rank of what keys stand for.
+-- The ranks of the meanings of keys.
 use Rattle.std.proofs.Common.{ℕ, zero, suc, ◌≤◌, List, [], ◌∷◌, map, length, Option, Some, None, arith}
 use Rattle.expr_tree.specs.declared.word_list.WordUse.{WordUse}
 use Rattle.def_entry.specs.declared.key.Key.{Key}
@@ -13,7 +13,7 @@ use Rattle.tree_eval.specs.Expanded.{Callee, Meaning, One, Two}
 use Rattle.tree_eval.specs.Expansion.{inverted_word}
 use Rattle.name_numbers.specs.RankLaws.{RankLaw}
 
--- of a rank that is no greater
+-- a meaning has at most this rank
 abbrev IsWithin : ℕ → Meaning → Type 0
 IsWithin depth m = rank_of_meaning m ≤ depth
 
@@ -23,7 +23,7 @@ alias_within depth name (One x) h = omega arith
 alias_within depth name (Two x y) h = omega arith
 alias_within depth name (Callee f) h = omega (arith, h)
 
--- where no word has a rank above a bound, the greatest of their ranks is within it
+-- if no word has a rank above a bound, the greatest of their ranks is within the bound
 greatest_within :
     (depth : ℕ) (means : WordUse → Meaning) (words : List WordUse) → ((u : WordUse) → IsWithin depth (means u))
     → greatest_rank means words ≤ depth
@@ -33,7 +33,7 @@ greatest_within depth means (u ∷ us) h =
     let b : greatest_rank means us ≤ depth = greatest_within depth means us h in
     omega arith
 
--- what is said of a key has a rank at most one above that of its words
+-- the meaning of a definition has a rank at most one above that of its words
 said_within :
     (depth : ℕ) (means : WordUse → Meaning) (name : List ℕ) (w : What) → ((u : WordUse) → IsWithin depth (means u))
     → IsWithin (suc depth) (meaning_of means name w)
@@ -46,14 +46,14 @@ said_within depth means name (what.Alias target) h =
 said_within depth means name (what.Table d) h = omega (arith, greatest_within depth means (words_in d.unit) h)
 said_within depth means name (what.ListOf parts) h = omega arith
 
--- so has an entry, if there is one
+-- the meaning of an optional entry has a rank at most one above that of its words
 entry_within :
     (depth : ℕ) (means : WordUse → Meaning) (name : List ℕ) (o : Option Entry)
     → ((u : WordUse) → IsWithin depth (means u)) → IsWithin (suc depth) (entry_meaning means name o)
 entry_within depth means name None h = omega arith
 entry_within depth means name (Some e) h = said_within depth means name e.what h
 
--- a prefix and a unit are no function
+-- the meaning of targets has a rank within the bound of their meanings, as a prefix and a unit are not a function
 targets_within :
     (depth : ℕ) (of_key : Key → Meaning) (ks : List Key) → ((k : Key) → IsWithin depth (of_key k))
     → IsWithin depth (targets_meaning (map of_key ks))

@@ -1,4 +1,4 @@
--- What is reached by number, and by name.
+-- The keys that are reached by number and by name.
 use Rattle.std.proofs.Common.{◌≡◌, ◌⊎◌, ℕ, Bool, true, false, List, [], ◌∷◌, Contains, Option}
 use Rattle.std.proofs.Common.{refl, sym, ◌∙◌, ap, subst, inl, inr}
 use Rattle.expr_tree.specs.declared.word_list.WordUse.{WordUse}

@@ -31,7 +31,7 @@ use Rattle.name_numbers.specs.Numbered.{AreNumbered, AreWords, LeadToKnown, name
 use Rattle.name_numbers.specs.Numbered.{ForOne, ForRefused, ForTwo, ForUnknown, IsWord}
 use Rattle.name_numbers.proofs.Paths.{AllKnown, known_push, map_push, same_chain, same_last, same_on}
 
--- nothing or else nothing adds nothing
+-- an option or else `None` is the option
 or_none : {A : Type 0} (o : Option A) → option_or o None ≡ o
 or_none None = refl
 or_none (Some x) = refl
@@ -49,7 +49,7 @@ module _ (same_keys : SameKeysLaw) (table : Table) (key : ℕ → Key) (dead_end
       → map key (from_name n p ++ n ∷ []) ≡ chain (key n) (map key p)
   chain_of_keys = same_chain same_keys key known numbered.apart
 
-  -- the second step to a target that has no fault has none
+  -- the second step to a target adds no fault
   twice :
       (a rest : Option walk.NameFault)
       → by_name (option_or a (option_or a rest)) ≡ option_or (option_or (by_name a) None) (by_name rest)
@@ -64,7 +64,7 @@ module _ (same_keys : SameKeysLaw) (table : Table) (key : ℕ → Key) (dead_end
   both None (Some x) rest = refl
   both (Some x) b rest = refl
 
-  -- ---- behind one path, by what is met deeper
+  -- ---- after one path, given the faults deeper down
   module _ (p : List ℕ) (on_path : AllKnown known p) (f : List ℕ → ℕ → Option walk.NameFault) (deeper : Deeper)
       (same : (n : ℕ) → known n ≡ true → on p n ≡ false
       → by_name (f (p ++ n ∷ []) n) ≡ deeper (map key p ++ key n ∷ []) (key n)) where
@@ -98,7 +98,7 @@ module _ (same_keys : SameKeysLaw) (table : Table) (key : ℕ → Key) (dead_end
     accepted u ns rest fine e =
         ap (λ o. option_or o rest) (sym (cond-false (is_refused u.text) _ _ fine ∙ ap (fault_of_targets u) e))
 
-    -- a word that leads nowhere is a fault of the last of the path
+    -- a word that leads nowhere is a fault of the last name of the path
     ended :
         (t : ℕ) (fault : Option Key → NameFault) → ((holder : Option Key) → dead_end t holder ≡ fault holder)
         → by_name (at_step f p (Nowhere t)) ≡ Some (fault (names.last (map key p)))
@@ -133,7 +133,7 @@ module _ (same_keys : SameKeysLaw) (table : Table) (key : ℕ → Key) (dead_end
         same_word u w.0 (λ n c. k n (elim c [ inl e ↦ inl e | inr e ↦ inr (inl e) ])) (lists.first (at_step f p) xs)
         ∙ ap (option_or (fault_of_word u)) (same_words us xs w.1 (λ n i. k n (inr (inr i))))
 
-  -- ---- behind all paths, by how many numbers are not on them
+  -- ---- after all paths, by the number of names that are not on them
   module _ (range : InRange g) (walk_fault : WalkFaultLaw) (walk_path : WalkPathLaw) (name_fault : FaultLaw)
       (name_path : PathLaw) where
     path_of_keys :

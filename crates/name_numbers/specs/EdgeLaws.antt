@@ -1,4 +1,4 @@
--- What edges between numbers say of the names of a table.
+-- The relation of edges between numbers to the names of a table.
 use Rattle.std.specs.Prelude.{◌≡◌, ◌⊎◌, ◌↔◌, ◌<◌, ℕ, Bool, true, List, Contains}
 use Rattle.def_entry.specs.declared.key.Key.{Key}
 use Rattle.def_entry.specs.Tables.{Table}
@@ -9,8 +9,8 @@ use Rattle.table_names.specs.Affected.{IsAffected}
 use Rattle.table_names.specs.Leads.{LooksAt, WordsLeadTo}
 use Rattle.table_names.specs.Words.{key_words}
 
--- settled numbers, each of which has an edge to each name that its words lead to, and to each other key at
--- which they look; a number that is not settled has none
+-- each settled number has an edge to each name that its words lead to, and to each other key that they look at; a
+-- number that is not settled has no edge
 pub record AreEdges (table : Table) (key : ℕ → Key) (size : ℕ) (settled : ℕ → Bool) (g : NameGraph) : Type 0 where
   pub within : (n : ℕ) → settled n ≡ true → n < size
   pub below : (n m : ℕ) → HasEdge g.uses n m → (settled n ≡ true) × (settled m ≡ true)
@@ -20,12 +20,12 @@ pub record AreEdges (table : Table) (key : ℕ → Key) (size : ℕ) (settled : 
   pub looked : (n : ℕ) → settled n ≡ true → (k : Key)
       → LooksAt table (key n) k ↔ ((m : ℕ) × (HasEdge g.uses n m ⊎ HasEdge g.looks n m) × (k ≡ key m))
 
--- of some keys those that have a number, by their numbers
+-- `numbers` are the numbers of those keys that have one
 pub record AreNumbersOf (key : ℕ → Key) (size : ℕ) (keys : List Key) (numbers : List ℕ) : Type 0 where
   pub of_keys : (m : ℕ) → Contains numbers m → Contains keys (key m)
   pub every : (m : ℕ) → m < size → Contains keys (key m) → Contains numbers m
 
--- law: a change of these keys affects a settled name by its edges exactly where it does so by its words
+-- law: a change of these keys affects a settled name by its edges exactly if it affects the name by its words
 abbrev pub AffectedNumbersLaw : Type 0
 AffectedNumbersLaw = (table : Table) (key : ℕ → Key) (size : ℕ) (settled : ℕ → Bool) (g : NameGraph)
     → AreEdges table key size settled g → (keys : List Key) (numbers : List ℕ) → AreNumbersOf key size keys numbers

@@ -1,4 +1,4 @@
--- Names of a table by number: when the steps between numbers say what words say of names.
+-- Numbered names of a table: when the steps between numbers agree with the words of names.
 use Rattle.std.specs.Prelude.{◌≡◌, ◌<◌, ⊤, ℕ, Bool, true, false, List, [], ◌∷◌, map, length, Option, option_map}
 use Rattle.expr_tree.specs.declared.word_list.WordUse.{WordUse}
 use Rattle.expr_tree.specs.Names.{is_refused}
@@ -14,16 +14,16 @@ use Rattle.table_names.specs.declared.fault.NameFault.TheVariants.{Unknown, Refu
 use Rattle.table_names.specs.Leads.{targets}
 use Rattle.table_names.specs.Words.{key_words}
 
--- key: the key of each number; dead_end: the fault of each word that leads nowhere, by the key in whose
--- entry it stands
+-- key: the key of each number; dead_end: the fault of each word that leads nowhere, given the key whose entry includes
+-- the word
 module _ (table : Table) (key : ℕ → Key) (dead_end : ℕ → Option Key → NameFault) where
-  -- a fault by number, by name
+  -- the name fault for a fault of numbers
   abbrev pub named : walk.NameFault → NameFault
   named (walk.DeadEnd t holder) = dead_end t (option_map key holder)
   named (walk.Cycle names) = Cycle (map key names)
 
-  -- A word has two steps, so that those of the word at a place stand at twice the place: to its one target
-  -- and there again, to its prefix and to its unit, or twice nowhere.
+  -- A word has two steps, so that the steps of the word at a place are at twice that place: two steps to its one
+  -- target, one to its prefix and one to its unit, or two steps nowhere.
   pub data IsWord (u : WordUse) : Step → Step → Type 0 where
     ForRefused : (t : ℕ) → is_refused u.text ≡ true
         → ((holder : Option Key) → dead_end t holder ≡ Refused u.text holder) → IsWord u (Nowhere t) (Nowhere t)
@@ -38,8 +38,8 @@ module _ (table : Table) (key : ℕ → Key) (dead_end : ℕ → Option Key → 
   AreWords (u ∷ us) (x ∷ y ∷ xs) = IsWord u x y × AreWords us xs
   AreWords _ _ = ⊥
 
-  -- of the numbers that are known, and of all that they lead to, the keys have entries and differ, and the
-  -- steps are those of their words
+  -- known numbers lead only to known numbers, their keys have entries and are distinct, and their steps are those of
+  -- the words of their keys
   pub record AreNumbered (g : Graph) (known : ℕ → Bool) : Type 0 where
     pub within : (n : ℕ) → known n ≡ true → n < length g
     pub below : (n m : ℕ) → known n ≡ true → LeadsTo g n m → known m ≡ true
@@ -47,6 +47,6 @@ module _ (table : Table) (key : ℕ → Key) (dead_end : ℕ → Option Key → 
     pub present : (n : ℕ) → known n ≡ true → is_present table (key n) ≡ true
     pub faithful : (n : ℕ) → known n ≡ true → AreWords (key_words table (key n)) (steps g n)
 
--- steps that lead to known numbers alone
+-- the steps lead only to known numbers, or nowhere
 abbrev pub LeadToKnown : (ℕ → Bool) → List Step → Type 0
 LeadToKnown known xs = (n : ℕ) → In (To n) xs → known n ≡ true

@@ -1,4 +1,4 @@
--- What a walk by number settles by name.
+-- The names that a walk over numbers settles.
 use Rattle.std.specs.Prelude.{◌≡◌, ◌⊎◌, ◌↔◌, ℕ, Bool, true, false, List, [], ◌∷◌, map, Option, Contains}
 use Rattle.std.specs.List.{IsDistinct}
 use Rattle.expr_tree.specs.declared.word_list.WordUse.{WordUse}
@@ -15,17 +15,17 @@ use Rattle.table_names.specs.Closed.{AreClosed, IsClosed}
 use Rattle.table_names.specs.Leads.{Reaches, WordsReach}
 use Rattle.name_numbers.specs.Numbered.{AreNumbered, AreWords, LeadToKnown}
 
--- the marks of known numbers are those of settled keys
+-- a known number is marked exactly if its key is settled
 abbrev pub AreMarks : (ℕ → Key) → (ℕ → Bool) → List Bool → (Key → Bool) → Type 0
 AreMarks key known marks settled = (n : ℕ) → known n ≡ true → IsSettled marks n ↔ (settled (key n) ≡ true)
 
--- the keys among those asked for that are not settled, each once
+-- `keys` are those of the `Asked` keys that are not settled, each once
 pub record AreNewKeys (settled : Key → Bool) (Asked : Key → Type 0) (keys : List Key) : Type 0 where
   pub exactly : (n : Key) → Contains keys n ↔ (Asked n × (settled n ≡ false))
   pub once : IsDistinct is_same keys
 
--- law: of a query without a name fault, the numbers that a walk newly closes are those of the keys that it
--- reaches and that are not settled, each once
+-- law: if a query has no name fault, the numbers that a walk newly closes are those of the keys that the query reaches
+-- and that are not settled, each once
 pub record SettlingLaw : Type 0 where
   pub words : (table : Table) (key : ℕ → Key) (dead_end : ℕ → Option Key → NameFault) (g : Graph) (known : ℕ → Bool)
       (marks : List Bool) (settled : Key → Bool)

@@ -1,4 +1,4 @@
-//! Laws of names by number, and of what a walk over them needs of a table.
+//! Laws of numbered names, and of a walk over the numbered names of a table.
 
 ghost use Rattle.name_numbers.specs.EdgeLaws.{AffectedNumbersLaw};
 ghost use Rattle.name_numbers.specs.FaultLaws.{NumberedFaultLaw};
@@ -8,7 +8,7 @@ ghost use Rattle.name_numbers.specs.SettlingLaws.{SettlingLaw};
 
 use def_entry::same_keys_law;
 
-/// The first fault that is found by number is the name fault.
+/// The first fault of numbered names is the name fault.
 pub fn numbered_fault_law()
     ensures { NumberedFaultLaw }
 {
@@ -27,17 +27,17 @@ pub fn settling_law()
     table_names::closed_law();
 }
 
-/// A word has no target, one, or a prefix and a unit.
+/// A word has no target, one target, or a prefix and a unit as targets.
 pub fn few_targets_law()
     ensures { FewTargetsLaw }
 {}
 
-/// The rank of what a key stands for is at most the number of entries of the table.
+/// The rank of the meaning of a key is at most the number of entries of the table.
 pub fn rank_law()
     ensures { RankLaw }
 {}
 
-/// What a change of keys affects by the edges between numbers is what it affects by the words of names.
+/// A change of keys affects the same names by the edges between numbers as by the words of names.
 pub fn affected_numbers_law()
     ensures { AffectedNumbersLaw }
 {}

@@ -1,4 +1,4 @@
-//! Names of a table by number: what a walk over numbers says of the names.
+//! Numbered names of a table: how the results of a walk over numbers translate to names.
 #![tactic(auto)]
 
 mod laws;

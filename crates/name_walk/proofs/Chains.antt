@@ -6,31 +6,31 @@ use Rattle.name_walk.specs.declared.traces.Frame.{Frame}
 use Rattle.name_walk.specs.Faults.{from_name, on}
 use Rattle.name_walk.specs.Traces.{path}
 
--- where one of two tests holds, the first value is taken
+-- if one of two tests holds, the first value is chosen
 chosen : {A : Type 0} (b e : Bool) (x y : A) → (b || e) ≡ true → cond b x (cond e x y) ≡ x
 chosen true e x y h = refl
 chosen false true x y h = refl
 chosen false false x y h = cc
 
--- where neither does, the second is
+-- if neither of two tests holds, the second value is chosen
 passed : {A : Type 0} (b e : Bool) (x y : A) → (b || e) ≡ false → cond b x (cond e x y) ≡ y
 passed true e x y h = cc
 passed false true x y h = cc
 passed false false x y h = refl
 
--- where neither holds, the first does not
+-- if neither of two tests holds, the first does not hold
 false_left : (b e : Bool) → (b || e) ≡ false → b ≡ false
 false_left true e h = h
 false_left false e h = refl
 
--- nor does the second
+-- if neither of two tests holds, the second does not hold
 false_right : (b e : Bool) → (b || e) ≡ false → e ≡ false
 false_right true e h = cc
 false_right false e h = h
 
 module _ (again last : ℕ) where
-  -- the names that are taken, and what the frames that are left give, are all that is wanted; until the
-  -- name is met, it is still to come
+  -- the names taken so far and the names from the remaining frames are together the wanted names; until the name
+  -- `again` is met, it is still ahead
   pub record IsChaining (all : List ℕ) (names : List ℕ) (is_below : Bool) (rest : List Frame) : Type 0 where
     pub whole : names ++ cond is_below (path rest last) (from_name again (path rest last)) ≡ all
     pub ahead : (is_below || on (path rest last) again) ≡ true

@@ -13,12 +13,12 @@ use Rattle.name_walk.specs.Steps.{Graph, InRange, LeadsTo, Reaches, at_once, fur
 use Rattle.name_walk.proofs.Faults.{empty_path, path_length, path_push}
 use Rattle.name_walk.proofs.Lists.{all_at, all_map, all_none, none_from, not_chosen, on-In, on-push_false, or_none}
 
--- what a reached name reaches is reached
+-- reaching is transitive
 pub onward : {g : Graph} {n x m : ℕ} → Reaches g n x → Reaches g x m → Reaches g n m
 onward (at_once l) r = further l r
 onward (further l q) r = further l (onward q r)
 
--- a step that leads into some names leads into more
+-- a step that leads to a name with one property leads to a name with each property that follows from it
 pub into_map : (P Q : ℕ → Type 0) → ((n : ℕ) → P n → Q n) → (s : Step) → LeadsInto P s → LeadsInto Q s
 into_map P Q f (Nowhere w) h = h
 into_map P Q f (To n) h = f n h
@@ -87,7 +87,7 @@ module _ (g : Graph) where
         (λ e. no_loop j m ends' (subst (λ (x : ℕ). Reaches g m x) e r)))
         (omega (arith, length-append p (m ∷ [])))))
 
-    -- closed on one path, closed on every path
+    -- a closed name has no fault after any path that leads to it
     pub name_closed : (j : ℕ) (p : List ℕ) (n : ℕ) → EndsWithin g j n → n < length g → IsPath g p
         → ((q : ℕ) → In q p → Reaches g q n)
         → at_name (fault_within g (length g - length p)) p n ≡ None

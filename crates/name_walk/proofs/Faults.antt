@@ -1,4 +1,4 @@
--- Paths, and the fault behind them.
+-- Paths, and the faults after them.
 use Rattle.std.proofs.Common.{◌≡◌, ℕ, zero, suc, ◌+◌, ◌-◌, ◌<◌, ◌≤◌, false, List, [], ◌∷◌, ◌++◌, length, Option, Some}
 use Rattle.std.proofs.Common.{refl, sym, ◌∙◌, ap, subst, inl, inr, arith, length-append}
 use Rattle.std.proofs.lemmas.Bool.{cond-true, cond-false, cases_Bool}
@@ -18,11 +18,11 @@ use Rattle.name_walk.proofs.Lists.{In-on, In-push, first_same, nothing_twice, on
 pub path_length : (g : Graph) (p : List ℕ) → IsPath g p → length p ≤ length g
 path_length g p h = length-le_from_distinct_below p (length g) h.once h.there
 
--- the empty path is one
+-- the empty list is a path
 pub empty_path : (g : Graph) → IsPath g []
 empty_path g = record { once = nothing_twice; there = λ q e. cc }
 
--- so is a path with one more name that is not on it
+-- a path with one more name that is not on it is a path
 pub path_push : (g : Graph) (p : List ℕ) (n : ℕ) → IsPath g p → on p n ≡ false → n < length g → IsPath g (p ++ n ∷ [])
 path_push g p n h new there = record {
   once = IsDistinct-push nat_eq_equiv p n h.once new;
@@ -32,7 +32,7 @@ path_push g p n h new there = record {
   ];
 }
 
--- the room behind a path with one more name is one less
+-- the room after a path with one more name is one less
 pub room_left : (g : Graph) (p : List ℕ) (n : ℕ) → IsPath g p → on p n ≡ false → n < length g
     → length g - length p ≡ suc (length g - length (p ++ n ∷ []))
 room_left g p n path new there =
@@ -44,12 +44,12 @@ pub deeper_is : (g : Graph) (p : List ℕ) (n : ℕ) → IsPath g p → on p n �
     → fault_within g (length g - length p) (p ++ n ∷ []) n ≡ fault g (p ++ n ∷ []) (steps g n)
 deeper_is g p n path new there = ap (λ k. fault_within g k (p ++ n ∷ []) n) (room_left g p n path new there)
 
--- the fault at a name is that of its steps behind the path with it
+-- the fault at a name is that of its steps after the path with the name appended
 pub name_is : (g : Graph) (p : List ℕ) (n : ℕ) → IsPath g p → on p n ≡ false → n < length g
     → at_name (fault_within g (length g - length p)) p n ≡ fault g (p ++ n ∷ []) (steps g n)
 name_is g p n path new there = cond-false (on p n) _ _ new ∙ deeper_is g p n path new there
 
--- two faults of a name are the same where what stands deeper is the same
+-- the faults at a name agree if the faults deeper down agree
 same_name : (f h : List ℕ → ℕ → Option NameFault) (p : List ℕ) (n : ℕ)
     → (on p n ≡ false → f (p ++ n ∷ []) n ≡ h (p ++ n ∷ []) n)
     → at_name f p n ≡ at_name h p n

@@ -1,4 +1,4 @@
--- A visit on its way, and what each of its moves keeps.
+-- A running visit, and the invariant that each of its moves preserves.
 use Rattle.std.proofs.Common.{◌≡◌, ◌⊎◌, ℕ, suc, ◌+◌, ◌-◌, ◌^◌, ◌<◌, ◌≤◌, Bool, true, false, List, [], ◌∷◌, ◌++◌, length}
 use Rattle.std.proofs.Common.{take, drop, set, Some, None, refl, sym, ◌∙◌, ap, subst, inl, inr, arith, nat_eq}
 use Rattle.std.specs.List.{AllByRecursion, IsDistinct, slice_get}
@@ -33,7 +33,7 @@ use Rattle.name_walk.proofs.Settled.{done_closed}
 abbrev pub HaveRoom : List Frame → Type 0
 HaveRoom fs = AllByRecursion (λ (f : Frame). f.place + 1 < 2 ^ 64) fs
 
--- the frames, and the place of the name that is being gone through
+-- the invariant of the frames, the current name and the place of its next step
 pub record IsOnWay (g : Graph) (s : List Bool) (start : ℕ) (ms : List Mark) (os : List ℕ) (fs : List Frame)
     (name place : ℕ) : Type 0 where
   pub answer : pending g [] fs name place ≡ fault g [] (To start ∷ [])
@@ -46,7 +46,7 @@ pub record IsOnWay (g : Graph) (s : List Bool) (start : ℕ) (ms : List Mark) (o
   pub fresh_path : (n : ℕ) → In n (path fs name) → IsSettled s n → ⊥
   pub room : HaveRoom fs
 
--- with the names that it has closed; before is the order as it began
+-- the invariant of a visit, including the names that it has closed; `before` is the order at its start
 pub record IsGoing (g : Graph) (s : List Bool) (start : ℕ) (before : List ℕ)
     (ms : List Mark) (es os : List ℕ) (fs : List Frame) (name place : ℕ) : Type 0 where
   pub way : IsOnWay g s start ms os fs name place
@@ -102,7 +102,7 @@ module _ (g : Graph) (s : List Bool) (net : IsNet g s) (start : ℕ) (before : L
         head_on [] = inl refl
         head_on (h ∷ hs) = inl refl
 
-    -- ---- a step to a name that is done is passed
+    -- ---- passing a step to a name that is done
     pub pass : (m : ℕ) → slice_get (steps g name) place ≡ Some (To m) → IsDone s os m
         → IsGoing g s start before ms es os fs name (place + 1)
     pass m e d =
@@ -133,7 +133,7 @@ module _ (g : Graph) (s : List Bool) (net : IsNet g s) (start : ℕ) (before : L
           kept = go.kept;
         }
 
-    -- ---- an open name is gone into
+    -- ---- entering an open name
     pub enter : (m : ℕ) → slice_get (steps g name) place ≡ Some (To m) → slice_get ms m ≡ Some Open
         → slice_get s m ≡ Some false
         → place + 1 < 2 ^ 64
@@ -168,7 +168,7 @@ module _ (g : Graph) (s : List Bool) (net : IsNet g s) (start : ℕ) (before : L
           kept = go.kept;
         }
 
-    -- ---- a fault is met
+    -- ---- meeting a fault
     pub dead_end : (w : ℕ) → slice_get (steps g name) place ≡ Some (Nowhere w)
         → fault g [] (To start ∷ []) ≡ Some (DeadEnd w (Some name))
     dead_end w e =
@@ -186,7 +186,7 @@ module _ (g : Graph) (s : List Bool) (net : IsNet g s) (start : ℕ) (before : L
         ∙ fault_pending g [] (path fs name) fs name place (To m) (Cycle (from_name m (path fs name) ++ m ∷ [])) refl e
         (cond-true (on (path fs name) m) _ _ (is_on m marked))
 
-    -- ---- all steps of the name are passed
+    -- ---- after all steps of the name are passed
     module _ (full : length (steps g name) ≤ place) where
       all_done : AreDone s os (steps g name)
       all_done = subst (λ (xs : List Step). AreDone s os xs) (take_all place (steps g name) full) go.way.passed
@@ -213,7 +213,7 @@ module _ (g : Graph) (s : List Bool) (net : IsNet g s) (start : ℕ) (before : L
       nothing_left : drop place (steps g name) ≡ []
       nothing_left = drop_all place (steps g name) full
 
-  -- ---- a name is left for the one above it
+  -- ---- leaving a name for the one above it
   pub leave : (ms : List Mark) (es os : List ℕ) (fs : List Frame) (f : Frame) (name place : ℕ)
       → IsGoing g s start before ms es os (fs ++ f ∷ []) name place → length (steps g name) ≤ place
       → IsGoing g s start before (set ms name Closed) es (os ++ name ∷ []) fs f.name (f.place + 1)
@@ -253,7 +253,7 @@ module _ (g : Graph) (s : List Bool) (net : IsNet g s) (start : ℕ) (before : L
         kept = kept_after ms es os (fs ++ f ∷ []) name place go full;
       }
 
-  -- ---- the first name is left
+  -- ---- leaving the first name
   pub finish : (ms : List Mark) (es os : List ℕ) (name place : ℕ) (old : Trace) → old.order ≡ before
       → IsGoing g s start before ms es os [] name place → length (steps g name) ≤ place
       → IsFaultless g s start old

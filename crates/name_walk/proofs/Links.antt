@@ -1,4 +1,4 @@
--- The frames of a path: each stands at the step to the next, and the steps before it are done.
+-- The frames of a path: each is at the step to the next, and the steps before that step are done.
 use Rattle.std.proofs.Common.{◌≡◌, ◌⊎◌, ℕ, Bool, List, [], ◌∷◌, ◌++◌, take, Some, refl, sym, ◌∙◌, ap, subst, inl, inr}
 use Rattle.std.specs.List.{AllByRecursion, slice_get}
 use Rattle.name_walk.specs.declared.step.Step.{Step}
@@ -17,7 +17,7 @@ abbrev pub head : List Frame → ℕ → ℕ
 head [] name = name
 head (f ∷ fs) name = f.name
 
--- a name, and how many of its steps are done
+-- a name, and the number of its steps that are done
 abbrev pub frame : ℕ → ℕ → Frame
 frame name place = record { name = name; place = place }
 
@@ -26,12 +26,12 @@ pub path_more : (fs : List Frame) (f : Frame) (m : ℕ) → path (fs ++ f ∷ []
 path_more [] f m = refl
 path_more (h ∷ fs) f m = ap (λ xs. h.name ∷ xs) (path_more fs f m)
 
--- and leaves its first name
+-- one more frame does not change the first name of the path
 pub head_more : (fs : List Frame) (f : Frame) (m : ℕ) → head (fs ++ f ∷ []) m ≡ head fs f.name
 head_more [] f m = refl
 head_more (h ∷ fs) f m = refl
 
--- the last name of a path is the present one
+-- the last name of a path is the current name
 pub last_path : (p : List ℕ) (fs : List Frame) (name : ℕ) → last (p ++ path fs name) ≡ Some name
 last_path [] [] name = refl
 last_path [] (f ∷ []) name = refl
@@ -41,11 +41,11 @@ last_path (k ∷ []) (f ∷ fs) name = last_path [] (f ∷ fs) name
 last_path (k ∷ l ∷ p) fs name = last_path (l ∷ p) fs name
 
 -- the first name is on the path
-head_In : (fs : List Frame) (name : ℕ) → In (head fs name) (path fs name)
+pub head_In : (fs : List Frame) (name : ℕ) → In (head fs name) (path fs name)
 head_In [] name = inl refl
 head_In (f ∷ fs) name = inl refl
 
--- so is the present one
+-- the current name is on the path
 pub name_In : (fs : List Frame) (name : ℕ) → In name (path fs name)
 name_In [] name = inl refl
 name_In (f ∷ fs) name = inr (name_In fs name)
@@ -54,7 +54,7 @@ name_In (f ∷ fs) name = inr (name_In fs name)
 abbrev pub AreDone : List Bool → List ℕ → List Step → Type 0
 AreDone s order xs = AllByRecursion (LeadsInto (IsDone s order)) xs
 
--- steps that are done stay done behind one more name
+-- steps that are done stay done after one more name is closed
 pub are_done_more : (s : List Bool) (order : List ℕ) (n : ℕ) (xs : List Step) → AreDone s order xs
     → AreDone s (order ++ n ∷ []) xs
 are_done_more s order n xs h =

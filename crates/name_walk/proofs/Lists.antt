@@ -1,4 +1,4 @@
--- Lists, and paths as lists of different names.
+-- Lists, and paths as lists of distinct names.
 use Rattle.std.proofs.Common.{◌≡◌, ◌⊎◌, ◌+◌, ℕ, zero, suc, Bool, true, false, cond, List, [], ◌∷◌, ◌++◌, take, drop}
 use Rattle.std.proofs.Common.{Option, Some, None, nat_eq, refl, sym, ◌∙◌, ap, subst, inl, inr, arith}
 use Rattle.std.specs.List.{AllByRecursion, IsDistinct, slice_get}
@@ -8,31 +8,31 @@ use Rattle.std.proofs.lemmas.List.Folds.{list_any-append}
 use Rattle.name_walk.specs.Faults.{on}
 use Rattle.name_walk.specs.Lists.{In, first}
 
--- ---- all of a list
+-- ---- properties of all elements
 pub all_map : {A : Type 0} (P Q : A → Type 0) → ((x : A) → P x → Q x) → (xs : List A) → AllByRecursion P xs
     → AllByRecursion Q xs
 all_map P Q f [] h = tt
 all_map P Q f (x ∷ xs) h = (f x h.0, all_map P Q f xs h.1)
 
--- what follows from a property for each member holds of all
+-- a property that follows for each member from a property of all members holds for all members
 pub all_map_in : {A : Type 0} (P Q : A → Type 0) (xs : List A) → ((x : A) → In x xs → P x → Q x) → AllByRecursion P xs
     → AllByRecursion Q xs
 all_map_in P Q [] f h = tt
 all_map_in P Q (x ∷ xs) f h = (f x (inl refl) h.0, all_map_in P Q xs (λ y i. f y (inr i)) h.1)
 
--- what holds of all holds of each
+-- a property of all members holds for each member
 pub all_at : {A : Type 0} (P : A → Type 0) (xs : List A) (x : A) → AllByRecursion P xs → In x xs → P x
 all_at P [] x h i = absurd i
 all_at P (y ∷ ys) x h (inl e) = subst P (sym e) h.0
 all_at P (y ∷ ys) x h (inr i) = all_at P ys x h.1 i
 
--- what holds of all of two lists holds of both together
+-- a property of all members of two lists holds for both lists together
 pub all_append : {A : Type 0} (P : A → Type 0) (xs ys : List A) → AllByRecursion P xs → AllByRecursion P ys
     → AllByRecursion P (xs ++ ys)
 all_append P [] ys h k = k
 all_append P (x ∷ xs) ys h k = (h.0, all_append P xs ys h.1 k)
 
--- and so of the first of them
+-- a property of all members of two joined lists holds for the first list
 pub all_front : {A : Type 0} (P : A → Type 0) (xs ys : List A) → AllByRecursion P (xs ++ ys) → AllByRecursion P xs
 all_front P [] ys h = tt
 all_front P (x ∷ xs) ys h = (h.0, all_front P xs ys h.1)
@@ -43,7 +43,7 @@ In-left [] ys a h = absurd h
 In-left (x ∷ xs) ys a (inl e) = inl e
 In-left (x ∷ xs) ys a (inr h) = inr (In-left xs ys a h)
 
--- a member of the second list is one of both
+-- a member of the second list is a member of both lists together
 pub In-right : {A : Type 0} (xs ys : List A) (a : A) → In a ys → In a (xs ++ ys)
 In-right [] ys a h = h
 In-right (x ∷ xs) ys a h = inr (In-right xs ys a h)
@@ -52,31 +52,31 @@ In-right (x ∷ xs) ys a h = inr (In-right xs ys a h)
 pub In-last : {A : Type 0} (xs : List A) (a : A) → In a (xs ++ a ∷ [])
 In-last xs a = In-right xs (a ∷ []) a (inl refl)
 
--- an element of a list with one more is one of the list, or that one
+-- an element of a list with one more element is in the list, or is that element
 pub In-push : {A : Type 0} (xs : List A) (x a : A) → In a (xs ++ x ∷ []) → In a xs ⊎ (a ≡ x)
 In-push [] x a (inl e) = inr e
 In-push [] x a (inr h) = absurd h
 In-push (y ∷ xs) x a (inl e) = inl (inl e)
 In-push (y ∷ xs) x a (inr h) = elim (In-push xs x a h) [ inl i ↦ inl (inr i) | inr e ↦ inr e ]
 
--- a member is found
+-- the test for a member is true
 pub In-on : (ks : List ℕ) (k : ℕ) → In k ks → on ks k ≡ true
 In-on [] k h = absurd h
 In-on (x ∷ ks) k (inl e) = or_left _ _ (eq-eqb k x e)
 In-on (x ∷ ks) k (inr h) = or_right _ _ (In-on ks k h)
 
--- what is found is a member
+-- if the test is true, the number is a member
 pub on-In : (ks : List ℕ) (k : ℕ) → on ks k ≡ true → In k ks
 on-In [] k h = cc
 on-In (x ∷ ks) k h =
     elim (or_cases (nat_eq k x) (on ks k) h) [ inl e ↦ inl (eqb-true k x e) | inr e ↦ inr (on-In ks k e) ]
 
--- what is not found, and is not the new member, is not found behind it
+-- a number that is not a member, and is not the appended number, is not a member afterwards
 pub on-push_false : (ks : List ℕ) (x k : ℕ) → on ks k ≡ false → (k ≡ x → ⊥) → on (ks ++ x ∷ []) k ≡ false
 on-push_false ks x k h ne = list_any-append (nat_eq k) ks (x ∷ [])
     ∙ or_from _ _ h (or_from (nat_eq k x) false (ne_eqb k x ne) refl)
 
--- what stands at a place is a member
+-- the element at a place is a member
 pub get_In : {A : Type 0} (xs : List A) (i : ℕ) (v : A) → slice_get xs i ≡ Some v → In v xs
 get_In [] i v e = cc
 get_In (x ∷ xs) zero v e = inl (cc)
@@ -89,7 +89,7 @@ drop_at (x ∷ xs) zero v e = let f : x ≡ v = cc in ap (λ y. y ∷ xs) f
 drop_at (x ∷ xs) (suc i) v e =
     let f : suc (i + 1) ≡ suc i + 1 = omega arith in subst (λ j. drop i xs ≡ v ∷ drop j (x ∷ xs)) f (drop_at xs i v e)
 
--- one place more takes what stands there
+-- taking one more place appends the element at that place
 pub take_at : {A : Type 0} (xs : List A) (i : ℕ) (v : A) → slice_get xs i ≡ Some v
     → take (i + 1) xs ≡ take i xs ++ v ∷ []
 take_at [] i v e = cc
@@ -98,38 +98,38 @@ take_at (x ∷ xs) (suc i) v e =
     let f : suc (i + 1) ≡ suc i + 1 = omega arith in
     subst (λ j. take j (x ∷ xs) ≡ x ∷ take i xs ++ v ∷ []) f (ap (λ ys. x ∷ ys) (take_at xs i v e))
 
--- ---- the first that gives something
+-- ---- the first result
 pub or_none : {A : Type 0} (o : Option A) → option_or o None ≡ o
 or_none None = refl
 or_none (Some x) = refl
 
--- where neither of two gives anything, the first does not
+-- if neither of two options has a value, the first has none
 pub none_first : {A : Type 0} (a b : Option A) → option_or a b ≡ None → a ≡ None
 none_first None b e = refl
 none_first (Some x) b e = cc
 
--- nor does the second
+-- if neither of two options has a value, the second has none
 pub none_second : {A : Type 0} (a b : Option A) → option_or a b ≡ None → b ≡ None
 none_second None b e = e
 none_second (Some x) b e = cc
 
--- where a list gives nothing, no member does
+-- if a list has no first result, no member has a result
 pub all_none : {A B : Type 0} (f : A → Option B) (xs : List A) → first f xs ≡ None → AllByRecursion (λ x. f x ≡ None) xs
 all_none f [] e = tt
 all_none f (x ∷ xs) e = (none_first (f x) (first f xs) e, all_none f xs (none_second (f x) (first f xs) e))
 
--- and the other way round
+-- if no member has a result, the list has no first result
 pub none_from : {A B : Type 0} (f : A → Option B) (xs : List A) → ((x : A) → In x xs → f x ≡ None) → first f xs ≡ None
 none_from f [] h = refl
 none_from f (x ∷ xs) h = ap (λ o. option_or o (first f xs)) (h x (inl refl)) ∙ none_from f xs (λ y i. h y (inr i))
 
--- functions that agree on the members give the same
+-- functions that agree on the members of a list have the same first result
 pub first_same : {A B : Type 0} (f g : A → Option B) (xs : List A) → ((x : A) → In x xs → f x ≡ g x)
     → first f xs ≡ first g xs
 first_same f g [] h = refl
 first_same f g (x ∷ xs) h = λ i. option_or (h x (inl refl) i) (first_same f g xs (λ y j. h y (inr j)) i)
 
--- where a list gives nothing, with one more member it gives what that gives
+-- if a list has no first result, then with one more member it has the result of that member
 pub first_push : {A B : Type 0} (f : A → Option B) (xs : List A) (x : A) → first f xs ≡ None
     → first f (xs ++ x ∷ []) ≡ f x
 first_push f [] x e = or_none (f x)
@@ -137,7 +137,7 @@ first_push f (y ∷ xs) x e =
     ap (λ o. option_or o (first f (xs ++ x ∷ []))) (none_first (f y) (first f xs) e)
     ∙ first_push f xs x (none_second (f y) (first f xs) e)
 
--- where nothing before a place gives anything, the list gives what stands there gives
+-- if no element before a place has a result, the first result of the list is that of the element there
 pub first_at : {A B : Type 0} (f : A → Option B) (xs : List A) (i : ℕ) (x : A) (y : B)
     → first f (take i xs) ≡ None → slice_get xs i ≡ Some x → f x ≡ Some y → first f xs ≡ Some y
 first_at f [] i x y e g h = cc
@@ -146,23 +146,23 @@ first_at f (z ∷ xs) (suc i) x y e g h =
     ap (λ o. option_or o (first f xs)) (none_first (f z) (first f (take i xs)) e)
     ∙ first_at f xs i x y (none_second (f z) (first f (take i xs)) e) g h
 
--- a test that chose nothing
+-- a choice is `None` only if the test is false and the alternative is `None`
 pub not_chosen : {A : Type 0} (b : Bool) (x : A) (o : Option A) → cond b (Some x) o ≡ None → (b ≡ false) × (o ≡ None)
 not_chosen true x o e = cc
 not_chosen false x o e = (refl, e)
 
--- ---- different numbers
+-- ---- distinct numbers
 pub nothing_twice : IsDistinct nat_eq []
 unfolding IsDistinct
 nothing_twice = tt
 
--- the front of different members has different members
+-- the front of a list of distinct members is distinct
 pub distinct_front : (xs ys : List ℕ) → IsDistinct nat_eq (xs ++ ys) → IsDistinct nat_eq xs
 unfolding IsDistinct
 distinct_front [] ys h = tt
 distinct_front (x ∷ xs) ys h = (all_front (λ y. nat_eq x y ≡ false) xs ys h.0, distinct_front xs ys h.1)
 
--- the last of different members is not among the others
+-- the last of distinct members is not among the others
 pub distinct_last : (xs : List ℕ) (n : ℕ) → IsDistinct nat_eq (xs ++ n ∷ []) → In n xs → ⊥
 unfolding IsDistinct
 distinct_last [] n h i = i

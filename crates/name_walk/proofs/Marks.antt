@@ -10,13 +10,13 @@ use Rattle.name_walk.specs.Lists.{In}
 use Rattle.name_walk.specs.Traces.{AreEntered}
 use Rattle.name_walk.proofs.Lists.{In-last, In-left, In-push}
 
--- what is put at a place stands there
+-- setting a place of a list sets the element there
 pub get_set_same : {A : Type 0} (xs : List A) (i : ℕ) (v : A) → i < length xs → slice_get (set xs i v) i ≡ Some v
 get_set_same [] i v h = absurd (omega arith)
 get_set_same (x ∷ xs) zero v h = refl
 get_set_same (x ∷ xs) (suc i) v h = get_set_same xs i v (omega arith)
 
--- and all other places stay
+-- setting a place of a list does not change other places
 pub get_set_other : {A : Type 0} (xs : List A) (i j : ℕ) (v : A) → (j ≡ i → ⊥)
     → slice_get (set xs i v) j ≡ slice_get xs j
 get_set_other [] i j v h = refl
@@ -29,7 +29,7 @@ get_set_other (x ∷ xs) (suc i) (suc j) v h = get_set_other xs i j v (λ e. h (
 abbrev pub AreMarked : Mark → List Mark → List ℕ → Type 0
 AreMarked v ms xs = (n : ℕ) → (slice_get ms n ≡ Some v) ↔ In n xs
 
--- the mark of a name where the names of a list have another one
+-- a name with another mark is not in the list of the names with this mark
 pub other_mark : (v w : Mark) (ms : List Mark) (xs : List ℕ) → AreMarked v ms xs → (Some w ≡ Some v → ⊥)
     → (n : ℕ) → slice_get ms n ≡ Some w → In n xs → ⊥
 other_mark v w ms xs marked ne n e i = ne (sym e ∙ (marked n).1 i)
@@ -38,7 +38,7 @@ module _ (ms : List Mark) (n : ℕ) (there : n < length ms) where
   now_at : (w : Mark) (k : ℕ) → k ≡ n → slice_get (set ms n w) k ≡ Some w
   now_at w k e = ap (slice_get (set ms n w)) e ∙ get_set_same ms n w there
 
-  -- a name gets the mark
+  -- marking a name appends it to the list of marked names
   pub marked_push : (v : Mark) (xs : List ℕ) → AreMarked v ms xs → AreMarked v (set ms n v) (xs ++ n ∷ [])
   marked_push v xs marked k =
       elim (cases_eq k n) [
@@ -49,7 +49,7 @@ module _ (ms : List Mark) (n : ℕ) (there : n < length ms) where
         )
       ]
 
-  -- a name without the mark gets another one
+  -- giving another mark to a name without the mark does not change the list of marked names
   pub marked_same : (v w : Mark) (xs : List ℕ) → AreMarked v ms xs → (Some w ≡ Some v → ⊥) → (In n xs → ⊥)
       → AreMarked v (set ms n w) xs
   marked_same v w xs marked differ apart k =
@@ -62,7 +62,7 @@ module _ (ms : List Mark) (n : ℕ) (there : n < length ms) where
         )
       ]
 
-  -- the last name with the mark gets another one
+  -- giving another mark to the last marked name removes it from the list of marked names
   pub marked_pop : (v w : Mark) (xs : List ℕ) → AreMarked v ms (xs ++ n ∷ []) → (Some w ≡ Some v → ⊥) → (In n xs → ⊥)
       → AreMarked v (set ms n w) xs
   marked_pop v w xs marked differ apart k =
@@ -93,7 +93,7 @@ module _ (ms : List Mark) (n : ℕ) (there : n < length ms) where
     among = λ k l. elim (h.among k l) [ inl e ↦ inl e | inr i ↦ inr (In-left names (n ∷ []) k i) ];
   })
 
-  -- the last of them is open again
+  -- reopening the last entered name removes it from the entered names
   pub entered_pop : (names : List ℕ) → AreEntered ms (names ++ n ∷ []) → AreEntered (set ms n Open) names
   entered_pop names h = record {
     within = λ k i. subst (λ (x : ℕ). k < x) (sym (length-set ms n Open)) (h.within k (In-left names (n ∷ []) k i));
@@ -106,7 +106,7 @@ module _ (ms : List Mark) (n : ℕ) (there : n < length ms) where
     ];
   }
 
--- a name with another mark than open is one of them
+-- a name with a mark other than open is an entered name
 pub entered_in : (v : Mark) → (Some v ≡ Some Open → ⊥) → (ms : List Mark) (names : List ℕ) (n : ℕ) → AreEntered ms names
     → slice_get ms n ≡ Some v → In n names
 entered_in v differ ms names n h e =

@@ -1,4 +1,4 @@
--- The moves of a visit, as they change what the walk leaves behind.
+-- The moves of a visit, and how they change its traces.
 use Rattle.std.proofs.Common.{◌≡◌, ℕ, ◌+◌, ◌^◌, ◌<◌, ◌≤◌, Bool, true, List, [], ◌∷◌, ◌++◌, length, set, Some, sym, ◌∙◌}
 use Rattle.std.proofs.Common.{ap, subst, inl, inr}
 use Rattle.std.specs.List.{slice_get}
@@ -17,11 +17,11 @@ use Rattle.name_walk.proofs.Links.{frame}
 use Rattle.name_walk.proofs.Lists.{get_In}
 use Rattle.name_walk.proofs.Weights.{enter_less, leave_less, weight}
 
--- a walk stands at a step of a name
+-- a visit is at a step of a name
 abbrev pub IsGoingAt : Graph → List Bool → ℕ → List ℕ → Trace → ℕ → ℕ → Type 0
 IsGoingAt g s start before t name place = IsGoing g s start before t.marks t.entered t.order t.frames name place
 
--- how much is left of it
+-- the measure of the rest of the visit
 abbrev pub weight_at : Graph → Trace → ℕ → ℕ → ℕ
 weight_at g t name place = weight g t.marks t.frames name place
 
@@ -44,7 +44,7 @@ module _ {g : Graph} {s : List Bool} (net : IsNet g s) {start : ℕ} where
       slice_get_within t.marks name OnPath on_path,
     )
 
-    -- a name to which a step leads is there
+    -- a name to which a step leads is in range
     pub next_at : (m : ℕ) → slice_get (steps g name) place ≡ Some (To m)
         → (m < length g) × (m < length s) × (m < length t.marks)
     next_at m e =

@@ -18,13 +18,13 @@ use Rattle.name_walk.proofs.Lists.{In-push, nothing_twice, on-In}
 use Rattle.name_walk.proofs.Marks.{entered_again, entered_in, entered_push, marked_push, marked_same, other_mark}
 use Rattle.name_walk.proofs.Settled.{ordered_push}
 
--- what holds of a list's names and of one more holds of all
+-- a property of the names of a list and of one more name holds for all of them
 pub either_new : {P : ℕ → Type 0} (xs : List ℕ) (x : ℕ) → ((n : ℕ) → In n xs → P n) → P x → (n : ℕ)
     → In n (xs ++ x ∷ []) → P n
 either_new {P} xs x f p n i = elim (In-push xs x n i) [ inl j ↦ f n j | inr e ↦ subst P (sym e) p ]
 
 module _ (g : Graph) (s : List Bool) where
-  -- nothing yet
+  -- at the start no name is closed
   pub ordering_start : (ms : List Mark) → length ms ≡ length g → AreOpen ms → AreOrdering g s ms [] []
   ordering_start ms size are_open = record {
     size = size;

@@ -1,4 +1,4 @@
--- The steps of a query that are passed.
+-- The steps of a query that a walk has passed.
 use Rattle.std.proofs.Common.{◌≡◌, ◌⊎◌, ℕ, zero, suc, ◌+◌, ◌-◌, ◌<◌, Bool, List, [], ◌∷◌, ◌++◌, length, take, replicate}
 use Rattle.std.proofs.Common.{◌≤◌, Some, None, refl, sym, ◌∙◌, ap, subst, inl, inr, arith, length-append}
 use Rattle.std.specs.List.{slice_get}
@@ -22,14 +22,14 @@ use Rattle.name_walk.proofs.Lists.{In-left, In-push, first_at, first_push, or_no
 use Rattle.name_walk.proofs.Ordering.{ordering_start}
 use Rattle.name_walk.proofs.Settled.{done_below, done_closed}
 
--- these steps of a query have no fault, what was closed is reached by them, and each leads to a name that is done
+-- these steps of a query have no fault, they reach the names that were closed, and each leads to a name that is done
 pub record ArePassed (g : Graph) (s : List Bool) (query : List Step) (t : Trace) : Type 0 where
   pub between : IsBetween g s t
   pub none : fault g [] query ≡ None
   pub reached : (n : ℕ) → In n t.order → IsReached g query n
   pub done : (n : ℕ) → In (To n) query → IsDone s t.order n
 
--- new marks behind open ones are open
+-- open marks with new open marks appended are all open
 open_front : (n : ℕ) (marks : List Mark) (k : ℕ) → ((m : ℕ) → m < length marks → slice_get marks m ≡ Some Open)
     → (m : ℕ) → m < length (take n marks ++ replicate k Open)
     → slice_get (take n marks ++ replicate k Open) m ≡ Some Open
@@ -42,7 +42,7 @@ open_front (suc n) [] (suc k) h (suc m) l = open_front (suc n) [] k h m (omega a
 open_front (suc n) (x ∷ marks) k h zero l = h 0 (omega arith)
 open_front (suc n) (x ∷ marks) k h (suc m) l = open_front n marks k (λ q j. h (suc q) (omega arith)) m (omega arith)
 
--- marks that are cut or filled up have the wanted length
+-- marks that are cut or extended have the wanted length
 cover_length : (n : ℕ) (marks : List Mark) → length (take n marks ++ replicate (n - length marks) Open) ≡ n
 cover_length n marks =
     let both = length-append (take n marks) (replicate (n - length marks) Open) in
@@ -50,7 +50,7 @@ cover_length n marks =
     let back = length-replicate (n - length marks) Open in
     omega arith
 
--- an idle walk over so many names is idle
+-- an idle walk stays idle when it covers n names
 covered_idle : (n : ℕ) (t : Trace) → IsIdle t → IsIdle (with_names n t)
 covered_idle n t idle = record {
   are_open = open_front n t.marks (n - length t.marks) idle.are_open;
@@ -97,7 +97,7 @@ module _ (g : Graph) (s : List Bool) (query : List Step) where
       first_push (at_step (fault_within g (length g - 0)) []) query x e
       ∙ (sym (or_none (at_step (fault_within g (length g - 0)) [] x)) ∙ h)
 
-  -- a name that is done already
+  -- a step to a name that is done is passed
   pub passed_done : (net : IsNet g s) (t : Trace) (n : ℕ) → ArePassed g s query t → n < length g → IsDone s t.order n
       → ArePassed g s (query ++ To n ∷ []) t
   passed_done net t n p there d = record {
@@ -109,7 +109,7 @@ module _ (g : Graph) (s : List Bool) (query : List Step) where
         [ inl j ↦ p.done r j | inr e ↦ subst (λ (x : ℕ). IsDone s t.order x) (sym e) d ];
   }
 
-  -- a name that was visited
+  -- a step to a name that was visited without a fault is passed
   pub passed_visit : (old new : Trace) (n : ℕ) → ArePassed g s query old → IsFaultless g s n old new
       → ArePassed g s (query ++ To n ∷ []) new
   passed_visit old new n p v = record {
@@ -132,7 +132,7 @@ module _ (g : Graph) (s : List Bool) (query : List Step) where
           at_end [] = inl refl
           at_end (x ∷ xs) = inr (at_end xs)
 
-  -- at the end
+  -- after all steps are passed, the order has the names that the query newly closes
   pub newly_closed : IsNet g s → (t : Trace) → ArePassed g s query t → AreNewlyClosed g s query t.order
   newly_closed net t p = record {
     closed = p.between.ordering.closed;
@@ -154,14 +154,14 @@ module _ (g : Graph) (s : List Bool) (query : List Step) where
         | inr r ↦ done_below g s net.settled t.order p.between.ordering.ordered (p.done w.0 w.1) r
       ]
 
--- the next step of a query is a fault
+-- the fault of the next step is the fault of the query, if the steps before it have none
 pub fault_next : (g : Graph) (query : List Step) (i : ℕ) (x : Step) (f : NameFault) → fault g [] (take i query) ≡ None
     → slice_get query i ≡ Some x → fault g [] (x ∷ []) ≡ Some f → fault g [] query ≡ Some f
 fault_next g query i x f none e h =
     first_at (at_step (fault_within g (length g - 0)) []) query i x f none e
     (sym (or_none (at_step (fault_within g (length g - 0)) [] x)) ∙ h)
 
--- where no name is on a path, a name that is not open is done
+-- if a name is not on a path and not open, it is found closed
 pub found_closed : (s : List Bool) (ms : List Mark) (n : ℕ) (m : Mark) → IsFound s ms n m → (m ≡ Open → ⊥)
     → (slice_get ms n ≡ Some OnPath → ⊥) → IsFound s ms n Closed
 found_closed s ms n Open found ne off = absurd (ne refl)
@@ -182,7 +182,7 @@ module _ {g : Graph} {s : List Bool} (net : IsNet g s) (query : List Step) (i : 
       subst (λ (xs : List Step). ArePassed g s xs new) (sym (take_at query i (To n) here))
       (passed_visit g s (take i query) t new n passed v)
 
--- where all steps are passed, they have no fault and the order is of the newly closed names
+-- if all steps are passed, they have no fault, and the order has the newly closed names
 pub all_passed : (g : Graph) (s : List Bool) → IsNet g s → (query : List Step) (i : ℕ) (t : Trace)
     → ArePassed g s (take i query) t
     → length query ≤ i → (fault g [] query ≡ None) × AreNewlyClosed g s query t.order

@@ -1,4 +1,4 @@
--- The fault that is still to be met: of the name that is being gone through, and of each frame above it.
+-- The fault that is still to be met, in the current name and in each frame above it.
 use Rattle.std.proofs.Common.{◌≡◌, ℕ, ◌+◌, ◌-◌, List, [], ◌∷◌, ◌++◌, length, drop, Option, Some, None, sym, ◌∙◌, ap}
 use Rattle.std.proofs.Common.{subst, append_assoc}
 use Rattle.std.specs.List.{slice_get}
@@ -18,7 +18,7 @@ module _ (g : Graph) where
       option_or (pending (p ++ f.name ∷ []) fs name place)
       (fault g (p ++ f.name ∷ []) (drop (f.place + 1) (steps g f.name)))
 
-  -- what a frame adds
+  -- the fault that a frame adds
   abbrev above : List ℕ → Frame → Option NameFault → Option NameFault
   above p f o = option_or o (fault g (p ++ f.name ∷ []) (drop (f.place + 1) (steps g f.name)))
 

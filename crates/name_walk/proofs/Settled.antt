@@ -12,7 +12,7 @@ use Rattle.name_walk.specs.Steps.{Graph, LeadsTo, Reaches, at_once, further, ste
 use Rattle.name_walk.proofs.Closed.{ends_longer}
 use Rattle.name_walk.proofs.Lists.{In-left, all_map_in}
 
--- what is done stays done behind one more name
+-- a name that is done stays done after one more name is closed
 pub done_more : (s : List Bool) (names : List ℕ) (n m : ℕ) → IsDone s names m → IsDone s (names ++ n ∷ []) m
 done_more s names n m (inl e) = inl e
 done_more s names n m (inr i) = inr (In-left names (n ∷ []) m i)
@@ -77,7 +77,7 @@ module _ (g : Graph) (s : List Bool) where
       → IsDone s names n
   asked query names newly n r = elim (or_settled s n) [ inl e ↦ inl e | inr ne ↦ inr ((newly.exactly n).1 (r, ne)) ]
 
--- a graph where the steps of settled names are the same
+-- another graph has the same steps for settled names
 module _ (g h : Graph) (s : List Bool) (settled : AreSettled g s)
     (same : (n : ℕ) → IsSettled s n → steps h n ≡ steps g n) where
   ends_there : (k n : ℕ) → IsSettled s n → EndsWithin g k n → EndsWithin h k n

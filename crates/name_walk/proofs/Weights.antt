@@ -1,4 +1,4 @@
--- What is left of a walk: the steps of open names, and those behind each frame.
+-- The rest of a walk: the steps of open names, and the remaining steps of each frame.
 use Rattle.std.proofs.Common.{◌≡◌, ℕ, zero, suc, ◌+◌, ◌-◌, ◌<◌, ◌≤◌, List, [], ◌∷◌, ◌++◌, length, set, Some, refl}
 use Rattle.std.proofs.Common.{arith}
 use Rattle.std.specs.List.{slice_get}
@@ -15,7 +15,7 @@ open_weight (Open ∷ ms) (w ∷ ws) = 2 + length w.items + open_weight ms ws
 open_weight (OnPath ∷ ms) (w ∷ ws) = open_weight ms ws
 open_weight (Closed ∷ ms) (w ∷ ws) = open_weight ms ws
 
--- a name that goes onto the path takes its steps off
+-- putting an open name on the path reduces the weight by its steps
 open_less : (ms : List Mark) (h : Graph) (n : ℕ) → slice_get ms n ≡ Some Open → n < length h
     → open_weight (set ms n OnPath) h + (2 + length (steps h n)) ≡ open_weight ms h
 open_less [] h n e l = cc
@@ -27,7 +27,7 @@ open_less (Open ∷ ms) (w ∷ ws) (suc n) e l = omega (arith, open_less ms ws n
 open_less (OnPath ∷ ms) (w ∷ ws) (suc n) e l = open_less ms ws n e (omega arith)
 open_less (Closed ∷ ms) (w ∷ ws) (suc n) e l = open_less ms ws n e (omega arith)
 
--- one that is closed changes nothing
+-- closing a name does not change the weight
 open_same : (ms : List Mark) (h : Graph) (n : ℕ) → slice_get ms n ≡ Some OnPath
     → open_weight (set ms n Closed) h ≡ open_weight ms h
 open_same [] h n e = cc

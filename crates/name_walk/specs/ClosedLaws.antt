@@ -1,4 +1,4 @@
--- What holds of closed names.
+-- Laws of closed names.
 use Rattle.std.specs.Prelude.{◌≡◌, ◌↔◌, ◌<◌, ℕ, suc, List, [], ◌∷◌, length, None}
 use Rattle.name_walk.specs.declared.step.Step.TheVariants.{To}
 use Rattle.name_walk.specs.Closed.{EndsWithin, IsClosed}
@@ -7,9 +7,8 @@ use Rattle.name_walk.specs.Lists.{In}
 use Rattle.name_walk.specs.Paths.{IsPath}
 use Rattle.name_walk.specs.Steps.{Graph, InRange, Reaches}
 
--- law: a name is closed exactly where it has no fault. How many names its ways may go through does not
--- matter. What it reaches is closed, and it does not reach itself. It has no fault behind any path that
--- leads to it.
+-- law: a name is closed exactly if it has no fault. The number of names within which its ways end does not matter. The
+-- names that it reaches are closed, and it does not reach itself. It has no fault after any path that leads to it.
 pub record ClosedLaw : Type 0 where
   pub faultless : (g : Graph) → InRange g → (n : ℕ) → n < length g → IsClosed g n ↔ (fault g [] (To n ∷ []) ≡ None)
   pub any_depth : (g : Graph) → InRange g → (k n : ℕ) → n < length g → EndsWithin g k n → IsClosed g n

@@ -6,8 +6,8 @@ use Rattle.name_walk.specs.declared.step.Step.TheVariants.{Nowhere, To}
 use Rattle.name_walk.specs.Lists.{first, last}
 use Rattle.name_walk.specs.Steps.{Graph, steps}
 
--- a word that leads nowhere, with the name in whose words it stands, none in the query itself; or a
--- name that is met again below itself, with the names from its first place down, and it again
+-- a word that leads nowhere, with the name whose words include it, or `None` if the word is in the query itself; or a
+-- name that leads back to itself, given as the names from its first place on the path down and then the name again
 pub data NameFault : Type 0 where
   DeadEnd : ℕ → Option ℕ → NameFault
   Cycle : List ℕ → NameFault
@@ -16,15 +16,15 @@ pub data NameFault : Type 0 where
 abbrev pub on : List ℕ → ℕ → Bool
 on p n = is_member nat_eq p n
 
--- a path from its first place of a name on
+-- the part of a path from the first place of a name on
 abbrev pub from_name : ℕ → List ℕ → List ℕ
 from_name n [] = []
 from_name n (k ∷ ks) = if nat_eq k n then k ∷ ks else from_name n ks
 
--- A path is the names whose steps are being gone through, the outermost first; deeper gives the first
--- fault in the steps of the last name of a path.
+-- A path is the list of names whose steps are being gone through, outermost first; `deeper` gives the first fault in
+-- the steps of the last name of a path.
 
--- a name that is on the path closes a cycle, any other is gone into
+-- a name that is on the path closes a cycle; any other name is entered
 abbrev pub at_name : (List ℕ → ℕ → Option NameFault) → List ℕ → ℕ → Option NameFault
 at_name deeper p n = if on p n then Some (Cycle (from_name n p ++ n ∷ [])) else deeper (p ++ n ∷ []) n
 
@@ -33,12 +33,12 @@ abbrev pub at_step : (List ℕ → ℕ → Option NameFault) → List ℕ → St
 at_step deeper p (Nowhere w) = Some (DeadEnd w (last p))
 at_step deeper p (To n) = at_name deeper p n
 
--- the first fault in the steps of the last name of a path, where so many names at most may be gone into
+-- the first fault in the steps of the last name of a path, if at most `room` more names may be entered
 abbrev pub fault_within : Graph → ℕ → List ℕ → ℕ → Option NameFault
 fault_within g zero p n = Some (Cycle p)
 fault_within g (suc room) p n = first (at_step (fault_within g room) p) (steps g n)
 
--- the first fault of steps behind a path: no name stands twice in a path, so the names of the graph
--- that are not on it are room enough
+-- the first fault of steps after a path: no name occurs twice in a path, so the number of names of the graph that are
+-- not on it is room enough
 abbrev pub fault : Graph → List ℕ → List Step → Option NameFault
 fault g p xs = first (at_step (fault_within g (length g - length p)) p) xs

@@ -7,11 +7,11 @@ use Rattle.name_walk.specs.Closed.{IsClosed, IsDone, IsSettled}
 use Rattle.name_walk.specs.Lists.{In}
 use Rattle.name_walk.specs.Steps.{Graph, LeadsTo, Reaches}
 
--- a name of a query, or reached by one
+-- a name to which a step of the query leads, or one that such a name reaches
 abbrev pub IsReached : Graph → List Step → ℕ → Type 0
 IsReached g query n = (r : ℕ) × In (To r) query × ((n ≡ r) ⊎ Reaches g r n)
 
--- what each name leads to is settled or stands before it
+-- each name leads only to names that are settled or come before it
 abbrev pub AreOrdered : Graph → List Bool → List ℕ → List ℕ → Type 0
 AreOrdered g settled before [] = Unit {0}
 AreOrdered g settled before (n ∷ ns) =

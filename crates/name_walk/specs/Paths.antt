@@ -4,13 +4,13 @@ use Rattle.std.specs.List.{IsDistinct}
 use Rattle.name_walk.specs.Faults.{on}
 use Rattle.name_walk.specs.Steps.{Graph}
 
--- names of the graph, all different
+-- a path consists of distinct names of the graph
 pub record IsPath (g : Graph) (p : List ℕ) : Type 0 where
   pub once : IsDistinct nat_eq p
   pub there : (n : ℕ) → on p n ≡ true → n < length g
 
--- law: the empty path is one, a path goes on by each name that is not on it, and no path is longer
--- than the graph has names
+-- law: the empty list is a path, a path can be extended by each name of the graph that is not on it, and no path has
+-- more names than the graph
 pub record PathLaw : Type 0 where
   pub empty : (g : Graph) → IsPath g []
   pub longer : (g : Graph) (p : List ℕ) (n : ℕ) → IsPath g p → on p n ≡ false → n < length g → IsPath g (p ++ n ∷ [])

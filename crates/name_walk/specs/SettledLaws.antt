@@ -1,13 +1,13 @@
--- What holds of settled names.
+-- Laws of settled names.
 use Rattle.std.specs.Prelude.{◌≡◌, ◌↔◌, ◌≤◌, ℕ, Bool, List, length}
 use Rattle.name_walk.specs.declared.step.Step.{Step}
 use Rattle.name_walk.specs.Closed.{AreSettled, IsDone, IsSettled}
 use Rattle.name_walk.specs.NewlyClosed.{AreNewlyClosed, IsReached}
 use Rattle.name_walk.specs.Steps.{Graph, Reaches, steps}
 
--- law: what a settled name reaches is settled. All that a query reaches is settled or among the names
--- that it newly closes, and settled names with these are settled names again. More names, and other steps
--- of names that are not settled, do not matter.
+-- law: every name that a settled name reaches is settled. Every name that a query reaches is settled or among the
+-- names that the query newly closes, and the settled names together with these may be settled. Adding names, and
+-- changing the steps of names that are not settled, does not matter.
 pub record SettledLaw : Type 0 where
   pub below : (g : Graph) (settled : List Bool) → AreSettled g settled
       → (n m : ℕ) → IsSettled settled n → Reaches g n m → IsSettled settled m

@@ -1,4 +1,4 @@
--- Names by number, and what each leads to.
+-- Numbered names, and the steps of each.
 use Rattle.std.specs.Prelude.{◌<◌, ℕ, List, [], length, Option, Some, None, slice_get}
 use Rattle.smallvec.specs.SmallVec.{SmallVec}
 use Rattle.name_walk.specs.declared.step.Step.{Step}
@@ -13,23 +13,23 @@ abbrev pub items_of : Option (SmallVec Step) → List Step
 items_of None = []
 items_of (Some v) = v.items
 
--- the steps of one name, none where no name has the number
+-- the steps of one name, or no steps if no name has the number
 abbrev pub steps : Graph → ℕ → List Step
 steps g n = items_of (slice_get g n)
 
--- one name leads to another by a step
+-- the name n leads to m by one of its steps
 abbrev pub LeadsTo : Graph → ℕ → ℕ → Type 0
 LeadsTo g n m = In (To m) (steps g n)
 
--- by one step or more
+-- the name n leads to m by one or more steps
 pub data Reaches (g : Graph) : ℕ → ℕ → Type 0 where
   at_once : {n m : ℕ} → LeadsTo g n m → Reaches g n m
   further : {n x m : ℕ} → LeadsTo g n x → Reaches g x m → Reaches g n m
 
--- steps that lead to no other names than those of the graph
+-- the steps lead only to names of the graph, or nowhere
 abbrev pub AreKnown : Graph → List Step → Type 0
 AreKnown g xs = (m : ℕ) → In (To m) xs → m < length g
 
--- so are all steps of the graph
+-- all steps of the graph lead only to names of the graph, or nowhere
 abbrev pub InRange : Graph → Type 0
 InRange g = (n : ℕ) → AreKnown g (steps g n)

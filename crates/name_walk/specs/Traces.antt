@@ -1,4 +1,4 @@
--- What a walk leaves behind as it goes.
+-- The state of a walk.
 use Rattle.std.specs.Prelude.{◌≡◌, ◌⊎◌, ◌<◌, ◌-◌, ℕ, List, [], ◌∷◌, ◌++◌, length, take, replicate, Some, slice_get}
 use Rattle.std.specs.Prelude.{slice_set}
 use Rattle.name_walk.specs.declared.mark.Mark.{Mark}
@@ -6,8 +6,8 @@ use Rattle.name_walk.specs.declared.mark.Mark.TheVariants.{Closed, OnPath, Open}
 use Rattle.name_walk.specs.declared.traces.Frame.{Frame}
 use Rattle.name_walk.specs.Lists.{In}
 
--- the mark of each name, the names that have one other than open, the names that were closed, in order,
--- and the path above the name that is being gone through
+-- the mark of each name, the names that were entered, the names that were closed, in order, and the path above the
+-- current name
 pub record Trace : Type 0 where
   pub marks : List Mark
   pub entered : List ℕ
@@ -17,12 +17,12 @@ pub record Trace : Type 0 where
 abbrev pub no_traces : Trace
 no_traces = record { marks = []; entered = []; order = []; frames = [] }
 
--- the path: the names of the frames, and the name that is being gone through
+-- the path: the names of the frames, and then the current name
 abbrev pub path : List Frame → ℕ → List ℕ
 path [] n = n ∷ []
 path (f ∷ fs) n = f.name ∷ path fs n
 
--- so many names, of which new ones are open
+-- marks for `count` names; new names are open
 abbrev pub with_names : ℕ → Trace → Trace
 with_names count t = record t { marks = take count t.marks ++ replicate (count - length t.marks) Open }
 
@@ -34,29 +34,33 @@ with_entered t n = record t { marks = slice_set t.marks n OnPath; entered = t.en
 abbrev pub with_closed : Trace → ℕ → Trace
 with_closed t n = record t { marks = slice_set t.marks n Closed; order = t.order ++ n ∷ [] }
 
--- one name more above
+-- one more frame above the current name
 abbrev pub with_frame : Trace → Frame → Trace
 with_frame t f = record t { frames = t.frames ++ f ∷ [] }
 
 abbrev pub without_order : Trace → Trace
 without_order t = record t { order = [] }
 
--- no name has another mark than open
+-- the path is empty
+abbrev pub without_frames : Trace → Trace
+without_frames t = record t { frames = [] }
+
+-- every mark is open
 abbrev pub AreOpen : List Mark → Type 0
 AreOpen marks = (n : ℕ) → n < length marks → slice_get marks n ≡ Some Open
 
--- each name that has another mark than open is among these, and all of these are there
+-- each name with a mark other than open is in the list, and each name in the list has a mark
 pub record AreEntered (marks : List Mark) (names : List ℕ) : Type 0 where
   pub within : (n : ℕ) → In n names → n < length marks
   pub among : (n : ℕ) → n < length marks → (slice_get marks n ≡ Some Open) ⊎ In n names
 
--- between two walks
+-- the state between two walks
 pub record IsIdle (t : Trace) : Type 0 where
   pub are_open : AreOpen t.marks
   pub entered : t.entered ≡ []
   pub frames : t.frames ≡ []
 
--- all marks are open again, and the order stays
+-- all marks are open again, and the order is unchanged
 pub record IsCleared (old new : Trace) : Type 0 where
   pub idle : IsIdle new
   pub size : length new.marks ≡ length old.marks

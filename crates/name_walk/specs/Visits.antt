@@ -1,4 +1,4 @@
--- What a walk knows when it is between two steps of a query.
+-- What a walk knows between two steps of a query.
 use Rattle.std.specs.Prelude.{◌≡◌, ◌⊎◌, ◌↔◌, ℕ, Bool, false, List, [], ◌∷◌, length, Option, Some, None, MatchOption}
 use Rattle.std.specs.Prelude.{nat_eq, slice_get}
 use Rattle.std.specs.List.{IsDistinct}
@@ -14,14 +14,14 @@ use Rattle.name_walk.specs.Steps.{Graph, Reaches}
 use Rattle.name_walk.specs.Traces.{AreEntered, Trace}
 use Rattle.name_walk.specs.Walks.{fault_view}
 
--- what is found of a name: a settled one is as a closed one
+-- the mark found for a name; a settled name counts as closed
 abbrev pub IsFound : List Bool → List Mark → ℕ → Mark → Type 0
 IsFound settled marks n Closed = IsSettled settled n ⊎ (slice_get marks n ≡ Some Closed)
 IsFound settled marks n OnPath = slice_get marks n ≡ Some OnPath
 IsFound settled marks n Open = (slice_get settled n ≡ Some false) × (slice_get marks n ≡ Some Open)
 
--- the names that were closed are those that are marked so: closed indeed, none of them settled before,
--- each once, targets before users
+-- the names in `order` are exactly those marked as closed; all are closed names, none was settled before, and they are
+-- distinct, with targets before users
 pub record AreOrdering (g : Graph) (settled : List Bool) (marks : List Mark) (names order : List ℕ) : Type 0 where
   pub size : length marks ≡ length g
   pub marked : (n : ℕ) → (slice_get marks n ≡ Some Closed) ↔ In n order
@@ -31,23 +31,23 @@ pub record AreOrdering (g : Graph) (settled : List Bool) (marks : List Mark) (na
   pub ordered : AreOrdered g settled [] order
   pub entered : AreEntered marks names
 
--- and no name is on a path
+-- the order is right, and no name is on a path
 pub record IsBetween (g : Graph) (settled : List Bool) (t : Trace) : Type 0 where
   pub ordering : AreOrdering g settled t.marks t.entered t.order
   pub off_path : (n : ℕ) → slice_get t.marks n ≡ Some OnPath → ⊥
   pub frames : t.frames ≡ []
 
--- a name, or one that it reaches
+-- n is the name `start` or a name that it reaches
 abbrev pub IsBelow : Graph → ℕ → ℕ → Type 0
 IsBelow g start n = (n ≡ start) ⊎ Reaches g start n
 
--- a name was closed with some of what it reaches
+-- the name `start` was closed, together with some of the names that it reaches
 pub record AddsBelow (g : Graph) (start : ℕ) (old new : List ℕ) : Type 0 where
   pub from : (n : ℕ) → In n new → In n old ⊎ IsBelow g start n
   pub kept : (n : ℕ) → In n old → In n new
   pub put : In start new
 
--- a visit without a fault closes the name, one with a fault gives it
+-- the result of a visit that finds no fault: the name is closed
 pub record IsFaultless (g : Graph) (settled : List Bool) (start : ℕ) (old new : Trace) : Type 0 where
   pub none : fault g [] (To start ∷ []) ≡ None
   pub between : IsBetween g settled new

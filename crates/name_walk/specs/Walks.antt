@@ -1,4 +1,4 @@
--- What a walk answers.
+-- The result of a walk.
 use Rattle.std.specs.Prelude.{◌≡◌, ℕ, Bool, List, [], Option, Some, None, MatchOption}
 use Rattle.name_walk.specs.declared.fault.Fault.{Fault}
 use Rattle.name_walk.specs.declared.fault.Fault.TheVariants as made
@@ -7,12 +7,12 @@ use Rattle.name_walk.specs.Faults.{Cycle, DeadEnd, NameFault, fault}
 use Rattle.name_walk.specs.NewlyClosed.{AreNewlyClosed}
 use Rattle.name_walk.specs.Steps.{Graph}
 
--- the fault that the program gives
+-- the specification's view of the fault that the program returns
 abbrev pub fault_view : Fault → NameFault
 fault_view (made.DeadEnd w holder) = DeadEnd w holder
 fault_view (made.Cycle names) = Cycle names.items
 
--- the first fault of the query, or where it has none, the order of the names that it newly closes
+-- a walk returns the first fault of the query, or, if it has none, `order` lists the names that it newly closes
 abbrev pub IsWalked : Graph → List Bool → List Step → List ℕ → Option Fault → Type 0
 IsWalked g settled query order result =
     MatchOption result

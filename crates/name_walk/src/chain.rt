@@ -7,8 +7,8 @@ ghost use Rattle.name_walk.specs.Traces.{path};
 use crate::traces::Frame;
 use std::alloc::{AllocError, Global};
 
-// The names on the path from the place of one down, and that name again. The path is that of the
-// frames, and then `last`.
+// Returns the names on the path from `again` down, followed by `again`. The path consists of the names of the frames
+// and then `last`.
 pub(crate) fn chain(
     alloc: Global,
     frames: &[Frame],

@@ -2,27 +2,34 @@
 
 ghost use Rattle.name_walk.specs.ClosedLaws.{ClosedLaw};
 ghost use Rattle.name_walk.specs.FaultLaws.{FaultLaw};
+ghost use Rattle.name_walk.specs.FindingsLaws.{FindingsLaw};
 ghost use Rattle.name_walk.specs.Paths.{PathLaw};
 ghost use Rattle.name_walk.specs.SettledLaws.{SettledLaw};
 
-/// Which lists of names are paths.
+/// The empty list of names is a path, a path can be extended by each name that is not on it, and no path has more
+/// names than the graph.
 pub fn path_law()
     ensures { PathLaw }
 {}
 
-/// The first fault is what its words say, whatever room its definition takes, and nothing else is.
+/// The fault of some steps is the first of the faults of each of them, and this determines it uniquely.
 pub fn fault_law()
     ensures { FaultLaw }
 {}
 
-/// A name is closed exactly where it has no fault, on whatever path; then so is all that it reaches,
-/// and it does not reach itself.
+/// A name is closed exactly if it has no fault, whatever the path that leads to it. Every name that a closed name
+/// reaches is closed, and a closed name does not reach itself.
 pub fn closed_law()
     ensures { ClosedLaw }
 {}
 
-/// What a settled name reaches is settled, also after the names that a query newly closes are, and
-/// whatever becomes of names that are not settled.
+/// Every name that a settled name reaches is settled. This stays true when the names that a query newly closes are
+/// settled too, and when names that are not settled change.
 pub fn settled_law()
     ensures { SettledLaw }
+{}
+
+/// Findings stay right as long as the steps of their names do not change, even if more names are settled.
+pub fn findings_law()
+    ensures { FindingsLaw }
 {}

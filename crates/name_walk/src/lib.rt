@@ -1,18 +1,23 @@
-//! A walk over names by number: the first name fault of a query, or the names that it newly closes.
+//! A walk over numbered names: finds the first name fault of a query, or the names that the query newly closes.
 #![tactic(auto)]
 
 mod chain;
 mod fault;
+mod findings;
 mod laws;
 mod mark;
+mod naming;
 mod net;
+mod search;
 mod step;
 mod traces;
+mod trail;
 mod visit;
 mod walk;
 
 pub use fault::Fault;
-pub use laws::{closed_law, fault_law, path_law, settled_law};
+pub use findings::Findings;
+pub use laws::{closed_law, fault_law, findings_law, path_law, settled_law};
 pub use net::Net;
 pub use step::{Step, StepList};
 pub use walk::Walker;

@@ -1,11 +1,11 @@
-//! What a walk has found of a name.
+//! The state of a name during a walk.
 
 #[derive(Clone, Copy, Drop)]
 pub(crate) enum Mark {
-    // Nothing yet.
+    // The walk has not reached it.
     Open,
-    // Its steps are being gone through.
+    // The walk is going through its steps.
     OnPath,
-    // All that it reaches was gone through, without a fault.
+    // The walk has gone through everything that it reaches, without a fault.
     Closed,
 }

@@ -1,4 +1,4 @@
-//! Names by number.
+//! Numbered names and their steps.
 
 ghost use Rattle.std.specs.Prelude.{◌≡◌, ◌+◌, ◌^◌, ◌<◌, IfSome, length, slice_get};
 ghost use Rattle.std.specs.Option.{option_copied};
@@ -6,17 +6,17 @@ ghost use Rattle.name_walk.specs.Steps.{steps};
 
 use crate::step::{Step, StepList};
 
-/// Names by number, as their owner keeps them.
+/// Numbered names, borrowed from their owner.
 #[derive(Clone, Copy)]
 pub struct Net<'a> {
-    /// The steps of each name, those of its words in order.
+    /// The steps of each name, in the order of its words.
     pub steps: &'a [StepList],
-    /// Whether each name is settled: closed, and known to its owner as closed.
+    /// Whether each name is settled, that is, known to its owner to be closed.
     pub settled: &'a [bool],
 }
 
 impl<'a> Net<'a> {
-    // The step at a place of a name, none where all are passed.
+    // Returns the step of `name` at `place`, or `None` if the name has no step there.
     pub(crate) fn step(&self, name: usize, place: usize) -> Option<Step>
         requires { name < length self.now.steps.now }
         ensures step { result ≡ slice_get (steps self.now.steps.now name) place }

@@ -1,6 +1,6 @@
-//! What a walk leaves behind as it goes.
+//! The state of a walk: marks, the path, and the order of the closed names.
 
-ghost use Rattle.std.specs.Prelude.{◌≡◌, ◌+◌, ◌^◌, ◌<◌, ◌∷◌, [], ◌++◌, length, slice_get, Some};
+ghost use Rattle.std.specs.Prelude.{◌≡◌, ◌+◌, ◌^◌, ◌<◌, [], length, slice_get, Some};
 ghost use Rattle.std.specs.Prelude.{MatchOption, OnOk, OnErr};
 ghost use Rattle.name_walk.specs.Traces.{AreEntered, no_traces, with_names, with_entered, with_closed, with_frame};
 ghost use Rattle.name_walk.specs.Traces.{IsCleared, without_order};
@@ -17,14 +17,14 @@ pub(crate) struct Frame {
 }
 
 impl Frame {
-    // A name at its first step.
+    // Returns a frame for `name` at its first step.
     pub(crate) fn first(name: usize) -> Frame
         ensures { result ≡ record { name = name; place = 0 } }
     {
         Frame { name, place: 0 }
     }
 
-    // The same name, one step on.
+    // Returns a frame for the same name at the next step.
     pub(crate) fn next(self) -> Frame
         requires { self.place + 1 < 2 ^ 64 }
         ensures { result ≡ record { name = self.name; place = self.place + 1 } }
@@ -36,8 +36,8 @@ impl Frame {
     }
 }
 
-// The mark of each name; the names that have one other than open, which are to be cleaned; those
-// that were closed, in order; and the path above the name that is being gone through.
+// The mark of each name; the names that were entered, whose marks `clean` resets; the names that were closed, in
+// order; and the path above the current name.
 #[derive(Drop)]
 pub(crate) struct Traces {
     marks: Vec<Mark>,
@@ -60,7 +60,7 @@ impl Model for Traces {
 }
 
 impl Traces {
-    // No name.
+    // Returns traces of no names. They allocate no memory.
     pub(crate) fn new(alloc: Global) -> Traces
         ensures { result ≡ no_traces }
     {
@@ -72,7 +72,7 @@ impl Traces {
         }
     }
 
-    // Marks for so many names, of which new ones are open. A refusal changes nothing.
+    // Makes room for the marks of exactly `names` names. New names are open. On an error nothing changes.
     pub(crate) fn cover(&mut self, names: usize) -> Result<(), AllocError>
         ensures ok { OnOk result (self.new ≡ with_names names self.old) }
         ensures err { OnErr result (self.new ≡ self.old) }
@@ -80,7 +80,7 @@ impl Traces {
         self.marks.resize(names, Mark::Open)
     }
 
-    // The mark of a name.
+    // Returns the mark of a name.
     pub(crate) fn mark(&self, name: usize) -> Mark
         requires { name < length self.now.marks }
         ensures { slice_get self.now.marks name ≡ Some result }
@@ -88,21 +88,35 @@ impl Traces {
         self.marks[name]
     }
 
-    // The names that were closed, in order.
+    // Returns the names that were closed, in order.
     pub(crate) fn order(&self) -> &[usize]
         ensures { result.now ≡ self.now.order }
     {
         &self.order
     }
 
-    // The path above the name that is being gone through, the outermost first.
+    // Returns the names that were entered. All names with a mark other than open are among them.
+    pub(crate) fn entered(&self) -> &[usize]
+        ensures { result.now ≡ self.now.entered }
+    {
+        &self.entered
+    }
+
+    // Returns the number of names that have a mark, including open names.
+    pub(crate) fn len(&self) -> usize
+        ensures { result ≡ length self.now.marks }
+    {
+        self.marks.len()
+    }
+
+    // Returns the path above the current name, outermost first.
     pub(crate) fn frames(&self) -> &[Frame]
         ensures { result.now ≡ self.now.frames }
     {
         &self.frames
     }
 
-    // Puts a name on the path. A refusal changes nothing.
+    // Marks a name as on the path. On an error nothing changes.
     pub(crate) fn enter(&mut self, name: usize) -> Result<(), AllocError>
         requires { name < length self.old.marks }
         ensures ok { OnOk result (self.new ≡ with_entered self.old name) }
@@ -113,7 +127,7 @@ impl Traces {
         Ok(())
     }
 
-    // Closes a name. A refusal changes nothing.
+    // Closes a name. On an error nothing changes.
     pub(crate) fn close(&mut self, name: usize) -> Result<(), AllocError>
         requires { name < length self.old.marks }
         ensures ok { OnOk result (self.new ≡ with_closed self.old name) }
@@ -124,7 +138,7 @@ impl Traces {
         Ok(())
     }
 
-    // Goes one down. A refusal changes nothing.
+    // Goes down one name: `frame` becomes the last frame above the current name. On an error nothing changes.
     pub(crate) fn push(&mut self, frame: Frame) -> Result<(), AllocError>
         ensures ok { OnOk result (self.new ≡ with_frame self.old frame) }
         ensures err { OnErr result (self.new ≡ self.old) }
@@ -133,7 +147,7 @@ impl Traces {
         Ok(())
     }
 
-    // Goes one up, none at the top.
+    // Goes up one name, and returns its frame, or `None` at the top.
     pub(crate) fn pop(&mut self) -> Option<Frame>
         ensures { MatchOption result ((self.new ≡ self.old) × (self.old.frames ≡ []))
             (λ frame. self.old ≡ with_frame self.new frame) }
@@ -141,15 +155,15 @@ impl Traces {
         self.frames.pop()
     }
 
-    // Forgets the order of the walk before.
+    // Forgets the order of the previous walk.
     pub(crate) fn forget_order(&mut self)
         ensures { self.new ≡ without_order self.old }
     {
         self.order.clear();
     }
 
-    // Takes the marks away, at the cost of the names that have one, and the path. Their memory is given back: a long
-    // walk is rare, and what comes behind it wants memory of its own.
+    // Resets the marks and the path. The cost is proportional to the number of entered names. The memory of the entered
+    // names and of the path is freed: a long walk is rare, and the work after it needs memory of its own.
     pub(crate) fn clean(&mut self, alloc: Global)
         requires { AreEntered self.old.marks self.old.entered }
         ensures { IsCleared self.old self.new }

@@ -1,4 +1,4 @@
-//! One name and all that it reaches.
+//! The visit of one name and everything that it reaches.
 
 ghost use Rattle.std.specs.Prelude.{◌≡◌, ◌<◌, length, IfOk};
 ghost use Rattle.name_walk.specs.Nets.{IsNet};
@@ -14,7 +14,7 @@ use crate::step::Step;
 use crate::traces::{Frame, Traces};
 use std::alloc::{AllocError, Global};
 
-// The mark of a name, closed where it is settled.
+// Returns the mark of a name. A settled name counts as closed.
 pub(crate) fn mark_of(net: &Net, traces: &Traces, name: usize) -> Mark
     requires settled { name < length net.now.settled.now }
     requires marked { name < length traces.now.marks }
@@ -26,8 +26,9 @@ pub(crate) fn mark_of(net: &Net, traces: &Traces, name: usize) -> Mark
     traces.mark(name)
 }
 
-// Goes through an open name and all that it reaches, and closes them, targets before users. Each
-// turn of the loop passes a step, goes down one name or up one, and searches nothing.
+// Goes through an open name and everything that it reaches, and closes these names, targets before users. Returns the
+// first fault, if there is one. Each iteration of the loop passes one step, or goes down or up one name, and searches
+// no list.
 pub(crate) fn visit(
     alloc: Global,
     net: &Net,

@@ -16,7 +16,7 @@ use crate::visit::{mark_of, visit};
 use std::alloc::{AllocError, Global};
 use std::marker::Model;
 
-/// Walks over names, and keeps its memory from one query to the next. Contracts see the order of its last walk.
+/// Walks over names, and reuses its memory from one query to the next. Contracts see the order of its last walk.
 #[derive(Drop)]
 pub struct Walker {
     traces: Traces,
@@ -34,7 +34,7 @@ impl Model for Walker {
 }
 
 impl Walker {
-    /// A walker that has not walked. It takes no memory.
+    /// Returns a walker that has not walked yet. It allocates no memory.
     pub fn new(alloc: Global) -> Walker
         ensures { result ≡ [] }
     {
@@ -43,20 +43,21 @@ impl Walker {
         }
     }
 
-    /// The names that the last walk newly closed, targets before users. After a name fault or want
-    /// of memory it says nothing.
+    /// Returns the names that the last walk newly closed, targets before users. After a name fault or an allocation
+    /// error the order is unspecified.
     pub fn order(&self) -> &[usize]
         ensures { result.now ≡ self.now }
     {
         self.traces.order()
     }
 
-    /// Walks over all that the steps of a query reach, in order: gives the first name fault, or else
-    /// `order` is the names that the query newly closes, those that it reaches and that were not
-    /// settled. The query is the steps of words, or the one step to a name.
+    /// Walks over everything that the steps of a query reach, in order, and returns the first name fault. If there is
+    /// none, it returns `None`, and `order` gives the names that the query newly closes: those that it reaches and that
+    /// were not settled. The query consists of the steps of words, or of the one step to a name. The only error is
+    /// running out of memory.
     ///
-    /// Its cost is that of the names that are new since its last walk, and of the steps of the names that it
-    /// goes through, each once; settled names are passed. After each ending it is ready for the next query.
+    /// The cost is that of the names that are new since the last walk, and of the steps of the names that the walk goes
+    /// through, each once; settled names are skipped. The walker is ready for the next query after any result.
     pub fn walk(
         &mut self,
         alloc: Global,
@@ -76,7 +77,7 @@ impl Walker {
     }
 }
 
-// Goes through the steps of a query, in order.
+// Goes through the steps of a query, in order, and returns the first fault.
 fn visit_each(
     alloc: Global,
     net: &Net,

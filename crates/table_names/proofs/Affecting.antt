@@ -1,4 +1,4 @@
--- What is affected.
+-- Affected keys.
 use Rattle.std.proofs.Common.{◌≡◌, ◌⊎◌, ◌↔◌, true, List, ◌∷◌, Contains, refl, subst, inl, inr}
 use Rattle.std.specs.List.{list_any}
 use Rattle.std.proofs.lemmas.Bool.{or_cases, or_left, or_right}
@@ -18,7 +18,7 @@ use Rattle.table_names.proofs.Members.{member_later}
 use Rattle.table_names.proofs.Paths.{key_words_closed}
 use Rattle.table_names.proofs.Reaching.{onward, reach_law}
 
--- a reached key was looked at by the words, or by a key that they reach
+-- each reached key was looked at by the words, or by a key that they reach
 reached_looked :
     {table : Table} {words : List WordUse} {m : Key} → WordsReach table words m
     → ((u : WordUse) × Contains words u × Contains (looked_keys table u) m)
@@ -28,7 +28,7 @@ reached_looked (further {n = n} l r) =
     elim (reached_looked r) [ inl h ↦ inr (n, at_once l, h) | inr h ↦ inr (h.0, further l h.1, h.2) ]
 
 module _ (table : Table) (keys : List Key) where
-  -- what reaches an affected key is affected
+  -- each key that reaches an affected key is affected
   pub users : (n m : Key) → Reaches table n m → IsAffected table keys m → IsAffected table keys n
   users n m r (inl c) =
       elim (reached_looked r) [ inl h ↦ inr (inl (m, c, h)) | inr h ↦ inr (inr (h.0, h.1, (m, c, h.2))) ]

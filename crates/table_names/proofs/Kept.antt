@@ -1,4 +1,4 @@
--- What an edit leaves as it was.
+-- The keys that an edit leaves unchanged.
 use Rattle.std.proofs.Common.{◌≡◌, ◌≢◌, ◌↔◌, ℕ, zero, suc, List, [], length, map, Contains, is_some}
 use Rattle.std.proofs.Common.{sym, ◌∙◌, ap, subst, inl, inr}
 use Rattle.expr_tree.specs.declared.word_list.WordUse.{WordUse}
@@ -41,7 +41,7 @@ module _ (before after : Table) (keys : List Key) (changed : AreChanged before a
       → (m : Key) → Contains (targets before u) m → IsUnaffected m
   target_unaffected n free u i m t a = free (users before keys n m (at_once (u, i, t)) a)
 
-  -- what ended ends still
+  -- an unaffected key from which every way ended still has this property
   ends_kept : (k : ℕ) (n : Key) → EndsWithin before k n → IsUnaffected n → EndsWithin after k n
   ends_kept zero n e free = e
   ends_kept (suc k) n e free =
@@ -56,7 +56,7 @@ module _ (before after : Table) (keys : List Key) (changed : AreChanged before a
             ends_kept k m (h.into m was) (target_unaffected n free u i m was);
       })
 
-  -- and stands for the same
+  -- an unaffected key has the same meaning
   meaning_kept : (k : ℕ) (n : Key) → EndsWithin before k n → IsUnaffected n
       → meaning_within before k n ≡ meaning_within after k n
   meaning_kept zero n e free = absurd e
@@ -69,7 +69,7 @@ module _ (before after : Table) (keys : List Key) (changed : AreChanged before a
       ∙ ap (λ (f : Found). map (meaning_within after k) f.targets) (lookup_kept n free u i)))
       ∙ ap (entry_meaning (word_meaning_by after (meaning_within after k)) n.name) (entry_kept n free)
 
-  -- words that are looked up as before, and lead to nothing affected
+  -- words are unaffected: they are looked up as before, and lead to no affected key
   abbrev AreUnaffected : List WordUse → Type 0
   AreUnaffected words =
       (u : WordUse) → Contains words u
@@ -78,7 +78,7 @@ module _ (before after : Table) (keys : List Key) (changed : AreChanged before a
   key_unaffected : (n : Key) → IsUnaffected n → AreUnaffected (key_words before n)
   key_unaffected n free u i = (lookup_kept n free u i, target_unaffected n free u i)
 
-  -- such words reach the same
+  -- unaffected words lead to the same keys
   leads_still : (words : List WordUse) (m : Key) → AreUnaffected words → WordsLeadTo before words m
       → WordsLeadTo after words m
   leads_still words m free (u, i, t) = (u, i, subst (λ (f : Found). Contains f.targets m) (free u i).0 t)

@@ -1,4 +1,4 @@
--- Keys among others.
+-- Membership of keys in lists.
 use Rattle.std.proofs.Common.{◌≡◌, ◌⊎◌, true, false, List, [], ◌∷◌, ◌++◌, Contains, refl, sym, ◌∙◌, ap, inl, inr}
 use Rattle.std.specs.Cmp.{IsEquivalence, both_ways}
 use Rattle.std.proofs.lemmas.Bool.{false_from_ne_true, or_cases, or_from}
@@ -8,7 +8,7 @@ use Rattle.def_entry.specs.declared.key.Key.{Key}
 use Rattle.def_entry.specs.SameKeys.{is_among, is_same}
 use Rattle.def_entry.proofs.SameKeys.{same_keys}
 
--- keys that are found to be the same are one
+-- keys that are tested as the same are equal
 pub one_key : (a b : Key) → is_same a b ≡ true → a ≡ b
 one_key a b e = (same_keys a b).0 e
 
@@ -16,11 +16,11 @@ one_key a b e = (same_keys a b).0 e
 pub same_itself : (a : Key) → is_same a a ≡ true
 same_itself a = (same_keys a a).1 refl
 
--- the test may be turned
+-- the test is symmetric
 turned : (a b : Key) → is_same a b ≡ true → is_same b a ≡ true
 turned a b e = (same_keys b a).1 (sym (one_key a b e))
 
--- to be the same is an equivalence
+-- the test is an equivalence
 pub same_laws : IsEquivalence is_same
 same_laws = record {
   refl = same_itself;
@@ -28,15 +28,15 @@ same_laws = record {
   congr = λ a b c e. ap (λ (k : Key). is_same k c) (one_key a b e);
 }
 
--- a key that a list contains is found in it
+-- the membership test is true for a key that a list contains
 pub among_member : (keys : List Key) (k : Key) → Contains keys k → is_among keys k ≡ true
 among_member keys k i = list_any-from_Contains same_laws k keys i
 
--- and one that is found is contained
+-- a list contains each key for which the membership test is true
 pub member_among : (keys : List Key) (k : Key) → is_among keys k ≡ true → Contains keys k
 member_among keys k e = Contains-from_any one_key k keys e
 
--- a key is on a path that is longer by one key exactly where it was on it before or is that one
+-- a key on a path with one more key was on the path before, or is that key
 pub on_longer : (path : List Key) (n k : Key) → is_among (path ++ n ∷ []) k ≡ true → (is_among path k ≡ true) ⊎ (k ≡ n)
 on_longer path n k e =
     elim (or_cases _ _ (sym (list_any-append (is_same k) path (n ∷ [])) ∙ e)) [
@@ -44,7 +44,7 @@ on_longer path n k e =
       | inr q ↦ elim (or_cases (is_same k n) false q) [ inl r ↦ inr (one_key k n r) | inr r ↦ absurd (cc r) ]
     ]
 
--- a key that is not on a path, and no other key, is not on the path with that other one
+-- a key that is not on a path, and differs from an appended key, is not on the longer path
 pub off_longer : (path : List Key) (n k : Key) → is_among path k ≡ false → (k ≡ n → ⊥)
     → is_among (path ++ n ∷ []) k ≡ false
 off_longer path n k off other =

@@ -1,4 +1,4 @@
--- What lines say of keys.
+-- The entries of lines fit the kinds of their keys.
 use Rattle.std.proofs.Common.{◌≡◌, ℕ, Bool, true, false, cond, List, [], ◌∷◌, Some, None, Result, Ok, Err, refl, subst}
 use Rattle.expr_tree.specs.Syntax.{Syntax}
 use Rattle.std.specs.List.{slice_split}
@@ -20,7 +20,7 @@ use Rattle.def_entry.specs.Reading as read
 use Rattle.def_entry.specs.Reading.{entry_of, what_in, what_of}
 use Rattle.table_names.specs.Kinds.{may_say}
 
--- where something is said, it may be said of a key of this kind
+-- a result, if there is one, is a definition that a key of this kind may have
 abbrev Says : Kind → Result What EntryFault → Type 0
 Says k r = (w : What) → r ≡ Ok w → may_say k w ≡ true
 
@@ -44,19 +44,19 @@ module _ (k : Kind) where
   body_says h text =
       then_says (read.wanted text) _ (λ body. then_says (tree_in None body) _ (λ tree. told (what.Body tree) (h tree)))
 
--- the text of a unit says what may be said of one
+-- the text of a unit gives a definition that a unit may have
 unit_says : (text : List ℕ) → Says kind.Unit (read.unit_in text)
 unit_says text =
     either_says kind.Unit _ _ _ (told kind.Unit what.Primitive refl)
     (either_says kind.Unit _ _ _ (told kind.Unit what.Dimensionless refl) (body_says kind.Unit (λ e. refl) text))
 
--- so does the text of an alias of a function
+-- the text of an alias gives a definition that a function may have
 alias_says : (text : List ℕ) → Says kind.Func (read.alias_in text)
 alias_says text =
     then_says kind.Func (read.wanted (read.without_call (trimmed text))) _ (λ target.
     then_says kind.Func (named target) _ (λ name. told kind.Func (what.Alias name) refl))
 
--- so does that of a function behind its parameter
+-- the text of a function after its parameter gives a definition that a function may have
 call_says : (name inside behind : List ℕ) → Says kind.Func (read.call_in name inside behind)
 call_says name [] behind = alias_says behind
 call_says name (b ∷ bytes) behind =
@@ -67,14 +67,14 @@ call_says name (b ∷ bytes) behind =
     then_says kind.Func (read.inverse_in name form.inverse) _ (λ inverse.
     told kind.Func (read.function form units forward inverse) refl)))))
 
--- so does that of a table behind its unit
+-- the text of a table after its unit gives a definition that a function may have
 table_says : (text behind : List ℕ) → Says kind.Func (read.table_in text behind)
 table_says text behind =
     then_says kind.Func (read.wanted text) _ (λ unit. then_says kind.Func (read.points_in behind) _ (λ points.
     then_says kind.Func (tree_in None unit) _ (λ tree.
     told kind.Func (what.Table (record { unit = tree; points = points })) refl)))
 
--- so does that of any of them
+-- the text of a function, alias or table gives a definition that a function may have
 func_says : (name text : List ℕ) → Says kind.Func (read.func_in name text)
 func_says name [] = not_told kind.Func _
 func_says name (b ∷ text) =
@@ -82,30 +82,30 @@ func_says name (b ∷ text) =
     (then_says kind.Func (or_fault BadForm (cut_at 41 text)) _ (λ parts. call_says name (trimmed parts.0) parts.1))
     (then_says kind.Func (or_fault BadForm (cut_at 93 text)) _ (λ parts. table_says (trimmed parts.0) parts.1))
 
--- so does that of a list
+-- the text of a list gives a definition that a list may have
 list_says : (text : List ℕ) → Says kind.List (read.list_in text)
 list_says text =
     then_says kind.List (read.wanted text) _ (λ parts.
     then_says kind.List (read.trees_in (slice_split read.is_semicolon parts)) _
     (λ trees. told kind.List (what.ListOf trees) refl))
 
--- so does a text of each kind
+-- the text for a key of each kind gives a definition that the key may have
 text_says : (k : Kind) (name text : List ℕ) → Says k (what_in k name text)
 text_says kind.Unit name text = unit_says text
 text_says kind.Prefix name text = body_says kind.Prefix (λ e. refl) text
 text_says kind.Func name text = func_says name text
 text_says kind.List name text = list_says text
 
--- so does a heading with its text
+-- a heading with its text gives a definition that its kind may have
 heading_says : (h : Heading) → Says h.kind (what_of h)
 unfolding what_of
 heading_says h = then_says h.kind (read.name_in h.kind h.name) _ (λ name. text_says h.kind name h.text)
 
--- the key and the entry of a heading that says this
+-- the key and the entry of a heading with this definition
 abbrev entry_for : Heading → What → Key × Entry
 entry_for h w = (key h.kind h.name, record { text = h.text; what = w })
 
--- an entry by such a heading says what may be said of its key
+-- an entry by a heading has a definition that its key may have
 entry_says :
     (h : Heading) (r : Result What EntryFault) → Says h.kind r
     → (k : Key) (e : Entry) → (r >>= (λ w. Ok (entry_for h w))) ≡ Ok (k, e) → may_say k.kind e.what ≡ true
@@ -113,6 +113,6 @@ entry_says h (Ok w) says k e is =
     let q : entry_for h w ≡ (k, e) = cc in subst (λ (p : Key × Entry). may_say p.0.kind p.1.what ≡ true) q (says w refl)
 entry_says h (Err fault) says k e is = cc
 
--- so does the entry of each line
+-- the entry of each line has a definition that its key may have
 pub line_says : (line : List ℕ) (k : Key) (e : Entry) → entry_of line ≡ Ok (k, e) → may_say k.kind e.what ≡ true
 line_says line k e is = entry_says (heading line) (what_of (heading line)) (heading_says (heading line)) k e is

@@ -1,4 +1,4 @@
--- What lookup says of targets and of looked-at keys, at a word of a table.
+-- The targets and the looked-at keys of a word in a table.
 use Rattle.std.proofs.Common.{sym, ◌≡◌, ◌∙◌, true, Contains}
 use Rattle.std.proofs.lemmas.Map.Made.{is_some-lookup}
 use Rattle.expr_tree.specs.declared.word_list.WordUse.{WordUse}
@@ -18,7 +18,7 @@ module _ (table : Table) (u : WordUse) where
   pub target_looked : (n : Key) → Contains (targets table u) n → Contains (looked_keys table u) n
   target_looked n i = (targets_are_present (is_present table) u.kind u.text n i).0
 
--- tables that agree on the looked-at keys give the word the same
+-- tables that agree on the looked-at keys have the same lookup of the word
 pub same_lookup :
     (before after : Table) (u : WordUse)
     → ((k : Key) → Contains (looked_keys before u) k → is_present before k ≡ is_present after k)

@@ -1,4 +1,4 @@
--- What closed keys and words stand for, by the kinds of keys.
+-- The meanings of closed keys and words, by the kinds of keys.
 use Rattle.std.proofs.Common.{◌≡◌, ◌||◌, ℕ, zero, suc, true, false, not, List, [], ◌∷◌, length, map, Contains}
 use Rattle.std.proofs.Common.{Option, Some, None, is_some, refl, sym, ◌∙◌, ap, subst}
 use Rattle.expr_tree.specs.declared.word_list.WordUse.{WordUse}
@@ -26,7 +26,7 @@ use Rattle.table_names.proofs.Members.{member_first, member_later}
 use Rattle.table_names.proofs.Paths.{present_key_ending}
 use Rattle.table_names.proofs.TargetKinds.{AreTargets, are_targets, inverse_target}
 
--- a unit or a prefix is no function
+-- a unit or a prefix is not a function
 no_function : (k : Kind) → (is_same_kind k kind.Unit || is_same_kind k kind.Prefix) ≡ true
     → not (is_same_kind k kind.Func) ≡ true
 no_function kind.Unit e = refl
@@ -34,21 +34,21 @@ no_function kind.Prefix e = refl
 no_function kind.Func e = cc
 no_function kind.List e = cc
 
--- a unit is none
+-- a unit is not a function
 unit_no_function : (k : Kind) → is_same_kind k kind.Unit ≡ true → not (is_same_kind k kind.Func) ≡ true
 unit_no_function kind.Unit e = refl
 unit_no_function kind.Prefix e = cc
 unit_no_function kind.Func e = cc
 unit_no_function kind.List e = cc
 
--- nor is a list
+-- a list is not a function
 list_no_function : (k : Kind) → is_same_kind k kind.List ≡ true → not (is_same_kind k kind.Func) ≡ true
 list_no_function kind.Unit e = cc
 list_no_function kind.Prefix e = cc
 list_no_function kind.Func e = cc
 list_no_function kind.List e = refl
 
--- the alias of a function is one
+-- the alias of a function means a function
 alias_means :
     (k : Kind) (name : List ℕ) (m : Meaning) → is_same_kind k kind.Func ≡ true → may_mean kind.Func m ≡ true
     → may_mean k (alias name m) ≡ true
@@ -69,7 +69,7 @@ says_means means k name (what.Alias target) e h = alias_means k name (means (inv
 says_means means k name (what.Table d) e h = e
 says_means means k name (what.ListOf parts) e h = list_no_function k e
 
--- what is no function stands for an expression
+-- a key that is not a function stands for an expression
 one_expression : (k : Kind) (m : Meaning) → is_same_kind k kind.Func ≡ false → may_mean k m ≡ true
     → (x : Expanded) × (m ≡ One x)
 one_expression k (One x) e h = (x, refl)

@@ -1,4 +1,4 @@
--- What a closed key stands for.
+-- The meaning of a closed key.
 use Rattle.std.proofs.Common.{◌≡◌, ℕ, zero, suc, List, ◌++◌, length, Contains, Option, Some, None}
 use Rattle.std.proofs.Common.{is_some, false, refl, sym, ◌∙◌, ap, inl, inr}
 use Rattle.std.proofs.lemmas.Bool.{cases_Bool}
@@ -79,14 +79,14 @@ entry_same means other name (Some e) h =
     meaning_same means other name e.what
     (λ p k u at. h u (part_word e.what p u (member_at (part_words e.what p) k u at)))
 
--- where there is no entry, a key stands for nothing
+-- a key without an entry stands for nothing
 absent_meaning : (means : WordUse → Meaning) (name : List ℕ) (o : Option Entry) → is_some o ≡ false
     → entry_meaning means name o ≡ nothing
 absent_meaning means name None e = refl
 absent_meaning means name (Some x) e = cc
 
 module _ (table : Table) where
-  -- two depths that are enough give the same
+  -- two sufficient depths give the same meaning
   pub meaning_at : (j k : ℕ) (n : Key) → EndsWithin table j n → EndsWithin table k n
       → meaning_within table j n ≡ meaning_within table k n
   meaning_at zero k n f g = absurd f
@@ -102,7 +102,7 @@ module _ (table : Table) where
   absent_within (suc k) n e =
       absent_meaning (word_meaning_by table (meaning_within table k)) n.name (entry_at table n) e
 
-  -- the number of keys is depth enough: one more gives the same
+  -- the number of keys is a sufficient depth: one more gives the same meaning
   pub enough : (n : Key) → IsClosed table n → meaning_within table (suc (length table)) n ≡ key_meaning table n
   enough n closed =
       elim (cases_Bool (is_present table n)) [
@@ -112,6 +112,6 @@ module _ (table : Table) where
         | inr absent ↦ absent_within (suc (length table)) n absent ∙ sym (absent_within (length table) n absent)
       ]
 
--- the law of what closed keys stand for
+-- the law of the meanings of closed keys
 pub closed_meaning_law : ClosedMeaningLaw
 closed_meaning_law table n closed = sym (enough table n closed)

@@ -31,7 +31,7 @@ some_same x y e = cc
 none_some : {A : Type 0} (o : Option A) (x : A) → o ≡ None → o ≡ Some x → ⊥
 none_some o x e f = cc
 
--- the first of two is none where there is none
+-- if neither of two options has a value, the first has none
 none_left : {A : Type 0} (o p : Option A) → option_or o p ≡ None → o ≡ None
 none_left None p e = refl
 none_left (Some z) p e = cc
@@ -47,7 +47,7 @@ module _ (table : Table) where
   abbrev at_keys : List Key → List Key → Option NameFault
   at_keys path ns = first (target_fault table deep path) ns
 
-  -- the fault of words is that of the first, or else that of the rest
+  -- the fault of words is that of the first word, or else that of the rest
   in_order : (path : List Key) (u : WordUse) (us : List WordUse) → IsPath table path
       → fault table path (u ∷ us) ≡ option_or (here path u) (fault table path us)
   in_order path u us p =
@@ -57,7 +57,7 @@ module _ (table : Table) where
       → here path u ≡ o → fault table path (u ∷ us) ≡ option_or o (fault table path us)
   of_word path u us o p e = in_order path u us p ∙ ap (λ x. option_or x (fault table path us)) e
 
-  -- a word that is not refused meets what its targets meet
+  -- a word that is not refused meets the fault that its targets meet
   at_targets : (path : List Key) (u : WordUse) (o : Option NameFault) → is_refused u.text ≡ false
       → targets_fault table deep path u (targets table u) ≡ o → here path u ≡ o
   at_targets path u o r e = cond-false (is_refused u.text) _ _ r ∙ e
@@ -75,7 +75,7 @@ module _ (table : Table) where
   abbrev ArePresent : List Key → Type 0
   ArePresent ns = (n : Key) → Contains ns n → is_present table n ≡ true
 
-  -- ---- what is derived is computed
+  -- ---- each derived fault is computed
   mutual
     clean : {path : List Key} {words : List WordUse} → AreClean table path words → IsPath table path
         → fault table path words ≡ None
@@ -128,7 +128,7 @@ module _ (table : Table) where
         alone m k ks i =
             elim (member_cases m k [] i) [ inl e ↦ member_first m k ks e | inr j ↦ absurd (no_member m j) ]
 
-  -- ---- what is computed is derived
+  -- ---- each computed fault is derived
   abbrev Told : List Key → List WordUse → Option NameFault → Type 0
   Told path words None = AreClean table path words
   Told path words (Some f) = Meets table path words f
@@ -137,7 +137,7 @@ module _ (table : Table) where
   ToldKeys path ns None = AreCleanKeys table path ns
   ToldKeys path ns (Some f) = MeetKeys table path ns f
 
-  -- what stands deeper behind a path is derived
+  -- the faults deeper down after a path are derived
   abbrev Goes : Deeper → List Key → Type 0
   Goes F path = (n : Key) → is_among path n ≡ false → is_present table n ≡ true
       → Told (path ++ n ∷ []) (key_words table n) (F (path ++ n ∷ []) n)
@@ -207,7 +207,7 @@ module _ (table : Table) where
       told_key (length table - length path) (path ++ m ∷ []) m (longer table path m p off there)
       (omega (arith, length-append path (m ∷ []))))
 
-  -- ---- so both say the same
+  -- ---- the derived and the computed faults agree
   met_is : (path : List Key) (words : List WordUse) (f : NameFault) → IsPath table path
       → fault table path words ≡ Some f → Meets table path words f
   met_is path words f p e = subst (Told path words) e (told path words p)

@@ -1,4 +1,4 @@
--- The name fault is the one that the definition's own recursion gives.
+-- The name fault is the only one that satisfies the recursion of its definition.
 use Rattle.std.proofs.Common.{◌≡◌, ℕ, zero, suc, ◌+◌, ◌-◌, ◌≤◌, Bool, true, false, cond, List, [], ◌∷◌, ◌++◌, length}
 use Rattle.std.proofs.Common.{Contains, Option, Some, refl, sym, ◌∙◌, ap, arith, length-append}
 use Rattle.expr_tree.specs.declared.word_list.WordUse.{WordUse}
@@ -16,17 +16,17 @@ use Rattle.table_names.proofs.Lookups.{target_present}
 use Rattle.table_names.proofs.Members.{first_same}
 use Rattle.table_names.proofs.Paths.{longer, short}
 
--- behind paths, the fault of the words of that entry
+-- the fault of the words of an entry after a path
 abbrev by_words : Table → (List Key → List WordUse → Option NameFault) → Deeper
 by_words table f path n = f path (key_words table n)
 
--- two choices are equal where their second parts are, whenever those are taken
+-- two choices are equal if their second parts are equal whenever these are chosen
 unless : {A : Type 0} (b : Bool) (x y z : A) → (b ≡ false → y ≡ z) → cond b x y ≡ cond b x z
 unless true x y z h = refl
 unless false x y z h = h refl
 
 module _ (table : Table) where
-  -- a word's fault depends on what stands deeper only in the entries of targets that are not on the path
+  -- the fault of a word depends on deeper faults only in the entries of targets that are not on the path
   word_same :
       (f g : Deeper) (path : List Key) (u : WordUse)
       → ((n : Key) → Contains (targets table u) n → is_among path n ≡ false
@@ -63,7 +63,7 @@ module _ (table : Table) where
       (λ u i. word_same (fault_within table (length table - length path)) (by_words table (fault table)) path u
       (λ n t off. room_left path n (longer table path n is off (target_present table u n t))))
 
-  -- two such faults are the same behind a path, by the number of keys that are not on it
+  -- two such faults agree after a path, by induction over the number of keys that are not on it
   one_by :
       (f : List Key → List WordUse → Option NameFault) → IsFault table f
       → (k : ℕ) (path : List Key) (words : List WordUse) → IsPath table path → length path + k ≡ length table + 1

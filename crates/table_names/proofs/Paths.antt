@@ -1,4 +1,4 @@
--- Paths, and words that are closed behind them.
+-- Paths, and words that are closed after them.
 use Rattle.std.proofs.Common.{◌≡◌, ◌≢◌, ℕ, zero, suc, ◌+◌, ◌-◌, ◌≤◌, true, false}
 use Rattle.std.proofs.Common.{List, [], ◌∷◌, ◌++◌, length, Contains, Option, Some, None, is_some}
 use Rattle.std.proofs.Common.{refl, sym, ◌∙◌, subst, inl, inr, arith, length-append}
@@ -22,12 +22,12 @@ use Rattle.table_names.proofs.KeyLists.{off_longer, on_longer, same_laws}
 use Rattle.table_names.proofs.Lookups.{target_present}
 use Rattle.table_names.proofs.Members.{none_first}
 
--- no key stands twice in an empty path
+-- no key occurs twice in an empty path
 nothing_twice : IsDistinct is_same []
 unfolding IsDistinct
 nothing_twice = tt
 
--- where there is no entry, there are no words
+-- if there is no entry, there are no words
 no_words : (o : Option Entry) → is_some o ≡ false → entry_words o ≡ []
 no_words None e = refl
 no_words (Some x) e = cc
@@ -50,7 +50,7 @@ module _ (table : Table) where
   pub short : (path : List Key) → IsPath table path → length path ≤ length table
   short path is = length-le_from_keys same_laws path table is.distinct is.present
 
-  -- nothing that words reach is on the path
+  -- no key that words reach is on the path
   abbrev IsClear : List Key → List WordUse → Type 0
   IsClear path words = (m : Key) → WordsReach table words m → is_among path m ≡ false
 
@@ -97,7 +97,7 @@ module _ (table : Table) where
       words_pass j k path (key_words table n) ends is clear (λ m e p c.
       key_passes j k (path ++ m ∷ []) m e p c (omega (arith, length-append path (m ∷ []))))
 
-  -- words whose ways end off a path have no fault behind it
+  -- words whose ways end off a path have no fault after it
   pub no_fault :
       (j : ℕ) (path : List Key) (words : List WordUse)
       → AreEnding table j words → IsPath table path → ((m : Key) → WordsReach table words m → is_among path m ≡ false)
@@ -107,7 +107,7 @@ module _ (table : Table) where
       words_pass j (length table - length path) path words ends is clear (λ m e p c.
       key_passes j (length table - length path) (path ++ m ∷ []) m e p c (omega (arith, length-append path (m ∷ []))))
 
-  -- closed words are those whose ways end; as many keys as the table has are depth enough
+  -- the ways of closed words end; the number of keys of the table is a sufficient depth
   pub closed_ending : (words : List WordUse) → AreClosed table words → AreEnding table (length table) words
   closed_ending words e =
       let z : length table - 0 ≡ length table = omega arith in
@@ -117,7 +117,7 @@ module _ (table : Table) where
   pub ending_closed : (j : ℕ) (words : List WordUse) → AreEnding table j words → AreClosed table words
   ending_closed j words ends = no_fault j [] words ends empty (λ m r. refl)
 
-  -- so is a key exactly where its words are
+  -- the words of a closed key are closed
   pub key_words_closed : (n : Key) → IsClosed table n → AreClosed table (key_words table n)
   key_words_closed n e =
       ending_closed (length table - 1) (key_words table n)

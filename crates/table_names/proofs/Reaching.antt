@@ -1,4 +1,4 @@
--- What words reach.
+-- The keys that words reach.
 use Rattle.std.proofs.Common.{◌≡◌, ℕ, zero, suc, true, List, ◌∷◌, length, Contains, flat_map, refl, sym, subst, inl}
 use Rattle.std.proofs.Common.{inr}
 use Rattle.expr_tree.specs.declared.word_list.WordUse.{WordUse}
@@ -12,7 +12,7 @@ use Rattle.table_names.proofs.Lookups.{target_present}
 use Rattle.table_names.proofs.Members.{flat_cases, flat_member, member_cases, member_first, member_later, no_member}
 use Rattle.table_names.proofs.Paths.{closed_ending}
 
--- what the words of a reached key reach is reached
+-- the keys that the words of a reached key reach are reached
 pub onward :
     {table : Table} {words : List WordUse} {n m : Key}
     → WordsReach table words n → WordsReach table (key_words table n) m → WordsReach table words m
@@ -26,7 +26,7 @@ reached_present {table} (at_once l) = target_present table l.0 _ l.2
 reached_present (further l r) = reached_present r
 
 module _ (table : Table) where
-  -- a target, and what its words reach
+  -- a target, and the keys that its words reach
   abbrev target_list : ℕ → Key → List Key
   target_list k n = n ∷ reach_within table k (key_words table n)
 

@@ -1,4 +1,4 @@
--- What keys and words stand for is what is computed for them.
+-- Keys and words stand for their computed meanings.
 use Rattle.std.proofs.Common.{◌≡◌, ◌≢◌, ℕ, zero, suc, true, false, List, [], ◌∷◌, length, Contains, Option, Some, None}
 use Rattle.std.proofs.Common.{is_some, refl, sym, ◌∙◌, ap, subst, inl, inr}
 use Rattle.expr_tree.specs.declared.word_list.WordUse.{WordUse}
@@ -44,7 +44,7 @@ two_same n m k l e = (cc, cc)
 value_same : (x y : Expanded) → One x ≡ One y → x ≡ y
 value_same x y e = cc
 
--- ---- what an entry says is what is computed of it
+-- ---- the meaning of an entry is the computed one
 meaning_is : (means : WordUse → Meaning) (name : List ℕ) (w : What) (m : Meaning) → IsMeaning means name w m
     → m ≡ meaning_of means name w
 meaning_is means name what.Primitive m s = s
@@ -74,14 +74,14 @@ is_meaning means name k (what.ListOf parts) m e free may h = let z : true ≡ fa
     true_false : true ≡ false → ⊥
     true_false q = cc
 
--- a function, where nothing else may be meant
+-- a meaning that a function may have is a function
 callee : (m : Meaning) → may_mean kind.Func m ≡ true → (f : Callable) × (m ≡ Callee f)
 callee (One x) e = cc
 callee (Two x y) e = cc
 callee (Callee f) e = (f, refl)
 
 module _ (table : Table) where
-  -- ---- one meaning at most
+  -- ---- at most one meaning
   mutual
     same : {n : Key} {m k : Meaning} → StandsFor table n m → StandsFor table n k → m ≡ k
     same {n} {m} {k} (ByEntry e means q stands says) (ByEntry f other r stand says_too) =
@@ -105,7 +105,7 @@ module _ (table : Table) where
         value_same y l (same v (subst (λ (n : Key). StandsFor table n (One l)) keys.1 o)) in
         e ∙ ((λ i. Two (first i) (second i)) ∙ sym f)
 
-  -- ---- only without a name fault
+  -- ---- a meaning only without a name fault
   only_one : (ks : List Key) (k n : Key) → ks ≡ n ∷ [] → Contains ks k → k ≡ n
   only_one ks k n e i =
       elim (member_cases k n [] (subst (λ (x : List Key). Contains x k) e i))
@@ -143,7 +143,7 @@ module _ (table : Table) where
       into = into_two (IsClosed table) (targets table u) n k t (closes s) (closes v);
     }
 
-  -- ---- where a table fits kinds, each closed name stands for what is computed
+  -- ---- if a table fits kinds, each closed name stands for its computed meaning
   module _ (fits : FitsKinds table) where
     name : (u : WordUse) (n : Key) → Contains (targets table u) n → IsName table n
     name u n i = record { present = target_present table u n i; no_list = target_no_list table u n i }
@@ -152,7 +152,7 @@ module _ (table : Table) where
     closed_leads k u h = into_others table (EndsWithin table k) (IsClosed table) u (λ m t. ending_key_closed table k m)
         h
 
-    -- a word, where its targets stand for what is computed
+    -- a word stands for its computed meaning if its targets do
     word_from : (u : WordUse) → LeadsInto table (IsClosed table) u
         → ((n : Key) → Contains (targets table u) n → StandsFor table n (key_meaning table n))
         → WordStandsFor table u (word_meaning table u)
@@ -215,7 +215,7 @@ module _ (table : Table) where
         (λ n t. closed_key_ending table n) l)) in
         (r.0, e ∙ r.1)
 
--- the law of what keys and words stand for
+-- the law of the meanings of keys and words
 pub stands_for_law : StandsForLaw
 stands_for_law = record {
   one = λ table n m k a b. same table a b;

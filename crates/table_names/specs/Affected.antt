@@ -1,4 +1,4 @@
--- What an edit affects.
+-- The keys that an edit affects.
 use Rattle.std.specs.Prelude.{◌≡◌, ◌⊎◌, ◌↔◌, ◌||◌, Bool, true, List, ◌∷◌, Contains}
 use Rattle.std.specs.List.{list_any}
 use Rattle.def_entry.specs.declared.key.Key.{Key}
@@ -8,23 +8,23 @@ use Rattle.table_names.specs.Closed.{IsClosed}
 use Rattle.table_names.specs.Leads.{LooksAt, Reaches}
 use Rattle.table_names.specs.Reach.{key_looked_keys, key_reach}
 
--- it looked at one of the keys
+-- n looks at one of the keys
 abbrev pub HasLooked : Table → List Key → Key → Type 0
 HasLooked table keys n = (k : Key) × Contains keys k × LooksAt table n k
 
--- a changed key, or one that looked at a changed key, or that reaches one which did
+-- n is a changed key, looks at a changed key, or reaches a key that looks at a changed key
 abbrev pub IsAffected : Table → List Key → Key → Type 0
 IsAffected table keys n =
     Contains keys n ⊎ (HasLooked table keys n ⊎ ((m : Key) × Reaches table n m × HasLooked table keys m))
 
--- the same, computed for a closed key
+-- whether n looks at one of the keys, computed
 abbrev pub has_looked : Table → List Key → Key → Bool
 has_looked table keys n = list_any (is_among keys) (key_looked_keys table n)
 
 abbrev pub is_affected : Table → List Key → Key → Bool
 is_affected table keys n = is_among keys n || list_any (has_looked table keys) (n ∷ key_reach table n)
 
--- law: both say the same of a closed key, and what reaches an affected key is affected
+-- law: `is_affected` computes `IsAffected` for a closed key, and each key that reaches an affected key is affected
 pub record AffectedLaw : Type 0 where
   pub computed : (table : Table) (keys : List Key) (n : Key) → IsClosed table n
       → (is_affected table keys n ≡ true) ↔ IsAffected table keys n

@@ -15,7 +15,7 @@ AreClosed table words = name_fault table words ≡ None
 abbrev pub IsClosed : Table → Key → Type 0
 IsClosed table n = key_fault table n ≡ None
 
--- a word that is no refused name and has targets, of each of which this holds
+-- a word is not a refused name and has targets, all of which have this property
 pub record LeadsInto (table : Table) (Holds : Key → Type 0) (u : WordUse) : Type 0 where
   pub accepted : is_refused u.text ≡ false
   pub known : targets table u ≢ []

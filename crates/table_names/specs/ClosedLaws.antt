@@ -1,4 +1,4 @@
--- What holds of closed words and keys.
+-- Laws of closed words and keys.
 use Rattle.std.specs.Prelude.{◌≡◌, ◌↔◌, true, List, [], ◌∷◌, ◌++◌, Contains, None}
 use Rattle.expr_tree.specs.declared.word_list.WordUse.{WordUse}
 use Rattle.def_entry.specs.declared.key.Key.{Key}
@@ -9,9 +9,9 @@ use Rattle.table_names.specs.Faults.{fault}
 use Rattle.table_names.specs.Leads.{Reaches, WordsReach}
 use Rattle.table_names.specs.Words.{key_words}
 
--- law: words are closed exactly where each is accepted and leads to closed keys; a key is closed exactly
--- where its words are. What closed words reach is closed, no closed key reaches itself, and a closed key
--- has no fault behind any path that leads to it.
+-- law: words are closed exactly if each is accepted and leads to closed keys; a key is closed exactly if its words are.
+-- The keys that closed words reach are closed, no closed key reaches itself, and a closed key has no fault after any
+-- path that leads to it.
 pub record ClosedLaw : Type 0 where
   pub words : (table : Table) (words : List WordUse)
       → AreClosed table words ↔ ((u : WordUse) → Contains words u → LeadsInto table (IsClosed table) u)

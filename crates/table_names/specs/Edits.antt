@@ -1,4 +1,4 @@
--- What an edit leaves as it was.
+-- The keys that an edit leaves unchanged.
 use Rattle.std.specs.Prelude.{◌≡◌, ◌↔◌, List, Contains}
 use Rattle.expr_tree.specs.declared.word_list.WordUse.{WordUse}
 use Rattle.def_entry.specs.declared.key.Key.{Key}
@@ -10,8 +10,8 @@ use Rattle.table_names.specs.Leads.{Reaches, word_lookup}
 use Rattle.table_names.specs.Meanings.{key_meaning, outcome}
 use Rattle.table_names.specs.Words.{key_words}
 
--- a closed key is closed still, stands for the same with the same outcome, and has the same entry, the same lookup
--- of each of its words, and the same keys that it reaches
+-- a closed key is still closed, has the same meaning, outcome and entry, the same lookup of each of its words, and
+-- reaches the same keys
 pub record IsAsBefore (before after : Table) (n : Key) : Type 0 where
   pub closed : IsClosed after n
   pub meaning : key_meaning before n ≡ key_meaning after n
@@ -20,7 +20,7 @@ pub record IsAsBefore (before after : Table) (n : Key) : Type 0 where
   pub lookups : (u : WordUse) → Contains (key_words before n) u → word_lookup before u ≡ word_lookup after u
   pub reach : (m : Key) → Reaches before n m ↔ Reaches after n m
 
--- law: so is each closed key that an edit does not affect
+-- law: each closed key that an edit does not affect is as before
 abbrev pub UnaffectedLaw : Type 0
 UnaffectedLaw = (before after : Table) (keys : List Key) → AreChanged before after keys
     → (n : Key) → IsClosed before n → (IsAffected before keys n → ⊥) → IsAsBefore before after n

@@ -1,4 +1,4 @@
--- A small table, by hand.
+-- A small table, worked out by hand.
 use Rattle.std.specs.Prelude.{◌≡◌, ℕ, true, false, List, [], ◌∷◌, ◌++◌, Some, None, codes, pos}
 use Rattle.expr_tree.specs.declared.word_list.WordUse.{WordUse}
 use Rattle.expr_tree.specs.Syntax.{Number, Word}
@@ -62,7 +62,7 @@ small =
     ∷ (b, word_entry (codes "ka")) ∷ (a, word_entry (codes "b"))
     ∷ (k, entry (Body (Number one))) ∷ (m, entry Primitive) ∷ []
 
--- the words of an expression that is one word
+-- the words of an expression that consists of one word
 abbrev pub alone : List ℕ → List WordUse
 alone w = words_in (Word w)
 
@@ -78,10 +78,10 @@ with_sin = (unit (codes "sin"), entry Primitive) ∷ small
 abbrev pub with_bad_prefix : Table
 with_bad_prefix = (prefix (codes "p"), word_entry (codes "xm")) ∷ small
 
--- law: The chain of a cycle begins at the name that was asked for. An unknown word comes with the key of the entry
--- that has it. A refused name is refused, whether it is present or not. Faults are met from left to right, in a prefix
--- before its unit. Then what a name reaches, looks at and stands for; `c` depends on an absent key that would be
--- preferred to `k` and `m`.
+-- law: The chain of a cycle begins at the name of the query. An unknown word is reported with the key of the entry that
+-- has it. A refused name is refused, whether it is present or not. Faults are met from left to right, in a prefix
+-- before its unit. The other fields give the keys that a name reaches and looks at, and its meaning; `c` depends on an
+-- absent key that would be preferred to `k` and `m`.
 pub record ExamplesLaw : Type 0 where
   pub from_a : name_fault small (alone (codes "a")) ≡ Some (Cycle (a ∷ b ∷ a ∷ []))
   pub from_b : name_fault small (alone (codes "kb")) ≡ Some (Cycle (b ∷ a ∷ b ∷ []))

@@ -1,4 +1,4 @@
--- What the name fault is, whatever room its definition takes.
+-- A characterization of the name fault that does not depend on the bound in its definition.
 use Rattle.std.specs.Prelude.{◌≡◌, ◌≤◌, true, false, List, [], ◌∷◌, ◌++◌, length, Option}
 use Rattle.std.specs.List.{IsDistinct}
 use Rattle.expr_tree.specs.declared.word_list.WordUse.{WordUse}
@@ -9,25 +9,25 @@ use Rattle.table_names.specs.declared.fault.NameFault.{NameFault}
 use Rattle.table_names.specs.Faults.{fault, first, word_fault}
 use Rattle.table_names.specs.Words.{key_words}
 
--- keys that are all different, and that all have an entry
+-- a path consists of distinct keys that all have an entry
 pub record IsPath (table : Table) (path : List Key) : Type 0 where
   pub distinct : IsDistinct is_same path
   pub present : (k : Key) → is_among path k ≡ true → is_present table k ≡ true
 
--- a fault of words behind paths that is the first of the faults of each of them, in order, and in a
--- target's entry that of its words behind the path with the target
+-- a function gives the fault of words after a path: the first of their faults in order, and for a target the fault of
+-- the words of its entry after the path extended by the target
 abbrev pub IsFault : Table → (List Key → List WordUse → Option NameFault) → Type 0
 IsFault table f = (path : List Key) (words : List WordUse) → IsPath table path
     → f path words ≡ first (word_fault table (λ longer n. f longer (key_words table n)) path) words
 
--- law: the fault of words is this, and nothing else is
+-- law: `fault table` is such a function, and it is the only one
 pub record FaultLaw : Type 0 where
   pub is : (table : Table) → IsFault table (fault table)
   pub one : (table : Table) (f : List Key → List WordUse → Option NameFault) → IsFault table f
       → (path : List Key) (words : List WordUse) → IsPath table path → f path words ≡ fault table path words
 
--- law: the empty path is one, a path goes on by each present key that is not on it, and no path is
--- longer than the table
+-- law: the empty list is a path, a path can be extended by each present key that is not on it, and no path is longer
+-- than the table
 pub record PathLaw : Type 0 where
   pub empty : (table : Table) → IsPath table []
   pub longer : (table : Table) (path : List Key) (n : Key) → IsPath table path

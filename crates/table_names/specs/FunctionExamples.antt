@@ -1,4 +1,4 @@
--- Ranks and name faults of some functions, found by hand.
+-- Ranks and name faults of some functions, worked out by hand.
 use Rattle.std.specs.Prelude.{◌≡◌, ℕ, List, [], ◌∷◌, Option, Some, None, codes}
 use Rattle.expr_tree.specs.Syntax.{Argument, Call, Inverse, Number, Syntax, Word}
 use Rattle.def_entry.specs.declared.key.Key.{Key}
@@ -16,7 +16,7 @@ use Rattle.table_names.specs.Meanings.{key_meaning}
 abbrev pub func : List ℕ → Key
 func name = key kind.Func name
 
--- the entry of a function that is given by its forward expression alone
+-- the entry of a function that has only a forward expression
 abbrev pub forward_entry : Syntax → Entry
 forward_entry e = entry (Function (record {
   in_unit = None;
@@ -54,7 +54,7 @@ four_words = entry (Function (record {
   inverse = Some (Word (codes "d"));
 }))
 
--- its table, with these units
+-- the table of that function and these units
 abbrev pub four_words_with : List (List ℕ) → Table
 four_words_with [] = (func (codes "f"), four_words) ∷ []
 four_words_with (w ∷ ws) = (unit w, entry Primitive) ∷ four_words_with ws
@@ -63,7 +63,7 @@ four_words_with (w ∷ ws) = (unit w, entry Primitive) ∷ four_words_with ws
 abbrev pub fault_with : List (List ℕ) → Option NameFault
 fault_with units = key_fault (four_words_with units) (func (codes "f"))
 
--- the word is unknown in the entry of the function
+-- the fault of a word that is unknown in the entry of the function
 abbrev pub unknown_in_f : List ℕ → Option NameFault
 unknown_in_f word = Some (Unknown word (Some (func (codes "f"))))
 

@@ -1,4 +1,4 @@
--- What keys of each kind stand for, and what words stand for by them.
+-- The meanings of keys of each kind, and of the words that refer to them.
 use Rattle.std.specs.Prelude.{◌≡◌, ◌||◌, ℕ, Bool, true, false, not, List, [], ◌∷◌, Some, Ok}
 use Rattle.expr_tree.specs.declared.word_list.WordUse.{WordUse}
 use Rattle.def_entry.specs.declared.key.Key.{Key}
@@ -15,7 +15,7 @@ use Rattle.table_names.specs.Closed.{IsClosed, LeadsInto}
 use Rattle.table_names.specs.Leads.{targets}
 use Rattle.table_names.specs.Meanings.{key_meaning, word_meaning}
 
--- what may be said of a key of a kind
+-- a key of a kind may have such an entry
 abbrev pub may_say : Kind → What → Bool
 may_say k what.Primitive = is_same_kind k kind.Unit
 may_say k what.Dimensionless = is_same_kind k kind.Unit
@@ -25,17 +25,17 @@ may_say k (what.Alias target) = is_same_kind k kind.Func
 may_say k (what.Table d) = is_same_kind k kind.Func
 may_say k (what.ListOf parts) = is_same_kind k kind.List
 
--- of each key is said what may be
+-- each key has an entry that its kind may have
 abbrev pub FitsKinds : Table → Type 0
 FitsKinds table = (k : Key) (e : Entry) → entry_at table k ≡ Some e → may_say k.kind e.what ≡ true
 
--- what a key of a kind may stand for: a function for a function, any other for an expression
+-- a key of a kind may have such a meaning: a function means a function, any other key an expression
 abbrev pub may_mean : Kind → Meaning → Bool
 may_mean k (One x) = not (is_same_kind k kind.Func)
 may_mean k (Two x y) = false
 may_mean k (Callee f) = is_same_kind k kind.Func
 
--- a word stands for its one target, or for a prefix and a unit
+-- a word stands for the meaning of its one target, or of a prefix and a unit
 pub data StandsForTargets (table : Table) (u : WordUse) : Type 0 where
   ForOne : (n : Key) → targets table u ≡ n ∷ [] → word_meaning table u ≡ key_meaning table n
       → StandsForTargets table u
@@ -43,9 +43,9 @@ pub data StandsForTargets (table : Table) (u : WordUse) : Type 0 where
       → key_meaning table n ≡ One x → key_meaning table m ≡ One y → word_meaning table u ≡ Two x y
       → StandsForTargets table u
 
--- law: a line says of its key what may be said. Where that holds of a table, each closed key stands for
--- what one of its kind may, and each closed word for its targets, never for nothing; behind a `~` that is
--- a function.
+-- law: the entry of a line fits the kind of its key. In a table whose entries all fit, each closed key has a meaning
+-- that fits its kind, and each closed word stands for its targets, never for nothing; after a `~` it stands for a
+-- function.
 pub record KindLaw : Type 0 where
   pub lines : (line : List ℕ) (k : Key) (e : Entry) → entry_of line ≡ Ok (k, e) → may_say k.kind e.what ≡ true
   pub keys : (table : Table) → FitsKinds table → (n : Key) → is_present table n ≡ true → IsClosed table n

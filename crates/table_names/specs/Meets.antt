@@ -11,8 +11,8 @@ use Rattle.table_names.specs.Faults.{chain, last}
 use Rattle.table_names.specs.Leads.{targets}
 use Rattle.table_names.specs.Words.{key_words}
 
--- A path is the keys whose entries are being read, the outermost first: the words are those of the entry of its last
--- key, or of the expression itself if the path is empty.
+-- A path is the list of keys whose entries are being read, outermost first: the words are those of the entry of its
+-- last key, or of the expression itself if the path is empty.
 
 mutual
   -- Words are clean if none is a refused name, each has targets, and all targets are clean.
@@ -34,24 +34,24 @@ mutual
     -- The first word is a refused name.
     AtRefusedName : {path : List Key} {u : WordUse} {us : List WordUse} {f : NameFault} → is_refused u.text ≡ true
         → f ≡ Refused u.text (last path) → Meets table path (u ∷ us) f
-    -- It is no refused name, and has no targets.
+    -- The first word is not a refused name, and has no targets.
     AtUnknownWord : {path : List Key} {u : WordUse} {us : List WordUse} {f : NameFault} → is_refused u.text ≡ false
         → targets table u ≡ [] → f ≡ Unknown u.text (last path) → Meets table path (u ∷ us) f
-    -- It is no refused name, and its targets meet the fault.
+    -- The first word is not a refused name, and its targets meet the fault.
     AtTargets : {path : List Key} {u : WordUse} {us : List WordUse} {f : NameFault} → is_refused u.text ≡ false
         → MeetKeys table path (targets table u) f → Meets table path (u ∷ us) f
-    -- It is clean, and the other words meet the fault.
+    -- The first word is clean, and the other words meet the fault.
     InOtherWords : {path : List Key} {u : WordUse} {us : List WordUse} {f : NameFault} → AreClean table path (u ∷ [])
         → Meets table path us f → Meets table path (u ∷ us) f
 
-  -- So do keys, in order.
+  -- Keys meet the first fault in order.
   pub data MeetKeys (table : Table) : List Key → List Key → NameFault → Type 0 where
     -- The first key is on the path: a cycle, from the key's place on the path to the key again.
     OnPath : {path : List Key} {n : Key} {ns : List Key} {f : NameFault} → is_among path n ≡ true
         → f ≡ Cycle (chain n path) → MeetKeys table path (n ∷ ns) f
-    -- It is not on the path, and the words of its entry meet the fault.
+    -- The first key is not on the path, and the words of its entry meet the fault.
     InEntry : {path : List Key} {n : Key} {ns : List Key} {f : NameFault} → is_among path n ≡ false
         → Meets table (path ++ n ∷ []) (key_words table n) f → MeetKeys table path (n ∷ ns) f
-    -- It is clean, and the other keys meet the fault.
+    -- The first key is clean, and the other keys meet the fault.
     InOtherKeys : {path : List Key} {n : Key} {ns : List Key} {f : NameFault} → AreCleanKeys table path (n ∷ [])
         → MeetKeys table path ns f → MeetKeys table path (n ∷ ns) f

@@ -1,4 +1,4 @@
--- What holds of the name fault of words.
+-- Laws of the name fault of words.
 use Rattle.std.specs.Prelude.{◌≡◌, ◌↔◌, List, [], ◌∷◌, Some, None}
 use Rattle.expr_tree.specs.declared.word_list.WordUse.{WordUse}
 use Rattle.def_entry.specs.declared.key.Key.{Key}
@@ -9,8 +9,8 @@ use Rattle.table_names.specs.Faults.{fault, key_fault, name_fault}
 use Rattle.table_names.specs.Meets.{AreClean, Meets}
 use Rattle.table_names.specs.Words.{key_words}
 
--- law: Words meet at most one fault, and none exactly if they are clean. `fault` computes that fault, `name_fault` that
--- of the words of an expression, and `key_fault` that of a key which has an entry.
+-- law: Words meet at most one fault, and none exactly if they are clean. `fault` computes that fault, `name_fault` the
+-- fault of the words of an expression, and `key_fault` that of a key that has an entry.
 pub record MeetsLaw : Type 0 where
   pub one : (table : Table) (path : List Key) (words : List WordUse) (f g : NameFault) → IsPath table path
       → Meets table path words f → Meets table path words g → f ≡ g

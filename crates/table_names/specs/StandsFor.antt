@@ -1,4 +1,4 @@
--- What the names of a table stand for, by rules. A name that breaks a rule stands for nothing.
+-- The meanings of the names of a table, by rules. A name that breaks a rule has no meaning.
 use Rattle.std.specs.Prelude.{◌≡◌, ℕ, suc, false, List, [], ◌∷◌, Contains, Some}
 use Rattle.expr_tree.specs.declared.word_list.WordUse.{WordUse}
 use Rattle.expr_tree.specs.Names.{is_refused}
@@ -14,10 +14,10 @@ use Rattle.tree_eval.specs.Expansion.{expand, expand_if, inverted_word}
 use Rattle.table_names.specs.Leads.{targets}
 use Rattle.table_names.specs.Words.{what_words}
 
--- What an entry of this name means, by what its words mean: a primitive unit means itself, a dimensionless one 1, and a
--- body its expression with each word replaced by its meaning. A function or a table means its trees, with a rank one
--- above the greatest rank of its words; an alias means its target, which has to be a function, with a rank one above
--- the target's. A list means nothing.
+-- The meaning of an entry with this name, given the meanings of its words: a primitive unit means itself, a
+-- dimensionless one 1, and a body its expression with each word replaced by its meaning. A function or a table means
+-- its trees, with a rank one above the greatest rank of its words; an alias means its target, which has to be a
+-- function, with a rank one above the target's. A list has no meaning.
 abbrev pub IsMeaning : (WordUse → Meaning) → List ℕ → What → Meaning → Type 0
 IsMeaning means name what.Primitive m = m ≡ One (Primitive name)
 IsMeaning means name what.Dimensionless m = m ≡ One Dimensionless
@@ -39,7 +39,7 @@ mutual
         → ((u : WordUse) → Contains (what_words e.what) u → WordStandsFor table u (means u))
         → IsMeaning means n.name e.what m → StandsFor table n m
 
-  -- A word that is no refused name stands for what its one target stands for, or for a prefix and a unit.
+  -- A word that is not a refused name stands for the meaning of its one target, or of a prefix and a unit.
   pub data WordStandsFor (table : Table) : WordUse → Meaning → Type 0 where
     ByOneTarget : {u : WordUse} {m : Meaning} (n : Key) → is_refused u.text ≡ false → targets table u ≡ n ∷ []
         → StandsFor table n m → WordStandsFor table u m

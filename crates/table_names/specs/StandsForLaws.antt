@@ -1,4 +1,4 @@
--- What holds of what names stand for.
+-- Laws of the meanings of names.
 use Rattle.std.specs.Prelude.{◌≡◌, ◌↔◌, true, false, List, ℕ, Contains}
 use Rattle.expr_tree.specs.declared.word_list.WordUse.{WordUse}
 use Rattle.def_entry.specs.declared.key.Key.{Key}
@@ -17,10 +17,10 @@ pub record IsName (table : Table) (n : Key) : Type 0 where
   pub present : is_present table n ≡ true
   pub no_list : is_same_kind n.kind kind.List ≡ false
 
--- law: A key and a word stand for at most one meaning. A key that stands for one has no name fault. If the table fits
--- kinds, then a name stands for a meaning exactly if it has no name fault, words have no name fault exactly if each
--- stands for a meaning, and `key_meaning` and `word_meaning` compute these meanings; a word after a `~` stands for
--- nothing but a function.
+-- law: A key and a word stand for at most one meaning. A key that stands for a meaning has no name fault. If the table
+-- fits kinds, then a name stands for a meaning exactly if it has no name fault, words have no name fault exactly if
+-- each stands for a meaning, and `key_meaning` and `word_meaning` compute these meanings; a word after a `~` can only
+-- stand for a function.
 pub record StandsForLaw : Type 0 where
   pub one : (table : Table) (n : Key) (m k : Meaning) → StandsFor table n m → StandsFor table n k → m ≡ k
   pub one_word : (table : Table) (u : WordUse) (m k : Meaning) → WordStandsFor table u m → WordStandsFor table u k

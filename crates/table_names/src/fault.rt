@@ -1,16 +1,16 @@
-//! Why names lead to no value.
+//! Name faults.
 
 use def_entry::{Key, Keys};
 use units_io::Text;
 
-/// Why the names of an expression lead to no value. The key is the one in whose entry the word
-/// stands, or `None` where it stands in the expression itself.
+/// The reason why the names of an expression lead to no value. The key is the one whose entry includes the word, or
+/// `None` if the word is in the expression itself.
 #[derive(Drop)]
 pub enum NameFault {
-    /// A word leads nowhere.
+    /// A word has no target.
     Unknown(Text, Option<Key>),
-    /// A word is a name that is refused.
+    /// A word is a refused name.
     Refused(Text, Option<Key>),
-    /// A name leads back to itself: the keys from it to its second place.
+    /// A name leads back to itself. The keys are those from its first place on the path to its second.
     Cycle(Keys),
 }

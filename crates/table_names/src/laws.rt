@@ -1,4 +1,4 @@
-//! Laws of name faults, of what names stand for and reach, and of what edits affect.
+//! Laws of name faults, of the meanings of names and the keys that they reach, and of the keys that edits affect.
 
 ghost use Rattle.table_names.specs.Affected.{AffectedLaw};
 ghost use Rattle.table_names.specs.ClosedLaws.{ClosedLaw};
@@ -24,58 +24,58 @@ pub fn meets_law()
     ensures { MeetsLaw }
 {}
 
-/// What a word leads to in a table is what `resolve` finds among the keys of its entries.
+/// The lookup of a word in a table is the result of the plan of `resolve` among the keys of its entries.
 pub fn lookup_law()
     ensures { LookupLaw }
 {}
 
-/// The name fault of words is the first that going through them meets, and nothing else is, whatever
-/// room its definition takes.
+/// The fault of words is the first of the faults of each of them, and this determines it uniquely.
 pub fn fault_law()
     ensures { FaultLaw }
 {}
 
-/// Which lists of keys are paths, and that no path is longer than the table.
+/// The empty list of keys is a path, a path can be extended by each present key that is not on it, and no path is
+/// longer than the table.
 pub fn path_law()
     ensures { PathLaw }
 {}
 
-/// Words and keys without a name fault: what they reach has none either, and is on no cycle.
+/// The keys that closed words and keys reach have no name fault either, and are on no cycle.
 pub fn closed_law()
     ensures { ClosedLaw }
 {}
 
-/// What a closed key stands for, whatever depth its definition takes.
+/// A closed key stands for the meaning of its entry, in which each word stands for the meaning of its targets.
 pub fn closed_meaning_law()
     ensures { ClosedMeaningLaw }
 {}
 
-/// What closed keys and words stand for, by the kinds of keys.
+/// The meanings of closed keys and words fit the kinds of the keys.
 pub fn kind_law()
     ensures { KindLaw }
 {}
 
-/// The list of what closed words reach.
+/// `reach` lists exactly the keys that closed words reach.
 pub fn reach_law()
     ensures { ReachLaw }
 {}
 
-/// What an edit affects, computed, and that the users of an affected key are affected.
+/// `is_affected` computes whether an edit affects a closed key, and each key that reaches an affected key is affected.
 pub fn affected_law()
     ensures { AffectedLaw }
 {}
 
-/// What an edit does not affect is as it was before.
+/// An edit does not change anything about the closed keys that it does not affect.
 pub fn unaffected_law()
     ensures { UnaffectedLaw }
 {}
 
-/// Some functions have the ranks and the name faults that were found by hand.
+/// The examples with functions hold: some functions have the ranks and name faults that were worked out by hand.
 pub fn function_examples_law()
     ensures { FunctionExamplesLaw }
 {}
 
-/// A small table has the faults, the meanings and the affected keys that were found by hand.
+/// The examples hold: a small table has the faults, meanings and affected keys that were worked out by hand.
 pub fn examples_law()
     ensures { ExamplesLaw }
 {}

@@ -1,5 +1,5 @@
-//! What the names of a table of definitions lead to, which of them have a fault, what the others stand
-//! for, and what an edit affects. There are definitions and laws here, and no calls.
+//! The names of a table of definitions: the keys that they lead to, their faults and meanings, and the names that an
+//! edit affects. This crate has definitions and laws, but no functions to call.
 #![tactic(auto)]
 
 mod fault;

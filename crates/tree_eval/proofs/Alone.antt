@@ -1,4 +1,4 @@
--- A word alone, by the place where it stands.
+-- A single word, by its place among the words.
 use Rattle.std.proofs.Common.{◌≡◌, ◌<◌, ◌∷◌, ℕ, zero, suc, List, [], Option, Some, Result, length, refl, sym}
 use Rattle.std.proofs.Common.{arith, subst}
 use Rattle.std.specs.Prelude.{slice_get}
@@ -17,18 +17,18 @@ use Rattle.tree_eval.specs.Operands.{with_worth}
 use Rattle.tree_eval.specs.Value.{value}
 use Rattle.tree_eval.proofs.Places.{first_stands, first_within}
 
--- a tree that is a word and stands at a place
+-- a tree that is a word, and the word is at a place
 module _ (us : List WordUse) (p : ℕ) {e : Syntax} {w : List ℕ} (is : e ≡ tree.Word w) (stand : Stand us p (words_in e))
   where
-    -- the word stands there
+    -- the word is at the place
     word_stands : Stand us p (plain_word w ∷ [])
     word_stands = subst (λ y. Stand us p (words_in y)) is stand
 
-    -- so the place is within
+    -- the place is within the words
     pub alone_within : p < length us
     alone_within = first_within us p (plain_word w) [] word_stands
 
-    -- what is given for the word at the place is given for the tree
+    -- a result for the word at the place is a result for the tree
     pub alone_gives : (means : WordUse → Meaning) (a : Option Amount) {A : Type 0} (seen : A → Amount)
         (r : Result A EvalFault)
         → ((u : WordUse) → slice_get us p ≡ Some u → Gives seen r (value (plain (means u)) a))
@@ -37,7 +37,7 @@ module _ (us : List WordUse) (p : ℕ) {e : Syntax} {w : List ℕ} (is : e ≡ t
         subst (λ y. Gives seen r (value (expand means y) a)) (sym is)
         (h (plain_word w) (first_stands us p (plain_word w) [] word_stands))
 
-    -- so it is for both as one more member
+    -- a step with the word at the place as one more member is a step with the tree
     pub member_gives : (means : WordUse → Meaning) (a : Option Amount) (step : Step) (held : Amount) {A : Type 0}
         (seen : A → Amount) (r : Result A EvalFault)
         → ((u : WordUse) → slice_get us p ≡ Some u
@@ -47,7 +47,7 @@ module _ (us : List WordUse) (p : ℕ) {e : Syntax} {w : List ℕ} (is : e ≡ t
         subst (λ y. Gives seen r (with_worth step held (value (expand means y) a))) (sym is)
         (h (plain_word w) (first_stands us p (plain_word w) [] word_stands))
 
--- a place within words holds one of them
+-- each place within the words holds a word
 pub word_at : (us : List WordUse) (p : ℕ) → p < length us → (u : WordUse) × (slice_get us p ≡ Some u)
 word_at [] p h = let z : ⊥ = omega (arith, h) in absurd z
 word_at (u ∷ us) zero h = (u, refl)

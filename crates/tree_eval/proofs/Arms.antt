@@ -1,4 +1,4 @@
--- The parts of each kind of tree: they are lighter, and their words stand where the tree's stand.
+-- The parts of each kind of tree: they are lighter than the tree, and their words are among those of the tree.
 use Rattle.std.proofs.Common.{◌≡◌, ◌<◌, ◌+◌, ◌*◌, ℕ, suc, List, ◌++◌, length, sym, ap, subst, arith}
 use Rattle.std.proofs.Common.{Option, Result}
 use Rattle.std.specs.Prelude.{OnOk}
@@ -20,44 +20,44 @@ use Rattle.tree_eval.proofs.Listed.{IsChain}
 use Rattle.tree_eval.proofs.Places.{left_stands, right_stands}
 use Rattle.tree_eval.proofs.Weight.{weight}
 
--- the one part of a tree, whose words stand where the tree's do
+-- the only part of a tree; its words are at the place of those of the tree
 pub record IsPart (means : WordUse → Meaning) (us : List WordUse) (p : ℕ) (e part : Syntax) : Type 0 where
   pub lighter : 8 * weight (expand means part) + 3 < 8 * weight (expand means e) + 2
   pub stand : Stand us p (words_in part)
 
--- a base and its exponent, which are the parts of a tree
+-- a base and its exponent, the two parts of a tree
 pub record IsPair (means : WordUse → Meaning) (us : List WordUse) (p : ℕ) (e b x : Syntax) : Type 0 where
   pub lighter : 8 * (weight (expand means b) + weight (expand means x)) + 3 < 8 * weight (expand means e) + 2
   pub stand : Stand us p (words_in b ++ words_in x)
 
--- the part of each kind of tree that has one, and the two of a power
+-- the part of each kind of tree that has one, and the two parts of a power
 module _ (means : WordUse → Meaning) {us : List WordUse} {p : ℕ} where
   module _ {e x : Syntax} where
-    -- a tree that is heavier by one and has the same words
+    -- a tree that is heavier by one than its part and has the same words
     only_part : weight (expand means e) ≡ suc (weight (expand means x)) → words_in e ≡ words_in x
         → Stand us p (words_in e) → IsPart means us p e x
     only_part w v s = record { lighter = omega (arith, w); stand = subst (Stand us p) v s }
 
-    -- a group
+    -- the part of a group
     pub group_part : e ≡ tree.Group x → Stand us p (words_in e) → IsPart means us p e x
     group_part h = only_part (ap (λ y. weight (expand means y)) h) (ap words_in h)
 
-    -- a minus
+    -- the part of a negation
     pub negate_part : e ≡ tree.Negate x → Stand us p (words_in e) → IsPart means us p e x
     negate_part h = only_part (ap (λ y. weight (expand means y)) h) (ap words_in h)
 
-    -- a root
+    -- the part of a root
     pub root_part : {kind : RootKind} → e ≡ tree.Root kind x → Stand us p (words_in e) → IsPart means us p e x
     root_part h = only_part (ap (λ y. weight (expand means y)) h) (ap words_in h)
 
-  -- a power
+  -- the two parts of a power
   pub power_pair : {e b x : Syntax} → e ≡ tree.Power b x → Stand us p (words_in e) → IsPair means us p e b x
   power_pair {e} {b} {x} h s =
       let w : weight (expand means e) ≡ suc (weight (expand means b) + weight (expand means x)) =
       ap (λ y. weight (expand means y)) h in
       record { lighter = omega (arith, w); stand = subst (λ y. Stand us p (words_in y)) h s }
 
--- each of the two is lighter than both
+-- the base and the exponent are each lighter than the power
 module _ (means : WordUse → Meaning) (b x : Syntax) where
   pub base_lighter : 8 * weight (expand means b) + 2 < 8 * (weight (expand means b) + weight (expand means x)) + 3
   base_lighter = omega arith
@@ -65,7 +65,7 @@ module _ (means : WordUse → Meaning) (b x : Syntax) where
   pub exponent_lighter : 8 * weight (expand means x) + 2 < 8 * (weight (expand means b) + weight (expand means x)) + 3
   exponent_lighter = omega arith
 
--- and their words stand one behind the other
+-- the words of the base and then those of the exponent are at the place
 module _ (us : List WordUse) (p : ℕ) (b x : Syntax) (s : Stand us p (words_in b ++ words_in x)) where
   pub base_stands : Stand us p (words_in b)
   base_stands = left_stands us p (words_in b) (words_in x) s
@@ -75,20 +75,20 @@ module _ (us : List WordUse) (p : ℕ) (b x : Syntax) (s : Stand us p (words_in 
 
 -- a tree that is a list of members
 module _ {means : WordUse → Meaning} {e : Syntax} {os : List (Step × Syntax)} (is : IsChain means e os) where
-  -- is heavier than they are
+  -- the tree is heavier than its members
   pub chain_lighter : 8 * weight (chain means os) + 1 < 8 * weight (expand means e) + 2
   chain_lighter = let w : weight (expand means e) ≡ weight (chain means os) = ap weight is.expands in omega (arith, w)
 
-  -- their words stand where its do
+  -- the words of the members are at the place of those of the tree
   pub chain_stands : (us : List WordUse) (p : ℕ) → Stand us p (words_in e) → Stand us p (words_of os)
   chain_stands us p s = subst (Stand us p) is.words s
 
-  -- what is given for them is given for it
+  -- a result for the members is a result for the tree
   pub chain_gives : (a : Option Amount) {A : Type 0} (seen : A → Amount) (r : Result A EvalFault)
       → Gives seen r (value (chain means os) a) → Gives seen r (value (expand means e) a)
   chain_gives a seen r h = subst (λ y. Gives seen r (value y a)) (sym is.expands) h
 
-  -- and what comes behind them comes behind it
+  -- the end of the words of the members is the end of those of the tree
   pub chain_ends : {A : Type 0} (r : Result A EvalFault) (p q : ℕ) → OnOk r (q ≡ p + length (words_of os))
       → OnOk r (q ≡ p + length (words_in e))
   chain_ends r p q h = subst (λ ws. OnOk r (q ≡ p + length ws)) (sym is.words) h

@@ -17,14 +17,14 @@ use Rattle.tree_eval.specs.Steps.{Worth}
 use Rattle.tree_eval.specs.Told.{IsUsable, told_worth}
 use Rattle.tree_eval.specs.Value.{applied, unapplied, value, most_rank}
 
--- a call that is too deep
+-- the value of a function whose rank is too high is the fault `CallsTooDeep`
 deep_applied : (f : Callable) (a : Amount) → nat_lt most_rank (rank_of f) ≡ true
     → applied f a ≡ Err (fault.CallsTooDeep (name_of f))
 deep_applied (Function name rank iu ou d r fw inv) a h = rw h refl
 deep_applied (Alias name rank target) a h = rw h refl
 deep_applied (Table name rank unit points) a h = rw h refl
 
--- the inverse of a function of too high a rank is too deep
+-- the inverse of a function whose rank is too high is the fault `CallsTooDeep`
 deep_unapplied : (f : Callable) (a : Amount) → nat_lt most_rank (rank_of f) ≡ true
     → unapplied f a ≡ Err (fault.CallsTooDeep (name_of f))
 deep_unapplied (Function name rank iu ou d r fw Absent) a h = rw h refl
@@ -32,30 +32,30 @@ deep_unapplied (Function name rank iu ou d r fw (Present inv)) a h = rw h refl
 deep_unapplied (Alias name rank target) a h = rw h refl
 deep_unapplied (Table name rank unit points) a h = rw h refl
 
--- so is either direction of it
+-- a function whose rank is too high is too deep in either direction
 pub deep_taken : (direction : Direction) (f : Callable) (a : Amount) → nat_lt most_rank (rank_of f) ≡ true
     → taken direction f a ≡ Err (fault.CallsTooDeep (name_of f))
 deep_taken Forward = deep_applied
 deep_taken Inverse = deep_unapplied
 
--- a kept value or fault
+-- a stored value or fault is read back unchanged
 pub worth_kept : (w : Worth) → worth_in (kept w) ≡ w
 worth_kept (Ok q) = refl
 worth_kept (Err f) = refl
 
--- a kept worth is no function
+-- a stored value or fault is not `Callable`
 pub kept_is_value : (w : Worth) → kept w ≢ outcome.Callable
 kept_is_value (Ok q) e = cc
 kept_is_value (Err f) e = cc
 
--- what is told of a word can be used
+-- the reported meaning of a word is usable
 pub usable : (has : ℕ → Bool) (callee : ℕ → Callable) (m : Meaning) (t : Told) → IsTold has callee m t → IsUsable has t
 usable has callee m (told.One o) h = λ e. kept_is_value (value h.0 None) (sym h.2 ∙ e)
 usable has callee m (told.Two p u) h =
     (λ e. kept_is_value (value h.0 None) (sym h.3 ∙ e), λ e. kept_is_value (value h.1 None) (sym h.4 ∙ e))
 usable has callee m (told.Function id) h = h.0
 
--- what a word alone is worth by what is told of it
+-- the value of a single word by its reported meaning
 pub told_plain : (has : ℕ → Bool) (callee : ℕ → Callable) (m : Meaning) (t : Told) (a : Option Amount)
     → IsTold has callee m t
     → value (plain m) a ≡ told_worth callee t

@@ -21,19 +21,19 @@ use Rattle.tree_eval.proofs.Binding.{fault_first}
 use Rattle.tree_eval.proofs.Places.{left_stands, right_stands}
 use Rattle.tree_eval.proofs.Weight.{weight, weight_links}
 
--- from a place on stands what is there, and then what stands from the next place on
+-- the rest of a list from a place on is the item there and the rest from the next place on
 get_drop : {A : Type 0} (xs : List A) (i : ℕ) (x : A) → slice_get xs i ≡ Some x → drop i xs ≡ x ∷ drop (i + 1) xs
 get_drop [] i x e = cc
 get_drop (y ∷ xs) zero x e = let p : y ≡ x = cc in ap (λ z. z ∷ xs) p
 get_drop (y ∷ xs) (suc i) x e =
     let n : suc i + 1 ≡ suc (i + 1) = omega arith in get_drop xs i x e ∙ ap (λ k. x ∷ drop k (y ∷ xs)) (sym n)
 
--- two steps one after the other are two steps behind the first
+-- two steps in turn are one step that makes both
 in_two : (r : Worth) (f g : Amount → Worth) → (r >>= (λ w. f w >>= g)) ≡ (r >>= f >>= g)
 in_two (Ok w) f g = refl
 in_two (Err e) f g = refl
 
--- what has been taken, and what is left from member i on
+-- the members before member i have been taken, and those from member i on are left
 pub record IsRunning (means : WordUse → Meaning) (us : List WordUse) (place : ℕ) (all : List (Step × Syntax))
     (a : Option Amount) (i : ℕ) (held : Amount) (next : ℕ) : Type 0 where
   pub goes_on : value (chain means all) a ≡ chained held (links means (drop i all)) a
@@ -49,7 +49,7 @@ module _ (all : List (Step × Syntax)) {o : Step × Syntax} (is : slice_get all 
   words_first : words_of all ≡ words_in o.1 ++ words_of (drop 1 all)
   words_first = ap words_of split_first
 
-  -- its words stand where those of all do
+  -- the words of the first member are at the place of those of the chain
   pub first_stand : (us : List WordUse) (place : ℕ) → Stand us place (words_of all) → Stand us place (words_in o.1)
   first_stand us place h =
       left_stands us place (words_in o.1) (words_of (drop 1 all)) (subst (Stand us place) words_first h)
@@ -58,7 +58,7 @@ module _ (all : List (Step × Syntax)) {o : Step × Syntax} (is : slice_get all 
     weight_first : weight (chain means all) ≡ suc (weight (expand means o.1) + weight_links (links means (drop 1 all)))
     weight_first = ap (λ y. weight (chain means y)) split_first
 
-    -- it is lighter than all
+    -- the first member is lighter than the chain
     pub first_lighter : 8 * weight (expand means o.1) + 2 < 8 * weight (chain means all)
     first_lighter = omega (arith, weight_first)
 
@@ -69,13 +69,13 @@ module _ (all : List (Step × Syntax)) {o : Step × Syntax} (is : slice_get all 
     worth_first : value (chain means all) a ≡ (value (expand means o.1) a >>= behind)
     worth_first = ap (λ y. value (chain means y) a) split_first
 
-    -- its fault is that of all
+    -- the fault of the first member is that of the chain
     pub first_fault : (e : EvalFault)
         → Gives amount_in (Err e) (value (expand means o.1) a) → Gives amount_in (Err e) (value (chain means all) a)
     first_fault e h =
         fault_first amount_in amount_in e (value (expand means o.1) a) behind (value (chain means all) a) worth_first h
 
-    -- with what it is worth the loop begins
+    -- the loop begins with the value of the first member
     pub begins : {us : List WordUse} {place next : ℕ} {held : Amount} → Stand us place (words_of all)
         → value (expand means o.1) a ≡ Ok held → next ≡ place + length (words_in o.1)
         → IsRunning means us place all a 1 held next
@@ -104,12 +104,12 @@ module _ {means : WordUse → Meaning} {us : List WordUse} {place : ℕ} {all : 
         ≡ weight (expand means o.1) + weight_links (links means (drop (i + 1) all))
     weight_here = ap (λ y. weight_links (links means y)) split
 
-    -- its words stand at the place
+    -- the words of the member are at the place
     pub member_stand : Stand us next (words_in o.1)
     member_stand = left_stands us next (words_in o.1) (words_of (drop (i + 1) all))
         (subst (Stand us next) words_here running.stand)
 
-    -- it is lighter than all
+    -- the member is lighter than the chain
     pub member_lighter : 8 * weight (expand means o.1) + 4 < 8 * weight (chain means all)
     member_lighter = omega (arith, weight_here, running.lighter)
 
@@ -123,12 +123,12 @@ module _ {means : WordUse → Meaning} {us : List WordUse} {place : ℕ} {all : 
     worth_here = running.goes_on ∙ ap (λ y. chained held (links means y) a) split
         ∙ in_two (value (expand means o.1) a) (step_worth o.0 held) others
 
-    -- its fault is that of all
+    -- the fault of the member is that of the chain
     pub member_fault : (e : EvalFault) → Gives amount_in (Err e) here
         → Gives amount_in (Err e) (value (chain means all) a)
     member_fault e h = fault_first amount_in amount_in e here others (value (chain means all) a) worth_here h
 
-    -- with what it makes the loop goes on
+    -- the loop continues with the result of the step
     pub goes : {x : Amount} {after : ℕ} → here ≡ Ok x → after ≡ next + length (words_in o.1)
         → IsRunning means us place all a (i + 1) x after
     goes {x} {after} j n =
@@ -143,28 +143,28 @@ module _ {means : WordUse → Meaning} {us : List WordUse} {place : ℕ} {all : 
           lighter = omega (arith, weight_here, running.lighter);
         }
 
-  -- after the last member
+  -- the state after the last member
   module _ (last : length all ≤ i) where
     none_left : drop i all ≡ []
     none_left = drop_of_length-le all last
 
-    -- what is held is what all are worth
+    -- the held quantity is the value of the chain
     pub end_worth : value (chain means all) a ≡ Ok held
     end_worth = running.goes_on ∙ ap (λ y. chained held (links means y) a) none_left
 
-    -- and the place comes behind all
+    -- the place is past the words of the chain
     pub end_place : next ≡ place + length (words_of all)
     end_place =
         let z : length (words_of (drop i all)) ≡ 0 = ap (λ y. length (words_of y)) none_left in
         omega (arith, running.places, z)
 
--- no members
+-- a chain without members has the value 1
 pub empty_worth : (means : WordUse → Meaning) (all : List (Step × Syntax)) (a : Option Amount) → length all ≡ 0
     → value (chain means all) a ≡ Ok one
 empty_worth means [] a h = refl
 empty_worth means (o ∷ os) a h = cc
 
--- no members have no words
+-- a chain without members has no words
 pub empty_words : (all : List (Step × Syntax)) → length all ≡ 0 → length (words_of all) ≡ 0
 empty_words [] h = refl
 empty_words (o ∷ os) h = cc

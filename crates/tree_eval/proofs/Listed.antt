@@ -13,17 +13,17 @@ use Rattle.tree_eval.specs.Expanded.{Chain, Link, Meaning}
 use Rattle.tree_eval.specs.Expansion.{expand, factor_links, member_links, scaling, signing, term_links}
 use Rattle.tree_eval.specs.Operands.{by_side, chain, links, scaled, signed, words_of}
 
--- the words of operands side by side are those of a chain of products
+-- the words of juxtaposed operands are those of a chain of products
 member_words : (es : List Syntax) → words_in_members (members es) ≡ words_of (map by_side es)
 member_words [] = refl
 member_words (e ∷ es) = ap (λ ws. words_in e ++ ws) (member_words es)
 
--- so are those of a product
+-- the words of a product are those of its chain
 factor_words : (fs : List (Scale × Syntax)) → words_in_factors (factors fs) ≡ words_of (map scaled fs)
 factor_words [] = refl
 factor_words (f ∷ fs) = ap (λ ws. words_in f.1 ++ ws) (factor_words fs)
 
--- and those of a sum
+-- the words of a sum are those of its chain
 term_words : (ts : List (Sign × Syntax)) → words_in_terms (terms ts) ≡ words_of (map signed ts)
 term_words [] = refl
 term_words (t ∷ ts) = ap (λ ws. words_in t.1 ++ ws) (term_words ts)

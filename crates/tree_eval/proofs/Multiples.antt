@@ -1,4 +1,4 @@
--- A number and a word side by side are worth what the number times the word is.
+-- The value of a number and a word side by side is that of the number times the word.
 use Rattle.std.proofs.Common.{◌≡◌, ◌<◌, ◌+◌, ℕ, List, [], ◌∷◌, ◌++◌, Bool, Option, Result, Ok, Err, map, length}
 use Rattle.std.proofs.Common.{None, Some, refl, sym, ap, ◌∙◌, subst}
 use Rattle.std.specs.Prelude.{IfSome, OnOk, slice_get}
@@ -53,44 +53,44 @@ multiple_words : (es : List Syntax) (x : Result Fraction FracFault) (is : IsMult
 multiple_words es x is =
     ap (λ y. words_of (map by_side y)) is.2 ∙ ap (λ ws. ws ++ (plain_word is.1 ∷ [])) is.3
 
--- members that are a number and a word, as a call that looks for those tells
+-- members that are a number and a word, as a call that looks for them reports
 module _ (es : List Syntax) {r : Option Factor} {f : Factor} (some : r ≡ Some f)
     (found : IfSome r (λ x. IsMultiple es (said x))) where
-  -- they are
+  -- the members are a number and a word
   is : IsMultiple es (said f)
   is = subst (λ z. IfSome z (λ x. IsMultiple es (said x))) some found
 
-  -- they have one word
+  -- the members have only one word
   only_word : words_of (map by_side es) ≡ plain_word is.1 ∷ []
   only_word = multiple_words es (said f) is
 
-  -- so the next place comes behind them
+  -- the place after the word is past the members
   pub multiple_place : {A E : Type 0} (y : Result A E) (p : ℕ) {q : ℕ} → q ≡ p + 1
       → OnOk y (q ≡ p + length (words_of (map by_side es)))
   multiple_place (Ok z) p {q} n = n ∙ ap (λ ws. p + length ws) (sym only_word)
   multiple_place (Err f) p n = tt
 
-  -- the word stands where they do
+  -- the words of the members are at the place
   module _ (us : List WordUse) (p : ℕ) (here : Stand us p (words_of (map by_side es))) where
     word_stands : Stand us p (plain_word is.1 ∷ [])
     word_stands = subst (Stand us p) only_word here
 
-    -- so the place is within
+    -- the place is within the words
     pub multiple_within : p < length us
     multiple_within = first_within us p (plain_word is.1) [] word_stands
 
-    -- what is told of the place
+    -- the meaning that is reported for the place
     module _ (means : WordUse → Meaning) (has : ℕ → Bool) (callee : ℕ → Callable) (t : Told)
         (told : (u : WordUse) → slice_get us p ≡ Some u → IsTold has callee (means u) t) where
-      -- is told of the word
+      -- the meaning that is reported for the place is that of the word
       word_told : IsTold has callee (means (plain_word is.1)) t
       word_told = told (plain_word is.1) (first_stands us p (plain_word is.1) [] word_stands)
 
-      -- so it can be used
+      -- the reported meaning is usable
       pub multiple_usable : IsUsable has t
       multiple_usable = usable has callee (means (plain_word is.1)) t word_told
 
-      -- and what is given for it with the number is given for all
+      -- a result for the number and the word is a result for the members
       pub multiple_gives : (a : Option Amount) {A : Type 0} (seen : A → Amount) (r : Result A EvalFault)
           → Gives seen r (multiple (said f) (told_worth callee t))
           → Gives seen r (value (chain means (map by_side es)) a)
@@ -105,7 +105,7 @@ two_members (x ∷ []) e f n p q = cc
 two_members (x ∷ y ∷ []) e f n p q = cc
 two_members (x ∷ y ∷ z ∷ zs) e f n p q = cc
 
--- two members, of which the first says a number and the second is a word
+-- two members, of which the first states a number and the second is a word, are a multiple
 pub is_multiple : (es : List Syntax) (e : Syntax) (w : List ℕ) → length es ≡ 2 → slice_get es 0 ≡ Some e
     → slice_get es 1 ≡ Some (Word w) → (x : Option Factor) → IfSome x (λ _. words_in e ≡ [])
     → IfSome x (λ f. SaysNumber e (said f)) → IfSome x (λ f. IsMultiple es (said f))

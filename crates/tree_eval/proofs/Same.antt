@@ -1,4 +1,4 @@
--- An expansion depends on what its words stand for, and on nothing else.
+-- An expansion depends on the meanings of its words, and on nothing else.
 use Rattle.std.proofs.Common.{◌≡◌, ℕ, zero, suc, max, List, [], ◌∷◌, ◌++◌, Option, Some, None, refl, ap}
 use Rattle.def_entry.specs.Entries as entry
 use Rattle.def_entry.specs.Entries.{What}

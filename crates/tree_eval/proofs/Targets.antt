@@ -1,4 +1,4 @@
--- The functions that aliases stand for.
+-- The functions that aliases name.
 use Rattle.std.proofs.Common.{◌≡◌, ◌<◌, ℕ, List, [], ◌∷◌, Bool, Some, length, refl, sym, ◌∙◌, ap, arith}
 use Rattle.std.specs.Prelude.{slice_get}
 use Rattle.def_entry.specs.Entries as entry
@@ -14,12 +14,12 @@ use Rattle.tree_eval.specs.Environment.{IsFunction, IsTold}
 use Rattle.tree_eval.specs.Expanded.{Callable, Meaning, One, Two, Callee, name_of}
 use Rattle.tree_eval.specs.Expansion.{inverted_word}
 
--- a word at place 0
+-- a list that is not empty has a word at place 0
 pub first_word : (ws : List WordUse) → 0 < length ws → (u : WordUse) × (slice_get ws 0 ≡ Some u)
 first_word [] h = let z : ⊥ = omega (arith, h) in absurd z
 first_word (u ∷ ws) h = (u, refl)
 
--- what is told of a word that stands for a function is its number
+-- the reported meaning of a word that is a function is the number of the function
 pub told_function : (has : ℕ → Bool) (callee : ℕ → Callable) (m : Meaning) (t : Told) (f : Callable)
     → IsTold has callee m t → m ≡ Callee f
     → ((x : ℕ) → t ≡ told.Function x → ⊥) → ⊥
@@ -27,13 +27,13 @@ told_function has callee m (told.One o) f h e n = let p : One h.0 ≡ Callee f =
 told_function has callee m (told.Two p u) f h e n = let q : Two h.0 h.1 ≡ Callee f = sym h.2 ∙ e in cc
 told_function has callee m (told.Function id) f h e n = n id refl
 
--- an alias that stands for a function has a function as its target
+-- the target of an alias that is a function is a function
 alias_of : (name : List ℕ) (m : Meaning) (f : Callable) → alias name m ≡ Callee f → (x : Callable) × (m ≡ Callee x)
 alias_of name (One x) f e = cc
 alias_of name (Two x y) f e = cc
 alias_of name (Callee g) f e = (g, refl)
 
--- the word of an alias stands for a function
+-- the word of an alias is a function
 pub alias_target : (words : Holder → List WordUse) (means : WordUse → Meaning) (id : ℕ) (f : Callable) (what : What)
     (target : List ℕ)
     → IsFunction words means id f what → what ≡ entry.Alias target

@@ -23,7 +23,7 @@ use Rattle.tree_eval.specs.Examples.{quotient}
 abbrev single : List ℕ → Fraction → Exponents
 single name e = map_of.insert map_of.empty name e
 
--- the map of no name
+-- the empty map
 abbrev none : Exponents
 none = map_of.empty
 
@@ -38,7 +38,7 @@ one_entry : (name : List ℕ) (e : Fraction) → map_of.entries (single name e) 
 one_entry name e =
     map_of.entries-insert nat_list_cmp_total none name e ∙ ap (put (slice_cmp nat_cmp) name e) no_entries
 
--- how many names there are
+-- the number of names in a map
 pub len_none : map_of.len none ≡ 0
 len_none = map_of.len-empty (slice_cmp nat_cmp) Fraction
 

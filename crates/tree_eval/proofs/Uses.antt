@@ -1,4 +1,4 @@
--- A word with its operand, by what is told of the word.
+-- A word with its operand, by the reported meaning of the word.
 use Rattle.std.proofs.Common.{◌≡◌, ◌<◌, ◌+◌, ◌*◌, ◌∷◌, ℕ, suc, List, Bool, Option, Result, Some, length}
 use Rattle.std.proofs.Common.{refl, sym, ap, ◌∙◌, subst, arith}
 use Rattle.std.specs.Prelude.{slice_get}
@@ -23,7 +23,7 @@ use Rattle.tree_eval.proofs.Calls.{usable}
 use Rattle.tree_eval.proofs.Places.{first_stands, first_within, rest_stands}
 use Rattle.tree_eval.proofs.Weight.{weight, weight_callable, weight_told}
 
--- a word with its operand is heavier than what is told of it with the operand
+-- a word with its operand is heavier than its reported meaning with the operand
 operated_weight : (direction : Direction) (has : ℕ → Bool) (callee : ℕ → Callable) (m : Meaning) (t : Told)
     (y : Expanded)
     → IsTold has callee m t → weight_told callee t + weight y < weight (operated direction m y)
@@ -48,57 +48,58 @@ operated_weight Inverse has callee m (told.Function id) y h =
     let w : weight (operated Inverse m y) ≡ suc (weight_callable (callee id) + weight y) =
     ap (λ k. weight (operated Inverse k y)) h.1 in omega (arith, w)
 
--- a word with its operand, as a tree, and how the word stands there
+-- a word with its operand as a tree
 abbrev pub use_of : Direction → List ℕ → Syntax → Syntax
 use_of Forward = tree.Call
 use_of Inverse = tree.Inverse
 
--- the word of a function in front of an operand, or behind a `~`
+-- the word of a function before an operand, or after a `~`
 abbrev word_of : Direction → List ℕ → WordUse
 word_of Forward = called_word
 word_of Inverse = inverted_word
 
--- the words of a call or of an inverse are that of the function and those of the operand
+-- the words of a call or an inverse are that of the function and those of the operand
 words_of_use : (direction : Direction) (w : List ℕ) (x : Syntax) → words_in (use_of direction w x) ≡ word_of direction w
     ∷ words_in x
 words_of_use Forward w x = refl
 words_of_use Inverse w x = refl
 
--- their expansion is the word operated on that of the operand
+-- the expansion of a call or an inverse is the word operated on that of the operand
 expand_use : (direction : Direction) (means : WordUse → Meaning) (w : List ℕ) (x : Syntax)
     → expand means (use_of direction w x) ≡ operated direction (means (word_of direction w)) (expand means x)
 expand_use Forward means w x = refl
 expand_use Inverse means w x = refl
 
--- a tree that is a word with its operand and stands at a place
+-- a tree that is a word with its operand, and whose words are at a place
 module _ (direction : Direction) (us : List WordUse) (p : ℕ) {e : Syntax} (w : List ℕ) (x : Syntax)
     (is : e ≡ use_of direction w x) (here : Stand us p (words_in e)) where
-  -- the word stands there, and the operand behind it
+  -- the word is at the place, and the words of the operand are after it
   both_stand : Stand us p (word_of direction w ∷ words_in x)
   both_stand = subst (Stand us p) (ap words_in is ∙ words_of_use direction w x) here
 
-  -- so the place is within
+  -- the place is within the words
   pub use_within : p < length us
   use_within = first_within us p (word_of direction w) (words_in x) both_stand
 
-  -- what is told of the place
+  -- the meaning that is reported for the place
   module _ (means : WordUse → Meaning) (has : ℕ → Bool) (callee : ℕ → Callable) (t : Told)
       (told : (u : WordUse) → slice_get us p ≡ Some u → IsTold has callee (means u) t) where
-    -- is told of the word
+    -- the meaning that is reported for the place is that of the word
     use_told : IsTold has callee (means (word_of direction w)) t
     use_told = told (word_of direction w) (first_stands us p (word_of direction w) (words_in x) both_stand)
 
-    -- the tree is the word operated on its operand
+    -- the expansion of the tree is the word operated on its operand
     use_expands : expand means e ≡ operated direction (means (word_of direction w)) (expand means x)
     use_expands = ap (expand means) is ∙ expand_use direction means w x
 
-    -- a call with the operand may be made at a place: the word can be used, the operand stands there and is lighter
+    -- a call with the operand is permitted at a place: the word is usable, the words of the operand are there, and it
+    -- is lighter
     pub record IsOperandAt (q : ℕ) : Type 0 where
       pub can : IsUsable has t
       pub lighter : 8 * (weight_told callee t + weight (expand means x)) + 5 < 8 * weight (expand means e) + 2
       pub stand : Stand us q (words_in x)
 
-    -- it may at the next place
+    -- a call with the operand is permitted at the next place
     pub use_operand : {q : ℕ} → q ≡ p + 1 → IsOperandAt q
     use_operand n =
         let v : weight (expand means e) ≡ weight (operated direction (means (word_of direction w)) (expand means x)) =
@@ -111,7 +112,7 @@ module _ (direction : Direction) (us : List WordUse) (p : ℕ) {e : Syntax} (w :
               (rest_stands us p (word_of direction w) (words_in x) both_stand);
         }
 
-    -- what is given for each word that is told of so is given for the tree
+    -- a result for each word with this reported meaning is a result for the tree
     pub use_gives : (a : Option Amount) {A : Type 0} (seen : A → Amount) (r : Result A EvalFault)
         → ((m : Meaning) → IsTold has callee m t → Gives seen r (value (operated direction m (expand means x)) a))
         → Gives seen r (value (expand means e) a)

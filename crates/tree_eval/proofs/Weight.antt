@@ -1,4 +1,4 @@
--- How large an expansion is.
+-- The size of an expansion.
 use Rattle.std.proofs.Common.{ℕ, suc, ◌+◌}
 use Rattle.tree_eval.specs.declared.meaning.Meaning.{Meaning as Told}
 use Rattle.tree_eval.specs.declared.meaning.Meaning.TheVariants as told
@@ -38,7 +38,7 @@ abbrev mutual
   weight_given Absent = 0
   weight_given (Present x) = weight x
 
--- of the function that is told, and 0 of a name
+-- the weight of the reported function, or 0 for a name
 abbrev pub weight_told : (ℕ → Callable) → Told → ℕ
 weight_told callee (told.Function id) = weight_callable (callee id)
 weight_told callee _ = 0

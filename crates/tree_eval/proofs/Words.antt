@@ -1,4 +1,4 @@
--- A word before its operand, by what is told of it.
+-- A word before its operand, by the reported meaning of the word.
 use Rattle.std.proofs.Common.{◌≡◌, ℕ, Bool, Option, Result, Ok, Err, refl, sym, ◌∙◌, ap, subst}
 use Rattle.quantity.specs.Amount.{Amount}
 use Rattle.quantity.specs.Products.{product_of}
@@ -20,11 +20,11 @@ use Rattle.tree_eval.specs.Value.{value}
 use Rattle.tree_eval.proofs.Binding.{fault_first}
 use Rattle.tree_eval.proofs.Calls.{told_plain}
 
--- both are worth something, or the first fault comes
+-- the product of both values, or the first fault
 abbrev pub times : Worth → Worth → Worth
 times r s = r >>= (λ v. s >>= (λ w. amount (product_of v w)))
 
--- a last step that only answers changes nothing
+-- a last step that only returns its argument changes nothing
 last_ok : (r : Worth) → (r >>= (λ n. Ok n)) ≡ r
 last_ok (Ok n) = refl
 last_ok (Err f) = refl
@@ -35,7 +35,7 @@ chain_two (Err f) s = refl
 chain_two (Ok v) (Err f) = refl
 chain_two (Ok v) (Ok w) = last_ok (amount (product_of v w))
 
--- a word and one more operand are worth their product
+-- the value of a word and one more operand is their product
 chained_word : (m : Meaning) (y : Expanded) (a : Option Amount)
     → value (Chain (plain m) (Link Multiply y NoLink)) a ≡ times (value (plain m) a) (value y a)
 chained_word m y a = chain_two (value (plain m) a) (value y a)
@@ -45,7 +45,7 @@ module _ (has : ℕ → Bool) (callee : ℕ → Callable) (m : Meaning) (t : Tol
   worth_told : times (value (plain m) a) (value y a) ≡ times (told_worth callee t) (value y a)
   worth_told = ap (λ r. times r (value y a)) (told_plain has callee m t a h)
 
--- a word that is no function, with an operand behind it, multiplies
+-- a word that is not a function, before an operand, is a chain of the two
 operated_chain : (direction : Direction) (has : ℕ → Bool) (callee : ℕ → Callable) (m : Meaning) (t : Told)
     (y : Expanded)
     → IsTold has callee m t → ((id : ℕ) → t ≡ told.Function id → ⊥)
@@ -60,7 +60,7 @@ operated_chain Inverse has callee m (told.Two p u) y h n =
     ap (λ k. operated Inverse k y) h.2 ∙ ap (λ k. Chain (plain k) (Link Multiply y NoLink)) (sym h.2)
 operated_chain direction has callee m (told.Function id) y h n = absurd (n id refl)
 
--- a word that is no function is multiplied by its operand
+-- the value of a word that is not a function, before an operand, is the product of both
 operated_word : (direction : Direction) (has : ℕ → Bool) (callee : ℕ → Callable) (m : Meaning) (t : Told)
     (y : Expanded) (a : Option Amount)
     → IsTold has callee m t → ((id : ℕ) → t ≡ told.Function id → ⊥)
@@ -69,17 +69,17 @@ operated_word direction has callee m t y a h n =
     ap (λ z. value z a) (operated_chain direction has callee m t y h n)
     ∙ (chained_word m y a ∙ worth_told has callee m t y a h)
 
--- a function with an operand is worth the function at what that is worth
+-- the value of a function with an operand is the function at the value of the operand
 taken_callee : (direction : Direction) (f : Callable) (y : Expanded) (a : Option Amount)
     → value (operated direction (Callee f) y) a ≡ (value y a >>= taken direction f)
 taken_callee Forward f y a = refl
 taken_callee Inverse f y a = refl
 
--- what is given stands for equal worths alike
+-- a result for a value is a result for each equal value
 gives_same : {A : Type 0} (f : A → Amount) (r : Result A EvalFault) {v w : Worth} → w ≡ v → Gives f r v → Gives f r w
 gives_same f r is h = subst (Gives f r) (sym is) h
 
--- the exits of a product of two worths
+-- the cases of a product of two values
 module _ (w r s : Worth) (is : w ≡ times r s) where
   times_first : (e : EvalFault) → Gives amount_in (Err e) r → Gives amount_in (Err e) w
   times_first e h = fault_first amount_in amount_in e r (λ v. s >>= (λ u. amount (product_of v u))) w is h
@@ -95,28 +95,28 @@ module _ (w r s : Worth) (is : w ≡ times r s) where
     times_both : {u : Amount} → s ≡ Ok u → w ≡ amount (product_of p u)
     times_both l = times_behind ∙ ap (λ x. x >>= (λ u. amount (product_of p u))) l
 
--- a word that is no function, with an operand
+-- a word that is not a function, with an operand
 module _ (direction : Direction) (has : ℕ → Bool) (callee : ℕ → Callable) (m : Meaning) {t : Told} (y : Expanded)
     (a : Option Amount) (h : IsTold has callee m t) (n : (id : ℕ) → t ≡ told.Function id → ⊥) where
   abbrev whole : Worth
   whole = value (operated direction m y) a
 
-  -- is worth the product
+  -- the value of the whole is the product
   is_product : whole ≡ times (told_worth callee t) (value y a)
   is_product = operated_word direction has callee m t y a h n
 
-  -- the fault of the word is that of both
+  -- the fault of the word is that of the whole
   pub word_fault : (e : EvalFault)
       → Gives amount_in (Err e) (told_worth callee t) → Gives amount_in (Err e) whole
   word_fault e k = times_first whole (told_worth callee t) (value y a) is_product e k
 
   module _ {p : Amount} (k : told_worth callee t ≡ Ok p) where
-    -- so is that of the operand behind a word that is worth something
+    -- if the word has a value, the fault of the operand is that of the whole
     pub behind_fault : (e : EvalFault)
         → Gives amount_in (Err e) (value y a) → Gives amount_in (Err e) whole
     behind_fault e l = times_second whole (told_worth callee t) (value y a) is_product k e l
 
-    -- what the product of both gives, they give
+    -- a result for the product is a result for the whole
     pub both_give : {u : Amount} → value y a ≡ Ok u → {A : Type 0} (f : A → Amount) (r : Result A EvalFault)
         → Gives f r (amount (product_of p u)) → Gives f r whole
     both_give l f r j =
@@ -130,14 +130,14 @@ module _ (direction : Direction) (has : ℕ → Bool) (callee : ℕ → Callable
       let k : IsTold has callee m (told.Function id) = subst (IsTold has callee m) function h in
       ap (λ x. value (operated direction x y) a) k.1 ∙ taken_callee direction (callee id) y a
 
-  -- the fault of the operand is that of both
+  -- the fault of the operand is that of the whole
   pub operand_fault : (e : EvalFault) → Gives amount_in (Err e) (value y a)
       → Gives amount_in (Err e) (value (operated direction m y) a)
   operand_fault e k =
       fault_first amount_in amount_in e (value y a) (taken direction (callee id)) (value (operated direction m y) a)
       taken_word k
 
-  -- what the function gives at what the operand is worth, both give
+  -- a result for the function at the value of the operand is a result for the whole
   pub taken_give : {u : Amount} → value y a ≡ Ok u → {A : Type 0} (f : A → Amount) (r : Result A EvalFault)
       → Gives f r (taken direction (callee id) u) → Gives f r (value (operated direction m y) a)
   taken_give k f r j =

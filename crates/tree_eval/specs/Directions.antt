@@ -1,4 +1,4 @@
--- Functions that are taken in one direction or the other.
+-- Functions in either direction.
 use Rattle.std.specs.Prelude.{◌≡◌, ℕ, false, nat_lt, List}
 use Rattle.def_entry.specs.Entries.{What}
 use Rattle.expr_tree.specs.declared.word_list.WordUse.{WordUse}
@@ -12,16 +12,16 @@ use Rattle.tree_eval.specs.Expansion.{called, inverted}
 use Rattle.tree_eval.specs.Steps.{Worth}
 use Rattle.tree_eval.specs.Value.{applied, most_rank, unapplied}
 
--- a function at a quantity
+-- the value of a function, or of its inverse, at a quantity
 abbrev pub taken : Direction → Callable → Amount → Worth
 taken Forward = applied
 taken Inverse = unapplied
 
--- a word with its operand
+-- a word applied to its operand, or inverted at it
 abbrev pub operated : Direction → Meaning → Expanded → Expanded
 operated Forward = called
 operated Inverse = inverted
 
--- the function of a number has this entry, and its rank is not too great for a call
+-- the function with this number has this entry, and its rank is not too great for a call
 abbrev pub IsCalled : (Holder → List WordUse) → (WordUse → Meaning) → ℕ → Callable → What → Type 0
 IsCalled words means id f what = IsFunction words means id f what × (nat_lt most_rank (rank_of f) ≡ false)

@@ -11,11 +11,11 @@ use Rattle.tree_eval.specs.Refusals.{named}
 use Rattle.tree_eval.specs.Steps.{Worth}
 use Rattle.tree_eval.specs.Tests.{tested}
 
--- an end with this unit, which is this part of its function, this span, and these refusals
+-- an end with this part, which holds its unit, this unit, this span, and these refusals
 abbrev pub IsEnd : End → Part → Option Tree → Option Span → Refusal → Refusal → Type 0
 IsEnd end part unit span wrong outside =
     (end.part ≡ part) × (end.unit.now ≡ unit) × (end.span.now ≡ span) × (end.wrong ≡ wrong) × (end.outside ≡ outside)
 
--- a quantity at this end of the function of this name, by what the unit is worth
+-- the test of a quantity at this end of the function with this name, by the value of the unit
 abbrev pub end_tested : List ℕ → Result (Option Amount) ValueFault → End → Amount → Worth
 end_tested name unit end = tested (named end.wrong name) (named end.outside name) unit end.span.now

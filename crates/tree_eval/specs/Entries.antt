@@ -1,4 +1,4 @@
--- What a key stands for, by its entry.
+-- The meaning of a key, by its entry.
 use Rattle.std.specs.Prelude.{ℕ, suc, max, List, [], ◌∷◌, ◌++◌, Option, Some, None}
 use Rattle.def_entry.specs.Entries as entry
 use Rattle.def_entry.specs.Entries.{What, FunctionDef}
@@ -29,22 +29,22 @@ part_words _ _ = []
 abbrev pub function_words : FunctionDef → List WordUse
 function_words d = words_if d.in_unit ++ words_if d.out_unit ++ words_in d.forward ++ words_if d.inverse
 
--- the rank of what a word stands for, 0 where that is no function
+-- the rank of a meaning, or 0 if it is not a function
 abbrev pub rank_of_meaning : Meaning → ℕ
 rank_of_meaning (Callee f) = rank_of f
 rank_of_meaning _ = 0
 
--- the greatest rank among the functions that stand as words, 0 where there is none
+-- the greatest rank among the functions that the words name, or 0 if there are none
 abbrev pub greatest_rank : (WordUse → Meaning) → List WordUse → ℕ
 greatest_rank means [] = 0
 greatest_rank means (u ∷ us) = max (rank_of_meaning (means u)) (greatest_rank means us)
 
--- the alias of a function; of anything else there is none
+-- an alias of a function; a meaning that is not a function has no alias
 abbrev pub alias : List ℕ → Meaning → Meaning
 alias name (Callee f) = Callee (Alias name (suc (rank_of f)) f)
 alias name m = m
 
--- what the key of this name and this entry stands for; a list stands for nothing, and counts as 1
+-- the meaning of the key with this name and this entry; a list has no meaning of its own, and counts as 1
 abbrev pub meaning_of : (WordUse → Meaning) → List ℕ → What → Meaning
 meaning_of means name entry.Primitive = One (Primitive name)
 meaning_of means name entry.Dimensionless = One Dimensionless

@@ -13,11 +13,11 @@ use Rattle.tree_eval.specs.Steps.{one, plain_number}
 use Rattle.tree_eval.specs.Tests.{inside, is_within}
 use Rattle.tree_eval.specs.Value.{value}
 
--- a quotient that is in lowest terms
+-- a quotient in lowest terms
 abbrev pub quotient : ℤ → ℕ → Fraction
 quotient n d = record { num = n; den = d }
 
--- digits with a power of ten
+-- a decimal with these digits, scaled by a power of ten
 abbrev pub decimal : ℕ → ℤ → Decimal
 decimal digits scale = record { coefficient = digits; scale = scale }
 
@@ -33,11 +33,11 @@ three = numeral 3 (pos 0)
 abbrev pub by_nothing : Expanded
 by_nothing = Bar (decimal 1 (pos 0)) (decimal 0 (pos 0))
 
--- a function of this rank that gives its argument, and has no inverse
+-- a function of this rank that returns its argument, and has no inverse
 abbrev pub same : ℕ → Callable
 same rank = Function (codes "same") rank Absent Absent None None Argument Absent
 
--- what expressions are worth, alone
+-- the values of expressions that are not part of a function
 pub record ValuesLaw : Type 0 where
   pub decimals : value (numeral 25 (negsuc 0)) None ≡ Ok (plain_number (quotient (pos 5) 2))
   pub quotients : value (Bar (decimal 2 (pos 0)) (decimal 4 (pos 0))) None ≡ Ok (plain_number (quotient (pos 1) 2))
@@ -53,11 +53,11 @@ pub record ValuesLaw : Type 0 where
   pub other_name : value (Applied (Alias (codes "other") 1 (same 0)) three) None ≡ Ok (plain_number (whole (pos 3)))
   pub no_inverse : value (Unapplied (same 0) three) None ≡ Err (fault.NoInverse (codes "same"))
 
--- an end of an interval
+-- a bound of an interval
 abbrev pub bound : ℤ → Bool → Bound
 bound at is_in = record { at = whole at; closed = is_in }
 
--- from 0, which is in it, up to 1, which is not
+-- from 0, inclusive, to 1, exclusive
 abbrev pub half_open : Span
 half_open = record { low = Some (bound (pos 0) true); high = Some (bound (pos 1) false) }
 
@@ -65,7 +65,7 @@ half_open = record { low = Some (bound (pos 0) true); high = Some (bound (pos 1)
 abbrev pub positive : Span
 positive = record { low = Some (bound (pos 0) false); high = None }
 
--- which numbers are in an interval, and what is answered of one that is not
+-- which numbers are in an interval, and the result for one that is not
 pub record TestsLaw : Type 0 where
   pub closed_end : is_within half_open (whole (pos 0)) ≡ true
   pub open_end : is_within half_open (whole (pos 1)) ≡ false
@@ -77,7 +77,7 @@ pub record TestsLaw : Type 0 where
       ≡ Err (fault.NotInDomain (codes "f"))
   pub any : inside (fault.NotInDomain (codes "f")) None None one ≡ Ok one
 
--- law: they are so
+-- law: the values and the tests are as found by hand
 pub record ExamplesLaw : Type 0 where
   pub values : ValuesLaw
   pub tests : TestsLaw

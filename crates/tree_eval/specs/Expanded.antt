@@ -1,4 +1,4 @@
--- Expressions in which each word is replaced by what it stands for. No name of a unit is left.
+-- Expressions in which each word is replaced by its meaning. No name of a unit is left.
 use Rattle.std.specs.Prelude.{ℕ, List, Option}
 use Rattle.def_entry.specs.declared.entry.Span.{Span}
 use Rattle.expr_tree.specs.declared.operator.RootKind.{RootKind}
@@ -8,18 +8,18 @@ use Rattle.tree_eval.specs.declared.step.Step.{Step}
 
 mutual
   pub data Expanded : Type 0 where
-    -- a numeral, and one over another
+    -- a numeral, and the quotient of two numerals
     Number : Decimal → Expanded
     Bar : Decimal → Decimal → Expanded
-    -- what the function is applied to whose expression this is
+    -- the argument of the function whose expression this is
     Argument : Expanded
-    -- a unit that no other unit defines, and one that counts as 1
+    -- a unit that is not defined by other units, and one that counts as 1
     Primitive : List ℕ → Expanded
     Dimensionless : Expanded
     -- the tree of a name, and those of a prefix and a unit
     Named : Expanded → Expanded
     Prefixed : Expanded → Expanded → Expanded
-    -- a function without an argument, at an argument, and its inverse at a value
+    -- a function without an argument, a function at an argument, and an inverse at a value
     Uncalled : Callable → Expanded
     Applied : Callable → Expanded → Expanded
     Unapplied : Callable → Expanded → Expanded
@@ -27,7 +27,7 @@ mutual
     Group : Expanded → Expanded
     Negated : Expanded → Expanded
     Power : Expanded → Expanded → Expanded
-    -- a first member, and the further ones with their steps
+    -- the first member, and the further ones with their steps
     Chain : Expanded → Links → Expanded
 
   pub data Links : Type 0 where
@@ -42,12 +42,12 @@ mutual
     Alias : (name : List ℕ) → (rank : ℕ) → (target : Callable) → Callable
     Table : (name : List ℕ) → (rank : ℕ) → (unit : Expanded) → (points : List Point) → Callable
 
-  -- an expression that may be left out
+  -- an optional expression
   pub data Given : Type 0 where
     Absent : Given
     Present : Expanded → Given
 
--- what a word stands for: a name, a prefix and a unit, or a function
+-- the meaning of a word: a name, a prefix and a unit, or a function
 pub data Meaning : Type 0 where
   One : Expanded → Meaning
   Two : Expanded → Expanded → Meaning

@@ -1,4 +1,4 @@
--- The expansion of a tree: each word replaced by what it stands for.
+-- The expansion of a tree: each word is replaced by its meaning.
 use Rattle.std.specs.Prelude.{ℕ, List, Option, Some, None}
 use Rattle.expr_tree.specs.declared.operator.Scale.{Scale}
 use Rattle.expr_tree.specs.declared.operator.Scale.TheVariants as scale
@@ -14,18 +14,18 @@ use Rattle.tree_eval.specs.Expanded.{Expanded, Number, Bar, Argument, Dimensionl
 use Rattle.tree_eval.specs.Expanded.{Uncalled, Applied, Unapplied, Root, Group, Negated, Power, Chain}
 use Rattle.tree_eval.specs.Expanded.{Links, NoLink, Link, Given, Absent, Present, Meaning, One, Two, Callee}
 
--- a word alone
+-- a single word
 abbrev pub plain : Meaning → Expanded
 plain (One x) = Named x
 plain (Two x y) = Prefixed x y
 plain (Callee f) = Uncalled f
 
--- a word before its operand: a function is applied, any other word is multiplied
+-- a word before its operand: a function is applied, any other meaning is multiplied
 abbrev pub called : Meaning → Expanded → Expanded
 called (Callee f) y = Applied f y
 called m y = Chain (plain m) (Link Multiply y NoLink)
 
--- a word behind a `~`, which stands for a function
+-- a word after a `~`, which is a function
 abbrev pub inverted : Meaning → Expanded → Expanded
 inverted (Callee f) y = Unapplied f y
 inverted m y = Chain (plain m) (Link Multiply y NoLink)
@@ -38,7 +38,7 @@ abbrev pub signing : Sign → Step
 signing sign.Plus = Add
 signing sign.Minus = Subtract
 
--- a word that stands in this way
+-- a plain use of a word
 abbrev pub plain_word : List ℕ → WordUse
 plain_word w = record { text = w; kind = standing.Plain }
 
@@ -48,7 +48,7 @@ called_word w = record { text = w; kind = standing.Call }
 abbrev pub inverted_word : List ℕ → WordUse
 inverted_word w = record { text = w; kind = standing.Inverse }
 
--- means: what each word stands for. A list without members, which no text gives, counts as 1
+-- means: the meaning of each word. A list without members, which no text can produce, counts as 1
 module _ (means : WordUse → Meaning) where
   abbrev mutual
     pub expand : Syntax → Expanded

@@ -4,7 +4,7 @@ use Rattle.quantity.specs.declared.fault.QuantityFault.TheVariants as step
 use Rattle.tree_eval.specs.declared.fault.ValueFault.{ValueFault}
 use Rattle.tree_eval.specs.declared.fault.ValueFault.TheVariants as fault
 
--- the fault of a step on quantities. What a step is expected to give is never want of memory
+-- the fault of a step on quantities. The expected result of a step is never lack of memory
 abbrev pub fault_of : QuantityFault → ValueFault
 fault_of (step.Number f) = fault.Number f
 fault_of (step.NotConformable x y) = fault.NotConformable x y

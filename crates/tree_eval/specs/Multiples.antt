@@ -1,4 +1,4 @@
--- A number and a word side by side, as most definitions are.
+-- A number and a word side by side, the form of most definitions.
 use Rattle.std.specs.Prelude.{◌≡◌, ℕ, List, [], ◌∷◌, Option, Result}
 use Rattle.expr_tree.specs.declared.word_list.WordUse.{WordUse}
 use Rattle.expr_tree.specs.Syntax.{Syntax, Word}
@@ -17,19 +17,19 @@ use Rattle.tree_eval.specs.Operands.{with_worth}
 use Rattle.tree_eval.specs.Steps.{Worth, number, numeral_quotient}
 use Rattle.tree_eval.specs.Value.{value}
 
--- the number that is said, a numeral or one over another
+-- the number that a factor states, a numeral or a quotient of two
 abbrev pub said : Factor → Result Fraction FracFault
 said (factor.Numeral x) = value_of x.now
 said (factor.Bar bar) = numeral_quotient bar.now.top bar.now.bottom
 
--- a tree is worth this number wherever it stands
+-- the value of a tree is this number in every context
 abbrev pub SaysNumber : Syntax → Result Fraction FracFault → Type 0
 SaysNumber e x = (means : WordUse → Meaning) (a : Option Amount) → value (expand means e) a ≡ number x
 
--- a tree without words that says the number, and a word
+-- the members are a tree without words that states the number, and a word
 abbrev pub IsMultiple : List Syntax → Result Fraction FracFault → Type 0
 IsMultiple es x = (e : Syntax) × (w : List ℕ) × (es ≡ e ∷ Word w ∷ []) × (words_in e ≡ []) × SaysNumber e x
 
--- a number times what a word is worth
+-- a number times the value of a word
 abbrev pub multiple : Result Fraction FracFault → Worth → Worth
 multiple x worth = number x >>= λ left. with_worth Multiply left worth

@@ -1,4 +1,4 @@
--- The members of a juxtaposition, a product or a sum, in one form.
+-- The members of a juxtaposition, a product or a sum, in a common form.
 use Rattle.std.specs.Prelude.{List, [], ◌∷◌, ◌++◌, map}
 use Rattle.expr_tree.specs.declared.operator.Scale.{Scale}
 use Rattle.expr_tree.specs.declared.operator.Sign.{Sign}
@@ -17,7 +17,7 @@ use Rattle.tree_eval.specs.Expanded.{Dimensionless, Chain, Expanded, Link, Links
 use Rattle.tree_eval.specs.Expansion.{expand, scaling, signing}
 use Rattle.tree_eval.specs.Steps.{Worth, step_worth}
 
--- a member and its step
+-- a member with its step
 abbrev pub operand : Operand → Step × Syntax
 operand o = (o.step, syntax o.tree.now)
 
@@ -35,7 +35,7 @@ operands_of (Juxtaposed trees) = map by_side (trees_of trees.now)
 operands_of (Product factors) = map scaled (factors_of factors.now)
 operands_of (Sum terms) = map signed (terms_of terms.now)
 
--- a running value with a member that is worth this
+-- the running value combined with a member of this value
 abbrev pub with_worth : Step → Amount → Worth → Worth
 with_worth step held worth = worth >>= step_worth step held
 
@@ -44,7 +44,7 @@ abbrev pub words_of : List (Step × Syntax) → List WordUse
 words_of [] = []
 words_of (o ∷ os) = words_in o.1 ++ words_of os
 
--- the expansion of further members, and of all of them
+-- the expansion of the further members, and of all members
 module _ (means : WordUse → Meaning) where
   abbrev pub links : List (Step × Syntax) → Links
   links [] = NoLink

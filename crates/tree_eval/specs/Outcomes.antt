@@ -6,18 +6,18 @@ use Rattle.tree_eval.specs.Expanded.{Meaning, One, Two, Callee, Prefixed}
 use Rattle.tree_eval.specs.Steps.{Worth, one}
 use Rattle.tree_eval.specs.Value.{value}
 
--- a value or a fault, as it is kept
+-- the outcome that stores a value or a fault
 abbrev pub kept : Worth → Outcome
 kept (Ok q) = outcome.Value q
 kept (Err fault) = outcome.Fault fault
 
--- the outcome of what a name stands for
+-- the outcome of a meaning
 abbrev pub outcome_of : Meaning → Outcome
 outcome_of (One x) = kept (value x None)
 outcome_of (Two x y) = kept (value (Prefixed x y) None)
 outcome_of (Callee f) = outcome.Callable
 
--- the value or the fault of an outcome that is not callable
+-- the value or the fault of an outcome that is not `Callable`
 abbrev pub worth_in : Outcome → Worth
 worth_in (outcome.Value q) = Ok q
 worth_in (outcome.Fault fault) = Err fault

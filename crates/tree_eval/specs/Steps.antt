@@ -1,4 +1,4 @@
--- Steps of an evaluation, each of which may have a fault.
+-- The steps of an evaluation, each of which may fail.
 use Rattle.std.specs.Prelude.{pos, Result, Ok, Err}
 use Rattle.std.specs.FinMap as map_of
 use Rattle.units_io.specs.Outcomes.{◌>>=◌}
@@ -29,17 +29,17 @@ plain_number x = record { value = x; exponents = map_of.empty }
 abbrev pub one : Amount
 one = plain_number (whole (pos 1))
 
--- what a step on fractions gives
+-- the result of a step on fractions
 abbrev pub fraction : Result Fraction FracFault → Result Fraction ValueFault
 fraction (Ok x) = Ok x
 fraction (Err fault) = Err (Number fault)
 
--- the same, as a number without exponents
+-- the result of a step on fractions, as a number without exponents
 abbrev pub number : Result Fraction FracFault → Worth
 number (Ok x) = Ok (plain_number x)
 number (Err fault) = Err (Number fault)
 
--- what a step on quantities gives
+-- the result of a step on quantities
 abbrev pub amount : Result Amount QuantityFault → Worth
 amount (Ok x) = Ok x
 amount (Err fault) = Err (fault_of fault)
@@ -51,7 +51,7 @@ numeral_quotient x y = do
   q ← value_of y
   over p q
 
--- the step to one more member
+-- the step that takes one more member
 abbrev pub step_of : Step → Amount → Amount → Result Amount QuantityFault
 step_of Multiply = product_of
 step_of Divide = quotient_of
@@ -61,7 +61,7 @@ step_of Subtract = difference_of
 abbrev pub step_worth : Step → Amount → Amount → Worth
 step_worth step x y = amount (step_of step x y)
 
--- a root: the power with 1 over its degree as exponent
+-- a root: the power whose exponent is 1 over the degree
 abbrev pub root : RootKind → Amount → Worth
 root kind x = do
   exponent ← number (ratio (pos 1) (pos (degree kind)))

@@ -1,4 +1,4 @@
--- What is tested of a quantity at one end of a function.
+-- The tests of a quantity at one end of a function.
 use Rattle.std.specs.Prelude.{◌&&◌, Bool, true, if◌then◌else◌, Option, Some, None, Result, Ok, Err}
 use Rattle.std.specs.Ordering.{is_le, is_lt}
 use Rattle.def_entry.specs.declared.entry.Bound.{Bound}
@@ -11,12 +11,12 @@ use Rattle.tree_eval.specs.declared.fault.ValueFault.{ValueFault}
 use Rattle.units_io.specs.Outcomes.{◌>>=◌}
 use Rattle.tree_eval.specs.Steps.{Worth, fraction}
 
--- the number is above the bound, or at it where that is closed
+-- the number is above the bound, or equal to it if the bound is closed
 abbrev pub is_above : Option Bound → Fraction → Bool
 is_above None x = true
 is_above (Some b) x = if b.closed then is_le (compared b.at x) else is_lt (compared b.at x)
 
--- the number is below the bound, or at it where that is closed
+-- the number is below the bound, or equal to it if the bound is closed
 abbrev pub is_below : Option Bound → Fraction → Bool
 is_below None x = true
 is_below (Some b) x = if b.closed then is_le (compared x b.at) else is_lt (compared x b.at)
@@ -24,25 +24,25 @@ is_below (Some b) x = if b.closed then is_le (compared x b.at) else is_lt (compa
 abbrev pub is_within : Span → Fraction → Bool
 is_within span x = is_above span.low x && is_below span.high x
 
--- the quantity conforms to the unit, or is a number where only a span stands
+-- the quantity conforms to the unit, or is a number if there is only a span
 abbrev pub conforming : (wrong : ValueFault) → (unit : Option Amount) → Option Span → Amount → Worth
 conforming wrong (Some unit) span q = if conform q.exponents unit.exponents then Ok q else Err wrong
 conforming wrong None (Some span) q = if is_number q then Ok q else Err wrong
 conforming wrong None None q = Ok q
 
--- the number of a quantity in the unit, or its own where no unit stands
+-- the number of a quantity in the unit, or its own number if there is no unit
 abbrev pub number_in : (unit : Option Amount) → Amount → Result Fraction ValueFault
 number_in (Some unit) q = fraction (over q.value unit.value)
 number_in None q = Ok q.value
 
--- its number in the unit is in the span, where one stands
+-- the number of a quantity in the unit is in the span, if there is one
 abbrev pub inside : (outside : ValueFault) → (unit : Option Amount) → Option Span → Amount → Worth
 inside outside unit None q = Ok q
 inside outside unit (Some span) q = do
   x ← number_in unit q
   if is_within span x then Ok q else Err outside
 
--- a quantity at one end of a function, by what its unit is worth where one stands
+-- the test of a quantity at one end of a function, by the value of its unit, if it has one
 abbrev pub tested : (wrong outside : ValueFault) → (unit : Result (Option Amount) ValueFault) → Option Span → Amount
     → Worth
 tested wrong outside unit span q = do

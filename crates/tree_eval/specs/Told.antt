@@ -1,4 +1,4 @@
--- What a word is worth by what is told of it, and how its worth is kept.
+-- The value of a word by its reported meaning, and how the value is stored.
 use Rattle.std.specs.Prelude.{◌≡◌, ◌≢◌, ℕ, Bool, IsTrue, Result, Ok, Err, ⊤}
 use Rattle.quantity.specs.Amount.{Amount}
 use Rattle.quantity.specs.Products.{product_of}
@@ -26,13 +26,13 @@ told_worth callee (One o) = worth_in o.now
 told_worth callee (Two p u) = both (worth_in p.now) (worth_in u.now)
 told_worth callee (Function id) = Err (NeedsArgument (name_of (callee id)))
 
--- no outcome is that of a function, and the number is that of one
+-- no outcome is that of a function, and the number is the number of one
 abbrev pub IsUsable : (ℕ → Bool) → Meaning → Type 0
 IsUsable has (One o) = o.now ≢ outcome.Callable
 IsUsable has (Two p u) = (p.now ≢ outcome.Callable) × (u.now ≢ outcome.Callable)
 IsUsable has (Function id) = IsTrue (has id)
 
--- what an evaluation answers is kept; only want of memory is not
+-- the outcome stores the result of an evaluation, unless memory ran out
 abbrev pub IsKept : {E : Type 0} → Result Outcome E → Result Amount EvalFault → Type 0
 IsKept (Err _) worth = ⊤
 IsKept (Ok o) (Ok q) = o ≡ outcome.Value q

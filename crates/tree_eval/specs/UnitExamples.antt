@@ -18,7 +18,7 @@ use Rattle.tree_eval.specs.Value.{value}
 
 -- ---- units
 
--- a number of a unit to a power
+-- a number times a power of a unit
 abbrev pub measured : Fraction → (unit : List ℕ) → (exponent : Fraction) → Amount
 measured x unit exponent = record { value = x; exponents = map_of.insert map_of.empty unit exponent }
 
@@ -43,12 +43,13 @@ stepped step x y = Chain x (Link step y NoLink)
 abbrev pub two_metres : Expanded
 two_metres = stepped Multiply (numeral 2 (pos 0)) metre
 
--- the value of an expression that is no part of a function
+-- the value of an expression that is not part of a function
 abbrev pub alone : Expanded → Worth
 alone x = value x None
 
--- a product with a unit; a prefix; a quotient of one unit; a reciprocal; a power and a root; sums and differences of
--- like quantities, and of unlike ones; exponents that are no numbers or out of range; and a root that is no fraction
+-- a product with a unit; a prefix; a quotient of a unit by itself; a reciprocal; a power and a root; sums and
+-- differences of like and of unlike quantities; exponents that are not numbers or are out of range; and a root that is
+-- not a fraction
 pub record UnitValuesLaw : Type 0 where
   pub multiple : alone (stepped Multiply three metre) ≡ Ok (metres (pos 3))
   pub prefixed : alone (Prefixed (numeral 1000 (pos 0)) (Primitive (codes "m"))) ≡ Ok (metres (pos 1000))
@@ -76,7 +77,7 @@ abbrev pub function : (in_unit out_unit : Given) → (domain range : Option Span
 function in_unit out_unit domain range forward inverse =
     Function (codes "f") 1 in_unit out_unit domain range forward inverse
 
--- a function that returns its argument, by what it tests of it and of its inverse
+-- a function that returns its argument, with these tests of the argument and of the result
 abbrev pub testing : (in_unit out_unit : Given) → (domain range : Option Span) → Callable
 testing in_unit out_unit domain range = function in_unit out_unit domain range Argument (Present Argument)
 
@@ -84,9 +85,9 @@ testing in_unit out_unit domain range = function in_unit out_unit domain range A
 abbrev pub three_and_five : Callable
 three_and_five = function Absent Absent None None three (Present (numeral 5 (pos 0)))
 
--- At an argument: the in unit and the domain are tested of the argument before the forward expression is evaluated,
--- and the out unit and the range of its value. A unit is tested before an interval, and the number in an interval is
--- that of the quantity in the unit.
+-- The value at an argument: the argument is tested by the in unit and the domain before the forward expression is
+-- evaluated; its value is then tested by the out unit and the range. The unit is tested before the interval, and the
+-- number in the interval is the number of the quantity in the unit.
 pub record ArgumentLaw : Type 0 where
   pub in_unit : alone (Applied (testing (Present metre) Absent None None) metre) ≡ Ok (metres (pos 1))
   pub wrong_argument : alone (Applied (testing (Present metre) Absent None None) second)
@@ -114,8 +115,8 @@ pub record ArgumentLaw : Type 0 where
   pub value_before_result : alone (Applied (function Absent (Present metre) None None by_nothing Absent) second)
       ≡ Err (fault.Number DivisionByZero)
 
--- An inverse: the out unit and the range are tested of its argument, the in unit and the domain of its result. The
--- inverse of an alias is that of its target. A rank above 16 is too deep for an inverse too, and for the alias of a
+-- An inverse: its argument is tested by the out unit and the range, its result by the in unit and the domain. The
+-- inverse of an alias is that of its target. A rank above 16 is also too deep for an inverse, and for an alias of a
 -- function that is not too deep itself.
 pub record InverseLaw : Type 0 where
   pub forward : alone (Applied three_and_five (numeral 1 (pos 0))) ≡ Ok (plain_number (whole (pos 3)))
@@ -144,8 +145,8 @@ table_of_rank rank = Table (codes "t") rank metre ((whole (pos 1), whole (pos 0)
 abbrev pub table : Callable
 table = table_of_rank 1
 
--- A table takes a number and gives a quantity in its unit; its inverse takes a quantity that conforms to the unit, and
--- gives a number. Both are on the straight line between two points, and outside the points there is no value.
+-- A table takes a number and returns a quantity in its unit; its inverse takes a quantity that conforms to the unit,
+-- and returns a number. Between two points both follow the straight line; outside the points there is no value.
 pub record TableLaw : Type 0 where
   pub forward : alone (Applied table (numeral 2 (pos 0))) ≡ Ok (metres (pos 1))
   pub backward : alone (Unapplied table metre) ≡ Ok (plain_number (whole (pos 2)))

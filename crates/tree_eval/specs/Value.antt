@@ -21,40 +21,40 @@ use Rattle.tree_eval.specs.Steps.{Worth, amount, step_worth, number, numeral_quo
 use Rattle.tree_eval.specs.Steps.{root}
 use Rattle.tree_eval.specs.Tests.{tested}
 
--- one of a primitive
+-- the quantity 1 of a primitive unit
 abbrev pub primitive : List ℕ → Amount
 primitive name = record { value = whole (pos 1); exponents = map_of.insert map_of.empty name (whole (pos 1)) }
 
--- the argument; where none is given, 1
+-- the argument, or 1 if none is given
 abbrev pub argument : Option Amount → Amount
 argument (Some a) = a
 argument None = one
 
--- the greatest rank of a function that is called
+-- the greatest rank of a function that may be called
 abbrev pub most_rank : ℕ
 most_rank = 16
 
--- a call of this rank and this name, where it is not too deep
+-- the result of a call of the function with this rank and this name, unless it is too deep
 abbrev pub shallow : ℕ → List ℕ → Worth → Worth
 shallow rank name call = if nat_lt most_rank rank then Err (fault.CallsTooDeep name) else call
 
--- what a table of this name gives
+-- the result of a lookup in the table with this name
 abbrev pub looked_up : List ℕ → Result Fraction TableFault → Worth
 looked_up name (Ok x) = Ok (plain_number x)
 looked_up name (Err table.OutsideTable) = Err (fault.OutsideTable name)
 looked_up name (Err (table.Number f)) = Err (fault.Number f)
 
--- a table of this name wants a number
+-- the table with this name requires a number
 abbrev pub as_number : List ℕ → Amount → Worth
 as_number name x = if is_number x then Ok x else Err (fault.WrongArgument name)
 
--- what conforms to the unit of a table, as a number of it
+-- a quantity that conforms to the unit of a table, as a number in that unit
 abbrev pub in_unit_of : List ℕ → Amount → Amount → Worth
 in_unit_of name unit x =
     if conform x.exponents unit.exponents then number (over x.value unit.value) else Err (fault.WrongArgument name)
 
 abbrev mutual
-  -- a: what the expression's function is applied to
+  -- a: the argument of the function whose expression this is
   pub value : Expanded → Option Amount → Worth
   value (Number x) a = number (value_of x)
   value (Bar x y) a = number (numeral_quotient x y)
@@ -88,7 +88,7 @@ abbrev mutual
     v ← value x a
     chained v links a
 
-  -- a running value with the further members
+  -- the running value combined with the further members
   pub chained : Amount → Links → Option Amount → Worth
   chained v NoLink a = Ok v
   chained v (Link step x links) a = do
@@ -96,7 +96,7 @@ abbrev mutual
     next ← step_worth step v w
     chained next links a
 
-  -- a function at an argument
+  -- the value of a function at an argument
   pub applied : Callable → Amount → Worth
   applied (Function name rank in_unit out_unit domain range forward inverse) a = shallow rank name (do
     _ ← tested (fault.WrongArgument name) (fault.NotInDomain name) (unit_value in_unit) domain a
@@ -123,7 +123,7 @@ abbrev mutual
     y ← in_unit_of name u b
     looked_up name (x_at points y.value))
 
-  -- the value of a unit that may be left out
+  -- the value of an optional unit
   pub unit_value : Given → Result (Option Amount) ValueFault
   unit_value Absent = Ok None
   unit_value (Present x) = do

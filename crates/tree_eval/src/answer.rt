@@ -1,4 +1,4 @@
-//! The answers of steps, as those of an evaluation.
+//! Converts the results of single steps into results of an evaluation.
 
 ghost use Rattle.std.specs.Prelude.{Result};
 ghost use Rattle.quantity.specs.Amount.{Amount};
@@ -12,7 +12,7 @@ use frac128::{Frac, FracFault};
 use quantity::{Quantity, QuantityFault};
 use std::alloc::Global;
 
-// What a step on fractions answers.
+// Converts the result of a step on fractions.
 pub(crate) fn fraction_answer(
     alloc: Global,
     answer: Result<Frac, FracFault>,
@@ -25,7 +25,7 @@ pub(crate) fn fraction_answer(
     }
 }
 
-// The same, as a number without exponents.
+// Converts the result of a step on fractions into a number without exponents.
 pub(crate) fn number_answer(
     alloc: Global,
     answer: Result<Frac, FracFault>,
@@ -38,7 +38,7 @@ pub(crate) fn number_answer(
     }
 }
 
-// What a step answers that only numbers may fail.
+// Converts the result of a step on quantities whose only faults are those of its numbers.
 pub(crate) fn scaled_answer(
     alloc: Global,
     answer: Result<Quantity, FracFault>,
@@ -52,7 +52,7 @@ pub(crate) fn scaled_answer(
     }
 }
 
-// What a step on quantities answers.
+// Converts the result of a step on quantities.
 pub(crate) fn amount_answer(
     alloc: Global,
     answer: Result<Quantity, QuantityFault>,

@@ -1,10 +1,10 @@
-//! Which way a function is taken.
+//! The direction in which a function is evaluated.
 
-/// Which way a function is taken.
+/// The direction in which a function is evaluated.
 #[derive(Clone, Copy)]
 pub(crate) enum Direction {
-    /// Its value at an argument.
+    /// The value of the function at an argument.
     Forward,
-    /// Its inverse at a value.
+    /// The value of its inverse.
     Inverse,
 }

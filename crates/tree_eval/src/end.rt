@@ -1,4 +1,4 @@
-//! The two ends of a function: what its argument and its result have to be.
+//! The two ends of a function: the requirements on its argument and on its result.
 
 ghost use Rattle.std.specs.Prelude.{◌≡◌, Ok};
 ghost use Rattle.std.specs.Option.{option_copied};
@@ -17,22 +17,22 @@ use frac128::Frac;
 use quantity::Quantity;
 use std::alloc::Global;
 
-/// One end of a function: what a quantity has to be there, and how the function refuses it.
+/// One end of a function: the requirements on a quantity there, and the faults if it does not meet them.
 #[derive(Clone, Copy)]
 pub(crate) struct End<'f> {
-    /// Which tree of the function its unit is.
+    /// The tree of the function that holds the unit.
     pub(crate) part: Part,
     /// The unit that the quantity has to conform to.
     pub(crate) unit: &'f Option<Tree>,
-    /// Where its number in the unit has to be.
+    /// The interval that has to contain the number of the quantity in the unit.
     span: &'f Option<Span>,
-    // The refusal of one that does not conform, and of one whose number is outside.
+    // The refusals of a quantity that does not conform, and of one whose number is outside the interval.
     wrong: Refusal,
     outside: Refusal,
 }
 
 impl<'f> End<'f> {
-    // Where a call takes its argument.
+    // The end at which a call takes its argument.
     pub(crate) fn argument(f: &'f FunctionDef) -> End<'f>
         ensures { IsEnd result Part.InUnit f.now.in_unit f.now.domain Refusal.WrongArgument Refusal.NotInDomain }
     {
@@ -45,7 +45,7 @@ impl<'f> End<'f> {
         }
     }
 
-    // Where a call gives its result.
+    // The end at which a call gives its result.
     pub(crate) fn result(f: &'f FunctionDef) -> End<'f>
         ensures { IsEnd result Part.OutUnit f.now.out_unit f.now.range Refusal.WrongResult Refusal.NotInRange }
     {
@@ -58,7 +58,7 @@ impl<'f> End<'f> {
         }
     }
 
-    // Where an inverse takes its value.
+    // The end at which an inverse takes its value.
     pub(crate) fn value(f: &'f FunctionDef) -> End<'f>
         ensures { IsEnd result Part.OutUnit f.now.out_unit f.now.range Refusal.WrongArgument Refusal.NotInRange }
     {
@@ -68,7 +68,7 @@ impl<'f> End<'f> {
         }
     }
 
-    // Where an inverse gives its result.
+    // The end at which an inverse gives its result.
     pub(crate) fn inverse(f: &'f FunctionDef) -> End<'f>
         ensures { IsEnd result Part.InUnit f.now.in_unit f.now.domain Refusal.WrongResult Refusal.NotInDomain }
     {
@@ -78,8 +78,8 @@ impl<'f> End<'f> {
         }
     }
 
-    // That a quantity is what is asked for here, by the value of the unit: it conforms, and its number
-    // is in the span.
+    // Checks that a quantity meets the requirements of this end: it conforms to the unit, whose value is `unit`, and
+    // its number in the unit is in the span.
     pub(crate) fn check(
         &self,
         alloc: Global,
@@ -93,7 +93,7 @@ impl<'f> End<'f> {
         self.check_span(alloc, name, unit, q)
     }
 
-    // That a quantity conforms to the unit, by its value, or is a number where only a span stands.
+    // Checks that a quantity conforms to the unit, or, if there is only a span, that it is a number.
     fn check_unit(
         &self,
         alloc: Global,
@@ -115,7 +115,7 @@ impl<'f> End<'f> {
         }
     }
 
-    // That its number in the unit is in the span, where one stands.
+    // Checks that the number of a quantity in the unit is in the span, if there is one.
     fn check_span(
         &self,
         alloc: Global,
@@ -137,7 +137,7 @@ impl<'f> End<'f> {
     }
 }
 
-// The number of a quantity in the unit, or its own where no unit stands.
+// Returns the number of a quantity in the unit, or its own number if there is no unit.
 fn number_in(alloc: Global, unit: Option<&Quantity>, q: &Quantity) -> Result<Frac, EvalFault>
     ensures { Answers result (spec.number_in (option_copied unit.entry) q.now) }
 {
@@ -147,14 +147,14 @@ fn number_in(alloc: Global, unit: Option<&Quantity>, q: &Quantity) -> Result<Fra
     }
 }
 
-// Whether the number is in the span.
+// Whether a number is in the span.
 fn is_within(span: &Span, x: &Frac) -> bool
     ensures { result ≡ spec.is_within span.now x.now }
 {
     is_above(&span.low, x) && is_below(&span.high, x)
 }
 
-// Whether the number is above the bound.
+// Whether a number is above the lower bound, or equal to it if the bound is closed.
 fn is_above(bound: &Option<Bound>, x: &Frac) -> bool
     ensures { result ≡ spec.is_above bound.now x.now }
 {
@@ -165,7 +165,7 @@ fn is_above(bound: &Option<Bound>, x: &Frac) -> bool
     }
 }
 
-// Whether the number is below the bound.
+// Whether a number is below the upper bound, or equal to it if the bound is closed.
 fn is_below(bound: &Option<Bound>, x: &Frac) -> bool
     ensures { result ≡ spec.is_below bound.now x.now }
 {

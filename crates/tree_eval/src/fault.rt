@@ -9,14 +9,14 @@ use quantity::{Quantity, QuantityFault};
 use std::alloc::{AllocError, Global};
 use units_io::Text;
 
-/// Why an expression has no value. The text is the name of the function.
+/// Why an expression has no value. A `Text` is the name of the function.
 #[derive(Drop)]
 pub enum ValueFault {
-    /// A step on numbers has no answer.
+    /// A step on numbers has no result.
     Number(FracFault),
-    /// A sum or difference of two quantities with different exponents: both of them.
+    /// Two quantities of a sum or difference have different exponents. The fault holds both.
     NotConformable(Quantity, Quantity),
-    /// The exponent of a power has exponents of its own.
+    /// The exponent of a power is not a plain number.
     ExponentNotNumber,
     /// An exponent is out of range.
     ExponentRange,
@@ -32,24 +32,24 @@ pub enum ValueFault {
     NoInverse(Text),
     /// No segment of the table holds the number.
     OutsideTable(Text),
-    /// The function stands without an argument.
+    /// The function is used without an argument.
     NeedsArgument(Text),
     /// The rank of the function is above 16.
     CallsTooDeep(Text),
 }
 
-/// Why an evaluation has no answer.
+/// Why an evaluation has no result.
 #[derive(Drop)]
 pub enum EvalFault {
     /// The expression has no value.
-    // The answers of an evaluation nest with it: each has room for a place in memory, and not for two quantities.
+    // Evaluations nest, and so do their results: each has room for a pointer, but not for two quantities.
     Value(KeptFault),
-    /// Want of memory.
+    /// Memory ran out.
     OutOfMemory,
 }
 
 impl ValueFault {
-    /// An equal fault. The only error is want of memory.
+    /// Returns an equal fault. The only error is lack of memory.
     pub fn copy(&self, alloc: Global) -> Result<ValueFault, AllocError>
         ensures { IfOk result (λ fault. fault ≡ self.now) }
     {
@@ -86,7 +86,7 @@ impl From<AllocError> for EvalFault {
 }
 
 impl EvalFault {
-    // This fault, or want of memory.
+    // Wraps a fault. Returns `OutOfMemory` if there is no memory for it.
     pub(crate) fn of_value(alloc: Global, fault: ValueFault) -> EvalFault
         ensures { IsFault result fault }
     {
@@ -96,14 +96,14 @@ impl EvalFault {
         }
     }
 
-    // The fault of a step on numbers, or want of memory.
+    // Wraps the fault of a step on numbers. Returns `OutOfMemory` if there is no memory for it.
     pub(crate) fn of_number(alloc: Global, fault: FracFault) -> EvalFault
         ensures { IsFault result (ValueFault.Number fault) }
     {
         EvalFault::of_value(alloc, ValueFault::Number(fault))
     }
 
-    // The fault of a step on quantities, or want of memory.
+    // Wraps the fault of a step on quantities. Returns `OutOfMemory` if there is no memory for it.
     pub(crate) fn of_step(alloc: Global, fault: QuantityFault) -> EvalFault
         ensures { IsFaultOf fault result }
     {

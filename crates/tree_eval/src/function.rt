@@ -1,4 +1,4 @@
-//! Functions, aliases and tables, both ways.
+//! Functions, aliases and tables, and their inverses.
 
 ghost use Rattle.std.specs.Prelude.{◌≡◌, ◌<◌, IsTrue, Some, length, option_map, slice_get};
 ghost use Rattle.def_entry.specs.Entries as entry;
@@ -29,15 +29,16 @@ use def_entry::{FunctionDef, TableDef, What};
 use quantity::Quantity;
 use std::alloc::Global;
 
-// The greatest rank of a function that is called.
+// The greatest rank of a function that may be called.
 const MOST_RANK: u32 = 16;
 
-/// The value of a function, an alias or a table at an argument. `Value` with the first of these faults:
-/// `CallsTooDeep` where its rank is above 16; of a function `WrongArgument` where the argument does not conform to its
-/// in unit, or is no number where it has a domain alone, `NotInDomain` where the argument is outside of that, the first
-/// fault of its expression, `WrongResult` and `NotInRange` where the same is so of the result by its out unit and its
-/// range; of an alias what its target gives; of a table `WrongArgument` where the argument is no number, `OutsideTable` where no segment holds it, and a
-/// fault of a step. A fault of a unit comes where the unit is first needed. `OutOfMemory` where there is no memory.
+/// Returns the value of a function, an alias or a table at an argument. Fails with `Value` and the first of these
+/// faults: `CallsTooDeep` if its rank is above 16; for a function, `WrongArgument` if the argument does not conform to
+/// the in unit, or is not a number although there is only a domain, `NotInDomain` if the argument is outside the
+/// domain, the first fault of its expression, and `WrongResult` or `NotInRange` if the result fails the same checks by
+/// the out unit and the range; for an alias, the faults of its target; for a table, `WrongArgument` if the argument is
+/// not a number, `OutsideTable` if no segment holds it, and a fault of a step. A fault of a unit occurs when the unit
+/// is first needed. Fails with `OutOfMemory` if memory runs out.
 pub fn apply<E: Env>(
     alloc: Global,
     env: &E,
@@ -50,12 +51,13 @@ pub fn apply<E: Env>(
     take(alloc, env, Direction::Forward, id, arg)
 }
 
-/// The inverse of a function, an alias or a table at a value. `Value` with the first of these faults: `CallsTooDeep`
-/// where its rank is above 16; of a function `NoInverse` where it has none, `WrongArgument` and `NotInRange` where the
-/// value does not conform to its out unit or is outside its range, the first fault of its inverse, `WrongResult` and
-/// `NotInDomain` where the same is so of the result by its in unit and its domain; of a table `WrongArgument` where the
-/// value does not conform to its unit, `OutsideTable` where no segment holds it, and a fault of a step. A fault of a
-/// unit comes where the unit is first needed. `OutOfMemory` where there is no memory.
+/// Returns the inverse of a function, an alias or a table at a value. Fails with `Value` and the first of these faults:
+/// `CallsTooDeep` if its rank is above 16; for a function, `NoInverse` if it has no inverse, `WrongArgument` or
+/// `NotInRange` if the value does not conform to the out unit or is outside the range, the first fault of its inverse,
+/// and `WrongResult` or `NotInDomain` if the result fails the same checks by the in unit and the domain; for an alias,
+/// the faults of its target; for a table, `WrongArgument` if the value does not conform to its unit, `OutsideTable` if
+/// no segment holds it, and a fault of a step. A fault of a unit occurs when the unit is first needed. Fails with
+/// `OutOfMemory` if memory runs out.
 pub fn unapply<E: Env>(
     alloc: Global,
     env: &E,
@@ -68,7 +70,7 @@ pub fn unapply<E: Env>(
     take(alloc, env, Direction::Inverse, id, value)
 }
 
-// A function, an alias or a table, taken in this direction.
+// Evaluates a function, an alias or a table in the given direction.
 #[cycle(eval)]
 pub(crate) fn take<E: Env>(
     alloc: Global,
@@ -97,7 +99,7 @@ pub(crate) fn take<E: Env>(
     }
 }
 
-// The steps of a call.
+// Evaluates a function at an argument.
 #[cycle(eval)]
 fn apply_function<E: Env>(
     alloc: Global,
@@ -118,7 +120,7 @@ fn apply_function<E: Env>(
     Ok(result.own(alloc)?)
 }
 
-// The steps of an inverse.
+// Evaluates the inverse of a function at a value.
 #[cycle(eval)]
 fn unapply_function<E: Env>(
     alloc: Global,
@@ -142,7 +144,7 @@ fn unapply_function<E: Env>(
     Ok(result.own(alloc)?)
 }
 
-// That a quantity fits one end of a function.
+// Checks that a quantity meets the requirements of one end of a function.
 #[cycle(eval)]
 fn check_end<E: Env>(
     alloc: Global,
@@ -164,7 +166,7 @@ fn check_end<E: Env>(
     end.check(alloc, env.function_name(id), lent(&unit), q)
 }
 
-// The steps of a table.
+// Evaluates a table at an argument.
 #[cycle(eval)]
 fn apply_table<E: Env>(
     alloc: Global,
@@ -188,7 +190,7 @@ fn apply_table<E: Env>(
     Step::Multiply.join(alloc, Held::Own(y), unit.get())
 }
 
-// The steps of the inverse of a table.
+// Evaluates the inverse of a table at a value.
 #[cycle(eval)]
 fn unapply_table<E: Env>(
     alloc: Global,
@@ -212,7 +214,7 @@ fn unapply_table<E: Env>(
     looked_up(alloc, name, table.points.back(&y.value()))
 }
 
-// The number of the function that an alias stands for.
+// Returns the number of the function that an alias names.
 fn target_of<E: Env>(env: &E, id: usize) -> usize
     requires has { IsTrue (E.has env.now id) }
     requires some { 0 < length (E.words env.now (Holder.Of id Part.Forward)) }

@@ -1,4 +1,4 @@
-//! In which tree a word stands.
+//! The trees that contain words.
 
 /// One of the trees of an entry.
 #[derive(Clone, Copy)]
@@ -7,9 +7,10 @@ pub enum Part {
     InUnit,
     /// The unit of a function's result.
     OutUnit,
-    /// A function's result by its argument. The target of an alias is its word at place 0.
+    /// A function's result as an expression of its argument. The target of an alias is the word at place 0 of this
+    /// part.
     Forward,
-    /// A function's argument by its result.
+    /// A function's argument as an expression of its result.
     Inverse,
     /// The unit of a table.
     TableUnit,
@@ -17,10 +18,10 @@ pub enum Part {
     Body,
 }
 
-/// The tree in which a word stands.
+/// The tree that contains a word.
 #[derive(Clone, Copy)]
 pub enum Holder {
-    /// The expression that is asked for.
+    /// The expression that is queried.
     Query,
     /// A tree of the entry with this number.
     Of(usize, Part),

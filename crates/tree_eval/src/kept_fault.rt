@@ -1,4 +1,4 @@
-//! Faults as they are kept.
+//! Boxed faults.
 
 ghost use Rattle.std.specs.Prelude.{◌≡◌, IfOk};
 
@@ -6,8 +6,8 @@ use crate::fault::ValueFault;
 use std::alloc::{AllocError, Global};
 use std::marker::Model;
 
-/// A fault in memory of its own: few names and steps have one, and two quantities may stand in it, which would make
-/// each outcome and each answer as large. Contracts see the fault.
+/// A boxed fault. Few names and steps have a fault, but a fault may hold two quantities, which would make every outcome
+/// and every result as large. Contracts see the fault itself.
 #[derive(Drop)]
 pub struct KeptFault {
     fault: Box<ValueFault>,
@@ -25,7 +25,7 @@ impl Model for KeptFault {
 }
 
 impl KeptFault {
-    /// The fault, kept. The only error is want of memory.
+    /// Boxes a fault. The only error is lack of memory.
     pub fn new(alloc: Global, fault: ValueFault) -> Result<KeptFault, AllocError>
         ensures { IfOk result (λ kept. kept ≡ fault) }
     {
@@ -35,14 +35,14 @@ impl KeptFault {
         }
     }
 
-    /// The fault itself.
+    /// Returns the fault.
     pub fn into_fault(self) -> ValueFault
         ensures { result ≡ self }
     {
         Box::into_inner(self.fault)
     }
 
-    /// The fault.
+    /// Borrows the fault.
     pub fn get(&self) -> &ValueFault
         ensures { result.now ≡ self.now }
     {

@@ -1,4 +1,4 @@
-//! Evaluation of expressions and functions over an environment that lends the outcomes of names.
+//! Evaluation of expressions and functions over an environment that provides the outcomes of names.
 #![tactic(auto)]
 
 mod answer;

@@ -1,4 +1,4 @@
-//! A number and a word side by side, as most definitions are. It takes a shorter way than a chain of any members.
+//! A number and a word side by side, the form of most definitions. It has a shorter path than a general chain.
 
 ghost use Rattle.std.specs.Prelude.{◌≡◌, [], IfSome};
 ghost use Rattle.expr_tree.specs.Trees.{syntax, trees_of};
@@ -23,7 +23,7 @@ use frac128::{Frac, FracFault, Numeral};
 use quantity::Quantity;
 use std::alloc::Global;
 
-/// A number that a tree says by itself.
+/// A number that a tree states literally.
 #[derive(Clone, Copy)]
 pub(crate) enum Factor<'t> {
     Numeral(&'t Numeral),
@@ -31,7 +31,7 @@ pub(crate) enum Factor<'t> {
 }
 
 impl Factor<'_> {
-    // The number.
+    // Returns the number.
     fn value(self) -> Result<Frac, FracFault>
         ensures { result ≡ spec.said self.entry }
     {
@@ -42,7 +42,8 @@ impl Factor<'_> {
     }
 }
 
-// The number before a word, where no more stands side by side. What it needs room for is gone before others nest.
+// Returns the number before a word, if the two are the only members. Not inlined, so that its stack frame is gone
+// before further calls nest.
 #[inline(never)]
 pub(crate) fn factor_of_word(trees: &Trees) -> Option<Factor<'_>>
     ensures { IfSome result (λ factor. spec.IsMultiple (trees_of trees.now) (spec.said factor)) }
@@ -57,7 +58,7 @@ pub(crate) fn factor_of_word(trees: &Trees) -> Option<Factor<'_>>
     }
 }
 
-// The number that a tree says by itself.
+// Returns the number that a tree states literally, if it does.
 fn number_of(tree: &Tree) -> Option<Factor<'_>>
     ensures says { IfSome result (λ factor. spec.SaysNumber (syntax tree.now) (spec.said factor)) }
     ensures wordless { IfSome result (λ _. words_in (syntax tree.now) ≡ []) }
@@ -70,7 +71,7 @@ fn number_of(tree: &Tree) -> Option<Factor<'_>>
     }
 }
 
-// Puts what a number times a word alone is worth.
+// Stores the value of a number times a single word.
 #[inline(never)]
 pub(crate) fn put_multiple<'a, E: Env>(
     alloc: Global,
@@ -88,7 +89,7 @@ pub(crate) fn put_multiple<'a, E: Env>(
     Ok(())
 }
 
-// A number times a word alone. The value of a name is taken as it is lent.
+// Returns a number times a single word. The value of a name is used without a copy.
 fn multiple<'a, E: Env>(
     alloc: Global,
     env: &'a E,

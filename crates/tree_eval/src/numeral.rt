@@ -11,7 +11,7 @@ use crate::held::Held;
 use frac128::{Frac, FracFault, Numeral};
 use std::alloc::Global;
 
-// Puts the value of a numeral.
+// Stores the value of a numeral.
 #[inline(never)]
 pub(crate) fn put_numeral(alloc: Global, x: &Numeral, held: &mut Held<'_>) -> Result<(), EvalFault>
     ensures { Gives (λ _. amount_in held.new) result (spec.number (value_of x.now)) }
@@ -20,7 +20,7 @@ pub(crate) fn put_numeral(alloc: Global, x: &Numeral, held: &mut Held<'_>) -> Re
     Ok(())
 }
 
-// Puts the quotient of two numerals.
+// Stores the quotient of two numerals.
 #[inline(never)]
 pub(crate) fn put_bar(
     alloc: Global,
@@ -34,7 +34,7 @@ pub(crate) fn put_bar(
     Ok(())
 }
 
-// The same as a fraction.
+// Returns the quotient of two numerals as a fraction.
 pub(crate) fn quotient(x: &Numeral, y: &Numeral) -> Result<Frac, FracFault>
     ensures { result ≡ spec.numeral_quotient x.now y.now }
 {

@@ -1,4 +1,4 @@
-//! The members of a juxtaposition, a product or a sum, in one form.
+//! The members of a juxtaposition, a product or a sum, in a common form.
 
 ghost use Rattle.std.specs.Prelude.{◌≡◌, ◌<◌, Some, length, slice_get};
 ghost use Rattle.tree_eval.specs.Operands.{operand, operands_of};
@@ -14,7 +14,7 @@ pub(crate) enum Operands<'t> {
     Sum(&'t Terms),
 }
 
-/// A member, and the step by which a running value takes it.
+/// A member, and the step that combines it with a running value.
 #[derive(Clone, Copy)]
 pub(crate) struct Operand<'t> {
     pub(crate) step: Step,
@@ -22,7 +22,7 @@ pub(crate) struct Operand<'t> {
 }
 
 impl<'t> Operands<'t> {
-    // How many members there are.
+    // The number of members.
     pub(crate) fn len(&self) -> usize
         ensures { result ≡ length (operands_of self.now) }
     {
@@ -33,7 +33,7 @@ impl<'t> Operands<'t> {
         }
     }
 
-    // The member at a place.
+    // Returns the member at a place.
     pub(crate) fn get(&self, i: usize) -> Operand<'t>
         requires { i < length (operands_of self.now) }
         ensures { slice_get (operands_of self.now) i ≡ Some (operand result) }

@@ -12,7 +12,7 @@ use frac128::Frac;
 use quantity::Quantity;
 use std::alloc::Global;
 
-// Puts a power of what is held in its place.
+// Replaces the held quantity by its power.
 #[inline(never)]
 pub(crate) fn take_power(
     alloc: Global,
@@ -26,7 +26,7 @@ pub(crate) fn take_power(
     Ok(())
 }
 
-// Puts the root of this kind of what is held in its place.
+// Replaces the held quantity by its root of the given kind.
 #[inline(never)]
 pub(crate) fn take_root(alloc: Global, kind: RootKind, held: &mut Held<'_>) -> Result<(), EvalFault>
     ensures { Gives (λ _. amount_in held.new) result (spec.root kind (amount_in held.old)) }
@@ -36,7 +36,7 @@ pub(crate) fn take_root(alloc: Global, kind: RootKind, held: &mut Held<'_>) -> R
     Ok(())
 }
 
-// A power, which takes the names of its base over.
+// Returns a power. It reuses the names of its base.
 fn power(alloc: Global, base: Held<'_>, exponent: &Quantity) -> Result<Quantity, EvalFault>
     ensures { Answers result (spec.amount (power_of (amount_in base.entry) exponent.now)) }
 {
@@ -44,7 +44,7 @@ fn power(alloc: Global, base: Held<'_>, exponent: &Quantity) -> Result<Quantity,
     amount_answer(alloc, base.raised(alloc, exponent))
 }
 
-// The root of this kind.
+// Returns the root of the given kind.
 fn root(alloc: Global, kind: RootKind, base: Held<'_>) -> Result<Quantity, EvalFault>
     ensures { Answers result (spec.root kind (amount_in base.entry)) }
 {

@@ -1,4 +1,4 @@
-//! The outcome of one name.
+//! Computes the outcome of a single name.
 
 ghost use Rattle.std.specs.Prelude.{◌≡◌, ◌+◌, IfOk};
 ghost use Rattle.def_entry.specs.Views.{what_view};
@@ -18,8 +18,8 @@ use std::alloc::{AllocError, Global};
 use std::sync::ledger::Ledger;
 use units_io::Steps;
 
-/// The outcome of the name with this number, of which its line says this, in one step. The only error is want of
-/// memory: a fault of its value is an outcome.
+/// Returns the outcome of the name with number `id`, which is defined by `what`, in one step. The only error is lack of
+/// memory: a fault of the value is an outcome.
 pub fn reduce<E: Env, L: Ledger>(
     alloc: Global,
     env: &E,
@@ -43,7 +43,7 @@ pub fn reduce<E: Env, L: Ledger>(
     }
 }
 
-// A value or a fault as it is kept.
+// Turns a value or a fault into an outcome.
 fn kept(worth: Result<Quantity, EvalFault>) -> Result<Outcome, AllocError>
     ensures { IsKept result worth }
 {

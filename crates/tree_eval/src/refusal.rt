@@ -1,4 +1,4 @@
-//! Why a function refuses.
+//! The reasons for which a function refuses.
 
 ghost use Rattle.std.specs.Prelude.{◌≡◌};
 ghost use Rattle.tree_eval.specs.Refusals as spec;
@@ -21,7 +21,7 @@ pub(crate) enum Refusal {
 }
 
 impl Refusal {
-    // The fault with the name of the function, or want of memory.
+    // Returns the fault with the name of the function, or `OutOfMemory` if there is no memory for it.
     #[inline(never)]
     pub(crate) fn by(self, alloc: Global, name: &[u8]) -> EvalFault
         ensures { spec.IsFault result (spec.named self name.now) }

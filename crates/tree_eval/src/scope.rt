@@ -1,6 +1,6 @@
-//! What expressions are worth. Calls nest as deep as one expression and the functions that it calls, some thousand
-//! parentheses, and the stack with them. So each puts its worth where its caller holds it, and what needs room stands
-//! in calls that end before others nest.
+//! Evaluation of expressions. Calls nest as deep as an expression and the functions that it calls, up to some thousand
+//! parentheses, and so does the stack. So each call stores its value in a slot of its caller, and code that needs much
+//! stack is in separate functions that return before further calls nest.
 
 ghost use Rattle.std.specs.Prelude.{◌≡◌, ◌+◌, ◌++◌, ◌<◌, IsTrue, OnOk, Some, length, map, slice_get};
 ghost use Rattle.std.specs.Option.{option_copied};
@@ -33,10 +33,10 @@ use expr_tree::{RootKind, Tree, Trees, view_law};
 use quantity::Quantity;
 use std::alloc::Global;
 
-/// The value of a tree, in which `arg` stands for the argument. `Value` with the first fault from left to right: of a
-/// step on numbers, of a sum of quantities that do not conform, of an exponent that is no number or out of range, of a
-/// call or an inverse (`apply`, `unapply`), or of a function without an argument. `OutOfMemory` where there is no
-/// memory.
+/// Returns the value of a tree, with `arg` as the argument. Fails with `Value` and the first fault from left to right:
+/// a fault of a step on numbers, a sum of quantities that do not conform, an exponent that is not a number or is out of
+/// range, a fault of a call or an inverse (see `apply`, `unapply`), or a function without an argument. Fails with
+/// `OutOfMemory` if memory runs out.
 pub fn eval<E: Env>(
     alloc: Global,
     env: &E,
@@ -51,7 +51,7 @@ pub fn eval<E: Env>(
     Ok(tree_worth(alloc, env, holder, tree, arg)?.own(alloc)?)
 }
 
-// What the tree of a holder is worth, in which `arg` stands for the argument.
+// Returns the value of the tree of a holder, with `arg` as the argument.
 #[cycle(eval)]
 pub(crate) fn tree_worth<'a, E: Env>(
     alloc: Global,
@@ -76,19 +76,19 @@ pub(crate) fn tree_worth<'a, E: Env>(
     Ok(held)
 }
 
-/// Where an expression stands.
+/// The context of an expression.
 #[derive(Clone, Copy)]
 struct Scope<'a, E> {
     alloc: Global,
     env: &'a E,
-    // The holder of its tree.
+    // The holder of the tree of the expression.
     holder: Holder,
-    // What the function is applied to whose expression it is.
+    // The argument of the function whose expression this is.
     arg: Option<&'a Quantity>,
 }
 
 impl<'a, E: Env> Scope<'a, E> {
-    // Puts what a tree is worth whose first word stands at the place, which moves behind its last word.
+    // Stores the value of a tree whose first word is at `place`, and moves `place` past its last word.
     #[cycle(eval)]
     #[inline(never)]
     fn worth(&self, tree: &Tree, place: &mut usize, held: &mut Held<'a>) -> Result<(), EvalFault>
@@ -124,7 +124,7 @@ impl<'a, E: Env> Scope<'a, E> {
         }
     }
 
-    // The root of a tree.
+    // Stores the root of a tree.
     #[cycle(eval)]
     #[inline(never)]
     fn root(
@@ -144,7 +144,7 @@ impl<'a, E: Env> Scope<'a, E> {
         take_root(self.alloc, kind, held)
     }
 
-    // A tree with the other sign.
+    // Stores a tree with the opposite sign.
     #[cycle(eval)]
     #[inline(never)]
     fn negated(
@@ -162,7 +162,7 @@ impl<'a, E: Env> Scope<'a, E> {
         held.negate(self.alloc)
     }
 
-    // A power.
+    // Stores a power.
     #[cycle(eval)]
     #[inline(never)]
     fn power(
@@ -186,7 +186,7 @@ impl<'a, E: Env> Scope<'a, E> {
         take_power(self.alloc, held, exponent_held.get())
     }
 
-    // Puts what the word at the place is worth alone.
+    // Stores the value of the single word at `place`.
     #[inline(never)]
     fn word(&self, place: &mut usize, held: &mut Held<'a>) -> Result<(), EvalFault>
         requires { place.old < length (E.words self.now.env.now self.now.holder) }
@@ -198,7 +198,7 @@ impl<'a, E: Env> Scope<'a, E> {
         put_word(self.alloc, self.env, self.next_meaning(place), held)
     }
 
-    // A running value with the word at the place alone as one more member.
+    // Combines the running value with the single word at `place`.
     #[inline(never)]
     fn with_word(&self, step: Step, place: &mut usize, held: &mut Held<'a>) -> Result<(), EvalFault>
         requires { place.old < length (E.words self.now.env.now self.now.holder) }
@@ -210,7 +210,7 @@ impl<'a, E: Env> Scope<'a, E> {
         take_word(self.alloc, self.env, held, step, self.next_meaning(place))
     }
 
-    // What the environment tells of the word at the place, which moves behind it.
+    // Returns the meaning of the word at `place`, and moves `place` past it.
     #[inline(never)]
     fn next_meaning(&self, place: &mut usize) -> Meaning<'a>
         requires { place.old < length (E.words self.now.env.now self.now.holder) }
@@ -223,7 +223,7 @@ impl<'a, E: Env> Scope<'a, E> {
         meaning
     }
 
-    // A word before its operand, or behind a `~` and before its operand.
+    // Evaluates a word and the operand after it, with or without a `~` before the word.
     #[cycle(eval)]
     #[inline(never)]
     fn operated(
@@ -253,7 +253,7 @@ impl<'a, E: Env> Scope<'a, E> {
         Step::Multiply.take_lent(self.alloc, held, behind.get())
     }
 
-    // Operands side by side.
+    // Evaluates operands side by side.
     #[cycle(eval)]
     #[inline(never)]
     fn juxtaposed(
@@ -277,7 +277,7 @@ impl<'a, E: Env> Scope<'a, E> {
         }
     }
 
-    // The members of a chain together.
+    // Evaluates the members of a chain.
     #[cycle(eval)]
     #[inline(never)]
     fn chain(
@@ -302,7 +302,7 @@ impl<'a, E: Env> Scope<'a, E> {
         Ok(())
     }
 
-    // A running value with one more member.
+    // Combines the running value with one more member.
     #[cycle(eval)]
     fn with_member(
         &self,
@@ -324,7 +324,7 @@ impl<'a, E: Env> Scope<'a, E> {
         }
     }
 
-    // The same by what the member is worth.
+    // Combines the running value with one more member, which is evaluated into a slot of its own.
     #[cycle(eval)]
     #[inline(never)]
     fn with_worth(
@@ -345,7 +345,7 @@ impl<'a, E: Env> Scope<'a, E> {
     }
 }
 
-// Puts what the argument is worth: where none is given, 1.
+// Stores the argument, or 1 if none is given.
 #[inline(never)]
 fn put_argument<'a>(alloc: Global, arg: Option<&'a Quantity>, held: &mut Held<'a>)
     ensures { amount_in held.new ≡ spec.argument (option_copied arg.entry) }
@@ -356,7 +356,7 @@ fn put_argument<'a>(alloc: Global, arg: Option<&'a Quantity>, held: &mut Held<'a
     };
 }
 
-// Puts what a function is worth, taken in this direction, at what is held.
+// Replaces the held quantity by the value of a function there, in the given direction.
 #[cycle(eval)]
 #[inline(never)]
 fn put_taken<E: Env>(

@@ -1,4 +1,4 @@
-//! How a running value takes one more member.
+//! The steps that combine a running value with one more member.
 
 ghost use Rattle.std.specs.Prelude.{◌≡◌};
 ghost use Rattle.quantity.specs.Answers.{IsAnswer};
@@ -16,21 +16,21 @@ use frac128::{Frac, Numeral};
 use quantity::{Quantity, QuantityFault};
 use std::alloc::Global;
 
-/// How a running value takes one more member.
+/// How a running value is combined with one more member.
 #[derive(Clone, Copy)]
 pub enum Step {
-    /// Times the member.
+    /// Multiplies by the member.
     Multiply,
-    /// Over the member.
+    /// Divides by the member.
     Divide,
-    /// Plus the member.
+    /// Adds the member.
     Add,
-    /// Minus the member.
+    /// Subtracts the member.
     Subtract,
 }
 
 impl Step {
-    // The step to a member of a product.
+    // The step for a member of a product.
     pub(crate) fn of_scale(scale: Scale) -> Step
         ensures { result ≡ scaling scale }
     {
@@ -40,7 +40,7 @@ impl Step {
         }
     }
 
-    // The step to a member of a sum.
+    // The step for a member of a sum.
     pub(crate) fn of_sign(sign: Sign) -> Step
         ensures { result ≡ signing sign }
     {
@@ -50,7 +50,7 @@ impl Step {
         }
     }
 
-    // The running value with one more member. The result takes its names over.
+    // Returns the running value combined with one more member. The result reuses the names of the running value.
     pub(crate) fn join(
         self,
         alloc: Global,
@@ -63,7 +63,7 @@ impl Step {
         amount_answer(alloc, self.join_owned(alloc, left, right))
     }
 
-    // The running value with one more member, in its place.
+    // Combines the running value with one more member in place.
     #[inline(never)]
     pub(crate) fn take_lent(
         self,
@@ -79,7 +79,8 @@ impl Step {
         Ok(())
     }
 
-    // The same. It takes the names of a factor of its own over where it can.
+    // Combines the running value with one more member in place. The result reuses the names of an owned factor if it
+    // can.
     #[inline(never)]
     pub(crate) fn take_held(
         self,
@@ -95,7 +96,7 @@ impl Step {
         Ok(())
     }
 
-    // The running value with a numeral as one more member, in its place.
+    // Combines the running value with a numeral in place.
     #[inline(never)]
     pub(crate) fn take_numeral(
         self,
@@ -112,7 +113,8 @@ impl Step {
         Ok(())
     }
 
-    // The running value with one more member. The result takes the names of a factor of its own over where it can.
+    // Returns the running value combined with one more member. The result reuses the names of an owned factor if it
+    // can.
     pub(crate) fn join_held(
         self,
         alloc: Global,
@@ -125,7 +127,7 @@ impl Step {
         amount_answer(alloc, self.join_all(alloc, left, right))
     }
 
-    // The running value with a number as one more member.
+    // Returns the running value combined with a number.
     fn join_number(self, alloc: Global, left: Held<'_>, right: &Frac) -> Result<Quantity, EvalFault>
         ensures { Answers result (spec.step_worth self (amount_in left.entry) (spec.plain_number right.now)) }
     {

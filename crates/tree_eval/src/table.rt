@@ -10,7 +10,7 @@ use piecewise::TableFault;
 use quantity::Quantity;
 use std::alloc::Global;
 
-// What a table gives, as a number.
+// Converts the result of a table lookup into a number.
 pub(crate) fn looked_up(
     alloc: Global,
     name: &[u8],

@@ -1,4 +1,4 @@
-//! Words, by what the environment tells of them.
+//! Evaluation of words by their meanings in the environment.
 
 ghost use Rattle.std.specs.Prelude.{◌≢◌};
 ghost use Rattle.tree_eval.specs.Answers as answer;
@@ -16,7 +16,7 @@ use crate::step::Step;
 use quantity::Quantity;
 use std::alloc::Global;
 
-// What a word alone is worth: a name, a prefix times a unit, or the fault of a function that has no
+// Returns the value of a single word: the value of a name, a prefix times a unit, or the fault of a function without an
 // argument.
 fn word_worth<'a, E: Env>(
     alloc: Global,
@@ -33,7 +33,7 @@ fn word_worth<'a, E: Env>(
     }
 }
 
-// Puts what a word alone is worth.
+// Stores the value of a single word.
 #[inline(never)]
 pub(crate) fn put_word<'a, E: Env>(
     alloc: Global,
@@ -49,7 +49,7 @@ pub(crate) fn put_word<'a, E: Env>(
     Ok(())
 }
 
-// A running value with a word alone as one more member, in its place.
+// Combines the running value with a single word in place.
 #[inline(never)]
 pub(crate) fn take_word<'a, E: Env>(
     alloc: Global,
@@ -67,7 +67,7 @@ pub(crate) fn take_word<'a, E: Env>(
     Ok(())
 }
 
-// A running value with a word alone as one more member. The value of a name is taken as it is lent.
+// Returns the running value combined with a single word. The value of a name is used without a copy.
 pub(crate) fn join_word<'a, E: Env>(
     alloc: Global,
     env: &'a E,
@@ -85,7 +85,7 @@ pub(crate) fn join_word<'a, E: Env>(
     }
 }
 
-// A prefix times a unit.
+// Returns a prefix times a unit.
 fn both(alloc: Global, prefix: &Outcome, unit: &Outcome) -> Result<Quantity, EvalFault>
     requires prefix { prefix.now ≢ Outcome.Callable }
     requires unit { unit.now ≢ Outcome.Callable }

@@ -1,4 +1,4 @@
-//! Edits of the deck, with what they forget.
+//! Edits of the deck, which forget the outcomes that they affect.
 
 ghost use Rattle.std.specs.Prelude.{◌≡◌, Some, Ok, true, IfErr, MatchResult, OnOk, OnErr};
 ghost use Rattle.units_io.specs.FileMap.{FileMap};
@@ -19,8 +19,8 @@ use std::alloc::{AllocError, Global};
 use units_io::{Files, Text};
 
 impl LiveTable {
-    /// Puts a line that defines a key at the end of the deck, as `Deck::define`, and forgets what that
-    /// affects. A refusal, want of memory too, changes nothing.
+    /// Appends a line that defines a key to the deck, as `Deck::define`, and forgets the outcomes that this affects. On
+    /// failure, lack of memory included, nothing changes.
     pub fn define(&mut self, alloc: Global, line: &[u8]) -> Result<(), DeckFault>
         ensures { edit.IsEditOf (deck_edit.after_define (trimmed line.now) self.old.deck) self.old self.new result }
     {
@@ -30,7 +30,7 @@ impl LiveTable {
         }
     }
 
-    /// The same, which answers the place of the last active line of the key before, if there was one.
+    /// Does the same as `define`, and returns the place of the previous last active line of the key, if there was one.
     pub fn define_over(&mut self, alloc: Global, line: &[u8]) -> Result<Option<usize>, DeckFault>
         ensures { edit.IsDefinedOver (deck_edit.after_define (trimmed line.now) self.old.deck) (trimmed line.now)
             self.old self.new result }
@@ -48,8 +48,8 @@ impl LiveTable {
         Ok(covered)
     }
 
-    /// Takes the last line out, which defines a key, as `Deck::undefine`, forgets what that affects, and
-    /// answers the text of the line. The only error is want of memory, which changes nothing.
+    /// Removes the last line, which defines a key, as `Deck::undefine`, forgets the outcomes that this affects, and
+    /// returns the text of the line. The only error is lack of memory, which changes nothing.
     pub fn undefine(&mut self, alloc: Global, uncovered: Option<usize>) -> Result<Text, AllocError>
         requires { CanUndefine uncovered self.old.deck }
         ensures { edit.IsUndefined self.old self.new result }
@@ -67,8 +67,8 @@ impl LiveTable {
         Ok(text)
     }
 
-    /// Takes out the last active line of a key, as `Deck::drop_last`, and forgets what that affects. A
-    /// refusal, want of memory too, changes nothing.
+    /// Removes the last active line of a key, as `Deck::drop_last`, and forgets the outcomes that this affects. On
+    /// failure, lack of memory included, nothing changes.
     pub fn drop_last(&mut self, alloc: Global, key: &Key) -> Result<(), DeckFault>
         ensures { edit.IsEditOf (deck_edit.after_drop key.now self.old.deck) self.old self.new result }
     {
@@ -85,8 +85,8 @@ impl LiveTable {
         Ok(())
     }
 
-    /// Puts other settings in force, as `Deck::switch`, and forgets what that affects. The only error is
-    /// want of memory, which changes nothing.
+    /// Puts other settings in force, as `Deck::switch`, and forgets the outcomes that this affects. The only error is
+    /// lack of memory, which changes nothing.
     pub fn switch(&mut self, alloc: Global, settings: Settings) -> Result<(), DeckFault>
         ensures { edit.IsEditOf (Ok (deck_edit.after_switch settings self.old.deck)) self.old self.new result }
     {
@@ -103,8 +103,8 @@ impl LiveTable {
         Ok(())
     }
 
-    /// Puts the deck of a file at the end, as `Deck::append`, and forgets what that affects. A refusal, a
-    /// failed fetch and want of memory too, changes nothing.
+    /// Appends the deck of a file, as `Deck::append`, and forgets the outcomes that this affects. On failure, a failed
+    /// fetch and lack of memory included, nothing changes.
     pub fn append<F: Files>(
         &mut self,
         alloc: Global,
@@ -138,9 +138,8 @@ impl LiveTable {
         Ok(())
     }
 
-    /// Puts other lines in the place of some, as `Deck::splice`, forgets what that affects, and answers the
-    /// splice that gives back what was. The only error is want of memory, which hands the splice back and
-    /// changes nothing.
+    /// Replaces some lines by others, as `Deck::splice`, forgets the outcomes that this affects, and returns the splice
+    /// that undoes the change. The only error is lack of memory, which hands the splice back and changes nothing.
     pub fn splice(&mut self, alloc: Global, change: Splice) -> Result<Splice, (Splice, AllocError)>
         requires { CanSplice change self.old.deck }
         ensures { edit.IsSpliceOf change self.old self.new result }

@@ -1,21 +1,28 @@
-use Rattle.std.proofs.Common.{◌∷◌, Err, ◌∙◌, ap}
+use Rattle.std.proofs.Common.{◌∷◌, [], Ok, Err, Result, refl, ◌∙◌, ap}
 use Rattle.std.proofs.lemmas.Result.{err_from_is_err_and}
 use Rattle.def_entry.specs.Keys.{key as key_named}
 use Rattle.deck.specs.Tables.{table}
+use Rattle.name_walk.specs.declared.step.Step.TheVariants.{To}
 use Rattle.table_names.specs.Faults.{key_fault}
 use Rattle.table_names.specs.Reach.{key_reach}
-use Rattle.live_table.specs.Asked.{IsSettledKey}
+use Rattle.live_table.specs.declared.fault.QueryFault.{QueryFault}
+use Rattle.live_table.specs.declared.fault.QueryFault.TheVariants as fault
+use Rattle.live_table.specs.Asked.{IsAnswered, IsSettledKey}
 use Rattle.live_table.specs.Edged.{IsLive}
 use Rattle.live_table.specs.Exploring.{AreGrown, WereExplored}
+use Rattle.live_table.specs.KnownFaults.{AreFaultsKnown}
 use Rattle.live_table.specs.States.{AsksKey}
 use Rattle.live_table.specs.Stored.{listed, shown}
 use Rattle.live_table.proofs.AskedKeys.{IsNumber, key_explored_fault, key_explored_settled, one_known}
 use Rattle.live_table.proofs.Growing.{none_listed}
 use Rattle.live_table.proofs.GrownLive.{cut_short, grown_live, key_query}
+use Rattle.live_table.proofs.KnownFaults.{added_same, known_grown}
 use Rattle.live_table.proofs.Stages.{AreAllStages, AreStages, Stages, cut_there, live_there, stages_of}
 use Rattle.live_table.proofs.StillExplored.{added_explored}
+use Rattle.live_table.proofs.StopAnswers.{answers_ok, no_memory, passed_on}
 use Rattle.live_table.proofs.asking.ask_key.Goals as goal
-use Rattle.live_table.proofs.asking.ask_key.Goals.{After-explore, After-put_key, In_ok-found}
+use Rattle.live_table.proofs.asking.ask_key.Goals.{After-explore, After-put_key, After-settle_query}
+use Rattle.live_table.proofs.asking.ask_key.Goals.{In_ok-found}
 
 pub put_key-requires-clause-listed : goal.put_key-requires-clause-listed
 put_key-requires-clause-listed g c =
@@ -30,7 +37,7 @@ grown : (g : _) (c : After-put_key g)
     c.args.explored.now.dead_ends.items
 grown g c = (c.put_key.ensures.added c.args.explored.now.dead_ends.items).grown
 
--- what was explored before is so still
+-- explored names stay explored
 still : (g : _) (c : After-put_key g)
     → WereExplored (table c.args.deck.now) (listed c.put_key.new.nodes) c.args.explored.now.names
     c.args.explored.now.dead_ends.items
@@ -39,6 +46,22 @@ still g c =
     c.args.explored.now.names c.clear.new.self c.put_key.new.agenda c.args.explored.now.dead_ends.items
     c.args.explored.now.dead_ends.items c.requires.live.sound.numbers
     (c.put_key.ensures.added c.args.explored.now.dead_ends.items) c.requires.explored
+
+-- the facts known about faults stay right
+known_led : (g : _) (c : After-put_key g)
+    → AreFaultsKnown (listed c.put_key.new.nodes) c.args.explored.now.names c.args.explored.now.findings
+known_led g c =
+    known_grown c.findings_law.ensures (table c.args.deck.now) (listed c.args.nodes.now)
+    (listed c.put_key.new.nodes) c.args.explored.now.names c.clear.new.self c.put_key.new.agenda
+    c.args.explored.now.dead_ends.items c.args.explored.now.dead_ends.items c.args.explored.now.findings
+    c.requires.live.sound.numbers (grown g c)
+    (added_same (table c.args.deck.now) (listed c.args.nodes.now) (listed c.put_key.new.nodes)
+    c.args.explored.now.names c.clear.new.self c.put_key.new.agenda c.args.explored.now.dead_ends.items
+    c.args.explored.now.dead_ends.items (c.put_key.ensures.added c.args.explored.now.dead_ends.items)
+    c.requires.explored) c.requires.faults
+
+pub returns-in_err-n-clause-faults : goal.returns-in_err-n-clause-faults
+returns-in_err-n-clause-faults g c = known_led g (goal.at.returns-in_err-n-clause-faults g c).After-put_key
 
 pub returns-in_err-n-clause-live : goal.returns-in_err-n-clause-live
 returns-in_err-n-clause-live g c =
@@ -55,12 +78,14 @@ returns-in_err-n-clause-asked g c =
     let t = table c.args.deck.now in
     let k = key_named c.args.kind c.args.name.now in
     let p = err_from_is_err_and c.from_residual.result c.from_residual.ensures.1 in
-    cut_short (IsSettledKey (listed c.put_key.new.nodes) k) (AsksKey k) (key_fault t k) (k ∷ key_reach t k)
+    no_memory t (listed c.put_key.new.nodes) c.args.explored.now.dead_ends.items
+    c.args.explored.now.findings.faults _ c.from_residual.result (p.1 ∙ ap Err p.2)
+    (cut_short (IsSettledKey (listed c.put_key.new.nodes) k) (AsksKey k) (key_fault t k) (k ∷ key_reach t k)
     c.args.deck.now (listed c.args.nodes.now) (listed c.put_key.new.nodes) c.args.explored.now.names
     c.clear.new.self c.put_key.new.agenda c.args.explored.now.dead_ends.items c.args.explored.now.dead_ends.items
     c.args.reductions.now c.args.steps.now
     (grown g (goal.at.returns-in_err-n-clause-asked g c).After-put_key) c.requires.live.sound (key_query t k)
-    c.from_residual.result (p.1 ∙ ap Err p.2)
+    (Err fault.OutOfMemory) refl)
 
 pub explore-requires-clause-nodes : goal.explore-requires-clause-nodes
 explore-requires-clause-nodes g c = (grown g (goal.at.explore-requires-clause-nodes g c).After-put_key).nodes
@@ -71,13 +96,13 @@ explore-requires-clause-listed g c = (grown g (goal.at.explore-requires-clause-l
 pub explore-requires-clause-before : goal.explore-requires-clause-before
 explore-requires-clause-before g c = still g (goal.at.explore-requires-clause-before g c).After-put_key
 
--- ---- what is below it was explored
+-- ---- the names below the key were explored
 abbrev stages : (g : _) → After-explore g → Stages
 stages g c =
     stages_of c.args.deck.now c.args.reductions.now c.args.explored.now c.args.nodes.now c.put_key.new.nodes
     c.explore.new.nodes c.clear.new.self c.put_key.new.agenda c.explore.new.agenda c.explore.new.dead_ends.items
 
--- each stage adds to the one before
+-- each stage adds to the one before it
 are_stages : (g : _) (c : After-explore g) → AreStages (stages g c)
 are_stages g c = record {
   sound = c.requires.live.sound;
@@ -90,6 +115,22 @@ live : (g : _) (c : After-explore g)
     → IsLive c.args.deck.now (listed c.explore.new.nodes) c.args.edges.now c.args.reductions.now
 live g c = live_there (stages g c) (are_stages g c) c.args.edges.now c.requires.live
 
+-- the facts known about faults are still right
+known_there : (g : _) (c : After-explore g)
+    → AreFaultsKnown (listed c.put_key.new.nodes) c.args.explored.now.names c.args.explored.now.findings
+    → AreFaultsKnown (listed c.explore.new.nodes) c.args.explored.now.names c.args.explored.now.findings
+known_there g c led =
+    known_grown c.findings_law.ensures (table c.args.deck.now) (listed c.put_key.new.nodes)
+    (listed c.explore.new.nodes) c.args.explored.now.names c.put_key.new.agenda c.explore.new.agenda
+    c.args.explored.now.dead_ends.items c.explore.new.dead_ends.items c.args.explored.now.findings
+    (c.put_key.ensures.added c.args.explored.now.dead_ends.items).grown.nodes c.explore.ensures.grown
+    c.explore.ensures.stay led
+
+pub returns-in_err-found-clause-faults : goal.returns-in_err-found-clause-faults
+returns-in_err-found-clause-faults g c =
+    let at = goal.at.returns-in_err-found-clause-faults g c in
+    known_there g at.After-explore (known_led g at.After-put_key)
+
 pub returns-in_err-found-clause-live : goal.returns-in_err-found-clause-live
 returns-in_err-found-clause-live g c = live g (goal.at.returns-in_err-found-clause-live g c).After-explore
 
@@ -99,11 +140,12 @@ returns-in_err-found-clause-asked g c =
     let k = key_named c.args.kind c.args.name.now in
     let now = (goal.at.returns-in_err-found-clause-asked g c).After-explore in
     let p = err_from_is_err_and c.from_residual-in_err-found.result c.from_residual-in_err-found.ensures.1 in
-    cut_there (stages g now) (are_stages g now) (IsSettledKey (listed c.explore.new.nodes) k) (AsksKey k)
-    (key_fault t k) (k ∷ key_reach t k) c.args.steps.now (key_query t k) c.from_residual-in_err-found.result
-    (p.1 ∙ ap Err p.2)
+    no_memory t (listed c.explore.new.nodes) c.explore.new.dead_ends.items c.args.explored.now.findings.faults _
+    c.from_residual-in_err-found.result (p.1 ∙ ap Err p.2)
+    (cut_there (stages g now) (are_stages g now) (IsSettledKey (listed c.explore.new.nodes) k) (AsksKey k)
+    (key_fault t k) (k ∷ key_reach t k) c.args.steps.now (key_query t k) (Err fault.OutOfMemory) refl)
 
--- all of it
+-- all names below the key were explored
 abbrev all_stages : (g : _) → In_ok-found g → Stages
 all_stages g c =
     stages_of c.args.deck.now c.args.reductions.now c.args.explored.now c.args.nodes.now c.put_key.new.nodes
@@ -136,29 +178,51 @@ settle_query-requires-clause-known g c =
     (key_named c.args.kind c.args.name.now)
     c.in_ok-n.n (number g at.In_ok-found)
 
+pub settle_query-requires-clause-faults : goal.settle_query-requires-clause-faults
+settle_query-requires-clause-faults g c =
+    let at = goal.at.settle_query-requires-clause-faults g c in
+    known_there g at.After-explore (known_led g at.After-put_key)
+
+-- the result of the query of the number
+abbrev of_number : (g : _) (c : After-settle_query g) → Result (Unit {0}) QueryFault → Type 0
+of_number g c answer =
+    IsAnswered (table c.args.deck.now) (listed c.explore.new.nodes) c.explore.new.dead_ends.items
+    (To c.in_ok-n.n ∷ []) answer (shown c.args.deck.now (listed c.explore.new.nodes) c.args.reductions.now)
+    (shown c.args.deck.now (listed c.settle_query.new.nodes) c.settle_query.new.reductions) c.args.steps.now
+    c.settle_query.new.steps
+
 pub returns-in_err-settle_query-clause-asked : goal.returns-in_err-settle_query-clause-asked
 returns-in_err-settle_query-clause-asked g c =
     let k = key_named c.args.kind c.args.name.now in
     let at = goal.at.returns-in_err-settle_query-clause-asked g c in
     let p = err_from_is_err_and c.from_residual-in_err-settle_query.result
     c.from_residual-in_err-settle_query.ensures.1 in
-    key_explored_fault (all_stages g at.In_ok-found) (are_all g at.In_ok-found) k c.in_ok-n.n
+    passed_on (table c.args.deck.now) (listed c.settle_query.new.nodes)
+    c.settle_query.new.explored.dead_ends.items c.settle_query.new.explored.findings.faults _
+    (of_number g at.After-settle_query) c.in_err-settle_query.field-0.0 c.in_err-settle_query.ensures.answered
+    (λ q answered. key_explored_fault (all_stages g at.In_ok-found) (are_all g at.In_ok-found) k c.in_ok-n.n
     (number g at.In_ok-found) (IsSettledKey (listed c.settle_query.new.nodes) k)
     (shown c.args.deck.now (listed c.settle_query.new.nodes) c.settle_query.new.reductions) c.args.steps.now
-    c.settle_query.new.steps c.settle_query.ensures.live.sound.right c.in_err-settle_query.field-0.0
-    c.in_err-settle_query.ensures.answered c.from_residual-in_err-settle_query.result (p.1 ∙ ap Err p.2)
+    c.settle_query.new.steps c.settle_query.ensures.live.sound.right q answered (Err q) refl)
+    c.from_residual-in_err-settle_query.result (p.1 ∙ ap Err p.2)
 
 pub returns-clause-asked : goal.returns-clause-asked
 returns-clause-asked g c =
     let at = goal.at.returns-clause-asked g c in
-    let a = c.in_ok-settle_query.ensures.answered in
-    key_explored_settled (all_stages g at.In_ok-found) (are_all g at.In_ok-found)
-    (key_named c.args.kind c.args.name.now) c.in_ok-n.n (number g at.In_ok-found)
-    (listed c.settle_query.new.nodes) c.settle_query.new.reductions c.args.steps.now c.settle_query.new.steps
-    (record {
-      sound = c.settle_query.ensures.live.sound;
-      keys = c.in_ok-settle_query.ensures.keys;
-      order = a.0;
-      closing = a.1;
-      all = a.2;
-    })
+    let a = answers_ok (table c.args.deck.now) (listed c.settle_query.new.nodes)
+    c.settle_query.new.explored.dead_ends.items c.settle_query.new.explored.findings.faults
+    (of_number g at.After-settle_query) tt c.in_ok-settle_query.ensures.answered in
+    record {
+      answer = Ok c.in_ok-n.n;
+      named = refl;
+      holds = key_explored_settled (all_stages g at.In_ok-found) (are_all g at.In_ok-found)
+          (key_named c.args.kind c.args.name.now) c.in_ok-n.n (number g at.In_ok-found)
+          (listed c.settle_query.new.nodes) c.settle_query.new.reductions c.args.steps.now c.settle_query.new.steps
+          (record {
+            sound = c.settle_query.ensures.live.sound;
+            keys = c.in_ok-settle_query.ensures.keys;
+            order = a.0;
+            closing = a.1;
+            all = a.2;
+          });
+    }

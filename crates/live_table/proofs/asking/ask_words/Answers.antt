@@ -1,5 +1,5 @@
 use Rattle.smallvec.specs.SmallVec.{SmallVec}
-use Rattle.std.proofs.Common.{◌≡◌, [], List, Some, Err, refl, sym, ◌∙◌, ap, subst}
+use Rattle.std.proofs.Common.{◌≡◌, [], List, Some, Ok, Err, Result, refl, sym, ◌∙◌, ap, subst}
 use Rattle.std.proofs.lemmas.Result.{err_from_is_err_and}
 use Rattle.expr_tree.specs.declared.word_list.WordUse.{WordUse}
 use Rattle.name_walk.specs.declared.step.Step.{Step}
@@ -7,18 +7,25 @@ use Rattle.deck.specs.Tables.{table}
 use Rattle.table_names.specs.Faults.{name_fault}
 use Rattle.table_names.specs.Reach.{reach}
 use Rattle.name_numbers.specs.Numbered.{LeadToKnown}
+use Rattle.live_table.specs.declared.dead_end.DeadEnd.{DeadEnd}
+use Rattle.live_table.specs.declared.fault.QueryFault.{QueryFault}
+use Rattle.live_table.specs.declared.fault.QueryFault.TheVariants as fault
 use Rattle.live_table.specs.Asked.{IsAnswered, IsClosing, fault_in}
 use Rattle.live_table.specs.Edged.{IsLive}
 use Rattle.live_table.specs.Exploring.{AreGrown, AreWritten, WereExplored, is_known}
+use Rattle.live_table.specs.KnownFaults.{AreFaultsKnown}
 use Rattle.live_table.specs.QueryWords.{AreCutAt, AreQuerySteps, fault_before}
 use Rattle.live_table.specs.States.{AsksWords}
+use Rattle.live_table.specs.Stops.{IsNamed}
 use Rattle.live_table.specs.Stored.{listed, shown}
 use Rattle.live_table.specs.Surrounded.{AreSettledWords}
 use Rattle.live_table.proofs.AskedFor.{all_known, explored_cut, explored_fault, explored_settled}
 use Rattle.live_table.proofs.Growing.{none_listed}
 use Rattle.live_table.proofs.GrownLive.{cut_short, grown_live, words_query}
+use Rattle.live_table.proofs.KnownFaults.{added_same, known_grown}
 use Rattle.live_table.proofs.Stages.{AreAllStages, AreStages, Stages, cut_there, live_there, stages_of}
 use Rattle.live_table.proofs.StillExplored.{added_explored}
+use Rattle.live_table.proofs.StopAnswers.{answers_ok, no_memory, passed_on}
 use Rattle.live_table.proofs.asking.ask_words.Goals as goal
 use Rattle.live_table.proofs.asking.ask_words.Goals.{After-explore, After-query_steps, In-Some, In_default}
 use Rattle.live_table.proofs.asking.ask_words.Goals.{In_ok-found}
@@ -28,7 +35,7 @@ query_steps-requires-clause-listed g c =
     none_listed (table c.args.deck.now) (listed c.args.nodes.now) c.args.explored.now.names c.clear.new.self
     c.requires.explored.within c.clear.ensures
 
--- ---- what the words lead to has numbers
+-- ---- the targets of the words have numbers
 -- names are added
 grown : (g : _) (c : After-query_steps g)
     → AreGrown (table c.args.deck.now) (listed c.args.nodes.now) (listed c.query_steps.new.nodes)
@@ -36,7 +43,7 @@ grown : (g : _) (c : After-query_steps g)
     c.args.explored.now.dead_ends.items
 grown g c = (c.query_steps.ensures.added c.args.explored.now.dead_ends.items).grown
 
--- what was explored before is so still
+-- explored names stay explored
 still : (g : _) (c : After-query_steps g)
     → WereExplored (table c.args.deck.now) (listed c.query_steps.new.nodes) c.args.explored.now.names
     c.args.explored.now.dead_ends.items
@@ -45,6 +52,23 @@ still g c =
     c.args.explored.now.names c.clear.new.self c.query_steps.new.agenda c.args.explored.now.dead_ends.items
     c.args.explored.now.dead_ends.items c.requires.live.sound.numbers
     (c.query_steps.ensures.added c.args.explored.now.dead_ends.items) c.requires.explored
+
+-- the facts known about faults stay right
+known_led : (g : _) (c : After-query_steps g)
+    → AreFaultsKnown (listed c.query_steps.new.nodes) c.args.explored.now.names c.args.explored.now.findings
+known_led g c =
+    known_grown c.findings_law.ensures (table c.args.deck.now) (listed c.args.nodes.now)
+    (listed c.query_steps.new.nodes) c.args.explored.now.names c.clear.new.self c.query_steps.new.agenda
+    c.args.explored.now.dead_ends.items c.args.explored.now.dead_ends.items c.args.explored.now.findings
+    c.requires.live.sound.numbers (grown g c)
+    (added_same (table c.args.deck.now) (listed c.args.nodes.now) (listed c.query_steps.new.nodes)
+    c.args.explored.now.names c.clear.new.self c.query_steps.new.agenda c.args.explored.now.dead_ends.items
+    c.args.explored.now.dead_ends.items (c.query_steps.ensures.added c.args.explored.now.dead_ends.items)
+    c.requires.explored) c.requires.faults
+
+pub returns-in_err-query-clause-faults : goal.returns-in_err-query-clause-faults
+returns-in_err-query-clause-faults g c =
+    known_led g (goal.at.returns-in_err-query-clause-faults g c).After-query_steps
 
 pub returns-in_err-query-clause-live : goal.returns-in_err-query-clause-live
 returns-in_err-query-clause-live g c =
@@ -61,13 +85,15 @@ pub returns-in_err-query-clause-asked : goal.returns-in_err-query-clause-asked
 returns-in_err-query-clause-asked g c =
     let t = table c.args.deck.now in
     let p = err_from_is_err_and c.from_residual.result c.from_residual.ensures.1 in
-    cut_short (λ (query : SmallVec Step). AreSettledWords t (listed c.query_steps.new.nodes) c.args.words.now
+    no_memory t (listed c.query_steps.new.nodes) c.args.explored.now.dead_ends.items
+    c.args.explored.now.findings.faults _ c.from_residual.result (p.1 ∙ ap Err p.2)
+    (cut_short (λ (query : SmallVec Step). AreSettledWords t (listed c.query_steps.new.nodes) c.args.words.now
     query.items) (AsksWords c.args.words.now) (name_fault t c.args.words.now) (reach t c.args.words.now)
     c.args.deck.now (listed c.args.nodes.now) (listed c.query_steps.new.nodes) c.args.explored.now.names
     c.clear.new.self c.query_steps.new.agenda c.args.explored.now.dead_ends.items
     c.args.explored.now.dead_ends.items c.args.reductions.now c.args.steps.now
     (grown g (goal.at.returns-in_err-query-clause-asked g c).After-query_steps) c.requires.live.sound
-    (words_query t c.args.words.now) c.from_residual.result (p.1 ∙ ap Err p.2)
+    (words_query t c.args.words.now) (Err fault.OutOfMemory) refl)
 
 pub explore-requires-clause-nodes : goal.explore-requires-clause-nodes
 explore-requires-clause-nodes g c = (grown g (goal.at.explore-requires-clause-nodes g c).After-query_steps).nodes
@@ -78,13 +104,13 @@ explore-requires-clause-listed g c = (grown g (goal.at.explore-requires-clause-l
 pub explore-requires-clause-before : goal.explore-requires-clause-before
 explore-requires-clause-before g c = still g (goal.at.explore-requires-clause-before g c).After-query_steps
 
--- ---- what is below that was explored
+-- ---- the names below the targets were explored
 abbrev stages : (g : _) → After-explore g → Stages
 stages g c =
     stages_of c.args.deck.now c.args.reductions.now c.args.explored.now c.args.nodes.now c.query_steps.new.nodes
     c.explore.new.nodes c.clear.new.self c.query_steps.new.agenda c.explore.new.agenda c.explore.new.dead_ends.items
 
--- each stage adds to the one before
+-- each stage adds to the one before it
 are_stages : (g : _) (c : After-explore g) → AreStages (stages g c)
 are_stages g c = record {
   sound = c.requires.live.sound;
@@ -97,6 +123,22 @@ live : (g : _) (c : After-explore g)
     → IsLive c.args.deck.now (listed c.explore.new.nodes) c.args.edges.now c.args.reductions.now
 live g c = live_there (stages g c) (are_stages g c) c.args.edges.now c.requires.live
 
+-- the facts known about faults are still right
+known_there : (g : _) (c : After-explore g)
+    → AreFaultsKnown (listed c.query_steps.new.nodes) c.args.explored.now.names c.args.explored.now.findings
+    → AreFaultsKnown (listed c.explore.new.nodes) c.args.explored.now.names c.args.explored.now.findings
+known_there g c led =
+    known_grown c.findings_law.ensures (table c.args.deck.now) (listed c.query_steps.new.nodes)
+    (listed c.explore.new.nodes) c.args.explored.now.names c.query_steps.new.agenda c.explore.new.agenda
+    c.args.explored.now.dead_ends.items c.explore.new.dead_ends.items c.args.explored.now.findings
+    (c.query_steps.ensures.added c.args.explored.now.dead_ends.items).grown.nodes c.explore.ensures.grown
+    c.explore.ensures.stay led
+
+pub returns-in_err-found-clause-faults : goal.returns-in_err-found-clause-faults
+returns-in_err-found-clause-faults g c =
+    let at = goal.at.returns-in_err-found-clause-faults g c in
+    known_there g at.After-explore (known_led g at.After-query_steps)
+
 pub returns-in_err-found-clause-live : goal.returns-in_err-found-clause-live
 returns-in_err-found-clause-live g c = live g (goal.at.returns-in_err-found-clause-live g c).After-explore
 
@@ -105,12 +147,14 @@ returns-in_err-found-clause-asked g c =
     let t = table c.args.deck.now in
     let now = (goal.at.returns-in_err-found-clause-asked g c).After-explore in
     let p = err_from_is_err_and c.from_residual-in_err-found.result c.from_residual-in_err-found.ensures.1 in
-    cut_there (stages g now) (are_stages g now)
+    no_memory t (listed c.explore.new.nodes) c.explore.new.dead_ends.items c.args.explored.now.findings.faults _
+    c.from_residual-in_err-found.result (p.1 ∙ ap Err p.2)
+    (cut_there (stages g now) (are_stages g now)
     (λ (query : SmallVec Step). AreSettledWords t (listed c.explore.new.nodes) c.args.words.now query.items)
     (AsksWords c.args.words.now) (name_fault t c.args.words.now) (reach t c.args.words.now) c.args.steps.now
-    (words_query t c.args.words.now) c.from_residual-in_err-found.result (p.1 ∙ ap Err p.2)
+    (words_query t c.args.words.now) (Err fault.OutOfMemory) refl)
 
--- all of it
+-- all names below the targets were explored
 abbrev all_stages : (g : _) → In_ok-found g → Stages
 all_stages g c =
     stages_of c.args.deck.now c.args.reductions.now c.args.explored.now c.args.nodes.now c.query_steps.new.nodes
@@ -128,7 +172,7 @@ are_all g c = record {
   settles = c.settling_law.ensures;
 }
 
--- words that were written lead to what is known there
+-- words that were written lead to known names
 known : (g : _) (c : After-explore g) (us : List WordUse) (xs targets : List Step) → targets ≡ xs
     → AreWritten (table c.args.deck.now) (listed c.query_steps.new.nodes) c.args.explored.now.names
     c.query_steps.new.agenda [] us xs
@@ -145,24 +189,31 @@ cut g c =
     subst (AreQuerySteps (table c.args.deck.now) (listed c.query_steps.new.nodes) c.args.explored.now.names
     c.query_steps.new.agenda c.args.words.now c.in_ok-query.query.steps.items) c.in-Some.is c.in_ok-query.ensures.steps
 
-pub cut_fault-requires-clause-known : goal.cut_fault-requires-clause-known
-cut_fault-requires-clause-known g c =
-    let at = goal.at.cut_fault-requires-clause-known g c in
+pub cut_stop-requires-clause-known : goal.cut_stop-requires-clause-known
+cut_stop-requires-clause-known g c =
+    let at = goal.at.cut_stop-requires-clause-known g c in
     known g at.After-explore (cut g at.In-Some).front c.in_ok-query.query.steps.items c.as_slice-targets.result.now
     c.as_slice-targets.ensures (cut g at.In-Some).written
 
-pub returns-in_err-fault-clause-live : goal.returns-in_err-fault-clause-live
-returns-in_err-fault-clause-live g c = live g (goal.at.returns-in_err-fault-clause-live g c).After-explore
+pub cut_stop-requires-clause-faults : goal.cut_stop-requires-clause-faults
+cut_stop-requires-clause-faults g c =
+    let at = goal.at.cut_stop-requires-clause-faults g c in
+    known_there g at.After-explore (known_led g at.After-query_steps)
 
-pub returns-in_err-fault-clause-asked : goal.returns-in_err-fault-clause-asked
-returns-in_err-fault-clause-asked g c =
+pub returns-in_err-stop-clause-live : goal.returns-in_err-stop-clause-live
+returns-in_err-stop-clause-live g c = live g (goal.at.returns-in_err-stop-clause-live g c).After-explore
+
+pub returns-in_err-stop-clause-asked : goal.returns-in_err-stop-clause-asked
+returns-in_err-stop-clause-asked g c =
     let t = table c.args.deck.now in
-    let now = (goal.at.returns-in_err-fault-clause-asked g c).After-explore in
-    let p = err_from_is_err_and c.from_residual-in_err-fault.result c.from_residual-in_err-fault.ensures.1 in
-    cut_there (stages g now) (are_stages g now)
+    let now = (goal.at.returns-in_err-stop-clause-asked g c).After-explore in
+    let p = err_from_is_err_and c.from_residual-in_err-stop.result c.from_residual-in_err-stop.ensures.1 in
+    no_memory t (listed c.explore.new.nodes) c.cut_stop.new.explored.dead_ends.items
+    c.cut_stop.new.explored.findings.faults _ c.from_residual-in_err-stop.result (p.1 ∙ ap Err p.2)
+    (cut_there (stages g now) (are_stages g now)
     (λ (query : SmallVec Step). AreSettledWords t (listed c.explore.new.nodes) c.args.words.now query.items)
     (AsksWords c.args.words.now) (name_fault t c.args.words.now) (reach t c.args.words.now) c.args.steps.now
-    (words_query t c.args.words.now) c.from_residual-in_err-fault.result (p.1 ∙ ap Err p.2)
+    (words_query t c.args.words.now) (Err fault.OutOfMemory) refl)
 
 pub returns-in-Some-clause-live : goal.returns-in-Some-clause-live
 returns-in-Some-clause-live g c = live g (goal.at.returns-in-Some-clause-live g c).After-explore
@@ -171,12 +222,23 @@ pub returns-in-Some-clause-asked : goal.returns-in-Some-clause-asked
 returns-in-Some-clause-asked g c =
     let t = table c.args.deck.now in
     let at = goal.at.returns-in-Some-clause-asked g c in
-    explored_cut (λ (query : SmallVec Step). AreSettledWords t (listed c.explore.new.nodes) c.args.words.now
-    query.items) (all_stages g at.In_ok-found) (are_all g at.In_ok-found) c.args.words.now
-    c.in_ok-query.query.steps.items c.in-Some.end c.args.steps.now (cut g at.In-Some) c.in_ok-fault.fault
-    (subst (λ (ys : List Step). fault_before (fault_in t (listed c.explore.new.nodes) c.explore.new.dead_ends.items ys)
-    c.in-Some.end ≡ Some c.in_ok-fault.fault)
-    c.as_slice-targets.ensures c.in_ok-fault.ensures.fault)
+    let stopped = c.in_ok-stop.ensures.stop in
+    record {
+      answer = Err (fault.Name stopped.name);
+      named = (
+        fault.Name stopped.name,
+        subst (λ (ends : List DeadEnd). IsNamed t (listed c.explore.new.nodes) ends
+            c.cut_stop.new.explored.findings.faults c.in_ok-stop.stop (fault.Name stopped.name))
+            (sym c.cut_stop.ensures.dead_ends) stopped.named,
+        refl,
+      );
+      holds = explored_cut (λ (query : SmallVec Step). AreSettledWords t (listed c.explore.new.nodes) c.args.words.now
+          query.items) (all_stages g at.In_ok-found) (are_all g at.In_ok-found) c.args.words.now
+          c.in_ok-query.query.steps.items c.in-Some.end c.args.steps.now (cut g at.In-Some) stopped.name
+          (subst (λ (ys : List Step). fault_before (fault_in t (listed c.explore.new.nodes)
+          c.explore.new.dead_ends.items ys) c.in-Some.end ≡ Some stopped.name)
+          c.as_slice-targets.ensures stopped.first);
+    }
 
 -- ---- all words lead somewhere
 written : (g : _) (c : In_default g)
@@ -196,6 +258,11 @@ settle_query-requires-clause-known g c =
     known g at.After-explore c.args.words.now c.in_ok-query.query.steps.items c.as_slice-targets.result.now
     c.as_slice-targets.ensures (written g at.In_default)
 
+pub settle_query-requires-clause-faults : goal.settle_query-requires-clause-faults
+settle_query-requires-clause-faults g c =
+    let at = goal.at.settle_query-requires-clause-faults g c in
+    known_there g at.After-explore (known_led g at.After-query_steps)
+
 pub returns-in_err-settle_query-clause-asked : goal.returns-in_err-settle_query-clause-asked
 returns-in_err-settle_query-clause-asked g c =
     let t = table c.args.deck.now in
@@ -203,28 +270,43 @@ returns-in_err-settle_query-clause-asked g c =
     let now = shown c.args.deck.now (listed c.settle_query.new.nodes) c.settle_query.new.reductions in
     let p = err_from_is_err_and c.from_residual-in_err-settle_query.result c.from_residual-in_err-settle_query.ensures.1
     in
-    explored_fault (all_stages g at.In_ok-found) (are_all g at.In_ok-found) c.args.words.now
+    passed_on t (listed c.settle_query.new.nodes) c.settle_query.new.explored.dead_ends.items
+    c.settle_query.new.explored.findings.faults _
+    (λ (r : Result (Unit {0}) QueryFault). IsAnswered t (listed c.explore.new.nodes) c.explore.new.dead_ends.items
+    c.as_slice-targets.result.now r (shown c.args.deck.now (listed c.explore.new.nodes) c.args.reductions.now)
+    now c.args.steps.now c.settle_query.new.steps) c.in_err-settle_query.field-0.0
+    c.in_err-settle_query.ensures.answered
+    (λ q answered. explored_fault (all_stages g at.In_ok-found) (are_all g at.In_ok-found) c.args.words.now
     c.in_ok-query.query.steps.items (written g at.In_default)
     (λ (query : SmallVec Step). AreSettledWords t (listed c.settle_query.new.nodes) c.args.words.now query.items)
-    now c.args.steps.now c.settle_query.new.steps c.settle_query.ensures.live.sound.right
-    c.in_err-settle_query.field-0.0
+    now c.args.steps.now c.settle_query.new.steps c.settle_query.ensures.live.sound.right q
     (subst (λ (ys : List Step). IsAnswered t (listed c.explore.new.nodes) c.explore.new.dead_ends.items ys
-    (Err c.in_err-settle_query.field-0.0) (shown c.args.deck.now (listed c.explore.new.nodes) c.args.reductions.now)
-    now c.args.steps.now c.settle_query.new.steps) c.as_slice-targets.ensures c.in_err-settle_query.ensures.answered)
+    (Err q) (shown c.args.deck.now (listed c.explore.new.nodes) c.args.reductions.now)
+    now c.args.steps.now c.settle_query.new.steps) c.as_slice-targets.ensures answered) (Err q) refl)
     c.from_residual-in_err-settle_query.result (p.1 ∙ ap Err p.2)
 
 pub returns-clause-asked : goal.returns-clause-asked
 returns-clause-asked g c =
+    let t = table c.args.deck.now in
     let at = goal.at.returns-clause-asked g c in
-    let a = c.in_ok-settle_query.ensures.answered in
-    explored_settled (all_stages g at.In_ok-found) (are_all g at.In_ok-found) c.args.words.now
-    c.in_ok-query.query.steps.items (written g at.In_default) (listed c.settle_query.new.nodes)
-    c.settle_query.new.reductions c.args.steps.now c.settle_query.new.steps
-    (record {
-      sound = c.settle_query.ensures.live.sound;
-      keys = c.in_ok-settle_query.ensures.keys;
-      order = a.0;
-      closing = subst (λ (ys : List Step). IsClosing (listed c.explore.new.nodes) ys a.0) c.as_slice-targets.ensures
-          a.1;
-      all = a.2;
-    }) c.in_ok-query.query.steps refl
+    let a = answers_ok t (listed c.settle_query.new.nodes) c.settle_query.new.explored.dead_ends.items
+    c.settle_query.new.explored.findings.faults
+    (λ (r : Result (Unit {0}) QueryFault). IsAnswered t (listed c.explore.new.nodes) c.explore.new.dead_ends.items
+    c.as_slice-targets.result.now r (shown c.args.deck.now (listed c.explore.new.nodes) c.args.reductions.now)
+    (shown c.args.deck.now (listed c.settle_query.new.nodes) c.settle_query.new.reductions) c.args.steps.now
+    c.settle_query.new.steps) tt c.in_ok-settle_query.ensures.answered in
+    record {
+      answer = Ok c.in_ok-query.query.steps;
+      named = refl;
+      holds = explored_settled (all_stages g at.In_ok-found) (are_all g at.In_ok-found) c.args.words.now
+          c.in_ok-query.query.steps.items (written g at.In_default) (listed c.settle_query.new.nodes)
+          c.settle_query.new.reductions c.args.steps.now c.settle_query.new.steps
+          (record {
+            sound = c.settle_query.ensures.live.sound;
+            keys = c.in_ok-settle_query.ensures.keys;
+            order = a.0;
+            closing = subst (λ (ys : List Step). IsClosing (listed c.explore.new.nodes) ys a.0)
+                c.as_slice-targets.ensures a.1;
+            all = a.2;
+          }) c.in_ok-query.query.steps refl;
+    }

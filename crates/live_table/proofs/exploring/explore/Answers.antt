@@ -8,7 +8,7 @@ use Rattle.live_table.specs.Stored.{Listed, key_at, listed}
 use Rattle.live_table.proofs.Finding.{IsFinding, finding_next, finding_start}
 use Rattle.live_table.proofs.Growing.{grown_both}
 use Rattle.live_table.proofs.Reached.{IsExploring, at_end, explored_next, exploring_end, exploring_next}
-use Rattle.live_table.proofs.Reached.{exploring_start}
+use Rattle.live_table.proofs.Reached.{exploring_start, stay_next}
 use Rattle.live_table.proofs.exploring.explore.Goals as goal
 use Rattle.live_table.proofs.exploring.explore.Goals.{After-entry, After-make_room}
 
@@ -20,7 +20,7 @@ loop-n-init c = (
       (sym c.new-found.ensures.items) (finding_start (table c.args.deck.now) c.args.nodes.now.keys c.args.agenda.now),
 )
 
--- where there is more room the exploring stands as before
+-- with more room the state of the exploration is the same
 with_room : (c : After-make_room)
     → IsExploring (table c.args.deck.now) (listed c.args.nodes.now) (listed c.make_room.new.nodes) c.args.explored.now
     c.args.agenda.now c.loop-n.agenda c.args.dead_ends.now.items c.loop-n.dead_ends.items c.loop-n.place
@@ -29,7 +29,7 @@ with_room c =
     c.args.agenda.now c.loop-n.agenda c.args.dead_ends.now.items c.loop-n.dead_ends.items c.loop-n.place)
     (sym c.make_room.ensures) c.loop-n.invariant.0
 
--- and what was found is so still
+-- the definitions found before are still right
 found_still : (c : After-make_room)
     → IsFinding (table c.args.deck.now) c.make_room.new.nodes.keys c.loop-n.agenda c.loop-n.found.items c.loop-n.place
 found_still c =
@@ -48,7 +48,7 @@ pub returns-in_err-make_room-clause-before : goal.returns-in_err-make_room-claus
 returns-in_err-make_room-clause-before c =
     (with_room (goal.at.returns-in_err-make_room-clause-before c).After-make_room).explored
 
--- ---- its entry
+-- ---- the entry of the name
 pub entry-requires-clause-within : goal.entry-requires-clause-within
 entry-requires-clause-within c =
     let now = (goal.at.entry-requires-clause-within c).After-make_room in
@@ -67,7 +67,7 @@ pub returns-in_err-push-clause-before : goal.returns-in_err-push-clause-before
 returns-in_err-push-clause-before c =
     (with_room (goal.at.returns-in_err-push-clause-before c).After-make_room).explored
 
--- what it says
+-- the definition of the name
 says : (c : After-entry)
     → Says (table c.args.deck.now) (key_at c.make_room.new.nodes.keys c.in-Some.n) (what_view c.entry.result.what.now)
 says c = (entry_view c.entry.result, c.entry.ensures, refl)
@@ -121,7 +121,7 @@ loop-n-preserved c =
           c.explore_name.ensures.grown),
     )
 
--- ---- all are
+-- ---- all names are explored
 pub returns-clause-grown : goal.returns-clause-grown
 returns-clause-grown c = c.loop-n.invariant.0.grown
 
@@ -136,3 +136,22 @@ returns-clause-all c =
 
 pub returns-clause-found : goal.returns-clause-found
 returns-clause-found c = c.loop-n.invariant.1.are
+
+-- ---- explored names have the same steps
+pub returns-in_err-make_room-clause-stay : goal.returns-in_err-make_room-clause-stay
+returns-in_err-make_room-clause-stay c =
+    (with_room (goal.at.returns-in_err-make_room-clause-stay c).After-make_room).stay
+
+pub returns-in_err-push-clause-stay : goal.returns-in_err-push-clause-stay
+returns-in_err-push-clause-stay c = (with_room (goal.at.returns-in_err-push-clause-stay c).After-make_room).stay
+
+pub returns-in_err-explore_name-clause-stay : goal.returns-in_err-explore_name-clause-stay
+returns-in_err-explore_name-clause-stay c =
+    let now = (goal.at.returns-in_err-explore_name-clause-stay c).After-make_room in
+    stay_next (table c.args.deck.now) (listed c.args.nodes.now) (listed c.make_room.new.nodes)
+    (listed c.explore_name.new.nodes) c.args.explored.now c.args.agenda.now c.loop-n.agenda c.explore_name.new.agenda
+    c.args.dead_ends.now.items c.loop-n.dead_ends.items c.explore_name.new.dead_ends.items c.loop-n.place c.in-Some.n
+    (at_place now) (with_room now) c.explore_name.ensures.grown c.explore_name.ensures.same
+
+pub returns-clause-stay : goal.returns-clause-stay
+returns-clause-stay c = c.loop-n.invariant.0.stay

@@ -14,7 +14,7 @@ use Rattle.live_table.proofs.Reached.{stepped_grown, stepped_same, stepped_writt
 use Rattle.live_table.proofs.exploring.explore_name.Goals as goal
 use Rattle.live_table.proofs.exploring.explore_name.Goals.{After-put_words, In_ok-steps}
 
--- the name has its number still
+-- the name still has its number
 within : (c : After-put_words) → c.args.n < length c.put_words.new.nodes.keys
 within c =
     let longer : length c.args.nodes.now.keys ≤ length c.put_words.new.nodes.keys =
@@ -43,7 +43,7 @@ index_mut-requires-3 c =
     let inside = within (goal.at.index_mut-requires-3 c).After-put_words in
     omega arith
 
--- the words are those of its key
+-- the words are those of the key of the name
 words : (c : In_ok-steps)
     → AreKeyWords (table c.args.deck.now) (key_at c.args.nodes.now.keys c.args.n)
     c.write_entry_words.new.words c.in_ok-starts.starts
@@ -51,7 +51,7 @@ words c =
     said_words (table c.args.deck.now) (key_at c.args.nodes.now.keys c.args.n) (what_view c.args.what.now)
     c.write_entry_words.new.words c.in_ok-starts.starts c.requires.what c.in_ok-starts.ensures
 
--- so are the steps
+-- the steps are those of the words
 written : (c : In_ok-steps)
     → AreWritten (table c.args.deck.now) (listed c.put_words.new.nodes) c.args.explored.now c.put_words.new.agenda
     c.put_words.new.dead_ends.items (key_words (table c.args.deck.now) (key_at c.args.nodes.now.keys c.args.n))

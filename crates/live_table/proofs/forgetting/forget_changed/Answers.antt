@@ -4,12 +4,13 @@ use Rattle.deck.specs.Tables.{table}
 use Rattle.live_table.specs.Forgotten.{AreForgotten}
 use Rattle.live_table.specs.Stored.{listed}
 use Rattle.live_table.proofs.AfterForgetting.{is_edit, live_after}
+use Rattle.live_table.proofs.KnownFaults.{known_nothing}
 use Rattle.live_table.proofs.StillExplored.{none_explored}
 use Rattle.live_table.proofs.WaitingNames.{linked_of, none_waits}
 use Rattle.live_table.proofs.forgetting.forget_changed.Goals as goal
 use Rattle.live_table.proofs.forgetting.forget_changed.Goals.{After-forget}
 
--- what a change of the keys that were handed on affects is forgotten
+-- the names that a change of the given keys affects are forgotten
 forgotten : (c : After-forget)
     → AreForgotten (table c.args.deck.now) c.args.keys.now (listed c.args.nodes.now) (listed c.forget.new.nodes)
     c.args.edges.now.made c.forget.new.edges
@@ -37,3 +38,8 @@ pub returns-clause-explored : goal.returns-clause-explored
 returns-clause-explored c =
     none_explored (table c.args.deck.now) (listed c.forget.new.nodes) c.forget.new.explored.names
     c.forget.new.explored.dead_ends.items c.forget.ensures.names
+
+pub returns-clause-faults : goal.returns-clause-faults
+returns-clause-faults c =
+    known_nothing c.findings_law.ensures (listed c.forget.new.nodes) c.forget.new.explored.names
+    c.forget.new.explored.findings c.forget.ensures.findings

@@ -32,10 +32,10 @@ note-requires c =
     let e = c.requires.flags in
     omega (arith, h, e)
 
--- the key stands in the deck exactly where it has an entry
+-- the key is found in the deck exactly if it has an entry
 flag : (c : After-note) → is_some c.find.result ≡ is_present (table c.args.deck.now) c.args.key.now
 flag c =
-    c.find.ensures
+    c.find.ensures.present
     ∙ (ap (λ (w : List ℕ). is_among (keys_of (table c.args.deck.now)) (key_named c.args.key.now.kind w))
     c.as_bytes-2.ensures
     ∙ sym (is_some-lookup (is_same c.args.key.now) (table c.args.deck.now)))

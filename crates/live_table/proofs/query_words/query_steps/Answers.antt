@@ -12,7 +12,7 @@ use Rattle.live_table.proofs.QuerySteps.{IsTurn, stepped_added, stepping_cut, st
 use Rattle.live_table.proofs.query_words.query_steps.Goals as goal
 use Rattle.live_table.proofs.query_words.query_steps.Goals.{After-query_lead, After-target_steps}
 
--- what the lead of a word adds to the names of this turn
+-- the lead of a word adds these names in this turn
 led : (c : After-query_lead) (ends : List DeadEnd)
     → AreAdded (table c.args.deck.now) (listed c.loop-u.nodes) (listed c.query_lead.new.nodes) c.args.explored.now
     c.loop-u.agenda c.loop-u.agenda ends ends
@@ -58,7 +58,7 @@ turn c = record {
       c.in_ok-lead.ensures.lead);
 }
 
--- the names that it adds
+-- the names that the turn adds
 added : (c : After-target_steps) (ends : List DeadEnd)
     → AreAdded (table c.args.deck.now) (listed c.args.nodes.now) (listed c.query_lead.new.nodes) c.args.explored.now
     c.args.agenda.now c.target_steps.new.agenda ends ends

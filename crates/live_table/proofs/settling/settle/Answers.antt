@@ -4,6 +4,7 @@ use Rattle.def_entry.specs.declared.key.Key.{Key}
 use Rattle.deck.specs.Tables.{table}
 use Rattle.live_table.specs.Found.{AreFound}
 use Rattle.live_table.specs.Stored.{listed}
+use Rattle.live_table.proofs.KnownFaults.{later_both, later_same}
 use Rattle.live_table.proofs.SettleAll.{is_due, standing_next, standing_start}
 use Rattle.live_table.proofs.settling.settle.Goals as goal
 
@@ -13,9 +14,10 @@ loop-n-init g c = (
       c.requires.sound c.requires.order,
   c.requires.edges,
   λ before ends were. were,
+  later_same (listed c.args.nodes.now),
 )
 
--- ---- what its entry says
+-- ---- the definition of the name
 pub what_of-what-requires-clause-found : goal.what_of-what-requires-clause-found
 what_of-what-requires-clause-found g c =
     subst (λ (keys : List Key). AreFound (table c.args.deck.now) keys c.args.agenda.now c.args.found.now)
@@ -55,7 +57,14 @@ loop-n-preserved g c =
           c.in_ok-settle_one.ensures.sound h.2 c.in_ok-settle_one.ensures.ok c.in_ok-settle_one.ensures.steps,
       c.settle_one.ensures.edges,
       λ before ends were. c.settle_one.ensures.explored before ends (c.loop-n.invariant.2 before ends were),
+      later_both (listed c.args.nodes.now) (listed c.loop-n.nodes) (listed c.settle_one.new.nodes) c.loop-n.invariant.3
+          c.settle_one.ensures.later,
     )
 
 pub settle_one-requires-clause-edges : goal.settle_one-requires-clause-edges
 settle_one-requires-clause-edges g c = c.loop-n.invariant.1
+
+pub returns-in_err-settle_one-clause-later : goal.returns-in_err-settle_one-clause-later
+returns-in_err-settle_one-clause-later g c =
+    later_both (listed c.args.nodes.now) (listed c.loop-n.nodes) (listed c.settle_one.new.nodes) c.loop-n.invariant.3
+    c.settle_one.ensures.later

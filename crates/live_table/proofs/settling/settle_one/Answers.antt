@@ -4,6 +4,7 @@ use Rattle.live_table.specs.Edged.{HasLateEdges}
 use Rattle.live_table.specs.Stored.{Listed, listed}
 use Rattle.live_table.proofs.Flags.{count_room}
 use Rattle.live_table.proofs.Kept.{settled_count}
+use Rattle.live_table.proofs.KnownFaults.{later_same, settled_later}
 use Rattle.live_table.proofs.SettleOne.{IsPut, settled_nodes, settled_shown, settled_sound}
 use Rattle.live_table.proofs.StillExplored.{settled_explored}
 use Rattle.live_table.proofs.WaitingNames.{waiting_edges}
@@ -38,7 +39,7 @@ put-requires-clause-room g c =
     let s = c.args.nodes.now.settled.ok.0 in
     omega (arith, a, b)
 
--- its outcome is put in
+-- the outcome of the name is stored
 is_put : (g : _) (c : After-saturating_add g)
     → IsPut c.args.deck.now (listed c.args.nodes.now) c.args.reductions.now c.args.n c.in_ok-outcome.outcome
     c.rank_of-rank.result c.saturating_add.result (listed c.put.new.nodes)
@@ -85,3 +86,18 @@ returns-clause-explored g c =
     let b : length (listed c.args.nodes.now).callees ≡ length (listed c.args.nodes.now).keys =
     c.requires.sound.numbers.callee_count in omega (arith, a, b))
     c.put.ensures
+
+pub returns-clause-later : goal.returns-clause-later
+returns-clause-later g c =
+    settled_later (listed c.args.nodes.now) (listed c.put.new.nodes) c.args.n c.in_ok-outcome.outcome
+    c.rank_of-rank.result
+    (let a : c.args.n < length (listed c.args.nodes.now).keys = c.requires.due.within in
+    let b : length (listed c.args.nodes.now).callees ≡ length (listed c.args.nodes.now).keys =
+    c.requires.sound.numbers.callee_count in omega (arith, a, b))
+    c.put.ensures
+
+pub returns-in_err-outcome-clause-later : goal.returns-in_err-outcome-clause-later
+returns-in_err-outcome-clause-later g c = later_same (listed c.args.nodes.now)
+
+pub returns-in_err-push_back-clause-later : goal.returns-in_err-push_back-clause-later
+returns-in_err-push_back-clause-later g c = later_same (listed c.args.nodes.now)

@@ -8,7 +8,7 @@ use Rattle.name_walk.proofs.Chains.{IsChaining, chaining_end, chaining_keep, cha
 use Rattle.name_walk.proofs.chain.chain.Goals as goal
 use Rattle.name_walk.proofs.chain.chain.Goals.{then-is_below+in_ok-push, else-is_below}
 
--- the frames that are left begin with the next one
+-- the remaining frames begin with the next frame
 next : (again last : ℕ) (all names : List ℕ) (b : Bool) (fs : List Frame) (i : ℕ) (d : Frame) → i < length fs
     → IsChaining again last all names b (drop i fs)
     → IsChaining again last all names b (get_or fs i d ∷ drop (i + 1) fs)

@@ -7,7 +7,7 @@ use Rattle.name_walk.proofs.Moves.{IsGoingAt, begin_at, cycle_at, dead_end_at, e
 use Rattle.name_walk.proofs.Moves.{is_on_at, leave_at, leave_less_at, next_at, pass_at, room_at, there_at, weight_at}
 use Rattle.name_walk.proofs.visit.visit.Goals as goal
 
--- where nothing stands, all is passed
+-- if there is no element at a place, the place is past the end
 none_full : {A : Type 0} (xs : List A) (k : ℕ) {o : Option A} → o ≡ slice_get xs k → o ≡ None → length xs ≤ k
 none_full {A} xs k e n = full xs k (sym e ∙ n)
   where
@@ -20,7 +20,7 @@ none_full {A} xs k e n = full xs k (sym e ∙ n)
 step_is : {A : Type 0} {r o : Option A} {x y : A} → r ≡ o → r ≡ Some x → x ≡ y → o ≡ Some y
 step_is read some is = sym read ∙ (some ∙ ap Some is)
 
--- what is so of a name and a place is so of their frame
+-- a property of a name and a place holds for their frame
 of_frame : (P : ℕ → ℕ → Type 0) {f : Frame} {n p : ℕ} → f ≡ record { name = n; place = p } → P n p → P f.name f.place
 of_frame P e h = subst (λ (x : Frame). P x.name x.place) (sym e) h
 

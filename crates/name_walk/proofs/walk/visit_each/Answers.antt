@@ -15,7 +15,7 @@ use Rattle.name_walk.proofs.walk.visit_each.Goals as goal
 read : {A : Type 0} (xs : List A) (i : ℕ) (d : A) {x : A} → i < length xs → get_or xs i d ≡ x → slice_get xs i ≡ Some x
 read xs i d l e = slice_get-get_or xs i d l ∙ ap Some e
 
--- a step of the query leads to a name that is there
+-- a step of the query leads to a name of the graph
 known : (g : Graph) (query : List Step) (i n : ℕ) → AreKnown g query → i < length query
     → get_or query i (Nowhere 0) ≡ To n → n < length g
 known g query i n are_known l e = are_known n (get_In _ _ _ (read query i (Nowhere 0) l e))

@@ -1,8 +1,9 @@
 use Rattle.std.proofs.Common.{◌+◌, ◌<◌, length, sym, ◌∙◌, ap, subst}
 use Rattle.edge_links.specs.Edges.{Graph}
+use Rattle.edge_links.specs.Once.{ClearsEachOnce}
 use Rattle.edge_links.specs.Reach.{IsAffected, Forgets, IsCleared}
 use Rattle.edge_links.specs.Shown.{edges_below}
-use Rattle.edge_links.proofs.Forgotten.{links_after, forgets, spare_after, cleared}
+use Rattle.edge_links.proofs.Forgotten.{links_after, forgets, spare_after, cleared, once}
 use Rattle.edge_links.proofs.links.Links.unsettle.Goals as goal
 
 pub invariant_of-self : goal.invariant_of-self
@@ -41,3 +42,14 @@ returns-clause-marks g c =
     c.unsettle.new.self c.unsettle.ensures.size c.unsettle.ensures.names c.unsettle.ensures.cut c.unsettle.ensures.idle
     (g.K.Marks.is_marked c.args.marks.now) (g.K.Marks.is_marked c.unsettle.new.marks) c.unsettle.ensures.cleared
     c.unsettle.ensures.kept)
+
+pub returns-clause-once : goal.returns-clause-once
+returns-clause-once g c =
+    let there = subst (λ (x : Graph). c.args.key < x.nodes) (sym c.self.view_is) c.requires in
+    subst (λ (x : Graph). ClearsEachOnce g.K.Marks.is_call (IsAffected x.edges c.args.key) c.args.marks.now
+    c.unsettle.new.marks) c.self.view_is
+    (once c.self.inside.places c.unsettle.ensures.edges c.self.inside.nodes.items c.self.invariant c.args.key there
+    c.index-place.result.now c.index-place.ensures
+    c.unsettle.new.self c.unsettle.ensures.size c.unsettle.ensures.names c.unsettle.ensures.cut
+    c.unsettle.ensures.idle
+    g.K.Marks.is_call c.args.marks.now c.unsettle.new.marks c.unsettle.ensures.once)

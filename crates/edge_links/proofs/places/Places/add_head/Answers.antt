@@ -3,7 +3,7 @@ use Rattle.edge_links.specs.Owners.{Owners, ArePlaces, with_head}
 use Rattle.edge_links.proofs.Placing.{grown_places}
 use Rattle.edge_links.proofs.places.Places.add_head.Goals as goal
 
--- one more place, or all as before
+-- the places have one more or are unchanged
 still_places : {E : Type 0} (s t : Owners) (spare name : ℕ) (r : Result ℕ E) → ArePlaces s spare
     → IfOk r (λ p. (p ≡ length s.users) × (p + 1 < 2 ^ 64) × (t ≡ with_head s p name)) → OnErr r (t ≡ s)
     → ArePlaces t spare

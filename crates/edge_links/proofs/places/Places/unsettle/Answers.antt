@@ -1,11 +1,12 @@
 use Rattle.std.proofs.Common.{◌≡◌, ℕ, ◌+◌, ◌-◌, ◌<◌, List, Bool, false, cond, nat_eq, length, set, get_or, sym, ◌∙◌, ap}
 use Rattle.std.proofs.Common.{subst, arith, inl, inr, refl}
 use Rattle.edge_links.specs.Changes.{IsParted, IsPaid}
+use Rattle.edge_links.specs.Once.{Clears, no_call, one_more}
 use Rattle.edge_links.specs.Owners.{Owners, Waits, owned}
 use Rattle.edge_links.specs.PlaceReach.{IsCutOff}
 use Rattle.edge_links.proofs.Counting.{owned_le}
 use Rattle.edge_links.proofs.WaitingPlaces.{waiting_set}
-use Rattle.edge_links.proofs.Unsettle.{IsUnsettling, step, begin, all_cut, all_cleared, all_kept}
+use Rattle.edge_links.proofs.Unsettle.{IsUnsettling, step, begin, all_cut, all_cleared, all_kept, all_once}
 use Rattle.edge_links.proofs.places.Places.unsettle.Goals as goal
 use Rattle.edge_links.specs.Waiting.{waiting_count}
 
@@ -16,7 +17,8 @@ loop-place-init g c =
     record {
       unsettling = begin c.args.self.now c.wait.ensures.was c.args.key
           (λ x. get_or c.args.self.now.names x 0) c.wait.new.self
-          (g.K.Marks.is_marked c.args.marks.now) c.requires.idle
+          (g.K.Marks.is_marked c.args.marks.now)
+          (λ nodes. Clears g.K.Marks.is_call nodes c.args.marks.now c.args.marks.now) no_call c.requires.idle
           c.requires.there.0 c.requires.there.1 c.requires.there.2 users keys c.wait.ensures.waits;
       names = ap (λ (s : Owners). s.names) c.wait.ensures.rest;
       stays = g.met.K.Marks.stays_at_first c.args.marks.now;
@@ -42,10 +44,15 @@ loop-place-preserved g c =
           (λ x. get_or c.args.self.now.names x 0) c.loop-place.self
           c.take.new.self c.cut_users.new.self c.cut_keys.new.self c.in-Some.place
           (g.K.Marks.is_marked c.args.marks.now) (g.K.Marks.is_marked c.loop-place.marks)
+          (λ nodes. Clears g.K.Marks.is_call nodes c.args.marks.now c.loop-place.marks)
+          (λ nodes. Clears g.K.Marks.is_call nodes c.args.marks.now c.clear.new.self)
           c.loop-place.invariant.unsettling (t.0, t.1, waits) users keys c.in-Some.ensures.edges
           c.cut_users.ensures.cut c.cut_users.ensures.waits c.cut_users.ensures.size c.cut_keys.ensures.cut
           c.cut_keys.ensures.waits
-          c.cut_keys.ensures.size (g.K.Marks.is_marked c.clear.new.self)
+          c.cut_keys.ensures.size
+          (λ nodes called. one_more called (subst (λ n. g.K.Marks.is_call n c.loop-place.marks c.clear.new.self)
+          (c.name.ensures ∙ ap (λ xs. get_or xs c.in-Some.place 0) names) c.clear.ensures.call))
+          (g.K.Marks.is_marked c.clear.new.self)
           (named c.args.self.now.names c.take.new.self.names c.in-Some.place c.name.result
           (g.K.Marks.is_marked c.loop-place.marks)
           (g.K.Marks.is_marked c.clear.new.self) c.name.ensures names c.clear.ensures.marks);
@@ -55,10 +62,10 @@ loop-place-preserved g c =
     }
 
 -- the place that was taken is a head
-head_taken : (old s0 s : Owners) (x key : ℕ) (name : ℕ → ℕ) (marks now : ℕ → Bool)
-    → IsUnsettling old s0 name marks now key → Waits s0 x
+head_taken : (old s0 s : Owners) (x key : ℕ) (name : ℕ → ℕ) (marks now : ℕ → Bool) (Called : List ℕ → Type 0)
+    → IsUnsettling old s0 name marks now key Called → Waits s0 x
     → s.users ≡ s0.users → get_or s.users x 0 ≡ x
-head_taken old s0 s x key name marks now u w us =
+head_taken old s0 s x key name marks now Called u w us =
     let r = u.reached x (inr w) in
     ap (λ xs. get_or xs x 0) us ∙ elim (u.each x r.0) [ inl o ↦ absurd (o.2 r.1) | inr m ↦ m.0 ∙ r.1 ]
 
@@ -67,11 +74,12 @@ cut_users-requires-clause-head g c =
     let t = c.in-Some.ensures.taken in
     head_taken c.args.self.now c.loop-place.self c.take.new.self c.in-Some.place c.args.key
     (λ x. get_or c.args.self.now.names x 0)
-    (g.K.Marks.is_marked c.args.marks.now) (g.K.Marks.is_marked c.loop-place.marks) c.loop-place.invariant.unsettling
+    (g.K.Marks.is_marked c.args.marks.now) (g.K.Marks.is_marked c.loop-place.marks)
+    (λ nodes. Clears g.K.Marks.is_call nodes c.args.marks.now c.loop-place.marks) c.loop-place.invariant.unsettling
     t.1
     (ap (λ (s : Owners). s.users) t.2)
 
--- it stays one without its edges
+-- the place that was taken remains a head without its edges
 pub cut_keys-requires-clause-head : goal.cut_keys-requires-clause-head
 cut_keys-requires-clause-head g c =
     let t = c.in-Some.ensures.taken in
@@ -80,7 +88,8 @@ cut_keys-requires-clause-head g c =
     ((c.cut_users.ensures.cut c.in-Some.place there).1 (λ h. h.0 refl)).0
     ∙ head_taken c.args.self.now c.loop-place.self c.take.new.self c.in-Some.place c.args.key
     (λ x. get_or c.args.self.now.names x 0)
-    (g.K.Marks.is_marked c.args.marks.now) (g.K.Marks.is_marked c.loop-place.marks) c.loop-place.invariant.unsettling
+    (g.K.Marks.is_marked c.args.marks.now) (g.K.Marks.is_marked c.loop-place.marks)
+    (λ nodes. Clears g.K.Marks.is_call nodes c.args.marks.now c.loop-place.marks) c.loop-place.invariant.unsettling
     t.1
     (ap (λ (s : Owners). s.users) t.2)
 
@@ -111,6 +120,7 @@ returns-clause-cut g c =
     let w : IsParted (IsCutOff c.args.self.now c.args.key) c.args.self.now c.loop-place.self =
     all_cut c.args.self.now c.wait.ensures.was c.args.key (λ x. get_or c.args.self.now.names x 0) c.loop-place.self
     (g.K.Marks.is_marked c.args.marks.now) (g.K.Marks.is_marked c.loop-place.marks)
+    (λ nodes. Clears g.K.Marks.is_call nodes c.args.marks.now c.loop-place.marks)
     c.loop-place.invariant.unsettling e.0 in
     subst (λ (s : Owners). IsParted (IsCutOff c.args.self.now c.args.key) c.args.self.now s) (sym e.1) w
 
@@ -118,10 +128,21 @@ pub returns-clause-cleared : goal.returns-clause-cleared
 returns-clause-cleared g c x h a =
     all_cleared c.args.self.now c.wait.ensures.was c.args.key (λ x. get_or c.args.self.now.names x 0) c.loop-place.self
     (g.K.Marks.is_marked c.args.marks.now) (g.K.Marks.is_marked c.loop-place.marks)
+    (λ nodes. Clears g.K.Marks.is_call nodes c.args.marks.now c.loop-place.marks)
     c.loop-place.invariant.unsettling c.in_default.ensures.taken.0 x a
 
 pub returns-clause-kept : goal.returns-clause-kept
 returns-clause-kept g c m n =
     all_kept c.args.self.now c.wait.ensures.was c.args.key (λ x. get_or c.args.self.now.names x 0) c.loop-place.self
     (g.K.Marks.is_marked c.args.marks.now) (g.K.Marks.is_marked c.loop-place.marks)
+    (λ nodes. Clears g.K.Marks.is_call nodes c.args.marks.now c.loop-place.marks)
     c.loop-place.invariant.unsettling c.in_default.ensures.taken.0 m n
+
+pub returns-clause-once : goal.returns-clause-once
+returns-clause-once g c =
+    let r = all_once c.args.self.now c.wait.ensures.was c.args.key (λ x. get_or c.args.self.now.names x 0)
+    c.loop-place.self
+    (g.K.Marks.is_marked c.args.marks.now) (g.K.Marks.is_marked c.loop-place.marks)
+    (λ nodes. Clears g.K.Marks.is_call nodes c.args.marks.now c.loop-place.marks)
+    c.loop-place.invariant.unsettling c.in_default.ensures.taken.0 in
+    record { places = r.0; apart = r.1; affected = r.2; calls = r.3 }

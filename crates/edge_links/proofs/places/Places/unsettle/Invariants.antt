@@ -1,4 +1,5 @@
 use Rattle.std.proofs.Common.{◌≡◌, ◌+◌, ◌-◌, length, slice_index}
+use Rattle.edge_links.specs.Once.{Clears}
 use Rattle.edge_links.specs.Owners.{owned}
 use Rattle.edge_links.proofs.Unsettle.{IsUnsettling}
 use Rattle.edge_links.proofs.places.Places.unsettle.Given as goal
@@ -7,7 +8,7 @@ use Rattle.edge_links.specs.Waiting.{waiting_count}
 abbrev pub invariant-loop-place : goal.invariant-loop-place
 invariant-loop-place g l = record {
   unsettling : IsUnsettling l.fn.self l.self (slice_index l.fn.self.names) (g.K.Marks.is_marked l.fn.marks)
-      (g.K.Marks.is_marked l.marks) l.key;
+      (g.K.Marks.is_marked l.marks) l.key (λ nodes. Clears g.K.Marks.is_call nodes l.fn.marks l.marks);
   names : l.self.names ≡ l.fn.self.names;
   stays : g.K.Marks.stays l.fn.marks l.marks;
 }

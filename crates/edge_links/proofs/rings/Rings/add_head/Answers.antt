@@ -4,7 +4,7 @@ use Rattle.edge_links.specs.Linked.{AreLinked}
 use Rattle.edge_links.proofs.Linking.{grown_linked}
 use Rattle.edge_links.proofs.rings.Rings.add_head.Goals as goal
 
--- one more place, or all as before
+-- the places have one more or are unchanged
 still_linked : {E : Type 0} (c d : Columns) (top : Option ℕ) (name : ℕ) (r : Result ℕ E) → AreLinked c top
     → IfOk r (λ p. (p ≡ length c.names) × (p + 1 < 2 ^ 64) × (d ≡ with_slot c p name)) → OnErr r (d ≡ c)
     → AreLinked d top

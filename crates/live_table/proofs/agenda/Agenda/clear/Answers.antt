@@ -3,7 +3,7 @@ use Rattle.live_table.specs.Agendas.{IsPlaced}
 use Rattle.live_table.proofs.Placing.{place_kept, placed_popped}
 use Rattle.live_table.proofs.agenda.Agenda.clear.Goals as goal
 
--- the number that was taken out was the last
+-- the removed number was the last
 last_placed : (places numbers rest : List ℕ) (n : ℕ) → numbers ≡ rest ++ n ∷ [] → IsPlaced places numbers
     → IsPlaced places (rest ++ n ∷ [])
 last_placed places numbers rest n e m = subst (λ (ns : List ℕ). IsPlaced places ns) e m

@@ -6,7 +6,7 @@ use Rattle.live_table.proofs.Placing.{placed_put, placed_same}
 use Rattle.live_table.proofs.agenda.Agenda.put.Goals as goal
 use Rattle.live_table.proofs.agenda.Agenda.put.Goals.{After-cover}
 
--- with more room each place is as before
+-- with more room the places are the same
 placed : (c : After-cover) → IsPlaced c.cover.new.places.items c.self.inside.numbers.items
 placed c =
     placed_same c.self.inside.places.items c.cover.new.places.items c.self.inside.numbers.items c.cover.ensures.same

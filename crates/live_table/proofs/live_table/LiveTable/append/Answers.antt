@@ -18,7 +18,7 @@ invariant_of-self-2 g c = (
       (live_as c.self.inside.deck (listed c.self.inside.nodes) c.self.inside.edges c.link_waiting.new.edges
       c.self.inside.reductions c.self.invariant.0 c.link_waiting.ensures.edges)
       c.in_ok-keys.ensures.changed,
-  c.forget_changed.ensures.explored,
+  (c.forget_changed.ensures.explored, c.forget_changed.ensures.faults),
 )
 
 pub returns-clause-told : goal.returns-clause-told

@@ -1,5 +1,6 @@
 use Rattle.deck.specs.Tables.{table}
 use Rattle.live_table.specs.Stored.{listed}
+use Rattle.live_table.proofs.KnownFaults.{known_nothing}
 use Rattle.live_table.proofs.WaitingNames.{start_edges}
 use Rattle.live_table.proofs.Starting.{start_sound}
 use Rattle.live_table.proofs.StillExplored.{none_explored}
@@ -12,6 +13,10 @@ invariant_of-result c = (
     edges = start_edges c.args.deck (listed c.new.result) c.new-2.result.waiting.items c.new-2.result.made c.new.ensures
         c.new-2.ensures.waiting c.new-2.ensures.made;
   },
-  none_explored (table c.args.deck) (listed c.new.result) c.new-3.result.names c.new-3.result.dead_ends.items
-      c.new-3.ensures.names,
+  (
+    none_explored (table c.args.deck) (listed c.new.result) c.new-3.result.names c.new-3.result.dead_ends.items
+        c.new-3.ensures.names,
+    known_nothing c.findings_law.ensures (listed c.new.result) c.new-3.result.names c.new-3.result.findings
+        c.new-3.ensures.findings,
+  ),
 )

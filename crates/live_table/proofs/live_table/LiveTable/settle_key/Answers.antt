@@ -10,6 +10,7 @@ use Rattle.live_table.specs.States.{AsksKey, Event}
 use Rattle.live_table.specs.Stored.{key_at, listed, shown}
 use Rattle.live_table.proofs.Following.{follows_none}
 use Rattle.live_table.proofs.NameQueries.{asked_queries, list_asks_nothing}
+use Rattle.live_table.proofs.StopAnswers.{err_by_name, ok_by_name}
 use Rattle.live_table.proofs.live_table.LiveTable.settle_key.Goals as goal
 
 pub returns-in-List-clause-after : goal.returns-in-List-clause-after
@@ -21,6 +22,7 @@ returns-in-List-clause-after g c =
 pub returns-clause-after : goal.returns-clause-after
 returns-clause-after g c =
     let asked : Key = key_named c.args.key.now.kind c.as_bytes.result.now in
+    let named = c.ask_key-answer.ensures.asked in
     subst (λ (s : Shown). AreQueries (queries_of (c.args.key.now ∷ [])) c.only_memory.result s
     (shown c.self.inside.deck (listed c.ask_key-answer.new.nodes) c.ask_key-answer.new.reductions) c.args.steps.now
     c.ask_key-answer.new.steps) c.self.view_is
@@ -30,5 +32,11 @@ returns-clause-after g c =
     (shown c.self.inside.deck (listed c.ask_key-answer.new.nodes) c.ask_key-answer.new.reductions) c.args.steps.now
     c.ask_key-answer.new.steps c.args.key.now
     (ap (λ (name : List ℕ). AsksKey (key_named c.args.key.now.kind name)) c.as_bytes.ensures) c.in_default.not-List
-    c.ask_key-answer.result c.only_memory.result c.only_memory.ensures.ok c.only_memory.ensures.err
-    c.ask_key-answer.ensures.asked)
+    named.answer c.only_memory.result
+    (ok_by_name (table c.self.inside.deck) (listed c.ask_key-answer.new.nodes)
+    c.ask_key-answer.new.explored.dead_ends.items c.ask_key-answer.new.explored.findings.faults
+    c.ask_key-answer.result named.answer c.only_memory.result named.named c.only_memory.ensures.ok)
+    (err_by_name (table c.self.inside.deck) (listed c.ask_key-answer.new.nodes)
+    c.ask_key-answer.new.explored.dead_ends.items c.ask_key-answer.new.explored.findings.faults
+    c.ask_key-answer.result named.answer c.only_memory.result named.named c.only_memory.ensures.err)
+    named.holds)

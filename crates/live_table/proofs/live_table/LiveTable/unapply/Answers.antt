@@ -1,87 +1,127 @@
-use Rattle.std.proofs.Common.{◌≡◌, ◌∷◌, [], Err, None, true, sym, ◌∙◌, ap, subst}
-use Rattle.std.proofs.lemmas.Result.{err_from_is_err_and}
+use Rattle.std.proofs.Common.{◌≡◌, ◌∷◌, [], ℕ, Ok, Err, Result, None, true, refl, sym, ap, subst}
 use Rattle.def_entry.specs.declared.key.Key.{Key}
 use Rattle.def_entry.specs.declared.key.Kind.TheVariants as kind
 use Rattle.def_entry.specs.Keys.{key as key_named}
 use Rattle.def_entry.specs.Tables.{is_present}
-use Rattle.name_walk.specs.Closed.{IsSettled}
 use Rattle.deck.specs.Tables.{table}
 use Rattle.table_names.specs.Faults.{key_fault}
 use Rattle.table_names.specs.Meanings.{key_meaning}
+use Rattle.live_table.specs.declared.fault.QueryFault.{QueryFault}
+use Rattle.live_table.specs.declared.stop.Stop.{Stop}
 use Rattle.live_table.specs.Answers as spec
+use Rattle.live_table.specs.Asked.{IsKeyAsked, IsSettledKey}
 use Rattle.live_table.specs.Calls.{IsQuery}
 use Rattle.live_table.specs.Shown.{Follows, Shown}
 use Rattle.live_table.specs.States.{AsksKey}
-use Rattle.live_table.specs.Stored.{key_at, listed, shown}
-use Rattle.live_table.proofs.Answering.{fault_answer, fault_query, worth_answer}
+use Rattle.live_table.specs.Stops.{IsNamed}
+use Rattle.live_table.specs.Stored.{listed, shown}
+use Rattle.live_table.proofs.Answering.{worth_answer}
 use Rattle.live_table.proofs.Following.{query_answer}
+use Rattle.live_table.proofs.StopAnswers.{answered_err, answered_ok, named_answer, named_query}
 use Rattle.live_table.proofs.live_table.LiveTable.unapply.Goals as goal
+use Rattle.live_table.proofs.live_table.LiveTable.unapply.Goals.{After-ask_key-answer}
 
-pub ask_key-requires-clause-present : goal.ask_key-requires-clause-present
-ask_key-requires-clause-present g c =
+pub ask_key-answer-requires-clause-present : goal.ask_key-answer-requires-clause-present
+ask_key-answer-requires-clause-present g c =
     subst (λ (s : Shown). is_present (table s.deck) (key_named kind.Func c.args.name.now) ≡ true) (sym c.self.view_is)
     c.requires
 
-pub returns-in_err-n-clause-answer : goal.returns-in_err-n-clause-answer
-returns-in_err-n-clause-answer g c =
-    let p = err_from_is_err_and c.from_residual.result c.from_residual.ensures.1 in
-    subst (λ r. spec.Answers r (spec.inverse_answer (table c.args.self.now.deck) c.args.name.now c.args.value.now))
-    (sym (p.1 ∙ ap Err p.2))
-    (subst (λ (s : Shown). spec.Answers (Err c.in_err-n.field-0.0)
-    (spec.inverse_answer (table s.deck) c.args.name.now c.args.value.now)) c.self.view_is
-    (fault_answer (AsksKey (key_named kind.Func c.args.name.now)) (key_fault (table c.self.inside.deck)
-    (key_named kind.Func c.args.name.now)) (λ n. ((key_named kind.Func c.args.name.now) ≡ key_at
-    c.ask_key.new.nodes.keys n) × IsSettled c.ask_key.new.nodes.settled.items n)
-    (shown c.self.inside.deck (listed c.self.inside.nodes) c.self.inside.reductions)
-    (shown c.self.inside.deck (listed c.ask_key.new.nodes) c.ask_key.new.reductions) c.args.steps.now
-    c.ask_key.new.steps (spec.inverse_at (key_meaning (table c.self.inside.deck) (key_named kind.Func c.args.name.now))
-    c.args.value.now) c.in_err-n.field-0.0 c.in_err-n.ensures.asked))
+abbrev key : (g : _) → After-ask_key-answer g → Key
+key g c = key_named kind.Func c.args.name.now
 
-pub returns-in_err-n-clause-after : goal.returns-in_err-n-clause-after
-returns-in_err-n-clause-after g c =
-    let p = err_from_is_err_and c.from_residual.result c.from_residual.ensures.1 in
-    subst (λ r. IsQuery (AsksKey (key_named kind.Func c.args.name.now)) r c.args.self.now
-    (shown c.self.inside.deck (listed c.ask_key.new.nodes) c.ask_key.new.reductions) c.args.steps.now
-    c.ask_key.new.steps) (sym (p.1 ∙ ap Err p.2))
-    (subst (λ (s : Shown). IsQuery (AsksKey (key_named kind.Func c.args.name.now)) (Err c.in_err-n.field-0.0) s
-    (shown c.self.inside.deck (listed c.ask_key.new.nodes) c.ask_key.new.reductions) c.args.steps.now
-    c.ask_key.new.steps) c.self.view_is
-    (fault_query (AsksKey (key_named kind.Func c.args.name.now)) (key_fault (table c.self.inside.deck)
-    (key_named kind.Func c.args.name.now)) (λ n. ((key_named kind.Func c.args.name.now) ≡ key_at
-    c.ask_key.new.nodes.keys n) × IsSettled c.ask_key.new.nodes.settled.items n)
-    (shown c.self.inside.deck (listed c.self.inside.nodes) c.self.inside.reductions)
-    (shown c.self.inside.deck (listed c.ask_key.new.nodes) c.ask_key.new.reductions) c.args.steps.now
-    c.ask_key.new.steps c.in_err-n.field-0.0 c.in_err-n.ensures.asked))
+abbrev before : (g : _) → After-ask_key-answer g → Shown
+before g c = shown c.self.inside.deck (listed c.self.inside.nodes) c.self.inside.reductions
+
+abbrev now : (g : _) → After-ask_key-answer g → Shown
+now g c = shown c.self.inside.deck (listed c.ask_key-answer.new.nodes) c.ask_key-answer.new.reductions
+
+abbrev Holds : (g : _) → After-ask_key-answer g → Result ℕ QueryFault → Type 0
+Holds g c answer =
+    IsKeyAsked (key g c) (listed c.ask_key-answer.new.nodes) answer (before g c) (now g c) c.args.steps.now
+    c.ask_key-answer.new.steps
+
+-- ---- the function has a name fault
+stopped : (g : _) (c : After-ask_key-answer g) (stop : Stop) → c.ask_key-answer.result ≡ Err stop
+    → (q : QueryFault) × IsNamed (table c.self.inside.deck) (listed c.ask_key-answer.new.nodes)
+    c.ask_key-answer.new.explored.dead_ends.items c.ask_key-answer.new.explored.findings.faults stop q × Holds g c
+    (Err q)
+stopped g c stop is =
+    answered_err (table c.self.inside.deck) (listed c.ask_key-answer.new.nodes)
+    c.ask_key-answer.new.explored.dead_ends.items c.ask_key-answer.new.explored.findings.faults
+    (Holds g c) c.ask_key-answer.result stop is c.ask_key-answer.ensures.asked
+
+pub fault_of_stop-requires-clause-nodes : goal.fault_of_stop-requires-clause-nodes
+fault_of_stop-requires-clause-nodes g c = c.ask_key-answer.ensures.live.sound.numbers
+
+pub fault_of_stop-requires-clause-named : goal.fault_of_stop-requires-clause-named
+fault_of_stop-requires-clause-named g c =
+    let s = stopped g (goal.at.fault_of_stop-requires-clause-named g c).After-ask_key-answer c.in-Err.stop c.in-Err.is
+    in
+    (s.0, s.1)
+
+pub returns-in-Err-clause-answer : goal.returns-in-Err-clause-answer
+returns-in-Err-clause-answer g c =
+    let at = goal.at.returns-in-Err-clause-answer g c in
+    let s = stopped g at.After-ask_key-answer c.in-Err.stop c.in-Err.is in
+    let a = at.After-ask_key-answer in
+    subst (λ (x : Shown). spec.Answers (Err c.fault_of_stop.result) (spec.inverse_answer (table x.deck) c.args.name.now
+    c.args.value.now)) c.self.view_is
+    (named_answer (AsksKey (key g a)) (key_fault (table c.self.inside.deck) (key g a))
+    (IsSettledKey (listed c.ask_key-answer.new.nodes) (key g a)) (before g a) (now g a) c.args.steps.now
+    c.ask_key-answer.new.steps s.0 s.2
+    (spec.inverse_at (key_meaning (table c.self.inside.deck) (key g a)) c.args.value.now) c.fault_of_stop.result
+    (c.fault_of_stop.ensures s.0 s.1))
+
+pub returns-in-Err-clause-after : goal.returns-in-Err-clause-after
+returns-in-Err-clause-after g c =
+    let at = goal.at.returns-in-Err-clause-after g c in
+    let s = stopped g at.After-ask_key-answer c.in-Err.stop c.in-Err.is in
+    let a = at.After-ask_key-answer in
+    subst (λ (x : Shown). IsQuery (AsksKey (key g a)) (Err c.fault_of_stop.result) x (now g a) c.args.steps.now
+    c.ask_key-answer.new.steps) c.self.view_is
+    (named_query (AsksKey (key g a)) (key_fault (table c.self.inside.deck) (key g a))
+    (IsSettledKey (listed c.ask_key-answer.new.nodes) (key g a)) (before g a) (now g a) c.args.steps.now
+    c.ask_key-answer.new.steps s.0 s.2 refl c.fault_of_stop.result (c.fault_of_stop.ensures s.0 s.1))
+
+-- ---- the function has no name fault
+asked : (g : _) (c : After-ask_key-answer g) (n : ℕ) → c.ask_key-answer.result ≡ Ok n → Holds g c (Ok n)
+asked g c n is =
+    answered_ok (table c.self.inside.deck) (listed c.ask_key-answer.new.nodes)
+    c.ask_key-answer.new.explored.dead_ends.items c.ask_key-answer.new.explored.findings.faults
+    (Holds g c) c.ask_key-answer.result n is c.ask_key-answer.ensures.asked
 
 pub inverse_worth-requires-clause-sound : goal.inverse_worth-requires-clause-sound
-inverse_worth-requires-clause-sound g c =
-    (c.ask_key.new.reductions, c.ask_key.ensures.live.sound)
+inverse_worth-requires-clause-sound g c = (c.ask_key-answer.new.reductions, c.ask_key-answer.ensures.live.sound)
 
 pub inverse_worth-requires-clause-settled : goal.inverse_worth-requires-clause-settled
 inverse_worth-requires-clause-settled g c =
-    c.in_ok-n.ensures.asked.1.1
+    (asked g (goal.at.inverse_worth-requires-clause-settled g c).After-ask_key-answer c.in-Ok.n c.in-Ok.is).1.1
 
 pub inverse_worth-requires-clause-function : goal.inverse_worth-requires-clause-function
 inverse_worth-requires-clause-function g c =
-    ap (λ (x : Key). x.kind) (sym c.in_ok-n.ensures.asked.1.0)
+    ap (λ (x : Key). x.kind)
+    (sym (asked g (goal.at.inverse_worth-requires-clause-function g c).After-ask_key-answer c.in-Ok.n
+    c.in-Ok.is).1.0)
 
 pub returns-clause-answer : goal.returns-clause-answer
 returns-clause-answer g c =
+    let a = asked g (goal.at.returns-clause-answer g c).After-ask_key-answer c.in-Ok.n c.in-Ok.is in
     subst (λ (s : Shown). spec.Answers c.inverse_worth.result (spec.inverse_answer (table s.deck) c.args.name.now
     c.args.value.now)) c.self.view_is
     (worth_answer (key_fault (table c.self.inside.deck) (key_named kind.Func c.args.name.now))
     (spec.inverse_at (key_meaning (table c.self.inside.deck) (key_named kind.Func c.args.name.now)) c.args.value.now)
-    c.inverse_worth.result c.in_ok-n.ensures.asked.0
+    c.inverse_worth.result a.0
     (subst (λ (x : Key). spec.Answers c.inverse_worth.result (spec.by_names None
     (spec.inverse_at (key_meaning (table c.self.inside.deck) x) c.args.value.now)))
-    (sym c.in_ok-n.ensures.asked.1.0) c.inverse_worth.ensures))
+    (sym a.1.0) c.inverse_worth.ensures))
 
 pub returns-clause-after : goal.returns-clause-after
 returns-clause-after g c =
     query_answer (AsksKey (key_named kind.Func c.args.name.now)) c.inverse_worth.result c.args.self.now
-    (shown c.self.inside.deck (listed c.ask_key.new.nodes) c.ask_key.new.reductions) c.args.steps.now
-    c.ask_key.new.steps
+    (shown c.self.inside.deck (listed c.ask_key-answer.new.nodes) c.ask_key-answer.new.reductions) c.args.steps.now
+    c.ask_key-answer.new.steps
     (ap (λ (s : Shown). s.deck) c.self.view_is)
     (subst (λ (s : Shown). Follows (AsksKey (key_named kind.Func c.args.name.now) ∷ []) s
-    (shown c.self.inside.deck (listed c.ask_key.new.nodes) c.ask_key.new.reductions) c.args.steps.now
-    c.ask_key.new.steps) c.self.view_is c.in_ok-n.ensures.asked.2)
+    (shown c.self.inside.deck (listed c.ask_key-answer.new.nodes) c.ask_key-answer.new.reductions) c.args.steps.now
+    c.ask_key-answer.new.steps) c.self.view_is
+    (asked g (goal.at.returns-clause-after g c).After-ask_key-answer c.in-Ok.n c.in-Ok.is).2)

@@ -1,5 +1,5 @@
 use Rattle.smallvec.specs.SmallVec.{SmallVec}
-use Rattle.std.proofs.Common.{◌∷◌, [], Err, None, List, sym, ◌∙◌, ap, subst}
+use Rattle.std.proofs.Common.{◌≡◌, ◌∷◌, [], Ok, Err, Result, None, List, refl, sym, ◌∙◌, ap, subst}
 use Rattle.std.proofs.lemmas.Result.{err_from_is_err_and}
 use Rattle.expr_tree.specs.declared.word_list.WordUse.{WordUse}
 use Rattle.expr_tree.specs.Trees.{syntax}
@@ -11,17 +11,23 @@ use Rattle.tree_eval.specs.Value.{value}
 use Rattle.table_names.specs.Faults.{name_fault}
 use Rattle.table_names.specs.Meanings.{expansion}
 use Rattle.table_names.specs.Reach.{reach}
+use Rattle.live_table.specs.declared.fault.QueryFault.{QueryFault}
+use Rattle.live_table.specs.declared.stop.Stop.{Stop}
 use Rattle.live_table.specs.Answers as spec
+use Rattle.live_table.specs.Asked.{IsAsked}
 use Rattle.live_table.specs.Calls.{IsQuery}
 use Rattle.live_table.specs.Shown.{Follows, IsRightTable, Shown}
 use Rattle.live_table.specs.States.{AsksWords}
+use Rattle.live_table.specs.Stops.{IsNamed}
 use Rattle.live_table.specs.Stored.{listed, shown}
 use Rattle.live_table.specs.Surrounded.{AreSettledWords}
-use Rattle.live_table.proofs.Answering.{fault_answer, fault_query, worth_answer}
+use Rattle.live_table.proofs.Answering.{worth_answer}
 use Rattle.live_table.proofs.Following.{query_answer}
 use Rattle.live_table.proofs.GrownLive.{words_query}
 use Rattle.live_table.proofs.Queries.{cut_off}
+use Rattle.live_table.proofs.StopAnswers.{answered_err, answered_ok, named_answer, named_query}
 use Rattle.live_table.proofs.live_table.LiveTable.value.Goals as goal
+use Rattle.live_table.proofs.live_table.LiveTable.value.Goals.{After-ask_words-query}
 
 pub returns-in_err-words-clause-after : goal.returns-in_err-words-clause-after
 returns-in_err-words-clause-after g c =
@@ -33,62 +39,104 @@ returns-in_err-words-clause-after g c =
     (cut_off (AsksWords us) (name_fault t us) (reach t us) c.args.self.now c.args.steps.now
     (subst IsRightTable c.self.view_is c.self.invariant.0.sound.right) (words_query t us))
 
-pub returns-in_err-query-clause-answer : goal.returns-in_err-query-clause-answer
-returns-in_err-query-clause-answer g c =
-    let p = err_from_is_err_and c.from_residual-in_err-query.result c.from_residual-in_err-query.ensures.1 in
-    subst (λ r. spec.Answers r (spec.answer (table c.args.self.now.deck) (syntax c.args.tree.now)))
-    (sym (p.1 ∙ ap Err p.2))
-    (subst (λ (x : List WordUse × Contents). spec.Answers (Err c.in_err-query.field-0.0)
-    (spec.by_names (name_fault (table x.1) x.0) (value (expansion (table x.1) (syntax c.args.tree.now)) None)))
-    (λ i. (c.in_ok-words.ensures i, (c.self.view_is i).deck))
-    (fault_answer (AsksWords c.in_ok-words.words) (name_fault (table c.self.inside.deck) c.in_ok-words.words)
-    (λ (query : SmallVec Step). AreSettledWords (table c.self.inside.deck) (listed c.ask_words.new.nodes)
-    c.in_ok-words.words query.items) (shown c.self.inside.deck (listed c.self.inside.nodes) c.self.inside.reductions)
-    (shown c.self.inside.deck (listed c.ask_words.new.nodes) c.ask_words.new.reductions) c.args.steps.now
-    c.ask_words.new.steps (value (expansion (table c.self.inside.deck) (syntax c.args.tree.now)) None)
-    c.in_err-query.field-0.0 c.in_err-query.ensures.asked))
+-- ---- the names were queried
+abbrev us : (g : _) → After-ask_words-query g → List WordUse
+us g c = c.in_ok-words.words
 
-pub returns-in_err-query-clause-after : goal.returns-in_err-query-clause-after
-returns-in_err-query-clause-after g c =
-    let p = err_from_is_err_and c.from_residual-in_err-query.result c.from_residual-in_err-query.ensures.1 in
-    subst (λ r. IsQuery (AsksWords (words_in (syntax c.args.tree.now))) r c.args.self.now
-    (shown c.self.inside.deck (listed c.ask_words.new.nodes) c.ask_words.new.reductions) c.args.steps.now
-    c.ask_words.new.steps) (sym (p.1 ∙ ap Err p.2))
-    (subst (λ (x : List WordUse × Shown). IsQuery (AsksWords x.0) (Err c.in_err-query.field-0.0) x.1
-    (shown c.self.inside.deck (listed c.ask_words.new.nodes) c.ask_words.new.reductions) c.args.steps.now
-    c.ask_words.new.steps)
-    (λ i. (c.in_ok-words.ensures i, c.self.view_is i))
-    (fault_query (AsksWords c.in_ok-words.words) (name_fault (table c.self.inside.deck) c.in_ok-words.words)
-    (λ (query : SmallVec Step). AreSettledWords (table c.self.inside.deck) (listed c.ask_words.new.nodes)
-    c.in_ok-words.words query.items) (shown c.self.inside.deck (listed c.self.inside.nodes) c.self.inside.reductions)
-    (shown c.self.inside.deck (listed c.ask_words.new.nodes) c.ask_words.new.reductions) c.args.steps.now
-    c.ask_words.new.steps c.in_err-query.field-0.0 c.in_err-query.ensures.asked))
+abbrev before : (g : _) → After-ask_words-query g → Shown
+before g c = shown c.self.inside.deck (listed c.self.inside.nodes) c.self.inside.reductions
 
-pub worth-requires-clause-sound : goal.worth-requires-clause-sound
-worth-requires-clause-sound g c =
-    (c.ask_words.new.reductions, c.ask_words.ensures.live.sound)
+abbrev now : (g : _) → After-ask_words-query g → Shown
+now g c = shown c.self.inside.deck (listed c.ask_words-query.new.nodes) c.ask_words-query.new.reductions
 
-pub worth-requires-clause-settled : goal.worth-requires-clause-settled
-worth-requires-clause-settled g c =
-    subst (AreSettledWords (table c.self.inside.deck) (listed c.ask_words.new.nodes) c.in_ok-words.words)
-    (sym c.as_slice.ensures) c.in_ok-query.ensures.asked.1
+abbrev AreGiven : (g : _) → After-ask_words-query g → SmallVec Step → Type 0
+AreGiven g c query = AreSettledWords (table c.self.inside.deck) (listed c.ask_words-query.new.nodes)
+    (us g c) query.items
+
+abbrev Holds : (g : _) → After-ask_words-query g → Result (SmallVec Step) QueryFault → Type 0
+Holds g c answer =
+    IsAsked (AsksWords (us g c)) (name_fault (table c.self.inside.deck) (us g c)) (AreGiven g c) answer (before g c)
+    (now g c) c.args.steps.now c.ask_words-query.new.steps
+
+-- ---- the names have a fault
+stopped : (g : _) (c : After-ask_words-query g) (stop : Stop) → c.ask_words-query.result ≡ Err stop
+    → (q : QueryFault) × IsNamed (table c.self.inside.deck) (listed c.ask_words-query.new.nodes)
+    c.ask_words-query.new.explored.dead_ends.items c.ask_words-query.new.explored.findings.faults stop q × Holds g c
+    (Err q)
+stopped g c stop is =
+    answered_err (table c.self.inside.deck) (listed c.ask_words-query.new.nodes)
+    c.ask_words-query.new.explored.dead_ends.items c.ask_words-query.new.explored.findings.faults
+    (Holds g c) c.ask_words-query.result stop is c.ask_words-query.ensures.asked
+
+pub fault_of_stop-requires-clause-nodes : goal.fault_of_stop-requires-clause-nodes
+fault_of_stop-requires-clause-nodes g c = c.ask_words-query.ensures.live.sound.numbers
+
+pub fault_of_stop-requires-clause-named : goal.fault_of_stop-requires-clause-named
+fault_of_stop-requires-clause-named g c =
+    let s = stopped g (goal.at.fault_of_stop-requires-clause-named g c).After-ask_words-query c.in-Err.stop c.in-Err.is
+    in (s.0, s.1)
 
 pub returns-clause-answer : goal.returns-clause-answer
 returns-clause-answer g c =
+    let at = goal.at.returns-clause-answer g c in
+    let s = stopped g at.After-ask_words-query c.in-Err.stop c.in-Err.is in
+    let a = at.After-ask_words-query in
+    subst (λ (x : List WordUse × Contents). spec.Answers (Err c.fault_of_stop.result)
+    (spec.by_names (name_fault (table x.1) x.0) (value (expansion (table x.1) (syntax c.args.tree.now)) None)))
+    (λ i. (c.in_ok-words.ensures i, (c.self.view_is i).deck))
+    (named_answer (AsksWords (us g a)) (name_fault (table c.self.inside.deck) (us g a)) (AreGiven g a) (before g a)
+    (now g a) c.args.steps.now c.ask_words-query.new.steps s.0 s.2
+    (value (expansion (table c.self.inside.deck) (syntax c.args.tree.now)) None) c.fault_of_stop.result
+    (c.fault_of_stop.ensures s.0 s.1))
+
+pub returns-clause-after : goal.returns-clause-after
+returns-clause-after g c =
+    let at = goal.at.returns-clause-after g c in
+    let s = stopped g at.After-ask_words-query c.in-Err.stop c.in-Err.is in
+    let a = at.After-ask_words-query in
+    subst (λ (x : List WordUse × Shown). IsQuery (AsksWords x.0) (Err c.fault_of_stop.result) x.1 (now g a)
+    c.args.steps.now c.ask_words-query.new.steps)
+    (λ i. (c.in_ok-words.ensures i, c.self.view_is i))
+    (named_query (AsksWords (us g a)) (name_fault (table c.self.inside.deck) (us g a)) (AreGiven g a) (before g a)
+    (now g a) c.args.steps.now c.ask_words-query.new.steps s.0 s.2 refl c.fault_of_stop.result
+    (c.fault_of_stop.ensures s.0 s.1))
+
+-- ---- the names have no fault
+asked : (g : _) (c : After-ask_words-query g) (query : SmallVec Step) → c.ask_words-query.result ≡ Ok query
+    → Holds g c (Ok query)
+asked g c query is =
+    answered_ok (table c.self.inside.deck) (listed c.ask_words-query.new.nodes)
+    c.ask_words-query.new.explored.dead_ends.items c.ask_words-query.new.explored.findings.faults
+    (Holds g c) c.ask_words-query.result query is c.ask_words-query.ensures.asked
+
+pub worth-requires-clause-sound : goal.worth-requires-clause-sound
+worth-requires-clause-sound g c =
+    (c.ask_words-query.new.reductions, c.ask_words-query.ensures.live.sound)
+
+pub worth-requires-clause-settled : goal.worth-requires-clause-settled
+worth-requires-clause-settled g c =
+    subst (AreSettledWords (table c.self.inside.deck) (listed c.ask_words-query.new.nodes) c.in_ok-words.words)
+    (sym c.as_slice.ensures)
+    (asked g (goal.at.worth-requires-clause-settled g c).After-ask_words-query c.in-Ok.query c.in-Ok.is).1
+
+pub returns-in-Ok-clause-answer : goal.returns-in-Ok-clause-answer
+returns-in-Ok-clause-answer g c =
     subst (λ (x : List WordUse × Contents). spec.Answers c.worth.result
     (spec.by_names (name_fault (table x.1) x.0) (value (expansion (table x.1) (syntax c.args.tree.now)) None)))
     (λ i. (c.in_ok-words.ensures i, (c.self.view_is i).deck))
     (worth_answer (name_fault (table c.self.inside.deck) c.in_ok-words.words)
     (value (expansion (table c.self.inside.deck) (syntax c.args.tree.now)) None) c.worth.result
-    c.in_ok-query.ensures.asked.0 c.worth.ensures)
+    (asked g (goal.at.returns-in-Ok-clause-answer g c).After-ask_words-query c.in-Ok.query c.in-Ok.is).0
+    c.worth.ensures)
 
-pub returns-clause-after : goal.returns-clause-after
-returns-clause-after g c =
+pub returns-in-Ok-clause-after : goal.returns-in-Ok-clause-after
+returns-in-Ok-clause-after g c =
     query_answer (AsksWords (words_in (syntax c.args.tree.now))) c.worth.result c.args.self.now
-    (shown c.self.inside.deck (listed c.ask_words.new.nodes) c.ask_words.new.reductions) c.args.steps.now
-    c.ask_words.new.steps
+    (shown c.self.inside.deck (listed c.ask_words-query.new.nodes) c.ask_words-query.new.reductions) c.args.steps.now
+    c.ask_words-query.new.steps
     (ap (λ (s : Shown). s.deck) c.self.view_is)
     (subst (λ (x : List WordUse × Shown). Follows (AsksWords x.0 ∷ []) x.1
-    (shown c.self.inside.deck (listed c.ask_words.new.nodes) c.ask_words.new.reductions) c.args.steps.now
-    c.ask_words.new.steps)
-    (λ i. (c.in_ok-words.ensures i, c.self.view_is i)) c.in_ok-query.ensures.asked.2)
+    (shown c.self.inside.deck (listed c.ask_words-query.new.nodes) c.ask_words-query.new.reductions) c.args.steps.now
+    c.ask_words-query.new.steps)
+    (λ i. (c.in_ok-words.ensures i, c.self.view_is i))
+    (asked g (goal.at.returns-in-Ok-clause-after g c).After-ask_words-query c.in-Ok.query c.in-Ok.is).2)

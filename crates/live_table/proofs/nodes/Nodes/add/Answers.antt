@@ -3,7 +3,7 @@ use Rattle.def_entry.specs.Keys.{key}
 use Rattle.live_table.proofs.Indexing.{one_more}
 use Rattle.live_table.proofs.nodes.Nodes.add.Goals as goal
 
--- one more behind what had room for it
+-- one more item is appended to a list with room for it
 behind : {A : Type 0} (old room new : List A) (x y : A) → new ≡ room ++ x ∷ [] → room ≡ old → x ≡ y
     → new ≡ old ++ y ∷ []
 behind old room new x y put kept is = put ∙ (λ i. kept i ++ is i ∷ [])
@@ -26,7 +26,7 @@ returns-clause-ok g c =
           named = λ i. record {
             keys = keys.1 i;
             present = behind old.present.items _ _ _ _ c.in_ok-push.ensures.items c.reserve.ensures.items
-                (c.is_some.ensures ∙ c.find-place.ensures) i;
+                (c.is_some.ensures ∙ c.find-place.ensures.present) i;
             callees = behind old.callees.items _ _ _ _ c.in_ok-push-2.ensures.items c.reserve-2.ensures.items refl i;
             outcomes = behind old.outcomes.items _ _ _ _ c.in_ok-push-3.ensures.items c.reserve-3.ensures.items refl i;
             graph = behind old.steps.items _ _ _ _ c.in_ok-push-4.ensures.items c.reserve-4.ensures.items refl i;

@@ -9,7 +9,7 @@ use Rattle.live_table.proofs.surroundings.Surroundings.targets.Goals as goal
 use Rattle.live_table.proofs.surroundings.Surroundings.targets.Goals.{After-start_of, In-Expression}
 
 -- ---- an expression
--- its steps lead the word
+-- the steps of the expression lead the word
 led : (c : In-Expression) (u : WordUse)
     → slice_get (holder_words c.args.self.now c.args.holder) c.args.place ≡ Some u
     → IsLedBy c.args.self.now u c.in-Expression.steps.now c.args.place
@@ -56,7 +56,7 @@ start_of-requires c = callees_within c.self.inside.deck.now (listed c.self.insid
     c.self.invariant c.args.self.now c.self.view_is c.args.holder c.args.place c.requires c.in-Of.id c.in-Of.part
     c.in-Of.is
 
--- the steps of the number lead the word, behind where the part begins
+-- the steps of the number lead the word, after the start of the part
 part_led : (c : After-start_of) (u : WordUse)
     → slice_get (holder_words c.args.self.now c.args.holder) c.args.place ≡ Some u
     → IsLedBy c.args.self.now u c.steps_of-steps.result.now (c.start_of.result + c.args.place)

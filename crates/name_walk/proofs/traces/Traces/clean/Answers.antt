@@ -6,7 +6,7 @@ use Rattle.name_walk.proofs.Lists.{In-last}
 use Rattle.name_walk.proofs.Marks.{entered_pop}
 use Rattle.name_walk.proofs.traces.Traces.clean.Goals as goal
 
--- the name that was taken out was the last of them
+-- the removed name was the last entered name
 last_entered : {marks : List Mark} {names : List ℕ} (rest : List ℕ) (n : ℕ) → AreEntered marks names
     → names ≡ rest ++ n ∷ []
     → AreEntered marks (rest ++ n ∷ [])

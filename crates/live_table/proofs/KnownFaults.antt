@@ -1,0 +1,156 @@
+-- The facts known about faults stay right until an edit.
+use Rattle.std.proofs.Common.{◌≡◌, ◌⊎◌, ◌↔◌, ◌≤◌, ◌<◌, ℕ, Bool, true, List, [], length, set, Some, refl, sym, ◌∙◌, ap}
+use Rattle.std.proofs.Common.{subst}
+use Rattle.std.proofs.Common.{inl, inr, arith}
+use Rattle.std.specs.Prelude.{Result, Ok, Err, IfOk, Option, None}
+use Rattle.std.specs.declared.alloc.AllocError.{AllocError}
+use Rattle.std.specs.List.{slice_get}
+use Rattle.std.proofs.lemmas.Bool.{cases_eq}
+use Rattle.def_entry.specs.Tables.{Table}
+use Rattle.name_walk.specs.declared.step.Step.{Step}
+use Rattle.name_walk.specs.Closed.{IsSettled}
+use Rattle.name_walk.specs.declared.fault.Fault.{Fault}
+use Rattle.name_walk.specs.Faults.{fault}
+use Rattle.name_walk.specs.Findings.{AreFromQuery, Found, IsFirstFaulty, IsNothing}
+use Rattle.name_walk.specs.FindingsLaws.{FindingsLaw}
+use Rattle.name_walk.specs.Lists.{In}
+use Rattle.name_walk.specs.NewlyClosed.{IsReached}
+use Rattle.name_walk.specs.Steps.{Graph, LeadsTo, Reaches, at_once, further, steps}
+use Rattle.name_walk.specs.Trails.{Faults}
+use Rattle.name_walk.specs.Walks.{IsWalked, fault_view}
+use Rattle.name_walk.proofs.Marks.{get_set_other, get_set_same}
+use Rattle.tree_eval.specs.declared.outcome.Outcome.{Outcome}
+use Rattle.name_numbers.specs.Numbered.{LeadToKnown}
+use Rattle.live_table.specs.declared.callee.Callee.{Callee}
+use Rattle.live_table.specs.declared.dead_end.DeadEnd.{DeadEnd}
+use Rattle.live_table.specs.Asked.{IsClosing}
+use Rattle.live_table.specs.Due.{with_outcome}
+use Rattle.live_table.specs.Exploring.{AreAdded, AreAllExplored, AreGrown, IsKnown, WereExplored, is_known}
+use Rattle.live_table.specs.KnownFaults.{AreFaultsKnown, HaveSameSteps, IsFirstFault, IsLater}
+use Rattle.live_table.specs.Ranks.{ranked}
+use Rattle.live_table.specs.Sound.{AreNodes}
+use Rattle.live_table.specs.Stored.{Listed}
+use Rattle.live_table.proofs.AllExplored.{from_known}
+use Rattle.live_table.proofs.Growing.{more_length}
+use Rattle.live_table.proofs.Places.{element, get_lt}
+
+-- without findings nothing is claimed
+pub known_nothing : FindingsLaw → (l : Listed) (names : List ℕ) (f : Found) → IsNothing f → AreFaultsKnown l names f
+known_nothing law l names f none = record {
+  right = law.nothing l.graph l.settled f none;
+  among = λ n i. absurd (subst (λ (ns : List ℕ). In n ns) none.names i);
+}
+
+-- the facts known about faults stay right when names are added and the explored ones have the same steps
+pub known_grown : FindingsLaw → (t : Table) (l m : Listed) (before here there : List ℕ) (ends more : List DeadEnd)
+    (f : Found) → AreNodes t l → AreGrown t l m before here there ends more → HaveSameSteps before l m
+    → AreFaultsKnown l before f → AreFaultsKnown m before f
+known_grown law t l m before here there ends more f nodes grown same known = record {
+  right = law.still l.graph m.graph l.settled m.settled f known.right grown.nodes.net
+      (let a : length l.graph ≡ length l.keys = nodes.step_count in
+      let b : length m.graph ≡ length m.keys = grown.nodes.step_count in
+      let c : length l.keys ≤ length m.keys = more_length l.keys m.keys grown.keys_more in omega arith)
+      grown.settled_still (λ n i. same n (known.among n i));
+  among = known.among;
+}
+
+-- added names do not change the steps of others
+pub added_same : (t : Table) (l m : Listed) (before here there : List ℕ) (ends more : List DeadEnd)
+    → AreAdded t l m before here there ends more → WereExplored t l before ends → HaveSameSteps before l m
+added_same t l m before here there ends more added were n i = added.same.steps n (were.within n i) tt
+
+-- the facts known about faults stay right when more names are settled
+pub known_later : FindingsLaw → (t : Table) (l m : Listed) (names : List ℕ) (f : Found) → AreNodes t m → IsLater l m
+    → AreFaultsKnown l names f → AreFaultsKnown m names f
+known_later law t l m names f nodes later known = record {
+  right = law.still l.graph m.graph l.settled m.settled f known.right nodes.net
+      (let a : length m.graph ≡ length l.graph = ap length later.graph in omega arith)
+      later.settled (λ n i. ap (λ g. steps g n) later.graph);
+  among = known.among;
+}
+
+-- ---- nothing differs except that more names are settled
+pub later_same : (l : Listed) → IsLater l l
+later_same l = record { graph = refl; settled = λ n e. e }
+
+pub later_both : (l m k : Listed) → IsLater l m → IsLater m k → IsLater l k
+later_both l m k a b = record { graph = b.graph ∙ a.graph; settled = λ n e. b.settled n (a.settled n e) }
+
+still_settled : (ss : List Bool) (n m : ℕ) → IsSettled ss m → IsSettled (set ss n true) m
+still_settled ss n m e = elim (cases_eq m n) [
+  | inl q ↦
+      ap (slice_get (set ss n true)) q ∙ get_set_same ss n true (get_lt ss n true (ap (slice_get ss) (sym q) ∙ e))
+  | inr ne ↦ get_set_other ss n m true ne ∙ e
+]
+
+-- a name was settled, whatever the data of a function there
+pub settled_later : (l later : Listed) (n : ℕ) (o : Outcome) (rank : ℕ) → n < length l.callees
+    → ((c : Callee) → slice_get l.callees n ≡ Some c → later ≡ with_outcome n o (ranked rank c) l) → IsLater l later
+settled_later l later n o rank h put =
+    let found : (c : Callee) × (slice_get l.callees n ≡ Some c) = element l.callees n h in
+    subst (λ (x : Listed). IsLater l x) (sym (put found.0 found.1))
+    (record { graph = refl; settled = λ m e. still_settled l.settled n m e })
+
+-- ---- a search and a walk agree
+-- a walk without a fault
+pub walked_none : (l : Listed) (query : List Step) (order : List ℕ) → IsWalked l.graph l.settled query order None
+    → IsClosing l query order
+walked_none l query order walked = record { none = walked.0; closes = walked.1 }
+
+-- a walk after a search that found no fault
+walk_closing : (l : Listed) (query : List Step) (order : List ℕ) (r : Option Fault)
+    → fault l.graph [] query ≡ None → IsWalked l.graph l.settled query order r → IsClosing l query order
+walk_closing l query order None none walked = walked_none l query order walked
+walk_closing l query order (Some f) none walked = let e : None ≡ Some (fault_view f) = sym none ∙ walked in cc
+
+pub walked_closing : (l : Listed) (query : List Step) (order : List ℕ) (r : Option Fault)
+    → fault l.graph [] query ≡ None → (g : Graph) (s : List Bool) → g ≡ l.graph → s ≡ l.settled
+    → IsWalked g s query order r → IsClosing l query order
+walked_closing l query order r none g s same_graph same_settled walked =
+    walk_closing l query order r none
+    (subst (λ (p : Graph × List Bool). IsWalked p.0 p.1 query order r) (λ i. (same_graph i, same_settled i)) walked)
+
+-- a search after a walk that found a fault
+pub found_fault : (l : Listed) (query : List Step) (order : List ℕ) (fs : Faults)
+    (r : Result (Option Step) AllocError) (f : Fault) → IsWalked l.graph l.settled query order (Some f)
+    → IfOk r (IsFirstFaulty l.graph query fs) → IfOk r (IsFirstFault l query order fs)
+found_fault l query order fs (Ok None) f walked found =
+    let e : None ≡ Some (fault_view f) = sym found ∙ walked in cc
+found_fault l query order fs (Ok (Some x)) f walked found = found
+found_fault l query order fs (Err e) f walked found = found
+
+-- ---- the names below a query were explored
+module _ (t : Table) (l : Listed) (before list : List ℕ) (ends : List DeadEnd) (nodes : AreNodes t l)
+    (all : AreAllExplored t l before list ends) where
+  wider : (m : ℕ) → IsKnown l before [] m → IsKnown l before list m
+  wider m (inl e) = inl e
+  wider m (inr (inl i)) = inr (inl i)
+  wider m (inr (inr i)) = absurd i
+
+  step_known : (n m : ℕ) → IsKnown l before list n → LeadsTo l.graph n m → IsKnown l before list m
+  step_known n m (inl e) lead = inl ((nodes.net.settled n e).1 m lead)
+  step_known n m (inr (inl i)) lead = wider m ((all.explored.written n i).steps.targets m lead)
+  step_known n m (inr (inr i)) lead = (all.written n i).steps.targets m lead
+
+  below_known : (n m : ℕ) → IsKnown l before list n → Reaches l.graph n m → IsKnown l before list m
+  below_known n m k (at_once lead) = step_known n m k lead
+  below_known n m k (further lead r) = below_known _ m (step_known n _ k lead) r
+
+  pub reached_known : (query : List Step) → LeadToKnown (is_known l.settled before list) query → (n : ℕ)
+      → IsReached l.graph query n → IsKnown l before list n
+  reached_known query leads n (r, i, way) =
+      let k : IsKnown l before list r = from_known l before list r (leads r i) in
+      elim way [ inl e ↦ subst (λ (x : ℕ). IsKnown l before list x) (sym e) k | inr q ↦ below_known r n k q ]
+
+  -- each name for which a search has a finding was explored
+  pub found_among : (query : List Step) (old new names : List ℕ)
+      → LeadToKnown (is_known l.settled before list) query
+      → ((n : ℕ) → In n old → In n before) → AreFromQuery l.graph l.settled query old new
+      → ((m : ℕ) → In m names ↔ (In m before ⊎ In m list)) → (n : ℕ) → In n new → In n names
+  found_among query old new names leads among from put n i = elim (from n i) [
+    | inl j ↦ (put n).1 (inl (among n j))
+    | inr below ↦ elim (reached_known query leads n below.0) [
+      | inl e ↦ absurd (below.1 e)
+      | inr j ↦ (put n).1 j
+    ]
+  ]

@@ -1,0 +1,268 @@
+-- The results of queries that stop.
+use Rattle.std.proofs.Common.{◌≡◌, ◌⊎◌, ℕ, List, [], ◌∷◌, Option, Some, None, refl, sym, ◌∙◌, ap, subst, inl, inr}
+use Rattle.std.specs.Prelude.{Result, Ok, Err, IfOk, OnErr, OnOk, option_map}
+use Rattle.std.specs.declared.alloc.AllocError.{AllocError}
+use Rattle.quantity.specs.Amount.{Amount}
+use Rattle.def_entry.specs.Tables.{Table}
+use Rattle.name_walk.specs.declared.step.Step.{Step}
+use Rattle.name_walk.specs.Findings.{IsFaultOf, IsFaultyStep}
+use Rattle.name_walk.specs.Faults as walk
+use Rattle.name_walk.specs.Trails.{Faults}
+use Rattle.name_numbers.specs.Numbered.{named}
+use Rattle.tree_eval.specs.Steps.{Worth}
+use Rattle.table_names.specs.declared.fault.NameFault.{NameFault}
+use Rattle.live_table.specs.declared.dead_end.DeadEnd.{DeadEnd}
+use Rattle.live_table.specs.declared.fault.QueryFault.{QueryFault}
+use Rattle.live_table.specs.declared.fault.QueryFault.TheVariants as fault
+use Rattle.live_table.specs.declared.stop.Stop.{Stop}
+use Rattle.live_table.specs.declared.stop.Stop.TheVariants.{At, Below, OutOfMemory}
+use Rattle.live_table.specs.Answers.{by_names, value_in}
+use Rattle.live_table.specs.Answers as spec
+use Rattle.live_table.specs.Asked.{IsAnswered, IsAsked, fault_in}
+use Rattle.live_table.specs.Calls.{AreQueries, IsQuery}
+use Rattle.live_table.specs.Explored.{fault_at, fault_of}
+use Rattle.live_table.specs.QueryWords.{fault_before}
+use Rattle.live_table.specs.Shown.{Follows, Shown}
+use Rattle.live_table.specs.States.{Event}
+use Rattle.live_table.specs.Stops.{HoldsByName, IsCutStop, IsFaultBelow, IsNamed, IsNamedResult}
+use Rattle.live_table.specs.Stored.{Listed, key_at}
+use Rattle.live_table.proofs.Answering.{fault_answer, fault_query}
+use Rattle.live_table.proofs.Places.{some_same}
+use Rattle.live_table.proofs.Following.{query_answer}
+
+module _ {A : Type 0} (t : Table) (l : Listed) (ends : List DeadEnd) (fs : Faults)
+    (Holds : Result A QueryFault → Type 0) where
+  -- the result is lack of memory
+  pub no_memory : (result : Result A Stop) → result ≡ Err OutOfMemory → Holds (Err fault.OutOfMemory)
+      → HoldsByName t l ends fs result Holds
+  no_memory result e h =
+      subst (λ (r : Result A Stop). HoldsByName t l ends fs r Holds) (sym e)
+      (record { answer = Err fault.OutOfMemory; named = (fault.OutOfMemory, refl, refl); holds = h })
+
+  -- the result has no stop
+  pub answers_ok : (x : A) → HoldsByName t l ends fs (Ok x) Holds → Holds (Ok x)
+  answers_ok x a = subst Holds a.named a.holds
+
+  pub answered_ok : (result : Result A Stop) (x : A) → result ≡ Ok x → HoldsByName t l ends fs result Holds
+      → Holds (Ok x)
+  answered_ok result x e a = answers_ok x (subst (λ (r : Result A Stop). HoldsByName t l ends fs r Holds) e a)
+
+  -- the result is a stop that was named
+  pub answers_err : (stop : Stop) → HoldsByName t l ends fs (Err stop) Holds
+      → (q : QueryFault) × IsNamed t l ends fs stop q × Holds (Err q)
+  answers_err stop a = (a.named.0, a.named.1, subst Holds a.named.2 a.holds)
+
+  pub answered_err : (result : Result A Stop) (stop : Stop) → result ≡ Err stop
+      → HoldsByName t l ends fs result Holds → (q : QueryFault) × IsNamed t l ends fs stop q × Holds (Err q)
+  answered_err result stop e a =
+      answers_err stop (subst (λ (r : Result A Stop). HoldsByName t l ends fs r Holds) e a)
+
+  -- a stop of a part is a stop of the whole
+  pub passed_on : {B : Type 0} (Part : Result B QueryFault → Type 0) (stop : Stop)
+      → HoldsByName t l ends fs (Err stop) Part → ((q : QueryFault) → Part (Err q) → Holds (Err q))
+      → (result : Result A Stop) → result ≡ Err stop → HoldsByName t l ends fs result Holds
+  passed_on {B} Part stop a whole result e =
+      subst (λ (r : Result A Stop). HoldsByName t l ends fs r Holds) (sym e) (record {
+        answer = Err a.named.0;
+        named = (a.named.0, a.named.1, refl);
+        holds = whole a.named.0 (subst Part a.named.2 a.holds);
+      })
+
+-- ---- the fault of a step
+module _ (t : Table) (l : Listed) (ends : List DeadEnd) (fs : Faults) (query : List Step) (x : Step)
+    (of : IsFaultOf l.graph query x) (known : IsFaultyStep fs x) where
+  abbrev name_there : NameFault
+  name_there = named t (key_at l.keys) (fault_at ends) of.fault_there
+
+  pub fault_below : IsFaultBelow t l ends fs x (fault.Name name_there)
+  fault_below = record {
+    known = known;
+    name = name_there;
+    some = ap (option_map (named t (key_at l.keys) (fault_at ends))) of.of_step;
+    is = refl;
+  }
+
+  pub first_below : fault_in t l ends query ≡ Some name_there
+  first_below = ap (option_map (named t (key_at l.keys) (fault_at ends))) of.of_query
+
+  -- a query that stops at the step
+  pub stopped_below : (now : Shown) (n : ℕ)
+      → HoldsByName t l ends fs (Err (Below x))
+      (λ (answer : Result (Unit {0}) QueryFault). IsAnswered t l ends query answer now now n n)
+  stopped_below now n = record {
+    answer = Err (fault.Name name_there);
+    named = (fault.Name name_there, fault_below, refl);
+    holds = (
+      record { fault = of.fault_there; some = of.of_query; by_name = refl },
+      record { shown = refl; steps = refl },
+    );
+  }
+
+-- a query that stops at the step, from its fault by number
+pub by_number : (t : Table) (l : Listed) (ends : List DeadEnd) (x : Step) (w : walk.NameFault)
+    → walk.fault l.graph [] (x ∷ []) ≡ Some w → (r : Result NameFault AllocError)
+    → IfOk r (λ f. (t : Table) → f ≡ named t (key_at l.keys) (fault_at ends) w)
+    → IfOk r (λ f. fault_in t l ends (x ∷ []) ≡ Some f)
+by_number t l ends x w e (Ok f) h =
+    ap (option_map (named t (key_at l.keys) (fault_at ends))) e ∙ ap Some (sym (h t))
+by_number t l ends x w e (Err z) h = h
+
+-- ---- stops by name
+module _ (t : Table) (l : Listed) (ends : List DeadEnd) (fs : Faults) where
+  pub at_named : (end : DeadEnd) (stop : Stop) → stop ≡ At end → (r : Result NameFault AllocError)
+      → IfOk r (λ f. f ≡ fault_of (Some end) None)
+      → IfOk r (λ f. (q : QueryFault) → IsNamed t l ends fs stop q → q ≡ fault.Name f)
+  at_named end stop e (Ok f) h =
+      λ q is. subst (λ (s : Stop). IsNamed t l ends fs s q) e is ∙ ap fault.Name (sym h)
+  at_named end stop e (Err x) h = h
+
+  pub below_known : (x : Step) (stop : Stop) → stop ≡ Below x → (q : QueryFault) → IsNamed t l ends fs stop q
+      → IsFaultyStep fs x
+  below_known x stop e q is = (subst (λ (s : Stop). IsNamed t l ends fs s q) e is).known
+
+  pub below_named : (x : Step) (stop : Stop) → stop ≡ Below x → (r : Result NameFault AllocError)
+      → IfOk r (λ f. fault_in t l ends (x ∷ []) ≡ Some f)
+      → IfOk r (λ f. (q : QueryFault) → IsNamed t l ends fs stop q → q ≡ fault.Name f)
+  below_named x stop e (Ok f) h =
+      λ q is. let below = subst (λ (s : Stop). IsNamed t l ends fs s q) e is in
+      below.is ∙ ap fault.Name (some_same below.name f (sym below.some ∙ h))
+  below_named x stop e (Err z) h = h
+
+-- ---- a query that is cut before a word that leads nowhere
+pub cut_below : (t : Table) (l : Listed) (ends : List DeadEnd) (fs : Faults) (query : List Step) (end : DeadEnd)
+    (x : Step) → IsFaultOf l.graph query x → IsFaultyStep fs x → IsCutStop t l ends fs query end (Below x)
+cut_below t l ends fs query end x of known = record {
+  name = named t (key_at l.keys) (fault_at ends) of.fault_there;
+  named = fault_below t l ends fs query x of known;
+  first = ap (λ (o : Option NameFault). fault_before o end) (first_below t l ends fs query x of known);
+}
+
+pub cut_at : (t : Table) (l : Listed) (ends : List DeadEnd) (fs : Faults) (query : List Step) (end : DeadEnd)
+    → walk.fault l.graph [] query ≡ None → IsCutStop t l ends fs query end (At end)
+cut_at t l ends fs query end none = record {
+  name = fault_of (Some end) None;
+  named = refl;
+  first = ap (λ (o : Option walk.NameFault). fault_before (option_map (named t (key_at l.keys) (fault_at ends)) o) end)
+      none;
+}
+
+-- ---- the result of a call from that of a query
+module _ {A : Type 0} (event : Event) (name : Option NameFault) (Given : A → Type 0) (before now : Shown)
+    (old new : ℕ) (q : QueryFault) (asked : IsAsked event name Given (Err q) before now old new) where
+  -- the result is the fault, or lack of memory
+  pub named_answer : (worth : Worth) (r : QueryFault) → (r ≡ fault.OutOfMemory) ⊎ (r ≡ q)
+      → spec.Answers (Err r) (by_names name worth)
+  named_answer worth r (inl e) = inl (ap Err e)
+  named_answer worth r (inr e) =
+      subst (λ (x : QueryFault). spec.Answers (Err x) (by_names name worth)) (sym e)
+      (fault_answer event name Given before now old new worth q asked)
+
+  cut_query : now.deck ≡ before.deck → (p : QueryFault) → IsAsked event name Given (Err p) before now old new
+      → IsQuery event (Err fault.OutOfMemory) before now old new
+  cut_query same (fault.Name f) a = query_answer event (Err fault.OutOfMemory) before now old new same a.1
+  cut_query same (fault.Value v) a = absurd a
+  cut_query same fault.OutOfMemory a = a
+
+  pub named_query : now.deck ≡ before.deck → (r : QueryFault) → (r ≡ fault.OutOfMemory) ⊎ (r ≡ q)
+      → IsQuery event (Err r) before now old new
+  named_query same r (inl e) =
+      subst (λ (x : QueryFault). IsQuery event (Err x) before now old new) (sym e) (cut_query same q asked)
+  named_query same r (inr e) =
+      subst (λ (x : QueryFault). IsQuery event (Err x) before now old new) (sym e)
+      (fault_query event name Given before now old new q asked)
+
+-- ---- lack of memory is distinguished
+named_memory : (t : Table) (l : Listed) (ends : List DeadEnd) (fs : Faults) (stop : Stop) (q : QueryFault)
+    → IsNamed t l ends fs stop q → q ≡ fault.OutOfMemory → stop ≡ OutOfMemory
+named_memory t l ends fs (At end) q is e = let x : fault.Name _ ≡ fault.OutOfMemory = sym is ∙ e in cc
+named_memory t l ends fs (Below x) q is e = let y : fault.Name is.name ≡ fault.OutOfMemory = sym is.is ∙ e in cc
+named_memory t l ends fs OutOfMemory q is e = refl
+
+pub memory_named : (t : Table) (l : Listed) (ends : List DeadEnd) (fs : Faults) (stop : Stop) (q : QueryFault)
+    → IsNamed t l ends fs stop q → stop ≡ OutOfMemory → q ≡ fault.OutOfMemory
+memory_named t l ends fs (At end) q is e = cc
+memory_named t l ends fs (Below x) q is e = cc
+memory_named t l ends fs OutOfMemory q is e = is
+
+module _ {A : Type 0} (t : Table) (l : Listed) (ends : List DeadEnd) (fs : Faults) where
+  pub result_memory : (result : Result A Stop) (answer : Result A QueryFault)
+      → IsNamedResult t l ends fs result answer → answer ≡ Err fault.OutOfMemory → result ≡ Err OutOfMemory
+  result_memory (Ok x) answer is e = let y : Ok x ≡ Err fault.OutOfMemory = sym is ∙ e in cc
+  result_memory (Err stop) answer is e =
+      let y : Err is.0 ≡ Err fault.OutOfMemory = sym is.2 ∙ e in
+      let z : is.0 ≡ fault.OutOfMemory = cc in ap Err (named_memory t l ends fs stop is.0 is.1 z)
+
+  pub memory_result : (result : Result A Stop) (answer : Result A QueryFault)
+      → IsNamedResult t l ends fs result answer → result ≡ Err OutOfMemory → answer ≡ Err fault.OutOfMemory
+  memory_result (Ok x) answer is e = cc
+  memory_result (Err stop) answer is e =
+      let s : stop ≡ OutOfMemory = cc in is.2 ∙ ap Err (memory_named t l ends fs stop is.0 is.1 s)
+
+  -- if the stop is not lack of memory, the named result is not either
+  pub ok_by_name : (result : Result A Stop) (answer : Result A QueryFault) (done : Result (Unit {0}) AllocError)
+      → IsNamedResult t l ends fs result answer → OnOk done (result ≡ Err OutOfMemory → ⊥)
+      → OnOk done (answer ≡ Err fault.OutOfMemory → ⊥)
+  ok_by_name result answer (Ok u) is ok = λ e. ok (result_memory result answer is e)
+  ok_by_name result answer (Err x) is ok = ok
+
+  pub err_by_name : (result : Result A Stop) (answer : Result A QueryFault) (done : Result (Unit {0}) AllocError)
+      → IsNamedResult t l ends fs result answer → OnErr done (result ≡ Err OutOfMemory)
+      → OnErr done (answer ≡ Err fault.OutOfMemory)
+  err_by_name result answer (Ok u) is err = err
+  err_by_name result answer (Err x) is err = memory_result result answer is err
+
+-- ---- a stop alone
+module _ {A : Type 0} (t : Table) (l : Listed) (ends : List DeadEnd) (fs : Faults) (stop : Stop)
+    (done : Result A AllocError) (q : QueryFault) (is : IsNamed t l ends fs stop q) where
+  pub some_named : OnOk done (stop ≡ OutOfMemory → ⊥) → OnOk done (q ≡ fault.OutOfMemory → ⊥)
+  some_named = by done
+    where
+      by : (d : Result A AllocError) → OnOk d (stop ≡ OutOfMemory → ⊥) → OnOk d (q ≡ fault.OutOfMemory → ⊥)
+      by (Ok x) some = λ e. some (named_memory t l ends fs stop q is e)
+      by (Err x) some = some
+
+  pub memory_if_named : OnErr done (stop ≡ OutOfMemory) → OnErr done (q ≡ fault.OutOfMemory)
+  memory_if_named = by done
+    where
+      by : (d : Result A AllocError) → OnErr d (stop ≡ OutOfMemory) → OnErr d (q ≡ fault.OutOfMemory)
+      by (Ok x) err = err
+      by (Err x) err = memory_named t l ends fs stop q is err
+
+-- ---- the value of a query, if it has one
+module _ {A : Type 0} (event : Event) (name : Option NameFault) (Given : A → Type 0) (before now : Shown)
+    (old new : ℕ) (same : now.deck ≡ before.deck) where
+  -- there is no value if the names have a fault
+  pub no_value_in : (worth : Worth) (q : QueryFault) → (q ≡ fault.OutOfMemory → ⊥)
+      → IsAsked event name Given (Err q) before now old new → None ≡ value_in (by_names name worth)
+  no_value_in worth (fault.Name f) some a = ap (λ (o : Option NameFault). value_in (by_names o worth)) (sym a.0)
+  no_value_in worth (fault.Value v) some a = absurd a
+  no_value_in worth fault.OutOfMemory some a = absurd (some refl)
+
+  pub none_value : (done : Result (Option Amount) AllocError) (worth : Worth) (q : QueryFault)
+      → IfOk done (λ x. x ≡ None) → OnOk done (q ≡ fault.OutOfMemory → ⊥)
+      → IsAsked event name Given (Err q) before now old new
+      → IfOk done (λ x. x ≡ value_in (by_names name worth))
+  none_value (Ok x) worth q is some a = is ∙ no_value_in worth q some a
+  none_value (Err e) worth q is some a = is
+
+  pub no_value_queries : (done : Result (Option Amount) AllocError) (q : QueryFault)
+      → OnOk done (q ≡ fault.OutOfMemory → ⊥) → OnErr done (q ≡ fault.OutOfMemory)
+      → IsAsked event name Given (Err q) before now old new → AreQueries (event ∷ []) done before now old new
+  no_value_queries (Ok x) (fault.Name f) ok err a = a.1
+  no_value_queries (Ok x) (fault.Value v) ok err a = absurd a
+  no_value_queries (Ok x) fault.OutOfMemory ok err a = absurd (ok refl)
+  no_value_queries (Err e) q ok err a =
+      subst (λ (x : QueryFault). IsAsked event name Given (Err x) before now old new) err a
+
+  -- otherwise the value is that of the evaluation
+  pub value_queries : (done : Result (Option Amount) AllocError) → Follows (event ∷ []) before now old new
+      → AreQueries (event ∷ []) done before now old new
+  value_queries (Ok x) follows = follows
+  value_queries (Err e) follows = query_answer event (Err fault.OutOfMemory) before now old new same follows
+
+pub some_value_in : (done : Result (Option Amount) AllocError) (r answer : Result Amount QueryFault)
+    → IfOk done (λ x. x ≡ value_in r) → OnOk done (r ≡ Err fault.OutOfMemory → ⊥) → spec.Answers r answer
+    → IfOk done (λ x. x ≡ value_in answer)
+some_value_in (Ok x) r answer is some (inl e) = absurd (some e)
+some_value_in (Ok x) r answer is some (inr e) = is ∙ ap value_in e
+some_value_in (Err z) r answer is some a = is

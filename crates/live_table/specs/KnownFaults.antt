@@ -1,0 +1,29 @@
+-- The explored names that are known to have a fault.
+use Rattle.std.specs.Prelude.{◌≡◌, ℕ, List, Option, Some, None}
+use Rattle.name_walk.specs.declared.step.Step.{Step}
+use Rattle.name_walk.specs.Closed.{IsSettled}
+use Rattle.name_walk.specs.Findings.{AreRight, Found, IsFaultOf, IsFaultyStep}
+use Rattle.name_walk.specs.Lists.{In}
+use Rattle.name_walk.specs.Steps.{steps}
+use Rattle.name_walk.specs.Trails.{Faults}
+use Rattle.live_table.specs.Asked.{IsClosing}
+use Rattle.live_table.specs.Stored.{Listed}
+
+-- the findings are right, and each name with a finding was explored
+pub record AreFaultsKnown (l : Listed) (explored : List ℕ) (f : Found) : Type 0 where
+  pub right : AreRight l.graph l.settled f
+  pub among : (n : ℕ) → In n f.names → In n explored
+
+-- the names have the same steps in both states
+abbrev pub HaveSameSteps : List ℕ → Listed → Listed → Type 0
+HaveSameSteps names l m = (n : ℕ) → In n names → steps m.graph n ≡ steps l.graph n
+
+-- nothing differs except that more names are settled
+pub record IsLater (l m : Listed) : Type 0 where
+  pub graph : m.graph ≡ l.graph
+  pub settled : (n : ℕ) → IsSettled l.settled n → IsSettled m.settled n
+
+-- a query has no fault and newly closes these names, or its first fault is that of this step, which is known
+abbrev pub IsFirstFault : Listed → List Step → List ℕ → Faults → Option Step → Type 0
+IsFirstFault l query order fs None = IsClosing l query order
+IsFirstFault l query order fs (Some x) = IsFaultOf l.graph query x × IsFaultyStep fs x

@@ -1,0 +1,52 @@
+-- The stops of queries, and their faults.
+use Rattle.std.specs.Prelude.{◌≡◌, List, [], ◌∷◌, Some, None, Result, Ok, Err}
+use Rattle.def_entry.specs.Tables.{Table}
+use Rattle.name_walk.specs.declared.step.Step.{Step}
+use Rattle.name_walk.specs.Findings.{IsFaultyStep}
+use Rattle.name_walk.specs.Trails.{Faults}
+use Rattle.table_names.specs.declared.fault.NameFault.{NameFault}
+use Rattle.live_table.specs.declared.dead_end.DeadEnd.{DeadEnd}
+use Rattle.live_table.specs.declared.fault.QueryFault.{QueryFault}
+use Rattle.live_table.specs.declared.fault.QueryFault.TheVariants as fault
+use Rattle.live_table.specs.declared.stop.Stop.{Stop}
+use Rattle.live_table.specs.declared.stop.Stop.TheVariants.{At, Below, OutOfMemory}
+use Rattle.live_table.specs.Asked.{fault_in}
+use Rattle.live_table.specs.Explored.{fault_of}
+use Rattle.live_table.specs.QueryWords.{fault_before}
+use Rattle.live_table.specs.Stored.{Listed}
+
+-- the fault of a step that is known to have one
+pub record IsFaultBelow (table : Table) (l : Listed) (ends : List DeadEnd) (fs : Faults) (x : Step) (q : QueryFault)
+    : Type 0 where
+  pub known : IsFaultyStep fs x
+  pub name : NameFault
+  pub some : fault_in table l ends (x ∷ []) ≡ Some name
+  pub is : q ≡ fault.Name name
+
+-- the fault of a query with this stop
+abbrev pub IsNamed : Table → Listed → List DeadEnd → Faults → Stop → QueryFault → Type 0
+IsNamed table l ends fs (At end) q = q ≡ fault.Name (fault_of (Some end) None)
+IsNamed table l ends fs (Below x) q = IsFaultBelow table l ends fs x q
+IsNamed table l ends fs OutOfMemory q = q ≡ fault.OutOfMemory
+
+-- a result with its stop named
+abbrev pub IsNamedResult : {A : Type 0} → Table → Listed → List DeadEnd → Faults → Result A Stop → Result A QueryFault
+    → Type 0
+IsNamedResult table l ends fs (Ok x) answer = answer ≡ Ok x
+IsNamedResult table l ends fs (Err stop) answer =
+    (q : QueryFault) × IsNamed table l ends fs stop q × (answer ≡ Err q)
+
+-- the property holds of a result with its stop named
+pub record HoldsByName {A : Type 0} (table : Table) (l : Listed) (ends : List DeadEnd) (fs : Faults)
+    (result : Result A Stop) (Holds : Result A QueryFault → Type 0) : Type 0 where
+  pub answer : Result A QueryFault
+  pub named : IsNamedResult table l ends fs result answer
+  pub holds : Holds answer
+
+-- the stop of a query that is cut before a word that leads nowhere: its fault is the first one of the preceding words,
+-- or else that of the word
+pub record IsCutStop (table : Table) (l : Listed) (ends : List DeadEnd) (fs : Faults) (query : List Step)
+    (end : DeadEnd) (stop : Stop) : Type 0 where
+  pub name : NameFault
+  pub named : IsNamed table l ends fs stop (fault.Name name)
+  pub first : fault_before (fault_in table l ends query) end ≡ Some name

@@ -1,0 +1,317 @@
+-- What is known after the faults of the names of a path were recorded.
+use Rattle.std.proofs.Common.{◌≡◌, ◌⊎◌, ℕ, Bool, true, false, List, [], ◌∷◌, ◌++◌, Some, refl, sym, ◌∙◌, ap, subst}
+use Rattle.std.proofs.Common.{inl, inr, nat_eq, append_assoc}
+use Rattle.std.specs.List.{IsDistinct, slice_get}
+use Rattle.std.proofs.lemmas.Bool.{cases_Bool, cond-true, cond-false, eq-eqb, ne_eqb}
+use Rattle.name_walk.specs.declared.step.Step.{Step}
+use Rattle.name_walk.specs.declared.step.Step.TheVariants.{Nowhere, To}
+use Rattle.name_walk.specs.declared.traces.Frame.{Frame}
+use Rattle.name_walk.specs.declared.trail.Ending.{Ending}
+use Rattle.name_walk.specs.declared.trail.Ending.TheVariants.{At, Ring}
+use Rattle.name_walk.specs.declared.trail.FaultyStep.{FaultyStep}
+use Rattle.name_walk.specs.Faults.{on}
+use Rattle.name_walk.specs.Lists.{In, last}
+use Rattle.name_walk.specs.Noted.{AreNoted, above, end_for, passed, step_down}
+use Rattle.name_walk.specs.Steps.{Graph}
+use Rattle.name_walk.specs.Traces.{path}
+use Rattle.name_walk.specs.Trails.{AreFindings, AreTrails, EndsAt, Faults, Follows, GoesBy, IsFaulty, IsFirst, IsTrail}
+use Rattle.name_walk.proofs.Distinct.{distinct_append, distinct_apart, distinct_back, last_back, member_or, split_at}
+use Rattle.name_walk.proofs.Links.{AreLinked, head}
+use Rattle.name_walk.proofs.Lists.{In-on, In-right, distinct_front, on-In}
+use Rattle.name_walk.proofs.Trails.{all_faulty, follows_join, follows_same, follows_split}
+
+two_same : {A : Type 0} (a b : A) → Some (Some a) ≡ Some (Some b) → a ≡ b
+two_same a b e = cc
+
+to_name : (a b : ℕ) → To a ≡ To b → a ≡ b
+to_name a b e = cc
+
+-- ---- endings
+above_at : (e : ℕ) (below : List ℕ) → above (At e) below ≡ At e
+above_at e [] = refl
+above_at e (n ∷ below) = ap (λ d. passed d n) (above_at e below)
+
+above_out : (m : ℕ) (below : List ℕ) → (In m below → ⊥) → above (Ring m) below ≡ Ring m
+above_out m [] out = refl
+above_out m (n ∷ below) out =
+    ap (λ d. passed d n) (above_out m below (λ i. out (inr i)))
+    ∙ cond-false (nat_eq n m) (At m) (Ring m) (ne_eqb n m (λ e. out (inl (sym e))))
+
+above_in : (m : ℕ) (below : List ℕ) → In m below → above (Ring m) below ≡ At m
+above_in m [] i = absurd i
+above_in m (n ∷ below) i = elim (cases_Bool (on below m)) [
+  | inl t ↦ ap (λ d. passed d n) (above_in m below (on-In below m t))
+  | inr f ↦ ap (λ d. passed d n) (above_out m below (not_below f))
+      ∙ cond-true (nat_eq n m) (At m) (Ring m) (eq-eqb n m (is_head f i))
+]
+  where
+    not_below : on below m ≡ false → In m below → ⊥
+    not_below f j = let t : on below m ≡ true = In-on below m j in cc
+
+    is_head : on below m ≡ false → In m (n ∷ below) → n ≡ m
+    is_head f (inl e) = sym e
+    is_head f (inr j) = absurd (not_below f j)
+
+-- ---- the records of a path
+module _ (hs : Faults) (ending : Ending) (x : Step) where
+  noted_back : (front back : List ℕ) → AreNoted hs ending x (front ++ back) → AreNoted hs ending x back
+  noted_back [] back h = h
+  noted_back (n ∷ front) back h = noted_back front back h.1
+
+  pub noted_faulty : (ns : List ℕ) → AreNoted hs ending x ns → (n : ℕ) → In n ns → IsFaulty hs n
+  noted_faulty [] h n i = absurd i
+  noted_faulty (k ∷ ns) h n (inl e) =
+      subst (λ (j : ℕ). IsFaulty hs j) (sym e)
+      (record { step = step_down x ns; end = end_for (above ending ns) k }, h.0)
+  noted_faulty (k ∷ ns) h n (inr i) = noted_faulty ns h.1 n i
+
+  noted_follows : (n : ℕ) (below : List ℕ) → AreNoted hs ending x (n ∷ below) → Follows hs n below x
+  noted_follows n [] h = (record { step = x; end = end_for ending n }, h.0, refl)
+  noted_follows n (m ∷ below) h = (
+    (record { step = To m; end = end_for (above ending (m ∷ below)) n }, h.0, refl),
+    noted_follows m below h.1,
+  )
+
+  -- the faulty step of a recorded name leads to a name with a fault, or nowhere
+  noted_leads : (ns : List ℕ) → AreNoted hs ending x ns → ((k : ℕ) → In k ns → IsFaulty hs k)
+      → ((m : ℕ) → x ≡ To m → IsFaulty hs m) → (n m : ℕ) → In n ns → GoesBy hs n (To m) → IsFaulty hs m
+  noted_leads [] h all ends n m i b = absurd i
+  noted_leads (k ∷ ns) h all ends n m (inr i) b = noted_leads ns h.1 (λ j q. all j (inr q)) ends n m i b
+  noted_leads (k ∷ []) h all ends n m (inl e) b =
+      let c : FaultyStep = record { step = x; end = end_for ending k } in
+      let same : b.0 ≡ c = two_same b.0 c (sym b.1 ∙ (ap (slice_get hs) e ∙ h.0)) in
+      ends m (sym (ap (λ (d : FaultyStep). d.step) same) ∙ b.2)
+  noted_leads (k ∷ j ∷ ns) h all ends n m (inl e) b =
+      let c : FaultyStep = record { step = To j; end = end_for (above ending (j ∷ ns)) k } in
+      let same : b.0 ≡ c = two_same b.0 c (sym b.1 ∙ (ap (slice_get hs) e ∙ h.0)) in
+      subst (λ (i : ℕ). IsFaulty hs i) (to_name j m (sym (ap (λ (d : FaultyStep). d.step) same) ∙ b.2))
+      (all j (inr (inl refl)))
+
+-- ---- the first steps of a path
+module _ (g : Graph) (s : List Bool) (os : List ℕ) (x : Step) where
+  abbrev AreFirst : List ℕ → Type 0
+  AreFirst [] = Unit {0}
+  AreFirst (n ∷ below) = IsFirst g s os n (step_down x below) × AreFirst below
+
+  down_head : (fs : List Frame) (name : ℕ) → step_down x (path fs name) ≡ To (head fs name)
+  down_head [] name = refl
+  down_head (f ∷ fs) name = refl
+
+  linked_first : (fs : List Frame) (name : ℕ) → AreLinked g s os fs name → IsFirst g s os name x
+      → AreFirst (path fs name)
+  linked_first [] name l a = (a, tt)
+  linked_first (f ∷ fs) name l a = (
+    subst (λ (y : Step). IsFirst g s os f.name y) (sym (down_head fs name))
+        (record { place = f.place; at = l.0; before = l.1 }),
+    linked_first fs name l.2 a,
+  )
+
+  first_noted : (hs : Faults) (ending : Ending) (ns : List ℕ) → AreNoted hs ending x ns → AreFirst ns → (n : ℕ)
+      (c : FaultyStep) → In n ns → slice_get hs n ≡ Some (Some c) → IsFirst g s os n c.step
+  first_noted hs ending [] h a n c i e = absurd i
+  first_noted hs ending (k ∷ ns) h a n c (inr i) e = first_noted hs ending ns h.1 a.1 n c i e
+  first_noted hs ending (k ∷ ns) h a n c (inl q) e =
+      let d : FaultyStep = record { step = step_down x ns; end = end_for (above ending ns) k } in
+      let same : c ≡ d = two_same c d (sym e ∙ (ap (slice_get hs) q ∙ h.0)) in
+      subst (λ (v : ℕ × Step). IsFirst g s os v.0 v.1)
+      (λ i. (sym q i, ap (λ (b : FaultyStep). b.step) (sym same) i)) a.0
+
+-- a member of two joined lists is a member of one of them
+In_either : (xs ys : List ℕ) (n : ℕ) → In n (xs ++ ys) → In n xs ⊎ In n ys
+In_either [] ys n i = inr i
+In_either (x ∷ xs) ys n (inl e) = inl (inl e)
+In_either (x ∷ xs) ys n (inr i) = elim (In_either xs ys n i) [ inl j ↦ inl (inr j) | inr j ↦ inr j ]
+
+-- how a path ends by the step of its last name
+abbrev pub PathEnds : Faults → List ℕ → ℕ → Step → Ending → Type 0
+PathEnds fs ns here (Nowhere w) d = (d ≡ At here) × (last ns ≡ Some here)
+PathEnds fs ns here (To m) (At e) = (c : FaultyStep) × (slice_get fs m ≡ Some (Some c)) × (c.end ≡ e)
+PathEnds fs ns here (To m) (Ring k) = (k ≡ m) × In m ns
+
+-- ---- the ways from the names of a path
+module _ (fs hs : Faults) (ending : Ending) (x : Step) (ns : List ℕ) (noted : AreNoted hs ending x ns)
+    (others : (n : ℕ) → (In n ns → ⊥) → slice_get hs n ≡ slice_get fs n)
+    (fresh : (n : ℕ) → In n ns → IsFaulty fs n → ⊥) (once : IsDistinct nat_eq ns) (old : AreTrails fs) where
+  is_noted : (n : ℕ) → In n ns ⊎ (In n ns → ⊥)
+  is_noted n = member_or ns n
+
+  -- what was known about names is still known
+  still : (n : ℕ) (c : FaultyStep) → slice_get fs n ≡ Some (Some c) → slice_get hs n ≡ Some (Some c)
+  still n c e = others n (λ i. fresh n i (c, e)) ∙ e
+
+  pub still_faulty : (n : ℕ) → IsFaulty fs n → IsFaulty hs n
+  still_faulty n f = (f.0, still n f.0 f.1)
+
+  -- what is known about other names was known before
+  before : (n : ℕ) (c : FaultyStep) → (In n ns → ⊥) → slice_get hs n ≡ Some (Some c) → slice_get fs n ≡ Some (Some c)
+  before n c out e = sym (others n out) ∙ e
+
+  trail_still : (n e : ℕ) → IsTrail fs n e → IsTrail hs n e
+  trail_still n e t = record {
+    names = t.names;
+    step = t.step;
+    follows = follows_same fs hs still n t.names t.step t.follows;
+    once = t.once;
+    ends = t.ends;
+  }
+
+  -- a part of the path
+  module _ (front : List ℕ) (n : ℕ) (back : List ℕ) (whole : ns ≡ front ++ n ∷ back) where
+    here_noted : AreNoted hs ending x (n ∷ back)
+    here_noted = noted_back hs ending x front (n ∷ back) (subst (λ (ks : List ℕ). AreNoted hs ending x ks) whole noted)
+
+    here_once : IsDistinct nat_eq (front ++ n ∷ back)
+    here_once = subst (λ (ks : List ℕ). IsDistinct nat_eq ks) whole once
+
+    back_once : IsDistinct nat_eq (n ∷ back)
+    back_once = distinct_back front (n ∷ back) here_once
+
+    here_follows : Follows hs n back x
+    here_follows = noted_follows hs ending x n back here_noted
+
+    here_ends : (c : FaultyStep) → slice_get hs n ≡ Some (Some c) → c.end ≡ end_for (above ending back) n
+    here_ends c e =
+        let d : FaultyStep = record { step = step_down x back; end = end_for (above ending back) n } in
+        ap (λ (b : FaultyStep). b.end) (two_same c d (sym e ∙ here_noted.0))
+
+    in_whole : (k : ℕ) → In k (front ++ n ∷ back) → In k ns
+    in_whole k i = subst (λ (ks : List ℕ). In k ks) (sym whole) i
+
+    -- a way to a word that leads nowhere
+    to_dead_end : (w e : ℕ) → x ≡ Nowhere w → last ns ≡ Some e → IsTrail hs n e
+    to_dead_end w e is final = record {
+      names = back;
+      step = Nowhere w;
+      follows = subst (λ (y : Step). Follows hs n back y) is here_follows;
+      once = back_once;
+      ends = sym (last_back front n back) ∙ (ap last (sym whole) ∙ final);
+    }
+
+    -- a way to a name that is known to have a fault
+    ends_further : (m : ℕ) (ms : List ℕ) (y : Step) (e : ℕ) → EndsAt (m ∷ ms) y e
+        → EndsAt ((n ∷ back) ++ m ∷ ms) y e
+    ends_further m ms (Nowhere w) e h = last_back (n ∷ back) m ms ∙ h
+    ends_further m ms (To k) e h = (h.0, In-right (n ∷ back) (m ∷ ms) e h.1)
+
+    to_known : (m e : ℕ) → x ≡ To m → IsTrail fs m e → IsTrail hs n e
+    to_known m e is t =
+        let new : Follows hs m t.names t.step = follows_same fs hs still m t.names t.step t.follows in
+        record {
+          names = back ++ m ∷ t.names;
+          step = t.step;
+          follows = follows_join hs n back m t.names t.step (subst (λ (y : Step). Follows hs n back y) is here_follows)
+              new;
+          once = distinct_append (n ∷ back) (m ∷ t.names) back_once t.once
+              (λ k i j. fresh k (in_whole k (In-right front (n ∷ back) k i))
+              (all_faulty fs m t.names t.step t.follows k j));
+          ends = ends_further m t.names t.step e t.ends;
+        }
+
+    -- a way into a ring below the name
+    to_ring : (m : ℕ) → x ≡ To m → In m (n ∷ back) → IsTrail hs n m
+    to_ring m is i = record {
+      names = back;
+      step = To m;
+      follows = subst (λ (y : Step). Follows hs n back y) is here_follows;
+      once = back_once;
+      ends = (refl, i);
+    }
+
+  -- the way of a name in a ring, below the first name of the ring
+  in_ring : (m n : ℕ) (a b back : List ℕ) → x ≡ To m → ns ≡ a ++ m ∷ (b ++ n ∷ back) → IsTrail hs n n
+  in_ring m n a b back is whole =
+      let all : Follows hs m (b ++ n ∷ back) (To m) =
+      subst (λ (y : Step). Follows hs m (b ++ n ∷ back) y) is (here_follows a m (b ++ n ∷ back) whole) in
+      let parts : Follows hs m b (To n) × Follows hs n back (To m) = follows_split hs m b n back (To m) all in
+      let apart : IsDistinct nat_eq ((m ∷ b) ++ n ∷ back) = back_once a m (b ++ n ∷ back) whole in
+      record {
+        names = back ++ m ∷ b;
+        step = To n;
+        follows = follows_join hs n back m b (To n) parts.1 parts.0;
+        once = distinct_append (n ∷ back) (m ∷ b) (distinct_back (m ∷ b) (n ∷ back) apart)
+            (front_once (m ∷ b) (n ∷ back) apart) (λ k i j. distinct_apart (m ∷ b) (n ∷ back) apart k j i);
+        ends = (refl, inl refl);
+      }
+    where
+      front_once : (xs ys : List ℕ) → IsDistinct nat_eq (xs ++ ys) → IsDistinct nat_eq xs
+      front_once xs ys h = distinct_front xs ys h
+
+  -- the name at which the fault of a name occurs is the one given by the ending
+  end_is : (front : List ℕ) (n : ℕ) (back : List ℕ) → ns ≡ front ++ n ∷ back → (d : Ending)
+      → above ending back ≡ d → (c : FaultyStep) → slice_get hs n ≡ Some (Some c) → c.end ≡ end_for d n
+  end_is front n back whole d same c e = here_ends front n back whole c e ∙ ap (λ q. end_for q n) same
+
+  trail_in_ring : (m : ℕ) → x ≡ To m → ending ≡ Ring m → In m ns → (n : ℕ) (c : FaultyStep) (front back : List ℕ)
+      → ns ≡ front ++ n ∷ back → slice_get hs n ≡ Some (Some c) → In m back ⊎ (In m back → ⊥) → IsTrail hs n c.end
+  trail_in_ring m xe de i n c front back whole e (inl j) =
+      subst (λ (k : ℕ). IsTrail hs n k)
+      (sym (end_is front n back whole (At m) (ap (λ d. above d back) de ∙ above_in m back j) c e))
+      (to_ring front n back whole m xe (inr j))
+  trail_in_ring m xe de i n c front back whole e (inr out) =
+      subst (λ (k : ℕ). IsTrail hs n k)
+      (sym (end_is front n back whole (Ring m) (ap (λ d. above d back) de ∙ above_out m back out) c e))
+      (elim (In_either front (n ∷ back) m (subst (λ (ks : List ℕ). In m ks) whole i)) [
+        | inl j ↦ above_here j
+        | inr j ↦ elim j [
+          | inl q ↦ subst (λ (k : ℕ). IsTrail hs n k) q (to_ring front n back whole m xe (inl q))
+          | inr k ↦ absurd (out k)
+        ]
+      ])
+    where
+      above_here : In m front → IsTrail hs n n
+      above_here j =
+          let r = split_at front m j in
+          in_ring m n r.front r.back back xe
+          (whole ∙ (ap (λ (ks : List ℕ). ks ++ n ∷ back) r.whole ∙ append_assoc r.front (m ∷ r.back) (n ∷ back)))
+
+  trail_by : (here : ℕ) (y : Step) (d : Ending) → x ≡ y → ending ≡ d → PathEnds fs ns here y d → (n : ℕ)
+      (c : FaultyStep) → In n ns → slice_get hs n ≡ Some (Some c) → IsTrail hs n c.end
+  trail_by here (Nowhere w) d xe de p n c i e =
+      let r = split_at ns n i in
+      subst (λ (k : ℕ). IsTrail hs n k)
+      (sym (end_is r.front n r.back r.whole (At here)
+      (ap (λ q. above q r.back) (de ∙ p.0) ∙ above_at here r.back) c e))
+      (to_dead_end r.front n r.back r.whole w here xe p.1)
+  trail_by here (To m) (At f) xe de p n c i e =
+      let r = split_at ns n i in
+      subst (λ (k : ℕ). IsTrail hs n k)
+      (sym (end_is r.front n r.back r.whole (At f) (ap (λ q. above q r.back) de ∙ above_at f r.back) c e))
+      (to_known r.front n r.back r.whole m f xe (subst (λ (k : ℕ). IsTrail fs m k) p.2 (old.trails m p.0 p.1)))
+  trail_by here (To m) (Ring k) xe de p n c i e =
+      let r = split_at ns n i in
+      trail_in_ring m xe (de ∙ ap Ring p.0) p.1 n c r.front r.back r.whole e
+      (member_or r.back m)
+
+  last_leads : (here : ℕ) (y : Step) (d : Ending) → PathEnds fs ns here y d → (m : ℕ) → y ≡ To m → IsFaulty hs m
+  last_leads here (Nowhere w) d p m e = absurd (cc)
+  last_leads here (To k) (At f) p m e =
+      subst (λ (j : ℕ). IsFaulty hs j) (to_name k m e) (still_faulty k (p.0, p.1))
+  last_leads here (To k) (Ring j) p m e =
+      subst (λ (j : ℕ). IsFaulty hs j) (to_name k m e) (noted_faulty hs ending x ns noted k p.1)
+
+  pub path_trails : (here : ℕ) → PathEnds fs ns here x ending → AreTrails hs
+  path_trails here p = record {
+    leads = λ n m b. elim (is_noted n) [
+      | inl i ↦ noted_leads hs ending x ns noted (noted_faulty hs ending x ns noted)
+          (last_leads here x ending p) n m i b
+      | inr out ↦ still_faulty m (old.leads n m (b.0, before n b.0 out b.1, b.2))
+    ];
+    trails = λ n c e. elim (is_noted n) [
+      | inl i ↦ trail_by here x ending refl refl p n c i e
+      | inr out ↦ trail_still n c.end (old.trails n c (before n c out e))
+    ];
+  }
+
+  pub path_findings : (g : Graph) (s : List Bool) (os : List ℕ) (frames : List Frame) (name : ℕ)
+      → ns ≡ path frames name → AreLinked g s os frames name → IsFirst g s os name x → AreFindings g s os fs
+      → AreFindings g s os hs
+  path_findings g s os frames name same linked at are = record {
+    sound = are.sound;
+    first = λ n c e. elim (is_noted n) [
+      | inl i ↦ first_noted g s os x hs ending (path frames name)
+          (subst (λ (ks : List ℕ). AreNoted hs ending x ks) same noted) (linked_first g s os x frames name linked at) n
+          c
+          (subst (λ (ks : List ℕ). In n ks) same i) e
+      | inr out ↦ are.first n c (before n c out e)
+    ];
+  }

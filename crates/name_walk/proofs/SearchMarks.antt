@@ -1,0 +1,99 @@
+-- The marks of a running search.
+use Rattle.std.proofs.Common.{◌≡◌, ◌⊎◌, ℕ, ◌<◌, List, [], ◌∷◌, ◌++◌, length}
+use Rattle.std.proofs.Common.{set, Some, sym, ◌∙◌, ap, subst, inl, inr}
+use Rattle.std.specs.List.{slice_get}
+use Rattle.std.proofs.lemmas.Bool.{cases_eq}
+use Rattle.std.proofs.lemmas.Option.{slice_get_within}
+use Rattle.name_walk.specs.declared.mark.Mark.{Mark}
+use Rattle.name_walk.specs.declared.mark.Mark.TheVariants.{Closed, OnPath, Open}
+use Rattle.name_walk.specs.Findings.{CanClear}
+use Rattle.name_walk.specs.Lists.{In}
+use Rattle.name_walk.specs.Traces.{AreEntered}
+use Rattle.name_walk.specs.Trails.{Faults, IsFaulty}
+use Rattle.name_walk.proofs.Lists.{In-last, In-left, In-push}
+use Rattle.name_walk.proofs.Marks.{entered_again, entered_in, entered_push, get_set_other, get_set_same}
+
+-- the mark of the name at which one was put, and of any other
+set_mark : (ms : List Mark) (n : ℕ) (v : Mark) (k : ℕ) (w : Mark) → n < length ms → slice_get (set ms n v) k ≡ Some w
+    → ((k ≡ n) × (w ≡ v)) ⊎ ((k ≡ n → ⊥) × (slice_get ms k ≡ Some w))
+set_mark ms n v k w l e = elim (cases_eq k n) [
+  | inl q ↦ inl (q, is_put q)
+  | inr ne ↦ inr (ne, sym (get_set_other ms n k v ne) ∙ e)
+]
+  where
+    is_put : k ≡ n → w ≡ v
+    is_put q =
+        let f : slice_get (set ms n v) k ≡ Some v = ap (slice_get (set ms n v)) q ∙ get_set_same ms n v l in
+        cc
+
+-- one thing about marks and the names that have one
+pub record AreMarks (ms : List Mark) (es os : List ℕ) (fs : Faults) (ps : List ℕ) : Type 0 where
+  pub entered : AreEntered ms es
+  pub within : (n : ℕ) → In n es → n < length fs
+  pub noted : (n : ℕ) → IsFaulty fs n → In n es
+  pub closed : (n : ℕ) → slice_get ms n ≡ Some Closed → In n os
+  pub sound : (n : ℕ) → In n os → In n es
+  pub marked : (n : ℕ) → slice_get ms n ≡ Some OnPath → In n ps ⊎ IsFaulty fs n
+  pub on_path : (n : ℕ) → In n ps → slice_get ms n ≡ Some OnPath
+  pub fresh : (n : ℕ) → In n ps → IsFaulty fs n → ⊥
+
+-- the marks can be cleared
+pub marks_clear : (ms : List Mark) (es os : List ℕ) (fs : Faults) (ps : List ℕ) → AreMarks ms es os fs ps
+    → CanClear ms es fs
+marks_clear ms es os fs ps h = record { entered = h.entered; within = h.within; noted = h.noted }
+
+-- an open name is put on the path
+pub marks_enter : (ms : List Mark) (es os : List ℕ) (fs : Faults) (ps : List ℕ) (m : ℕ) → AreMarks ms es os fs ps
+    → slice_get ms m ≡ Some Open → m < length fs → (IsFaulty fs m → ⊥)
+    → AreMarks (set ms m OnPath) (es ++ m ∷ []) os fs (ps ++ m ∷ [])
+marks_enter ms es os fs ps m h is_open there faultless =
+    let here : m < length ms = slice_get_within ms m Open is_open in
+    record {
+      entered = entered_push ms m here OnPath es h.entered;
+      within = λ n i. elim (In-push es m n i)
+          [ inl j ↦ h.within n j | inr e ↦ subst (λ (k : ℕ). k < length fs) (sym e) there ];
+      noted = λ n f. In-left es (m ∷ []) n (h.noted n f);
+      closed = λ n e. elim (set_mark ms m OnPath n Closed here e)
+          [ inl q ↦ absurd (let d : Closed ≡ OnPath = q.1 in cc) | inr q ↦ h.closed n q.1 ];
+      sound = λ n i. In-left es (m ∷ []) n (h.sound n i);
+      marked = λ n e. elim (set_mark ms m OnPath n OnPath here e) [
+        | inl q ↦ inl (subst (λ (k : ℕ). In k (ps ++ m ∷ [])) (sym q.0) (In-last ps m))
+        | inr q ↦ elim (h.marked n q.1) [ inl i ↦ inl (In-left ps (m ∷ []) n i) | inr f ↦ inr f ]
+      ];
+      on_path = λ n i. elim (In-push ps m n i) [
+        | inl j ↦ get_set_other ms m n OnPath (λ q. let a : slice_get ms m ≡ Some OnPath =
+            ap (slice_get ms) (sym q) ∙ h.on_path n j in cc) ∙ h.on_path n j
+        | inr e ↦ ap (slice_get (set ms m OnPath)) e ∙ get_set_same ms m OnPath here
+      ];
+      fresh = λ n i f. elim (In-push ps m n i)
+          [ inl j ↦ h.fresh n j f | inr e ↦ faultless (subst (λ (k : ℕ). IsFaulty fs k) e f) ];
+    }
+
+-- the last name of the path is closed
+pub marks_close : (ms : List Mark) (es os : List ℕ) (fs : Faults) (ps : List ℕ) (m : ℕ)
+    → AreMarks ms es os fs (ps ++ m ∷ []) → (In m ps → ⊥) → AreMarks (set ms m Closed) es (os ++ m ∷ []) fs ps
+marks_close ms es os fs ps m h apart =
+    let mark : slice_get ms m ≡ Some OnPath = h.on_path m (In-last ps m) in
+    let here : m < length ms = slice_get_within ms m OnPath mark in
+    let there : In m es = entered_in OnPath (λ q. cc) ms es m h.entered mark in
+    record {
+      entered = entered_again ms m here Closed es there h.entered;
+      within = h.within;
+      noted = h.noted;
+      closed = λ n e. elim (set_mark ms m Closed n Closed here e) [
+        | inl q ↦ subst (λ (k : ℕ). In k (os ++ m ∷ [])) (sym q.0) (In-last os m)
+        | inr q ↦ In-left os (m ∷ []) n (h.closed n q.1)
+      ];
+      sound = λ n i. elim (In-push os m n i)
+          [ inl j ↦ h.sound n j | inr e ↦ subst (λ (k : ℕ). In k es) (sym e) there ];
+      marked = λ n e. elim (set_mark ms m Closed n OnPath here e) [
+        | inl q ↦ absurd (let d : OnPath ≡ Closed = q.1 in cc)
+        | inr q ↦ elim (h.marked n q.1) [
+          | inl i ↦ elim (In-push ps m n i) [ inl j ↦ inl j | inr d ↦ absurd (q.0 d) ]
+          | inr f ↦ inr f
+        ]
+      ];
+      on_path = λ n i. get_set_other ms m n Closed (λ q. apart (subst (λ (k : ℕ). In k ps) q i))
+          ∙ h.on_path n (In-left ps (m ∷ []) n i);
+      fresh = λ n i f. h.fresh n (In-left ps (m ∷ []) n i) f;
+    }

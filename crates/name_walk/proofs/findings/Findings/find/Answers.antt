@@ -1,0 +1,69 @@
+use Rattle.std.proofs.Common.{ℕ, List, subst, sym}
+use Rattle.name_walk.specs.Findings.{AreFromQuery, AreRight, Found}
+use Rattle.name_walk.specs.Lists.{In}
+use Rattle.name_walk.proofs.Keeping.{nothing_consistent, nothing_right}
+use Rattle.name_walk.proofs.findings.Findings.find.Goals as goal
+
+pub search_from-requires-clause-net : goal.search_from-requires-clause-net
+search_from-requires-clause-net c = c.requires.net
+
+pub search_from-requires-clause-query : goal.search_from-requires-clause-query
+search_from-requires-clause-query c = c.requires.query
+
+pub search_from-requires-clause-consistent : goal.search_from-requires-clause-consistent
+search_from-requires-clause-consistent c = c.self.invariant
+
+pub search_from-requires-clause-right : goal.search_from-requires-clause-right
+search_from-requires-clause-right c =
+    (subst (λ (f : Found). AreRight c.args.net.now.steps.now c.args.net.now.settled.now f) (sym c.self.view_is)
+    c.requires.right).are
+
+pub invariant_of-self : goal.invariant_of-self
+invariant_of-self c = c.in-Ok.ensures.consistent
+
+pub clear-requires : goal.clear-requires
+clear-requires c = c.in-Err.ensures.can_clear
+
+pub invariant_of-self-in-Err : goal.invariant_of-self-in-Err
+invariant_of-self-in-Err c =
+    nothing_consistent c.clear.new.traces c.clear.new.faults.items c.clear.ensures.marks c.clear.ensures.order
+    c.clear.ensures.faults
+
+pub returns-in-Ok-clause-right : goal.returns-in-Ok-clause-right
+returns-in-Ok-clause-right c = record {
+  are = c.in-Ok.ensures.right;
+  sound_named = c.in-Ok.ensures.consistent.sound;
+  faulty_named = c.in-Ok.ensures.consistent.can_clear.noted;
+}
+
+pub returns-in-Ok-clause-names : goal.returns-in-Ok-clause-names
+returns-in-Ok-clause-names c =
+    subst (λ (f : Found). AreFromQuery c.args.net.now.steps.now c.args.net.now.settled.now c.args.query.now f.names
+    c.search_from.new.traces.entered) c.self.view_is c.in-Ok.ensures.names
+
+pub returns-in-Ok-clause-found : goal.returns-in-Ok-clause-found
+returns-in-Ok-clause-found c = c.in-Ok.ensures.found
+
+pub returns-in-Ok-clause-err : goal.returns-in-Ok-clause-err
+returns-in-Ok-clause-err c = tt
+
+pub returns-in-Err-clause-right : goal.returns-in-Err-clause-right
+returns-in-Err-clause-right c =
+    nothing_right _ _ _ (record {
+      sound = c.clear.ensures.order;
+      faultless = c.clear.ensures.faults;
+      names = c.clear.ensures.marks.entered;
+    })
+
+pub returns-in-Err-clause-names : goal.returns-in-Err-clause-names
+returns-in-Err-clause-names c n i = absurd (subst (λ (ns : List ℕ). In n ns) c.clear.ensures.marks.entered i)
+
+pub returns-in-Err-clause-found : goal.returns-in-Err-clause-found
+returns-in-Err-clause-found c = tt
+
+pub returns-in-Err-clause-err : goal.returns-in-Err-clause-err
+returns-in-Err-clause-err c = record {
+  sound = c.clear.ensures.order;
+  faultless = c.clear.ensures.faults;
+  names = c.clear.ensures.marks.entered;
+}

@@ -1,0 +1,67 @@
+-- The results of searches for faults, valid as long as no step changes.
+use Rattle.std.specs.Prelude.{◌≡◌, ◌⊎◌, ◌<◌, ⊤, ℕ, Bool, List, [], ◌∷◌, length, Option, Some, None, slice_get}
+use Rattle.name_walk.specs.declared.mark.Mark.{Mark}
+use Rattle.name_walk.specs.declared.mark.Mark.TheVariants.{Closed, OnPath}
+use Rattle.name_walk.specs.declared.step.Step.{Step}
+use Rattle.name_walk.specs.declared.step.Step.TheVariants.{Nowhere, To}
+use Rattle.name_walk.specs.Closed.{IsSettled}
+use Rattle.name_walk.specs.Faults.{NameFault, fault}
+use Rattle.name_walk.specs.Lists.{In}
+use Rattle.name_walk.specs.NewlyClosed.{IsReached}
+use Rattle.name_walk.specs.Steps.{Graph}
+use Rattle.name_walk.specs.Traces.{AreEntered, Trace}
+use Rattle.name_walk.specs.Trails.{AreFindings, AreTrails, Faults, IsFaulty}
+
+-- the names that are known to be sound, what is known about the names with a fault, and all names about which
+-- something is known
+pub record Found : Type 0 where
+  pub sound : List ℕ
+  pub faults : Faults
+  pub names : List ℕ
+
+-- what is known about names is true, and `f.names` are all the names about which something is known
+pub record AreRight (g : Graph) (s : List Bool) (f : Found) : Type 0 where
+  pub are : AreFindings g s f.sound f.faults
+  pub sound_named : (n : ℕ) → In n f.sound → In n f.names
+  pub faulty_named : (n : ℕ) → IsFaulty f.faults n → In n f.names
+
+-- marks and faults can be cleared: each name that has one is in the list
+pub record CanClear (ms : List Mark) (es : List ℕ) (fs : Faults) : Type 0 where
+  pub entered : AreEntered ms es
+  pub within : (n : ℕ) → In n es → n < length fs
+  pub noted : (n : ℕ) → IsFaulty fs n → In n es
+
+-- each mark agrees with what is known about its name, and each name with a fault has a way to it
+pub record IsConsistent (t : Trace) (fs : Faults) : Type 0 where
+  pub can_clear : CanClear t.marks t.entered fs
+  pub closed : (n : ℕ) → slice_get t.marks n ≡ Some Closed → In n t.order
+  pub sound : (n : ℕ) → In n t.order → In n t.entered
+  pub trails : AreTrails fs
+  pub off_path : (n : ℕ) → slice_get t.marks n ≡ Some OnPath → IsFaulty fs n
+  pub frames : t.frames ≡ []
+
+-- nothing is known about any name
+pub record IsNothing (f : Found) : Type 0 where
+  pub sound : f.sound ≡ []
+  pub faultless : (n : ℕ) → IsFaulty f.faults n → ⊥
+  pub names : f.names ≡ []
+
+-- a step leads nowhere, or to a name that is known to have a fault
+abbrev pub IsFaultyStep : Faults → Step → Type 0
+IsFaultyStep fs (Nowhere w) = ⊤
+IsFaultyStep fs (To n) = IsFaulty fs n
+
+-- the first fault of a query is that of one of its steps
+pub record IsFaultOf (g : Graph) (query : List Step) (x : Step) : Type 0 where
+  pub fault_there : NameFault
+  pub of_step : fault g [] (x ∷ []) ≡ Some fault_there
+  pub of_query : fault g [] query ≡ Some fault_there
+
+-- a query has no fault, or its first fault is that of this step
+abbrev pub IsFirstFaulty : Graph → List Step → Faults → Option Step → Type 0
+IsFirstFaulty g query fs None = fault g [] query ≡ None
+IsFirstFaulty g query fs (Some x) = IsFaultOf g query x × IsFaultyStep fs x
+
+-- each name about which something is now known was known before, or is reached by the query and not settled
+abbrev pub AreFromQuery : Graph → List Bool → List Step → List ℕ → List ℕ → Type 0
+AreFromQuery g s query old new = (n : ℕ) → In n new → In n old ⊎ (IsReached g query n × (IsSettled s n → ⊥))

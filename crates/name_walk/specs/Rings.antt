@@ -1,0 +1,18 @@
+-- Rings of names.
+use Rattle.std.specs.Prelude.{◌≡◌, ◌<◌, ℕ, List, [], ◌∷◌, length, nat_eq}
+use Rattle.std.specs.List.{IsDistinct}
+use Rattle.name_walk.specs.declared.step.Step.TheVariants.{To}
+use Rattle.name_walk.specs.Lists.{In}
+use Rattle.name_walk.specs.Trails.{Faults, GoesBy}
+
+-- from the name `here`, the faulty steps lead through these names and then to `last`
+abbrev pub IsWay : Faults → (last here : ℕ) → List ℕ → Type 0
+IsWay fs last here [] = here ≡ last
+IsWay fs last here (n ∷ ns) =
+    (here ≡ n) × (n ≡ last → ⊥) × ((m : ℕ) × GoesBy fs n (To m) × IsWay fs last m ns)
+
+-- from `here` the faulty steps lead back to `name`, through no name twice
+pub record IsRing (fs : Faults) (name here : ℕ) (rest : List ℕ) : Type 0 where
+  pub way : IsWay fs name here rest
+  pub once : IsDistinct nat_eq (name ∷ rest)
+  pub there : (n : ℕ) → In n (name ∷ rest) → n < length fs

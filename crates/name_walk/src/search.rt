@@ -1,0 +1,208 @@
+//! The search for the first fault below a query.
+
+ghost use Rattle.std.specs.Prelude.{◌≡◌, ◌<◌, ◌≤◌, [], ℕ, length, IfOk};
+ghost use Rattle.name_walk.specs.Findings.{AreFromQuery, CanClear, IsConsistent, IsFirstFaulty};
+ghost use Rattle.name_walk.specs.Nets.{IsNet};
+ghost use Rattle.name_walk.specs.Searches as spec;
+ghost use Rattle.name_walk.specs.Steps.{AreKnown};
+ghost use Rattle.name_walk.specs.Traces.{IsIdle};
+ghost use Rattle.name_walk.specs.Trails.{AreFindings, IsFaulty};
+
+use crate::mark::Mark;
+use crate::net::Net;
+use crate::step::Step;
+use crate::traces::{Frame, Traces};
+use crate::trail::{Ending, FaultyStep, note_path};
+use crate::visit::mark_of;
+use std::alloc::{AllocError, Global};
+
+// The result of looking at one step.
+enum Finding {
+    // It leads to a name that is settled or sound.
+    Sound,
+    // It leads to a name about which nothing is known.
+    Open(usize),
+    // It has a fault.
+    Faulty(Ending),
+}
+
+// Classifies a step of `name`, which is the last name on the path.
+fn step_finding(
+    net: &Net,
+    traces: &Traces,
+    faults: &[Option<FaultyStep>],
+    name: usize,
+    step: Step,
+) -> Finding
+    requires known { spec.CanFind net.now.settled.now traces.now.marks faults.now step }
+    ensures { spec.IsFinding net.now.settled.now traces.now.marks faults.now name step result }
+{
+    let next = match step {
+        Step::Nowhere(_) => return Finding::Faulty(Ending::At(name)),
+        Step::To(next) => next,
+    };
+    if let Some(faulty) = faults[next] {
+        return Finding::Faulty(Ending::At(faulty.end));
+    }
+    match mark_of(net, traces, next) {
+        Mark::Closed => Finding::Sound,
+        Mark::OnPath => Finding::Faulty(Ending::Ring(next)),
+        Mark::Open => Finding::Open(next),
+    }
+}
+
+// Searches an open name and everything that it reaches, up to the first fault, and returns whether there is one. Each
+// iteration of the loop passes one step, or goes down or up one name. The tactics do not terminate here, so all goals
+// have answers.
+#[tactic(none)]
+fn search_name(
+    net: &Net,
+    start: usize,
+    traces: &mut Traces,
+    faults: &mut Vec<Option<FaultyStep>>,
+) -> Result<bool, AllocError>
+    requires net { IsNet net.now.steps.now net.now.settled.now }
+    requires between { spec.IsBetween net.now.steps.now net.now.settled.now traces.old faults.old.items }
+    requires fresh { spec.IsOpen net.now.settled.now traces.old.marks faults.old.items start }
+    ensures can_clear { CanClear traces.new.marks traces.new.entered faults.new.items }
+    ensures found { IfOk result (spec.IsSearched net.now.steps.now net.now.settled.now start traces.old traces.new
+        faults.old.items faults.new.items) }
+{
+    traces.enter(start)?;
+    let mut here = Frame::first(start);
+    loop {
+        let Some(step) = net.step(here.name, here.place) else {
+            traces.close(here.name)?;
+            let Some(above) = traces.pop() else {
+                return Ok(false);
+            };
+            here = above.next();
+            continue;
+        };
+        match step_finding(net, traces, faults, here.name, step) {
+            Finding::Sound => here = here.next(),
+            Finding::Open(next) => {
+                traces.push(here)?;
+                traces.enter(next)?;
+                here = Frame::first(next);
+            }
+            Finding::Faulty(ending) => {
+                note_path(traces, faults, here.name, step, ending);
+                return Ok(true);
+            }
+        }
+    }
+}
+
+// Returns the first step of a query that has a fault.
+pub(crate) fn search_query(
+    net: &Net,
+    query: &[Step],
+    traces: &mut Traces,
+    faults: &mut Vec<Option<FaultyStep>>,
+) -> Result<Option<Step>, AllocError>
+    requires net { IsNet net.now.steps.now net.now.settled.now }
+    requires query { AreKnown net.now.steps.now query.now }
+    requires between { spec.IsBetween net.now.steps.now net.now.settled.now traces.old faults.old.items }
+    ensures can_clear { CanClear traces.new.marks traces.new.entered faults.new.items }
+    ensures between { IfOk result
+        (λ _. spec.IsBetween net.now.steps.now net.now.settled.now traces.new faults.new.items) }
+    ensures names { IfOk result (λ _. AreFromQuery net.now.steps.now net.now.settled.now query.now traces.old.entered
+        traces.new.entered) }
+    ensures found { IfOk result (IsFirstFaulty net.now.steps.now query.now faults.new.items) }
+{
+    for &step in query {
+        let start = match step {
+            Step::Nowhere(_) => return Ok(Some(step)),
+            Step::To(start) => start,
+        };
+        if is_faulty(net, start, traces, faults)? {
+            return Ok(Some(step));
+        }
+    }
+    Ok(None)
+}
+
+// Returns whether a name has a fault, searching it first if nothing is known about it.
+fn is_faulty(
+    net: &Net,
+    name: usize,
+    traces: &mut Traces,
+    faults: &mut Vec<Option<FaultyStep>>,
+) -> Result<bool, AllocError>
+    requires net { IsNet net.now.steps.now net.now.settled.now }
+    requires name { name < length net.now.steps.now }
+    requires between { spec.IsBetween net.now.steps.now net.now.settled.now traces.old faults.old.items }
+    ensures can_clear { CanClear traces.new.marks traces.new.entered faults.new.items }
+    ensures found { IfOk result (spec.IsSearched net.now.steps.now net.now.settled.now name traces.old traces.new
+        faults.old.items faults.new.items) }
+{
+    if faults[name].is_some() {
+        return Ok(true);
+    }
+    let Mark::Open = mark_of(net, traces, name) else {
+        return Ok(false);
+    };
+    search_name(net, name, traces, faults)
+}
+
+// Makes room for the names that are new since the last search, and returns the first step of a query that has a fault.
+pub(crate) fn search_from(
+    net: &Net,
+    query: &[Step],
+    traces: &mut Traces,
+    faults: &mut Vec<Option<FaultyStep>>,
+) -> Result<Option<Step>, AllocError>
+    requires net { IsNet net.now.steps.now net.now.settled.now }
+    requires query { AreKnown net.now.steps.now query.now }
+    requires consistent { IsConsistent traces.old faults.old.items }
+    requires right { AreFindings net.now.steps.now net.now.settled.now traces.old.order faults.old.items }
+    ensures can_clear { CanClear traces.new.marks traces.new.entered faults.new.items }
+    ensures consistent { IfOk result (λ _. IsConsistent traces.new faults.new.items) }
+    ensures right { IfOk result
+        (λ _. AreFindings net.now.steps.now net.now.settled.now traces.new.order faults.new.items) }
+    ensures names { IfOk result (λ _. AreFromQuery net.now.steps.now net.now.settled.now query.now traces.old.entered
+        traces.new.entered) }
+    ensures found { IfOk result (IsFirstFaulty net.now.steps.now query.now faults.new.items) }
+{
+    let names = net.steps.len();
+    cover_marks(names, traces)?;
+    cover_faults(names, faults)?;
+    search_query(net, query, traces, faults)
+}
+
+// Makes room for the marks of at least `names` names. New names are open.
+fn cover_marks(names: usize, traces: &mut Traces) -> Result<(), AllocError>
+    ensures covered { spec.AreMarksCovered traces.old traces.new }
+    ensures marks { IfOk result (λ _. names ≤ length traces.new.marks) }
+{
+    if names <= traces.len() {
+        return Ok(());
+    }
+    traces.cover(names)
+}
+
+// Makes room for the faults of at least `names` names. New names have no fault.
+fn cover_faults(names: usize, faults: &mut Vec<Option<FaultyStep>>) -> Result<(), AllocError>
+    ensures covered { spec.AreFaultsCovered faults.old.items faults.new.items }
+    ensures faults { IfOk result (λ _. names ≤ length faults.new.items) }
+{
+    if names <= faults.len() {
+        return Ok(());
+    }
+    faults.resize(names, None)
+}
+
+// Forgets everything. The cost is proportional to the number of names about which something is known.
+pub(crate) fn clear(alloc: Global, traces: &mut Traces, faults: &mut Vec<Option<FaultyStep>>)
+    requires { CanClear traces.old.marks traces.old.entered faults.old.items }
+    ensures marks { IsIdle traces.new }
+    ensures order { traces.new.order ≡ [] }
+    ensures faults { (n : ℕ) → IsFaulty faults.new.items n → ⊥ }
+{
+    for name in traces.entered() {
+        faults[*name] = None;
+    }
+    traces.clean(alloc);
+    traces.forget_order();
+}
