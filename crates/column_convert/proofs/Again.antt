@@ -1,4 +1,4 @@
--- Words that are asked for again settle nothing more.
+-- Words that are queried again settle nothing more.
 use Rattle.std.proofs.Common.{◌≡◌, ◌+◌, ◌-◌, ◌^◌, ◌<◌, ◌≤◌, min, ℕ, Bool, true, false, List, [], ◌∷◌, Contains, is_some}
 use Rattle.std.proofs.Common.{refl, sym, ap, subst, ◌∙◌, inl, arith, cond, map, Some}
 use Rattle.std.specs.Prelude.{⊤}
@@ -39,7 +39,7 @@ table_after : (c : Bool) (keys : List Key) (s : State) → (after_query c keys s
 table_after true keys s = refl
 table_after false keys s = refl
 
--- ---- what was settled stays so
+-- ---- settled names stay settled
 stays_in : (t : Table) (keys : List Key) (kept : Kept) (n : Key) → is_some (map_of.get kept n) ≡ true
     → is_some (map_of.get (with_outcomes t keys kept) n) ≡ true
 stays_in t [] kept n is = is
@@ -62,7 +62,7 @@ all_keep (words ∷ texts) s n is =
     all_keep texts (after (AsksWords words) s) n
     (query_keeps (is_none (name_fault s.table words)) (reach s.table words) s n is)
 
--- ---- what words reach is settled where they have no fault
+-- ---- everything that words reach is settled, if they have no fault
 abbrev AreAsked : Table → List WordUse → Kept → Type 0
 AreAsked t words kept =
     is_none (name_fault t words) ≡ true → (n : Key) → Contains (reach t words) n → is_some (map_of.get kept n) ≡ true
@@ -94,7 +94,7 @@ tables_same (words ∷ texts) s =
     tables_same texts (after (AsksWords words) s)
     ∙ table_after (is_none (name_fault s.table words)) (reach s.table words) s
 
--- ---- to ask again
+-- ---- querying again
 one_again : (words : List WordUse) (s : State) → IsRight s → s.reductions ≤ 2 ^ 64 - 1 → AreAsked s.table words s.kept
     → after (AsksWords words) s ≡ s
 one_again words s right few asked = go (is_none (name_fault s.table words)) refl
@@ -111,7 +111,7 @@ all_again [] s right few asked = refl
 all_again (words ∷ texts) s right few asked =
     ap (after_all (map AsksWords texts)) (one_again words s right few asked.0) ∙ all_again texts s right few asked.1
 
--- law: where the words of texts were asked for, asking for them again changes nothing and takes no step
+-- law: if the words of texts were queried, querying them again changes nothing and takes no step
 pub asked_again : (texts : List (List WordUse)) (a b : Shown) (n m k : ℕ) → b.reductions ≤ 2 ^ 64 - 1
     → Follows (map AsksWords texts) a b n m → Follows (map AsksWords texts) b b k k
 asked_again texts a b n m k few f =

@@ -1,4 +1,4 @@
--- Texts of a number times an expression that differ in their numerals alone have no fault together.
+-- Texts of a number times an expression that differ only in their numerals: either all or none of them have a fault.
 use Rattle.std.proofs.Common.{◌≡◌, ℕ, Bool, true, false, List, [], ◌∷◌, ◌++◌, map, Option, Some, None, refl, sym, ap}
 use Rattle.std.proofs.Common.{subst, ◌∙◌}
 use Rattle.std.specs.Prelude.{if◌then◌else◌}
@@ -19,7 +19,7 @@ pub lexemes_placed : (xs : List Lexeme) → lexemes_of (placed xs) ≡ xs
 lexemes_placed [] = refl
 lexemes_placed (x ∷ xs) = ap (λ ys. x ∷ ys) (lexemes_placed xs)
 
--- ---- places and the length do not count
+-- ---- places and lengths make no difference
 or_none : (a b : Option ParseFault) → or_later a b ≡ None → (a ≡ None) × (b ≡ None)
 or_none (Some x) b h = cc
 or_none None b h = (refl, h)
@@ -71,7 +71,7 @@ free (x ∷ xs) (y ∷ ys) before n m e h =
     (first_free before n m x.place y.place x.lexeme xs ys
     (free xs ys (before ++ token_in x.lexeme) n m same.1) h)
 
--- ---- nor does the number
+-- ---- the number makes no difference
 same_fault : (x y : Decimal) (s : List Token) (len : ℕ) (xs : List Placed)
     → fault_from (Open ∷ Numeral x ∷ Close ∷ Open ∷ s) len xs ≡ fault_from (Open ∷ Numeral y ∷ Close ∷ Open ∷ s) len xs
 unfolding fault_from
@@ -85,7 +85,7 @@ unfolding fault_from
 same_negative x y s len [] = refl
 same_negative x y s len (l ∷ ls) = ap (or_later _) (same_negative x y (s ++ token_in l.lexeme) len ls)
 
--- the lexemes of a number in parentheses, and the `(` behind them
+-- the lexemes of a number in parentheses, and the `(` after them
 abbrev pub front_forms : Bool → Decimal → List Lexeme → List Lexeme
 front_forms false x rest = Whole Open ∷ Whole (Numeral x) ∷ Whole Close ∷ Blank ∷ Whole Open ∷ rest
 front_forms true x rest = Whole Open ∷ Whole Minus ∷ Whole (Numeral x) ∷ Whole Close ∷ Blank ∷ Whole Open ∷ rest
@@ -107,7 +107,7 @@ alike false x y rest n =
 alike true x y rest n =
     past_negative x (placed rest) n ∙ (same_negative x y [] n (placed rest) ∙ sym (past_negative y (placed rest) n))
 
--- one such text has no fault where another has none
+-- if one such text has no fault, another has none
 pub free_alike : (negative : Bool) (x y : Decimal) (rest : List Lexeme) (xs ys : List Placed) (n m : ℕ)
     → lexemes_of xs ≡ front_forms negative x rest → lexemes_of ys ≡ front_forms negative y rest
     → fault_from [] n xs ≡ None → fault_from [] m ys ≡ None

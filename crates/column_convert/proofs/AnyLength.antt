@@ -1,4 +1,4 @@
--- Records of any length are written as those of one length.
+-- Records of any length are written like those of one length.
 use Rattle.std.proofs.Common.{◌≡◌, ◌∙◌, ◌++◌, ◌==◌, ℕ, Bool, true, false, List, [], ◌∷◌, Option, Some, None, refl, sym}
 use Rattle.std.proofs.Common.{ap, length, cond}
 use Rattle.std.specs.Io.KnownBytes.{Appends}
@@ -38,14 +38,14 @@ same_row (field ∷ rest) =
     λ i. (same_field field i ++ same_fields rest i)
     ++ (cond (same_blank (field ∷ rest) i) (34 ∷ 34 ∷ []) [] ++ (10 ∷ []))
 
--- a text that is known, with more behind it
+-- a known text, with more appended
 pub appended : (before after : Option (List ℕ)) (text more : List ℕ) → before ≡ Some text → Appends before after more
     → after ≡ Some (text ++ more)
 appended None after text more is grows = cc
 appended (Some held) None text more is grows = absurd grows
 appended (Some held) (Some new) text more is grows = cc
 
--- such a writer does not look at numbers
+-- a writer of records of any length does not treat numbers differently
 pub not_by_number : (setup : WriterBuilder) → setup ≡ any_length → setup.style ≡ style.NonNumeric → ⊥
 not_by_number setup is by_number =
     let p : style.Necessary ≡ style.NonNumeric = sym (ap (λ (w : WriterBuilder). w.style) is) ∙ by_number in cc

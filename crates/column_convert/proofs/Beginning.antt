@@ -1,4 +1,4 @@
--- Queries of which the first are made before all are.
+-- Queries of which some were made before all are made.
 use Rattle.std.proofs.Common.{◌≡◌, ◌≤◌, ◌-◌, ◌^◌, ◌++◌, ◌∙◌, ℕ, List, map, refl, sym, ap, subst, arith}
 use Rattle.std.specs.Prelude.{Result, Ok, Err}
 use Rattle.std.specs.declared.alloc.AllocError.{AllocError}
@@ -12,11 +12,11 @@ use Rattle.reply.proofs.Runs.{cut_after}
 use Rattle.column_convert.specs.Known.{AreBegun}
 use Rattle.column_convert.proofs.Again.{asked_again}
 
--- nothing is made yet
+-- no query was made yet
 pub begun_none : (events : List Event) (s : Shown) (n : ℕ) → IsRightTable s → AreBegun events s s n n
 begun_none events s n right = record { same = refl; deck = refl; right = right; later = omega arith }
 
--- the words of some texts were asked for
+-- the words of some texts were queried
 pub begun_texts : (texts : List (List WordUse)) (rest : List Event) (a b : Shown) (n m : ℕ) → b.deck ≡ a.deck
     → b.reductions ≤ 2 ^ 64 - 1 → Follows (map AsksWords texts) a b n m
     → AreBegun (map AsksWords texts ++ rest) a b n m
@@ -31,7 +31,7 @@ begun_texts texts rest a b n m deck few f = record {
 }
 
 module _ (events : List Event) (a b : Shown) (n m : ℕ) (begun : AreBegun events a b n m) where
-  -- all are made afterwards
+  -- all queries are made afterwards
   pub begun_follows : (c : Shown) (k : ℕ) → Follows events b c m k → Follows events a c n k
   begun_follows c k f = record { stands = f.stands ∙ begun.same; right = f.right }
 
@@ -48,7 +48,7 @@ module _ (events : List Event) (a b : Shown) (n m : ℕ) (begun : AreBegun event
   begun_made (Ok x) c k f = begun_follows c k f
   begun_made (Err e) c k f = begun_cut c k f
 
-  -- there is no memory for more
+  -- memory runs out before more queries
   pub begun_stopped : IsCutOff events a b n m
   begun_stopped = record {
     deck = begun.deck;

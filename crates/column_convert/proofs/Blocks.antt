@@ -1,4 +1,4 @@
--- Rows by the block.
+-- Rows in blocks.
 use Rattle.std.proofs.Common.{◌≡◌, ◌∙◌, ◌++◌, ◌||◌, ◌-◌, ◌+◌, ◌<◌, ◌≤◌, ℕ, zero, suc, Bool, true, false, List, [], ◌∷◌}
 use Rattle.std.proofs.Common.{Some, None}
 use Rattle.std.proofs.Common.{refl, sym, ap, subst, length, append_assoc, arith}
@@ -31,7 +31,7 @@ module _ (t : Table) (options : Options) (from to : List ℕ) where
       × (queries t options from to (first (suc n) i)
       ≡ next_queries t options from to i ++ queries t options from to (first n (behind i)))
 
-  -- the next rows are the next one and those behind it
+  -- the next rows are the next row and the rows after it
   pub one_first : (n : ℕ) (i : Input) → IsFirst n i
   one_first n i = go i.left i.place i.headed
     where
@@ -49,7 +49,7 @@ module _ (t : Table) (options : Options) (from to : List ℕ) where
       (rows t options from to (first n i) ≡ []) × (queries t options from to (first n i) ≡ [])
       × (next_queries t options from to i ≡ []) × (behind_first n i ≡ behind i)
 
-  -- nothing is left
+  -- no row is left
   pub over : (n : ℕ) (i : Input) → next_row t options from to i ≡ None → IsOver n i
   unfolding behind_first
   over n i is = go n i.left i.place i.headed is
@@ -71,7 +71,7 @@ IsCut t options from to n i =
     × (queries t options from to i
     ≡ queries t options from to (first n i) ++ queries t options from to (behind_first n i))
 
--- law: all rows are those of the next records and those behind them, and so are the queries
+-- law: the rows are those of the next n records and the rows after them, and so are the queries
 pub rows_by_block : BlocksLaw
 unfolding behind_first
 rows_by_block t options from to n i = go n i.left i.place i.headed
@@ -93,7 +93,7 @@ rows_by_block t options from to n i = go n i.left i.place i.headed
               (queries t options from to (behind_first n (at left place false)))),
         )
 
--- ---- bytes and refusals one behind another
+-- ---- bytes and errors of rows, one after another
 pub text_of_more : (done : List ColumnRow) (row : ColumnRow) → text_of (done ++ row ∷ []) ≡ text_of done ++ row.text
 text_of_more [] row = append-nil row.text
 text_of_more (d ∷ done) row = ap (λ x. d.text ++ x) (text_of_more done row)
@@ -118,7 +118,7 @@ pub length_more : (done : List ColumnRow) (row : ColumnRow) → length (done ++ 
 length_more [] row = refl
 length_more (d ∷ done) row = let e : length (done ++ row ∷ []) ≡ length done + 1 = length_more done row in omega arith
 
--- ---- what one row more does
+-- ---- the effect of one more row
 module _ (before after : Writer (Vec ℕ Global)) where
   pub row_there : (r : Bool) (o : Option ColumnRow) → IsNextWritten before after (Some r) o
       → (row : ColumnRow) × (o ≡ Some row) × IsWritten before after r row
@@ -168,14 +168,14 @@ module _ (options : Options) (from to : List ℕ) (whole : Input) (most : ℕ) (
 
   module _ (left : Input) (count : ℕ) (refused : Bool) (text : Option (List ℕ)) (now : Shown) (new : ℕ)
       (u : IsUnderway left count refused text now new) where
-    -- want of memory between two rows
+    -- memory ran out between two rows
     pub stopped : IsCutOff (queries (table before.deck) options from to (first most whole)) before now old new
     stopped =
         subst (λ (es : List Event). IsCutOff es before now old new) (sym u.asks)
         (run_law.cut_between u.events (queries (table before.deck) options from to (first (most - count) left)) before
         now old new u.deck u.follows)
 
-    -- so many rows as are wanted
+    -- as many rows are written as are wanted
     pub full : most ≤ count → (rows (table before.deck) options from to (first most whole) ≡ u.done)
         × (queries (table before.deck) options from to (first most whole) ≡ u.events)
         × (behind_first most whole ≡ left)
@@ -226,7 +226,7 @@ module _ (options : Options) (from to : List ℕ) (whole : Input) (most : ℕ) (
           ∙ ap (λ (es : List Event). u.events ++ es)
           (one_first (table before.deck) options from to (most - (count + 1)) left).1
 
-      -- want of memory within the next row
+      -- memory ran out within the next row
       pub failed : IsCutOff (next_queries (table now.deck) options from to left) now later new last
           → IsCutOff (queries (table before.deck) options from to (first most whole)) before later old last
       failed cut =
@@ -242,7 +242,7 @@ module _ (options : Options) (from to : List ℕ) (whole : Input) (most : ℕ) (
         made_first =
             subst (λ d. Follows (next_queries (table d) options from to left) now later new last) u.deck made
 
-        -- one more
+        -- one more row is written
         pub underway_next : (row : ColumnRow) → next_row (table now.deck) options from to left ≡ Some row
             → (r : Bool) → r ≡ (refused || row.refused) → (longer : Option (List ℕ))
             → longer ≡ Some (text_of u.done ++ row.text)
@@ -276,7 +276,7 @@ module _ (options : Options) (from to : List ℕ) (whole : Input) (most : ℕ) (
               last u.follows made_first;
         }
 
--- ---- what is answered
+-- ---- the results
 pub whatever : {A E P : Type 0} (r : Result A E) → P → OnOk r P
 whatever (Ok x) p = p
 whatever (Err x) p = tt

@@ -1,4 +1,4 @@
--- A list with another member at a place, member by member.
+-- A list with another item at a place, built item by item.
 use Rattle.std.proofs.Common.{◌≡◌, ◌∙◌, ◌<◌, ◌≤◌, ◌+◌, ℕ, List, [], ◌∷◌, ◌++◌, drop, get_or, length, sym, ap, arith}
 use Rattle.std.proofs.Common.{zero, suc, Some, None}
 use Rattle.std.specs.Prelude.{slice_set}
@@ -6,7 +6,7 @@ use Rattle.csv.specs.Records.{field_at}
 use Rattle.std.proofs.lemmas.List.{append-nil, append_assoc, drop_all, drop_more, get_or-set_other}
 
 module _ {X : Type 0} (all : List X) where
-  -- the members so far with those that are left, after one more
+  -- the items so far and those left are still all the items after one more
   pub one_more : (done more : List X) (i : ℕ) (d : X) → i < length all → more ≡ done ++ get_or all i d ∷ []
       → done ++ drop i all ≡ all → more ++ drop (i + 1) all ≡ all
   one_more done more i d lt is h =
@@ -24,7 +24,7 @@ get_or_at [] i kept is = cc
 get_or_at (f ∷ fs) zero kept is = cc
 get_or_at (f ∷ fs) (suc i) kept is = get_or_at fs i kept is
 
--- a field by its place, where another one is changed
+-- the field at a place is unchanged if another field is replaced
 pub kept_field : (fields : List (List ℕ)) (place i : ℕ) (field kept : List ℕ) → (i ≡ place → ⊥) → i < length fields
     → Some kept ≡ field_at fields i → kept ≡ get_or (slice_set fields place field) i []
 kept_field fields place i field kept other lt is =
@@ -36,7 +36,7 @@ no_field [] i lt is = omega arith
 no_field (f ∷ fs) zero lt is = cc
 no_field (f ∷ fs) (suc i) lt is = no_field fs i (omega arith) is
 
--- a field stands at a place of the record
+-- the place of a field is within the record
 pub place_within : (fields : List (List ℕ)) (i : ℕ) (field : List ℕ) → Some field ≡ field_at fields i
     → i < length fields
 unfolding field_at

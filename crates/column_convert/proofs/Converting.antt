@@ -1,4 +1,4 @@
--- Cells and rows by the reply that is asked for.
+-- Cells and rows, from the replies for them.
 use Rattle.std.proofs.Common.{◌≡◌, ◌∙◌, sym, ap, ℕ, Bool, true, false, if◌then◌else◌, List, [], Some}
 use Rattle.csv.specs.Records.{field_at}
 use Rattle.def_entry.specs.Tables.{Table}
@@ -12,7 +12,7 @@ use Rattle.column_convert.specs.Records.{Fields}
 use Rattle.column_convert.specs.Rows.{queries_by, row_queries}
 
 module _ (table : Table) (options : Options) (from to : List ℕ) where
-  -- the reply to a text that was made of a number
+  -- the reply to a text made from a number
   module _ (number : List ℕ) (t : Table) (o : Options) (text bytes : List ℕ) (p : t ≡ table)
       (q : o ≡ cell_options options) (made : text ≡ asked_text t from number) (same : bytes ≡ text) where
     abbrev bytes_are : bytes ≡ asked_text table from number
@@ -29,7 +29,7 @@ module _ (table : Table) (options : Options) (from to : List ℕ) where
         ap (λ (o : Options). conversion_queries table o bytes to) q
         ∙ ap (λ (b : List ℕ). conversion_queries table (cell_options options) b to) bytes_are
 
-  -- the queries of a row that has a field in the column
+  -- the queries of a row with a field in the column
   pub field_queries : (fields : Fields) (place : ℕ) (headed : Bool) (field : List ℕ) → headed ≡ false
       → Some field ≡ field_at fields place
       → cell_queries table options from to field ≡ row_queries table options from to place headed fields
@@ -37,7 +37,7 @@ module _ (table : Table) (options : Options) (from to : List ℕ) where
       ap (queries_by table options from to) is
       ∙ ap (λ (b : Bool). row_queries table options from to place b fields) (sym first)
 
--- a field by the number that stands in it, without the blanks at the ends of it and of FROM
+-- a field that contains a number, without the blanks at the ends of the field and of FROM
 module _ (table : Table) (options : Options) (from to field name number : List ℕ) (p : name ≡ trimmed from)
     (q : number ≡ trimmed field) where
   module _ (is : is_number number ≡ true) where

@@ -1,4 +1,4 @@
--- Lexemes of a text behind which a `)` stands.
+-- The lexemes of a text that is followed by `)`.
 use Rattle.std.proofs.Common.{◌≡◌, ◌<◌, ◌≤◌, ◌+◌, ◌-◌, ℕ, zero, suc, Bool, true, false, List, [], ◌∷◌, ◌++◌, length}
 use Rattle.std.proofs.Common.{map, take, drop}
 use Rattle.std.proofs.Common.{refl, sym, ap, ◌∙◌, arith, inl, inr}
@@ -23,7 +23,7 @@ and_false : (b : Bool) → (b && false) ≡ false
 and_false true = refl
 and_false false = refl
 
--- a lexeme at the front, by the tests of its first byte
+-- the lexeme at the front, chosen by tests of its first byte
 choose : (blank after_point number word : Bool) → Piece → Piece → Piece → Piece
 choose blank after_point number word p q s =
     if blank then piece Blank 1
@@ -108,7 +108,7 @@ front_within an b bs =
     (omega arith) (λ o. let inside : n < length text = opened_within n text o in omega arith))
     (mark_within (length text) ((b == 42) && (slice_index text 1 == 42)) b (omega arith) (two_stars b bs))
 
--- ---- lexemes without their places
+-- ---- lexemes without places
 abbrev pub forms : ℕ → Bool → ℕ → List ℕ → List Lexeme
 forms covered an place text = map (λ (x : Placed). x.lexeme) (lexemes_from covered an place text)
 
@@ -120,7 +120,7 @@ place_free zero an p q (b ∷ bs) =
     ap (λ xs. (front an (b ∷ bs)).lexeme ∷ xs)
     (place_free ((front an (b ∷ bs)).len - 1) (is_numeral (front an (b ∷ bs)).lexeme) (suc p) (suc q) bs)
 
--- what a `)` and what stands behind it are, whatever stands before it
+-- the lexemes of a `)` and the text after it do not depend on the text before it
 pub close_forms : (an : Bool) (p q : ℕ) (r : List ℕ) → forms 0 an p (41 ∷ r) ≡ Whole Close ∷ forms 0 false q r
 unfolding lexemes_from
 close_forms true p q r = ap (λ xs. Whole Close ∷ xs) (place_free 0 false (suc p) q r)

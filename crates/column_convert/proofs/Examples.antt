@@ -1,4 +1,4 @@
--- What the examples give, by the definitions.
+-- The examples, from the definitions.
 use Rattle.std.proofs.Common.{refl}
 use Rattle.csv.specs.Records.{field_at}
 use Rattle.csv.proofs.OnLiterals.{csv_on_literals}

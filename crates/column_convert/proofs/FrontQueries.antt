@@ -29,7 +29,7 @@ use Rattle.column_convert.proofs.Replies.{product_converting}
 use Rattle.column_convert.proofs.Valued.{asked_product, unit_target}
 use Rattle.column_convert.proofs.Worths.{text_tree}
 
--- an expression that has a value has no name fault
+-- an expression with a value has no name fault
 named : (fault : Option NameFault) (w : Worth) (x : Amount) → by_names fault w ≡ Ok x → (fault ≡ None) × (w ≡ Ok x)
 named (Some f) w x e = cc
 named None (Ok q) x e = (refl, cc)
@@ -39,7 +39,7 @@ pub answered : (table : Table) (f : Syntax) (x : Amount) → answer table f ≡ 
     → (name_fault table (words_in f) ≡ None) × (value (expansion table f) None ≡ Ok x)
 answered table f x e = named (name_fault table (words_in f)) (value (expansion table f) None) x e
 
--- what follows comes behind the first queries
+-- further queries come after the first ones
 behind_first_queries : {A B : Type 0} (es : List Event) (r : Result A ReplyFault) (next : A → Inquiry B)
     → (rest : List Event) × ((followed es r next).events ≡ es ++ rest)
 behind_first_queries es (Ok x) next = ((next x).events, refl)
@@ -61,7 +61,7 @@ module _ (table : Table) (options : Options) (from to number : List ℕ) (n : Si
       factor.number from to f s.numeral_is.spelt s.numeral_is.value factor.is_number.spelt factor.is_number.value
       factor.tree factor.faultless)
 
-  -- the words of FROM are asked for first
+  -- the words of FROM are queried first
   pub from_first : (rest : List Event) × (number_queries table options from to number ≡ AsksWords (words_in f) ∷ rest)
   from_first =
       let rest = behind_first_queries (AsksWords (words_in f) ∷ [])
@@ -78,7 +78,7 @@ module _ (table : Table) (options : Options) (from to number : List ℕ) (n : Si
         ∙ ap (λ (w : Worth). as_answer (by_names None (product_worth n.negative n.numeral w))) a.1
         ∙ ap (λ (w : Worth). as_answer (by_names None w)) product
 
-    -- and then those of TO
+    -- the words of TO are queried next
     pub both_first : (rest : List Event) × (number_queries table options from to number
         ≡ AsksWords (words_in f) ∷ AsksWords (words_in g) ∷ rest)
     both_first =

@@ -1,4 +1,4 @@
--- The cells of numbers by known values.
+-- The cells of numbers, from known values.
 use Rattle.std.proofs.Common.{◌≡◌, ◌∙◌, ℕ, List, [], ◌∷◌, sym, ap, subst}
 use Rattle.std.specs.Prelude.{IfOk, IfSome, Option, Some, None, Result, Ok, Err}
 use Rattle.std.specs.declared.alloc.AllocError.{AllocError}
@@ -56,13 +56,13 @@ module _ (options : Options) (known : Known) (n : Signed) (p : Amount)
     λ steps. subst (λ (es : List Event). Follows es shown shown steps steps) (sym known_reply.1) (k.again steps),
   )
 
--- where nothing is remembered, all of it is so
+-- if no values are remembered, those remembered are right
 pub nothing_known : (shown : Shown) (from to : List ℕ) (memory : Memory) → IsEmpty memory
     → IsRemembered shown from to memory
 nothing_known shown from to memory empty =
     subst (λ (o : Option Known). IfSome o (AreKnown shown from to)) (sym empty) tt
 
--- what is known is what is remembered
+-- the known values are the remembered ones
 module _ (options : Options) (memory : Memory) (from to number : List ℕ) (n : Signed) (known : Known)
     (is : memory.known ≡ Some known) where
   remembered_cell : (cell : Cell) → IsKnownCell options known from to number n cell

@@ -1,4 +1,4 @@
--- The longest numeral and the word at the front of a text, where a `)` stands behind it.
+-- The longest numeral and the word at the front of a text that is followed by `)`.
 use Rattle.std.proofs.Common.{◌≡◌, ◌<◌, ◌≤◌, ◌+◌, ℕ, zero, suc, Bool, true, false, cond, List, [], ◌∷◌, ◌++◌, length}
 use Rattle.std.proofs.Common.{take, drop}
 use Rattle.std.proofs.Common.{refl, sym, ap, ◌∙◌, arith, inl, inr}
@@ -12,7 +12,7 @@ use Rattle.frac128.specs.Numerals.{is_point_byte, is_pointed, is_sign_byte, nume
 use Rattle.expr_tree.specs.Lexemes.{is_opened}
 use Rattle.expr_tree.specs.Names.{is_word_byte}
 
--- ---- no `)` stands in a numeral
+-- ---- a numeral contains no `)`
 pub both : (x y : Bool) → (x && y) ≡ true → (x ≡ true) × (y ≡ true)
 both true y h = (refl, h)
 both false y h = absurd (cc)
@@ -47,7 +47,7 @@ digits_other (x ∷ xs) h =
     let p = both (is_digit x) (list_all is_digit xs) h in
     both_hold (other x) (list_all other xs) (not_close x p.0) (digits_other xs p.1)
 
--- two parts of a text
+-- one step of `parts_other`: if both parts of a text contain no `)`, the text contains none
 parts_by : (t : Bool) (x : ℕ) (xs before_xs from_xs : List ℕ)
     → (list_all other before_xs ≡ true → list_all other from_xs ≡ true → list_all other xs ≡ true)
     → list_all other (if t then [] else x ∷ before_xs) ≡ true

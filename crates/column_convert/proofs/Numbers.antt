@@ -48,7 +48,7 @@ begins x xs h = numeral_by (is_mark_byte x) x xs (before is_mark_byte xs) (from 
 no_blank : (b : ℕ) → (is_digit b || is_point_byte b) ≡ true → is_blank b ≡ false
 no_blank b h = grind (arith, nat_tests)
 
--- what is covered is passed over
+-- bytes that are covered give no lexemes
 covered : (an : Bool) (p : ℕ) (xs : List ℕ) (n : ℕ) → n ≡ length xs → lexemes_from n an p xs ≡ []
 unfolding lexemes_from
 covered an p [] n h = ap (λ k. lexemes_from k an p []) h
@@ -92,7 +92,7 @@ numeral_forms x (b ∷ bs) p is value =
     ∙ ap (λ ls. Whole (Numeral x) ∷ map (λ (l : Placed). l.lexeme) ls)
     (covered true (suc p) bs (length (b ∷ bs) - 1) (omega arith))
 
--- and a minus before it another
+-- a minus sign before a numeral is one more lexeme
 pub negative_forms : (x : Decimal) (text : List ℕ) (p : ℕ) → is_numeral_text text ≡ true → read text ≡ Ok x
     → forms 0 false p (45 ∷ text) ≡ Whole Minus ∷ Whole (Numeral x) ∷ []
 unfolding lexemes_from

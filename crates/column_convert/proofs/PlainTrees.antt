@@ -14,7 +14,7 @@ use Rattle.expr_tree.specs.Syntax.{Syntax}
 use Rattle.column_convert.specs.Known.{ArePlain, HasProduct, HasProducts, IsTreeOf, are_plain}
 use Rattle.column_convert.specs.Products.{IsFactor}
 
--- neither is a function, and the second is no list
+-- neither is a function, and TO is not a list
 pub record AreNoCalls (table : Table) (from to : List ℕ) : Type 0 where
   pub plain : is_present table (key kind.Func from) ≡ false
   pub to_plain : is_present table (key kind.Func to) ≡ false
@@ -63,7 +63,7 @@ plain_of table from to name f g is plain has tree to_tree = record {
   to_tree = subst (λ (n : List ℕ). parsed None n ≡ Ok g) is to_tree.tree;
 }
 
--- both products, by one and then the other
+-- both products exist, checked one after the other
 pub products_of : (from : List ℕ) (r : Result Bool AllocError) → HasProduct false from
     → IfOk r (λ has. IsTrue has → HasProduct true from) → IfOk r (λ has. IsTrue has → HasProducts from)
 products_of from (Err e) above below = tt

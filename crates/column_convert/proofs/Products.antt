@@ -32,7 +32,7 @@ none_forms : (an : Bool) (p : ℕ) → forms 0 an p [] ≡ []
 unfolding lexemes_from
 none_forms an p = refl
 
--- an expression and the `)` behind it
+-- the lexemes of an expression and the `)` after it
 closed_forms : (p : ℕ) (from : List ℕ) → forms 0 false p (from ++ 41 ∷ []) ≡ forms 0 false 0 from ++ (Whole Close ∷ [])
 closed_forms p from =
     forms_before from [] 0 false p 0 (omega arith)
@@ -137,7 +137,7 @@ product_gives negative x ts f g = (
   ap (product_tree negative x) g.2 ∙ product_says negative x g.0,
 )
 
--- where one number times the expression has no fault, each other of this sign is parsed to their product
+-- if one number times the expression has no fault, every other number of this sign times it is parsed as their product
 pub product_parsed : (negative : Bool) (x y : Decimal) (text other from : List ℕ) (f : Syntax)
     → is_numeral text ≡ true → read text ≡ Ok x → is_numeral other ≡ true → read other ≡ Ok y
     → parsed None from ≡ Ok f → first_fault (product_text (signed_text negative other) from) ≡ None

@@ -1,4 +1,4 @@
--- What one read does to the records that are left.
+-- The effect of a read on the records left.
 use Rattle.std.proofs.Common.{◌≡◌, ◌∙◌, refl, sym, ap, inl, inr, ◌⊎◌, ℕ, zero, suc, ◌+◌, ◌<◌, ◌≤◌, arith, Bool}
 use Rattle.std.proofs.Common.{true, false, List, [], ◌∷◌, length, Option, Some, None, cond}
 use Rattle.csv.specs.Machine.{Read, ends_at_end, is_end, next_record, step}
@@ -13,7 +13,7 @@ use Rattle.column_convert.specs.Records.{records_in, records_left}
 some-is : {A : Type 0} (x y : A) → Some x ≡ Some y → x ≡ y
 some-is x y e = cc
 
--- a record takes a byte, or stands at the end of the text
+-- reading a record takes a byte, unless the text is at its end
 Shrinks : List ℕ → Read → Type 0
 Shrinks xs p = (length p.2 < length xs) ⊎ ((p.1 ≡ st.StartRecord) × (p.2 ≡ []))
 
@@ -59,7 +59,7 @@ enough_next cfg n m s xs more (Some p) is a b = ap (λ rows. p.0 ∷ rows) (elim
   | inr end ↦ rw (end.0, end.1) (none_left cfg n ∙ sym (none_left cfg m))
 ])
 
--- as many turns as the text has bytes and one more are enough
+-- one turn more than the text has bytes is enough
 enough : (cfg : Config) (n m : ℕ) (s : State) (xs : List ℕ) → length xs < n → length xs < m
     → records_from cfg n s xs ≡ records_from cfg m s xs
 unfolding records_from
@@ -68,7 +68,7 @@ enough cfg (suc n) zero s xs a b = absurd (omega arith)
 enough cfg (suc n) (suc m) s xs a b =
     enough_next cfg n m s xs (λ p. enough cfg n m p.1 p.2) (next_record cfg s [] [] xs) refl (omega arith) (omega arith)
 
--- one turn, and the turns after it
+-- a turn, and the turns after it
 turn : (cfg : Config) (n : ℕ) (s : State) (xs : List ℕ) → records_from cfg (n + 1) s xs ≡ records_next
     (records_from cfg n) (next_record cfg s [] [] xs)
 unfolding records_from
@@ -91,7 +91,7 @@ rest-more s xs p is =
 pub rest-end : (s : State) (xs : List ℕ) → next_record default_config s [] [] xs ≡ None → records_in s xs ≡ []
 rest-end s xs is = turn default_config (length xs) s xs ∙ ap (records_next (records_from default_config (length xs))) is
 
--- a read that found a record
+-- the records if a read found one
 next_is : (s s2 : State) (xs ys : List ℕ) (fields : List (List ℕ)) (o : Option Read)
     → next_record default_config s [] [] xs ≡ o → NextIs o true fields s2 ys
     → records_in s xs ≡ fields ∷ records_in s2 ys
@@ -110,7 +110,7 @@ module _ {R : Type 0} (rem : R → Option (List ℕ)) where
       → records_left rem r ≡ records_in s xs
   left-known r s xs state source = rw (source, state) refl
 
-  -- what a read that found a record leaves
+  -- the records left after a read that found one
   pub left-more : (old new : Reader R) (fields : List (List ℕ)) (xs : List ℕ) → old.config ≡ default_config
       → source_of rem old ≡ Some xs
       → ReadRecord rem old new true fields
@@ -123,7 +123,7 @@ module _ {R : Type 0} (rem : R → Option (List ℕ)) where
             ∙ ap (λ rows. fields ∷ rows) (sym (left-known new new.state got.0 refl after)),
       )
 
-  -- a read that found no record
+  -- no record is left if a read found none
   pub left-end : (old : Reader R) (xs : List ℕ) → source_of rem old ≡ Some xs
       → next_record default_config old.state [] [] xs ≡ None → records_left rem old ≡ []
   left-end old xs source is = left-known old old.state xs refl source ∙ rest-end old.state xs is

@@ -1,4 +1,4 @@
--- What is asked of FROM and TO before a number is converted.
+-- The queries for FROM and TO before a number is converted.
 use Rattle.std.proofs.Common.{◌≡◌, ◌≤◌, ◌-◌, ◌^◌, ◌∙◌, ℕ, List, [], ◌∷◌, sym, ap, subst}
 use Rattle.std.specs.Prelude.{IfOk, IfSome, IsErrAnd, Option, Some, None, Result, Ok, Err, true, is_some}
 use Rattle.std.specs.declared.alloc.AllocError.{AllocError}
@@ -27,7 +27,7 @@ use Rattle.column_convert.proofs.Beginning.{begun_follows, begun_made, begun_non
 use Rattle.column_convert.proofs.FrontQueries.{answered, both_first, from_first}
 use Rattle.column_convert.proofs.PlainTrees.{no_calls}
 
--- what is said of what is there
+-- a property of an optional value holds for the value that is there
 pub at_some : {A : Type 0} (P : A → Type 0) (o : Option A) (x : A) → o ≡ Some x → IfSome o P → P x
 at_some P o x is h = subst (λ o. IfSome o P) is h
 
@@ -35,13 +35,13 @@ pub some_there : {A : Type 0} (P : A → Type 0) (o : Option A) → is_some o �
 some_there P (Some x) is h = (x, h)
 some_there P None is h = cc
 
--- nothing is asked
+-- no query is made
 pub nothing_begun : {A : Type 0} (r : Result A AllocError) (from to : List ℕ) (n : Signed) (a : Shown) (o : ℕ)
     → IsRightTable a → IsBegun n from to r a a o o
 nothing_begun (Ok x) from to n a o right = λ options number s. begun_none _ a o right
 nothing_begun (Err e) from to n a o right = λ options number s. cut_at_once _ a o right
 
--- want of memory, whatever was wanted
+-- memory ran out, whatever result was wanted
 pub begun_err : {A : Type 0} (Q : AllocError → Type 0) (r : Result A AllocError) (from to : List ℕ) (n : Signed)
     (a b : Shown) (o m : ℕ) → IsErrAnd r Q
     → ((options : Options) (number : List ℕ) → IsSigned number n
@@ -51,7 +51,7 @@ begun_err Q (Err e) from to n a b o m failed h = h
 
 module _ (from to : List ℕ) (n : Signed) (f g : Syntax) (a : Shown) (plain : ArePlain (table a.deck) from to f g)
     (b : Shown) (o m : ℕ) (deck : b.deck ≡ a.deck) where
-  -- there is no memory while FROM is asked for
+  -- memory ran out while FROM was queried
   pub from_cut : {A : Type 0} (Q : AllocError → Type 0) (r : Result A AllocError) → IsErrAnd r Q
       → IsCutOff (AsksWords (words_in f) ∷ []) a b o m → IsBegun n from to r a b o m
   from_cut Q (Ok x) failed cut = absurd failed
@@ -61,7 +61,7 @@ module _ (from to : List ℕ) (n : Signed) (f g : Syntax) (a : Shown) (plain : A
       (run_law.cut_before (AsksWords (words_in f) ∷ []) rest.0 a b o m cut)
 
   module _ (few : b.reductions ≤ 2 ^ 64 - 1) (asked : Follows (AsksWords (words_in f) ∷ []) a b o m) where
-    -- FROM is asked for, and no more
+    -- FROM was queried, and nothing else
     pub from_begun : (options : Options) (number : List ℕ) → IsSigned number n
         → AreBegun (number_queries (table a.deck) options from to number) a b o m
     from_begun options number s =
@@ -76,7 +76,7 @@ module _ (from to : List ℕ) (n : Signed) (f g : Syntax) (a : Shown) (plain : A
 
     module _ (x p : Amount) (is : answer (table a.deck) f ≡ Ok x)
         (product : product_worth n.negative n.numeral (Ok x) ≡ Ok p) (c : Shown) (k : ℕ) (same : c.deck ≡ b.deck) where
-      -- there is no memory while TO is asked for
+      -- memory ran out while TO was queried
       pub to_cut : {A : Type 0} (Q : AllocError → Type 0) (r : Result A AllocError) → IsErrAnd r Q
           → IsCutOff (AsksWords (words_in g) ∷ []) b c m k → IsBegun n from to r a c o k
       to_cut Q (Ok y) failed cut = absurd failed
@@ -90,7 +90,7 @@ module _ (from to : List ℕ) (n : Signed) (f g : Syntax) (a : Shown) (plain : A
         both_asked =
             follows_both (AsksWords (words_in f) ∷ []) (AsksWords (words_in g) ∷ []) a b c o m k asked asked_too
 
-        -- both are asked for
+        -- both were queried
         pub both_begun : (options : Options) (number : List ℕ) → IsSigned number n
             → AreBegun (number_queries (table a.deck) options from to number) a c o k
         both_begun options number s =
@@ -98,7 +98,7 @@ module _ (from to : List ℕ) (n : Signed) (f g : Syntax) (a : Shown) (plain : A
             subst (λ (es : List Event). AreBegun es a c o k) (sym rest.1)
             (begun_texts (words_in f ∷ words_in g ∷ []) rest.0 a c o k (same ∙ deck) few_too both_asked)
 
-        -- and known
+        -- both were queried, and their values are known
         pub both_known : (y : Amount) → answer (table b.deck) g ≡ Ok y
             → AreKnown c from to (record { from_value = x; to_value = y })
         both_known y to_is = record {
@@ -127,7 +127,7 @@ module _ (from to : List ℕ) (n : Signed) (f g : Syntax) (a : Shown) (plain : A
 -- ---- the cell of a number
 module _ (options : Options) (from to number : List ℕ) (n : Signed) (s : IsSigned number n) (a b : Shown) (o m : ℕ)
     (deck : b.deck ≡ a.deck) where
-  -- there is no memory for what is asked first
+  -- memory ran out during the first queries
   pub cell_cut : {A : Type 0} (Q : AllocError → Type 0) (r : Result A AllocError) → IsErrAnd r Q
       → ((options : Options) (number : List ℕ) → IsSigned number n
       → IsCutOff (number_queries (table a.deck) options from to number) a b o m)
@@ -137,13 +137,13 @@ module _ (options : Options) (from to number : List ℕ) (n : Signed) (s : IsSig
 
   module _ (begun : (options : Options) (number : List ℕ) → IsSigned number n
       → AreBegun (number_queries (table a.deck) options from to number) a b o m) where
-    -- nor for more
+    -- memory ran out during further queries
     pub cell_stopped : {A : Type 0} (Q : AllocError → Type 0) (r : Result A AllocError) → IsErrAnd r Q
         → AreQueries (number_queries (table a.deck) options from to number) r a b o m
     cell_stopped Q (Ok x) failed = absurd failed
     cell_stopped Q (Err e) failed = begun_stopped _ a b o m (begun options number s)
 
-    -- by what is remembered
+    -- the cell from the remembered values
     module _ (memory : Memory) (cell : Cell) (h : IsRememberedCell options memory from to number n cell)
         (known : IsRemembered b from to memory) where
       pub cell_known : cell ≡ cell_of (number_reply (table a.deck) options from to number)
@@ -157,7 +157,7 @@ module _ (options : Options) (from to number : List ℕ) (n : Signed) (s : IsSig
           (subst (λ (d : Contents). Follows (number_queries (table d) options from to number) b b m m) deck
           ((h b known s).1 m))
 
-    -- by its conversion
+    -- the cell from a conversion
     pub queries_made : {A : Type 0} (r : Result A AllocError) (c : Shown) (k : ℕ)
         → AreQueries (number_queries (table b.deck) options from to number) r b c m k
         → AreQueries (number_queries (table a.deck) options from to number) r a c o k

@@ -18,7 +18,7 @@ use Rattle.column_convert.specs.Products.{product_text, signed_text}
 use Rattle.column_convert.specs.Worths.{product_inquiry}
 use Rattle.column_convert.proofs.Worths.{product_is_worth}
 
--- ---- no blank stands at the ends
+-- ---- there are no blanks at the ends
 close_stays : (xs : List ℕ) → before_blanks (xs ++ 41 ∷ []) ≡ xs ++ 41 ∷ []
 close_stays xs =
     ap (λ ys. reverse (after_blanks ys)) (reverse-append xs (41 ∷ []))
@@ -34,7 +34,7 @@ product_trimmed number from =
     (ap before_blanks (product_ends number from)
     ∙ (close_stays (40 ∷ (number ++ 41 ∷ 32 ∷ 40 ∷ from)) ∙ sym (product_ends number from)))
 
--- ---- what a conversion comes to
+-- ---- the result of a conversion
 module _ (table : Table) (options : Options) (negative : Bool) (x y : Decimal) (text other from to : List ℕ)
     (f : Syntax)
     (is : is_numeral text ≡ true) (value : read text ≡ Ok x) (other_is : is_numeral other ≡ true)

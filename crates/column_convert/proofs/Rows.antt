@@ -1,4 +1,4 @@
--- All rows, by the next one.
+-- The rows, from the next one.
 use Rattle.std.proofs.Common.{◌≡◌, refl, ℕ, Bool, List, [], ◌∷◌, ◌++◌}
 use Rattle.column_convert.specs.Inputs.{Input, behind}
 use Rattle.column_convert.specs.Records.{Fields}

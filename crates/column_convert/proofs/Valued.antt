@@ -1,4 +1,4 @@
--- The reply to a number by the values of FROM and TO.
+-- The reply to a number, from the values of FROM and TO.
 use Rattle.std.proofs.Common.{◌≡◌, ◌∙◌, ◌++◌, codes, ℕ, Bool, true, false, List, [], ◌∷◌, None, Ok, ap, cond}
 use Rattle.std.specs.Prelude.{Result}
 use Rattle.quantity.specs.Amount.{Amount}
@@ -29,7 +29,7 @@ use Rattle.column_convert.specs.Worths.{ValuedLaw, product_inquiry, product_wort
 use Rattle.column_convert.proofs.Replies.{product_converting}
 use Rattle.column_convert.proofs.Worths.{text_tree}
 
--- a text that has a value, and what is read from it
+-- a text with a value, and the queries and answer that follow from it
 valued_to : {B : Type 0} (table : Table) (to : List ℕ) (g : Syntax) (y : Amount) (next : Amount → Result B ReplyFault)
     → parsed None to ≡ Ok g → answer table g ≡ Ok y
     → followed (text_worth table to).events (text_worth table to).answer (λ z. given (next z))
@@ -44,7 +44,7 @@ second b x y is = ap (λ c. cond c x y) is
 second_by : {T U : Type 0} (k : T → U) (b : Bool) (x y : T) → b ≡ false → k (cond b x y) ≡ k y
 second_by k b x y is = ap k (second b x y is)
 
--- a target that is no function and no list
+-- a target that is neither a function nor a list
 module _ (table : Table) (options : Options) (to : List ℕ) where
   pub unit_target : is_present table (key kind.Func to) ≡ false → entry_at table (key kind.List to) ≡ None
       → list_any is_semicolon to ≡ false → converted_to table options to (target table to) ≡ set_against table options
@@ -57,7 +57,7 @@ module _ (table : Table) (options : Options) (to : List ℕ) where
       ap (converted_to table options to) one ∙ ap (converted_to table options to) two
       ∙ second_by (converted_to table options to) (list_any is_semicolon to) _ _ uncut
 
--- a number times an expression is asked for
+-- the text for a number is the number times the expression
 pub asked_product : (table : Table) (negative : Bool) (text from : List ℕ)
     → is_present table (key kind.Func from) ≡ false
     → asked_text table from (signed_text negative text) ≡ product_text (signed_text negative text) from
@@ -78,7 +78,7 @@ number_converted table options negative text d from to f g x y p is factor value
     asked : asked_text table from (signed_text negative text) ≡ product_text (signed_text negative text) from
     asked = asked_product table negative text from values.plain
 
-    -- the product is known
+    -- the product has a value
     first : (product_inquiry table negative d f).answer ≡ Ok p
     first =
         ap (λ o. as_answer (by_names o (product_worth negative d (value (expansion table f) None)))) values.from_named

@@ -1,4 +1,4 @@
--- What a number times an expression is worth.
+-- The value of a number times an expression.
 use Rattle.std.proofs.Common.{◌≡◌, ℕ, Bool, true, false, List, [], ◌∷◌, None, Ok, Err, refl, ap, ◌∙◌}
 use Rattle.std.proofs.lemmas.List.{append-nil}
 use Rattle.units_io.specs.Outcomes.{◌>>=◌}
@@ -32,7 +32,7 @@ then_ok : (r : Worth) → (r >>= (λ (q : Amount). Ok q)) ≡ r
 then_ok (Ok q) = refl
 then_ok (Err e) = refl
 
--- the steps to the product, from the number on
+-- the steps to the product, beginning with the number
 product_from : (v : Worth) (w : Worth)
     → (v >>= (λ (a : Amount). w >>= (λ (b : Amount). step_worth Multiply a b >>= (λ (q : Amount). Ok q))))
     ≡ (v >>= (λ (a : Amount). w >>= (λ (b : Amount). step_worth Multiply a b)))
@@ -56,7 +56,7 @@ unfolding inquiry_by
 tree_worth table negative x f = λ i. inquiry_by table (product_words negative x f i)
     (product_value table negative x f i)
 
--- a text that is parsed to a tree is worth what the tree is
+-- a text that is parsed as a tree has the value of the tree
 pub text_tree : (table : Table) (text : List ℕ) (e : Syntax) → parsed None text ≡ Ok e
     → text_worth table text ≡ worth table e
 text_tree table text e is =

@@ -1,4 +1,4 @@
--- What a field becomes.
+-- Converting fields to cells.
 use Rattle.std.specs.Prelude.{◌++◌, ℕ, Bool, true, false, List, [], ◌∷◌, codes, Option, Some, None, if◌then◌else◌}
 use Rattle.def_entry.specs.Cuts.{cut_at}
 use Rattle.def_entry.specs.declared.key.Kind.TheVariants as kind
@@ -13,23 +13,24 @@ use Rattle.reply.specs.Replies.{conversion_queries, conversion_reply}
 use Rattle.column_convert.specs.declared.cell.Cell.{Cell}
 use Rattle.column_convert.specs.Products.{product_text}
 
--- what stands behind a minus at the front, or the whole text where none stands there
+-- the text after a minus sign at its front, or the whole text if it has none there
 abbrev pub behind_minus : List ℕ → List ℕ
 behind_minus [] = []
 behind_minus (b ∷ bytes) = if is_minus_byte b then bytes else b ∷ bytes
 
--- a numeral, perhaps with a minus before it
+-- whether a text is a numeral, perhaps with a minus sign before it
 abbrev pub is_number : List ℕ → Bool
 is_number text = is_numeral (behind_minus text)
 
--- what a number is converted from: the function of this name at the number, or so much of FROM
+-- the text to convert for a number: the call of the function FROM with the number, if FROM names a function, or else
+-- the number times FROM
 abbrev pub asked_text : Table → (from number : List ℕ) → List ℕ
 asked_text table from number =
     if is_present table (key kind.Func from)
     then from ++ (codes "(" ++ (number ++ codes ")"))
     else product_text number from
 
--- the options of the reply that stands in a cell: those of numbers are the run's
+-- the options of the reply in a cell: the options for numbers are those of the run
 abbrev pub cell_options : Options → Options
 cell_options options = record options {
   strict = true;
@@ -39,7 +40,7 @@ cell_options options = record options {
   verbose = false;
 }
 
--- what stands before the first line feed, or the whole text where none stands in it
+-- the part before a cut, or the whole text if there is no cut
 abbrev pub line_before : Option (List ℕ × List ℕ) → List ℕ → List ℕ
 line_before (Some cut) text = cut.0
 line_before None text = text
@@ -47,12 +48,12 @@ line_before None text = text
 abbrev pub first_line : List ℕ → List ℕ
 first_line text = line_before (cut_at 10 text) text
 
--- what stands before a reply that is refused
+-- the text before a refused reply, which is empty for other replies
 abbrev pub error_front : (refused : Bool) → List ℕ
 error_front true = codes "error: "
 error_front false = []
 
--- the first line of a reply
+-- the cell with the first line of a reply
 abbrev pub cell_of : Reply → Cell
 cell_of reply = record { text = error_front reply.refused ++ first_line reply.text; refused = reply.refused }
 
@@ -68,7 +69,7 @@ module _ (table : Table) (options : Options) (from to : List ℕ) where
   number_queries number = conversion_queries table (cell_options options) (asked_text table from number) to
 
 module _ (table : Table) (options : Options) (from to field : List ℕ) where
-  -- what a field becomes, and the queries that are made for it: blanks at the ends of it and of FROM are dropped
+  -- the cell of a field, and the queries that are made for it: blanks at the ends of the field and of FROM are dropped
   abbrev pub cell : Cell
   cell =
       if is_number (trimmed field)

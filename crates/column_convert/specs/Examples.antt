@@ -1,4 +1,4 @@
--- The rows of a few inputs over a small table, found by hand.
+-- The rows of a few inputs over a small table, worked out by hand.
 use Rattle.std.specs.Prelude.{◌≡◌, ℕ, true, false, List, [], ◌∷◌, codes}
 use Rattle.reply.specs.Examples.{default, small}
 use Rattle.column_convert.specs.Rows.{ColumnRow}
@@ -12,15 +12,15 @@ kept text = record { text = text; refused = false }
 abbrev pub refused : List ℕ → ColumnRow
 refused text = record { text = text; refused = true }
 
--- the first column, which has a header
+-- an input with a header, of which the first column is converted
 abbrev pub headed : List ℕ → Input
 headed text = input_of text 1 true
 
--- the second column, which has none
+-- an input without a header, of which the second column is converted
 abbrev pub second : List ℕ → Input
 second text = input_of text 2 false
 
--- law: what is a number, and what is asked for one
+-- law: the texts that are numbers, and the texts converted for them
 abbrev pub NumbersLaw : Type 0
 NumbersLaw =
     (is_number (codes "-1.5e3") ≡ true)
@@ -36,8 +36,8 @@ NumbersLaw =
     × (asked_text small (codes "gauge") (codes "-2") ≡ codes "gauge(-2)")
     × (first_line (codes "conformability error\n1 m\n1 s\n") ≡ codes "conformability error")
 
--- law: records that stay as they are: no records, a header alone, short records; quotes that are not needed,
--- carriage returns, empty lines and a byte order mark go
+-- law: records that stay as they are: no records, a header alone, short records; unneeded quotes, carriage returns,
+-- empty lines and a byte order mark are dropped
 abbrev pub KeptLaw : Type 0
 KeptLaw =
     (rows small default (codes "m") (codes "m") (headed []) ≡ [])
@@ -47,7 +47,7 @@ KeptLaw =
     ≡ kept (codes "a\n") ∷ kept (codes "\"\"\n") ∷ [])
     × (queries small default (codes "m") (codes "m") (second (codes "a\nb,\n")) ≡ [])
 
--- law: fields that are no number, and replies that are refused; blanks around a field go with it
+-- law: fields that are not numbers, and refused replies; the blanks around a field are replaced together with the field
 abbrev pub RefusedLaw : Type 0
 RefusedLaw =
     (rows small default (codes "m") (codes "m") (second (codes "a, x \nb,,c\n"))

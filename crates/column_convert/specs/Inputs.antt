@@ -1,22 +1,22 @@
--- What contracts see of column input.
+-- Column input as contracts see it.
 use Rattle.std.specs.Prelude.{◌-◌, ℕ, Bool, false, List, [], ◌∷◌, refl}
 use Rattle.std.specs.Coded.{Coded, code_by, coded×, coded_bool, coded_list, coded_ℕ}
 use Rattle.csv.specs.Reading.{default_config, records, strip_bom}
 use Rattle.column_convert.specs.Records.{Fields}
 
--- the records that are not yet given, the place of the column, from 0, and whether the next record is the header
+-- the records left to give, the place of the column, counted from 0, and whether the next record is the header
 pub record Input : Type 0 where
   pub left : List Fields
   pub place : ℕ
   pub headed : Bool
 
--- it is stored as its parts
+-- the encoding of an input as its parts
 abbrev pub input_code : Coded Input
 input_code =
     code_by _ (coded× (coded_list (coded_list (coded_list coded_ℕ))) (coded× coded_ℕ coded_bool))
     (λ i. (i.left, (i.place, i.headed))) (λ p. record { left = p.0; place = p.1.0; headed = p.1.1 }) (λ _. refl)
 
--- all records of a text, without the byte order mark at its start; columns count from 1
+-- all records of a text, without the byte order mark at its start; columns are counted from 1
 abbrev pub input_of : (text : List ℕ) (column : ℕ) (header : Bool) → Input
 input_of text column header = record {
   left = records default_config (strip_bom text);
@@ -24,7 +24,7 @@ input_of text column header = record {
   headed = header;
 }
 
--- what is left behind the next record; behind the last one all stays
+-- the input after its next record; an input without records stays as it is
 abbrev pub behind : Input → Input
 behind i = go i.left
   where

@@ -1,4 +1,4 @@
--- What is known of FROM and TO once their values were asked for.
+-- The values of FROM and TO once they were queried.
 use Rattle.std.specs.Prelude.{◌≡◌, ◌≤◌, ℕ, Bool, true, false, not, if◌then◌else◌, List, [], ◌∷◌, codes}
 use Rattle.std.specs.Prelude.{IfSome, None, Result, Ok, Err}
 use Rattle.std.specs.List.{list_any}
@@ -26,23 +26,23 @@ use Rattle.column_convert.specs.Cells.{behind_minus, cell_of, is_number, number_
 use Rattle.column_convert.specs.Products.{IsFactor, IsNumeral, product_text, signed_text}
 use Rattle.column_convert.specs.Worths.{AreValued}
 
--- the number that a text is
+-- a text is this number
 pub record IsSigned (text : List ℕ) (n : Signed) : Type 0 where
   pub number : is_number text ≡ true
   pub numeral_is : IsNumeral (behind_minus text) n.numeral
   pub spelt : text ≡ signed_text n.negative (behind_minus text)
 
--- a quantity, or the opposite one
+-- a quantity, or its negation if `negative`
 abbrev pub with_sign : (negative : Bool) → Amount → Amount
 with_sign false x = x
 with_sign true x = opposite x
 
--- the tree of a text that has no fault
+-- a text has no fault, and this is its tree
 pub record IsTreeOf (text : List ℕ) (e : Syntax) : Type 0 where
   pub faultless : first_fault text ≡ None
   pub tree : parsed None text ≡ Ok e
 
--- neither is a function, and the second is no list
+-- whether neither text is a function and TO is not a list
 abbrev pub are_plain : Table → (from to : List ℕ) → Bool
 are_plain table from to =
     if is_present table (key kind.Func from) then false
@@ -50,21 +50,21 @@ are_plain table from to =
     else (if is_present table (key kind.List to) then false
     else not (list_any is_semicolon to)))
 
--- 1 or -1 times the expression has no fault
+-- the text of 1 or -1 times FROM has no fault
 abbrev pub HasProduct : (negative : Bool) → (from : List ℕ) → Type 0
 HasProduct negative from = first_fault (product_text (signed_text negative (codes "1")) from) ≡ None
 
 abbrev pub HasProducts : (from : List ℕ) → Type 0
 HasProducts from = (negative : Bool) → HasProduct negative from
 
--- FROM and TO are these expressions, TO without the blanks at its ends, no function and no list; and each number times
--- FROM is an expression
+-- FROM, and TO without the blanks at its ends, are these expressions; neither is a function and TO is not a list; and
+-- each number times FROM is an expression
 pub record ArePlain (table : Table) (from to : List ℕ) (f g : Syntax) : Type 0 where
   pub are_so : are_plain table from (trimmed to) ≡ true
   pub factor : (negative : Bool) → IsFactor negative from f
   pub to_tree : parsed None (trimmed to) ≡ Ok g
 
--- FROM and TO have these values, and to ask for them changes nothing
+-- FROM and TO have these values, and querying them changes nothing
 pub record AreKnown (shown : Shown) (from to : List ℕ) (known : Known) : Type 0 where
   pub f : Syntax
   pub g : Syntax
@@ -72,35 +72,36 @@ pub record AreKnown (shown : Shown) (from to : List ℕ) (known : Known) : Type 
   pub values : AreValued (table shown.deck) from to f g known.from_value known.to_value
   pub again : (steps : ℕ) → Follows (AsksWords (words_in f) ∷ AsksWords (words_in g) ∷ []) shown shown steps steps
 
--- nothing is remembered
+-- no values are remembered
 abbrev pub IsEmpty : Memory → Type 0
 IsEmpty memory = memory.known ≡ None
 
--- what is remembered between rows is so
+-- the remembered values, if there are any, are right
 abbrev pub IsRemembered : Shown → (from to : List ℕ) → Memory → Type 0
 IsRemembered shown from to memory = IfSome memory.known (AreKnown shown from to)
 
--- what was asked is the first part of these queries: to make all of them afterwards comes to the same as before
+-- the queries made so far are the first part of these: making all of them now leads to the same state as making them
+-- from the start
 pub record AreBegun (events : List Event) (before after : Shown) (old new : ℕ) : Type 0 where
   pub same : after_all events (state after new) ≡ after_all events (state before old)
   pub deck : after.deck ≡ before.deck
   pub right : IsRightTable after
   pub later : old ≤ new
 
--- a part of the queries of a number's conversion was made, or want of memory cut them off
+-- a first part of the queries for the conversion of a number was made, or running out of memory cut them off
 abbrev pub IsBegun : {A : Type 0} → Signed → (from to : List ℕ) → Result A AllocError → Shown → Shown → ℕ → ℕ → Type 0
 IsBegun n from to (Ok _) before after old new = (options : Options) (number : List ℕ) → IsSigned number n
     → AreBegun (number_queries (table before.deck) options from to number) before after old new
 IsBegun n from to (Err _) before after old new = (options : Options) (number : List ℕ) → IsSigned number n
     → IsCutOff (number_queries (table before.deck) options from to number) before after old new
 
--- the cell of a number, whose queries are made without a step
+-- the cell of a number, whose queries take no step
 abbrev pub IsCellOf : Options → Shown → (from to number : List ℕ) → Cell → Type 0
 IsCellOf options shown from to number cell =
     (cell ≡ cell_of (number_reply (table shown.deck) options from to number))
     × ((steps : ℕ) → Follows (number_queries (table shown.deck) options from to number) shown shown steps steps)
 
--- the same wherever these values are known, and wherever this is remembered
+-- the cell of a number wherever these values are known, and wherever they are remembered
 abbrev pub IsKnownCell : Options → Known → (from to number : List ℕ) → Signed → Cell → Type 0
 IsKnownCell options known from to number n cell = (shown : Shown) → AreKnown shown from to known
     → IsSigned number n → IsCellOf options shown from to number cell

@@ -6,11 +6,11 @@ use Rattle.expr_tree.specs.Faults.{first_fault}
 use Rattle.expr_tree.specs.Parsed.{parsed}
 use Rattle.expr_tree.specs.Syntax.{Syntax, Number, Negate, Group, Juxtaposed, Member, NoMember}
 
--- so much of an expression
+-- the text of a number times an expression
 abbrev pub product_text : (number from : List ℕ) → List ℕ
 product_text number from = codes "(" ++ (number ++ (codes ") (" ++ (from ++ codes ")")))
 
--- a numeral, perhaps with a minus before it
+-- a numeral, perhaps with a minus sign before it
 abbrev pub signed_text : (negative : Bool) → List ℕ → List ℕ
 signed_text false numeral = numeral
 signed_text true numeral = 45 ∷ numeral
@@ -19,17 +19,18 @@ abbrev pub number_tree : (negative : Bool) → Decimal → Syntax
 number_tree false x = Number x
 number_tree true x = Negate (Number x)
 
--- a number and an expression in parentheses, side by side
+-- the tree of a number and an expression, each in parentheses, side by side
 abbrev pub product_tree : (negative : Bool) → Decimal → Syntax → Syntax
 product_tree negative x from =
     Juxtaposed (Member (Group (number_tree negative x)) (Member (Group from) NoMember))
 
--- a numeral and what it stands for
+-- a text is a numeral with this value
 pub record IsNumeral (text : List ℕ) (x : Decimal) : Type 0 where
   pub spelt : is_numeral text ≡ true
   pub value : read text ≡ Ok x
 
--- an expression of which one number of this sign has a product without a fault; the number itself does not matter
+-- an expression for which some number of this sign has a product without a fault; which number it is makes no
+-- difference
 pub record IsFactor (negative : Bool) (from : List ℕ) (f : Syntax) : Type 0 where
   pub tree : parsed None from ≡ Ok f
   pub number : List ℕ
@@ -37,7 +38,7 @@ pub record IsFactor (negative : Bool) (from : List ℕ) (f : Syntax) : Type 0 wh
   pub is_number : IsNumeral number decimal
   pub faultless : first_fault (product_text (signed_text negative number) from) ≡ None
 
--- law: each number of this sign times it is parsed to their product
+-- law: each number of this sign times the expression is parsed as their product
 abbrev pub ProductLaw : Type 0
 ProductLaw = (negative : Bool) (text : List ℕ) (x : Decimal) (from : List ℕ) (f : Syntax)
     → IsNumeral text x → IsFactor negative from f

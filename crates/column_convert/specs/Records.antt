@@ -1,4 +1,4 @@
--- The records that a reader of a text has yet to give.
+-- The records that a reader of a text has left.
 use Rattle.std.specs.Prelude.{◌≡◌, ◌+◌, ℕ, true, List, [], Option, Some, length}
 use Rattle.std.specs.Option.{option_map_or}
 use Rattle.csv.specs.Reading.{Ready, default_config, is_flexible, reader_config, reader_state, reader_trim}
@@ -12,15 +12,15 @@ use Rattle.csv.specs.declared.reader.Trim.TheVariants as trim
 abbrev pub Fields : Type 0
 Fields = List (List ℕ)
 
--- all records of a text from a state on
+-- the records of a text from a state of the reader on
 abbrev pub records_in : State → (text : List ℕ) → List Fields
 records_in state text = records_from default_config (length text + 1) state text
 
--- the records that a reader has left, where the text that it has left is known
+-- the records that a reader has left, if its remaining text is known
 abbrev pub records_left : {R : Type 0} → (R → Option (List ℕ)) → Reader R → List Fields
 records_left text_of reader = option_map_or (records_in (reader_state reader)) (source_of text_of reader) []
 
--- a reader with the defaults that gives one record a call, of any length, and whose text is known
+-- a reader with the default settings that gives one record per call, of any length, and whose text is known
 pub record IsPlain {R : Type 0} (text_of : R → Option (List ℕ)) (reader : Reader R) : Type 0 where
   pub config : reader_config reader ≡ default_config
   pub trim : reader_trim reader ≡ trim.None

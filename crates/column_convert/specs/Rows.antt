@@ -15,11 +15,11 @@ pub record ColumnRow : Type 0 where
   pub text : List ℕ
   pub refused : Bool
 
--- a record that stays as it is
+-- the row of a record that stays as it is
 abbrev pub kept_row : Fields → ColumnRow
 kept_row fields = record { text = row_text default_writer fields; refused = false }
 
--- a record with this cell at a place
+-- the row of a record with this cell at a place
 abbrev pub cell_row : Fields → (place : ℕ) → Cell → ColumnRow
 cell_row fields place cell = record {
   text = row_text default_writer (slice_set fields place cell.text);
@@ -27,7 +27,7 @@ cell_row fields place cell = record {
 }
 
 module _ (table : Table) (options : Options) (from to : List ℕ) where
-  -- a record by the field of the column, where it has one
+  -- the row of a record, given its field in the column, if it has one
   abbrev pub row_by : Fields → (place : ℕ) → Option (List ℕ) → ColumnRow
   row_by fields place (Some field) = cell_row fields place (cell table options from to field)
   row_by fields place None = kept_row fields
@@ -36,7 +36,7 @@ module _ (table : Table) (options : Options) (from to : List ℕ) where
   queries_by (Some field) = cell_queries table options from to field
   queries_by None = []
 
-  -- a record: a header stays as it is
+  -- the row of a record; a header stays as it is
   abbrev pub row : (place : ℕ) (headed : Bool) → Fields → ColumnRow
   row place true fields = kept_row fields
   row place false fields = row_by fields place (field_at fields place)
@@ -45,7 +45,7 @@ module _ (table : Table) (options : Options) (from to : List ℕ) where
   row_queries place true fields = []
   row_queries place false fields = queries_by (field_at fields place)
 
-  -- all rows, of which the first may be a header
+  -- all rows, the first of which may be a header
   abbrev pub rows_of : (place : ℕ) (headed : Bool) → List Fields → List ColumnRow
   rows_of place headed [] = []
   rows_of place headed (fields ∷ left) = row place headed fields ∷ rows_of place false left
@@ -61,7 +61,7 @@ module _ (table : Table) (options : Options) (from to : List ℕ) where
   abbrev pub queries : Input → List Event
   queries i = queries_of i.place i.headed i.left
 
-  -- the next row, where one is left
+  -- the next row, if one is left
   abbrev pub next_of : (place : ℕ) (headed : Bool) → List Fields → Option ColumnRow
   next_of place headed [] = None
   next_of place headed (fields ∷ left) = Some (row place headed fields)
@@ -76,12 +76,12 @@ module _ (table : Table) (options : Options) (from to : List ℕ) where
   abbrev pub next_queries : Input → List Event
   next_queries i = next_queries_of i.place i.headed i.left
 
--- a row, where there is one, before others
+-- a row, if there is one, before others
 abbrev pub before_rows : Option ColumnRow → List ColumnRow → List ColumnRow
 before_rows (Some row) rows = row ∷ rows
 before_rows None rows = []
 
--- law: all rows are the next one and those behind it, and so are the queries
+-- law: the rows are the next row and the rows after it, and so are the queries
 abbrev pub RowsLaw : Type 0
 RowsLaw = (table : Table) (options : Options) (from to : List ℕ) (i : Input)
     → (rows table options from to i ≡ before_rows (next_row table options from to i)

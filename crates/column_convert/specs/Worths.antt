@@ -1,4 +1,4 @@
--- What a number times an expression is worth, by what the expression is.
+-- The value of a number times an expression, from the value of the expression.
 use Rattle.std.specs.Prelude.{◌≡◌, ◌≤◌, ◌-◌, ◌^◌, ℕ, Bool, true, false, List, [], ◌∷◌, map, None, Ok}
 use Rattle.std.specs.List.{list_any}
 use Rattle.units_io.specs.Outcomes.{◌>>=◌}
@@ -30,21 +30,22 @@ use Rattle.reply.specs.Targets.{target}
 use Rattle.column_convert.specs.Cells.{cell_options, number_queries, number_reply}
 use Rattle.column_convert.specs.Products.{IsFactor, IsNumeral, product_text, signed_text}
 
--- a numeral, perhaps with a minus before it
+-- the value of a numeral, perhaps with a minus sign before it
 abbrev pub number_worth : (negative : Bool) → Decimal → Worth
 number_worth false x = number (value_of x)
 number_worth true x = do
   v ← number (value_of x)
   Ok (opposite v)
 
--- the number's fault, then the expression's, then that of their product
+-- the value of the product; the fault of the number comes first, then that of the expression, then that of their
+-- product
 abbrev pub product_worth : (negative : Bool) → Decimal → Worth → Worth
 product_worth negative x worth = do
   v ← number_worth negative x
   w ← worth
   step_worth Multiply v w
 
--- the names of the expression are asked for, and their fault is the first
+-- the value of the product by query: the names of the expression are queried, and their fault comes first
 abbrev pub product_inquiry : Table → (negative : Bool) → Decimal → Syntax → Inquiry Amount
 product_inquiry table negative x from = record {
   events = AsksWords (words_in from) ∷ [];
@@ -52,7 +53,7 @@ product_inquiry table negative x from = record {
       (product_worth negative x (value (expansion table from) None)));
 }
 
--- law: what a number times an expression is converted to follows from what the expression is worth
+-- law: the reply to the conversion of a number times an expression follows from the value of the expression
 abbrev pub WorthLaw : Type 0
 WorthLaw = (table : Table) (options : Options) (negative : Bool) (text : List ℕ) (x : Decimal) (from : List ℕ)
     (f : Syntax) (to : List ℕ) → IsNumeral text x → IsFactor negative from f
@@ -60,8 +61,7 @@ WorthLaw = (table : Table) (options : Options) (negative : Bool) (text : List �
     ≡ followed (product_inquiry table negative x f).events (product_inquiry table negative x f).answer
     (converted_to table options (trimmed to) (target table (trimmed to)))
 
--- an expression and a unit that have these values: the first is no function at a number, the second no function and
--- no list
+-- an expression and a unit have these values; FROM is not a function, and TO is neither a function nor a list
 pub record AreValued (table : Table) (from to : List ℕ) (f g : Syntax) (x y : Amount) : Type 0 where
   pub plain : is_present table (key kind.Func from) ≡ false
   pub from_named : name_fault table (words_in f) ≡ None
@@ -72,8 +72,8 @@ pub record AreValued (table : Table) (from to : List ℕ) (f g : Syntax) (x y : 
   pub to_tree : parsed None (trimmed to) ≡ Ok g
   pub to_value : answer table g ≡ Ok y
 
--- law: the reply to a number is how often the unit goes into the product of the number and the expression's value,
--- and the words of both are asked for
+-- law: the reply to a number says how often the unit goes into the product of the number and the value of the
+-- expression, and the words of both are queried
 abbrev pub ValuedLaw : Type 0
 ValuedLaw = (table : Table) (options : Options) (negative : Bool) (text : List ℕ) (d : Decimal) (from to : List ℕ)
     (f g : Syntax) (x y p : Amount) → IsNumeral text d → IsFactor negative from f → AreValued table from to f g x y
@@ -84,7 +84,7 @@ ValuedLaw = (table : Table) (options : Options) (negative : Bool) (text : List �
     × (number_queries table options from to (signed_text negative text)
     ≡ AsksWords (words_in f) ∷ AsksWords (words_in g) ∷ [])
 
--- law: texts whose words were asked for, one text after another, are asked for again without a step
+-- law: if the words of several texts were queried, one text after another, querying them again takes no step
 abbrev pub AgainLaw : Type 0
 AgainLaw = (texts : List (List WordUse)) (a b : Shown) (n m k : ℕ) → b.reductions ≤ 2 ^ 64 - 1
     → Follows (map AsksWords texts) a b n m → Follows (map AsksWords texts) b b k k

@@ -1,4 +1,4 @@
--- Records as they are written one behind another.
+-- Records as they are written, one after another.
 use Rattle.std.specs.Prelude.{◌≡◌, ℕ, Bool, false, true, List, Option, Some, None, Vec}
 use Rattle.std.specs.declared.alloc.Global.{Global}
 use Rattle.std.specs.Io.KnownBytes.{Appends}
@@ -6,26 +6,26 @@ use Rattle.csv.specs.Writing.{default_writer, fields_written, has_written, text_
 use Rattle.csv.specs.declared.writer.Writer.{Writer}
 use Rattle.column_convert.specs.Rows.{ColumnRow}
 
--- all that a writer wrote
+-- everything that a writer wrote
 abbrev pub text_in : Writer (Vec ℕ Global) → Option (List ℕ)
 text_in writer = text_written (λ (v : Vec ℕ Global). Some v.items) writer
 
--- a writer with the defaults, but of records of any length, that is between two records
+-- a writer with the default settings, but for records of any length, between two records
 pub record IsIdle (writer : Writer (Vec ℕ Global)) : Type 0 where
   pub setup : writer_setup writer ≡ with_flexible default_writer true
   pub fields : fields_written writer ≡ 0
   pub clean : has_written writer ≡ false
 
--- it wrote this text more
+-- the writer has appended this text
 abbrev pub Extends : (before after : Writer (Vec ℕ Global)) → List ℕ → Type 0
 Extends before after text = Appends (text_in before) (text_in after) text
 
--- it wrote this row more, of which this tells whether its cell is an error
+-- the writer has appended this row, and `refused` says whether its cell is an error
 pub record IsWritten (before after : Writer (Vec ℕ Global)) (refused : Bool) (row : ColumnRow) : Type 0 where
   pub text : Extends before after row.text
   pub refused_is : refused ≡ row.refused
 
--- the same of the next row, or nothing where there is none
+-- the writer has appended the next row, or nothing if there is none
 abbrev pub IsNextWritten : (before after : Writer (Vec ℕ Global)) → Option Bool → Option ColumnRow → Type 0
 IsNextWritten before after (Some refused) (Some row) = IsWritten before after refused row
 IsNextWritten before after None None = after ≡ before

@@ -1,4 +1,4 @@
-//! What fields become.
+//! Converting fields to cells.
 
 ghost use Rattle.std.specs.Prelude.{◌≡◌, ◌++◌, IfOk, OnOk, codes};
 ghost use Rattle.def_lines.specs.Blanks.{trimmed};
@@ -21,14 +21,14 @@ use std::alloc::{AllocError, Global};
 use std::sync::ledger::Ledger;
 use units_io::{Steps, Text};
 
-/// What a field becomes.
+/// The cell that replaces a field.
 #[derive(Drop)]
 pub(crate) struct Cell {
     pub(crate) text: Text,
     pub(crate) refused: bool,
 }
 
-/// What a field becomes, with what is remembered between fields. The only error is want of memory.
+/// Converts a field to a cell, with the values remembered between fields. The only error is running out of memory.
 pub(crate) fn convert_cell<L: Ledger>(
     alloc: Global,
     table: &mut LiveTable,
@@ -48,7 +48,7 @@ pub(crate) fn convert_cell<L: Ledger>(
     ensures known { OnOk result (IsRemembered table.new (trimmed from.now) to.now memory.new) }
     ensures deck { table.new.deck ≡ table.old.deck }
 {
-    // What is kept is right also where nothing is asked.
+    // The cached outcomes are right, even if no query is made.
     table.kept_right();
     let from = trim(from);
     let number = trim(field);
@@ -62,7 +62,7 @@ pub(crate) fn convert_cell<L: Ledger>(
     not_a_number(alloc)
 }
 
-// What a number becomes whose numeral is within the limits.
+// Converts a number whose numeral is within the limits.
 fn signed_cell<L: Ledger>(
     alloc: Global,
     table: &mut LiveTable,
@@ -93,7 +93,7 @@ fn signed_cell<L: Ledger>(
     number_cell(alloc, table, options, from, to, number, steps)
 }
 
-// What a number becomes.
+// Converts a number.
 fn number_cell<L: Ledger>(
     alloc: Global,
     table: &mut LiveTable,
@@ -111,7 +111,7 @@ fn number_cell<L: Ledger>(
         result table.old table.new steps.old steps.new }
     ensures deck { table.new.deck ≡ table.old.deck }
 {
-    // What is kept is right also where nothing is asked.
+    // The cached outcomes are right, even if no query is made.
     table.kept_right();
     let asked = asked_text(alloc, table.deck(), from, number)?;
     let reply = convert_reply(
@@ -125,7 +125,7 @@ fn number_cell<L: Ledger>(
     cell_of(alloc, &reply)
 }
 
-// Whether a text is a numeral, perhaps with a minus before it.
+// Returns whether a text is a numeral, perhaps with a minus sign before it.
 fn is_number(text: &[u8]) -> bool
     ensures { result ≡ spec.is_number text.now }
 {
@@ -135,7 +135,8 @@ fn is_number(text: &[u8]) -> bool
     )
 }
 
-// What a number is converted from: the function of this name at the number, or so much of FROM.
+// Returns the text to convert for a number: the call of the function FROM with the number, if FROM names a function, or
+// else the number times FROM.
 fn asked_text(alloc: Global, deck: &Deck, from: &[u8], number: &[u8]) -> Result<Text, AllocError>
     ensures { IfOk result (λ text. text ≡ spec.asked_text (tables.table deck.now) from.now number.now) }
 {
@@ -146,7 +147,7 @@ fn asked_text(alloc: Global, deck: &Deck, from: &[u8], number: &[u8]) -> Result<
     }
 }
 
-// A function at a number.
+// Returns the text of a call of a function with a number.
 fn call_text(alloc: Global, name: &[u8], number: &[u8]) -> Result<Text, AllocError>
     ensures { IfOk result (λ text. text ≡ name.now ++ (codes "(" ++ (number.now ++ codes ")"))) }
 {
@@ -158,7 +159,7 @@ fn call_text(alloc: Global, name: &[u8], number: &[u8]) -> Result<Text, AllocErr
     Ok(Text::from(text))
 }
 
-/// So much of a text. The only error is want of memory.
+/// Returns the text of a number times FROM. The only error is running out of memory.
 pub(crate) fn product_text(alloc: Global, number: &[u8], from: &[u8]) -> Result<Text, AllocError>
     ensures { IfOk result (λ text. text ≡ products.product_text number.now from.now) }
 {
@@ -171,7 +172,7 @@ pub(crate) fn product_text(alloc: Global, number: &[u8], from: &[u8]) -> Result<
     Ok(Text::from(text))
 }
 
-/// The options of the reply that stands in a cell.
+/// Returns the options of the reply in a cell.
 pub(crate) fn cell_options(options: &Options) -> Options
     requires { IsPrintable options.now }
     ensures is { result ≡ spec.cell_options options.now }
@@ -189,7 +190,7 @@ pub(crate) fn cell_options(options: &Options) -> Options
     }
 }
 
-// The cell of a field that is no number.
+// Returns the cell of a field that is not a number.
 fn not_a_number(alloc: Global) -> Result<Cell, AllocError>
     ensures { IfOk result (λ cell. cell ≡ spec.not_a_number) }
 {
@@ -200,7 +201,7 @@ fn not_a_number(alloc: Global) -> Result<Cell, AllocError>
     })
 }
 
-/// The first line of a reply. The only error is want of memory.
+/// Returns the cell with the first line of a reply. The only error is running out of memory.
 pub(crate) fn cell_of(alloc: Global, reply: &Reply) -> Result<Cell, AllocError>
     ensures { IfOk result (λ cell. cell ≡ spec.cell_of reply.now) }
 {
@@ -212,7 +213,7 @@ pub(crate) fn cell_of(alloc: Global, reply: &Reply) -> Result<Cell, AllocError>
     })
 }
 
-// What stands before a reply that is refused.
+// Returns the text before a refused reply, which is empty for other replies.
 fn error_front(refused: bool) -> &'static [u8]
     ensures { result.now ≡ spec.error_front refused }
 {
@@ -223,7 +224,7 @@ fn error_front(refused: bool) -> &'static [u8]
     }
 }
 
-// What stands before the first line feed, or the whole text where none stands in it.
+// Returns the text up to the first line feed, or the whole text if it has none.
 fn first_line(text: &[u8]) -> &[u8]
     ensures { result.now ≡ spec.first_line text.now }
 {

@@ -25,14 +25,14 @@ use std::marker::Model;
 use std::sync::ledger::Ledger;
 use units_io::{Steps, Text};
 
-/// A text of records of which one column is converted. Contracts see the records that are not yet given,
-/// the place of the column, and whether the next record is the header.
+/// A text of records, of which one column is converted. Contracts see the records left to give, the place of the
+/// column, and whether the next record is the header.
 #[derive(Drop)]
 pub struct Columns {
     records: Records,
-    // the record that was read last, whose memory is used again
+    // the record that was read last; its memory is reused
     last: ByteRecord,
-    // and the one that was changed last
+    // the record that was changed last; its memory is reused
     changed: ByteRecord,
     place: usize,
     headed: bool,
@@ -49,8 +49,8 @@ impl Model for Columns {
 }
 
 impl Columns {
-    /// The records of a text, with the number of a column, from 1, and whether the first record is a header.
-    /// The text is not copied. The only error is want of memory.
+    /// Returns the records of a text, with the number of a column, counted from 1, and whether the first record is a
+    /// header. Does not copy the text. The only error is running out of memory.
     pub fn new(
         alloc: Global,
         input: Text,
@@ -69,10 +69,11 @@ impl Columns {
         })
     }
 
-    /// The next rows as a block: so many of them as are left, and none exactly where all were given or none is wanted.
-    /// The header, and a record without a field in the column, stay as they are; in every other record that field is
-    /// converted from FROM to TO, or is an error. It makes the queries of these conversions, in order, and leaves the
-    /// deck as it is. The only error is want of memory, after which the rows are used no more.
+    /// Returns the next rows as a block: `most` rows, or fewer if fewer are left; none exactly if none is left or
+    /// `most` is 0. The header and records without a field in the column stay as they are. In every other record, the
+    /// field is converted from FROM to TO, or replaced by an error. Makes the queries of these conversions, in order,
+    /// and does not change the deck. The only error is running out of memory, after which the rows can no longer be
+    /// used.
     pub fn next_rows<L: Ledger>(
         &mut self,
         alloc: Global,
@@ -92,7 +93,7 @@ impl Columns {
             result table.old table.new steps.old steps.new }
         ensures deck { table.new.deck ≡ table.old.deck }
     {
-        // What is kept is right also where nothing is asked.
+        // The cached outcomes are right, even if no query is made.
         table.kept_right();
         let conversion = Conversion { options, from, to };
         let mut draft = Draft {
@@ -112,7 +113,7 @@ impl Columns {
         closed(draft, count, any)
     }
 
-    // Writes the next row, and tells whether its cell is an error, or `None` exactly where all were given.
+    // Writes the next row and returns whether its cell is an error, or `None` exactly if no row is left.
     fn write_next<L: Ledger>(
         &mut self,
         alloc: Global,
@@ -133,7 +134,7 @@ impl Columns {
             conversion.now.to.now self.old) result table.old table.new steps.old steps.new }
         ensures deck { table.new.deck ≡ table.old.deck }
     {
-        // What is kept is right also where nothing is asked.
+        // The cached outcomes are right, even if no query is made.
         table.kept_right();
         if !self.records.read(&mut self.last)? {
             return Ok(None);
@@ -154,14 +155,14 @@ impl Columns {
     }
 }
 
-// Whether one of two is so.
+// Returns whether either is true.
 fn either(a: bool, b: bool) -> bool
     ensures { result ≡ (a || b) }
 {
     a || b
 }
 
-// The rows that were written, of which this tells how many they are and whether a cell of them is an error.
+// Returns the block of the rows in a draft, given the number of rows and whether a cell of them is an error.
 fn closed(draft: Draft, count: usize, any: bool) -> Result<Block, AllocError>
     ensures { IfOk result (λ block.
         (text_in draft.writer ≡ Some block.text) × (block.rows ≡ count) × (block.refused ≡ any)) }

@@ -1,8 +1,8 @@
-//! What is converted into what.
+//! The conversion of a column.
 
 use reply::Options;
 
-/// What is converted into what, and how the replies are made.
+/// The conversion of a column, and the options for its replies.
 #[derive(Clone, Copy)]
 pub(crate) struct Conversion<'a> {
     pub(crate) options: &'a Options,

@@ -1,9 +1,9 @@
-//! Rows as they are made.
+//! Rows in the making.
 
 use crate::memory::Memory;
 use csv::Writer;
 
-/// The rows that were made so far, and what is remembered for the next.
+/// The rows made so far, and the values remembered for the next rows.
 #[derive(Drop)]
 pub(crate) struct Draft {
     pub(crate) writer: Writer<Vec<u8>>,

@@ -1,4 +1,4 @@
-//! What FROM and TO are worth, which is asked for once for many rows.
+//! The values of FROM and TO, which are queried once for many rows.
 
 ghost use Rattle.std.specs.Prelude.{◌≡◌, ◌≤◌, ◌-◌, ◌^◌, [], ◌∷◌, IfOk, IfSome, Ok};
 ghost use Rattle.deck.specs.Tables as tables;
@@ -19,15 +19,15 @@ use std::alloc::{AllocError, Global};
 use std::sync::ledger::Ledger;
 use units_io::Steps;
 
-/// What FROM and TO are worth.
+/// The values of FROM and TO.
 #[derive(Drop)]
 pub(crate) struct Known {
     pub(crate) from_value: Quantity,
     pub(crate) to_value: Quantity,
 }
 
-/// Asks what FROM and TO are worth, so far as the conversion of this number asks it. `None` where it asks for something
-/// else, or one of them or the product has a fault. The only error is want of memory.
+/// Queries the values of FROM and TO, as far as the conversion of this number does. Returns `None` if that conversion
+/// makes other queries, or if FROM, TO or the product has a fault. The only error is running out of memory.
 pub(crate) fn ask_values<L: Ledger>(
     alloc: Global,
     table: &mut LiveTable,
@@ -40,7 +40,7 @@ pub(crate) fn ask_values<L: Ledger>(
     ensures asked { spec.IsBegun n.now from.now to.now result table.old table.new steps.old steps.new }
     ensures deck { table.new.deck ≡ table.old.deck }
 {
-    // What is kept is right also where nothing is asked.
+    // The cached outcomes are right, even if no query is made.
     table.kept_right();
     match plain_trees(alloc, table.deck(), from, to)? {
         Some(trees) => ask_trees(alloc, table, from, to, n, &trees, steps),
@@ -48,7 +48,7 @@ pub(crate) fn ask_values<L: Ledger>(
     }
 }
 
-// The same where FROM and TO are these trees.
+// Queries the values of FROM and TO, given as trees.
 fn ask_trees<L: Ledger>(
     alloc: Global,
     table: &mut LiveTable,
@@ -79,7 +79,7 @@ fn ask_trees<L: Ledger>(
     }))
 }
 
-// What a tree is worth, unless it has a fault.
+// Returns the value of a tree, or `None` if it has a fault.
 fn ask<L: Ledger>(
     alloc: Global,
     table: &mut LiveTable,
@@ -94,7 +94,7 @@ fn ask<L: Ledger>(
     ensures deck { table.new.deck ≡ table.old.deck }
 {
     let value = table.value(alloc, tree, steps);
-    // So few names were settled that their number fits.
+    // So few names were settled that their count does not overflow.
     table.counts();
     match value {
         Ok(value) => Ok(Some(value)),
@@ -104,8 +104,8 @@ fn ask<L: Ledger>(
     }
 }
 
-/// So much of what an expression is worth, unless the number or the product has a fault. The only error is want of
-/// memory.
+/// Returns the product of a number and the value of an expression, or `None` if the number or the product has a fault.
+/// The only error is running out of memory.
 pub(crate) fn product(
     alloc: Global,
     n: &Signed,
@@ -124,7 +124,7 @@ pub(crate) fn product(
     }
 }
 
-// The quantity, or the opposite one.
+// Returns the quantity, or its negation if `negative`.
 fn with_sign(negative: bool, x: Quantity) -> Quantity
     ensures { result ≡ spec.with_sign negative x }
 {

@@ -6,27 +6,27 @@ ghost use Rattle.column_convert.specs.Products.{ProductLaw};
 ghost use Rattle.column_convert.specs.Rows.{RowsLaw};
 ghost use Rattle.column_convert.specs.Worths.{AgainLaw, ValuedLaw, WorthLaw};
 
-/// All rows are the next one and those behind it, and so are the queries that are made for them.
+/// The rows are the next row and the rows after it, and so are the queries made for them.
 pub fn rows_law()
     ensures { RowsLaw }
 {}
 
-/// All rows are those of the next records and those behind them, and so are the queries that are made for them.
+/// The rows are those of the next `n` records and the rows after them, and so are the queries made for them.
 pub fn blocks_law()
     ensures { BlocksLaw }
 {}
 
-/// The rows of a few inputs are those that were found by hand.
+/// The rows of a few inputs equal those worked out by hand.
 pub fn examples_law()
     ensures { ExamplesLaw }
 {}
 
-/// A number times an expression is parsed to their product, whatever the number.
+/// The text of a number times an expression is parsed as their product, whatever the number.
 pub fn product_law()
     ensures { ProductLaw }
 {}
 
-/// What a number times an expression is converted to follows from what the expression is worth.
+/// The reply to the conversion of a number times an expression follows from the value of the expression.
 pub fn worth_law()
     ensures { WorthLaw }
 {}
@@ -36,7 +36,7 @@ pub fn valued_law()
     ensures { ValuedLaw }
 {}
 
-/// Texts whose words were asked for, one text after another, are asked for again without a step.
+/// If the words of several texts were queried, one text after another, querying them again takes no step.
 pub fn again_law()
     ensures { AgainLaw }
 {}

@@ -1,4 +1,4 @@
-//! What is remembered between rows.
+//! The values remembered between rows.
 
 ghost use Rattle.std.specs.Prelude.{◌≡◌, IfOk, IfSome, OnOk};
 ghost use Rattle.reply.specs.Options.{IsPrintable};
@@ -14,16 +14,16 @@ use std::alloc::{AllocError, Global};
 use std::sync::ledger::Ledger;
 use units_io::Steps;
 
-/// What is remembered between rows.
+/// The values remembered between rows.
 #[derive(Drop)]
 pub(crate) struct Memory {
     pub(crate) known: Option<Known>,
-    // what FROM and TO are worth was asked for in vain
+    // the values of FROM and TO were queried in vain
     pub(crate) is_vain: bool,
 }
 
 impl Memory {
-    /// Nothing yet.
+    /// Returns an empty memory.
     pub(crate) fn new() -> Memory
         ensures { spec.IsEmpty result }
     {
@@ -33,15 +33,15 @@ impl Memory {
         }
     }
 
-    /// Forgets the values, for after other queries.
+    /// Forgets the values, because other queries follow.
     pub(crate) fn forget(&mut self)
         ensures { spec.IsEmpty self.new }
     {
         self.known = None;
     }
 
-    /// Asks for what FROM and TO are worth, unless it is known, or was asked for in vain. The only error is want of
-    /// memory.
+    /// Queries the values of FROM and TO, unless they are known or were queried in vain. The only error is running out
+    /// of memory.
     pub(crate) fn recall<L: Ledger>(
         &mut self,
         alloc: Global,
@@ -56,7 +56,7 @@ impl Memory {
         ensures asked { spec.IsBegun n.now from.now to.now result table.old table.new steps.old steps.new }
         ensures deck { table.new.deck ≡ table.old.deck }
     {
-        // What is kept is right also where nothing is asked.
+        // The cached outcomes are right, even if no query is made.
         table.kept_right();
         if self.is_vain || self.known.is_some() {
             return Ok(());
@@ -67,8 +67,8 @@ impl Memory {
         Ok(())
     }
 
-    /// The cell of a number by what is known, which asks for nothing, unless nothing is known, or the number or its
-    /// product has a fault. The only error is want of memory.
+    /// Returns the cell of a number from the known values, without a query, or `None` if no values are known or if the
+    /// number or its product has a fault. The only error is running out of memory.
     pub(crate) fn cell(
         &self,
         alloc: Global,
@@ -89,7 +89,7 @@ impl Memory {
     }
 }
 
-// The cell of a number by these values.
+// Returns the cell of a number from the known values of FROM and TO.
 fn known_cell(
     alloc: Global,
     options: &Options,

@@ -1,4 +1,4 @@
-//! FROM and TO as trees, where they are no functions and TO is no list.
+//! FROM and TO as trees, if neither is a function and TO is not a list.
 
 ghost use Rattle.std.specs.Prelude.{◌≡◌, IfOk, IfSome, IsTrue, codes};
 ghost use Rattle.deck.specs.Tables as tables;
@@ -21,8 +21,8 @@ pub(crate) struct PlainTrees {
     pub(crate) to_tree: Tree,
 }
 
-/// The trees of FROM and TO, unless one is a function or no expression, TO is a list, or a number times FROM is no
-/// expression. The only error is want of memory.
+/// Returns the trees of FROM and TO, or `None` if either is a function or is not an expression, if TO is a list, or if
+/// a number times FROM is not an expression. The only error is running out of memory.
 pub(crate) fn plain_trees(
     alloc: Global,
     deck: &Deck,
@@ -48,7 +48,7 @@ pub(crate) fn plain_trees(
     Ok(Some(PlainTrees { from_tree, to_tree }))
 }
 
-// Whether neither is a function and the second is no list.
+// Returns whether neither text is a function and TO is not a list.
 fn are_plain(deck: &Deck, from: &[u8], to: &[u8]) -> bool
     ensures { result ≡ spec.are_plain (tables.table deck.now) from.now to.now }
 {
@@ -64,7 +64,7 @@ fn are_plain(deck: &Deck, from: &[u8], to: &[u8]) -> bool
     !has_semicolon(to)
 }
 
-// Whether a number above and one below 0 times an expression are expressions.
+// Returns whether a positive and a negative number times FROM are expressions.
 fn has_products(alloc: Global, from: &[u8]) -> Result<bool, AllocError>
     ensures { IfOk result (λ has. IsTrue has → spec.HasProducts from.now) }
 {
@@ -74,7 +74,7 @@ fn has_products(alloc: Global, from: &[u8]) -> Result<bool, AllocError>
     has_product(alloc, true, from)
 }
 
-// Whether 1 or -1 times an expression is an expression.
+// Returns whether 1 or -1 times FROM is an expression.
 fn has_product(alloc: Global, negative: bool, from: &[u8]) -> Result<bool, AllocError>
     ensures { IfOk result (λ has. IsTrue has → spec.HasProduct negative from.now) }
 {
@@ -94,7 +94,7 @@ fn one(negative: bool) -> &'static [u8]
     }
 }
 
-// The tree of a text, where it is an expression.
+// Returns the tree of a text, or `None` if it is not an expression.
 fn tree_in(alloc: Global, text: &[u8]) -> Result<Option<Tree>, AllocError>
     ensures { IfOk result (λ tree. IfSome tree (λ tree. spec.IsTreeOf text.now (syntax tree))) }
 {

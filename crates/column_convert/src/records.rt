@@ -9,7 +9,7 @@ use std::alloc::{AllocError, Global};
 use std::io::Cursor;
 use std::marker::Model;
 
-/// The records of a text that are not yet read, which contracts see as a list.
+/// The records of a text that are left to read, which contracts see as a list.
 #[derive(Drop)]
 pub(crate) struct Records {
     reader: Reader<Cursor<Vec<u8>>>,
@@ -29,7 +29,7 @@ impl Model for Records {
 }
 
 impl Records {
-    /// All records of a text. It takes no memory.
+    /// Returns all records of a text. Allocates no memory.
     pub(crate) fn new(alloc: Global, text: Vec<u8>) -> Records
         ensures { result ≡ reading.records reading.default_config (reading.strip_bom text.items) }
     {
@@ -42,8 +42,8 @@ impl Records {
         }
     }
 
-    /// Reads the next record, and says whether there was one. After want of memory, the only error,
-    /// there is none.
+    /// Reads the next record and returns whether there was one. The only error is running out of memory, after which no
+    /// record is left.
     pub(crate) fn read(&mut self, fields: &mut ByteRecord) -> Result<bool, AllocError>
         ensures { IfOk result (λ found. MatchBool found
             (self.old ≡ fields_of fields.new ∷ self.new)

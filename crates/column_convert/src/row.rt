@@ -1,4 +1,4 @@
-//! Rows.
+//! Writing rows.
 
 ghost use Rattle.std.specs.Prelude.{◌≡◌, ◌<◌, [], IfOk, OnOk, get_or, length, slice_set};
 ghost use Rattle.csv.specs.Records.{fields_of};
@@ -19,8 +19,8 @@ use std::alloc::{AllocError, Global};
 use std::sync::ledger::Ledger;
 use units_io::Steps;
 
-/// Writes the row of a record, and tells whether its cell is an error: a header, and a record without a field at this
-/// place, stays as it is. The only error is want of memory, after which the writer is used no more.
+/// Writes the row of a record and returns whether its cell is an error. A header, and a record without a field at
+/// `place`, stays as it is. The only error is running out of memory, after which the writer can no longer be used.
 pub(crate) fn write_row<L: Ledger>(
     alloc: Global,
     table: &mut LiveTable,
@@ -43,7 +43,7 @@ pub(crate) fn write_row<L: Ledger>(
         conversion.now.to.now place headed (fields_of fields.now)) result table.old table.new steps.old steps.new }
     ensures deck { table.new.deck ≡ table.old.deck }
 {
-    // What is kept is right also where nothing is asked.
+    // The cached outcomes are right, even if no query is made.
     table.kept_right();
     if headed {
         return write_kept(&mut draft.writer, fields);
@@ -59,7 +59,7 @@ pub(crate) fn write_row<L: Ledger>(
     }
 }
 
-// Writes a record that stays as it is.
+// Writes a record unchanged.
 fn write_kept(writer: &mut Writer<Vec<u8>>, fields: &ByteRecord) -> Result<bool, AllocError>
     requires { IsIdle writer.old }
     ensures idle { OnOk result (IsIdle writer.new) }
@@ -70,7 +70,7 @@ fn write_kept(writer: &mut Writer<Vec<u8>>, fields: &ByteRecord) -> Result<bool,
     Ok(false)
 }
 
-// Writes a record with this cell at a place that it has.
+// Writes a record with this cell at `place`, which the record has.
 fn write_cell(
     writer: &mut Writer<Vec<u8>>,
     changed: &mut ByteRecord,
@@ -89,7 +89,7 @@ fn write_cell(
     Ok(cell.refused)
 }
 
-// Makes a record that of these fields with another one at a place that they have.
+// Sets `changed` to these fields, with another field at `place`, which they have.
 fn change(
     changed: &mut ByteRecord,
     fields: &ByteRecord,
@@ -106,7 +106,7 @@ fn change(
     Ok(())
 }
 
-// The field at a place of the record with another one at a place that it has.
+// Returns the i-th field of the record with another field at `place`.
 fn changed_field<'a>(fields: &'a ByteRecord, place: usize, field: &'a [u8], i: usize) -> &'a [u8]
     requires { i < length (fields_of fields.now) }
     ensures { result.now ≡ get_or (slice_set (fields_of fields.now) place field.now) i [] }

@@ -7,7 +7,7 @@ ghost use Rattle.column_convert.specs.Products.{signed_text};
 
 use frac128::{Numeral, read_numeral};
 
-/// A numeral, perhaps with a minus before it.
+/// A numeral, perhaps with a minus sign before it.
 #[derive(Clone, Copy)]
 pub(crate) struct Signed {
     pub(crate) negative: bool,
@@ -15,7 +15,7 @@ pub(crate) struct Signed {
 }
 
 impl Signed {
-    /// The number that a text is, unless it is none, or its numeral is past the limits.
+    /// Reads a text as a number. Returns `None` if it is not one, or if its numeral is past the limits.
     pub(crate) fn read(text: &[u8]) -> Option<Signed>
         ensures { IfSome result (λ n. IsSigned text.now n) }
     {
@@ -29,7 +29,7 @@ impl Signed {
     }
 }
 
-/// What stands behind a minus at the front, or the whole text where none stands there.
+/// Returns the text after a minus sign at its front, or the whole text if it has none there.
 pub(crate) fn behind_minus(text: &[u8]) -> &[u8]
     ensures { result.now ≡ cells.behind_minus text.now }
 {
@@ -39,7 +39,7 @@ pub(crate) fn behind_minus(text: &[u8]) -> &[u8]
     if *first == b'-' { rest } else { text }
 }
 
-// Whether a minus stands at the front.
+// Returns whether a text begins with a minus sign.
 fn has_minus(text: &[u8]) -> bool
     ensures { text.now ≡ signed_text result (cells.behind_minus text.now) }
 {

@@ -1,4 +1,4 @@
-//! Records as they are written.
+//! Writing records.
 
 ghost use Rattle.std.specs.Prelude.{◌≡◌, [], IfOk, OnOk, Some};
 ghost use Rattle.csv.specs.Records.{fields_of};
@@ -9,7 +9,7 @@ use csv::{ByteRecord, Writer, WriterBuilder};
 use std::alloc::{AllocError, Global};
 use units_io::Text;
 
-/// A writer of records of any length, which holds what it wrote.
+/// Returns a writer for records of any length, which holds what it writes.
 pub(crate) fn new_writer(alloc: Global) -> Writer<Vec<u8>>
     ensures idle { IsIdle result }
     ensures empty { text_in result ≡ Some [] }
@@ -19,7 +19,7 @@ pub(crate) fn new_writer(alloc: Global) -> Writer<Vec<u8>>
         .from_writer(Vec::new(alloc))
 }
 
-/// Writes a record. The only error is want of memory, after which the writer is used no more.
+/// Writes a record. The only error is running out of memory, after which the writer can no longer be used.
 pub(crate) fn write_record(
     writer: &mut Writer<Vec<u8>>,
     fields: &ByteRecord,
@@ -34,7 +34,7 @@ pub(crate) fn write_record(
     Ok(())
 }
 
-/// All that was written. The only error is want of memory.
+/// Returns everything that was written. The only error is running out of memory.
 pub(crate) fn written(writer: Writer<Vec<u8>>) -> Result<Text, AllocError>
     ensures { IfOk result (λ text. text_in writer ≡ Some text) }
 {

@@ -1,4 +1,4 @@
--- The texts of faults, each one line without a tab before it or a line feed behind it.
+-- The texts of faults, each one line with no tab before it and no line feed after it.
 use Rattle.std.specs.Prelude.{◌++◌, ℕ, List, [], ◌∷◌, codes, Option, Some, None}
 use Rattle.std.specs.List.{flat_map}
 use Rattle.frac128.specs.Faults.{fault_text as number_fault_text}
@@ -12,32 +12,32 @@ use Rattle.tree_eval.specs.declared.fault.ValueFault.TheVariants as value
 use Rattle.table_names.specs.declared.fault.NameFault.{NameFault}
 use Rattle.table_names.specs.declared.fault.NameFault.TheVariants.{Unknown, Refused, Cycle}
 
--- where a word stands in a definition, which one
+-- the definition that contains a word, if there is one
 abbrev pub place_text : Option Key → List ℕ
 place_text None = []
 place_text (Some key) = codes " in " ++ key_text key
 
--- a key behind an arrow
+-- a key after an arrow
 abbrev pub arrow_text : Key → List ℕ
 arrow_text key = codes " -> " ++ key_text key
 
--- keys with arrows between them
+-- keys, separated by arrows
 abbrev pub chain_text : List Key → List ℕ
 chain_text [] = []
 chain_text (key ∷ keys) = key_text key ++ flat_map arrow_text keys
 
--- of names
+-- the text of a name fault
 abbrev pub name_fault_text : NameFault → List ℕ
 name_fault_text (Unknown word key) = (codes "unknown unit: " ++ word) ++ place_text key
 name_fault_text (Refused word key) = (codes "refused function: " ++ word) ++ place_text key
 name_fault_text (Cycle keys) = codes "cycle: " ++ chain_text keys
 
--- of a sum of two quantities that do not conform
+-- the text of the fault of a sum of two quantities that do not conform
 abbrev pub unlike_sum_text : Style → Amount → Amount → List ℕ
 unlike_sum_text style x y =
     (codes "sum of unlike units: " ++ amount_text style x) ++ (codes " and " ++ amount_text style y)
 
--- of a value
+-- the text of a value fault
 abbrev pub value_fault_text : Style → ValueFault → List ℕ
 value_fault_text style (value.Number fault) = number_fault_text fault
 value_fault_text style (value.NotConformable x y) = unlike_sum_text style x y

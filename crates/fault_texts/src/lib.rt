@@ -1,4 +1,4 @@
-//! The texts of faults of names and of values.
+//! The texts of name faults and value faults.
 #![tactic(auto)]
 
 mod names;

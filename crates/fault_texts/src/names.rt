@@ -1,4 +1,4 @@
-//! Faults of names.
+//! The texts of name faults.
 
 ghost use Rattle.std.specs.Prelude.{◌≡◌, ◌++◌, OnOk};
 ghost use Rattle.std.specs.List.{flat_map};
@@ -10,8 +10,8 @@ use def_entry::{Key, put_key};
 use std::alloc::AllocError;
 use table_names::NameFault;
 
-/// Puts a fault of names behind a text, in one line without a tab before it or a line feed behind it. The only
-/// error is want of memory.
+/// Appends a name fault to a text: one line, with no tab before it and no line feed after it. The only error is lack of
+/// memory.
 pub fn put_name_fault(text: &mut Vec<u8>, fault: &NameFault) -> Result<(), AllocError>
     ensures { OnOk result (text.new.items ≡ text.old.items ++ spec.name_fault_text fault.now) }
 {
@@ -27,7 +27,7 @@ pub fn put_name_fault(text: &mut Vec<u8>, fault: &NameFault) -> Result<(), Alloc
     }
 }
 
-// Puts words, a word and in which definition it stands.
+// Appends words, a word, and the definition that contains it.
 fn put_word(
     text: &mut Vec<u8>,
     words: &[u8],
@@ -40,7 +40,7 @@ fn put_word(
     put_place(text, key)
 }
 
-// Puts in which definition a word stands.
+// Appends the definition that contains a word, if there is one.
 fn put_place(text: &mut Vec<u8>, key: &Option<Key>) -> Result<(), AllocError>
     ensures { OnOk result (text.new.items ≡ text.old.items ++ spec.place_text key.now) }
 {
@@ -50,7 +50,7 @@ fn put_place(text: &mut Vec<u8>, key: &Option<Key>) -> Result<(), AllocError>
     }
 }
 
-// Puts keys with arrows between them.
+// Appends keys, separated by arrows.
 fn put_chain(text: &mut Vec<u8>, keys: &[Key]) -> Result<(), AllocError>
     ensures { OnOk result (text.new.items ≡ text.old.items ++ spec.chain_text keys.now) }
 {
@@ -63,7 +63,7 @@ fn put_chain(text: &mut Vec<u8>, keys: &[Key]) -> Result<(), AllocError>
     }
 }
 
-// Puts keys, each behind an arrow.
+// Appends keys, each after an arrow.
 fn put_others(text: &mut Vec<u8>, keys: &[Key]) -> Result<(), AllocError>
     ensures { OnOk result (text.new.items ≡ text.old.items ++ flat_map spec.arrow_text keys.now) }
 {
@@ -73,7 +73,7 @@ fn put_others(text: &mut Vec<u8>, keys: &[Key]) -> Result<(), AllocError>
     Ok(())
 }
 
-// Puts words and a key.
+// Appends words and a key.
 fn put_key_behind(text: &mut Vec<u8>, words: &[u8], key: &Key) -> Result<(), AllocError>
     ensures { OnOk result (text.new.items ≡ text.old.items ++ (words.now ++ key_text key.now)) }
 {

@@ -1,10 +1,10 @@
-//! What texts of faults are made of.
+//! The parts of fault texts.
 
 ghost use Rattle.std.specs.Prelude.{◌≡◌, ◌++◌, OnOk};
 
 use std::alloc::AllocError;
 
-// Puts words and a name behind a text.
+// Appends words and a name.
 pub(crate) fn put_named(text: &mut Vec<u8>, words: &[u8], name: &[u8]) -> Result<(), AllocError>
     ensures { OnOk result (text.new.items ≡ text.old.items ++ (words.now ++ name.now)) }
 {

@@ -1,4 +1,4 @@
-//! Faults of values.
+//! The texts of value faults.
 
 ghost use Rattle.std.specs.Prelude.{◌≡◌, ◌++◌, OnOk};
 ghost use Rattle.digits_print.specs.Styles.{IsStyle};
@@ -10,7 +10,7 @@ use quantity::{Quantity, Style};
 use std::alloc::{AllocError, Global};
 use tree_eval::ValueFault;
 
-/// Puts a fault of a value behind a text, in one line, with quantities in this style. The only error is want of memory.
+/// Appends a value fault to a text, in one line, with quantities in the given style. The only error is lack of memory.
 pub fn put_value_fault(
     alloc: Global,
     text: &mut Vec<u8>,
@@ -36,7 +36,7 @@ pub fn put_value_fault(
     }
 }
 
-// Puts the fault of a sum of two quantities that do not conform.
+// Appends the fault of a sum of two quantities that do not conform.
 fn put_unlike_sum(
     alloc: Global,
     text: &mut Vec<u8>,
@@ -51,7 +51,7 @@ fn put_unlike_sum(
     put_shown(alloc, text, b" and ", style, y)
 }
 
-// Puts words and a quantity.
+// Appends words and a quantity.
 fn put_shown(
     alloc: Global,
     text: &mut Vec<u8>,

@@ -1,4 +1,4 @@
--- Inquiries one behind another.
+-- Inquiries in turn.
 use Rattle.std.proofs.Common.{◌≡◌, inl, inr, sym, ap, subst, refl, ℕ, []}
 use Rattle.std.specs.Prelude.{Result, Ok, Err}
 use Rattle.live_table.specs.declared.fault.QueryFault.{QueryFault}
@@ -26,7 +26,7 @@ module _ (e : Event) (said : Result Amount QueryFault) (a b : Shown) (n m : ℕ)
   asked (Err (query.Value f)) h q = elim h [ inl p ↦ cc | inr p ↦ (ap as_answer (sym p), q) ]
   asked (Err query.OutOfMemory) h q = q
 
--- what is read is an inquiry that asks nothing
+-- a result that is read without a query is an inquiry that makes none
 module _ {A B : Type 0} (seen : A → B) (said : Result B ReplyFault) (a : Shown) (n : ℕ) where
   pub read-given : (r : Result A Failure) → IsRightTable a → IsRead seen said r → IsInquired seen (given said) r a a n n
   read-given (Ok x) right h = (h, follows_none a n right)
@@ -37,7 +37,7 @@ module _ {A B C : Type 0} (seen : C → B) (m : Inquiry A) (next : A → Inquiry
   abbrev both : Result A ReplyFault → Inquiry B
   both said = followed m.events said next
 
-  -- an inquiry behind one that has an answer
+  -- an inquiry after one that has a result
   pub then-answered : (x : A) (r : Result C Failure) (a b c : Shown) (n k l : ℕ) → b.deck ≡ a.deck → m.answer ≡ Ok x
       → Follows m.events a b n k → IsInquired seen (next x) r b c k l → IsInquired seen (m >>= next) r a c n l
   then-answered x r a b c n k l deck is p h =
@@ -48,27 +48,27 @@ module _ {A B C : Type 0} (seen : C → B) (m : Inquiry A) (next : A → Inquiry
       go (Err (Fault fault)) h = (h.0, follows_both m.events (next x).events a b c n k l p h.1)
       go (Err OutOfMemory) h = run_law.cut_behind m.events (next x).events a b c n k l deck p h
 
-  -- want of memory cuts it off
+  -- lack of memory cuts off the first inquiry
   cut : (said : Result A ReplyFault) (a b : Shown) (n k : ℕ) → IsCutOff m.events a b n k
       → IsInquired seen (both said) (Err OutOfMemory) a b n k
   cut (Ok x) a b n k p = run_law.cut_before m.events (next x).events a b n k p
   cut (Err fault) a b n k p = p
 
-  -- what a failure of the first says of both
+  -- a failure of the first inquiry is a failure of both
   pub then-failed : {D : Type 0} (to : D → A) (failure : Failure) (a b : Shown) (n k : ℕ)
       → IsInquired to m (Err failure) a b n k → IsInquired seen (m >>= next) (Err failure) a b n k
   then-failed to (Fault fault) a b n k h =
       subst (λ (s : Result A ReplyFault). IsInquired seen (both s) (Err (Fault fault)) a b n k) (sym h.0) (refl, h.1)
   then-failed to OutOfMemory a b n k h = cut m.answer a b n k h
 
-  -- want of memory between the two
+  -- lack of memory between the two cuts off both
   pub then-stopped : (x : A) (a b : Shown) (n k : ℕ) → b.deck ≡ a.deck → m.answer ≡ Ok x → Follows m.events a b n k
       → IsInquired seen (m >>= next) (Err OutOfMemory) a b n k
   then-stopped x a b n k deck is p =
       subst (λ (s : Result A ReplyFault). IsInquired seen (both s) (Err OutOfMemory) a b n k) (sym is)
       (run_law.cut_between m.events (next x).events a b n k deck p)
 
--- what is read behind an inquiry that has an answer
+-- a result that is read after an inquiry that has one
 pub read-behind : {A B C D : Type 0} (seen : C → B) (m : Inquiry A) (to : D → A) (said : A → Result B ReplyFault)
     (x : D)
     (r : Result C Failure) (a b : Shown) (n k : ℕ) → b.deck ≡ a.deck → IsInquired to m (Ok x) a b n k

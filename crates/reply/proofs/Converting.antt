@@ -1,4 +1,4 @@
--- Conversions, by the calls of which they are made.
+-- Conversions, by the calls that compute them.
 use Rattle.std.proofs.Common.{◌≡◌, ◌∙◌, ap, subst, refl, ℕ, List}
 use Rattle.std.specs.Prelude.{Result, Ok, Err}
 use Rattle.expr_tree.specs.Syntax.{Syntax}
@@ -33,7 +33,7 @@ module _ (t : Table) (options : Options) (list : List ℕ) (x : Amount) (a : Sho
   abbrev parsed : Inquiry (List Syntax)
   parsed = given (trees_in (parts_of list))
 
-  -- a part is no expression
+  -- a part is not an expression
   pub split-unparsed : {A : Type 0} (seen : A → List Syntax) (failure : Failure)
       → IsRead seen (trees_in (parts_of list)) (Err failure)
       → IsInquired same (split_into t options list x) (Err failure) a a n n
@@ -43,14 +43,14 @@ module _ (t : Table) (options : Options) (list : List ℕ) (x : Amount) (a : Sho
 
   module _ {A : Type 0} (seen : A → List Amount) (trees : List Syntax) (is : trees_in (parts_of list) ≡ Ok trees)
       (b : Shown) (m : ℕ) where
-    -- a part is worth nothing
+    -- a part has no value
     pub split-unvalued : (failure : Failure) → IsInquired seen (worths t trees) (Err failure) a b n m
         → IsInquired same (split_into t options list x) (Err failure) a b n m
     split-unvalued failure h =
         then-answered same parsed by_trees trees (Err failure) a a b n n m refl is (follows_none a n right)
         (then-failed same (worths t trees) (λ units. given (by_units units)) seen failure a b n m h)
 
-    -- all have values
+    -- all parts have values
     pub split-counted : (units : A) (r : Result Conversion Failure) → b.deck ≡ a.deck
         → IsInquired seen (worths t trees) (Ok units) a b n m → IsRead same (by_units (seen units)) r
         → IsInquired same (split_into t options list x) r a b n m
@@ -63,7 +63,7 @@ module _ (options : Options) (from to : List ℕ) (a b : Shown) (n m : ℕ) wher
   abbrev further : Table → Amount → Inquiry Conversion
   further t x = converted_to t options to (target t to) x
 
-  -- what is asked has a fault
+  -- FROM has a fault
   pub convert-unvalued : (failure : Failure) → IsInquired same (text_worth (table a.deck) from) (Err failure) a b n m
       → IsInquired same (conversion (table a.deck) options from to) (Err failure) a b n m
   convert-unvalued failure h =
@@ -71,12 +71,12 @@ module _ (options : Options) (from to : List ℕ) (a b : Shown) (n m : ℕ) wher
 
   module _ (x : Amount) (deck : b.deck ≡ a.deck) (h : IsInquired same (text_worth (table a.deck) from) (Ok x) a b n m)
     where
-      -- want of memory behind it
+      -- memory runs out after FROM
       pub convert-stopped : IsInquired same (conversion (table a.deck) options from to) (Err OutOfMemory) a b n m
       convert-stopped =
           then-stopped same (text_worth (table a.deck) from) (further (table a.deck)) x a b n m deck h.0 h.1
 
-      -- it is converted
+      -- FROM is converted
       pub convert-done : (seen : Contents) (meant : Target) (r : Result Conversion Failure) (c : Shown) (k : ℕ)
           → seen ≡ b.deck → meant ≡ target (table seen) to
           → IsInquired same (converted_to (table b.deck) options to meant x) r b c m k

@@ -1,4 +1,4 @@
--- Dividing gives a fraction if and only if it is the exact quotient.
+-- The result of a division is a fraction if and only if it is the exact quotient.
 use Rattle.std.proofs.Common.{◌≡◌, ◌≢◌, ◌*◌, ◌<◌, ◌≤◌, ◌*ℤ◌, ◌&&◌, ℕ, ℤ, pos, negsuc, neg_ℤ, suc, zero, Bool, true}
 use Rattle.std.proofs.Common.{false}
 use Rattle.std.proofs.Common.{arith, refl, sym, ap, ap₂, subst, ◌∙◌}
@@ -13,7 +13,7 @@ use Rattle.frac128.specs.Steps.{ReducedLaw, fitting, ratio, reduced}
 use Rattle.frac128.proofs.Signs.{mul-signed, neg-times, signed_is}
 use Rattle.reply.specs.Quotients.{QuotientLaw}
 
--- two factors above 0 in one
+-- two factors above 0 as one
 mul-twice : (z : ℤ) (a b : ℕ) → z *ℤ pos a *ℤ pos b ≡ z *ℤ pos (a * b)
 mul-twice z a b =
     let s = int_lt z (pos 0) in
@@ -27,7 +27,7 @@ mul-twice z a b =
     plain true k = refl
     plain false k = refl
 
--- the same in the other order
+-- two factors above 0 as one, in the other order
 mul-turned : (z : ℤ) (a b : ℕ) → z *ℤ pos a *ℤ pos b ≡ z *ℤ pos (b * a)
 mul-turned z a b = mul-twice z a b ∙ ap (λ j. z *ℤ pos j) (mul_comm a b)
 
@@ -45,7 +45,7 @@ second-true : (a b : Bool) → (a && b) ≡ true → b ≡ true
 second-true true b h = h
 second-true false b h = absurd (cc)
 
--- a reduced fraction that fits is the answer
+-- a reduced fraction that fits is the result
 fitting-of : (r v : Fraction) → fitting r ≡ Ok v → (fits r ≡ true) × (r ≡ v)
 fitting-of r v h = go (fits r) refl h
   where
@@ -84,7 +84,7 @@ module _ (law : ReducedLaw) (v : Fraction) where
       → fitting (reduced n d) ≡ Ok v
   ratio-fitting n d some is same = ap fitting (sym ((law n d some).2 v is.reduced same)) ∙ of-fraction v is
 
-  -- over a number above 0
+  -- the ratio over a number above 0
   ratio-of : (n : ℤ) (d : ℕ) → 0 < d → ratio n (pos d) ≡ Ok v → IsRatio n d
   ratio-of n zero some h = absurd (omega arith)
   ratio-of n (suc d) some h = fitting-ratio n (suc d) some h
@@ -93,7 +93,7 @@ module _ (law : ReducedLaw) (v : Fraction) where
   of-ratio n zero some is same = absurd (omega arith)
   of-ratio n (suc d) some is same = ratio-fitting n (suc d) some is same
 
-  -- over one below 0
+  -- the ratio over a number below 0
   below-of : (n : ℤ) (j : ℕ) → 0 < j → ratio n (neg_ℤ (pos j)) ≡ Ok v → IsRatio (neg_ℤ n) j
   below-of n zero some h = absurd (omega arith)
   below-of n (suc j) some h = fitting-ratio (neg_ℤ n) (suc j) some h
@@ -103,7 +103,7 @@ module _ (law : ReducedLaw) (v : Fraction) where
   of-below n zero some is same = absurd (omega arith)
   of-below n (suc j) some is same = ratio-fitting (neg_ℤ n) (suc j) some is same
 
-  -- over 0
+  -- there is no ratio over 0
   no-ratio : (n z : ℤ) → z ≡ pos 0 → ratio n z ≡ Ok v → ⊥
   no-ratio n (pos zero) e h = cc
   no-ratio n (pos (suc k)) e h = cc

@@ -1,4 +1,4 @@
--- What the examples give, by the definitions.
+-- The results of the examples, by the definitions.
 use Rattle.std.proofs.Common.{refl}
 use Rattle.std.specs.Fmt.{digits}
 use Rattle.digits_print.specs.Rounding.{digit_count, first_power, rounded, rounded_at}
@@ -17,7 +17,7 @@ pub linear : LinearLaw
 unfolding digits digit_count first_power rounded rounded_at gcd gcd_within reduced
 linear = (refl, refl, refl, refl, refl, refl, refl, refl)
 
--- the examples of reciprocal ones
+-- the examples of reciprocal conversions
 pub reciprocal : ReciprocalLaw
 unfolding digits digit_count first_power rounded rounded_at gcd gcd_within reduced
 reciprocal = (refl, refl, refl, refl)

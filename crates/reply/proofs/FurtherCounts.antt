@@ -1,4 +1,4 @@
--- The counts of parts, one behind another.
+-- The counts of parts in turn.
 use Rattle.std.proofs.Common.{◌≡◌, ◌∙◌, ◌++◌, ◌+◌, ◌≤◌, ◌<◌, ℕ, List, [], ◌∷◌, drop, length, refl, sym, ap}
 use Rattle.std.proofs.Common.{append_assoc, get_or}
 use Rattle.std.proofs.lemmas.List.{append-nil, drop_all, drop_more}
@@ -13,7 +13,7 @@ module _ (form : Form) where
   further-none (part ∷ parts) = refl
 
   module _ (text : List ℕ) (parts : List (List ℕ)) (counts : List Fraction) (i : ℕ) where
-    -- one more count
+    -- the text with one more count
     pub further-more : (part : List ℕ) (rest : List (List ℕ)) (count : Fraction) → parts ≡ part ∷ rest
         → i < length counts → count ≡ get_or counts i count
         → ((text ++ between form.layout) ++ count_text form part count) ++ further_text form rest (drop (i + 1) counts)
@@ -32,7 +32,7 @@ module _ (form : Form) where
             drop_more counts i count within
             ∙ ap (λ (c : Fraction). c ∷ drop (i + 1) counts) (sym is)
 
-    -- no more counts
+    -- there are no more counts
     pub further-done : length counts ≤ i → text ≡ text ++ further_text form parts (drop i counts)
     further-done h =
         sym (append-nil text)

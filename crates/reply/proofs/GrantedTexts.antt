@@ -179,7 +179,7 @@ value-yards = record {
   evaluates = ap (λ o. last (amount (amount_from (Ok (fraction 1143 1250)) o))) number-m;
 }
 
--- a prefix and a unit
+-- the value of a prefix and a unit
 value-2-km : IsValueOf measures (codes "2 km") (meters (whole (pos 2000)))
 unfolding greatest fault_from lexemes_from tokens_in parsed tree_of gcd gcd_within reduced
 value-2-km = record {
@@ -201,7 +201,7 @@ value-2-Hz = record {
 }
 
 -- ---- the replies
--- to two texts that are units, by the tests of their values
+-- the reply to two texts that are units, by the tests of their values
 by-units : (options : Options) (from to : List ℕ) (x y : Amount) (conforming opposite : Bool)
     → target measures (trimmed to) ≡ Unit
     → IsValueOf measures (trimmed from) x → IsValueOf measures (trimmed to) y
@@ -303,7 +303,7 @@ split =
 abbrev points : List Point
 points = (whole (pos 1), whole (pos 2)) ∷ (whole (pos 3), whole (pos 6)) ∷ []
 
--- the number that the table has for a quantity that conforms to its unit
+-- the number that the table yields for a quantity that conforms to its unit
 abbrev looked_up_if : Bool → Worth
 looked_up_if conforming =
     after (if conforming then number (over (whole (pos 4)) one) else Err (fault.WrongArgument (codes "gauge")))

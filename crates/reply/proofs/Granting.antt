@@ -65,7 +65,7 @@ function-present table to h = go (is_present table (key kind.Func to)) refl h
     go true is e = refl
     go false is e = absurd (no-function (entry_at table (key kind.List to)) e)
 
--- what may be meant by a function has an inverse by a function alone
+-- a meaning of a function has an inverse only if it is a function
 record IsInverse (m : Meaning) (x y : Amount) : Type 0 where
   function : Callable
   meaning : m ≡ Callee function
@@ -76,7 +76,7 @@ inverse-of (Callee f) x y may h = record { function = f; meaning = refl; evaluat
 inverse-of (One z) x y may h = absurd (true≢false (sym may))
 inverse-of (Two z w) x y may h = absurd (true≢false (sym may))
 
--- ---- by what the target means
+-- ---- by the meaning of the target
 not-false : (b : Bool) → not b ≡ false → b ≡ true
 not-false true e = refl
 not-false false e = absurd (true≢false e)
@@ -186,7 +186,7 @@ module _ (table : Table) (options : Options) (to : List ℕ) (x : Amount) where
   converts-granted Function (Unlike p q) h = absurd h
   converts-granted (Parts list) (Unlike p q) h = absurd h
 
--- ---- from a text to another
+-- ---- from one text to another
 module _ (table : Table) (options : Options) (from to : List ℕ) where
   abbrev answer : Result Conversion ReplyFault
   answer = (conversion table options (trimmed from) (trimmed to)).answer
@@ -197,7 +197,7 @@ module _ (table : Table) (options : Options) (from to : List ℕ) where
   abbrev reply_by : Result Conversion ReplyFault → Reply
   reply_by result = as_conversion (form_of options) (trimmed from) (trimmed to) result
 
-  -- the reply is by the value of FROM and what the target means
+  -- the reply depends on the value of FROM and the meaning of the target
   pub target-reply : (t : Target) → target table (trimmed to) ≡ t → (x : Amount) → IsValueOf table (trimmed from) x
       → conversion_reply table options from to ≡ reply_by (converted_to table options (trimmed to) t x).answer
   target-reply t is x v =
@@ -272,6 +272,6 @@ module _ (table : Table) (options : Options) (from to : List ℕ) where
         zero = λ is y v zero. refused-zero is y v zero (conversion_reply table options from to).refused refl;
       }
 
--- the law
+-- the law of granted conversions
 pub grant-law : QuotientLaw → KindLaw → GrantLaw
 grant-law law kinds d options from to = table-law (deck.table d) options from to law kinds (fits_kinds d)

@@ -1,4 +1,4 @@
--- Inquiries that answer: the answers of their steps.
+-- The results of inquiries, by those of their steps.
 use Rattle.std.proofs.Common.{◌≡◌, ◌∙◌, refl, sym, ap, ap₂, subst, ℕ, List, [], ◌∷◌, Option, Some, None, Result, Ok}
 use Rattle.std.proofs.Common.{Err}
 use Rattle.units_io.specs.Outcomes as outcome
@@ -19,11 +19,11 @@ use Rattle.reply.specs.Inquiries.{◌>>=◌, Inquiry, as_answer, followed, given
 use Rattle.reply.specs.TextValues.{AreValuesOf, IsValueOf}
 use Rattle.reply.specs.Trees.{as_parsed, tree_in, trees_in}
 
--- two equal answers have equal values
+-- two equal results have equal values
 pub ok-same : {A E : Type 0} (x y : A) → ◌≡◌ {A = Result A E} (Ok x) (Ok y) → x ≡ y
 ok-same x y e = cc
 
--- a fault is no answer
+-- a fault is not a value
 pub no-ok : {A E : Type 0} (fault : E) (y : A) → ◌≡◌ {A = Result A E} (Err fault) (Ok y) → ⊥
 no-ok fault y e = cc
 
@@ -39,7 +39,7 @@ module _ {A B E : Type 0} (first : Result A E) (step : A → Result B E) (y : B)
       go (Ok x) e h = (x, e, h)
       go (Err fault) e h = absurd (no-ok fault y h)
 
--- the answer of two inquiries, by the answer of the first
+-- the result of two inquiries, by that of the first
 abbrev pub answer_after : {A B : Type 0} → Inquiry A → (A → Inquiry B) → Result A ReplyFault → Result B ReplyFault
 answer_after first next answer = (followed first.events answer next).answer
 

@@ -52,7 +52,7 @@ module _ {A : Type 0} (test : A → Bool) where
   each-not [] h = tt
   each-not (x ∷ xs) h = (ap not h.0, each-not xs h.1)
 
-  -- all pass a test if and only if the first that does not has no place
+  -- all elements pass a test if and only if there is no first one that does not
   all-pass : (xs : List A) → position (λ x. not (test x)) xs ≡ None → All (λ x. test x ≡ true) xs
   all-pass xs e = All-from_recursion (λ x. test x ≡ true) xs (each-true xs (each-of (λ x. not (test x)) xs e))
 

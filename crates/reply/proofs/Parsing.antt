@@ -1,4 +1,4 @@
--- The trees of texts, one after another.
+-- The trees of texts in turn.
 use Rattle.std.proofs.Common.{◌≡◌, ◌∙◌, ℕ, List, [], ◌∷◌, ◌++◌, refl, sym, ap, append_assoc}
 use Rattle.std.proofs.lemmas.List.{append-nil}
 use Rattle.std.specs.Prelude.{Result, Ok, Err}
@@ -11,7 +11,7 @@ use Rattle.reply.specs.Calls.{IsRead}
 use Rattle.reply.specs.Trees.{tree_in, trees_in}
 use Rattle.reply.proofs.Fronts.{with_front}
 
--- what is said of the further texts, behind some trees and one more
+-- the result for the further texts, after some trees and one more
 further : (xs : List Syntax) (tree : Syntax) (said : Result (List Syntax) ReplyFault)
     → with_front xs (said >>= (λ trees. Ok (tree ∷ trees))) ≡ with_front (xs ++ tree ∷ []) said
 further xs tree (Ok trees) = ap Ok (sym (append_assoc xs (tree ∷ []) trees))
@@ -26,7 +26,7 @@ module _ (xs : List Syntax) (text : List ℕ) (texts : List (List ℕ)) where
       → with_front xs (trees_in (text ∷ texts)) ≡ with_front (xs ++ tree ∷ []) (trees_in texts)
   trees-more tree e = ap by e ∙ further xs tree (trees_in texts)
 
-  -- or a fault, or there is no memory
+  -- one more text has a fault, or memory ran out
   pub trees-failed : {A B : Type 0} (seen : A → List Syntax) (to : B → Syntax) (all : Result (List Syntax) ReplyFault)
       (failure : Failure) → with_front xs (trees_in (text ∷ texts)) ≡ all → IsRead to (tree_in text) (Err failure)
       → IsRead seen all (Err failure)

@@ -147,7 +147,7 @@ module _ (law : ReducedLaw) where
   text-points text = between-points (slice_split is_comma (behind_no_error (after_blanks text)))
 
 -- ---- entries
--- the points of a table among what is said of a key
+-- the points of the tables in a definition
 abbrev pub HasTablePoints : What → Type 0
 HasTablePoints (what.Table d) = Each HasPositive d.points
 HasTablePoints _ = Unit {0}

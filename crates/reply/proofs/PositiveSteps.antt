@@ -1,4 +1,4 @@
--- Each step of an evaluation gives a number whose denominator is above 0.
+-- Each step of an evaluation yields a number whose denominator is above 0.
 use Rattle.std.proofs.Common.{◌≡◌, ◌∙◌, ◌<◌, ◌*◌, ◌&&◌, ◌^◌, ◌*ℤ◌, ◌+ℤ◌, ◌-ℤ◌, arith, refl, sym, subst, ℕ, ℤ, pos}
 use Rattle.std.proofs.Common.{negsuc, neg_ℤ, suc, zero}
 use Rattle.std.proofs.Common.{Bool, true, false, if◌then◌else◌, List, [], ◌∷◌, Some, Result, Ok, Err}
@@ -23,7 +23,7 @@ use Rattle.piecewise.specs.Lines.{Point, exchanged, on_line}
 use Rattle.piecewise.specs.Tables.{Segment, given_by, holds_y, segments, x_at, x_on}
 use Rattle.quantity.specs.Powers.{power_of_root, powered}
 
--- an answer has a denominator above 0
+-- the denominator of a result, if there is one, is above 0
 abbrev pub IsPositive : {E : Type 0} → Result Fraction E → Type 0
 IsPositive r = (x : Fraction) → r ≡ Ok x → 0 < x.den
 
@@ -41,7 +41,7 @@ if-positive : {E : Type 0} (b : Bool) (r s : Result Fraction E) → IsPositive r
 if-positive true r s h k = h
 if-positive false r s h k = k
 
--- a step after another
+-- two steps in turn yield a denominator above 0
 pub then-positive : {A : Type 0} (r : Result A FracFault) (f : A → Result Fraction FracFault)
     → ((x : A) → IsPositive (f x)) → IsPositive (step.◌>>=◌ r f)
 then-positive (Ok x) f h = h x
@@ -121,7 +121,7 @@ module _ (law : ReducedLaw) where
       (some-lcm x.den y.den some_x some_y)
 
   -- ---- tables of points
-  -- the last step of a line: what a quotient adds to a number
+  -- the last step on a line, the sum of a quotient and a number
   added-positive : (x : Fraction) → 0 < x.den → (r : Result Fraction FracFault) → IsPositive r
       → IsPositive (step.◌>>=◌ r (λ part. plus x part))
   added-positive x some (Ok part) h = plus-positive x part some (h part refl)

@@ -37,12 +37,12 @@ use Rattle.reply.proofs.PositiveSteps.{HasPositive, IsPositive, err-positive, mi
 use Rattle.reply.proofs.PositiveSteps.{plus-positive}
 use Rattle.reply.proofs.PositiveSteps.{powered-positive, times-positive, value-positive, x-positive}
 
--- a quantity that there may be has a denominator above 0
+-- the denominator of an optional quantity is above 0
 abbrev pub HasDenominatorIf : Option Amount → Type 0
 HasDenominatorIf None = Unit {0}
 HasDenominatorIf (Some x) = HasDenominator x
 
--- a value has a denominator above 0
+-- the denominator of a value, if there is one, is above 0
 abbrev pub GivesPositive : Worth → Type 0
 GivesPositive w = (x : Amount) → w ≡ Ok x → HasDenominator x
 
@@ -109,7 +109,7 @@ gives-looked_up name (Err (table.Number f)) h = gives-err _
 gives-shallow : (rank : ℕ) (name : List ℕ) (w : Worth) → GivesPositive w → GivesPositive (shallow rank name w)
 gives-shallow rank name w h = gives-if (nat_lt most_rank rank) _ w (gives-err _) h
 
--- a test gives the quantity itself
+-- a test returns the quantity itself
 gives-inside : (outside : ValueFault) (unit : Option Amount) (span : Option Span) (q : Amount) → HasDenominator q
     → GivesPositive (inside outside unit span q)
 gives-inside outside unit None q h = gives-ok q h

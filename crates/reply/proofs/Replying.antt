@@ -1,4 +1,4 @@
--- Replies, by what inquiries answer.
+-- Replies, by the results of inquiries.
 use Rattle.std.proofs.Common.{◌≡◌, ◌∙◌, sym, ap, subst, ℕ, true, List, Option, IfOk}
 use Rattle.std.specs.Prelude.{Result, Ok, Err}
 use Rattle.std.specs.declared.alloc.AllocError.{AllocError}
@@ -31,12 +31,12 @@ use Rattle.reply.specs.declared.reply.FromValue.TheVariants.{Good, Bad}
 use Rattle.reply.proofs.Runs.{made}
 use Rattle.reply.proofs.ToldFaults.{IsTold, conversion-told, text-told}
 
--- a fault that an inquiry answers can be told
+-- a fault of an inquiry is not lack of memory
 told : {A : Type 0} (said : Result A ReplyFault) (fault : ReplyFault) → IsTold said → said ≡ Err fault
     → is_told fault ≡ true
 told said fault h e = subst IsTold e h
 
--- what holds of the reply that is wanted holds of the one that is given
+-- a property of the expected reply is a property of the returned one
 pub reply-holds : (P : Reply → Type 0) (given : Result Reply AllocError) (wanted : Reply) → P wanted
     → IfOk given (λ reply. reply ≡ wanted) → IfOk given P
 reply-holds P (Ok reply) wanted p h = subst P (sym h) p

@@ -1,4 +1,4 @@
--- Queries that were made, whether or not there was memory afterwards.
+-- Queries that were made, whether or not memory ran out afterwards.
 use Rattle.std.proofs.Common.{◌≡◌, ℕ, List, [], subst}
 use Rattle.std.specs.Prelude.{Result, Ok, Err}
 use Rattle.std.specs.declared.alloc.AllocError.{AllocError}
@@ -8,12 +8,12 @@ use Rattle.live_table.specs.Shown.{Follows, IsCutOff, Shown}
 use Rattle.live_table.specs.States.{Event}
 use Rattle.live_table.proofs.Runs.{run_law}
 
--- queries that were made are a case of those that were cut off
+-- queries that were made are a case of queries that were cut off
 pub cut_after : (es : List Event) (a b : Shown) (n m : ℕ) → b.deck ≡ a.deck → Follows es a b n m → IsCutOff es a b n m
 cut_after es a b n m same p =
     subst (λ (fs : List Event). IsCutOff fs a b n m) (append-nil es) (run_law.cut_between es [] a b n m same p)
 
--- so they were made, or want of memory cut them off, whatever comes of a call behind them
+-- queries were made, or cut off for lack of memory, whatever the result of the call after them
 pub made : {A : Type 0} (r : Result A AllocError) (es : List Event) (a b : Shown) (n m : ℕ) → b.deck ≡ a.deck
     → Follows es a b n m → AreQueries es r a b n m
 made (Ok x) es a b n m same p = p

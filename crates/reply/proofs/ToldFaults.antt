@@ -1,4 +1,4 @@
--- No inquiry has want of memory as its fault.
+-- The fault of an inquiry is never lack of memory.
 use Rattle.std.proofs.Common.{◌≡◌, ◌≢◌, refl, ℕ, Bool, true, false, if◌then◌else◌, List, [], ◌∷◌}
 use Rattle.std.specs.Prelude.{⊤, ◌&&◌, not, None, Option, Some, Result, Ok, Err}
 use Rattle.units_io.specs.Outcomes.{◌>>=◌}
@@ -37,12 +37,12 @@ use Rattle.reply.specs.Ratios.{ratio_of, reciprocal_ratio}
 use Rattle.reply.specs.Targets as targets
 use Rattle.reply.specs.Trees.{as_parsed, tree_in, trees_in}
 
--- an answer that is no want of memory
+-- the result is not lack of memory
 abbrev pub IsTold : {A : Type 0} → Result A ReplyFault → Type 0
 IsTold (Ok x) = ⊤
 IsTold (Err fault) = is_told fault ≡ true
 
--- where an inquiry and what follows each of its answers are told, so are both together
+-- if neither an inquiry nor its continuation lacks memory, their composition does not
 followed-told : {A B : Type 0} (m : Inquiry A) (next : A → Inquiry B) → IsTold m.answer
     → ((x : A) → IsTold (next x).answer) → IsTold (followed m.events m.answer next).answer
 followed-told {A = A} m next told h = go m.answer told
@@ -51,19 +51,19 @@ followed-told {A = A} m next told h = go m.answer told
     go (Ok x) told = h x
     go (Err fault) told = told
 
--- the same of answers alone
+-- if neither a result nor its continuation lacks memory, their composition does not
 then-told : {A B : Type 0} (said : Result A ReplyFault) (next : A → Result B ReplyFault) → IsTold said
     → ((x : A) → IsTold (next x)) → IsTold (said >>= next)
 then-told (Ok x) next told h = h x
 then-told (Err fault) next told h = told
 
--- the answer behind a test of names is told
+-- the result after a test of names is not lack of memory
 answer-told : (fault : Option NameFault) (w : Worth) → IsTold (as_answer (by_names fault w))
 answer-told (Some fault) w = refl
 answer-told None (Ok x) = tt
 answer-told None (Err fault) = refl
 
--- what trees are worth is told
+-- the result of evaluating trees is not lack of memory
 worths-told : (t : Table) (trees : List Syntax) → IsTold (worths t trees).answer
 worths-told t [] = tt
 worths-told t (tree ∷ trees) =
@@ -72,22 +72,22 @@ worths-told t (tree ∷ trees) =
     (answer-told (name_fault t (words_in tree)) (value (expansion t tree) None))
     (λ x. followed-told (worths t trees) (λ xs. given (Ok (x ∷ xs))) (worths-told t trees) (λ xs. tt))
 
--- a linear conversion is told
+-- the result of a linear conversion is not lack of memory
 linear-told : (r : Result Ratio FracFault) → IsTold (linear r)
 linear-told (Ok x) = tt
 linear-told (Err fault) = refl
 
--- so is a reciprocal one
+-- the result of a reciprocal conversion is not lack of memory
 reciprocal-told : (r : Result Ratio FracFault) → IsTold (reciprocal r)
 reciprocal-told (Ok x) = tt
 reciprocal-told (Err fault) = refl
 
--- where both branches are told, so is the one that is taken
+-- if no branch is lack of memory, the one taken is not
 if-told : {A : Type 0} (b : Bool) (p q : Result A ReplyFault) → IsTold p → IsTold q → IsTold (if b then p else q)
 if-told true p q h k = h
 if-told false p q h k = k
 
--- what two quantities come to is told
+-- the result of converting two quantities is not lack of memory
 pub compared-told : (strict : Bool) (x y : Amount) → IsTold (compared strict x y)
 compared-told strict x y =
     if-told (conform x.exponents y.exponents) (linear (ratio_of x.value y.value))
@@ -98,7 +98,7 @@ compared-told strict x y =
     (if-told (are_reciprocal x.exponents y.exponents && not strict) (reciprocal (reciprocal_ratio x.value y.value))
     (Ok (Unlike x y)) (reciprocal-told (reciprocal_ratio x.value y.value)) tt)
 
--- what the counts of a list come to is told
+-- the result of counting the units of a list is not lack of memory
 counted-told : (round : Bool) (x : Amount) (list : List ℕ) (units : List Amount)
     → IsTold (split_conversion x list units (counts_in round x units))
 unfolding counts_in

@@ -1,4 +1,4 @@
--- What trees are worth, asked one after another.
+-- The values of trees that are queried in turn.
 use Rattle.std.proofs.Common.{◌≡◌, ◌∙◌, sym, ap, subst, refl, ℕ, List, [], ◌∷◌, ◌++◌, append_assoc}
 use Rattle.std.proofs.lemmas.List.{append-nil}
 use Rattle.std.specs.Prelude.{Result, Ok, Err}
@@ -17,11 +17,11 @@ use Rattle.reply.specs.Calls.{IsInquired, same}
 use Rattle.reply.specs.Inquiries.{Inquiry, followed, given, worth, worths}
 use Rattle.reply.proofs.Fronts.{with_front, with_front-none}
 
--- an inquiry behind these queries, whose answer stands behind these values
+-- an inquiry after these queries, with these values before its result
 abbrev pub behind : List Event → List Amount → Inquiry (List Amount) → Inquiry (List Amount)
 behind es xs m = record { events = es ++ m.events; answer = with_front xs m.answer }
 
--- some trees have these values, the rest is to be asked
+-- some trees have these values, and the rest are still to be queried
 pub record IsUnderway (t : Table) (trees rest : List Syntax) (values : List Amount) (a b : Shown) (n m : ℕ) : Type 0
   where
     pub events : List Event
@@ -29,7 +29,7 @@ pub record IsUnderway (t : Table) (trees rest : List Syntax) (values : List Amou
     pub deck : b.deck ≡ a.deck
     pub follows : Follows events a b n m
 
--- at the start nothing is asked yet, and all trees are left
+-- at the start nothing has been queried, and all trees are left
 pub underway-start : (t : Table) (trees : List Syntax) (a : Shown) (n : ℕ) → IsRightTable a
     → IsUnderway t trees trees [] a a n n
 underway-start t trees a n right = record {
@@ -39,7 +39,7 @@ underway-start t trees a n right = record {
   follows = follows_none a n right;
 }
 
--- a value in front of those of an inquiry
+-- an inquiry with a value before those of its result
 abbrev onto : Inquiry (List Amount) → Amount → Inquiry (List Amount)
 onto m x = followed m.events m.answer (λ ys. given (Ok (x ∷ ys)))
 
@@ -58,11 +58,11 @@ module _ (t : Table) (trees rest : List Syntax) (tree : Syntax) (values : List A
   abbrev event : Event
   event = AsksWords (words_in tree)
 
-  -- by what the next tree is worth
+  -- the whole inquiry, by the result for the next tree
   abbrev whole_by : Result Amount ReplyFault → Inquiry (List Amount)
   whole_by said = behind u.events values (followed (event ∷ []) said (onto (worths t rest)))
 
-  -- it has a value
+  -- the next tree has a value
   pub underway-next : (x : Amount) → IsInquired same (worth t tree) (Ok x) b c m k
       → IsUnderway t trees rest (values ++ x ∷ []) a c n k
   underway-next x h = record {
@@ -74,7 +74,7 @@ module _ (t : Table) (trees rest : List Syntax) (tree : Syntax) (values : List A
     follows = follows_both u.events (event ∷ []) a b c n m k u.follows h.1;
   }
 
-  -- it has none
+  -- the next tree has no value
   pub underway-failed : {A : Type 0} (seen : A → List Amount) (failure : Failure)
       → IsInquired same (worth t tree) (Err failure) b c m k → IsInquired seen (worths t trees) (Err failure) a c n k
   underway-failed seen failure h =
@@ -93,14 +93,14 @@ module _ (t : Table) (trees rest : List Syntax) (tree : Syntax) (values : List A
       go OutOfMemory h = cut (worth t tree).answer h
 
 module _ {A : Type 0} (seen : A → List Amount) (t : Table) (trees : List Syntax) (a b : Shown) (n m : ℕ) where
-  -- want of memory between two of them
+  -- memory runs out between two trees
   pub underway-stopped : (rest : List Syntax) (values : List Amount) → IsUnderway t trees rest values a b n m
       → IsInquired seen (worths t trees) (Err OutOfMemory) a b n m
   underway-stopped rest values u =
       subst (λ (w : Inquiry (List Amount)). IsCutOff w.events a b n m) (sym u.whole)
       (run_law.cut_between u.events (worths t rest).events a b n m u.deck u.follows)
 
-  -- all have values
+  -- all trees have values
   pub underway-done : (v : A) → IsUnderway t trees [] (seen v) a b n m → IsInquired seen (worths t trees) (Ok v) a b n m
   underway-done v u =
       subst (λ (w : Inquiry (List Amount)). IsInquired seen w (Ok v) a b n m) (sym u.whole) (

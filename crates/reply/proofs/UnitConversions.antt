@@ -138,7 +138,7 @@ module _ (strict : Bool) (x y : Amount) where
   conversion-granted (Split list counts) h = refl
   conversion-granted (Unlike p q) h = absurd h
 
-  -- to a quantity of the value 0 there is none
+  -- there is no conversion to a quantity of the value 0
   pub none-to-zero : y.value.num ≡ pos 0 → (c : Conversion) → IsUnitConversion strict x y c → ⊥
   none-to-zero zero (Linear r) h = h.factors.forward.divisor zero
   none-to-zero zero (Reciprocal r) h = h.1.factors.forward.divisor zero

@@ -1,4 +1,4 @@
--- How many parts, trees and values a list has.
+-- The numbers of parts, trees and values of a list.
 use Rattle.std.proofs.Common.{◌≡◌, ◌∙◌, ◌<◌, ℕ, suc, List, [], ◌∷◌, length, refl, sym, ap, arith}
 use Rattle.std.proofs.lemmas.List.{length-map}
 use Rattle.std.proofs.lemmas.List.Splits.{length-slice_split}
@@ -15,7 +15,7 @@ use Rattle.reply.specs.Inquiries.{followed, given, worth, worths}
 use Rattle.reply.specs.Targets.{parts_of}
 use Rattle.reply.specs.Trees.{tree_in, trees_in}
 
--- each text has a tree
+-- there are as many trees as texts
 pub trees-count : (texts : List (List ℕ)) (trees : List Syntax) → trees_in texts ≡ Ok trees
     → length trees ≡ length texts
 trees-count [] trees e = let s : [] ≡ trees = cc in ap length (sym s)
@@ -31,7 +31,7 @@ trees-count (text ∷ texts) trees e = go (trees-count texts) (tree_in text) (tr
     go few (Ok x) (Err fault) is e = cc
     go few (Err fault) q is e = cc
 
--- each tree has a value
+-- there are as many values as trees
 pub worths-count : (t : Table) (trees : List Syntax) (xs : List Amount) → (worths t trees).answer ≡ Ok xs
     → length xs ≡ length trees
 worths-count t [] xs e = let s : [] ≡ xs = cc in ap length (sym s)
@@ -50,12 +50,12 @@ worths-count t (tree ∷ trees) xs e = go (worths-count t trees) (worth t tree).
     go few (Ok x) (Err fault) is e = cc
     go few (Err fault) q is e = cc
 
--- a list has a part
+-- a list has at least one part
 parts-some : (list : List ℕ) → 0 < length (parts_of list)
 parts-some list =
     omega (arith, length-map (slice_split is_semicolon list) trimmed, length-slice_split is_semicolon list)
 
--- so it has a unit
+-- a list has at least one unit
 pub units-some : (t : Table) (list : List ℕ) (trees : List Syntax) (units : List Amount)
     → trees_in (parts_of list) ≡ Ok trees → (worths t trees).answer ≡ Ok units → 0 < length units
 units-some t list trees units e f =

@@ -13,7 +13,7 @@ use Rattle.reply.specs.Conversions.{split_conversion}
 use Rattle.unit_list.specs.declared.fault.SplitFault.TheVariants.{NotConformable, OutOfMemory}
 
 module _ (round : Bool) (x : Amount) (units : List Amount) (place : ℕ) where
-  -- it is the place of a unit
+  -- the place is that of a unit
   within : counts_in round x units ≡ Err (NotConformable place) → place < length units
   unfolding counts_in
   within e =
@@ -33,7 +33,7 @@ module _ (round : Bool) (x : Amount) (units : List Amount) (place : ℕ) where
       → place < length units
   place-within h = elim h [ inl e ↦ cc | inr e ↦ within e ]
 
-  -- and the unit there is the one that does not conform
+  -- the unit at the place is the one that does not conform
   pub counted-unlike : (list : List ℕ) (k : ℕ) (y : Amount)
       → (NotConformable place ≡ OutOfMemory) ⊎ (counts_in round x units ≡ Err (NotConformable place))
       → k ≡ place → y ≡ slice_index_or units k y

@@ -1,4 +1,4 @@
--- What a conversion comes to, before it is written.
+-- The result of a conversion, before it is written.
 use Rattle.std.specs.Prelude.{◌&&◌, ℕ, Bool, true, false, not, List, slice_index_or, Result, Ok, Err, if◌then◌else◌}
 use Rattle.frac128.specs.declared.fault.FracFault.{FracFault}
 use Rattle.frac128.specs.Fraction.{Fraction}
@@ -25,7 +25,7 @@ use Rattle.reply.specs.Ratios.{ratio_of, reciprocal_ratio}
 use Rattle.reply.specs.Targets.{parts_of, target}
 use Rattle.reply.specs.Trees.{trees_in}
 
--- a conversion that is no conformability error
+-- the conversion is not a conformability error
 abbrev pub is_granted : Conversion → Bool
 is_granted (Unlike x y) = false
 is_granted _ = true
@@ -38,7 +38,7 @@ abbrev pub reciprocal : Result Ratio FracFault → Result Conversion ReplyFault
 reciprocal (Ok ratio) = Ok (Reciprocal ratio)
 reciprocal (Err fault) = Err (Value (Number fault))
 
--- of two quantities: linear where they conform, else reciprocal where they are and that is wanted, else unlike
+-- two quantities: `Linear` if they conform; else `Reciprocal` if they are reciprocal and `strict` is off; else `Unlike`
 abbrev pub compared : (strict : Bool) (x y : Amount) → Result Conversion ReplyFault
 compared strict x y =
     if conform x.exponents y.exponents then linear (ratio_of x.value y.value)
@@ -46,7 +46,7 @@ compared strict x y =
     then reciprocal (reciprocal_ratio x.value y.value)
     else Ok (Unlike x y))
 
--- of the counts of the units of a list in a quantity
+-- the conversion by the counts of the units of a list in a quantity
 abbrev pub split_conversion : Amount → (list : List ℕ) (units : List Amount) → Result (List Fraction) SplitFault
     → Result Conversion ReplyFault
 split_conversion x list units (Ok counts) = Ok (Split list counts)
@@ -55,21 +55,21 @@ split_conversion x list units (Err (split.ListUnitNotPositive place)) = Err (Lis
 split_conversion x list units (Err (split.Number fault)) = Err (Value (Number fault))
 split_conversion x list units (Err split.OutOfMemory) = Err no_memory
 
--- by the inverse of the function of this name
+-- the conversion by the inverse of the function with this name
 abbrev pub inverted : Table → (name : List ℕ) → Amount → Inquiry Conversion
 inverted table name x = do
   y ← asking (AsksKey (key kind.Func name)) (inverse_answer table name x)
   given (Ok (Inverse y))
 
 module _ (table : Table) (options : Options) where
-  -- into the units of a list: the trees of all its parts, then their values, then the counts
+  -- the conversion into the units of a list: the trees of all its parts, then their values, then the counts
   abbrev pub split_into : (list : List ℕ) → Amount → Inquiry Conversion
   split_into list x = do
     trees ← given (trees_in (parts_of list))
     units ← worths table trees
     given (split_conversion x list units (counts_in options.round x units))
 
-  -- to a unit
+  -- the conversion to a unit
   abbrev pub set_against : (to : List ℕ) → Amount → Inquiry Conversion
   set_against to x = do
     y ← text_worth table to
@@ -80,7 +80,7 @@ module _ (table : Table) (options : Options) where
   converted_to to (Parts list) x = split_into list x
   converted_to to Unit x = set_against to x
 
-  -- from a text to another
+  -- the conversion of one text to another
   abbrev pub conversion : (from to : List ℕ) → Inquiry Conversion
   conversion from to = do
     x ← text_worth table from

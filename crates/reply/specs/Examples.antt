@@ -25,14 +25,14 @@ use Rattle.reply.specs.Ratios.{ratio_of, reciprocal_ratio}
 use Rattle.reply.specs.Replies.{as_conversion, conversion_queries, conversion_reply, definition_reply}
 use Rattle.reply.specs.Targets.{parts_of, target}
 
--- a word alone
+-- a single word
 abbrev pub plain : List ℕ → WordUse
 plain w = record { text = w; kind = word.Plain }
 
 abbrev pub fraction : ℕ → ℕ → Fraction
 fraction n d = record { num = pos n; den = d }
 
--- meters, seconds, a table of points and two lists, of which one has the name of the table
+-- meters, seconds, a table of points and two lists, one of which has the name of the table
 abbrev pub small : Table
 small =
     (key kind.Unit (codes "m"), record { text = codes "!"; what = Primitive })
@@ -78,11 +78,11 @@ granted text = record { text = text; refused = false }
 abbrev pub refused : List ℕ → Reply
 refused text = record { text = text; refused = true }
 
--- a number of one unit in another, by their numbers
+-- a linear conversion, given the values of both units
 abbrev pub linearly : Options → (from to : List ℕ) → Fraction → Fraction → Reply
 linearly options from to x y = as_conversion (form_of options) from to (linear (ratio_of x y))
 
--- the same where they are reciprocal
+-- a reciprocal conversion, given the values of both units
 abbrev pub reciprocally : Options → (from to : List ℕ) → Fraction → Fraction → Reply
 reciprocally options from to x y = as_conversion (form_of options) from to (reciprocal (reciprocal_ratio x y))
 
@@ -90,7 +90,7 @@ reciprocally options from to x y = as_conversion (form_of options) from to (reci
 abbrev pub ten_meters : Options → Reply
 ten_meters options = linearly options (codes "10 m") (codes "ft") (whole (pos 10)) (fraction 381 1250)
 
--- the counts of feet and inches in so much
+-- the counts of feet and inches in a length
 abbrev pub in_feet : Options → Fraction → Reply
 in_feet options x =
     as_conversion (form_of options) (codes "x") (codes "ftin")
@@ -115,7 +115,7 @@ LinearLaw =
     × (linearly default (codes "1 m") (codes "0 m") (whole (pos 1)) (whole (pos 0))
     ≡ refused (codes "division by zero\n"))
 
--- law: a reciprocal one, also of 0
+-- law: a reciprocal conversion, also of 0
 abbrev pub ReciprocalLaw : Type 0
 ReciprocalLaw =
     (reciprocally default (codes "2 Hz") (codes "s") (whole (pos 2)) (whole (pos 1))
@@ -127,7 +127,7 @@ ReciprocalLaw =
     × (reciprocally default (codes "0 Hz") (codes "s") (whole (pos 0)) (whole (pos 1))
     ≡ refused (codes "division by zero\n"))
 
--- law: lists, and what targets mean
+-- law: lists, and the meanings of targets
 abbrev pub ListsLaw : Type 0
 ListsLaw =
     (in_feet default (fraction 7 5) ≡ granted (codes "\t4 ft + 7.1181102 in\n"))
@@ -142,7 +142,7 @@ ListsLaw =
     × (target small (codes "m s") ≡ Unit)
     × (parts_of (codes "m ;; s") ≡ codes "m" ∷ [] ∷ codes "s" ∷ [])
 
--- law: faults, each the whole reply, and the queries up to it
+-- law: faults, each of which is the whole reply, and the queries up to the fault
 abbrev pub FaultsLaw : Type 0
 FaultsLaw =
     (conversion_reply small default (codes "2 +") (codes "nosuch") ≡ refused (codes "syntax error at 3\n"))
@@ -156,6 +156,6 @@ FaultsLaw =
     × (conversion_queries small default (codes "nosuch") (codes "s") ≡ AsksWords (plain (codes "nosuch") ∷ []) ∷ [])
     × (conversion_queries small default (codes "m") (codes "m;;s") ≡ AsksWords (plain (codes "m") ∷ []) ∷ [])
 
--- law: all of them
+-- law: all examples
 abbrev pub ExamplesLaw : Type 0
 ExamplesLaw = LinearLaw × ReciprocalLaw × ListsLaw × FaultsLaw

@@ -1,4 +1,4 @@
--- The texts of faults, each one line without a tab before it or a line feed behind it.
+-- The texts of faults, each one line with no tab before it and no line feed after it.
 use Rattle.std.specs.Prelude.{◌++◌, ◌+◌, ℕ, Bool, true, false, List, codes}
 use Rattle.std.specs.Fmt.{decimal}
 use Rattle.expr_tree.specs.declared.fault.ParseFault.TheVariants as parse
@@ -8,16 +8,16 @@ use Rattle.fault_texts.specs.Texts.{name_fault_text, value_fault_text}
 use Rattle.reply.specs.declared.fault.ReplyFault.{ReplyFault}
 use Rattle.reply.specs.declared.fault.ReplyFault.TheVariants.{Parse, Name, Value, List as ListUnit}
 
--- a fault of what was asked, and no want of memory
+-- the fault is not lack of memory
 abbrev pub is_told : ReplyFault → Bool
 is_told (Parse parse.OutOfMemory) = false
 is_told _ = true
 
--- of a unit of a list, which counts from 1
+-- the text of the fault of a unit of a list, whose place is counted from 1
 abbrev pub list_fault_text : (place : ℕ) → List ℕ
 list_fault_text place = codes "list unit not positive: " ++ decimal (place + 1)
 
--- of a reply
+-- the text of a fault
 abbrev pub fault_text : Style → ReplyFault → List ℕ
 fault_text style (Parse fault) = parse_fault_text fault
 fault_text style (Name fault) = name_fault_text fault

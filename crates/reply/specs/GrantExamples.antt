@@ -13,11 +13,11 @@ use Rattle.reply.specs.declared.options.Options.{Options}
 use Rattle.reply.specs.Examples.{default, granted, refused}
 use Rattle.reply.specs.Replies.{conversion_reply}
 
--- digits with a power of ten
+-- a numeral with these digits, scaled by a power of ten
 abbrev pub numeral : ℕ → ℤ → Syntax
 numeral digits scale = Number (record { coefficient = digits; scale = scale })
 
--- a number of a named unit
+-- a number times a named unit
 abbrev pub number_of : Syntax → (name : List ℕ) → Syntax
 number_of number name = Juxtaposed (Member number (Member (Word name) NoMember))
 

@@ -1,4 +1,4 @@
--- Which conversions are granted, and what they come to.
+-- Which conversions are granted, and their results.
 use Rattle.std.specs.Prelude.{◌≡◌, ◌↔◌, ℕ, pos, Bool, true, false, All, List, Option, Some, None, Ok}
 use Rattle.frac128.specs.Fraction.{Fraction, whole}
 use Rattle.frac128.specs.Sign.{is_positive, is_zero}
@@ -29,7 +29,7 @@ use Rattle.reply.specs.Replies.{comparison_reply, conversion_reply}
 use Rattle.reply.specs.Targets.{parts_of, target}
 use Rattle.reply.specs.TextValues.{AreValuesOf, IsValueOf}
 
--- the number after `/`: how often FROM goes into TO; if FROM is 0 there is none
+-- the number after `/`: how often FROM goes into TO; `None` if FROM is 0
 abbrev pub IsBackFactor : (from to : Fraction) → Option Fraction → Type 0
 IsBackFactor from to None = is_zero from ≡ true
 IsBackFactor from to (Some back) = IsQuotient to from back
@@ -59,20 +59,20 @@ IsUnitConversion strict x y (Reciprocal ratio) = (strict ≡ false) × IsRecipro
 IsUnitConversion strict x y _ = ⊥
 
 module _ (table : Table) where
-  -- to a unit: it has a value, and x is converted to that
+  -- a conversion to a unit: the unit has a value, and x is converted to it
   pub record ConvertsToUnit (strict : Bool) (to : List ℕ) (x : Amount) (c : Conversion) : Type 0 where
     pub y : Amount
     pub evaluates : IsValueOf table to y
     pub converts : IsUnitConversion strict x y c
 
-  -- to a function: its names have no fault, and its inverse at x evaluates to y
+  -- a conversion to a function: its names have no fault, and its inverse at x evaluates to y
   pub record ConvertsToFunction (name : List ℕ) (x y : Amount) : Type 0 where
     pub names : key_fault table (key kind.Func name) ≡ None
     pub function : Callable
     pub meaning : key_meaning table (key kind.Func name) ≡ Callee function
     pub evaluates : unapplied function x ≡ Ok y
 
-  -- to a list: each of its parts has a value above 0 to which x conforms, and x has counts of these
+  -- a conversion to a list: each of its parts has a value above 0 to which x conforms, and x has counts of these
   pub record ConvertsToList (round : Bool) (list : List ℕ) (x : Amount) (counts : List Fraction) : Type 0 where
     pub units : List Amount
     pub evaluates : AreValuesOf table (parts_of list) units
@@ -80,7 +80,7 @@ module _ (table : Table) where
     pub positive : All (λ unit. is_positive unit.value ≡ true) units
     pub counted : number_counts round x.value (numbers_of units) ≡ Ok counts
 
--- by what the target means
+-- a conversion, by the meaning of the target
 abbrev pub ConvertsTo : Table → Options → (to : List ℕ) → Target → Amount → Conversion → Type 0
 ConvertsTo table options to Unit x c = ConvertsToUnit table options.strict to x c
 ConvertsTo table options to Function x (Inverse y) = ConvertsToFunction table to x y
@@ -101,16 +101,16 @@ module _ (table : Table) (options : Options) (from to : List ℕ) where
 
   -- the reply to FROM and TO
   pub record IsConversionReply (reply : Reply) : Type 0 where
-    -- it is no refusal if and only if the conversion is granted
+    -- the reply is not a refusal if and only if the conversion is granted
     pub exactly : (reply.refused ≡ false) ↔ IsGranted
-    -- then it has the numbers of that conversion
+    -- the reply to a granted conversion states the numbers of that conversion
     pub conversion : (c : Conversion) → IsConversion c
         → reply
         ≡ (record { text = conversion_text (form_of options) (trimmed from) (trimmed to) c; refused = false })
-    -- if TO is a unit and both texts have values, it is the reply for these values
+    -- if TO is a unit and both texts have values, the reply is that for these values
     pub comparison : target table (trimmed to) ≡ Unit → (x y : Amount) → IsValueOf table (trimmed from) x
         → IsValueOf table (trimmed to) y → reply ≡ comparison_reply options (trimmed from) (trimmed to) x y
-    -- to a unit of the value 0 no conversion is granted
+    -- no conversion to a unit of the value 0 is granted
     pub zero : target table (trimmed to) ≡ Unit → (y : Amount) → IsValueOf table (trimmed to) y
         → y.value.num ≡ pos 0 → reply.refused ≡ true
 

@@ -14,12 +14,12 @@ use Rattle.reply.specs.declared.conversion.Conversion.TheVariants.{Linear, Recip
 use Rattle.reply.specs.Layouts.{backward_text, call_text, equation_front, forward_text, laid}
 use Rattle.reply.specs.Targets.{parts_of}
 
--- a number, `inf` where there is none
+-- a number, or `inf` if there is none
 abbrev pub some_number_text : Style → Option Fraction → List ℕ
 some_number_text style (Some x) = number_text style x
 some_number_text style None = codes "inf"
 
--- the second line of a linear conversion, which one-line drops
+-- the second line of a linear conversion, unless `one_line` omits it
 abbrev pub backward_line : Form → (from to : List ℕ) → Option Fraction → List ℕ
 backward_line form from to back =
     if form.one_line then []
@@ -31,7 +31,7 @@ linear_text form from to ratio =
     laid form.layout (forward_text form.layout from to (number_text form.style ratio.forward))
     ++ backward_line form from to ratio.back
 
--- 1 over what was asked, as it stands in the verbose layout
+-- 1 over FROM, as the verbose layout writes it
 abbrev pub reciprocal_from : List ℕ → List ℕ
 reciprocal_from from = (codes "1 / (" ++ from) ++ codes ")"
 
@@ -40,12 +40,12 @@ abbrev pub reciprocal_text : Form → (from to : List ℕ) → Ratio → List �
 reciprocal_text form from to ratio =
     laid form.layout (codes "reciprocal conversion") ++ linear_text form (reciprocal_from from) to ratio
 
--- what a function is to be applied to
+-- the argument of a function
 abbrev pub inverse_text : Form → (from name : List ℕ) → Amount → List ℕ
 inverse_text form from name y =
     laid form.layout (equation_front form.layout from ++ call_text form.layout name (amount_text form.style y))
 
--- a count of a part: in the compact layout without the text of the part
+-- the count of a part, in the compact layout without the text of the part
 abbrev pub count_text : Form → (part : List ℕ) → Fraction → List ℕ
 count_text form part count = with_part form.layout
   where
@@ -53,12 +53,12 @@ count_text form part count = with_part form.layout
     with_part Compact = number_text form.style count
     with_part _ = (number_text form.style count ++ codes " ") ++ part
 
--- what stands between two counts
+-- the separator of two counts
 abbrev pub between : Layout → List ℕ
 between Compact = codes ";"
 between _ = codes " + "
 
--- the counts of the parts behind the first
+-- the counts of the parts after the first
 abbrev pub further_text : Form → (parts : List (List ℕ)) → List Fraction → List ℕ
 further_text form (part ∷ parts) (count ∷ counts) =
     (between form.layout ++ count_text form part count) ++ further_text form parts counts
@@ -88,7 +88,7 @@ conversion_text form from to (Inverse y) = inverse_text form from to y
 conversion_text form from to (Split list counts) = split_text form from list counts
 conversion_text form from to (Unlike x y) = unlike_text form x y
 
--- the text of the expression that defines a unit
+-- the text of the expression that defines a unit and an equals sign, if there is such an expression
 abbrev pub body_front : Option (List ℕ) → List ℕ
 body_front None = []
 body_front (Some text) = text ++ codes " = "

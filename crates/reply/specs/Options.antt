@@ -1,4 +1,4 @@
--- What the options say of how a reply is written.
+-- The form of a reply, as the options select it.
 use Rattle.std.specs.Prelude.{◌≤◌, if◌then◌else◌}
 use Rattle.digits_print.specs.declared.style.Style.{Style}
 use Rattle.digits_print.specs.declared.style.Style.TheVariants.{Digits, Exact}
@@ -12,11 +12,11 @@ pub record IsPrintable (options : Options) : Type 0 where
   pub least : 1 ≤ options.digits
   pub most : options.digits ≤ 36
 
--- how numbers are written: with `exact` the digits have no effect
+-- the style of numbers: with `exact` the digits have no effect
 abbrev pub style_of : Options → Style
 style_of options = if options.exact then Exact else Digits options.digits
 
--- how lines are laid out: `compact` turns `verbose` off
+-- the layout of lines: `compact` overrides `verbose`
 abbrev pub layout_of : Options → Layout
 layout_of options = if options.compact then Compact else (if options.verbose then Verbose else Plain)
 

@@ -4,14 +4,14 @@ use Rattle.frac128.specs.Exact.{product}
 use Rattle.frac128.specs.Fraction.{Fraction, IsFrac, SameValue}
 use Rattle.frac128.specs.Steps.{over}
 
--- v is the exact quotient of x and y: y is not 0, v times y is x, and v is in lowest terms, its numerator and its
--- denominator at most 2 ^ 127 - 1
+-- v is the exact quotient of x and y: y is not 0, v times y is x, and v is in lowest terms, with a numerator and a
+-- denominator of at most 2 ^ 127 - 1
 pub record IsQuotient (x y v : Fraction) : Type 0 where
   pub denominator : 0 < x.den
   pub divisor : y.num ≢ pos 0
   pub exact : SameValue (product v y) x
   pub frac : IsFrac v
 
--- law: dividing gives a fraction if and only if it is the exact quotient
+-- law: the result of a division is a fraction if and only if it is the exact quotient
 abbrev pub QuotientLaw : Type 0
 QuotientLaw = (x y v : Fraction) → (over x y ≡ Ok v) ↔ IsQuotient x y v

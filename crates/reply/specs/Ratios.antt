@@ -1,4 +1,4 @@
--- How often one number goes into another, and the other way round.
+-- How often one number goes into another, and the reverse.
 use Rattle.std.specs.Prelude.{pos, Option, Some, None, Result, Ok, if◌then◌else◌}
 use Rattle.frac128.specs.declared.fault.FracFault.{FracFault}
 use Rattle.frac128.specs.Fraction.{Fraction, whole}
@@ -7,7 +7,7 @@ use Rattle.frac128.specs.Steps.{over}
 use Rattle.units_io.specs.Outcomes.{◌>>=◌}
 use Rattle.reply.specs.declared.ratio.Ratio.{Ratio}
 
--- to/from, none where from is 0
+-- to/from, or `None` if `from` is 0
 abbrev pub backward : (from to : Fraction) → Result (Option Fraction) FracFault
 backward from to = if is_zero from then Ok None else (do
   back ← over to from
@@ -20,7 +20,7 @@ ratio_of from to = do
   back ← backward from to
   Ok (record { forward = forward; back = back })
 
--- the same with 1/from in the place of from
+-- the ratio of 1/from and `to`
 abbrev pub reciprocal_ratio : (from to : Fraction) → Result Ratio FracFault
 reciprocal_ratio from to = do
   inverse ← over (whole (pos 1)) from

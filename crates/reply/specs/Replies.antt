@@ -1,4 +1,4 @@
--- Replies: what is written, whether it is refused, and the queries that are made for it.
+-- Replies: their texts, whether they are refusals, and the queries that are made for them.
 use Rattle.std.specs.Prelude.{◌++◌, ℕ, true, false, not, List, codes, Option, Some, None, Result, Ok, Err}
 use Rattle.def_entry.specs.declared.key.Kind.TheVariants as kind
 use Rattle.def_entry.specs.Entries.{Entry, What, Body}
@@ -20,11 +20,11 @@ use Rattle.reply.specs.Inquiries.{Inquiry, text_worth}
 use Rattle.reply.specs.Lines.{conversion_text, definition_text}
 use Rattle.reply.specs.Options.{form_of, style_of}
 
--- a fault is the whole reply
+-- the reply to a fault, which is the whole text
 abbrev pub refusal : Form → ReplyFault → Reply
 refusal form fault = record { text = fault_text form.style fault ++ codes "\n"; refused = true }
 
--- a conversion is refused exactly where it is a conformability error
+-- the reply to a conversion, which is a refusal exactly if it is a conformability error
 abbrev pub conversion_as : Form → (from to : List ℕ) → Conversion → Reply
 conversion_as form from to c = record { text = conversion_text form from to c; refused = not (is_granted c) }
 
@@ -32,7 +32,7 @@ abbrev pub as_conversion : Form → (from to : List ℕ) → Result Conversion R
 as_conversion form from to (Ok c) = conversion_as form from to c
 as_conversion form from to (Err fault) = refusal form fault
 
--- of two quantities, of which these are the texts
+-- the reply to the conversion of two quantities with these texts
 abbrev pub comparison_reply : Options → (from to : List ℕ) (x y : Amount) → Reply
 comparison_reply options from to x y = as_conversion (form_of options) from to (compared options.strict x y)
 
@@ -57,7 +57,7 @@ body_of None = None
 body_of (Some e) = body_text e.text e.what
 
 module _ (table : Table) (options : Options) where
-  -- what the conversion of a text to another comes to, with its queries
+  -- the conversion of one text to another, with its queries
   abbrev pub converting : (from to : List ℕ) → Inquiry Conversion
   converting from to = conversion table options (trimmed from) (trimmed to)
 
@@ -68,8 +68,8 @@ module _ (table : Table) (options : Options) where
   abbrev pub conversion_queries : (from to : List ℕ) → List Event
   conversion_queries from to = (converting from to).events
 
-  -- what a text is worth; before it stands the text of its definition where it is the name of a unit that an
-  -- expression defines
+  -- the reply to a single text: its value, after the text of its definition if it is the name of a unit that is defined
+  -- by an expression
   abbrev pub definition_reply : (from : List ℕ) → Reply
   definition_reply from =
       as_definition (form_of options) (body_of (entry_at table (key kind.Unit (trimmed from))))
@@ -79,6 +79,6 @@ module _ (table : Table) (options : Options) where
   abbrev pub from_value : (from : List ℕ) → FromValue
   from_value from = as_value options (text_worth table (trimmed from)).answer
 
--- the queries of a definition and of a value
+-- the queries of a definition or a value
 abbrev pub value_queries : Table → (from : List ℕ) → List Event
 value_queries table from = (text_worth table (trimmed from)).events

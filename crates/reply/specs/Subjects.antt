@@ -1,4 +1,4 @@
--- What a linear conversion is of, as the verbose layout writes it.
+-- The left-hand side of a linear conversion in the verbose layout.
 use Rattle.std.specs.Prelude.{ℕ, List}
 use Rattle.reply.specs.declared.lines.Subject.{Subject}
 use Rattle.reply.specs.declared.lines.Subject.TheVariants.{Asked, OneOver}

@@ -25,6 +25,6 @@ AreValuesOf table [] [] = ⊤
 AreValuesOf table (text ∷ texts) (x ∷ xs) = IsValueOf table text x × AreValuesOf table texts xs
 AreValuesOf table _ _ = ⊥
 
--- law: over the definitions of a deck each value is a fraction, with a denominator above 0
+-- law: over the definitions of a deck each value is a fraction with a denominator above 0
 abbrev pub DenominatorLaw : Type 0
 DenominatorLaw = (d : Contents) (text : List ℕ) (x : Amount) → IsValueOf (deck.table d) text x → HasDenominator x

@@ -11,11 +11,11 @@ abbrev pub as_parsed : Result Syntax ParseFault → Result Syntax ReplyFault
 as_parsed (Ok tree) = Ok tree
 as_parsed (Err fault) = Err (Parse fault)
 
--- the tree of a text, in which no argument stands
+-- the tree of a text, which contains no argument
 abbrev pub tree_in : List ℕ → Result Syntax ReplyFault
 tree_in text = as_parsed (parsed None text)
 
--- the trees of texts in order, or the first fault
+-- the trees of texts, in order, or the first fault
 abbrev pub trees_in : List (List ℕ) → Result (List Syntax) ReplyFault
 trees_in [] = Ok []
 trees_in (text ∷ texts) = do

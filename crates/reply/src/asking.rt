@@ -1,4 +1,4 @@
-//! What texts are worth.
+//! Evaluation of texts.
 
 ghost use Rattle.std.specs.Prelude.{◌≡◌, ◌++◌, ◌∷◌, [], OnOk};
 ghost use Rattle.deck.specs.Tables as tables;
@@ -18,7 +18,7 @@ use std::alloc::{AllocError, Global};
 use std::sync::ledger::Ledger;
 use units_io::Steps;
 
-// The tree of a text.
+// Parses a text.
 fn tree_in(alloc: Global, text: &[u8]) -> Result<Tree, Failure>
     ensures { call.IsRead syntax (trees.tree_in text.now) result }
 {
@@ -29,7 +29,7 @@ fn tree_in(alloc: Global, text: &[u8]) -> Result<Tree, Failure>
     }
 }
 
-/// The trees of the parts of a list.
+/// Returns the trees of the parts of a list. Fails with the first fault.
 pub(crate) fn part_trees(alloc: Global, list: &[u8]) -> Result<Vec<Tree>, Failure>
     ensures { call.IsRead (λ trees. call.syntaxes_of trees.items) (trees.trees_in (parts_of list.now)) result }
 {
@@ -44,7 +44,7 @@ pub(crate) fn part_trees(alloc: Global, list: &[u8]) -> Result<Vec<Tree>, Failur
     Ok(trees)
 }
 
-// What a tree is worth.
+// Evaluates a tree.
 fn worth<L: Ledger>(
     alloc: Global,
     table: &mut LiveTable,
@@ -58,8 +58,8 @@ fn worth<L: Ledger>(
     table.value(alloc, tree, steps)
 }
 
-/// What trees are worth, one after another, or the first fault. It makes the query of each tree up to that, and leaves
-/// the deck as it is.
+/// Returns the values of trees, in order, or fails with the first fault. It queries each tree up to that one, and does
+/// not change the deck.
 pub fn worths<L: Ledger>(
     alloc: Global,
     table: &mut LiveTable,
@@ -71,7 +71,7 @@ pub fn worths<L: Ledger>(
         (spec.worths (tables.table table.old.deck) (call.syntaxes_of trees.now)) (call.as_inquired result)
         table.old table.new steps.old steps.new }
 {
-    // What is kept is right also where nothing is asked.
+    // The cached outcomes are right even if nothing is queried.
     table.kept_right();
     let mut values = Vec::new(alloc);
     for tree in trees {
@@ -81,7 +81,7 @@ pub fn worths<L: Ledger>(
     Ok(values)
 }
 
-// Puts a value behind others.
+// Appends a value.
 fn put_value(values: &mut Vec<Quantity>, value: Quantity) -> Result<(), AllocError>
     ensures { OnOk result (values.new.items ≡ values.old.items ++ value ∷ []) }
 {
@@ -89,7 +89,7 @@ fn put_value(values: &mut Vec<Quantity>, value: Quantity) -> Result<(), AllocErr
     Ok(())
 }
 
-/// What a text is worth.
+/// Returns the value of a text.
 pub(crate) fn text_worth<L: Ledger>(
     alloc: Global,
     table: &mut LiveTable,
@@ -100,7 +100,7 @@ pub(crate) fn text_worth<L: Ledger>(
     ensures inquired { call.IsInquired call.same (spec.text_worth (tables.table table.old.deck) text.now) result
         table.old table.new steps.old steps.new }
 {
-    // What is kept is right also where nothing is asked.
+    // The cached outcomes are right even if nothing is queried.
     table.kept_right();
     let tree = tree_in(alloc, text)?;
     let value = worth(alloc, table, &tree, steps)?;

@@ -1,4 +1,4 @@
-//! What quantities that are there are converted to.
+//! Conversions between quantities that are already known.
 
 ghost use Rattle.std.specs.Prelude.{◌<◌, length};
 ghost use Rattle.unit_list.specs.Amounts.{counts_in};
@@ -14,8 +14,8 @@ use std::alloc::Global;
 use unit_list::{SplitFault, split};
 use units_io::Text;
 
-/// One quantity in terms of another: linear where they conform, else reciprocal where they are and that is wanted,
-/// else unlike, for which alone the second is copied.
+/// Expresses one quantity in terms of another: `Linear` if they conform; else `Reciprocal` if they are reciprocal and
+/// `strict` is off; else `Unlike`, the only case in which `y` is copied.
 pub(crate) fn compared(
     alloc: Global,
     strict: bool,
@@ -33,7 +33,7 @@ pub(crate) fn compared(
     Ok(Conversion::Unlike(x, y.copy(alloc)?))
 }
 
-/// The counts of the units of a list in a quantity.
+/// Splits a quantity into counts of the units of a list.
 pub(crate) fn counted(
     alloc: Global,
     round: bool,

@@ -22,22 +22,22 @@ use std::sync::ledger::Ledger;
 use unit_list::Fracs;
 use units_io::{Steps, Text};
 
-/// What a conversion comes to, before it is written.
+/// The result of a conversion, before it is written.
 #[derive(Drop)]
 pub(crate) enum Conversion {
-    /// How often the target goes into what was asked, and the other way round.
+    /// How often TO goes into FROM, and how often FROM goes into TO.
     Linear(Ratio),
-    /// The same for 1 over what was asked.
+    /// How often TO goes into 1/FROM, and how often 1/FROM goes into TO.
     Reciprocal(Ratio),
-    /// What the function of the target is to be applied to.
+    /// The inverse of the function of the target at FROM.
     Inverse(Quantity),
-    /// The counts of the parts of a list, whose text this is.
+    /// The text of a list, and the counts of its parts.
     Split(Text, Fracs),
     /// Two quantities that do not conform.
     Unlike(Quantity, Quantity),
 }
 
-/// What the conversion of a text to another comes to.
+/// Converts one text to another.
 pub(crate) fn convert<L: Ledger>(
     alloc: Global,
     table: &mut LiveTable,
@@ -56,7 +56,7 @@ pub(crate) fn convert<L: Ledger>(
     converted_to(alloc, table, options, to, target, x, steps)
 }
 
-// A quantity to a target of this meaning.
+// Converts a quantity to a target.
 fn converted_to<L: Ledger>(
     alloc: Global,
     table: &mut LiveTable,
@@ -79,7 +79,7 @@ fn converted_to<L: Ledger>(
     }
 }
 
-// To a unit.
+// Converts a quantity to a unit.
 fn set_against<L: Ledger>(
     alloc: Global,
     table: &mut LiveTable,
@@ -97,7 +97,7 @@ fn set_against<L: Ledger>(
     compared(alloc, options.strict, x, &y)
 }
 
-// By the inverse of the function of this name.
+// Applies the inverse of the function with this name.
 fn inverted<L: Ledger>(
     alloc: Global,
     table: &mut LiveTable,
@@ -114,7 +114,7 @@ fn inverted<L: Ledger>(
     Ok(Conversion::Inverse(y))
 }
 
-// Into the units of a list.
+// Splits a quantity into the units of a list.
 fn split_into<L: Ledger>(
     alloc: Global,
     table: &mut LiveTable,
@@ -128,7 +128,7 @@ fn split_into<L: Ledger>(
         (spec.split_into (tables.table table.old.deck) options.now list x) result
         table.old table.new steps.old steps.new }
 {
-    // What is kept is right also where nothing is asked.
+    // The cached outcomes are right even if nothing is queried.
     table.kept_right();
     let trees = part_trees(alloc, list.as_bytes())?;
     let units = worths(alloc, table, trees.as_slice(), steps)?;

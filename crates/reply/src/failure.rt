@@ -1,4 +1,4 @@
-//! Why an inquiry has no answer.
+//! Why an inquiry has no result.
 
 use crate::fault::ReplyFault;
 use frac128::FracFault;
@@ -6,12 +6,12 @@ use live_table::QueryFault;
 use std::alloc::{AllocError, AllocFailed};
 use tree_eval::ValueFault;
 
-/// Why an inquiry has no answer.
+/// Why an inquiry has no result.
 #[derive(Drop)]
 pub(crate) enum Failure {
-    /// A fault, which is the reply.
+    /// A fault, which becomes the reply.
     Fault(ReplyFault),
-    /// Want of memory.
+    /// Memory ran out.
     OutOfMemory,
 }
 

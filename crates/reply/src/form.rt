@@ -1,4 +1,4 @@
-//! How a reply is written.
+//! The form in which a reply is written.
 
 ghost use Rattle.std.specs.Prelude.{◌≡◌};
 ghost use Rattle.digits_print.specs.Styles.{IsStyle};
@@ -7,28 +7,28 @@ ghost use Rattle.reply.specs.Options as spec;
 use crate::options::Options;
 use digits_print::Style;
 
-/// How a line is laid out.
+/// The layout of a line.
 #[derive(Clone, Copy, Debug, PartialEq, Eq)]
 pub(crate) enum Layout {
-    /// With a tab and signs.
+    /// A tab and signs.
     Plain,
-    /// With neither.
+    /// No tab and no signs.
     Compact,
-    /// With a tab and the texts of FROM and TO.
+    /// A tab and the texts of FROM and TO.
     Verbose,
 }
 
-/// How a reply is written.
+/// The form in which a reply is written.
 #[derive(Clone, Copy)]
 pub(crate) struct Form {
     pub(crate) layout: Layout,
     pub(crate) style: Style,
-    /// Without the second line of a linear conversion.
+    /// Whether the second line of a linear conversion is omitted.
     pub(crate) one_line: bool,
 }
 
 impl Form {
-    /// The form that the options ask for.
+    /// Returns the form that the options select.
     pub(crate) fn of(options: &Options) -> Form
         requires { spec.IsPrintable options.now }
         ensures is { result ≡ spec.form_of options.now }

@@ -1,4 +1,4 @@
-//! Laws of replies. A function does nothing: its contract is the law.
+//! Laws of replies. The functions do nothing: the contract of each is the law.
 
 ghost use Rattle.reply.specs.Examples.{ExamplesLaw};
 ghost use Rattle.reply.specs.GrantExamples.{GrantExamplesLaw};
@@ -10,12 +10,12 @@ use deck::tables_are_of_lines;
 use frac128::reduced_law;
 use table_names::kind_law;
 
-/// A few replies are those that were found by hand.
+/// A few replies are as found by hand.
 pub fn examples_law()
     ensures { ExamplesLaw }
 {}
 
-/// Dividing gives a fraction if and only if it is the exact quotient.
+/// The result of a division is a fraction if and only if it is the exact quotient.
 pub fn quotient_law()
     ensures { QuotientLaw }
 {
@@ -30,7 +30,7 @@ pub fn denominator_law()
     tables_are_of_lines();
 }
 
-/// A reply grants exactly the conversions that are defined, and gives their exact values.
+/// A reply grants exactly the conversions that are defined, and states their exact values.
 pub fn grant_law()
     ensures { GrantLaw }
 {
@@ -38,7 +38,7 @@ pub fn grant_law()
     quotient_law();
 }
 
-/// A few texts are converted or refused as was found by hand.
+/// A few texts are converted or refused as found by hand.
 pub fn grant_examples_law()
     ensures { GrantExamplesLaw }
 {}

@@ -1,4 +1,4 @@
-//! The bytes of replies.
+//! Computes replies to conversions and definitions, as bytes.
 #![tactic(auto)]
 
 mod asking;

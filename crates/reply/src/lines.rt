@@ -1,4 +1,4 @@
-//! The lines of replies.
+//! Writes the lines of replies.
 
 ghost use Rattle.std.specs.Prelude.{◌≡◌, ◌++◌, OnOk, codes};
 ghost use Rattle.std.specs.Option.{option_copied};
@@ -16,16 +16,16 @@ use crate::split_lines::put_split;
 use quantity::Quantity;
 use std::alloc::{AllocError, Global};
 
-/// What a linear conversion is of, as the verbose layout writes it.
+/// The left-hand side of a linear conversion in the verbose layout.
 #[derive(Clone, Copy)]
 pub(crate) enum Subject<'a> {
-    /// What was asked.
+    /// FROM.
     Asked(&'a [u8]),
-    /// 1 over what was asked.
+    /// 1 over FROM.
     OneOver(&'a [u8]),
 }
 
-/// Puts a conversion.
+/// Appends a conversion.
 pub(crate) fn put_conversion(
     alloc: Global,
     text: &mut Vec<u8>,
@@ -49,7 +49,7 @@ pub(crate) fn put_conversion(
     }
 }
 
-// Puts a linear conversion.
+// Appends a linear conversion.
 fn put_linear(
     alloc: Global,
     text: &mut Vec<u8>,
@@ -66,7 +66,7 @@ fn put_linear(
     put_backward(alloc, text, form, subject, to, ratio)
 }
 
-// Puts the line that says how often the target goes into what was asked.
+// Appends the line that states how often TO goes into FROM.
 fn put_forward(
     alloc: Global,
     text: &mut Vec<u8>,
@@ -99,7 +99,7 @@ fn put_forward(
     Ok(())
 }
 
-// Puts the line that says the other way round, which one-line drops.
+// Appends the line that states how often FROM goes into TO, unless `one_line` omits it.
 fn put_backward(
     alloc: Global,
     text: &mut Vec<u8>,
@@ -134,7 +134,7 @@ fn put_backward(
     Ok(())
 }
 
-// Puts what a linear conversion is of.
+// Appends the left-hand side of a linear conversion.
 fn put_subject(text: &mut Vec<u8>, subject: Subject<'_>) -> Result<(), AllocError>
     ensures { OnOk result (text.new.items ≡ text.old.items ++ subject_text subject.entry) }
 {
@@ -152,7 +152,7 @@ fn put_subject(text: &mut Vec<u8>, subject: Subject<'_>) -> Result<(), AllocErro
     }
 }
 
-// Puts a reciprocal conversion.
+// Appends a reciprocal conversion.
 fn put_reciprocal(
     alloc: Global,
     text: &mut Vec<u8>,
@@ -169,7 +169,7 @@ fn put_reciprocal(
     put_linear(alloc, text, form, Subject::OneOver(from), to, ratio)
 }
 
-// Puts what a function is to be applied to.
+// Appends the line with the argument of a function.
 fn put_inverse(
     alloc: Global,
     text: &mut Vec<u8>,
@@ -188,7 +188,7 @@ fn put_inverse(
     Ok(())
 }
 
-// Puts an argument, in the verbose layout with its function.
+// Appends an argument, in the verbose layout inside a call of its function.
 fn put_call(
     alloc: Global,
     text: &mut Vec<u8>,
@@ -212,7 +212,7 @@ fn put_call(
     }
 }
 
-// Puts two quantities that do not conform.
+// Appends two quantities that do not conform.
 fn put_unlike(
     alloc: Global,
     text: &mut Vec<u8>,
@@ -228,7 +228,7 @@ fn put_unlike(
     put_shown(alloc, text, form, y)
 }
 
-// Puts a line of a quantity.
+// Appends a line with a quantity.
 fn put_shown(alloc: Global, text: &mut Vec<u8>, form: Form, x: &Quantity) -> Result<(), AllocError>
     requires { IsStyle form.style }
     ensures { OnOk result (text.new.items
@@ -240,7 +240,7 @@ fn put_shown(alloc: Global, text: &mut Vec<u8>, form: Form, x: &Quantity) -> Res
     Ok(())
 }
 
-/// Puts a definition, with the text of the expression that defines the unit.
+/// Appends a definition. `body` is the text of the expression that defines the unit, if there is one.
 pub(crate) fn put_definition(
     alloc: Global,
     text: &mut Vec<u8>,
@@ -261,7 +261,7 @@ pub(crate) fn put_definition(
     Ok(())
 }
 
-// Puts what stands before the value of a definition.
+// Appends the text before the value of a definition.
 fn put_definition_front(text: &mut Vec<u8>, body: Option<&[u8]>) -> Result<(), AllocError>
     ensures { OnOk result (text.new.items
         ≡ text.old.items ++ (codes "\tDefinition: " ++ spec.body_front (option_copied body.entry))) }
@@ -277,7 +277,7 @@ fn put_definition_front(text: &mut Vec<u8>, body: Option<&[u8]>) -> Result<(), A
     }
 }
 
-// Puts a line of some words.
+// Appends a line of words.
 fn put_line(text: &mut Vec<u8>, layout: Layout, words: &[u8]) -> Result<(), AllocError>
     ensures { OnOk result (text.new.items ≡ text.old.items ++ layouts.laid layout words.now) }
 {
@@ -287,7 +287,7 @@ fn put_line(text: &mut Vec<u8>, layout: Layout, words: &[u8]) -> Result<(), Allo
     Ok(())
 }
 
-/// Puts the front of a line: a tab, but for the compact layout.
+/// Appends the start of a line: a tab, except in the compact layout.
 pub(crate) fn put_tab(text: &mut Vec<u8>, layout: Layout) -> Result<(), AllocError>
     ensures { OnOk result (text.new.items ≡ text.old.items ++ layouts.tab layout) }
 {
@@ -300,7 +300,7 @@ pub(crate) fn put_tab(text: &mut Vec<u8>, layout: Layout) -> Result<(), AllocErr
     }
 }
 
-/// Puts what was asked, which the verbose layout writes before what it is.
+/// Appends FROM and an equals sign in the verbose layout.
 pub(crate) fn put_front(text: &mut Vec<u8>, layout: Layout, from: &[u8]) -> Result<(), AllocError>
     ensures { OnOk result (text.new.items ≡ text.old.items ++ layouts.equation_front layout from.now) }
 {

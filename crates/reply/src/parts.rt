@@ -7,7 +7,7 @@ ghost use Rattle.reply.specs.Targets.{parts_behind, parts_of};
 use def_entry::cut_at;
 use def_lines::trim;
 
-/// The first part of the text of a list, and what stands behind its `;`.
+/// Returns the first part of the text of a list, trimmed, and the text after its `;`, if there is one.
 pub(crate) fn cut_part(text: &[u8]) -> (&[u8], Option<&[u8]>)
     ensures parts { parts_of text.now ≡ result.0.now ∷ parts_behind (option_copied result.1) }
     ensures shorter { IfSome (option_copied result.1) (λ behind. length behind < length text.now) }

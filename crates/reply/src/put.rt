@@ -1,4 +1,4 @@
-//! Words, numbers and quantities behind a text.
+//! Appends words, numbers and quantities to a text.
 
 ghost use Rattle.std.specs.Prelude.{◌≡◌, ◌++◌, OnOk};
 ghost use Rattle.digits_print.specs.Styles.{IsStyle, number_text};
@@ -10,7 +10,7 @@ use frac128::Frac;
 use quantity::Quantity;
 use std::alloc::{AllocError, Global};
 
-/// Puts words and what stands behind them.
+/// Appends words and the bytes after them.
 pub(crate) fn put_words(text: &mut Vec<u8>, words: &[u8], behind: &[u8]) -> Result<(), AllocError>
     ensures { OnOk result (text.new.items ≡ text.old.items ++ (words.now ++ behind.now)) }
 {
@@ -19,7 +19,7 @@ pub(crate) fn put_words(text: &mut Vec<u8>, words: &[u8], behind: &[u8]) -> Resu
     Ok(())
 }
 
-/// Puts a number.
+/// Appends a number.
 pub(crate) fn put_number(
     alloc: Global,
     text: &mut Vec<u8>,
@@ -34,7 +34,7 @@ pub(crate) fn put_number(
     Ok(())
 }
 
-/// Puts a number, or `inf` where there is none.
+/// Appends a number, or `inf` if there is none.
 pub(crate) fn put_some_number(
     alloc: Global,
     text: &mut Vec<u8>,
@@ -53,7 +53,7 @@ pub(crate) fn put_some_number(
     }
 }
 
-/// Puts a quantity.
+/// Appends a quantity.
 pub(crate) fn put_quantity(
     alloc: Global,
     text: &mut Vec<u8>,

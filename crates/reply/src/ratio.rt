@@ -6,15 +6,15 @@ ghost use Rattle.reply.specs.Ratios as spec;
 
 use frac128::{Frac, FracFault};
 
-/// How often the target goes into what was asked, and the other way round, which is none where what was asked
-/// is 0.
+/// How often the target goes into the source (`forward`), and the source into the target (`back`), which is `None` if
+/// the source is 0.
 #[derive(Clone, Copy)]
 pub(crate) struct Ratio {
     pub(crate) forward: Frac,
     pub(crate) back: Option<Frac>,
 }
 
-/// How often `to` goes into `from`, and the other way round.
+/// Returns from/to and to/from. Fails if a quotient has no value.
 pub(crate) fn ratio_of(from: &Frac, to: &Frac) -> Result<Ratio, FracFault>
     ensures { result ≡ spec.ratio_of from.now to.now }
 {
@@ -23,7 +23,7 @@ pub(crate) fn ratio_of(from: &Frac, to: &Frac) -> Result<Ratio, FracFault>
     Ok(Ratio { forward, back })
 }
 
-// How often `from` goes into `to`, unless it is 0.
+// Returns to/from, or `None` if `from` is 0.
 fn backward(from: &Frac, to: &Frac) -> Result<Option<Frac>, FracFault>
     ensures { result ≡ spec.backward from.now to.now }
 {
@@ -34,7 +34,7 @@ fn backward(from: &Frac, to: &Frac) -> Result<Option<Frac>, FracFault>
     Ok(Some(back))
 }
 
-/// The same with 1/from in the place of `from`.
+/// Returns the ratio of 1/from and `to`. Fails if a quotient has no value.
 pub(crate) fn reciprocal_ratio(from: &Frac, to: &Frac) -> Result<Ratio, FracFault>
     ensures { result ≡ spec.reciprocal_ratio from.now to.now }
 {

@@ -1,4 +1,4 @@
-//! Replies.
+//! Replies to conversions and definitions.
 
 ghost use Rattle.std.specs.Prelude.{◌≡◌, IfOk, true};
 ghost use Rattle.std.specs.Option.{option_copied};
@@ -44,19 +44,19 @@ pub struct Reply {
     pub refused: bool,
 }
 
-/// What a text is worth.
+/// The result of evaluating a text.
 #[derive(Drop)]
 pub enum FromValue {
-    /// Its value.
+    /// The value of the text.
     Good(Quantity),
     /// The text of its first fault.
     Bad(Text),
 }
 
-/// The reply to the conversion of a text to another, both without the blanks at their ends. It is a refusal unless FROM
-/// has a value, TO is a unit, a function or a list that has one, the two conform and the numbers of the conversion are
-/// fractions of at most 127 bits; then it has exactly these numbers. It makes the queries of FROM and, if FROM has a
-/// value, those of TO, up to the first fault, and leaves the deck as it is. The only error is want of memory.
+/// Returns the reply to the conversion of one text to another, both trimmed of blanks. It is a refusal unless FROM has
+/// a value, TO is a unit, a function or a list that has one, the two conform, and the numbers of the conversion are
+/// fractions of at most 127 bits; then it states exactly these numbers. It queries FROM and, if FROM has a value, TO,
+/// up to the first fault, and does not change the deck. The only error is lack of memory.
 pub fn convert_reply<L: Ledger>(
     alloc: Global,
     table: &mut LiveTable,
@@ -86,9 +86,9 @@ pub fn convert_reply<L: Ledger>(
     }
 }
 
-/// The reply to the conversion of a text to another whose values are at hand, as `convert_reply` gives it where the
-/// second is a unit; but the texts stand as they are given. It asks for nothing, and copies no value where the two
-/// conform. The only error is want of memory.
+/// Returns the reply to the conversion of one text to another whose values are known, as `convert_reply` returns it if
+/// the second is a unit; but the texts are not trimmed. It queries nothing, and copies no value if the two conform. The
+/// only error is lack of memory.
 pub fn comparison_reply(
     alloc: Global,
     options: &Options,
@@ -108,9 +108,9 @@ pub fn comparison_reply(
     }
 }
 
-/// The reply to a text alone, without the blanks at its ends: what it is worth, or its first fault. Where it is
-/// the name of a unit that an expression defines, the text of that stands before the value. It makes the query
-/// of the text, and leaves the deck as it is. The only error is want of memory.
+/// Returns the reply to a single text, trimmed of blanks: its value or its first fault. If the text is the name of a
+/// unit that is defined by an expression, the text of the expression comes before the value. It queries the text, and
+/// does not change the deck. The only error is lack of memory.
 pub fn definition_reply<L: Ledger>(
     alloc: Global,
     table: &mut LiveTable,
@@ -135,8 +135,8 @@ pub fn definition_reply<L: Ledger>(
     }
 }
 
-/// The value of a text without the blanks at its ends, or the text of its first fault, without a line feed. It
-/// makes the query of the text, and leaves the deck as it is. The only error is want of memory.
+/// Returns the value of a text, trimmed of blanks, or the text of its first fault, without a line feed. It queries the
+/// text, and does not change the deck. The only error is lack of memory.
 pub fn from_value<L: Ledger>(
     alloc: Global,
     table: &mut LiveTable,
@@ -160,7 +160,7 @@ pub fn from_value<L: Ledger>(
     }
 }
 
-// A fault in the place of a value.
+// Returns a fault in place of a value.
 fn bad(alloc: Global, options: &Options, fault: &ReplyFault) -> Result<FromValue, AllocError>
     requires told { faults.is_told fault.now ≡ true }
     requires printable { IsPrintable options.now }
@@ -170,7 +170,7 @@ fn bad(alloc: Global, options: &Options, fault: &ReplyFault) -> Result<FromValue
     Ok(FromValue::Bad(text))
 }
 
-// The reply to a conversion that has no fault.
+// Returns the reply to a conversion that has no fault.
 fn granted(
     alloc: Global,
     form: Form,
@@ -189,7 +189,7 @@ fn granted(
     })
 }
 
-// Whether a conversion is no conformability error.
+// Whether a conversion is not a conformability error.
 fn is_granted(conversion: &Conversion) -> bool
     ensures { result ≡ conversions.is_granted conversion.now }
 {
@@ -199,7 +199,7 @@ fn is_granted(conversion: &Conversion) -> bool
     }
 }
 
-// The reply to a text that has a value.
+// Returns the reply to a text that has a value.
 fn defined(
     alloc: Global,
     form: Form,
@@ -220,7 +220,7 @@ fn defined(
     })
 }
 
-// The text of the expression that defines the unit of this name.
+// Returns the text of the expression that defines the unit with this name, if there is one.
 fn body_text<'a>(deck: &'a Deck, name: &[u8]) -> Option<&'a [u8]>
     ensures { option_copied result ≡ spec.body_of (entry_at (tables.table deck.now) (keys.key kinds.Unit name.now)) }
 {
@@ -233,7 +233,7 @@ fn body_text<'a>(deck: &'a Deck, name: &[u8]) -> Option<&'a [u8]>
     }
 }
 
-// A fault as a reply.
+// Returns the reply that states a fault.
 fn refusal(alloc: Global, form: Form, fault: &ReplyFault) -> Result<Reply, AllocError>
     requires told { faults.is_told fault.now ≡ true }
     requires style { IsStyle form.style }

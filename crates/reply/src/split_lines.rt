@@ -1,4 +1,4 @@
-//! The line with the counts of the parts of a list.
+//! Writes the line with the counts of the parts of a list.
 
 ghost use Rattle.std.specs.Prelude.{◌≡◌, ◌++◌, OnOk};
 ghost use Rattle.std.specs.Option.{option_copied};
@@ -13,7 +13,7 @@ use crate::put::put_number;
 use frac128::Frac;
 use std::alloc::{AllocError, Global};
 
-/// Puts the counts of the parts of a list.
+/// Appends the line with the counts of the parts of a list.
 pub(crate) fn put_split(
     alloc: Global,
     text: &mut Vec<u8>,
@@ -33,7 +33,7 @@ pub(crate) fn put_split(
     Ok(())
 }
 
-// Puts the counts of all parts.
+// Appends the counts of all parts.
 fn put_counts(
     alloc: Global,
     text: &mut Vec<u8>,
@@ -55,7 +55,7 @@ fn put_counts(
     }
 }
 
-// Puts the counts of the parts behind the first.
+// Appends the counts of the parts after the first.
 fn put_further(
     alloc: Global,
     text: &mut Vec<u8>,
@@ -80,7 +80,7 @@ fn put_further(
     Ok(())
 }
 
-// Puts the count of a part.
+// Appends the count of one part.
 fn put_count(
     alloc: Global,
     text: &mut Vec<u8>,
@@ -102,7 +102,7 @@ fn put_count(
     }
 }
 
-// Puts what stands between two counts.
+// Appends the separator of two counts.
 fn put_between(text: &mut Vec<u8>, layout: Layout) -> Result<(), AllocError>
     ensures { OnOk result (text.new.items ≡ text.old.items ++ spec.between layout) }
 {

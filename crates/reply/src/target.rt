@@ -1,4 +1,4 @@
-//! What a target means.
+//! The meaning of a target.
 
 ghost use Rattle.std.specs.Prelude.{◌≡◌, IfOk};
 ghost use Rattle.std.specs.List.{list_any};
@@ -11,18 +11,18 @@ use def_entry::Kind;
 use std::alloc::{AllocError, Global};
 use units_io::Text;
 
-/// What a target means.
+/// The meaning of a target.
 #[derive(Drop)]
 pub(crate) enum Target {
-    /// The inverse of the function of this name.
+    /// The target is the name of a function, whose inverse is applied.
     Function,
-    /// Counts of the parts of this list.
+    /// The target is a list with this text, whose parts are counted.
     Parts(Text),
-    /// How often the unit goes into what was asked.
+    /// The target is a unit.
     Unit,
 }
 
-/// What the text of a target means. The only error is want of memory.
+/// Returns the meaning of the text of a target. The only error is lack of memory.
 pub(crate) fn target_of(alloc: Global, deck: &Deck, to: &[u8]) -> Result<Target, AllocError>
     ensures { IfOk result (λ target. target ≡ spec.target (tables.table deck.now) to.now) }
 {
@@ -38,7 +38,7 @@ pub(crate) fn target_of(alloc: Global, deck: &Deck, to: &[u8]) -> Result<Target,
     Ok(Target::Unit)
 }
 
-/// Whether a `;` stands in the text, so that it is a list of units where it is no name. It takes no memory.
+/// Whether the text contains a `;`, and so is a list of units unless it is a name. It allocates no memory.
 pub fn has_semicolon(text: &[u8]) -> bool
     ensures { result ≡ list_any is_semicolon text.now }
 {

@@ -1,4 +1,4 @@
-//! The texts of faults.
+//! Writes the texts of faults.
 
 ghost use Rattle.std.specs.Prelude.{◌≡◌, ◌++◌, IfOk, OnOk, true};
 ghost use Rattle.digits_print.specs.Styles.{IsStyle};
@@ -15,8 +15,8 @@ use fault_texts::{put_name_fault, put_value_fault};
 use std::alloc::{AllocError, Global};
 use units_io::Text;
 
-/// The fault in words: one line without a tab before it and without a line feed behind it. The
-/// quantities of a sum are written as the options ask. The only error is want of memory.
+/// Returns the text of a fault: one line, with no tab before it and no line feed after it. The quantities of a sum are
+/// written in the style of the options. The only error is lack of memory.
 pub fn fault_text(alloc: Global, fault: &ReplyFault, options: &Options) -> Result<Text, AllocError>
     requires told { spec.is_told fault.now ≡ true }
     requires printable { IsPrintable options.now }
@@ -27,7 +27,7 @@ pub fn fault_text(alloc: Global, fault: &ReplyFault, options: &Options) -> Resul
     Ok(Text::from(text))
 }
 
-/// Puts a fault behind a text.
+/// Appends a fault to a text.
 pub(crate) fn put_fault(
     alloc: Global,
     text: &mut Vec<u8>,
@@ -50,7 +50,7 @@ pub(crate) fn put_fault(
     }
 }
 
-// Puts the fault of a unit of a list, which counts from 1.
+// Appends the fault of a unit of a list. Its place is counted from 1 in the text.
 fn put_list_fault(alloc: Global, text: &mut Vec<u8>, place: usize) -> Result<(), AllocError>
     ensures { OnOk result (text.new.items ≡ text.old.items ++ spec.list_fault_text place) }
 {

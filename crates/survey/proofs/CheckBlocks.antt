@@ -1,4 +1,4 @@
--- A block of a check report.
+-- Blocks of a check report.
 use Rattle.std.proofs.Common.{◌≡◌, ◌∙◌, ◌++◌, ℕ, List, ap, subst, sym}
 use Rattle.std.specs.List.{flat_map}
 use Rattle.def_entry.specs.declared.key.Key.{Key}
@@ -12,13 +12,13 @@ use Rattle.survey.specs.Checks.{check_among, check_line, checked, queries_among}
 use Rattle.survey.proofs.Places.{each-place, line_at, queries_at}
 
 module _ (deck : Contents) (places : List ℕ) where
-  -- lines by place are those of the keys there
+  -- the lines of the places are those of the keys there
   pub block_lines : (style : Style) (start bytes : List ℕ) → bytes ≡ start ++ flat_map (line_at deck style) places
       → bytes ≡ start ++ check_among (table deck) style (keys_there deck.lines places)
   block_lines style start bytes is =
       is ∙ ap (λ (ls : List ℕ). start ++ ls) (sym (each-place (check_line (table deck) style) deck places))
 
-  -- and so are queries
+  -- the queries of the places are those of the keys there
   pub block_queries : (before after : Shown) (old new : ℕ)
       → Follows (flat_map (queries_at deck) places) before after old new
       → Follows (queries_among (table deck) (keys_there deck.lines places)) before after old new

@@ -1,4 +1,4 @@
--- What the examples give, by the definitions.
+-- The examples, from the definitions.
 use Rattle.std.proofs.Common.{refl}
 use Rattle.std.specs.Fmt.{digits}
 use Rattle.frac128.specs.Divisors.{gcd, gcd_within}

@@ -1,4 +1,4 @@
--- What is found at a key, by what an inquiry answers.
+-- The finding at a key, from the answer of an inquiry.
 use Rattle.std.proofs.Common.{◌≡◌, ◌∙◌, ◌++◌, List, ap, refl, sym, ℕ}
 use Rattle.std.specs.Prelude.{Result, Ok, Err, OnOk}
 use Rattle.std.specs.declared.alloc.AllocError.{AllocError}
@@ -15,7 +15,7 @@ use Rattle.reply.specs.Inquiries.{Inquiry, as_answer}
 use Rattle.reply.proofs.Runs.{made}
 
 module _ {A : Type 0} (m : Inquiry A) (a b : Shown) (n l : ℕ) where
-  -- where it is no want of memory, it is the answer
+  -- a result other than running out of memory is the answer
   pub is-answer : (r : Result A QueryFault) → (r ≡ Err OutOfMemory → ⊥) → IsInquired same m (as_inquired r) a b n l
       → m.answer ≡ as_answer r
   is-answer (Ok x) memory h = h.0
@@ -23,7 +23,7 @@ module _ {A : Type 0} (m : Inquiry A) (a b : Shown) (n l : ℕ) where
   is-answer (Err (Value fault)) memory h = h.0
   is-answer (Err OutOfMemory) memory h = absurd (memory refl)
 
-  -- and all was asked, whether or not there was memory afterwards
+  -- all queries were made, whether or not memory ran out afterwards
   pub are-made : (r : Result A QueryFault) → b.deck ≡ a.deck → IsInquired same m (as_inquired r) a b n l
       → (q : Result (Unit {0}) AllocError) → OnOk q (r ≡ Err OutOfMemory → ⊥) → AreQueries m.events q a b n l
   are-made (Ok x) deck h q memory = made q m.events a b n l deck h.1
@@ -32,7 +32,7 @@ module _ {A : Type 0} (m : Inquiry A) (a b : Shown) (n l : ℕ) where
   are-made (Err OutOfMemory) deck h (Ok u) memory = absurd (memory refl)
   are-made (Err OutOfMemory) deck h (Err e) memory = h
 
--- a line for what is found is one for what the inquiry answers
+-- a line for the result is a line for the answer of the inquiry
 pub line-told : (style : Style) (k : Key) (m : Inquiry Finding) (a b : Shown) (n l : ℕ) (before after : List ℕ)
     (r : Result Finding QueryFault) → IsInquired same m (as_inquired r) a b n l → (q : Result (Unit {0}) AllocError)
     → OnOk q (after ≡ before ++ finding_line style k (as_answer r)) → OnOk q (r ≡ Err OutOfMemory → ⊥)

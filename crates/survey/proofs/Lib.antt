@@ -10,3 +10,4 @@ mod Questions
 mod Surveying
 mod Turning
 mod UnitRows
+pub mod ValuedUnits

@@ -1,4 +1,4 @@
--- Where words first lead to a fault, whatever path stands before them.
+-- The step at which words first lead to a fault, whatever path precedes them.
 use Rattle.std.proofs.Common.{◌≡◌, ◌∙◌, ◌++◌, ◌-◌, Bool, true, false, if◌then◌else◌, List, [], ◌∷◌, Contains, length}
 use Rattle.std.proofs.Common.{Option, Some, None, refl, sym, ap, subst, inl, inr, ℕ}
 use Rattle.std.specs.Option.{option_or}
@@ -26,13 +26,13 @@ use Rattle.table_names.proofs.Members.{member_first, member_later}
 use Rattle.table_names.proofs.OneFault.{fault_law}
 use Rattle.table_names.proofs.Paths.{closed_ending, ending_closed, key_words_closed, longer, no_fault, words_closed_key}
 
--- a word that leads nowhere, a name that is refused, or a key that is not closed
+-- a step to a fault: a word that leads nowhere, a name that is refused, or a key that is not closed
 pub data Step (table : Table) : Type 0 where
   Lost : List ℕ → Step table
   Barred : List ℕ → Step table
   Open : (n : Key) → (IsClosed table n → ⊥) → Step table
 
--- a key without an entry is closed
+-- a key without an entry has no words, and so is closed
 no_words : (o : Option Entry) → is_some o ≡ false → entry_words o ≡ []
 no_words None e = refl
 no_words (Some x) e = cc
@@ -65,21 +65,21 @@ module _ (table : Table) where
   abbrev word_step : WordUse → Option (Step table)
   word_step u = if is_refused u.text then Some (Barred u.text) else targets_step u (targets table u)
 
-  -- where words first lead to a fault, if they do
+  -- the step at which words first lead to a fault, if they lead to one
   abbrev pub step : List WordUse → Option (Step table)
   step words = first word_step words
 
-  -- behind a path, the fault of the words of a key
+  -- the fault of the words of a key after a path
   abbrev pub by_words : Deeper
   by_words path n = fault table path (key_words table n)
 
-  -- the fault to which a step leads behind a path
+  -- the fault that a step leads to after a path
   abbrev pub meet : List Key → Step table → Option NameFault
   meet path (Lost word) = Some (Unknown word (last path))
   meet path (Barred word) = Some (Refused word (last path))
   meet path (Open n h) = target_fault table by_words path n
 
-  -- a fault is that to which a step leads
+  -- a fault is the one that a step leads to
   abbrev pub Fits : List Key → Option NameFault → Option (Step table) → Type 0
   Fits path o None = o ≡ None
   Fits path o (Some s) = (o ≡ meet path s) × ((f : NameFault) × (o ≡ Some f))
@@ -106,7 +106,7 @@ module _ (table : Table) where
     off : (n : Key) → IsClosed table n → is_among path n ≡ false
     off n e = false_from_ne_true (is_among path n) (λ on. all_open n on e)
 
-    -- a closed key has no fault
+    -- after such a path, a closed key has no fault
     closed_passes : (n : Key) → is_present table n ≡ true → IsClosed table n → target_fault table by_words path n ≡ None
     closed_passes n there e =
         ap (λ b. if b then Some (Cycle (chain n path)) else by_words (path ++ n ∷ []) n) (off n e)
@@ -117,7 +117,7 @@ module _ (table : Table) where
         (off m (closed_law.below table (key_words table n) (key_words_closed table n e) m r))
         (λ q. closed_law.no_cycle table n e (subst (λ (x : Key). Reaches table n x) q r)))
 
-    -- any other has one
+    -- any other key has a fault
     open_some : (n : Key) → (IsClosed table n → ⊥) → (f : NameFault) × (target_fault table by_words path n ≡ Some f)
     open_some n h = go (is_among path n) (by_words (path ++ n ∷ []) n) refl
       where
@@ -153,7 +153,7 @@ module _ (table : Table) where
         go true = (refl, (Refused u.text (last path), refl))
         go false = by_targets (targets table u) (λ n i. target_present table u n i)
 
-    -- the fault of words behind a path that no key of which is closed is that to which their step leads
+    -- if no key of a path is closed, the fault of words after it is the fault that their step leads to
     pub fits_words : (words : List WordUse) → Fits path (fault table path words) (step words)
     fits_words words =
         subst (λ (o : Option NameFault). Fits path o (step words)) (sym (fault_law.is table path words is))

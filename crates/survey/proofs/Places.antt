@@ -1,4 +1,4 @@
--- Keys by their places, one place behind another.
+-- Keys by their places, one place after another.
 use Rattle.std.proofs.Common.{◌≡◌, ◌++◌, ℕ, List, [], ◌∷◌, refl, ap, Option, Some, None}
 use Rattle.std.specs.List.{cons_option, flat_map}
 use Rattle.digits_print.specs.declared.style.Style.{Style}
@@ -12,7 +12,7 @@ use Rattle.survey.specs.Checks.{check_line, checked}
 use Rattle.survey.specs.Conformable.{conforming_row, unit_worth}
 use Rattle.survey.specs.Places.{given_by, unit_there}
 
--- what the keys at places give is what each place gives
+-- what the keys at places give is what the places give, one after another
 pub each-place : {A : Type 0} (f : Key → List A) (deck : Contents) (places : List ℕ)
     → flat_map f (keys_there deck.lines places) ≡ flat_map (λ place. given_by f (key_there deck.lines place)) places
 each-place f deck [] = refl
@@ -27,14 +27,14 @@ each-place {A} f deck (p ∷ ps) = go (key_there deck.lines p) (each-place f dec
     go (Some k) e = ap (λ (xs : List A). f k ++ xs) e
 
 module _ (deck : Contents) where
-  -- the line of the key at a place, and what is asked for it
+  -- the line of the key at a place, and the queries that are made for it
   abbrev pub line_at : Style → ℕ → List ℕ
   line_at style place = given_by (check_line (table deck) style) (key_there deck.lines place)
 
   abbrev pub queries_at : ℕ → List Event
   queries_at place = given_by (λ k. (checked (table deck) k).events) (key_there deck.lines place)
 
-  -- the row of the unit at a place, and what is asked for it
+  -- the row of the unit at a place, and the queries that are made for it
   abbrev pub row_at : Amount → ℕ → List ℕ
   row_at from place = given_by (conforming_row (table deck) from) (unit_there deck place)
 

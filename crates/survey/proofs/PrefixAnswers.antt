@@ -1,4 +1,4 @@
--- What the body of a prefix answers, told of the prefix.
+-- The answer for the body of a prefix, reported for the prefix.
 use Rattle.std.proofs.Common.{◌≡◌, ap, refl, ℕ, List}
 use Rattle.std.specs.Prelude.{Ok, Err}
 use Rattle.def_entry.specs.declared.key.Key.{Key}
@@ -16,21 +16,21 @@ use Rattle.survey.specs.Checks.{of_prefix, prefix_answer, sound}
 use Rattle.survey.specs.PrefixFaults.{prefix_fault}
 
 module _ {A : Type 0} (seen : A → List Amount) (k : Key) (m : Inquiry (List Amount)) (a b : Shown) (n l : ℕ) where
-  -- it has a value
+  -- the body has a value
   pub prefix-sound : (x : A) → b.deck ≡ a.deck → IsInquired seen m (Ok x) a b n l
       → IsInquired same (sound (of_prefix k m)) (Ok Sound) a b n l
   prefix-sound x deck h =
       read-behind same (of_prefix k m) seen (λ _. Ok Sound) x (Ok Sound) a b n l deck (ap (prefix_answer k) h.0, h.1)
       refl
 
-  -- its names have a fault
+  -- the names of the body have a fault
   pub prefix-named : (fault : NameFault) → IsInquired seen m (Err (failure_of (query.Name fault))) a b n l
       → IsInquired same (sound (of_prefix k m)) (Err (failure_of (query.Name (prefix_fault k fault)))) a b n l
   prefix-named fault h =
       then-failed same (of_prefix k m) (λ _. given (Ok Sound)) seen (failure_of (query.Name (prefix_fault k fault)))
       a b n l (ap (prefix_answer k) h.0, h.1)
 
-  -- and there is no memory to tell it
+  -- the names of the body have a fault, and memory runs out before it can be reported
   pub prefix-untold : (fault : NameFault) → b.deck ≡ a.deck
       → IsInquired seen m (Err (failure_of (query.Name fault))) a b n l
       → IsInquired same (sound (of_prefix k m)) (Err (failure_of query.OutOfMemory)) a b n l
@@ -38,7 +38,7 @@ module _ {A : Type 0} (seen : A → List Amount) (k : Key) (m : Inquiry (List Am
       then-failed same (of_prefix k m) (λ _. given (Ok Sound)) seen (failure_of query.OutOfMemory) a b n l
       (cut_after m.events a b n l deck h.1)
 
-  -- it has any other fault
+  -- the body has any other fault
   pub prefix-failed : (fault : QueryFault) → ((f : NameFault) → fault ≡ query.Name f → ⊥)
       → IsInquired seen m (Err (failure_of fault)) a b n l
       → IsInquired same (sound (of_prefix k m)) (Err (failure_of fault)) a b n l

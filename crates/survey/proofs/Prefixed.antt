@@ -1,4 +1,4 @@
--- The fault of the words of a key, told as that of the key.
+-- The fault of the words of a key, reported as the fault of the key.
 use Rattle.std.proofs.Common.{◌≡◌, ◌⊎◌, ◌∙◌, ◌+◌, ◌-◌, ◌≤◌, ◌||◌, ℕ, zero, suc, Bool, true, false, if◌then◌else◌, List}
 use Rattle.std.proofs.Common.{[], ◌∷◌, ◌++◌}
 use Rattle.std.proofs.Common.{length, Option, Some, None, refl, sym, ap, subst, inl, inr, arith, length-append}
@@ -21,25 +21,25 @@ use Rattle.survey.proofs.Opening.{AreOpen, Barred, Fits, Lost, Open, Step, by_wo
 use Rattle.survey.proofs.Opening.{step}
 use Rattle.survey.proofs.Turning.{chain_off, turned_back, turned_here, turned_off}
 
--- ---- where a word stands
+-- ---- the key in which a word is reported
 unknown_last : (k : Key) (word : List ℕ) (x : Key) (path : List Key)
     → prefix_fault k (Unknown word (last (x ∷ path))) ≡ Unknown word (last (x ∷ path))
 unknown_last k word x [] = refl
 unknown_last k word x (y ∷ path) = unknown_last k word y path
 
--- a refused word behind a path that is not empty is told with the last key of that path
+-- a refused word after a nonempty path is reported in the last key of that path
 refused_last : (k : Key) (word : List ℕ) (x : Key) (path : List Key)
     → prefix_fault k (Refused word (last (x ∷ path))) ≡ Refused word (last (x ∷ path))
 refused_last k word x [] = refl
 refused_last k word x (y ∷ path) = refused_last k word y path
 
--- an unknown word is told with the key of the prefix where no other key stands between
+-- an unknown word is reported in the prefix if there is no other key in between
 unknown_behind : (k : Key) (word : List ℕ) (path : List Key)
     → prefix_fault k (Unknown word (last path)) ≡ Unknown word (last (k ∷ path))
 unknown_behind k word [] = refl
 unknown_behind k word (x ∷ path) = unknown_last k word x path
 
--- so is a refused one
+-- a refused word is reported in the prefix if there is no other key in between
 refused_behind : (k : Key) (word : List ℕ) (path : List Key)
     → prefix_fault k (Refused word (last path)) ≡ Refused word (last (k ∷ path))
 refused_behind k word [] = refl
@@ -50,7 +50,7 @@ abbrev front : List Key → Option Key
 front [] = None
 front (x ∷ path) = Some x
 
--- a key behind a path leaves its front
+-- adding a key at the end of a path does not change its first key
 front_longer : (path : List Key) (h x : Key) → front path ≡ Some x → front (path ++ h ∷ []) ≡ Some x
 front_longer [] h x e = cc
 front_longer (y ∷ path) h x e = e
@@ -60,19 +60,18 @@ off_from : (b : Bool) → (b ≡ true → ⊥) → b ≡ false
 off_from b h = false_from_ne_true b h
 
 module _ (table : Table) (k : Key) (k_open : IsClosed table k → ⊥) where
-  -- a path that can be gone on behind the key and without it
+  -- a path that can be continued both after the key and without it
   record IsBoth (path : List Key) : Type 0 where
     pub behind : IsPath table (k ∷ path)
     pub without : IsPath table path
     pub off : is_among path k ≡ false
     pub none_closed : AreOpen table path
 
-  -- the fault of words without the key in front, told as that behind it
+  -- the fault of words without the key in front, reported as the prefix does, is the fault after the key
   abbrev IsTold : List Key → List WordUse → NameFault → Type 0
   IsTold path words f = (g : NameFault) × (fault table path words ≡ Some g) × (prefix_fault k g ≡ f)
 
-  -- behind the key the chain comes back to it, and without it the words of the key are gone through behind the way to
-  -- it
+  -- after the key the chain comes back to it; without the key, the words of the key are followed after the way to it
   record IsBack (path : List Key) (words : List WordUse) (f : NameFault) : Type 0 where
     pub way : List Key
     pub begins : (x : Key) → front path ≡ Some x → front way ≡ Some x
@@ -113,7 +112,7 @@ module _ (table : Table) (k : Key) (k_open : IsClosed table k → ⊥) where
       (fault table [] (key_words table h)) s) e
       (fits_words table [] (empty table) (λ n on closed. absurd (cc on)) (key_words table h))))
 
-  -- what comes of words by what comes of those of the keys below
+  -- the words of the keys below a path have this property
   abbrev Below : List Key → Type 0
   Below path = (h : Key) → IsBoth (path ++ h ∷ []) → (IsClosed table h → ⊥) → Comes (path ++ h ∷ []) (key_words table h)
 
@@ -190,7 +189,7 @@ module _ (table : Table) (k : Key) (k_open : IsClosed table k → ⊥) where
       (fits_words table (k ∷ path) b.behind (behind_open path b.none_closed) words)
       (fits_words table path b.without b.none_closed words)
 
-  -- the path of the key alone, and the empty one
+  -- the empty path can be continued after the key and without it
   alone : is_present table k ≡ true → IsBoth []
   alone there = record {
     behind = longer table [] k (empty table) refl there;
@@ -210,7 +209,7 @@ module _ (table : Table) (k : Key) (k_open : IsClosed table k → ⊥) where
     ],
   )
 
-  -- the way round from the first key below, where its words lead there first
+  -- the way around from the first key below, if its words lead there first
   round : (way : List Key) (h : Key) → front way ≡ Some h → is_among way k ≡ false
       → (g : NameFault) × ((if is_among (way ++ k ∷ []) h
       then Some (Cycle (chain h (way ++ k ∷ [])))
@@ -239,7 +238,7 @@ module _ (table : Table) (k : Key) (k_open : IsClosed table k → ⊥) where
   told_same : (f g : NameFault) (o p : Option NameFault) → o ≡ Some f → p ≡ Some g → prefix_fault k g ≡ f → IsSame o p
   told_same f g o p e q h = e ∙ (ap Some (sym h) ∙ ap (option_map (prefix_fault k)) (sym q))
 
-  -- the first step leads to a key
+  -- the case in which the first step leads to a key
   at_key : is_present table k ≡ true → (h : Key) → (IsClosed table h → ⊥)
       → ((path : List Key) → IsPath table path → AreOpen table path
       → fault table path (key_words table k)
@@ -286,7 +285,7 @@ module _ (table : Table) (k : Key) (k_open : IsClosed table k → ⊥) where
           told_same f w.0 _ _ (p (alone there) ∙ is)
           (q (alone there) ∙ (r.goes ∙ (steps (r.way ++ k ∷ []) c.0 c.1 ∙ w.1))) (w.2 ∙ sym r.is)
 
-  -- by the first step
+  -- the law, by the first step
   at_step : is_present table k ≡ true → (s : Option (Step table)) → (s ≡ None → ⊥)
       → ((path : List Key) → IsPath table path → AreOpen table path
       → Fits table path (fault table path (key_words table k)) s)
@@ -303,7 +302,7 @@ module _ (table : Table) (k : Key) (k_open : IsClosed table k → ⊥) where
   at_step there (Some (Open h h_open)) some fits =
       at_key there h h_open (λ path is none. (fits path is none).0) (is_same h k) refl
 
--- the law of faults behind a prefix
+-- law: a name fault of the body of a prefix, reported as one of the prefix, is the fault of the prefix
 pub prefix_law : PrefixLaw
 prefix_law table k there = go (key_fault table k) refl
   where

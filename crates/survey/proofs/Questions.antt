@@ -1,4 +1,4 @@
--- The fault of names, by a query whose value does not matter.
+-- The fault of names, from a query whose value does not matter.
 use Rattle.std.proofs.Common.{◌≡◌, inl, inr, refl, sym, ap, subst, ℕ, [], ◌∷◌}
 use Rattle.std.specs.Prelude.{Result, Ok, Err, Option, Some, None}
 use Rattle.quantity.specs.Amount.{Amount}
@@ -15,12 +15,12 @@ use Rattle.reply.specs.Inquiries.{Inquiry}
 use Rattle.survey.specs.Calls.{names_alone}
 use Rattle.survey.specs.Checks.{names_answer}
 
--- what is asked
+-- the inquiry for the names alone
 abbrev pub names-asked : Event → Option NameFault → Inquiry (Unit {0})
 names-asked e fault = record { events = e ∷ []; answer = names_answer fault }
 
 module _ (e : Event) (fault : Option NameFault) (w : Worth) (a b : Shown) (n m : ℕ) where
-  -- by what the query answers
+  -- the result of the query, without its value, is the answer of the inquiry
   abbrev answers-names : Result Amount QueryFault → Type 0
   answers-names r = IsInquired same (names-asked e fault) (as_inquired (names_alone r)) a b n m
 
@@ -29,7 +29,7 @@ module _ (e : Event) (fault : Option NameFault) (w : Worth) (a b : Shown) (n m :
   answered h None (Ok x) is = (ap names_answer (sym is), h)
   answered h None (Err v) is = (ap names_answer (sym is), h)
 
-  -- it is the fault of the names, or there is none
+  -- the result is the fault of the names, or there is none
   pub names-inquired : (r : Result Amount QueryFault) → Answers r (by_names fault w) → IsQuery e r a b n m
       → answers-names r
   names-inquired (Ok x) h q = elim h [

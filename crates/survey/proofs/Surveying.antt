@@ -1,4 +1,4 @@
--- A report over some items, as keys or places, one behind another.
+-- Reports on a sequence of items, such as keys or places.
 use Rattle.std.proofs.Common.{◌≡◌, ◌∙◌, ◌+◌, ◌++◌, ◌≤◌, ℕ, List, [], ◌∷◌, take, drop, length, Some, refl, sym, ap}
 use Rattle.std.proofs.Common.{subst}
 use Rattle.std.proofs.lemmas.Grind.{flat_map-append}
@@ -9,7 +9,7 @@ use Rattle.live_table.specs.States.{Event}
 use Rattle.live_table.proofs.Following.{cut_both, follows_both, follows_none}
 use Rattle.name_walk.proofs.Lists.{drop_at, take_at}
 
--- the lines of the first items were put behind some bytes, and their queries were made
+-- the lines of the first items were appended to some bytes, and their queries were made
 pub record IsUnderway {A : Type 0} (line : A → List ℕ) (asks : A → List Event) (items : List A) (i : ℕ)
     (start bytes : List ℕ) (before now : Shown) (old new : ℕ) : Type 0 where
   pub text : bytes ≡ start ++ flat_map line (take i items)
@@ -27,7 +27,7 @@ module _ {A : Type 0} (line : A → List ℕ) (asks : A → List Event) (items :
 
   module _ (i : ℕ) (start bytes : List ℕ) (before now : Shown) (old new : ℕ)
       (u : IsUnderway line asks items i start bytes before now old new) where
-    -- all of them
+    -- the items up to the end are all items
     all : length items ≤ i → take i items ≡ items
     all h =
         sym (append-nil (take i items))
@@ -40,7 +40,7 @@ module _ {A : Type 0} (line : A → List ℕ) (asks : A → List Event) (items :
     underway-follows h = subst (λ (ks : List A). Follows (flat_map asks ks) before now old new) (all h) u.follows
 
     module _ (k : A) (at : slice_get items i ≡ Some k) (later : Shown) (last : ℕ) where
-      -- one more
+      -- one more item is done
       pub underway-next : (further : List ℕ) → further ≡ bytes ++ line k → later.deck ≡ now.deck
           → Follows (asks k) now later new last
           → IsUnderway line asks items (i + 1) start further before later old last
@@ -56,7 +56,7 @@ module _ {A : Type 0} (line : A → List ℕ) (asks : A → List Event) (items :
             (follows_both (flat_map asks (take i items)) (asks k) before now later old new last u.follows f);
       }
 
-      -- want of memory at it
+      -- memory runs out at the next item
       pub underway-cut : IsCutOff (asks k) now later new last → IsCutOff (flat_map asks items) before later old last
       underway-cut f =
           subst (λ (es : List Event). IsCutOff es before later old last) (sym whole)

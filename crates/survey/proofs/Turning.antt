@@ -1,4 +1,4 @@
--- Chains that are turned to begin with one of their keys.
+-- Chains turned so that they begin with one of their keys.
 use Rattle.std.proofs.Common.{◌≡◌, ◌∙◌, ◌+◌, ◌||◌, ℕ, Bool, true, false, cond, List, [], ◌∷◌, ◌++◌, length, take, drop}
 use Rattle.std.proofs.Common.{Some, None, refl, sym, ap, arith, append_assoc, length-append}
 use Rattle.std.specs.List.{position, position_from}
@@ -10,7 +10,7 @@ use Rattle.table_names.specs.Faults.{chain}
 use Rattle.table_names.proofs.KeyLists.{off_longer, same_itself}
 use Rattle.survey.specs.PrefixFaults.{turned, turned_to}
 
--- where not one of two holds, both are false
+-- if a disjunction is false, both of its parts are
 neither : (b c : Bool) → (b || c) ≡ false → (b ≡ false) × (c ≡ false)
 neither true c e = cc
 neither false c e = (refl, e)
@@ -33,12 +33,12 @@ module _ (k : Key) where
       ap (λ b. cond b (Some i) (position_from (is_same k) (i + 1) (front ++ k ∷ back))) h.0
       ∙ (from_at (i + 1) front back h.1 ∙ ap Some z)
 
-  -- a chain that does not hold the key stays
+  -- a chain that does not contain the key stays as it is
   pub turned_off : (keys : List Key) → is_among keys k ≡ false → turned k keys ≡ keys
   turned_off keys e =
       ap (λ o. turned_to o keys) (position_from-zero (is_same k) keys ∙ from_off 0 keys e)
 
-  -- a chain from the first place of another key on is without this one, where the path is
+  -- a chain from the first place of another key on does not contain this key if the path does not
   pub chain_off : (h : Key) (path : List Key) → is_same k h ≡ false → is_among path k ≡ false
       → is_among (chain h path) k ≡ false
   chain_off h [] other e = ap (λ b. b || false) other
@@ -56,7 +56,7 @@ module _ (k : Key) where
           unlike q = let s : is_same k h ≡ true = ap (is_same k) (sym q) ∙ same_itself k in cc (s, other)
       go false at behind rest = rest
 
-  -- a chain that comes back to the key before its end begins with it
+  -- a chain that returns to the key before its end is turned to begin with the key
   pub turned_back : (h : Key) (more : List Key) → is_among (h ∷ more) k ≡ false
       → turned k (h ∷ ((more ++ k ∷ []) ++ h ∷ [])) ≡ k ∷ (h ∷ (more ++ k ∷ []))
   turned_back h more e =
@@ -81,7 +81,7 @@ module _ (k : Key) where
           let z : length (h ∷ more) ≡ length (more ++ k ∷ []) = omega (arith, length-append more (k ∷ [])) in
           ap (λ n. take n ((more ++ k ∷ []) ++ h ∷ [])) z ∙ take-append_seam (more ++ k ∷ []) (h ∷ [])
 
-  -- one of the key alone stays
+  -- a chain of the key alone stays as it is
   pub turned_here : turned k (k ∷ (k ∷ [])) ≡ k ∷ (k ∷ [])
   turned_here =
       ap (λ o. turned_to o (k ∷ (k ∷ []))) (position_from-zero (is_same k) (k ∷ (k ∷ [])) ∙ from_at 0 [] (k ∷ []) refl)

@@ -28,7 +28,7 @@ use Rattle.survey.specs.Rows.{key_row}
 use Rattle.survey.proofs.Findings.{are-made, is-answer}
 use Rattle.survey.proofs.Places.{row_at, unit_queries_at}
 
--- what the units among the keys at places give is what each place gives
+-- what the units among the keys at places give is what the places give, one after another
 pub units-each : {A : Type 0} (f : Key → List A) (deck : Contents) (places : List ℕ)
     → flat_map f (of_kind kind.Unit (keys_there deck.lines places))
     ≡ flat_map (λ place. given_by f (unit_there deck place)) places
@@ -52,7 +52,7 @@ units-each {A} f deck (p ∷ ps) = go (key_there deck.lines p) (units-each f dec
     go None e = e
     go (Some k) e = by k (is_same_kind kind.Unit k.kind) e
 
--- a key that is a unit is the key
+-- if a key is found as a unit, it is that key
 unit-key : (o : Option Key) (k : Key) → unit_only o ≡ Some k → o ≡ Some k
 unit-key None k e = cc
 unit-key (Some j) k e = by (is_same_kind kind.Unit j.kind) e
@@ -69,7 +69,7 @@ word-of-unit k o tree unit there is =
     ∙ ap (λ (c : Kind). option_map (λ k. Word k.name) (if is_same_kind kind.Unit c then Some k else None)) (sym unit)
     ∙ ap (λ (o : Option Key). option_map (λ k. Word k.name) (unit_only o)) there
 
--- any other key has none
+-- any other key has no word
 pub word-of-other : (k : Key) (o : Option Key) → (k.kind ≡ kind.Unit → ⊥) → Some k ≡ o
     → None ≡ option_map (λ k. Word k.name) (unit_only o)
 word-of-other k o other there =
@@ -82,18 +82,18 @@ word-of-other k o other there =
     go kind.Func h = refl
     go kind.List h = refl
 
--- where there is the word of a unit, the unit is there
+-- if there is the word of a unit, there is the unit
 unit-of-word : (tree : Syntax) (o : Option Key) → Some tree ≡ option_map (λ k. Word k.name) o
     → (k : Key) × ((o ≡ Some k) × (tree ≡ Word k.name))
 unit-of-word tree None e = cc
 unit-of-word tree (Some k) e = (k, (refl, cc))
 
--- and where there is none, none is there
+-- if there is no word of a unit, there is no unit
 no-unit : (o : Option Key) → None ≡ option_map (λ k. Word k.name) o → o ≡ None
 no-unit None e = refl
 no-unit (Some k) e = cc
 
--- where no word is there
+-- the case of a place without the word of a unit
 module _ (deck : Contents) (place : ℕ) (none : None ≡ option_map (λ k. Word k.name) (unit_there deck place)) where
   -- there is no row
   pub no-row : (from : Amount) (rows : List ℕ) → rows ≡ rows ++ row_at deck from place
@@ -102,7 +102,7 @@ module _ (deck : Contents) (place : ℕ) (none : None ≡ option_map (λ k. Word
       ∙ ap (λ (o : Option Key). rows ++ given_by (conforming_row (table deck) from) o)
       (sym (no-unit (unit_there deck place) none))
 
-  -- and nothing is asked
+  -- no query is made
   pub no-query : (a : Shown) (n : ℕ) → IsRightTable a → Follows (unit_queries_at deck place) a a n n
   no-query a n right =
       subst (λ (o : Option Key). Follows (given_by (λ k. (unit_worth (table deck) k).events) o) a a n n)
@@ -110,7 +110,7 @@ module _ (deck : Contents) (place : ℕ) (none : None ≡ option_map (λ k. Word
 
 module _ (deck : Contents) (place : ℕ) (a b : Shown) (n l : ℕ) (found : Result Amount QueryFault)
     (q : Result (Unit {0}) AllocError) (memory : OnOk q (found ≡ Err OutOfMemory → ⊥)) where
-  -- what is found is what a tree is worth
+  -- the result found is the answer for the value of a tree
   abbrev finds : Syntax → Type 0
   finds tree = IsInquired same (worth (table deck) tree) (as_inquired found) a b n l
 
@@ -121,18 +121,18 @@ module _ (deck : Contents) (place : ℕ) (a b : Shown) (n l : ℕ) (found : Resu
       (sym there)
       (are-made (unit_worth (table deck) k) a b n l found same_deck h q memory)
 
-  -- the word of the unit was asked for, whether or not there was memory afterwards
+  -- the word of the unit was queried, whether or not memory ran out afterwards
   pub word-asked : (tree : Syntax) → Some tree ≡ option_map (λ k. Word k.name) (unit_there deck place) → finds tree
       → b.deck ≡ a.deck → AreQueries (unit_queries_at deck place) q a b n l
   word-asked tree is h same_deck =
       let u = unit-of-word tree (unit_there deck place) is in
       key-asked u.0 u.1.0 (subst finds u.1.1 h) same_deck
 
--- a row, where what a unit is worth conforms
+-- a row, if the value of a unit conforms
 abbrev if-conforming : Amount → Table → Key → List ℕ → List ℕ
 if-conforming from t k row = if is_conforming from (unit_worth t k).answer then row else []
 
--- a row where what is found conforms is one where the worth of the unit does
+-- the result found conforms exactly if the value of the unit does
 key-told : (from : Amount) (deck : Contents) (place : ℕ) (k : Key) → unit_there deck place ≡ Some k
     → (a b : Shown) (n l : ℕ) (found : Result Amount QueryFault)
     → IsInquired same (unit_worth (table deck) k) (as_inquired found) a b n l
@@ -152,7 +152,7 @@ key-told from deck place k there a b n l found h seen is before after (Ok u) row
     (unit-key (key_there deck.lines place) k there)
     ∙ ap (λ (o : Option Key). before ++ given_by (conforming_row (table deck) from) o) (sym there)
 
--- the same by the word of the unit
+-- the result found conforms exactly if the value of the unit does, given the word of the unit
 pub word-told : (from : Amount) (deck : Contents) (place : ℕ) (tree : Syntax)
     → Some tree ≡ option_map (λ k. Word k.name) (unit_there deck place)
     → (a b : Shown) (n l : ℕ) (found : Result Amount QueryFault)

@@ -1,4 +1,4 @@
--- What FROM and TO ask of a table.
+-- The replies for FROM and TO, and the queries that they make.
 use Rattle.std.specs.Prelude.{◌++◌, ℕ, List, [], false, true, codes}
 use Rattle.def_entry.specs.Tables.{Table}
 use Rattle.live_table.specs.States.{Event}
@@ -9,16 +9,16 @@ use Rattle.reply.specs.declared.reply.FromValue.TheVariants.{Good, Bad}
 use Rattle.reply.specs.Replies as replies
 use Rattle.survey.specs.Conformable.{conformable_report, conformable_queries}
 
--- the reply, and the queries that are made for it
+-- a reply, and the queries that are made for it
 pub record Asked : Type 0 where
   pub reply : Reply
   pub queries : List Event
 
--- the text of a fault is the whole reply
+-- the reply that consists of the text of a fault
 abbrev pub fault_reply : (fault : List ℕ) → Reply
 fault_reply fault = record { text = fault ++ codes "\n"; refused = true }
 
--- the units that conform to a FROM of this value, or why it has none
+-- the units that conform to a FROM with this value, or the reason why FROM has none
 abbrev pub conformable_to : Table → FromValue → Asked
 conformable_to table (Good x) = record {
   reply = record { text = conformable_report table x; refused = false };

@@ -1,9 +1,9 @@
--- What calls answer.
+-- Results of calls.
 use Rattle.std.specs.Prelude.{Result, Ok, Err}
 use Rattle.live_table.specs.declared.fault.QueryFault.{QueryFault}
 use Rattle.live_table.specs.declared.fault.QueryFault.TheVariants as query
 
--- an answer without what it says of a value
+-- an answer without the value or the fault of the value; a fault of the names and running out of memory remain
 abbrev pub names_alone : {A : Type 0} → Result A QueryFault → Result (Unit {0}) QueryFault
 names_alone (Ok x) = Ok tt
 names_alone (Err (query.Name fault)) = Err (query.Name fault)

@@ -31,8 +31,8 @@ abbrev pub tree_if : Option Syntax → List Syntax
 tree_if None = []
 tree_if (Some tree) = tree ∷ []
 
--- the expressions of an entry that have to have values: the body; the in unit and the out unit of a function; the
--- unit of a table; the parts of a list
+-- the expressions of an entry that must have values: the body; the in unit and the out unit of a function; the unit of
+-- a table; the parts of a list
 abbrev pub trees_in : What → List Syntax
 trees_in (entry.Body tree) = tree ∷ []
 trees_in (entry.Function d) = tree_if d.in_unit ++ tree_if d.out_unit
@@ -44,7 +44,7 @@ abbrev pub trees_at : Option Entry → List Syntax
 trees_at None = []
 trees_at (Some e) = trees_in e.what
 
--- those of a key: a unit is asked for by its word
+-- the expressions of a key that must have values: a unit is queried by its word
 abbrev pub valued : Key → Kind → Option Entry → List Syntax
 valued k kind.Unit e = Word k.name ∷ []
 valued k _ e = trees_at e
@@ -53,7 +53,8 @@ abbrev pub place_finding : Option ℕ → Finding
 place_finding None = Sound
 place_finding (Some place) = NotPositive place
 
--- whether a part does not conform to the first one, and then the first that is not above 0
+-- the finding for the values of the parts of a list: a part does not conform to the first one, or else the first part
+-- that is not above 0
 abbrev pub parts_finding : List Amount → Finding
 parts_finding [] = Sound
 parts_finding (part ∷ parts) =
@@ -63,13 +64,13 @@ abbrev pub names_answer : Option NameFault → Result (Unit {0}) ReplyFault
 names_answer None = Ok tt
 names_answer (Some fault) = Err (Name fault)
 
--- all values are there
+-- the finding if the values alone decide: sound if all of them exist
 abbrev pub sound : Inquiry (List Amount) → Inquiry Finding
 sound values = do
   _ ← values
   given (Ok Sound)
 
--- and the parts of a list go together
+-- the finding of a list: all values exist, and the parts agree with each other
 abbrev pub parted : Inquiry (List Amount) → Inquiry Finding
 parted values = do
   parts ← values
@@ -79,20 +80,20 @@ abbrev pub prefix_answer : {A : Type 0} → Key → Result A ReplyFault → Resu
 prefix_answer k (Err (Name fault)) = Err (Name (prefix_fault k fault))
 prefix_answer k answer = answer
 
--- the body of a prefix, whose name fault is told as that of the prefix
+-- the values of the body of a prefix, with a name fault reported as one of the prefix
 abbrev pub of_prefix : Key → Inquiry (List Amount) → Inquiry (List Amount)
 of_prefix k values = record { events = values.events; answer = prefix_answer k values.answer }
 
 module _ (table : Table) where
-  -- a function is asked for by a call of it, for the faults of its names alone
+  -- a function is queried by a call of it, and only for faults of its names
   abbrev pub names_of : Key → Inquiry (Unit {0})
   names_of k = record {
     events = AsksWords (called_word k.name ∷ []) ∷ [];
     answer = names_answer (name_fault table (called_word k.name ∷ []));
   }
 
-  -- a unit and a prefix by value; a function, an alias and a table by the faults of its names, and then by the
-  -- values of its units; a list by the values of its parts, and then by how they go together
+  -- a unit and a prefix are checked by value; a function, an alias and a table by the faults of their names, and then
+  -- by the values of their units; a list by the values of its parts, and then by whether the parts agree
   abbrev pub checked_by : Kind → Key → Inquiry (List Amount) → Inquiry Finding
   checked_by kind.Unit k values = sound values
   checked_by kind.Prefix k values = sound (of_prefix k values)
@@ -104,11 +105,11 @@ module _ (table : Table) where
   abbrev pub checked : Key → Inquiry Finding
   checked k = checked_by k.kind k (worths table (valued k k.kind (entry_at table k)))
 
--- a line that tells something of a key
+-- a line that reports a text about a key
 abbrev pub told_line : Key → (text : List ℕ) → List ℕ
 told_line k text = ((key_text k ++ codes ": ") ++ text) ++ codes "\n"
 
--- a line for what is found, unless the key is sound
+-- the line for a finding; there is none if the key is sound
 abbrev pub finding_line : Style → Key → Result Finding ReplyFault → List ℕ
 finding_line style k (Ok Sound) = []
 finding_line style k (Ok Unlike) = told_line k (codes "conformability error")
@@ -119,14 +120,14 @@ module _ (table : Table) where
   abbrev pub check_line : Style → Key → List ℕ
   check_line style k = finding_line style k (checked table k).answer
 
-  -- the lines of some keys, and what is asked for them
+  -- the lines of some keys, and the queries that are made for them
   abbrev pub check_among : Style → List Key → List ℕ
   check_among style keys = flat_map (check_line style) keys
 
   abbrev pub queries_among : List Key → List Event
   queries_among keys = flat_map (λ k. (checked table k).events) keys
 
-  -- those of all keys; all names are asked for before
+  -- the lines of all keys; all names are queried first
   abbrev pub check_report : Style → List ℕ
   check_report style = check_among style (table_keys table)
 

@@ -1,5 +1,5 @@
--- The report of what conforms to a quantity.
-use Rattle.std.specs.Prelude.{ℕ, List, Bool, false, Result, Ok, Err, [], if◌then◌else◌}
+-- The report of the units that conform to a quantity.
+use Rattle.std.specs.Prelude.{ℕ, List, Bool, false, Option, Some, None, Result, Ok, Err, [], if◌then◌else◌}
 use Rattle.std.specs.List.{flat_map}
 use Rattle.expr_tree.specs.Syntax.{Word}
 use Rattle.quantity.specs.Amount.{Amount, conform}
@@ -12,28 +12,33 @@ use Rattle.reply.specs.declared.fault.ReplyFault.{ReplyFault}
 use Rattle.reply.specs.Inquiries.{Inquiry, worth}
 use Rattle.survey.specs.Rows.{key_row, or_none}
 
--- there is a value, and it conforms
+-- whether there is a value and it conforms
 abbrev pub is_conforming : (from : Amount) → Result Amount ReplyFault → Bool
 is_conforming from (Ok x) = conform x.exponents from.exponents
 is_conforming from (Err fault) = false
 
+-- whether an optional value exists and conforms
+abbrev pub is_value_conforming : (from : Amount) → Option Amount → Bool
+is_value_conforming from (Some x) = conform x.exponents from.exponents
+is_value_conforming from None = false
+
 module _ (table : Table) where
-  -- a unit is asked for by its word
+  -- a unit is queried by its word
   abbrev pub unit_worth : Key → Inquiry Amount
   unit_worth k = worth table (Word k.name)
 
-  -- the row of a unit that has a value which conforms
+  -- the row of a unit, if its value conforms
   abbrev pub conforming_row : (from : Amount) → Key → List ℕ
   conforming_row from k = if is_conforming from (unit_worth k).answer then key_row table k else []
 
-  -- those of the units among some keys
+  -- the rows of the units among some keys
   abbrev pub conformable_among : (from : Amount) → List Key → List ℕ
   conformable_among from keys = or_none (flat_map (conforming_row from) (of_kind kind.Unit keys))
 
   abbrev pub unit_queries : List Key → List Event
   unit_queries keys = flat_map (λ k. (unit_worth k).events) (of_kind kind.Unit keys)
 
-  -- those of all units, and the query of each
+  -- the rows of all units, and the query of each
   abbrev pub conformable_report : (from : Amount) → List ℕ
   conformable_report from = conformable_among from (table_keys table)
 

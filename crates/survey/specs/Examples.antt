@@ -1,4 +1,4 @@
--- The reports on a small table, found by hand.
+-- The reports on a small table, worked out by hand.
 use Rattle.std.specs.Prelude.{◌≡◌, ℕ, pos, List, [], ◌∷◌, codes, Some, None, Ok}
 use Rattle.frac128.specs.Fraction.{whole}
 use Rattle.digits_print.specs.declared.style.Style.TheVariants.{Digits}
@@ -74,8 +74,8 @@ v = unit (codes "v")
 abbrev pub parts : Key
 parts = key kind.List (codes "parts")
 
--- a unit of an unknown word, one of an overflow, functions, a table, a meter, a prefix on a cycle, one that leads to a
--- cycle, and a list
+-- the table: a unit of an unknown word, a unit that overflows, functions, a table, a meter, a prefix on a cycle, a
+-- prefix that leads to a cycle, and a list
 abbrev pub small : Table
 small =
     (bad, word_entry (codes "none"))
@@ -115,7 +115,7 @@ small_keys = bad ∷ big ∷ f ∷ g ∷ gauge ∷ m ∷ p ∷ parts ∷ q ∷ r
 abbrev pub line : Key → List ℕ
 line k = check_line small (Digits 8) k
 
--- law: the faults of each kind of key, and all of them one behind another
+-- law: the faults of each kind of key, and several of them one after another
 pub record CheckLaw : Type 0 where
   pub sound : line m ≡ []
   pub unknown : line bad ≡ codes "bad: unknown unit: none in bad\n"
@@ -137,7 +137,7 @@ pub record CheckLaw : Type 0 where
       ∷ AsksWords (plain_word (codes "big") ∷ []) ∷ AsksWords (plain_word (codes "m") ∷ [])
       ∷ AsksWords (plain_word (codes "none") ∷ []) ∷ []
 
--- law: what a search finds, what does not conform, and how a chain is turned
+-- law: the rows that a search finds, units without a value that conforms, and how a chain is turned
 pub record RowsLaw : Type 0 where
   pub inside : search_among small (codes "a") small_keys
       ≡ codes "\tbad\tnone\n\tgauge()\t[bad] 1 2, 3 6\n\t!unitlist parts\tm; none\n"

@@ -8,10 +8,10 @@ use Rattle.deck.specs.KeyLists.{table_keys}
 use Rattle.survey.specs.Rows.{key_row, or_none}
 
 module _ (table : Table) (text : List ℕ) where
-  -- the rows of those of some keys whose names hold the text
+  -- the rows of those keys whose names contain the text
   abbrev pub search_among : List Key → List ℕ
   search_among keys = or_none (flat_map (key_row table) (filter (λ k. holds k.name text) keys))
 
-  -- those of all keys; nothing is asked for it
+  -- the rows of all keys whose names contain the text; a search makes no query
   abbrev pub search_report : List ℕ
   search_report = search_among (table_keys table)

@@ -1,4 +1,4 @@
-//! What is asked of a live table.
+//! Queries of a live table.
 
 ghost use Rattle.std.specs.Prelude.{◌≡◌, ◌∷◌, [], IfOk};
 ghost use Rattle.deck.specs.Tables as tables;
@@ -19,7 +19,7 @@ use std::alloc::{AllocError, Global};
 use std::sync::ledger::Ledger;
 use units_io::{Steps, Text};
 
-/// The fault of the names of a function, where it has one.
+/// Queries the names of a function. Returns their fault, if they have one.
 pub(crate) fn ask_function<L: Ledger>(
     alloc: Global,
     table: &mut LiveTable,
@@ -35,7 +35,7 @@ pub(crate) fn ask_function<L: Ledger>(
     names_alone(table.value(alloc, &call, steps))
 }
 
-// An answer without what it says of a value.
+// Drops the value, or the fault of the value, from an answer. A fault of the names and running out of memory remain.
 fn names_alone(answer: Result<Quantity, QueryFault>) -> Result<(), QueryFault>
     ensures { result ≡ calls.names_alone answer }
 {
@@ -45,7 +45,7 @@ fn names_alone(answer: Result<Quantity, QueryFault>) -> Result<(), QueryFault>
     }
 }
 
-// A call whose operand has no value, so that the function is not applied.
+// Builds a call whose operand has no value, so that the function is never applied.
 fn faulty_call(alloc: Global, name: &[u8]) -> Result<Tree, AllocError>
     ensures { IfOk result (λ tree. words_in (syntax tree) ≡ called_word name.now ∷ []) }
 {

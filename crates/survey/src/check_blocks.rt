@@ -1,4 +1,4 @@
-//! A check report by the block: its lines can be written as they are made.
+//! The check report in blocks, so that its lines can be written as they are made.
 
 ghost use Rattle.std.specs.Prelude.{◌≡◌, ◌++◌, ◌<◌, ◌≤◌, IfOk, length, take};
 ghost use Rattle.deck.specs.PlacedKeys.{keys_there};
@@ -14,12 +14,12 @@ use std::alloc::{AllocError, Global};
 use std::sync::ledger::Ledger;
 use units_io::Steps;
 
-// A block ends with the line that makes it this long.
+// A block ends with the line that brings it to this length.
 const BLOCK: usize = 65_536;
 
-/// Appends the lines of the keys at the first of some places, until the text has 65,536 bytes or no place is left, and
-/// returns how many places these are: at least one, if there is any. The deck is left as it is. The only error is want
-/// of memory.
+/// Checks the keys at `places`, in order, and appends their lines, until the text has 65,536 bytes or no place is left.
+/// Returns the number of places that were done: at least one, if there are any. Does not change the deck. The only
+/// error is running out of memory.
 pub fn put_check_block<L: Ledger>(
     alloc: Global,
     lines: &mut Vec<u8>,

@@ -28,8 +28,8 @@ use std::alloc::{AllocError, Global};
 use std::sync::ledger::Ledger;
 use units_io::{Steps, Text};
 
-/// A line for each key that has a fault, in the order of keys, as one text. All names are asked for, and then what each
-/// key needs, and the deck is left as it is. The only error is want of memory.
+/// Returns the check report as one text: a line for each key that has a fault, in the order of keys. Queries all names
+/// first and then what each key needs. Does not change the deck. The only error is running out of memory.
 pub fn check_report<L: Ledger>(
     alloc: Global,
     table: &mut LiveTable,
@@ -49,8 +49,8 @@ pub fn check_report<L: Ledger>(
     Ok(Text::from(lines))
 }
 
-/// The places of the lines that define the keys of a check report, in its order. All names are asked for, and the deck
-/// is left as it is. The only error is want of memory.
+/// Returns the places of the lines that define the keys of a check report, in the order of the report. Queries all
+/// names. Does not change the deck. The only error is running out of memory.
 pub fn check_places<L: Ledger>(
     alloc: Global,
     table: &mut LiveTable,
@@ -68,7 +68,7 @@ pub fn check_places<L: Ledger>(
     Ok(places)
 }
 
-// Puts a line for each of the keys at some places that has a fault.
+// Appends a line for each key at `places` that has a fault.
 fn put_checks<L: Ledger>(
     alloc: Global,
     lines: &mut Vec<u8>,
@@ -93,7 +93,7 @@ fn put_checks<L: Ledger>(
     Ok(())
 }
 
-/// Puts the line of the key at a place, if it has a fault.
+/// Appends the line of the key at `place`, if it has a fault.
 pub(crate) fn put_check_at<L: Ledger>(
     alloc: Global,
     lines: &mut Vec<u8>,
@@ -118,7 +118,7 @@ pub(crate) fn put_check_at<L: Ledger>(
     put_check(alloc, lines, table, options, &key, steps)
 }
 
-// Puts the line of a key, where it has a fault.
+// Appends the line of a key, if it has a fault.
 fn put_check<L: Ledger>(
     alloc: Global,
     lines: &mut Vec<u8>,
@@ -139,7 +139,7 @@ fn put_check<L: Ledger>(
     put_finding(alloc, lines, options, key, found)
 }
 
-// What is found at a key.
+// Checks a key.
 fn checked<L: Ledger>(
     alloc: Global,
     table: &mut LiveTable,
@@ -161,7 +161,7 @@ fn checked<L: Ledger>(
     }
 }
 
-// What is found at a unit.
+// Checks a unit.
 fn unit_checked<L: Ledger>(
     alloc: Global,
     table: &mut LiveTable,
@@ -177,7 +177,7 @@ fn unit_checked<L: Ledger>(
     Ok(Finding::Sound)
 }
 
-// What is found at a prefix.
+// Checks a prefix.
 fn prefix_checked<L: Ledger>(
     alloc: Global,
     table: &mut LiveTable,
@@ -197,7 +197,7 @@ fn prefix_checked<L: Ledger>(
     }
 }
 
-// What is found at a function, an alias or a table.
+// Checks a function, an alias or a table.
 fn function_checked<L: Ledger>(
     alloc: Global,
     table: &mut LiveTable,
@@ -216,7 +216,7 @@ fn function_checked<L: Ledger>(
     Ok(Finding::Sound)
 }
 
-// What is found at a list.
+// Checks a list.
 fn list_checked<L: Ledger>(
     alloc: Global,
     table: &mut LiveTable,

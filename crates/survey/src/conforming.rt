@@ -1,6 +1,6 @@
-//! The report of what conforms to a quantity.
+//! The report of the units that conform to a quantity.
 
-ghost use Rattle.std.specs.Prelude.{◌≡◌, ◌++◌, [], Err, IfOk, OnOk, if◌then◌else◌};
+ghost use Rattle.std.specs.Prelude.{◌≡◌, ◌++◌, [], IfErr, IfOk, OnOk, if◌then◌else◌};
 ghost use Rattle.std.specs.List.{flat_map};
 ghost use Rattle.std.specs.Option.{option_map};
 ghost use Rattle.def_entry.specs.declared.key.Kind.TheVariants as kinds;
@@ -11,8 +11,6 @@ ghost use Rattle.expr_tree.specs.Syntax.{Word};
 ghost use Rattle.expr_tree.specs.Trees.{syntax};
 ghost use Rattle.live_table.specs.Calls.{AreQueries};
 ghost use Rattle.live_table.specs.Shown.{IsRightTable};
-ghost use Rattle.live_table.specs.declared.fault.QueryFault.TheVariants.{OutOfMemory};
-ghost use Rattle.reply.specs.Inquiries.{as_answer};
 ghost use Rattle.survey.specs.Conformable as spec;
 ghost use Rattle.survey.specs.Places.{given_by, unit_there};
 ghost use Rattle.survey.specs.Rows.{key_row};
@@ -21,14 +19,14 @@ use crate::rows::{put_row_there, rows_or_none};
 use deck::{Deck, key_lists_are_one};
 use def_entry::Kind;
 use expr_tree::Tree;
-use live_table::{LiveTable, QueryFault};
+use live_table::LiveTable;
 use quantity::Quantity;
 use std::alloc::{AllocError, Global};
 use std::sync::ledger::Ledger;
 use units_io::{Steps, Text};
 
-/// A row for each unit that has a value which conforms to a quantity, in the order of keys, or one line where there
-/// is none. It makes the query of each unit, and leaves the deck as it is. The only error is want of memory.
+/// Returns a row for each unit whose value conforms to `from`, in the order of keys, or one line that says that there
+/// is none. Queries each unit. Does not change the deck. The only error is running out of memory.
 pub fn conformable_report<L: Ledger>(
     alloc: Global,
     table: &mut LiveTable,
@@ -47,7 +45,7 @@ pub fn conformable_report<L: Ledger>(
     rows_or_none(rows)
 }
 
-// Puts a row for each unit among the keys at some places that has a value which conforms.
+// Appends a row for each unit at `places` whose value conforms to `from`.
 fn put_conforming_rows<L: Ledger>(
     alloc: Global,
     rows: &mut Vec<u8>,
@@ -71,7 +69,7 @@ fn put_conforming_rows<L: Ledger>(
     Ok(())
 }
 
-// Puts the row of the unit at a place, where one is there and has a value which conforms.
+// Appends the row of the unit at `place`, if there is one and its value conforms to `from`.
 fn put_row_at<L: Ledger>(
     alloc: Global,
     rows: &mut Vec<u8>,
@@ -91,11 +89,11 @@ fn put_row_at<L: Ledger>(
     let Some(word) = unit_word(alloc, table.deck(), place)? else {
         return Ok(());
     };
-    let found = table.value(alloc, &word, steps);
+    let found = table.value_if_any(alloc, &word, steps);
     put_if_conforming(rows, table.deck(), place, from, &found)
 }
 
-// The word of the unit that the line at a place defines, where it defines one.
+// Returns the word of the unit that the line at `place` defines, or `None` if it defines no unit.
 fn unit_word(alloc: Global, deck: &Deck, place: usize) -> Result<Option<Tree>, AllocError>
     ensures { IfOk result (λ word. option_map syntax word
         ≡ option_map (λ k. Word k.name) (unit_there deck.now place)) }
@@ -109,29 +107,29 @@ fn unit_word(alloc: Global, deck: &Deck, place: usize) -> Result<Option<Tree>, A
     }
 }
 
-// Puts the row of the key at a place that is worth so much, where that conforms. Want of memory there is want of memory
-// here.
+// Appends the row of the key at `place` if its value `found` conforms to `from`. The only error is running out of
+// memory, here or in `found`.
 fn put_if_conforming(
     rows: &mut Vec<u8>,
     deck: &Deck,
     place: usize,
     from: &Quantity,
-    found: &Result<Quantity, QueryFault>,
+    found: &Result<Option<Quantity>, AllocError>,
 ) -> Result<(), AllocError>
-    ensures row { OnOk result (rows.new.items ≡ rows.old.items
-        ++ (if spec.is_conforming from.now (as_answer found.now)
+    ensures row { OnOk result (IfOk found.now (λ value. rows.new.items ≡ rows.old.items
+        ++ (if spec.is_value_conforming from.now value
         then given_by (key_row (tables.table deck.now)) (key_there deck.now.lines place)
-        else [])) }
-    ensures memory { OnOk result (found.now ≡ Err OutOfMemory → ⊥) }
+        else []))) }
+    ensures memory { OnOk result (IfErr found.now (λ _. ⊥)) }
 {
     match found {
-        Ok(x) => put_row_if(rows, x.conforms(from), deck, place),
-        Err(QueryFault::OutOfMemory) => Err(AllocError),
-        Err(QueryFault::Name(_) | QueryFault::Value(_)) => Ok(()),
+        Ok(Some(x)) => put_row_if(rows, x.conforms(from), deck, place),
+        Ok(None) => Ok(()),
+        Err(_) => Err(AllocError),
     }
 }
 
-// Puts the row of the key at a place, where that is wanted.
+// Appends the row of the key at `place`, if it is wanted.
 fn put_row_if(rows: &mut Vec<u8>, wanted: bool, deck: &Deck, place: usize) -> Result<(), AllocError>
     ensures { OnOk result (rows.new.items ≡ rows.old.items
         ++ (if wanted then given_by (key_row (tables.table deck.now)) (key_there deck.now.lines place) else [])) }

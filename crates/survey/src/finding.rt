@@ -1,4 +1,4 @@
-//! What is found at a key whose expressions have values.
+//! The result of checking a key whose expressions have values.
 
 ghost use Rattle.std.specs.Prelude.{◌≡◌, position};
 ghost use Rattle.std.specs.List.{list_any};
@@ -8,18 +8,18 @@ ghost use Rattle.survey.specs.Checks as spec;
 
 use quantity::Quantity;
 
-/// What is found at a key whose expressions have values.
+/// The result of checking a key whose expressions have values.
 #[derive(Clone, Copy, Debug, PartialEq, Eq, Drop)]
 pub(crate) enum Finding {
-    /// Nothing that would have to be told.
+    /// There is nothing to report.
     Sound,
-    /// A part of a list does not conform to the first one.
+    /// A part of the list does not conform to the first part.
     Unlike,
-    /// The part of a list at this place, from 0, is the first that is not above 0.
+    /// The part of the list at this index, counted from 0, is the first that is not above 0.
     NotPositive(usize),
 }
 
-/// What is found at a list whose parts have these values.
+/// Returns the finding for a list whose parts have these values.
 pub(crate) fn parts_finding(parts: &[Quantity]) -> Finding
     ensures { result ≡ spec.parts_finding parts.now }
 {
@@ -35,21 +35,21 @@ pub(crate) fn parts_finding(parts: &[Quantity]) -> Finding
     }
 }
 
-// Whether one of the parts does not conform to the first.
+// Returns whether a part does not conform to the first.
 fn has_unlike(first: &Quantity, others: &[Quantity]) -> bool
     ensures { result ≡ list_any (is_unlike first.now) others.now }
 {
     others.iter().any(|part| !first.conforms(part))
 }
 
-// The place of the first part whose number is not above 0.
+// Returns the index of the first part whose number is not above 0.
 fn first_not_positive(parts: &[Quantity]) -> Option<usize>
     ensures { result ≡ position is_not_positive parts.now }
 {
     parts.iter().position(|part| !is_positive(part))
 }
 
-// Whether the number of a part is above 0.
+// Returns whether the number of a part is above 0.
 fn is_positive(part: &Quantity) -> bool
     ensures { result ≡ sign.is_positive part.now.value }
 {

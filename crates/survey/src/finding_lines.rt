@@ -14,7 +14,8 @@ use live_table::QueryFault;
 use reply::{Options, ReplyFault, fault_text};
 use std::alloc::{AllocError, Global};
 
-/// Puts the line of a key for what was found there, unless it is sound. Want of memory there is want of memory here.
+/// Appends the line of a key for what was found there, unless the key is sound. The only error is running out of
+/// memory, here or in `found`.
 pub(crate) fn put_finding(
     alloc: Global,
     text: &mut Vec<u8>,
@@ -43,7 +44,7 @@ pub(crate) fn put_finding(
     }
 }
 
-// Puts the line of a key that has a fault.
+// Appends the line of a key that has a fault.
 fn put_fault(
     alloc: Global,
     text: &mut Vec<u8>,
@@ -60,7 +61,7 @@ fn put_fault(
     put_told(text, key, fault.as_bytes())
 }
 
-// Puts a line that tells something of a key.
+// Appends a line that reports `told` about a key.
 fn put_told(text: &mut Vec<u8>, key: &Key, told: &[u8]) -> Result<(), AllocError>
     ensures { OnOk result (text.new.items ≡ text.old.items ++ spec.told_line key.now told.now) }
 {

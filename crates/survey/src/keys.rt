@@ -1,4 +1,4 @@
-//! Keys that a deck lends, copied and written.
+//! Keys borrowed from a deck: copied and written.
 
 ghost use Rattle.std.specs.Prelude.{◌≡◌, ◌++◌, IfOk, OnOk};
 ghost use Rattle.def_entry.specs.Keys as keys;
@@ -7,7 +7,7 @@ use def_entry::{Key, Kind};
 use std::alloc::{AllocError, Global};
 use units_io::Text;
 
-/// A key of its own.
+/// Returns an owned copy of a key.
 pub(crate) fn copied(alloc: Global, kind: Kind, name: &[u8]) -> Result<Key, AllocError>
     ensures { IfOk result (λ copy. copy ≡ keys.key kind name.now) }
 {
@@ -15,7 +15,7 @@ pub(crate) fn copied(alloc: Global, kind: Kind, name: &[u8]) -> Result<Key, Allo
     Ok(Key { kind, name })
 }
 
-/// Puts a key as it is written.
+/// Appends a key in its written form.
 pub(crate) fn put_key(text: &mut Vec<u8>, kind: Kind, name: &[u8]) -> Result<(), AllocError>
     ensures { OnOk result (text.new.items ≡ text.old.items ++ keys.written kind name.now) }
 {
@@ -30,7 +30,7 @@ pub(crate) fn put_key(text: &mut Vec<u8>, kind: Kind, name: &[u8]) -> Result<(),
     }
 }
 
-// Puts two texts.
+// Appends two texts.
 fn put_two(text: &mut Vec<u8>, front: &[u8], behind: &[u8]) -> Result<(), AllocError>
     ensures { OnOk result (text.new.items ≡ text.old.items ++ (front.now ++ behind.now)) }
 {

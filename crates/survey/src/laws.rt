@@ -3,12 +3,12 @@
 ghost use Rattle.survey.specs.Examples.{ExamplesLaw};
 ghost use Rattle.survey.specs.PrefixFaults.{PrefixLaw};
 
-/// A name fault of the body of a prefix, told as one of the prefix, is the fault of the prefix itself.
+/// If a name fault of the body of a prefix is reported as one of the prefix, it is the fault of the prefix itself.
 pub fn prefix_law()
     ensures { PrefixLaw }
 {}
 
-/// The reports on a small table are those that were found by hand.
+/// The reports on a small table equal those worked out by hand.
 pub fn examples_law()
     ensures { ExamplesLaw }
 {}

@@ -1,4 +1,4 @@
-//! The name faults of the bodies of prefixes.
+//! Name faults of the bodies of prefixes.
 
 ghost use Rattle.std.specs.Prelude.{◌≡◌, ◌++◌, ◌<◌, IfOk, OnOk, drop, length, position, take};
 ghost use Rattle.def_entry.specs.SameKeys as same_keys;
@@ -9,8 +9,8 @@ use def_entry::{Key, Keys};
 use std::alloc::{AllocError, Global};
 use table_names::NameFault;
 
-/// A name fault of the body of a prefix, as one of the prefix: a word in the body stands in the prefix, and a chain
-/// that holds the prefix begins and ends with it.
+/// Turns a name fault of the body of a prefix into one of the prefix: a word of the body is reported as a word in the
+/// prefix, and a chain that contains the prefix begins and ends with it.
 pub(crate) fn prefix_fault(
     alloc: Global,
     prefix: &Key,
@@ -32,7 +32,7 @@ pub(crate) fn prefix_fault(
     }
 }
 
-// A chain that begins and ends with a key, where it holds that.
+// Turns a chain so that it begins and ends with a key, if it contains that key.
 fn turned(alloc: Global, key: &Key, chain: Keys) -> Result<Keys, AllocError>
     ensures { IfOk result (λ keys. keys ≡ spec.turned key.now chain) }
 {
@@ -42,7 +42,7 @@ fn turned(alloc: Global, key: &Key, chain: Keys) -> Result<Keys, AllocError>
     }
 }
 
-// A chain from a place on, and then round to that place again.
+// Returns the chain from `place` on, continued around to `place` again.
 fn turned_to(alloc: Global, place: usize, chain: &[Key]) -> Result<Keys, AllocError>
     requires { place < length chain.now }
     ensures { IfOk result (λ keys. keys ≡ drop place chain.now ++ take place (drop 1 chain.now)) }
@@ -53,7 +53,7 @@ fn turned_to(alloc: Global, place: usize, chain: &[Key]) -> Result<Keys, AllocEr
     Ok(keys)
 }
 
-// Puts copies of keys behind some keys.
+// Appends copies of keys to a list of keys.
 fn put_copies(alloc: Global, keys: &mut Keys, further: &[Key]) -> Result<(), AllocError>
     ensures { OnOk result (keys.new ≡ keys.old ++ further.now) }
 {
@@ -63,14 +63,14 @@ fn put_copies(alloc: Global, keys: &mut Keys, further: &[Key]) -> Result<(), All
     Ok(())
 }
 
-// The first place of a key.
+// Returns the first index of a key in a chain.
 fn place_of(key: &Key, chain: &[Key]) -> Option<usize>
     ensures { result ≡ position (same_keys.is_same key.now) chain.now }
 {
     chain.iter().position(|other| is_same(key, other))
 }
 
-// One kind and one name.
+// Returns whether two keys have the same kind and the same name.
 fn is_same(key: &Key, other: &Key) -> bool
     ensures { result ≡ same_keys.is_same key.now other.now }
 {

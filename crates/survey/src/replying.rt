@@ -1,4 +1,4 @@
-//! What conforms to FROM, as a reply.
+//! The units that conform to FROM, as a reply.
 
 ghost use Rattle.std.specs.Prelude.{◌≡◌, IfOk};
 ghost use Rattle.deck.specs.Tables as tables;
@@ -14,8 +14,8 @@ use std::alloc::{AllocError, Global};
 use std::sync::ledger::Ledger;
 use units_io::{Steps, Text};
 
-/// A row for each unit that conforms to FROM, or its first fault. It makes the query of FROM and then, where that has a
-/// value, the query of each unit, and leaves the deck as it is. The only error is want of memory.
+/// Returns a row for each unit that conforms to FROM, or the first fault of FROM. Queries FROM and then, if FROM has a
+/// value, each unit. Does not change the deck. The only error is running out of memory.
 pub fn conformable_reply<L: Ledger>(
     alloc: Global,
     table: &mut LiveTable,
@@ -34,7 +34,7 @@ pub fn conformable_reply<L: Ledger>(
     conformable_to(alloc, table, value, steps)
 }
 
-// The units that conform to a FROM of this value, or its fault.
+// Returns the units that conform to a FROM with this value, or the fault of FROM.
 fn conformable_to<L: Ledger>(
     alloc: Global,
     table: &mut LiveTable,
@@ -57,7 +57,7 @@ fn conformable_to<L: Ledger>(
     }
 }
 
-// The text of a fault, as the whole reply.
+// Returns the reply that consists of the text of a fault.
 fn fault_reply(fault: Text) -> Result<Reply, AllocError>
     ensures { IfOk result (λ reply. reply ≡ spec.fault_reply fault) }
 {

@@ -12,7 +12,7 @@ use deck::{BorrowedKey, Deck};
 use std::alloc::AllocError;
 use units_io::Text;
 
-/// Puts the row of the key that the line at a place defines, where it defines one.
+/// Appends the row of the key that the line at `place` defines, if it defines one.
 pub(crate) fn put_row_there(text: &mut Vec<u8>, deck: &Deck, place: usize) -> Result<(), AllocError>
     ensures { OnOk result (text.new.items ≡ text.old.items
         ++ given_by (spec.key_row (tables.table deck.now)) (key_there deck.now.lines place)) }
@@ -23,8 +23,8 @@ pub(crate) fn put_row_there(text: &mut Vec<u8>, deck: &Deck, place: usize) -> Re
     }
 }
 
-// Puts the row of a key, where it has an entry. That is at hand where the last active line of the key stands at the
-// place `near`.
+// Appends the row of a key, if it has an entry. Finding the entry is fast if `near` is the place of the last active
+// line of the key.
 fn put_key_row(
     text: &mut Vec<u8>,
     deck: &Deck,
@@ -40,7 +40,7 @@ fn put_key_row(
     }
 }
 
-// Puts a row.
+// Appends a row.
 fn put_row(text: &mut Vec<u8>, key: BorrowedKey<'_>, entry: &[u8]) -> Result<(), AllocError>
     ensures { OnOk result (text.new.items ≡ text.old.items ++ spec.row (key_text (lent_key key.entry)) entry.now) }
 {
@@ -52,7 +52,7 @@ fn put_row(text: &mut Vec<u8>, key: BorrowedKey<'_>, entry: &[u8]) -> Result<(),
     Ok(())
 }
 
-/// Rows, or a line that says that there are none.
+/// Returns the rows, or a line that says that there are none.
 pub(crate) fn rows_or_none(rows: Vec<u8>) -> Result<Text, AllocError>
     ensures { IfOk result (λ text. text ≡ spec.or_none rows.items) }
 {

@@ -13,8 +13,8 @@ use live_table::LiveTable;
 use std::alloc::{AllocError, Global};
 use units_io::Text;
 
-/// A row for each key whose name holds the text, in the order of keys, or one line where there is none. The only
-/// error is want of memory.
+/// Returns a row for each key whose name contains the text, in the order of keys, or one line that says that there is
+/// none. The only error is running out of memory.
 pub fn search_report(alloc: Global, table: &LiveTable, text: &[u8]) -> Result<Text, AllocError>
     ensures { IfOk result (λ report. report ≡ spec.search_report (tables.table table.now.deck) text.now) }
 {
@@ -25,7 +25,7 @@ pub fn search_report(alloc: Global, table: &LiveTable, text: &[u8]) -> Result<Te
     rows_or_none(rows)
 }
 
-// Puts the row of each of the keys at some places.
+// Appends the row of each key at `places`.
 fn put_rows(rows: &mut Vec<u8>, deck: &Deck, places: &[usize]) -> Result<(), AllocError>
     ensures { OnOk result (rows.new.items ≡ rows.old.items
         ++ flat_map (key_row (tables.table deck.now)) (keys_there deck.now.lines places.now)) }

@@ -1,4 +1,4 @@
-//! The expressions of keys that have to have values.
+//! The expressions of a key that must have values.
 
 ghost use Rattle.std.specs.Prelude.{◌≡◌, ◌++◌, ◌∷◌, [], IfOk, OnOk};
 ghost use Rattle.std.specs.Option.{option_map};
@@ -14,7 +14,7 @@ use def_entry::{Key, Kind, What};
 use expr_tree::Tree;
 use std::alloc::{AllocError, Global};
 
-/// The expressions of a key that have to have values: the word of a unit, the body of a prefix, the units of a
+/// Returns the expressions of a key that must have values: the word of a unit, the body of a prefix, the units of a
 /// function, the parts of a list.
 pub(crate) fn valued_trees(alloc: Global, deck: &Deck, key: &Key) -> Result<Vec<Tree>, AllocError>
     ensures { IfOk result (λ trees. syntaxes_of trees.items
@@ -28,7 +28,7 @@ pub(crate) fn valued_trees(alloc: Global, deck: &Deck, key: &Key) -> Result<Vec<
     Ok(trees)
 }
 
-// Puts the expressions of the entry of a key.
+// Appends the expressions of the entry of a key.
 fn put_entry_trees(
     alloc: Global,
     trees: &mut Vec<Tree>,
@@ -44,7 +44,7 @@ fn put_entry_trees(
     }
 }
 
-// Puts the expressions of what a key stands for.
+// Appends the expressions in the definition of a key.
 fn put_trees_of(alloc: Global, trees: &mut Vec<Tree>, what: &What) -> Result<(), AllocError>
     ensures { OnOk result (syntaxes_of trees.new.items
         ≡ syntaxes_of trees.old.items ++ spec.trees_in (what_view what.now)) }
@@ -61,7 +61,7 @@ fn put_trees_of(alloc: Global, trees: &mut Vec<Tree>, what: &What) -> Result<(),
     }
 }
 
-// Puts copies of trees.
+// Appends copies of trees.
 fn put_trees(alloc: Global, trees: &mut Vec<Tree>, further: &[Tree]) -> Result<(), AllocError>
     ensures { OnOk result (syntaxes_of trees.new.items ≡ syntaxes_of trees.old.items ++ syntaxes_of further.now) }
 {
@@ -71,7 +71,7 @@ fn put_trees(alloc: Global, trees: &mut Vec<Tree>, further: &[Tree]) -> Result<(
     Ok(())
 }
 
-// Puts a copy of a tree, where there is one.
+// Appends a copy of a tree, if there is one.
 fn put_if_some(alloc: Global, trees: &mut Vec<Tree>, tree: &Option<Tree>) -> Result<(), AllocError>
     ensures { OnOk result (syntaxes_of trees.new.items
         ≡ syntaxes_of trees.old.items ++ spec.tree_if (option_map syntax tree.now)) }
@@ -82,7 +82,7 @@ fn put_if_some(alloc: Global, trees: &mut Vec<Tree>, tree: &Option<Tree>) -> Res
     }
 }
 
-// Puts a copy of a tree.
+// Appends a copy of a tree.
 fn put_tree(alloc: Global, trees: &mut Vec<Tree>, tree: &Tree) -> Result<(), AllocError>
     ensures { OnOk result (syntaxes_of trees.new.items ≡ syntaxes_of trees.old.items ++ syntax tree.now ∷ []) }
 {

@@ -1,4 +1,4 @@
--- What is asked for some items, one behind another.
+-- The queries for a sequence of items.
 use Rattle.std.proofs.Common.{◌≡◌, ◌∙◌, ◌+◌, ◌++◌, ◌<◌, ℕ, suc, List, [], ◌∷◌, take, drop, length, get_or}
 use Rattle.std.proofs.Common.{sym, ap, subst, arith}
 use Rattle.std.proofs.lemmas.Grind.{flat_map-append}
@@ -18,7 +18,7 @@ pub record AreAsked {A : Type 0} (asks : A → List Event) (items : List A) (i :
 module _ {A : Type 0} (asks : A → List Event) (items : List A) where
   module _ (i : ℕ) (before now : Shown) (old new : ℕ) (u : AreAsked asks items i before now old new)
       (d w : A) (within : i < length items) (at : w ≡ get_or items i d) (later : Shown) (last : ℕ) where
-    -- one more
+    -- the queries of one more item were made
     pub asked-next : later.deck ≡ now.deck → Follows (asks w) now later new last
         → AreAsked asks items (i + 1) before later old last
     asked-next same f = record {
@@ -31,7 +31,7 @@ module _ {A : Type 0} (asks : A → List Event) (items : List A) where
         more : take (i + 1) items ≡ take i items ++ w ∷ []
         more = take_more items i d within ∙ ap (λ x. take i items ++ x ∷ []) (sym at)
 
-    -- want of memory at it
+    -- memory runs out at the next item
     pub asked-cut : IsCutOff (asks w) now later new last
         → IsCutOff (flat_map asks items) before later old last
     asked-cut f =

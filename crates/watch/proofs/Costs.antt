@@ -1,4 +1,4 @@
--- What queries of settled names cost.
+-- The cost of queries of settled names.
 use Rattle.std.proofs.Common.{◌≡◌, ◌∙◌, ◌+◌, ℕ, Bool, true, false, List, [], ◌∷◌, Contains, refl, sym, ap, subst, arith}
 use Rattle.std.specs.List.{IsDistinct}
 use Rattle.std.specs.Option.{is_none}
@@ -41,12 +41,12 @@ module _ (s : State) (right : IsRight s) where
   stays_once (AsksKey k) h = asked (is_none (key_fault s.table k)) (k ∷ key_reach s.table k) h
   stays_once (Becomes later) h = absurd h
 
--- a state of these parts
+-- a state with these parts
 abbrev state_of : Table → Kept → (reductions steps : ℕ) → State
 state_of table kept reductions steps =
     record { table = table; kept = kept; reductions = reductions; steps = steps }
 
--- what is right, and what is settled, is so whatever was counted
+-- a state stays right whatever its counts are
 right_counted : (table : Table) (kept : Kept) (r n q m : ℕ) → IsRight (state_of table kept r n)
     → IsRight (state_of table kept q m)
 right_counted table kept r n q m h =

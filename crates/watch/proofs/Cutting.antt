@@ -1,4 +1,4 @@
--- Queries that were made before memory was wanting.
+-- Queries that were made before memory ran out.
 use Rattle.std.proofs.Common.{◌≡◌, ◌∙◌, ℕ, List, ap, sym, subst}
 use Rattle.std.specs.Prelude.{Result, Err}
 use Rattle.live_table.specs.Shown.{Follows, Shown}
@@ -8,7 +8,7 @@ use Rattle.watch.specs.Calls.{IsAsked}
 use Rattle.watch.specs.declared.fault.WatchFault.{WatchFault}
 use Rattle.watch.specs.declared.fault.WatchFault.TheVariants.{OutOfMemory}
 
--- where a watch fails behind them for want of memory, it cut them off
+-- a watch that fails because memory ran out after its queries counts as cut off
 pub unwatched : {A : Type 0} (es : List Event) (r : Result A WatchFault) (fault : WatchFault) (a b : Shown) (n m : ℕ)
     → r ≡ Err fault → fault ≡ OutOfMemory → b.deck ≡ a.deck → Follows es a b n m → IsAsked es r a b n m
 unwatched {A} es r fault a b n m is wanting same f =

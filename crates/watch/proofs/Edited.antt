@@ -1,4 +1,4 @@
--- What kept replies that are those of the table before an edit tell of it.
+-- The report of an edit, from stored replies that are those of the table before it.
 use Rattle.std.proofs.Common.{◌≡◌, ◌++◌, List, [], ◌∷◌, flat_map, map, refl, ap}
 use Rattle.std.proofs.lemmas.List.Elements.{All-head, All-tail, All-map}
 use Rattle.def_entry.specs.Tables.{Table}
@@ -32,7 +32,7 @@ edit_law = record {
   queries = queries;
 }
 
--- watches that are renewed are current
+-- renewed watches are current
 pub renewed_current : (table : Table) (options : Options) (watches : List Watch)
     → AreCurrent table options (map (renewed table options) watches)
 renewed_current table options watches =

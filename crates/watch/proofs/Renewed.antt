@@ -1,20 +1,20 @@
--- Lists of which the first items are renewed in place.
+-- Lists whose first items are renewed in place.
 use Rattle.std.proofs.Common.{◌≡◌, ◌+◌, ◌++◌, ◌<◌, ℕ, zero, suc, List, [], ◌∷◌, length, map, take, drop, get_or}
 use Rattle.std.proofs.Common.{set}
 use Rattle.std.proofs.Common.{refl, ap, subst, arith}
 
 module _ {A : Type 0} (f : A → A) where
-  -- the first of them renewed
+  -- a list with its first items renewed
   abbrev pub renewed_first : ℕ → List A → List A
   renewed_first i xs = map f (take i xs) ++ drop i xs
 
-  -- the next one is as it was
+  -- the next item is as it was
   pub renewed_at : (i : ℕ) (xs : List A) (d : A) → i < length xs → get_or (renewed_first i xs) i d ≡ get_or xs i d
   renewed_at i [] d h = let no : ⊥ = omega arith in absurd no
   renewed_at zero (x ∷ xs) d h = refl
   renewed_at (suc i) (x ∷ xs) d h = renewed_at i xs d (omega arith)
 
-  -- it is renewed too
+  -- renewing the next item, too, gives the list with one more renewed
   pub renewed_next : (i : ℕ) (xs : List A) (d : A) → i < length xs
       → set (renewed_first i xs) i (f (get_or xs i d)) ≡ renewed_first (i + 1) xs
   renewed_next i [] d h = let no : ⊥ = omega arith in absurd no
@@ -24,7 +24,7 @@ module _ {A : Type 0} (f : A → A) where
       subst (λ j. f x ∷ set (renewed_first i xs) i (f (get_or xs i d)) ≡ renewed_first j (x ∷ xs)) e
       (ap (λ ys. f x ∷ ys) (renewed_next i xs d (omega arith)))
 
-  -- it is put back
+  -- putting the next item back unchanged changes nothing
   pub renewed_same : (i : ℕ) (xs : List A) (d : A) → i < length xs
       → set (renewed_first i xs) i (get_or xs i d) ≡ renewed_first i xs
   renewed_same i [] d h = let no : ⊥ = omega arith in absurd no

@@ -1,4 +1,4 @@
--- What is told of changes, one by one.
+-- The report on changes, one by one.
 use Rattle.std.proofs.Common.{◌≡◌, ◌≢◌, ◌↔◌, ◌∙◌, ◌+◌, ◌++◌, ℕ, Bool, true, false, not, List, [], ◌∷◌, length, All}
 use Rattle.std.proofs.Common.{filter, flat_map}
 use Rattle.std.proofs.Common.{if◌then◌else◌, refl, sym, ap, arith, append_assoc}
@@ -7,7 +7,7 @@ use Rattle.std.proofs.lemmas.List.Elements.{All-cons, All-head, All-nil, All-tai
 use Rattle.std.proofs.lemmas.Slice.Eq.{bytes_eq-Decides}
 use Rattle.watch.specs.Changes.{Change, ToldLaw, is_news, notice, placed_from, told_from, told_of}
 
--- of the first, and then of the rest
+-- the report on changes is that on the first change, followed by that on the rest
 pub told_next : (place : ℕ) (c : Change) (changes : List Change)
     → told_from place (c ∷ changes) ≡ told_of place c ++ told_from (place + 1) changes
 told_next place c changes = go (is_news c) (filter (λ p. is_news p.1) (placed_from (place + 1) changes))

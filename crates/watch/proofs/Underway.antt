@@ -1,4 +1,4 @@
--- Watches on the way through a list of them.
+-- Passing through a list of watches.
 use Rattle.std.proofs.Common.{◌≡◌, ◌∙◌, ◌+◌, ◌++◌, ◌<◌, ℕ, suc, List, ◌∷◌, length, map, drop, get_or, set}
 use Rattle.std.proofs.Common.{sym, ap, append_assoc, arith}
 use Rattle.std.proofs.Math.Seq.{drop-cons}
@@ -10,7 +10,7 @@ use Rattle.watch.specs.declared.watch.Watch.{Watch}
 use Rattle.watch.proofs.Renewed.{renewed_at, renewed_first, renewed_next, renewed_same}
 use Rattle.watch.proofs.Telling.{told_next}
 
--- the first watches are renewed, and what is told of them was put behind some bytes
+-- the first watches are renewed, and the report on them was appended to some bytes
 pub record IsUnderway (table : Table) (options : Options) (watches now : List Watch) (i : ℕ) (start bytes : List ℕ)
     : Type 0 where
   pub renewed : now ≡ renewed_first (renewed table options) i watches
@@ -18,7 +18,7 @@ pub record IsUnderway (table : Table) (options : Options) (watches now : List Wa
       ≡ bytes ++ told_from (i + 1) (map (change_of table options) (drop i watches))
 
 module _ (table : Table) (options : Options) (watches : List Watch) where
-  -- a watch with its reply in this table, and what that changes
+  -- a watch with its reply in this table, and the change of its reply
   abbrev anew : Watch → Watch
   anew w = renewed table options w
 
@@ -27,7 +27,7 @@ module _ (table : Table) (options : Options) (watches : List Watch) where
 
   module _ (i : ℕ) (now : List Watch) (start bytes : List ℕ) (u : IsUnderway table options watches now i start bytes)
       (d w : Watch) (within : i < length watches) (at : w ≡ get_or now i d) where
-    -- the next one is as it was
+    -- the next watch is as it was
     pub underway-was : w ≡ get_or watches i d
     underway-was = at ∙ (ap (λ ws. get_or ws i d) u.renewed ∙ renewed_at anew i watches d within)
 
@@ -36,12 +36,12 @@ module _ (table : Table) (options : Options) (watches : List Watch) where
         let e : suc i ≡ i + 1 = omega arith in
         drop-cons watches i d within ∙ (λ j. sym underway-was j ∷ drop (e j) watches)
 
-    -- it stays
+    -- the next watch stays as it is
     pub underway-same : (later : Watch) → later ≡ w → set now i later ≡ renewed_first anew i watches
     underway-same later e =
         (λ j. set (u.renewed j) i ((e ∙ underway-was) j)) ∙ renewed_same anew i watches d within
 
-    -- it is renewed, and what is told of it is put
+    -- the next watch is renewed, and the report on it is appended
     pub underway-next : (later : Watch) (further : List ℕ) → later ≡ anew w
         → further ≡ bytes ++ told_of (i + 1) (change w)
         → IsUnderway table options watches (set now i later) (i + 1) start further

@@ -1,4 +1,4 @@
--- What the calls of watches do.
+-- The effects of the calls of watches.
 use Rattle.std.specs.Prelude.{◌≡◌, ◌++◌, ℕ, List, map, take, drop, Result, Ok, Err}
 use Rattle.def_entry.specs.Tables.{Table}
 use Rattle.live_table.specs.Shown.{Follows, IsCutOff, Shown}
@@ -9,13 +9,13 @@ use Rattle.watch.specs.declared.fault.WatchFault.TheVariants.{TooMany, OutOfMemo
 use Rattle.watch.specs.declared.watch.Watch.{Watch}
 use Rattle.watch.specs.Watched.{renewed}
 
--- all queries were made, or none, since there are too many watches, or want of memory cut them off
+-- all queries were made; or none, because there are too many watches; or running out of memory cut them off
 abbrev pub IsAsked : {A : Type 0} → List Event → Result A WatchFault → Shown → Shown → ℕ → ℕ → Type 0
 IsAsked events (Ok _) before after old new = Follows events before after old new
 IsAsked events (Err TooMany) before after old new = (after ≡ before) × (new ≡ old)
 IsAsked events (Err OutOfMemory) before after old new = IsCutOff events before after old new
 
--- the first of some watches have the reply in this table, and the others are as before
+-- the watches up to some place have their reply in this table, and the others are as before
 pub record IsPartlyRenewed (table : Table) (options : Options) (old new : List Watch) : Type 0 where
   pub count : ℕ
   pub parts : new ≡ map (renewed table options) (take count old) ++ drop count old

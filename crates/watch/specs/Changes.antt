@@ -1,41 +1,42 @@
--- What is told of watched replies that may have changed.
+-- The report on watched replies that may have changed.
 use Rattle.std.specs.Prelude.{◌≡◌, ◌≢◌, ◌↔◌, ◌+◌, ◌++◌, ℕ, Bool, true, not, List, [], ◌∷◌, All, filter, flat_map}
 use Rattle.std.specs.Prelude.{codes, if◌then◌else◌, length}
 use Rattle.std.specs.Fmt.{decimal}
 use Rattle.std.specs.Str.{bytes_eq}
 
--- the bytes of a reply before an edit and behind it
+-- the bytes of a reply before and after an edit
 pub record Change : Type 0 where
   pub before : List ℕ
   pub behind : List ℕ
 
--- they differ
+-- whether the two replies differ
 abbrev pub is_news : Change → Bool
 is_news c = not (bytes_eq c.before c.behind)
 
--- the line of the watch at a place, from 1, and a reply
+-- the line of the watch with a number, counted from 1, and its reply
 abbrev pub notice : (place : ℕ) → (reply : List ℕ) → List ℕ
 notice place reply = ((codes "watch " ++ decimal place) ++ codes "\n") ++ reply
 
--- changes, each with its place, from this one on
+-- changes numbered from `place` on
 abbrev pub placed_from : (place : ℕ) → List Change → List (ℕ × Change)
 placed_from place [] = []
 placed_from place (c ∷ changes) = (place, c) ∷ placed_from (place + 1) changes
 
--- what is told of them: of those that are news, in order, the line of the watch and the reply behind the edit
+-- the report on changes numbered from `place` on: for those that are news, in order, the line of the watch and the
+-- reply after the edit
 abbrev pub told_from : (place : ℕ) → List Change → List ℕ
 told_from place changes = flat_map (λ p. notice p.0 p.1.behind) (filter (λ p. is_news p.1) (placed_from place changes))
 
--- of all watches
+-- the report on all watches
 abbrev pub told : List Change → List ℕ
 told changes = told_from 1 changes
 
--- of one alone
+-- the report on a single change
 abbrev pub told_of : (place : ℕ) → Change → List ℕ
 told_of place c = if is_news c then notice place c.behind else []
 
--- law: a reply is news exactly where its bytes are others; each is told at its own place, between what is told of those
--- before it and of those behind it; nothing is told exactly where no reply is news
+-- law: a reply is news exactly if its bytes differ; each is reported under its own number, between the reports on those
+-- before it and those after it; the report is empty exactly if no reply is news
 pub record ToldLaw : Type 0 where
   pub news : (c : Change) → is_news c ≡ true ↔ (c.before ≢ c.behind)
   pub each : (front : List Change) (c : Change) (back : List Change)

@@ -1,4 +1,4 @@
--- What an edit tells of what is watched.
+-- The report on watches after an edit.
 use Rattle.std.specs.Prelude.{◌≡◌, ℕ, List, flat_map, map}
 use Rattle.def_entry.specs.Tables.{Table}
 use Rattle.reply.specs.declared.options.Options.{Options}
@@ -7,16 +7,16 @@ use Rattle.watch.specs.Watched.{AreCurrent, Subject, all_queries, change_of, que
 use Rattle.watch.specs.declared.watch.Watch.{Watch}
 
 module _ (before behind : Table) (options : Options) where
-  -- the replies in the table before it and in the table behind it
+  -- the replies in the tables before and after an edit
   abbrev pub change_by_edit : Subject → Change
   change_by_edit s = record { before = reply_to before options s; behind = reply_to behind options s }
 
-  -- those of the watches whose replies in these tables differ in bytes, each behind its line
+  -- the report on the watches whose replies in the two tables differ in bytes, each after its line
   abbrev pub told_by_edit : List Subject → List ℕ
   told_by_edit subjects = told (map change_by_edit subjects)
 
--- law: where each kept reply is that of the table before, the kept replies tell the same; what is asked for watches is
--- asked for what they watch, in order
+-- law: if each stored reply is that of the table before the edit, the stored replies give the same report; the queries
+-- for watches are the queries for their conversions, in order
 pub record EditLaw : Type 0 where
   pub told : (before behind : Table) (options : Options) (watches : List Watch) → AreCurrent before options watches
       → told (map (change_of behind options) watches) ≡ told_by_edit before behind options (map subject_of watches)

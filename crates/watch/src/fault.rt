@@ -1,15 +1,15 @@
-//! Why nothing is watched.
+//! The reasons why a conversion is not watched.
 
 use std::alloc::{AllocError, AllocFailed};
 use thiserror::Error;
 
-/// Why a conversion is not watched. After each, the watches are as before.
+/// Why a conversion is not watched. After each error the watches are as before.
 #[derive(Clone, Copy, Debug, PartialEq, Eq, Error)]
 pub enum WatchFault {
-    /// As many as there may be are watched.
+    /// The largest possible number of conversions is already watched.
     #[error("too many watches")]
     TooMany,
-    /// There is no memory.
+    /// Memory ran out.
     #[error("out of memory")]
     OutOfMemory,
 }

@@ -1,4 +1,4 @@
-//! Conversions that are watched: after an edit of the definitions, the replies that changed.
+//! Watched conversions: after an edit of the definitions, the replies that changed are reported.
 #![tactic(auto)]
 
 mod fault;

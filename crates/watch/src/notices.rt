@@ -1,11 +1,11 @@
-//! What is told of a watch.
+//! The report on a watch.
 
 ghost use Rattle.std.specs.Prelude.{◌≡◌, ◌++◌, OnOk};
 ghost use Rattle.watch.specs.Changes as spec;
 
 use std::alloc::{AllocError, Global};
 
-/// Puts the line of the watch with this number and a reply.
+/// Appends the line `watch N` and a reply.
 pub(crate) fn put_notice(
     alloc: Global,
     told: &mut Vec<u8>,

@@ -1,4 +1,4 @@
-//! Watches whose replies are asked for again.
+//! Renewing the replies of watches.
 
 ghost use Rattle.std.specs.Prelude.{◌≡◌, ◌++◌, OnErr, OnOk, map};
 ghost use Rattle.deck.specs.Tables as tables;
@@ -17,7 +17,7 @@ use std::alloc::{AllocError, Global};
 use std::sync::ledger::Ledger;
 use units_io::Steps;
 
-/// Asks for the replies of watches again, in order, and puts what is told of them.
+/// Queries the replies of all watches again, in order, and appends a report on those that changed.
 pub(crate) fn renew_all<L: Ledger>(
     alloc: Global,
     told: &mut Vec<u8>,
@@ -53,8 +53,8 @@ pub(crate) fn renew_all<L: Ledger>(
     Ok(())
 }
 
-// Asks for the reply of the watch with this number again, and puts it where it is another than the kept one. A refusal
-// leaves the watch.
+// Queries the reply of a watch again. If it differs from the stored one, reports it under this number and stores it. An
+// error leaves the watch as it was.
 fn renew<L: Ledger>(
     alloc: Global,
     told: &mut Vec<u8>,

@@ -1,4 +1,4 @@
-//! A conversion that is watched.
+//! A watched conversion.
 
 ghost use Rattle.std.specs.Prelude.{◌≡◌, IfOk};
 ghost use Rattle.deck.specs.Tables as tables;
@@ -20,7 +20,7 @@ pub(crate) struct Watch {
     pub(crate) reply: Text,
 }
 
-/// The bytes of the reply to a conversion in the present table. The only error is want of memory.
+/// Returns the bytes of the reply to a conversion in the present table. The only error is running out of memory.
 #[tactic(auto, unfolding(crate::specs::Watched::reply_to, crate::specs::Watched::queries_of))]
 pub(crate) fn reply_bytes<L: Ledger>(
     alloc: Global,
@@ -42,7 +42,7 @@ pub(crate) fn reply_bytes<L: Ledger>(
     Ok(reply.text)
 }
 
-/// A watch of this conversion, with its reply in the present table. The only error is want of memory.
+/// Returns a watch of this conversion, with its reply in the present table. The only error is running out of memory.
 pub(crate) fn watch_on<L: Ledger>(
     alloc: Global,
     table: &mut LiveTable,

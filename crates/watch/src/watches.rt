@@ -1,4 +1,4 @@
-//! The conversions that are watched.
+//! The watched conversions.
 
 ghost use Rattle.std.specs.Prelude.{◌≡◌, ◌↔◌, ◌+◌, ◌++◌, ◌∷◌, ◌≤◌, [], IfOk, IsErrOf, OnErr, OnOk, length, map};
 ghost use Rattle.deck.specs.Tables as tables;
@@ -22,16 +22,16 @@ use std::marker::Model;
 use std::sync::ledger::Ledger;
 use units_io::{Steps, Text};
 
-/// How many conversions are watched at most.
+/// The largest number of conversions that can be watched.
 pub const MOST_WATCHES: usize = 1000;
 
-/// Conversions that are watched, in the order in which they were added, at most 1,000. Contracts see each as FROM,
-/// TO and the bytes of its last reply.
+/// The watched conversions, at most 1,000, in the order in which they were added. Contracts see each as FROM, TO and
+/// the bytes of its last reply.
 pub struct Watches {
     items: Vec<Watch>,
 }
 
-// By hand, so that who drops watches proves nothing of what they hold.
+// Written by hand, so that code that drops watches need not prove anything about their contents.
 impl Drop for Watches {
     fn drop(self) {
         let Watches { items: _ } = self;
@@ -51,7 +51,7 @@ impl Model for Watches {
 }
 
 impl Watches {
-    /// No watch. It takes no memory.
+    /// Returns a list without watches. Allocates no memory.
     pub fn new(alloc: Global) -> Watches
         ensures { result ≡ [] }
     {
@@ -60,17 +60,17 @@ impl Watches {
         }
     }
 
-    /// Takes all watches away. It takes no memory.
+    /// Removes all watches. Allocates no memory.
     pub fn clear(&mut self)
         ensures { self.new ≡ [] }
     {
         self.items.clear();
     }
 
-    /// Watches a conversion, as the last, and answers the line `watch K`, K being its place from 1, and the reply to
-    /// it in the present table. It makes the queries of the reply. `TooMany` comes exactly where 1,000 conversions are
-    /// watched, and then nothing is asked; the only other error is want of memory. After each, the watches are as
-    /// before.
+    /// Adds a watch of a conversion at the end. Returns the line `watch K`, where K is its number, counted from 1, and
+    /// the reply in the present table. Makes the queries of the reply. Returns `TooMany` exactly if 1,000 conversions
+    /// are already watched, and then makes no query; the only other error is running out of memory. After an error the
+    /// watches are as before.
     pub fn add<L: Ledger>(
         &mut self,
         alloc: Global,
@@ -106,10 +106,10 @@ impl Watches {
         Ok(Text::from(text))
     }
 
-    /// Asks for the reply of each watch again, in order, and answers, for each whose bytes are others than those
-    /// kept, the line `watch K` and the reply: after an edit these are exactly the watches whose replies in the table
-    /// before and behind it differ. What is kept is then the reply in the present table. The only error is want of
-    /// memory; after it the first watches have the present reply, the others their last one.
+    /// Queries the reply of each watch again, in order. Returns the line `watch K` and the new reply for each watch
+    /// whose bytes differ from the stored ones: after an edit, these are exactly the watches whose replies in the
+    /// tables before and after it differ. Stores the replies in the present table. The only error is running out of
+    /// memory; then the watches up to some place have their present reply, and the others still have their last one.
     pub fn after_edit<L: Ledger>(
         &mut self,
         alloc: Global,

@@ -3,7 +3,7 @@ use Rattle.std.specs.List.{flat_map}
 use Rattle.fault_texts.specs.Texts.{arrow_text}
 use Rattle.fault_texts.proofs.names.put_others.Given as goal
 
--- the text with the keys that are left is the text with all
+-- the text so far with the keys that are left is the text with all keys
 abbrev pub invariant-loop-key : goal.invariant-loop-key
 invariant-loop-key l =
     l.text.items ++ flat_map arrow_text (drop l.key-index l.keys) ≡ l.initial.text.items ++ flat_map arrow_text l.keys

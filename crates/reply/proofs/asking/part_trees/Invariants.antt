@@ -7,7 +7,7 @@ use Rattle.reply.specs.Trees.{trees_in}
 use Rattle.reply.proofs.Fronts.{with_front}
 use Rattle.reply.proofs.asking.part_trees.Given as goal
 
--- what is left is shorter each time
+-- the rest of the text is shorter after each turn
 abbrev left : Option (List ℕ) → ℕ
 left None = 0
 left (Some text) = length text + 1

@@ -11,10 +11,15 @@ use Rattle.live_table.specs.Answers.{answer}
 use Rattle.live_table.specs.Calls.{AreQueries}
 use Rattle.live_table.specs.States.{AsksWords}
 use Rattle.live_table.proofs.NameQueries.{cut_at_once}
-use Rattle.reply.proofs.Composing.{asked}
-use Rattle.survey.specs.Places.{unit_there}
+use Rattle.deck.specs.PlacedKeys.{key_there}
+use Rattle.tree_eval.specs.Value.{value}
+use Rattle.table_names.specs.Faults.{name_fault}
+use Rattle.table_names.specs.Meanings.{expansion}
+use Rattle.survey.specs.Places.{given_by, unit_there}
+use Rattle.survey.specs.Rows.{key_row}
 use Rattle.survey.proofs.Places.{unit_queries_at}
 use Rattle.survey.proofs.UnitRows.{no-query, no-row, word-asked, word-told}
+use Rattle.survey.proofs.ValuedUnits.{answer_of, value_asked, value_memory, value_row}
 use Rattle.survey.proofs.conforming.put_row_at.Goals as goal
 
 pub returns-in_err-word-clause-queries : goal.returns-in_err-word-clause-queries
@@ -25,7 +30,7 @@ returns-in_err-word-clause-queries g c =
     (sym (err_from_is_err_and c.from_residual.result c.from_residual.ensures.1).1)
     (cut_at_once all c.args.table.now c.args.steps.now c.requires)
 
--- ---- no unit is there
+-- ---- there is no unit
 pub returns-in_default-clause-rows : goal.returns-in_default-clause-rows
 returns-in_default-clause-rows g c =
     no-row c.args.table.now.deck c.args.place
@@ -40,29 +45,41 @@ returns-in_default-clause-queries g c =
     (ap (option_map syntax) (sym c.in_default.is) ∙ c.in_ok-word.ensures))
     c.args.table.now c.args.steps.now c.requires
 
--- ---- a unit is there
+-- ---- there is a unit
 pub returns-clause-rows : goal.returns-clause-rows
 returns-clause-rows g c =
     let tree = syntax c.in-Some.word in
+    let t = table c.args.table.now.deck in
+    let said = answer t tree in
+    let found = answer_of said c.value_if_any-found.result in
     word-told c.args.from.now c.args.table.now.deck c.args.place tree
     (subst (λ (d : Contents). Some tree ≡ option_map (λ k. Word k.name) (unit_there d c.args.place)) c.deck.ensures.deck
     (ap (option_map syntax) (sym c.in-Some.is) ∙ c.in_ok-word.ensures))
-    c.args.table.now c.value-found.new.self c.args.steps.now c.value-found.new.steps c.value-found.result
-    (asked (AsksWords (words_in tree)) (answer (table c.args.table.now.deck) tree) c.args.table.now
-    c.value-found.new.self c.args.steps.now c.value-found.new.steps c.value-found.result c.value-found.ensures.answer
-    c.value-found.ensures.after)
-    c.deck-2.result.now (c.deck-2.ensures.deck ∙ c.value-found.ensures.deck)
+    c.args.table.now c.value_if_any-found.new.self c.args.steps.now c.value_if_any-found.new.steps found
+    (value_asked (AsksWords (words_in tree)) said c.value_if_any-found.result c.args.table.now
+    c.value_if_any-found.new.self c.args.steps.now c.value_if_any-found.new.steps c.value_if_any-found.ensures.deck
+    c.value_if_any-found.ensures.after)
+    c.deck-2.result.now (c.deck-2.ensures.deck ∙ c.value_if_any-found.ensures.deck)
     c.args.rows.now.items c.put_if_conforming.new.rows.items c.put_if_conforming.result
-    c.put_if_conforming.ensures.row c.put_if_conforming.ensures.memory
+    (value_row c.args.from.now said c.value_if_any-found.result c.put_if_conforming.result c.args.rows.now.items
+    c.put_if_conforming.new.rows.items
+    (given_by (key_row (table c.deck-2.result.now)) (key_there c.deck-2.result.now.lines c.args.place))
+    c.value_if_any-found.ensures.value c.put_if_conforming.ensures.row c.put_if_conforming.ensures.memory)
+    (value_memory (name_fault t (words_in tree)) (value (expansion t tree) None) c.value_if_any-found.result
+    c.put_if_conforming.result c.put_if_conforming.ensures.memory)
 
 pub returns-clause-queries : goal.returns-clause-queries
 returns-clause-queries g c =
     let tree = syntax c.in-Some.word in
-    word-asked c.args.table.now.deck c.args.place c.args.table.now c.value-found.new.self c.args.steps.now
-    c.value-found.new.steps c.value-found.result c.put_if_conforming.result c.put_if_conforming.ensures.memory tree
+    let t = table c.args.table.now.deck in
+    let said = answer t tree in
+    word-asked c.args.table.now.deck c.args.place c.args.table.now c.value_if_any-found.new.self c.args.steps.now
+    c.value_if_any-found.new.steps (answer_of said c.value_if_any-found.result) c.put_if_conforming.result
+    (value_memory (name_fault t (words_in tree)) (value (expansion t tree) None) c.value_if_any-found.result
+    c.put_if_conforming.result c.put_if_conforming.ensures.memory) tree
     (subst (λ (d : Contents). Some tree ≡ option_map (λ k. Word k.name) (unit_there d c.args.place)) c.deck.ensures.deck
     (ap (option_map syntax) (sym c.in-Some.is) ∙ c.in_ok-word.ensures))
-    (asked (AsksWords (words_in tree)) (answer (table c.args.table.now.deck) tree) c.args.table.now
-    c.value-found.new.self c.args.steps.now c.value-found.new.steps c.value-found.result c.value-found.ensures.answer
-    c.value-found.ensures.after)
-    c.value-found.ensures.deck
+    (value_asked (AsksWords (words_in tree)) said c.value_if_any-found.result c.args.table.now
+    c.value_if_any-found.new.self c.args.steps.now c.value_if_any-found.new.steps c.value_if_any-found.ensures.deck
+    c.value_if_any-found.ensures.after)
+    c.value_if_any-found.ensures.deck

@@ -6,7 +6,7 @@ use Rattle.survey.specs.Places.{given_by}
 use Rattle.survey.specs.Rows.{key_row}
 use Rattle.survey.proofs.searching.put_rows.Given as goal
 
--- the rows with those of the places that are left are those of all
+-- the rows and those of the places left are the rows of all places
 abbrev pub invariant-loop-place : goal.invariant-loop-place
 invariant-loop-place l =
     l.rows.items

@@ -6,7 +6,7 @@ use Rattle.csv.proofs.ReadFacts.{rows-end}
 use Rattle.column_convert.proofs.Reading.{left-more, left-end}
 use Rattle.column_convert.proofs.records.Records.read.Goals as goal
 
--- the bytes that the reader underneath has left
+-- the bytes that the underlying reader has left
 abbrev bytes_of : Cursor (Vec ℕ Global) → Option (List ℕ)
 bytes_of = cursor_remaining {T = Vec ℕ Global} (λ v. Some v.items)
 
