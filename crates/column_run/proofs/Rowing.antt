@@ -1,4 +1,4 @@
--- Rows that are given by the block.
+-- Rows given in blocks.
 use Rattle.std.proofs.Common.{◌≡◌, ◌<◌, ◌-◌, ◌++◌, ◌∷◌, ◌||◌, ◌∙◌, [], ℕ, zero, suc, Bool, true, false, List}
 use Rattle.std.proofs.Common.{refl, sym, ap, length, take, subst, append_assoc, arith}
 use Rattle.std.specs.declared.option.Option.{Option}
@@ -17,7 +17,7 @@ use Rattle.column_convert.specs.Records.{Fields}
 use Rattle.column_convert.specs.Rows.{ColumnRow, queries, rows}
 use Rattle.column_run.proofs.Writing.{front_all, front_behind, front_more, grown_none, grown_twice}
 
--- ---- bytes and refusals of rows one behind another
+-- ---- bytes and errors of rows, one after another
 text_both : (xs ys : List ColumnRow) → text_of (xs ++ ys) ≡ text_of xs ++ text_of ys
 text_both [] ys = refl
 text_both (x ∷ xs) ys =
@@ -32,7 +32,7 @@ refused_both [] ys = refl
 refused_both (x ∷ xs) ys =
     ap (λ b. x.refused || b) (refused_both xs ys) ∙ or_assoc x.refused (is_refused xs) (is_refused ys)
 
--- ---- how many are left
+-- ---- the number of rows left
 rows_count : (t : Table) (options : Options) (from to : List ℕ) (i : Input)
     → length (rows t options from to i) ≡ length i.left
 rows_count t options from to i = go i.left i.place i.headed
@@ -55,7 +55,7 @@ behind_count n i = go n i.left i.place i.headed
     go (suc n) [] place headed = omega (arith, go n [] place headed)
     go (suc n) (fields ∷ left) place headed = omega (arith, go n left place false)
 
--- where a block has rows, fewer are left
+-- after a block with rows, fewer are left
 pub fewer : (t : Table) (options : Options) (from to : List ℕ) (n : ℕ) (i : Input) (count : ℕ)
     → count ≡ length (rows t options from to (first (suc n) i)) → (count ≡ 0 → ⊥)
     → length (behind_first (suc n) i).left < length i.left
@@ -76,7 +76,7 @@ module _ (options : Options) (from to : List ℕ) (whole : Input) (start : Optio
   abbrev queries_at : Input → List Event
   queries_at i = queries (table before.deck) options from to i
 
-  -- the rows before those that are left are written, and their queries were made
+  -- the rows before those left are written, and their queries were made
   pub record IsUnderway (left : Input) (refused : Bool) (out : Option (List ℕ)) (now : Shown) (new : ℕ)
       : Type 0 where
     pub done : List ColumnRow
@@ -105,7 +105,7 @@ module _ (options : Options) (from to : List ℕ) (whole : Input) (start : Optio
     text_now : text_of (rows_at whole) ≡ text_of u.done ++ text_of (rows_at left)
     text_now = ap text_of u.gives ∙ text_both u.done (rows_at left)
 
-    -- what is written is a front of all
+    -- the bytes written are a front of all
     pub front_now : GrowsByFront start out (text_of (rows_at whole))
     front_now =
         front_more start out (text_of u.done) (text_of (rows_at left)) (text_of (rows_at whole)) text_now
@@ -131,14 +131,14 @@ module _ (options : Options) (from to : List ℕ) (whole : Input) (start : Optio
           ∙ ap (λ (b : Block). text_of u.done ++ (b.text ++ text_of (rows_at (behind_first n left)))) (sym block_is)
           ∙ sym (append_assoc (text_of u.done) block.text (text_of (rows_at (behind_first n left))))
 
-      -- and so it is where a front of the next block is written too
+      -- if a front of the next block is written, too, the bytes written are still a front of all
       pub front_next : (after : Option (List ℕ)) → GrowsByFront out after block.text
           → GrowsByFront start after (text_of (rows_at whole))
       front_next after f =
           front_more start after (text_of u.done ++ block.text) (text_of (rows_at (behind_first n left)))
           (text_of (rows_at whole)) text_next (front_behind start out after (text_of u.done) block.text u.out_is f)
 
-      -- one block more
+      -- one more block is written
       pub underway_next : (r : Bool) (after : Option (List ℕ)) → r ≡ (refused || block.refused)
           → after ≡ grown out block.text → IsUnderway (behind_first n left) r after later last
       underway_next r after either all = record {

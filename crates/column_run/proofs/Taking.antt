@@ -1,11 +1,11 @@
--- Bytes that are taken, and counted.
+-- Bytes that are read and counted.
 use Rattle.std.proofs.Common.{◌≡◌, ◌+◌, ◌++◌, ◌-◌, ◌^◌, ◌≤◌, ◌∙◌, ℕ, List, [], min, length, take, length-append}
 use Rattle.std.proofs.Common.{length-take, ap, subst, sym, arith}
 use Rattle.std.proofs.lemmas.List.{append-nil}
 use Rattle.session.specs.Waiting.{TookAtLeast}
 use Rattle.session.proofs.Blocks.{took_more}
 
--- of an input of which nothing is left all was taken
+-- if nothing is left of an input, all of it was read
 pub ended_input : (input taken rest : List ℕ) → input ≡ taken ++ rest → rest ≡ [] → taken ≡ input
 ended_input input taken rest p q = sym (p ∙ ap (λ t. taken ++ t) q ∙ append-nil taken)
 
@@ -13,7 +13,7 @@ module _ (items buf new : List ℕ) (n : ℕ) (is : new ≡ items ++ take n buf)
   longer : length new ≡ length items + n
   longer = omega (arith, ap length is, length-append items (take n buf), length-take n buf)
 
-  -- as many bytes are there as were taken
+  -- at least as many bytes were counted as were read
   pub took_bytes : (before old now : ℕ) → TookAtLeast (length items) before old → now ≡ min (old + n) (2 ^ 64 - 1)
       → TookAtLeast (length new) before now
   took_bytes before old now at count =

@@ -1,4 +1,4 @@
--- Bytes that are written block by block.
+-- Bytes written block by block.
 use Rattle.std.proofs.Common.{◌≡◌, ◌+◌, ◌++◌, ◌∷◌, ◌∙◌, [], ℕ, suc, List, length, take, Some, None}
 use Rattle.std.proofs.Common.{refl, sym, ap, subst, arith, append_assoc, length-append}
 use Rattle.std.specs.declared.option.Option.{Option}
@@ -13,11 +13,11 @@ pub grown_none : (o : Option (List ℕ)) → o ≡ grown o []
 grown_none None = refl
 grown_none (Some held) = ap Some (sym (append-nil held))
 
--- all of some bytes is a front of them
+-- all bytes are a front of themselves
 pub front_all : (o out : Option (List ℕ)) (xs : List ℕ) → out ≡ grown o xs → GrowsByFront o out xs
 front_all o out xs e = (length xs, omega arith, e ∙ ap (grown o) (sym (take_all (length xs) xs (omega arith))))
 
--- a front of some bytes is a front of them with more
+-- a front of some bytes is a front of these bytes and more
 pub front_more : (o out : Option (List ℕ)) (xs more ys : List ℕ) → ys ≡ xs ++ more → GrowsByFront o out xs
     → GrowsByFront o out ys
 front_more o out xs more ys is f = subst (GrowsByFront o out) (sym is) (
@@ -32,7 +32,7 @@ take-append-add (x ∷ xs) ys n =
     let z : suc (length xs) + n ≡ suc (length xs + n) = omega arith in
     ap (λ k. take k (x ∷ (xs ++ ys))) z ∙ ap (λ t. x ∷ t) (take-append-add xs ys n)
 
--- a front of what comes behind some bytes
+-- a front of the bytes that come after others is a front of both
 pub front_behind : (o mid out : Option (List ℕ)) (xs ys : List ℕ) → mid ≡ grown o xs → GrowsByFront mid out ys
     → GrowsByFront o out (xs ++ ys)
 front_behind o mid out xs ys e f = (

@@ -1,21 +1,21 @@
-//! How a run over column input ends.
+//! How a run over column input ended.
 
 use std::alloc::{AllocError, AllocFailed};
 
-/// How a run over column input ends.
+/// How a run over column input ended.
 #[derive(Clone, Copy, Debug, PartialEq, Eq)]
 pub enum ColumnEnd {
-    /// All rows are written.
+    /// All rows were written.
     Done,
-    /// All rows are written, and a cell is an error.
+    /// All rows were written, and a cell is an error.
     Refused,
-    /// The source failed, and has counted it. Nothing is written.
+    /// The source failed, and has counted that. Nothing was written.
     ReadFault,
-    /// The sink failed, and has counted it.
+    /// The sink failed, and has counted that.
     WriteFault,
-    /// There is no memory.
+    /// Memory ran out.
     NoMemory,
-    /// More than 16,777,216 bytes of input were taken. Nothing is written.
+    /// More than 16,777,216 bytes of input were read. Nothing was written.
     InputTooLong,
 }
 

@@ -1,4 +1,4 @@
-//! Column input, which is read whole before a row is written.
+//! Column input, which is read in full before any row is written.
 
 ghost use Rattle.std.specs.Prelude.{◌≡◌, ◌≤◌, ◌<◌, [], List, ℕ, Some, IfErr, IfOk, IsErrOf, OnOk, length};
 ghost use Rattle.units_io.specs.Faults.{Rose};
@@ -12,10 +12,10 @@ use units_io::{Source, Text};
 
 const BLOCK: usize = 65_536;
 
-/// The most bytes of column input.
+/// The limit of column input, in bytes.
 pub(crate) const MOST_INPUT: usize = 16_777_216;
 
-/// All bytes of a source, to its end.
+/// Returns all bytes of a source, up to its end.
 pub(crate) fn read_input<S: Source>(alloc: Global, src: &mut S) -> Result<Text, ColumnEnd>
     ensures told { (input : List ℕ) → S.left src.old ≡ Some input →
         IfOk result (λ text. (text ≡ input) × (S.left src.new ≡ Some [])) }
@@ -30,7 +30,7 @@ pub(crate) fn read_input<S: Source>(alloc: Global, src: &mut S) -> Result<Text, 
     read_by(alloc, src, block.as_mut_slice())
 }
 
-// All bytes of a source, to its end, by a block at a time.
+// Returns all bytes of a source, read block by block.
 fn read_by<S: Source>(alloc: Global, src: &mut S, block: &mut [u8]) -> Result<Text, ColumnEnd>
     requires some { 0 < length block.old }
     requires small { length block.old ≤ 65536 }
@@ -48,7 +48,7 @@ fn read_by<S: Source>(alloc: Global, src: &mut S, block: &mut [u8]) -> Result<Te
     }
 }
 
-// Takes them behind no bytes.
+// Appends all bytes of a source to an empty `text`.
 fn take_all<S: Source>(src: &mut S, block: &mut [u8], text: &mut Vec<u8>) -> Result<(), ColumnEnd>
     requires some { 0 < length block.old }
     requires small { length block.old ≤ 65536 }

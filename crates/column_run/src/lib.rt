@@ -1,4 +1,4 @@
-//! The run of the program over column input: it is read whole, and its rows are written block by block.
+//! Runs over column input: the input is read in full, and its rows are written block by block.
 #![tactic(auto)]
 
 mod end;

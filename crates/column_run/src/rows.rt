@@ -1,4 +1,4 @@
-//! Rows, which are written block by block.
+//! Writing rows block by block.
 
 ghost use Rattle.std.specs.Prelude.{◌≡◌, ◌||◌, ◌≤◌, IfErr, IfOk, IsErrOf, OnOk};
 ghost use Rattle.deck.specs.Tables as tables;
@@ -19,10 +19,10 @@ use std::alloc::Global;
 use std::sync::ledger::Ledger;
 use units_io::{Sink, Steps, put_all};
 
-// The most rows that are written at once.
+// The largest number of rows that are written at once.
 const MOST_ROWS: usize = 1_024;
 
-/// Writes the rows that are not given yet, and tells whether one is refused.
+/// Writes the rows that are left and returns whether a cell of them is an error.
 pub(crate) fn write_rows<O: Sink, L: Ledger>(
     alloc: Global,
     table: &mut LiveTable,
@@ -48,7 +48,7 @@ pub(crate) fn write_rows<O: Sink, L: Ledger>(
     ensures later { O.faults out.old ≤ O.faults out.new }
 {
     blocks_law();
-    // What is kept is right also where there is no row.
+    // The cached outcomes are right, even if there is no row.
     table.kept_right();
     let mut refused = false;
     loop {
@@ -64,7 +64,7 @@ pub(crate) fn write_rows<O: Sink, L: Ledger>(
     }
 }
 
-// Whether one of two is so.
+// Returns whether either is true.
 fn either(a: bool, b: bool) -> bool
     ensures { result ≡ (a || b) }
 {

@@ -20,9 +20,9 @@ use std::alloc::Global;
 use std::sync::ledger::Ledger;
 use units_io::{Sink, Source, Steps};
 
-/// Reads a source to its end, and writes its records with one column converted from FROM to TO, that of this number
-/// from 1. The first record stays as it is where it is a header. A row whose cell is an error makes the ending
-/// `Refused`.
+/// Reads a source to its end and writes its records with one column converted from FROM to TO. `column` is the number
+/// of the column, counted from 1. If there is a header, the first record stays as it is. The run ends with `Refused` if
+/// a cell is an error.
 pub fn run_columns<S: Source, O: Sink, L: Ledger>(
     alloc: Global,
     table: &mut LiveTable,

@@ -1,4 +1,4 @@
--- Of a parse that succeeds, what the parser of an argument says of its first value.
+-- After a successful parse: the properties that the parser of an argument gives to its first value.
 use Rattle.std.proofs.Common.{◌≡◌, ◌∙◌, ◌⊎◌, inl, inr, refl, sym, ap, subst, ℕ, ◌<◌, Bool, true, false, cond, suc, zero}
 use Rattle.std.proofs.Common.{arith, List, []}
 use Rattle.std.proofs.Common.{◌∷◌, length, map, slice_index_or, Option, Some, None, option_map, Bor}
@@ -25,30 +25,30 @@ use Rattle.clap.proofs.WalkLemmas.{first_value-rows}
 
 -- ---- the entry of an argument
 
--- the first value that was matched
+-- the first value of a match
 text_of : MatchedArg → Option Text
 text_of x = option_map (λ s. s.now) (slice_get x.vals.items 0)
 
--- what holds of each value holds of the first
+-- a property of all values is a property of the first
 first_all : (P : Bor Text → Type 0) (values : List (Bor Text)) (text : Text) → All P values
     → option_map (λ s. s.now) (slice_get values 0) ≡ Some text
     → (value : Bor Text) × (value.now ≡ text) × P value
 first_all P [] text all is = cc
 first_all P (value ∷ values) text all is = (value, cc, all 0 value (omega arith))
 
--- where there is a first value, there is a match
+-- if there is a first value, there is a match
 matched_some : (o : Option MatchedArg) (text : Text) → option_and_then text_of o ≡ Some text
     → (x : MatchedArg) × (o ≡ Some x) × (text_of x ≡ Some text)
 matched_some None text e = cc
 matched_some (Some x) text e = (x, refl, e)
 
--- a first value that is there is the text of an argument that matched
+-- a first value is the text of an argument that matched
 first_value-some : (f : Found) (id text : Text) → first_value f id ≡ Some text
     → (x : MatchedArg) × (matched_of f id ≡ Some x) × (text_of x ≡ Some text)
 unfolding text_of
 first_value-some f id text is = matched_some (matched_of f id) text is
 
--- what holds of each value of an entry, with its id, holds of the first
+-- a property of each value of an entry and its id is a property of the first value
 first_at_entry : (P : Text → Text → Type 0) (id text : Text) (x : MatchedArg) (e : Entry)
     → e.1 ≡ x → e.0.now ≡ id → text_of x ≡ Some text
     → All (λ v. P e.0.now v.now) e.1.vals.items → P id text
@@ -58,7 +58,7 @@ first_at_entry P id text x e same key first all =
     (ap (λ (y : MatchedArg). option_map (λ s. s.now) (slice_get y.vals.items 0)) same ∙ first) in
     subst (λ (w : Text). P w text) key (subst (P e.0.now) got.1 got.2)
 
--- in a command with no group, the values of a named entry pass its argument
+-- in a command without groups, the values of a named entry are accepted by its argument
 values_pass : (c : Command) (e : Entry) → groups_of c ≡ [] → (e.0.now ≡ [] → ⊥) → EntryPasses c e
     → All (λ v. PassesArg c e.0.now v.now) e.1.vals.items
 values_pass c e no_groups named pass = elim pass.0 [
@@ -71,7 +71,7 @@ values_pass c e no_groups named pass = elim pass.0 [
   | inr values ↦ values
 ]
 
--- in a command with no group, the first value of a named argument passes it
+-- in a command without groups, the first value of a named argument is accepted by the argument
 first_passes : (c : Command) (f : Found) (id text : Text) → ValuesPass c f → groups_of c ≡ []
     → (id ≡ [] → ⊥) → first_value f id ≡ Some text → PassesArg c id text
 first_passes c f id text values no_groups named is =
@@ -83,17 +83,17 @@ first_passes c f id text values no_groups named is =
 
 -- ---- the rule of an argument
 
--- the rule has this id, and its parser takes the text
+-- the rule has this id, and its parser accepts the text
 abbrev AtRule : Text → Text → Rule → Type 0
 AtRule id text r =
     (bytes_eq r.id id ≡ true) × Accepts r.ignore_case (parser_of_value r.parser) text
 
--- so it is with some rule of the list
+-- some rule of the list has this id, and its parser accepts the text
 abbrev AtSomeRule : Text → Text → List Rule → Type 0
 AtSomeRule id text [] = ⊥
 AtSomeRule id text (r ∷ rules) = AtRule id text r ⊎ AtSomeRule id text rules
 
--- what holds at an argument holds at some rule
+-- if the rule of an argument accepts the text, some rule of the list does
 at_some_rule : (id text : Text) (args : List Arg) (k : ℕ) (a : Arg) → k < length args
     → slice_index_or args k a ≡ a → AtRule id text (rule_of a) → AtSomeRule id text (map rule_of args)
 at_some_rule id text [] k a lt is at = absurd (omega arith)
@@ -109,7 +109,7 @@ HasParser id parser (r ∷ rules) =
     (cond (bytes_eq r.id id) ((r.ignore_case ≡ false) × (parser_of_value r.parser ≡ parser)) (Unit {0}))
     × HasParser id parser rules
 
--- a text that the rule's parser takes, where that is the one parser
+-- the parser of a rule is the only one of its id, and accepts the text that the rule accepts
 accepted_here : (text : Text) (p q : ValueParser) (is_id ignore : Bool)
     → cond is_id ((ignore ≡ false) × (q ≡ p)) (Unit {0}) → is_id ≡ true
     → Accepts ignore q text → Accepts false p text
@@ -118,7 +118,7 @@ accepted_here text p q true ignore same is accepted =
     (subst (λ (i : Bool). Accepts i q text) same.0 accepted)
 accepted_here text p q false ignore same is accepted = cc
 
--- the one parser of an id takes what some rule of that id takes
+-- the only parser of an id accepts the texts that some rule of that id accepts
 accepted : (id text : Text) (p : ValueParser) (rules : List Rule) → HasParser id p rules
     → AtSomeRule id text rules → Accepts false p text
 accepted id text p [] all some = absurd some
@@ -128,19 +128,19 @@ accepted id text p (r ∷ rules) all some = elim some [
   | inr later ↦ accepted id text p rules all.1 later
 ]
 
--- ---- both together
+-- ---- entries and rules combined
 
--- where both hold, the first does
+-- if a conjunction holds, so does its first part
 first_true : (a b : Bool) → (a && b) ≡ true → a ≡ true
 first_true true b e = refl
 first_true false b e = cc
 
--- and the second
+-- if a conjunction holds, so does its second part
 second_true : (a b : Bool) → (a && b) ≡ true → b ≡ true
 second_true true b e = e
 second_true false b e = cc
 
--- after a parse by a plain command, the first value of an argument is one that its parser takes
+-- after a parse by a plain command, the parser of an argument accepts its first value
 pub first_accepted : (c : Command) (f : Found) (has_subcommand : Bool) (a : App) (id text : Text)
     (p : ValueParser) → app_of c ≡ a → a.top.is_plain ≡ true → HasParser id p a.top.rules
     → (id ≡ [] → ⊥) → ((out-Command c).has_globals ≡ false → IsParsed c f has_subcommand)

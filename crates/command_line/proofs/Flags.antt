@@ -1,9 +1,9 @@
--- Of flags that are added one after another.
+-- Flags that are added one after another.
 use Rattle.std.proofs.Common.{◌≡◌, ◌<◌, ◌+◌, ◌∷◌, ℕ, List, length, drop, drop-cons, get_or, map, add-one, subst, sym}
 use Rattle.clap.specs.Words.{App, Rule, with_rule}
 use Rattle.command_line.specs.Rules.{with_rules}
 
--- once one is added, those behind it make of the command what they made with it
+-- after one flag is added, the remaining ones give the same command as they did with it
 pub flag_added : {A : Type 0} (rule : A → Rule) (app next all : App) (flags : List A) (i : ℕ) (d : A)
     → i < length flags → next ≡ with_rule app (rule (get_or flags i d))
     → with_rules app (map rule (drop i flags)) ≡ all → with_rules next (map rule (drop (i + 1) flags)) ≡ all

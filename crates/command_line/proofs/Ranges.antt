@@ -1,4 +1,4 @@
--- Of a parse that succeeds, the numbers at `--digits`, `--trial` and `--column`.
+-- After a successful parse: the numbers for `--digits`, `--trial` and `--column`.
 use Rattle.std.proofs.Common.{◌≡◌, ◌∙◌, ◌⊎◌, inl, inr, refl, ap, ℕ, Bool, true, false, arith, [], Option, Some, None}
 use Rattle.std.proofs.Common.{IfSome, codes}
 use Rattle.std.proofs.Common.{rules}
@@ -17,7 +17,7 @@ use Rattle.command_line.specs.Definition.{units_app}
 use Rattle.command_line.specs.Numbers.{IsUpTo}
 use Rattle.command_line.proofs.FirstValue.{HasParser, first_accepted}
 
--- a number from 1 on is written with no minus
+-- a number that is at least 1 is written without a minus
 IsUpTo-from_signed : (high : ℕ) (text : Text) → IsSignedIn (pos 1) (pos high) text → IsUpTo high text
 IsUpTo-from_signed high text passed = go (starts_with_minus text) refl
   where
@@ -31,7 +31,7 @@ IsUpTo-from_signed high text passed = go (starts_with_minus text) refl
         let top = rw is at passed.3 in
         (numeral, omega (arith, ints), omega (arith, ints))
 
--- the number at an option of the program's command, which was unbuilt before the parse
+-- the number for an option of the program's command, which was not built before the parse
 pub number_in_range : (old new : Command) (f : Found) (has_subcommand : Bool) (id : Text) (high : ℕ)
     → (id ≡ [] → ⊥) → app_of old ≡ units_app
     → HasParser id (vp.Signed (pos 1) (pos high)) units_app.top.rules
@@ -58,11 +58,11 @@ number_in_range old new f has_subcommand id high named is before after built_or 
     go None e = tt
     go (Some text) e = at text e
 
--- the program's rules have these parsers, unbuilt and built
+-- the rule of `--digits` accepts numbers from 1 to 36
 pub digits_parser : HasParser (codes "digits") (vp.Signed (pos 1) (pos 36)) units_app.top.rules
 digits_parser = search rules
 
--- the rule of `--trial` takes numbers from 1 to 20,000
+-- the rule of `--trial` accepts numbers from 1 to 20,000
 pub trial_parser : HasParser (codes "trial") (vp.Signed (pos 1) (pos 20000)) units_app.top.rules
 trial_parser = search rules
 
@@ -72,7 +72,7 @@ column_parser = search rules
 pub built_digits_parser : HasParser (codes "digits") (vp.Signed (pos 1) (pos 36)) (built units_app).top.rules
 built_digits_parser = search rules
 
--- so is the rule of `--trial`
+-- in the built command, the rule of `--trial` accepts numbers from 1 to 20,000
 pub built_trial_parser : HasParser (codes "trial") (vp.Signed (pos 1) (pos 20000)) (built units_app).top.rules
 built_trial_parser = search rules
 

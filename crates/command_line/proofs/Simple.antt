@@ -1,15 +1,15 @@
--- The command of this program is one of those of which clap's definitions give the matches.
+-- The command of this program is one of those whose matches clap's definitions determine.
 use Rattle.std.proofs.Common.{◌≡◌, true, refl}
 use Rattle.clap.specs.Words.{is_simple, is_simple_and_free}
 use Rattle.clap.proofs.OnLiterals.{clap_on_literals}
 use Rattle.command_line.specs.Definition.{units_app}
 
--- the command is one of those that clap's short definition speaks of
+-- the command is one of those that clap's short definition covers
 pub units_app-is_simple : is_simple units_app ≡ true
 unfolding clap_on_literals
 units_app-is_simple = refl
 
--- and takes words in any order
+-- the command accepts words in any order
 pub units_app-is_free : is_simple_and_free units_app ≡ true
 unfolding clap_on_literals
 units_app-is_free = refl

@@ -1,4 +1,4 @@
--- Which words are taken, by the parts of the test.
+-- The words that are accepted, by the parts of the test.
 use Rattle.std.proofs.Common.{◌≡◌, ◌≢◌, ◌∙◌, ◌&&◌, List, [], ◌∷◌, true, false, refl, ap}
 use Rattle.std.specs.List.{list_all}
 use Rattle.std.specs.Str.{is_utf8}
@@ -10,12 +10,12 @@ use Rattle.command_line.specs.Definition.{units_app}
 use Rattle.command_line.specs.Fields.{command_line_of}
 use Rattle.command_line.specs.Taken.{are_parsed, are_taken, arguments_fit, is_faultless}
 
--- where there are faults, the words are not faultless
+-- if there are faults, the words are not faultless
 is_faultless-some : (kinds : Kinds) → kinds ≢ [] → is_faultless kinds ≡ false
 is_faultless-some [] some = absurd (some refl)
 is_faultless-some (kind ∷ rest) some = refl
 
--- words that are no texts are not parsed
+-- words that are not texts are not parsed
 pub are_parsed-no_texts : (words : List Text) → list_all is_utf8 words ≡ false → are_parsed words ≡ false
 unfolding are_parsed
 are_parsed-no_texts words none = ap (λ b. b && is_faultless (fault_of units_app words)) none
@@ -34,17 +34,17 @@ unfolding are_parsed
 are_parsed-faultless words texts none =
     and_from (list_all is_utf8 words) (is_faultless (fault_of units_app words)) texts (ap is_faultless none)
 
--- words that are not parsed are not taken
+-- words that are not parsed are not accepted
 pub are_taken-not_parsed : (words : List Text) → are_parsed words ≡ false → are_taken words ≡ false
 unfolding are_taken
 are_taken-not_parsed words not = ap (λ b. b && arguments_fit (command_line_of words)) not
 
--- words with arguments that do not fit each other are not taken
+-- words with incompatible arguments are not accepted
 pub are_taken-unfit : (words : List Text) → arguments_fit (command_line_of words) ≡ false → are_taken words ≡ false
 unfolding are_taken
 are_taken-unfit words unfit = ap (λ b. are_parsed words && b) unfit ∙ and-false (are_parsed words)
 
--- parsed words with arguments that fit each other are taken
+-- parsed words with compatible arguments are accepted
 pub are_taken-fit : (words : List Text) → are_parsed words ≡ true → arguments_fit (command_line_of words) ≡ true
     → are_taken words ≡ true
 unfolding are_taken

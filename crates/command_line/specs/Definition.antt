@@ -1,10 +1,10 @@
--- The program's command, as clap's own definitions see it.
+-- The program's command in terms of clap's own definitions.
 use Rattle.std.specs.Prelude.{◌∷◌, ◌++◌, List, [], None, codes}
 use Rattle.clap.specs.Words.{App, Rule}
 use Rattle.command_line.specs.Rules.{any_text, bare_app, flag_rule, letter, number_up_to}
 use Rattle.command_line.specs.Rules.{operand_rule, option_rule, with_rules}
 
--- the options that shape a reply
+-- the options that determine the form of a reply
 abbrev pub reply_rules : List Rule
 reply_rules = option_rule (codes "digits") (letter (codes "d")) (number_up_to 36)
     ∷ flag_rule (codes "exact") None
@@ -13,7 +13,7 @@ reply_rules = option_rule (codes "digits") (letter (codes "d")) (number_up_to 36
     ∷ flag_rule (codes "terse") (letter (codes "t"))
     ∷ []
 
--- the flags that say how the program goes about its work
+-- the flags that determine how the program works
 abbrev pub mode_rules : List Rule
 mode_rules = flag_rule (codes "quiet") (letter (codes "q"))
     ∷ flag_rule (codes "strict") (letter (codes "s"))
@@ -28,7 +28,7 @@ column_rules = option_rule (codes "column") None (number_up_to 65535)
     ∷ flag_rule (codes "header") None
     ∷ []
 
--- what the program works on
+-- the inputs of the program
 abbrev pub source_rules : List Rule
 source_rules = option_rule (codes "file") (letter (codes "f")) any_text
     ∷ option_rule (codes "locale") (letter (codes "l")) any_text

@@ -1,11 +1,11 @@
--- Some command lines, and what becomes of them.
+-- Some command lines and their results.
 use Rattle.std.specs.Prelude.{◌≡◌, ◌∷◌, List, [], Some, None, codes, true, false}
 use Rattle.clap.specs.Words.{Text}
 use Rattle.command_line.specs.Fields.{command_line_of}
 use Rattle.command_line.specs.Taken.{are_taken}
 use Rattle.command_line.specs.declared.fields.CommandLine.{CommandLine}
 
--- the command line of no words
+-- the command line without words
 abbrev pub no_line : CommandLine
 no_line = record {
   digits = None;
@@ -27,11 +27,11 @@ no_line = record {
   to = None;
 }
 
--- the words are this command line
+-- the words form this command line
 abbrev pub AreLine : List Text → CommandLine → Type 0
 AreLine words line = (are_taken words ≡ true) × (command_line_of words ≡ line)
 
--- command lines, each with its fields
+-- words that form a command line, with its fields
 pub record TakesExamples : Type 0 where
   pub no_words : AreLine [] no_line
   pub exact_file : AreLine
@@ -104,7 +104,7 @@ pub record TakesExamples : Type 0 where
   pub column_most : AreLine (codes "m" ∷ codes "--column=65535" ∷ codes "ft # x" ∷ [])
       (record no_line { column = Some 65535; from = Some (codes "m"); to = Some (codes "ft # x") })
 
--- words that are no command line
+-- words that do not form a command line
 pub record RefusesExamples : Type 0 where
   pub digits_zero : are_taken (codes "-d" ∷ codes "0" ∷ codes "m" ∷ codes "ft" ∷ []) ≡ false
   pub digits_beyond : are_taken (codes "-d" ∷ codes "37" ∷ []) ≡ false

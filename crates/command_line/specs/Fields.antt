@@ -1,4 +1,4 @@
--- What the words of a command line ask for.
+-- The request in the words of a command line.
 use Rattle.std.specs.Prelude.{ℕ, Bool, IfSome, List, Option, codes, false, option_map}
 use Rattle.std.specs.Option.{option_map_or}
 use Rattle.std.specs.Str.{bytes_eq}
@@ -7,20 +7,20 @@ use Rattle.command_line.specs.Definition.{units_app}
 use Rattle.command_line.specs.Numbers.{IsUpTo, number_of}
 use Rattle.command_line.specs.declared.fields.CommandLine.{CommandLine}
 
--- the flag stands among the words
+-- the flag is among the words
 abbrev pub has_flag : Text → List Row → Bool
 has_flag name rows =
     option_map_or (λ text. bytes_eq text (codes "true")) (first_of name rows) false
 
--- the number at an option, if it stands among the words
+-- the number given for an option, if the option is among the words
 abbrev pub number_at : Text → List Row → Option ℕ
 number_at name rows = option_map number_of (first_of name rows)
 
--- the option, where it stands, writes a whole number from 1 to high
+-- the value of the option, if it is given, is a whole number from 1 to high
 abbrev pub HasNumberUpTo : Text → ℕ → List Row → Type 0
 HasNumberUpTo name high rows = IfSome (first_of name rows) (IsUpTo high)
 
--- the fields, each from the row of its argument
+-- the fields, each taken from the row of its argument
 abbrev pub fields_of : List Row → CommandLine
 fields_of rows = record {
   digits = number_at (codes "digits") rows;
@@ -42,6 +42,6 @@ fields_of rows = record {
   to = first_of (codes "to") rows;
 }
 
--- what the words ask for, by clap's definition of their matches
+-- the request in the words, by clap's definition of their matches
 unfoldable pub command_line_of : List Text → CommandLine
 command_line_of words = fields_of (matches_of units_app words)

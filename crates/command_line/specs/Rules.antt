@@ -1,4 +1,4 @@
--- The kinds of argument that the program's command has.
+-- The kinds of arguments of the program's command.
 use Rattle.std.specs.Prelude.{◌∷◌, ℕ, List, [], Option, Some, None, codes, true, pos}
 use Rattle.clap.specs.Words.{App, Rule, Text, new_rule, with_rule}
 use Rattle.clap.specs.Simple.{new_shape}
@@ -6,12 +6,12 @@ use Rattle.clap.specs.declared.builder.action.ArgAction.TheVariants.{Set, SetTru
 use Rattle.clap.specs.declared.builder.value_parser.ValueParser.{ValueParser}
 use Rattle.clap.specs.declared.builder.value_parser.ValueParser.TheVariants as vp
 
--- a flag, by its name and its letter
+-- a flag, given its name and its letter
 abbrev pub flag_rule : Text → Option ℕ → Rule
 flag_rule name short =
     record (new_rule name) { long = Some name; short = short; action = Some SetTrue }
 
--- an option with one value, by its name and its letter
+-- an option with one value, given its name and its letter
 abbrev pub option_rule : Text → Option ℕ → Option ValueParser → Rule
 option_rule name short parser = record (new_rule name) {
   long = Some name;
@@ -20,7 +20,7 @@ option_rule name short parser = record (new_rule name) {
   parser = parser;
 }
 
--- a word that stands for itself
+-- an operand, which is a word without an option
 abbrev pub operand_rule : Text → Rule
 operand_rule name = record (new_rule name) { action = Some Set }
 
@@ -37,7 +37,7 @@ any_text = None
 abbrev pub number_up_to : ℕ → Option ValueParser
 number_up_to high = Some (vp.Signed (pos 1) (pos high))
 
--- the command without arguments, which takes no word for help or the version
+-- the command without arguments, which accepts no words for help or for the version
 abbrev pub bare_app : App
 bare_app = record {
   top = record (new_shape (codes "units")) {

@@ -1,4 +1,4 @@
-//! The program's command, as clap is told of it.
+//! The definition of the program's command for clap.
 ghost use Rattle.std.specs.Prelude.{◌≡◌, ◌∷◌, [], IfOk, Some, None, codes, map};
 ghost use Rattle.clap.specs.Words.{app_of, with_rule};
 ghost use Rattle.command_line.specs.Rules.{flag_rule, option_rule, operand_rule, with_rules};
@@ -9,7 +9,7 @@ use clap::builder::ValueParser;
 use clap::{Arg, ArgAction, Command, value_parser};
 use std::alloc::{AllocError, Global};
 
-/// The command of this program, with every argument.
+/// Returns the command of this program with all its arguments.
 pub(crate) fn units_command<'a>(alloc: Global) -> Result<Command<'a>, AllocError>
     ensures { IfOk result (λ command. app_of command ≡ units_app) }
 {
@@ -20,7 +20,7 @@ pub(crate) fn units_command<'a>(alloc: Global) -> Result<Command<'a>, AllocError
     with_sources(alloc, with_columns)
 }
 
-/// The command without arguments. Words for help or the version are not taken.
+/// Returns the command without arguments. It accepts no words for help or for the version.
 fn bare_command<'a>(alloc: Global) -> Command<'a>
     ensures { app_of result ≡ bare_app }
 {
@@ -30,7 +30,7 @@ fn bare_command<'a>(alloc: Global) -> Command<'a>
         .disable_version_flag(true)
 }
 
-/// Adds the options that shape a reply.
+/// Adds the options that determine the form of a reply.
 fn with_reply_options<'a>(alloc: Global, command: Command<'a>) -> Result<Command<'a>, AllocError>
     ensures { IfOk result (λ r. app_of r ≡ with_rules (app_of command.entry) reply_rules) }
 {
@@ -44,7 +44,7 @@ fn with_reply_options<'a>(alloc: Global, command: Command<'a>) -> Result<Command
     with_flags(alloc, command, &flags)
 }
 
-/// Adds the flags that say how the program goes about its work.
+/// Adds the flags that determine how the program works.
 fn with_mode_options<'a>(alloc: Global, command: Command<'a>) -> Result<Command<'a>, AllocError>
     ensures { IfOk result (λ r. app_of r ≡ with_rules (app_of command.entry) mode_rules) }
 {
@@ -66,7 +66,7 @@ fn with_column_options<'a>(alloc: Global, command: Command<'a>) -> Result<Comman
     with_flag(alloc, command, "header", None)
 }
 
-/// Adds what the program works on: definition file, locale, trial and the two operands.
+/// Adds the inputs of the program: definition file, locale, trial and the two operands.
 fn with_sources<'a>(alloc: Global, command: Command<'a>) -> Result<Command<'a>, AllocError>
     ensures { IfOk result (λ r. app_of r ≡ with_rules (app_of command.entry) source_rules) }
 {
@@ -93,7 +93,7 @@ fn with_operands<'a>(alloc: Global, command: Command<'a>) -> Result<Command<'a>,
     with_operand(alloc, command, "to")
 }
 
-/// Adds flags, each by its name and its letter.
+/// Adds flags, each with its name and its letter.
 fn with_flags<'a>(
     alloc: Global,
     command: Command<'a>,
@@ -169,7 +169,7 @@ fn with_column<'a>(alloc: Global, command: Command<'a>) -> Result<Command<'a>, A
     with_value_option(alloc, command, "column", number)
 }
 
-/// Adds an option without a letter, with the values that the parser takes.
+/// Adds an option without a letter, whose values the parser accepts.
 fn with_value_option<'a>(
     alloc: Global,
     command: Command<'a>,

@@ -1,13 +1,13 @@
-//! Why words are not read.
+//! The faults of reading words.
 
 use std::alloc::{AllocError, AllocFailed};
 
-/// Why the words of a command line give no `CommandLine`.
+/// The reason why the words of a command line cannot be read as a `CommandLine`.
 #[derive(Clone, Copy, Debug)]
 pub enum WordsFault {
     /// The words are not a command line of this program.
     Usage,
-    /// There was no memory left to read them.
+    /// The memory ran out while the words were read.
     OutOfMemory,
 }
 

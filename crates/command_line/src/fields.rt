@@ -1,4 +1,4 @@
-//! What the words of a command line ask for, field by field.
+//! The request in the words of a command line, field by field.
 ghost use Rattle.std.specs.Prelude.{◌≡◌, ◌≤◌, IfOk, IfSome, codes, option_map};
 ghost use Rattle.clap.specs.Words.{rows_of, found_of, first_of};
 ghost use Rattle.command_line.specs.Numbers.{IsUpTo, number_of};
@@ -8,28 +8,28 @@ use clap::ArgMatches;
 use std::alloc::{AllocError, Global};
 use units_io::Text;
 
-/// What the words of the command line ask for.
+/// The request in the words of the command line.
 #[derive(Drop)]
 pub struct CommandLine {
-    /// Significant digits, 1 to 36, where `-d` stands.
+    /// The number of significant digits, 1 to 36, if `-d` is given.
     pub digits: Option<u8>,
-    /// Numbers are written as integers or fractions.
+    /// Write numbers as integers or fractions.
     pub exact: bool,
-    /// Only the forward line of a conversion is written.
+    /// Write only the forward line of a conversion.
     pub one_line: bool,
-    /// No tab and no signs are written, and the parts of a list are joined by `;`.
+    /// Write no tab and no signs, and separate the parts of a list by `;`.
     pub compact: bool,
-    /// Strict, quiet, one-line and compact together.
+    /// Strict, quiet, one-line and compact combined.
     pub terse: bool,
-    /// No banner, messages or prompts are written.
+    /// Write no banner, messages or prompts.
     pub quiet: bool,
-    /// There is no reciprocal conversion.
+    /// Do not perform reciprocal conversions.
     pub strict: bool,
-    /// The last unit of a list is rounded.
+    /// Round the last unit of a list.
     pub round: bool,
-    /// The two texts of a conversion stand in its reply.
+    /// Include the two texts of a conversion in its reply.
     pub verbose: bool,
-    /// The definitions are checked.
+    /// Check the definitions.
     pub check: bool,
     /// The definition file.
     pub file: Option<Text>,
@@ -37,17 +37,17 @@ pub struct CommandLine {
     pub locale: Option<Text>,
     /// The size of a trial, 1 to 20,000.
     pub trial: Option<u16>,
-    /// The field that is converted in each record of the input, 1 to 65,535.
+    /// The field to convert in each record of the input, 1 to 65,535.
     pub column: Option<u16>,
-    /// The first record stays as it is.
+    /// Do not change the first record.
     pub header: bool,
-    /// What is to be converted.
+    /// The FROM operand: the input to convert.
     pub from: Option<Text>,
-    /// What it is converted to.
+    /// The TO operand: the target of the conversion.
     pub to: Option<Text>,
 }
 
-/// The command line of clap's matches.
+/// Returns the command line in clap's matches.
 pub(crate) fn command_line_from(
     alloc: Global,
     matches: &ArgMatches<'_>,
@@ -143,7 +143,7 @@ fn text_of(alloc: Global, matches: &ArgMatches<'_>, name: &str) -> Result<Option
     }
 }
 
-/// The value of an argument, if it has one.
+/// Returns the value of an argument, if it has one.
 fn value_of<'a>(matches: &ArgMatches<'a>, name: &str) -> Option<&'a str>
     ensures { option_map (λ text. text.now) result
         ≡ first_of name.now (rows_of (found_of matches.now)) }

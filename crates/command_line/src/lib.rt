@@ -1,4 +1,4 @@
-//! The words of the command line, as clap reads them for the program's command.
+//! The words of the command line, read by clap with the program's command.
 #![tactic(auto)]
 
 mod definition;

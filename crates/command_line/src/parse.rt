@@ -1,4 +1,4 @@
-//! What clap makes of the words.
+//! Parsing the words with clap.
 ghost use Rattle.std.specs.Prelude.{◌≡◌, ◌≢◌, [], IfOk, MatchResult, codes, map, true, false};
 ghost use Rattle.std.specs.List.{list_all};
 ghost use Rattle.std.specs.Str.{is_utf8};
@@ -13,7 +13,7 @@ use clap::{ArgMatches, Error};
 use std::alloc::Global;
 use units_io::Text;
 
-/// The words as texts, where each of them is UTF-8.
+/// Returns the words as texts. The error is `Usage` if one of them is not UTF-8.
 pub(crate) fn texts_of<'w>(alloc: Global, words: &'w [Text]) -> Result<Vec<&'w str>, WordsFault>
     ensures utf8 { IfOk result (λ _. list_all is_utf8 words.entry.now ≡ true) }
     ensures texts { IfOk result (λ texts. map (λ text. text.now) texts.items ≡ words.entry.now) }
@@ -29,7 +29,7 @@ pub(crate) fn texts_of<'w>(alloc: Global, words: &'w [Text]) -> Result<Vec<&'w s
     Ok(texts)
 }
 
-/// The matches of the program's command in these words.
+/// Returns the matches of the program's command in these words.
 pub(crate) fn parse<'a>(alloc: Global, words: &'a [&'a str]) -> Result<ArgMatches<'a>, WordsFault>
     ensures exact { let texts = map (λ word. word.now) words.entry.now in
         MatchResult result

@@ -1,4 +1,4 @@
-//! The words of the command line, read.
+//! Reading the words of the command line.
 ghost use Rattle.std.specs.Prelude.{◌≡◌, ◌≤◌, IfOk, IfSome, true, false};
 ghost use Rattle.command_line.specs.Taken as spec;
 ghost use Rattle.command_line.specs.Fields.{command_line_of};
@@ -10,10 +10,10 @@ use def_lines::line_content;
 use std::alloc::Global;
 use units_io::Text;
 
-/// Reads the words that stand after the program's name.
+/// Reads the words after the program's name.
 ///
-/// The answer is `Usage` where the words are not a command line of this program, and `OutOfMemory`
-/// where there is no memory to tell.
+/// The error is `Usage` if the words are not a command line of this program, and `OutOfMemory` if the memory ran out
+/// before this was known.
 pub fn read_words(alloc: Global, words: &[Text]) -> Result<CommandLine, WordsFault>
     ensures taken { IfOk result (λ _. spec.are_taken words.now ≡ true) }
     ensures read { IfOk result (λ line. line ≡ command_line_of words.now) }
@@ -31,7 +31,7 @@ pub fn read_words(alloc: Global, words: &[Text]) -> Result<CommandLine, WordsFau
     Ok(line)
 }
 
-/// The words as clap reads them, before any test between them.
+/// Returns the words as clap reads them, before the checks that involve several arguments.
 fn parsed_line(alloc: Global, words: &[Text]) -> Result<CommandLine, WordsFault>
     ensures parsed { IfOk result (λ _. spec.are_parsed words.now ≡ true) }
     ensures read { IfOk result (λ line. line ≡ command_line_of words.now) }
@@ -45,14 +45,15 @@ fn parsed_line(alloc: Global, words: &[Text]) -> Result<CommandLine, WordsFault>
     Ok(command_line_from(alloc, &matches)?)
 }
 
-/// At most one of FROM, `--check` and `--trial` stands, and the options for columns stand where they may.
+/// Reports whether at most one of FROM, `--check` and `--trial` is given, and the options for columns are given only
+/// where they are allowed.
 fn arguments_fit(line: &CommandLine) -> bool
     ensures { result ≡ spec.arguments_fit line.now }
 {
     count_of_work(line) <= 1 && columns_fit(line)
 }
 
-/// How many of FROM, `--check` and `--trial` stand.
+/// Returns how many of FROM, `--check` and `--trial` are given.
 fn count_of_work(line: &CommandLine) -> u8
     ensures { result ≡ spec.work_count line.now }
 {
@@ -65,14 +66,14 @@ fn one_if(stands: bool) -> u8
     if stands { 1 } else { 0 }
 }
 
-/// `--column` stands only with a conversion, and `--header` only with `--column`.
+/// Reports whether `--column` is given only with a conversion, and `--header` only with `--column`.
 fn columns_fit(line: &CommandLine) -> bool
     ensures { result ≡ spec.columns_fit line.now }
 {
     (line.column.is_none() || is_conversion(line)) && (!line.header || line.column.is_some())
 }
 
-/// FROM stands, with a TO that is neither blank nor `?`.
+/// Reports whether FROM is given, with a TO that is neither blank nor `?`.
 fn is_conversion(line: &CommandLine) -> bool
     ensures { result ≡ spec.is_conversion line.now }
 {
@@ -82,7 +83,7 @@ fn is_conversion(line: &CommandLine) -> bool
     }
 }
 
-/// The TO word is neither blank nor `?`.
+/// Reports whether the TO word is neither blank nor `?`.
 fn is_target(to: &[u8]) -> bool
     ensures { result ≡ spec.is_target to.now }
 {

@@ -1,8 +1,8 @@
-//! What the program answers to words that it does not take.
+//! The reply to words that the program does not accept.
 ghost use Rattle.std.specs.Prelude.{◌≡◌};
 ghost use Rattle.command_line.specs.Usage as spec;
 
-/// The line that tells how the program is called, with its line feed.
+/// Returns the usage line, with its line feed.
 pub fn usage_text() -> &'static [u8]
     ensures { result.now ≡ spec.usage_text }
 {

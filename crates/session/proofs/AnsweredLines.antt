@@ -1,4 +1,4 @@
--- Some lines, and what they are answered with.
+-- The examples of answers to lines.
 use Rattle.std.proofs.Common.{◌≡◌, ◌∙◌, ◌++◌, [], length, refl, ap, Bool, ℕ, List, Option, Some, None, Ok, Err}
 use Rattle.std.proofs.Common.{if◌then◌else◌}
 use Rattle.std.proofs.Common.{codes}
@@ -44,14 +44,14 @@ use Rattle.session.specs.Versions.{timeline_of}
 use Rattle.edit_history.specs.Timelines.{redone_to, undone_to}
 use Rattle.watch.specs.Watched.{subject}
 
--- the texts of FROM and TO without the blanks at their ends decide the reply
+-- the reply depends only on the texts of FROM and TO without the blanks at their ends
 reply_trimmed : (table : Table) (options : Options) (from to same : List ℕ) → trimmed to ≡ trimmed same
     → conversion_reply table options from to ≡ conversion_reply table options from same
 reply_trimmed table options from to same e =
     ap (λ (text : List ℕ). as_conversion (reply_form options) (trimmed from) text
     (conversion table options (trimmed from) text).answer) e
 
--- a text that is TO, by the reply over the definitions of the examples
+-- the answer to a text as TO, from the reply over the definitions of the examples
 expression_converted : (from text : List ℕ) (reply : Reply) → conversion_reply measures default from text ≡ reply
     → (state : State) → table_in (deck_in state) ≡ measures → state.session.options ≡ default
     → state.session.pending ≡ Some from
@@ -67,7 +67,7 @@ expression_converted from text reply gives state table options pending = record 
   deck = ap (λ (p : Option (List ℕ)). deck_in (expression_answer p text state).after) pending;
 }
 
--- a text that is FROM, if it has a value
+-- a text becomes the pending FROM, if it has a value
 expression_pending : (text : List ℕ) (state : State) (x : Amount) → state.session.pending ≡ None
     → from_value (table_in (deck_in state)) state.session.options text ≡ Good x
     → IsPending text (expression_answer state.session.pending text state)

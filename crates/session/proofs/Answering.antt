@@ -33,34 +33,34 @@ use Rattle.session.proofs.Breaking.{left_of_line}
 use Rattle.session.proofs.Talking.{at_before}
 use Rattle.watch.specs.Watched.{subject}
 
--- files that serve are as they were when nothing changes them
+-- the files do not change if nothing changes them
 tells_stay : (needed : Bool) (files : Option FileMap) (m : FileMap) → TellsIf needed files m → files ≡ when_told files m
 tells_stay needed None m h = refl
 tells_stay needed (Some told) m h = ap Some h
 
--- where a file is needed the files are told
+-- if a file is needed, the contents of the files are known
 pub tells_needed : {X : Type 0} (needed : Bool) (files : Option X) (m : X) → needed ≡ true → TellsIf needed files m
     → files ≡ Some m
 tells_needed true None m e h = cc
 tells_needed false None m e h = cc
 tells_needed needed (Some told) m e h = ap Some h
 
--- what is told serves
+-- files with known contents can be used, needed or not
 pub tells_told : (needed : Bool) (files : Option FileMap) (m : FileMap) → files ≡ Some m → TellsIf needed files m
 tells_told needed files m e = subst (λ f. TellsIf needed f m) (sym e) refl
 
--- what is told again is what was told first
+-- values that are known after being known before are those known first
 told_again : (files : Option FileMap) (m new : FileMap) → when_told (when_told files m) new ≡ when_told files new
 told_again None m new = refl
 told_again (Some old) m new = refl
 
--- files that are told if a line loads one serve for the line
+-- the files can be used for a line if they are known whenever it loads a file
 files_serve : (loads : Bool) (told files : Option FileMap) (m : FileMap) → IsToldIf loads told
     → files ≡ when_told told m → TellsIf loads files m
 files_serve loads None files m needed e = subst (λ f. TellsIf loads f m) (sym e) needed
 files_serve loads (Some old) files m needed e = tells_told loads files m e
 
--- no answer but a save changes the files
+-- only the answer to a save changes the files
 pub keeps_files : (session : Known) (m : FileMap) (c : Command) → is_save c ≡ false
     → (answer_to (state_of session m) c).after.files ≡ m
 unfolding answer_to
@@ -104,7 +104,7 @@ keeps_files session m (command.Expression text) unsaved = expression session.pen
     expression None = refl
     expression (Some from) = refl
 
--- a command of another kind is no save
+-- a command of another kind is not a save
 pub no_save : (c : Declared) → ((name : Bor (List ℕ)) → c ≡ read.Save name → ⊥) → is_save (seen_command c) ≡ false
 no_save read.Blank other = refl
 no_save read.Quit other = refl
@@ -120,7 +120,7 @@ no_save (read.Unknown word) other = refl
 no_save (read.Bad word) other = refl
 no_save (read.Expression text) other = refl
 
--- an answer that leaves the files, as a whole one
+-- an answer that leaves the files as they are is a complete answer
 pub said_answered : (result : Result LineReply SessionFault) (session new : Known) (m : FileMap) (c : Command)
     (needed : Bool) (files after : Option FileMap) (old steps : ℕ) → TellsIf needed files m → after ≡ files
     → is_save c ≡ false → IsSaid (answer_to (state_of session m) c) result new old steps
@@ -135,7 +135,7 @@ said_answered (Ok reply) session new m c needed files after old steps h e unsave
   steps = s.steps;
 }
 
--- a save, which gives a file the text of the deck or says that it would be too long
+-- a save was answered: it stores the text of the deck in a file, or says that the file would be too long
 pub save_answered : (result : Result LineReply SessionFault) (session : Known) (m : FileMap) (name : List ℕ)
     (needed : Bool) (files after : Option FileMap) (steps : ℕ) → TellsIf needed files m
     → IfOk result (λ reply. IsLine reply (saved_line (saved_file session.table.deck) name) [] false)
@@ -171,7 +171,7 @@ module _ (base : Base) (talk : Talk) (part : List ℕ) (said : Said) (session : 
   state_of_talk : state_of session talk.state.files ≡ talk.state
   state_of_talk = ap (λ s. state_of s talk.state.files) at.session
 
-  -- the files of the talk serve for a line
+  -- the files of the talk can be used for a line
   pub serve : (line : Option (List ℕ)) → line ≡ readable part → IsToldIf (loads_file_in part) base.files
       → TellsIf (loads_file_read line) files talk.state.files
   serve line heard told =
@@ -219,7 +219,7 @@ module _ (base : Base) (talk : Talk) (part : List ℕ) (said : Said) (session : 
         same.files ∙ ap (λ f. when_told f asked.after.files) at.files
         ∙ told_again base.files talk.state.files asked.after.files
 
-    -- the talk goes on by the answer
+    -- the talk goes on with the answer
     pub replied_at : (said_now : Said) → said_now.out.items ≡ said.out.items ++ text
         → said_now.err.items ≡ said.err.items ++ reply.err
         → IsAt base (with_answer talk asked part)
@@ -232,7 +232,7 @@ module _ (base : Base) (talk : Talk) (part : List ℕ) (said : Said) (session : 
       steps = omega (arith, same.steps, at.steps);
     }
 
-    -- or a front of it is said
+    -- or only a front of the answer is output
     replied_before : (said_now : Said) → Begins said_now.out.items (said.out.items ++ text)
         → Begins said_now.err.items (said.err.items ++ reply.err) → IsBefore base (with_answer talk asked part) said_now
     replied_before said_now o e = record {
@@ -240,7 +240,7 @@ module _ (base : Base) (talk : Talk) (part : List ℕ) (said : Said) (session : 
       err = (e.0, err_now ∙ ap (λ t. base.err ++ t) e.1 ∙ sym (append_assoc base.err said_now.err.items e.0));
     }
 
-    -- which breaks off the talk
+    -- a front of the answer breaks off the talk
     pub replied_broken : (fault : SessionFault) (said_now : Said)
         → Begins said_now.out.items (said.out.items ++ text) → Begins said_now.err.items (said.err.items ++ reply.err)
         → IsBroken fault base talk (part ∷ [])
@@ -253,7 +253,7 @@ module _ (base : Base) (talk : Talk) (part : List ℕ) (said : Said) (session : 
       left = (asked.after.files, files_after, inl refl);
     }
 
-  -- nothing is said of a line that is not answered
+  -- a line that is not answered has no output
   pub unanswered : (A : Type 0) (line : Option (List ℕ)) → line ≡ readable part → (fault : SessionFault)
       (session_now : Known) (files_now : Option FileMap) (steps_now : ℕ)
       → LineKeeps {A = A} (saved_by_read line) (Err fault) files files_now

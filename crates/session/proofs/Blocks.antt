@@ -1,4 +1,4 @@
--- A session between blocks of its input.
+-- A session between the blocks of its input.
 use Rattle.std.proofs.Common.{nat_le, min, ◌^◌, inl, inr, ◌≡◌, ◌++◌, ◌∷◌, ◌+◌, ◌-◌, ◌<◌, ◌≤◌, ◌⊎◌, [], ℕ}
 use Rattle.std.proofs.Common.{suc, List, Bool, true, false, length, take, refl, sym, ap, subst, ◌∙◌, arith}
 use Rattle.std.proofs.Common.{append_assoc, length-append, Some, None}
@@ -27,7 +27,7 @@ pub grown_twice : (o : Option (List ℕ)) (xs ys : List ℕ) → grown (grown o 
 grown_twice None xs ys = refl
 grown_twice (Some held) xs ys = ap Some (append_assoc held xs ys)
 
--- all of some bytes is a front of them
+-- all bytes are a front of themselves
 pub front_all : (o out : Option (List ℕ)) (xs : List ℕ) → out ≡ grown o xs → GrowsByFront o out xs
 front_all o out xs e = (length xs, omega arith, e ∙ ap (grown o) (sym (take_all (length xs) xs (omega arith))))
 
@@ -47,7 +47,7 @@ take-append-add (x ∷ xs) ys n =
     let z : suc (length xs) + n ≡ suc (length xs + n) = omega arith in
     ap (λ k. take k (x ∷ (xs ++ ys))) z ∙ ap (λ t. x ∷ t) (take-append-add xs ys n)
 
--- a front of what comes behind some bytes
+-- a front of the bytes that come after others is a front of both
 front_behind : (o mid out : Option (List ℕ)) (xs ys : List ℕ) → mid ≡ grown o xs → GrowsByFront mid out ys
     → GrowsByFront o out (xs ++ ys)
 front_behind o mid out xs ys e f = (
@@ -57,33 +57,34 @@ front_behind o mid out xs ys e f = (
       ∙ grown_twice o xs (take f.0 ys) ∙ ap (grown o) (sym (take-append-add xs ys f.0)),
 )
 
--- a count that has not fallen since a later time has not since an earlier one
+-- a count that has not decreased since a later time has not decreased since an earlier one
 pub later_than : (a b c : ℕ) → a ≤ b → b ≤ c → a ≤ c
 later_than a b c h k = omega (arith, h, k)
 
--- a count that rose since a later time rose since an earlier one
+-- a count that rose since a later time also rose since an earlier one
 pub rose_since : (a b c : ℕ) → a ≤ b → Rose b c → Rose a c
 rose_since a b c h r = omega (arith, h, r)
 
--- so did one of three, of which the last is counted from the same time
+-- if one of three counts rose since a later time, one rose since an earlier one; the third is counted from the same
+-- time
 pub any_rose : (a b c x y z p q : ℕ) → a ≤ b → x ≤ y → Rose b c ⊎ Rose y z ⊎ Rose p q → Rose a c ⊎ Rose x z ⊎ Rose p q
 any_rose a b c x y z p q h k (inl r) = inl (rose_since a b c h r)
 any_rose a b c x y z p q h k (inr (inl r)) = inr (inl (rose_since x y z k r))
 any_rose a b c x y z p q h k (inr (inr r)) = inr (inr r)
 
--- so did one of two
+-- if one of two counts rose since a later time, one rose since an earlier one
 pub either_rose : (a b c x y z : ℕ) → a ≤ b → x ≤ y → Rose b c ⊎ Rose y z → Rose a c ⊎ Rose x z
 either_rose a b c x y z h k (inl r) = inl (rose_since a b c h r)
 either_rose a b c x y z h k (inr r) = inr (rose_since x y z k r)
 
--- so did one of three
+-- if one of three counts rose since a later time, one rose since an earlier one
 pub any_since : (a b c x y z p q r : ℕ) → a ≤ b → x ≤ y → p ≤ q → Rose b c ⊎ Rose y z ⊎ Rose q r
     → Rose a c ⊎ Rose x z ⊎ Rose p r
 any_since a b c x y z p q r h k l (inl s) = inl (rose_since a b c h s)
 any_since a b c x y z p q r h k l (inr (inl s)) = inr (inl (rose_since x y z k s))
 any_since a b c x y z p q r h k l (inr (inr s)) = inr (inr (rose_since p q r l s))
 
--- one of two is one of three
+-- one of two cases is one of three
 pub of_two : {A B C : Type 0} → A ⊎ B → A ⊎ B ⊎ C
 of_two (inl a) = inl a
 of_two (inr b) = inr (inl b)
@@ -95,13 +96,13 @@ pub loses : (old new : Option (List ℕ)) (left bytes : List ℕ) → old ≡ So
     → Loses (Some left) new bytes
 loses old new left bytes e h = rw e at h
 
--- what was taken
+-- the bytes taken of an input are those before the rest
 pub taken_is : (input taken rest : List ℕ) (left : Option (List ℕ)) → input ≡ taken ++ rest → left ≡ Some rest
     → taken_of input left ≡ taken
 taken_is input taken rest left e h = ap (taken_of input) h ∙ ap (λ i. take (length i - length rest) i) e
     ∙ take-front taken rest
 
--- bytes that are taken up in part, and then what is left of them
+-- bytes fed in part, followed by those left of them, are all the bytes
 pub both_taken : (taken bytes done left : List ℕ) → bytes ≡ done ++ left → (taken ++ done) ++ left ≡ taken ++ bytes
 both_taken taken bytes done left e = append_assoc taken done left ∙ ap (λ t. taken ++ t) (sym e)
 
@@ -114,7 +115,7 @@ pub left_and_more : (taken bytes done left more : List ℕ) → bytes ≡ done +
 left_and_more taken bytes done left more e =
     sym (append_assoc (taken ++ done) left more) ∙ same_input taken bytes done left more e
 
--- once the opening is written, the session waits for its first line
+-- after the opening is written, the session waits for its first line
 pub opens : (first : Talk) (held : Option (List ℕ)) (said : Said) (session : Known) (before opening now : Outside)
     → Opens first said session before opening
     → now.out ≡ grown opening.out said.out.items → now.err ≡ grown opening.err said.err.items
@@ -135,11 +136,11 @@ module _ (first : Talk) (taken : List ℕ) (held : Option (List ℕ)) (session :
   abbrev told : Talk
   told = talk_over first (whole_lines taken)
 
-  -- all that was said is written
+  -- the base of a session whose output so far is written
   abbrev pub written : Base
   written = record { out = told.out; err = told.err; files = before.files; steps = before.steps }
 
-  -- with nothing said since, the session stands
+  -- as long as there is no new output, the session is at the same point
   pub stands : (said : Said) → said.out.items ≡ [] → said.err.items ≡ []
       → Stands written first taken held
       (record { said = said; session = session; files = now.files; steps = now.steps })
@@ -155,7 +156,7 @@ module _ (first : Talk) (taken : List ℕ) (held : Option (List ℕ)) (session :
     part = w.part;
   }
 
-  -- a front of what was written and is now said is a front of the whole
+  -- a front of the written and the new output together is a front of the whole
   pub fronts : (talk : Talk) (said : Said) (after : Outside) → IsBefore written talk said
       → GrowsByFront now.out after.out said.out.items → GrowsByFront now.err after.err said.err.items
       → IsFront (output_of talk) before after
@@ -166,7 +167,7 @@ module _ (first : Talk) (taken : List ℕ) (held : Option (List ℕ)) (session :
         (front_behind before.err now.err after.err told.err said.err.items w.err e);
   }
 
-  -- by how far the talk is answered
+  -- the output is a part of the whole, according to how far the talk is answered
   pub part_by : (failed : Type 0) (input : List ℕ) (said : Said) (new : Known) (after : Outside)
       → BreaksOff failed written first (heard (lines_of input))
       (record { said = said; session = new; files = after.files; steps = after.steps })
@@ -180,7 +181,7 @@ module _ (first : Talk) (taken : List ℕ) (held : Option (List ℕ)) (session :
     files = broken.left;
   }
 
-  -- the session waits again once what was said is written
+  -- the session waits again after its output is written
   pub waits : (front : List ℕ) (held_now : Option (List ℕ)) (said : Said) (new : Known) (after : Outside)
       → Stands written first front held_now
       (record { said = said; session = new; files = after.files; steps = after.steps })
@@ -198,7 +199,7 @@ module _ (first : Talk) (taken : List ℕ) (held : Option (List ℕ)) (session :
     part = s.part;
   }
 
-  -- the whole run, once the talk over its input is written
+  -- the run is complete after the talk over its input is written
   pub whole : (talk : Talk) (said : Said) (new : Known) (after : Outside)
       → IsAt written talk (record { said = said; session = new; files = after.files; steps = after.steps })
       → after.out ≡ grown now.out said.out.items → after.err ≡ grown now.err said.err.items
@@ -212,7 +213,7 @@ module _ (first : Talk) (taken : List ℕ) (held : Option (List ℕ)) (session :
     steps = at.steps;
   }
 
-  -- a session that waits is cut behind the bytes taken
+  -- the output of a waiting session is cut after the bytes read
   pub cut : (input rest : List ℕ) (after : Outside) → input ≡ taken ++ rest → after.left ≡ Some rest
       → after.out ≡ now.out → after.err ≡ now.err → after.files ≡ now.files → after.steps ≡ now.steps
       → IsCutShort (session_course first input) before after
@@ -229,7 +230,7 @@ module _ (first : Talk) (taken : List ℕ) (held : Option (List ℕ)) (session :
         going = w.going;
       })
 
-  -- and what is left of it is a part
+  -- the output of a waiting session is a part of the whole
   pub cut_part : (input rest : List ℕ) (after : Outside) → input ≡ taken ++ rest → after.out ≡ now.out
       → after.err ≡ now.err → after.files ≡ now.files
       → IsPart (session_course first input) before after
@@ -246,7 +247,7 @@ module _ (first : Talk) (taken : List ℕ) (held : Option (List ℕ)) (session :
         files = f ∙ w.files;
       }
 
--- a front of what is said first
+-- a front of the opening
 open_front : (first : Talk) (said : Said) (session : Known) (before opening after : Outside)
     → Opens first said session before opening
     → GrowsByFront opening.out after.out said.out.items → GrowsByFront opening.err after.err said.err.items
@@ -258,12 +259,12 @@ open_front first said session before opening after w o e = record {
       (subst (λ p. GrowsByFront p after.err said.err.items) w.err e);
 }
 
--- no line is answered yet, and the files are as they were
+-- before any line is answered, the files are as they were
 pub opened_files : (first : Talk) (said : Said) (session : Known) (before opening : Outside)
     → Opens first said session before opening → opening.files ≡ when_told before.files first.state.files
 opened_files first said session before opening w = w.at.files
 
--- a part of the whole, where the opening is written in part
+-- if the opening is written in part, the output is a part of the whole
 pub open_part : (first : Talk) (input : List ℕ) (said : Said) (session : Known) (before opening after : Outside)
     → Opens first said session before opening → GrowsByFront opening.out after.out said.out.items
     → GrowsByFront opening.err after.err said.err.items → after.files ≡ opening.files
@@ -282,7 +283,7 @@ le_from a b h = grind (arith, nat_tests)
 lt_from : (a b : ℕ) → nat_le a b ≡ false → b < a
 lt_from a b h = grind (arith, nat_tests)
 
--- the bytes of one more block are counted
+-- the bytes of another block are counted
 pub took_more : (total n before old new : ℕ) → TookAtLeast total before old → new ≡ min (old + n) (2 ^ 64 - 1)
     → TookAtLeast (total + n) before new
 took_more total n before old new (inr e) h = inr (omega (arith, e, h))
@@ -303,7 +304,7 @@ went input taken rest bytes more p q = append_assoc taken bytes more ∙ ap (λ 
 
 module _ (first : Talk) (taken : List ℕ) (held : Option (List ℕ)) (session : Known) (before now : Outside)
     (w : Waits first taken held session before now) where
-  -- the same of the whole input
+  -- the run over an equal input is complete, too
   pub whole_at : (i input : List ℕ) (said : Said) (new : Known) (after : Outside) → i ≡ input
       → IsAt (written first taken held session before now w) (talk_on first i)
       (record { said = said; session = new; files = after.files; steps = after.steps })
@@ -312,20 +313,20 @@ module _ (first : Talk) (taken : List ℕ) (held : Option (List ℕ)) (session :
   whole_at i input said new after p at o e = subst (λ t. IsAll (output_of (talk_on first t)) before after) p
       (whole first taken held session before now w (talk_on first i) said new after at o e)
 
--- an input is read to a line that ends the session
+-- the input was read to a line that ends the session
 pub heard_by : (input taken bytes more : List ℕ) (left : Option (List ℕ)) → (taken ++ bytes) ++ more ≡ input
     → left ≡ Some more → list_any is_last (whole_lines (taken ++ bytes)) ≡ true → IsReadToEnd input left
 heard_by input taken bytes more left all q last =
     inr (ap (λ t. list_any is_last (whole_lines t)) (taken_is input (taken ++ bytes) more left (sym all) q) ∙ last)
 
--- or to its end
+-- the input was read to its end
 pub all_heard : (input taken rest : List ℕ) → input ≡ taken ++ rest → rest ≡ [] → taken ≡ input
 all_heard input taken rest p z = sym (p ∙ ap (λ t. taken ++ t) z ∙ append-nil taken)
 
 pub rose_from : (first a b c : ℕ) → first ≤ a → a ≤ b → Rose b c → Rose first c
 rose_from first a b c e h r = omega (arith, e, h, r)
 
--- nothing is left behind some bytes where nothing was left
+-- if nothing is left, nothing is left after any bytes of it
 pub no_rest : (rest bytes more : List ℕ) → rest ≡ bytes ++ more → rest ≡ [] → more ≡ []
 no_rest rest [] more e z = sym e ∙ z
 no_rest rest (b ∷ bytes) more e z = absurd (omega (arith, ap length (sym e ∙ z)))

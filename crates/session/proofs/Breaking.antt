@@ -1,4 +1,4 @@
--- Where the answers to lines break off.
+-- Answers to lines that break off.
 use Rattle.std.proofs.Common.{◌≡◌, ◌++◌, ◌∷◌, [], ℕ, List, true, inl, inr, cond, refl, sym, ap, subst, ◌∙◌}
 use Rattle.std.proofs.Common.{append_assoc}
 use Rattle.std.proofs.Common.{Some, None, Ok, Err}
@@ -18,7 +18,7 @@ use Rattle.session.specs.declared.fault.SessionFault.TheVariants.{OutOfMemory, R
 use Rattle.session.proofs.HeardLines.{heard_end, heard_feed, heard_more}
 use Rattle.session.proofs.Talking.{at_before, talk-append}
 
--- files that nothing has changed
+-- all files but one are as before if nothing changed them
 all_but_same : (name : List ℕ) (old new : Option FileMap) → new ≡ old → KeepsAllBut name old new
 all_but_same name None new e = e
 all_but_same name (Some old) new e = (old, e, λ other differs. refl)
@@ -35,24 +35,24 @@ pub line_same : {A : Type 0} (name : Option (List ℕ)) (result : Result A Sessi
 line_same None result old new e = e
 line_same (Some name) result old new e = save_same name result old new e
 
--- a save by its name
+-- a line saves the file that its command names
 pub line_saves : {A : Type 0} (named : Option (List ℕ)) (name : List ℕ) (result : Result A SessionFault)
     (old new : Option FileMap) → Some name ≡ named → SaveKeeps name result old new → LineKeeps named result old new
 line_saves named name result old new e k = subst (λ n. LineKeeps n result old new) e k
 
--- the files where the answers break off, by another cause
+-- the files after the answers broke off, for another cause
 pub left_by : (failed cause : Type 0) (rest : List (List ℕ)) (left files : FileMap) → (failed → cause)
     → AreLeft failed rest left files → AreLeft cause rest left files
 left_by failed cause rest left files h (inl same) = inl same
 left_by failed cause rest left files h (inr spoilt) = inr (h spoilt.0, spoilt.1)
 
--- if no store failed
+-- if no store failed, the files are as the answers left them
 pub left_whole : (failed : Type 0) (rest : List (List ℕ)) (left files : FileMap) → (failed → ⊥)
     → AreLeft failed rest left files → files ≡ left
 left_whole failed rest left files h (inl same) = same
 left_whole failed rest left files h (inr spoilt) = absurd (h spoilt.0)
 
--- before more lines
+-- the files are right before more lines, too
 left_more : (failed : Type 0) (rest after : List (List ℕ)) (left files : FileMap) → AreLeft failed rest left files
     → AreLeft failed (rest ++ after) left files
 left_more failed rest after left files (inl same) = inl same
@@ -82,7 +82,7 @@ broken_by failed cause base talk lines now h b = record {
   );
 }
 
--- all of some lines are answered
+-- the answers break off after all of these lines
 pub broken_last : (failed : Type 0) (base : Base) (talk : Talk) (lines : List (List ℕ)) (now : Now)
     → IsAt base (talk_over talk lines) now → BreaksOff failed base talk lines now
 broken_last failed base talk lines now at = record {
@@ -93,7 +93,7 @@ broken_last failed base talk lines now at = record {
   left = ((talk_over talk lines).state.files, at.files, inl refl);
 }
 
--- a line among others at which the answers break off, those before it answered
+-- the answers break off at a line, with those before it answered
 broken_more : (fault : SessionFault) (base : Base) (first : Talk) (before : List (List ℕ)) (line : List ℕ)
     (after all : List (List ℕ)) (now : Now) → all ≡ before ++ line ∷ after
     → IsBroken fault base (talk_over first before) (line ∷ []) now → IsBroken fault base first all now
@@ -117,7 +117,7 @@ broken_more fault base first before line after all now e b =
       );
     }
 
--- they break off before the first of some lines
+-- the answers break off before the first of these lines
 pub broken_at : (fault : SessionFault) (base : Base) (talk : Talk) (lines : List (List ℕ)) (now : Now)
     → IsAt base talk now → IsBroken fault base talk lines now
 broken_at fault base talk lines now at = record {
@@ -156,7 +156,7 @@ left_of_line A told talk part fault files kept = by (saved_by part) refl fault k
 
 module _ (fault : SessionFault) (base : Base) (first : Talk) (taken : List ℕ) (held : Option (List ℕ)) (now : Now)
     (s : Stands base first taken held now) where
-  -- the answers break off behind the bytes taken
+  -- the answers break off after the bytes read
   pub broken_rest : (more : List ℕ) → IsBroken fault base first (heard (lines_of (taken ++ more))) now
   broken_rest more =
       let rest = heard_more taken s.going more in
@@ -169,7 +169,7 @@ module _ (fault : SessionFault) (base : Base) (first : Talk) (taken : List ℕ) 
         left = (talk.state.files, s.at.files, inl refl);
       }
 
-  -- or at a line
+  -- the answers break off at a line that a line feed ends
   pub broken_line : (piece : List ℕ) → lacks 10 piece ≡ true → (behind more : List ℕ) (after : Now)
       → IsBroken fault base (talk_over first (whole_lines taken)) ((unfinished taken ++ piece) ∷ []) after
       → IsBroken fault base first (heard (lines_of ((taken ++ (piece ++ 10 ∷ behind)) ++ more))) after
@@ -182,7 +182,7 @@ module _ (fault : SessionFault) (base : Base) (first : Talk) (taken : List ℕ) 
       ∙ ap (λ t. taken ++ t) (append_assoc piece (10 ∷ behind) more))
       ∙ heard_feed taken s.going piece clear (behind ++ more)) b
 
-  -- or at the last, which no line feed ends
+  -- the answers break off at the last line, which no line feed ends
   pub broken_end : (after : Now) → (unfinished taken ≡ [] → ⊥)
       → IsBroken fault base (talk_over first (whole_lines taken)) (unfinished taken ∷ []) after
       → IsBroken fault base first (heard (lines_of taken)) after

@@ -1,4 +1,4 @@
--- What is cached changes no answer but that to `:stats`.
+-- The cache affects only the answer to `:stats`.
 use Rattle.std.proofs.Common.{◌≡◌, ◌∙◌, ◌++◌, ◌||◌, refl, sym, ap, ap₂, subst, ℕ, Bool, true, false, true≢false, List}
 use Rattle.std.proofs.Common.{[]}
 use Rattle.std.proofs.Common.{◌∷◌, Option, Some, None, Result, Ok, Err, if◌then◌else◌, length, nat_le}
@@ -58,7 +58,7 @@ module _ (state : State) (cached : Kept) (reductions : ℕ) where
   made-cached (Refused line) notices = record { out = refl; err = refl; cached = _; reductions = _; after = refl }
   made-cached (Made deck versions) notices = record { out = refl; err = refl; cached = _; reductions = _; after = refl }
 
-  -- an edit comes to the same
+  -- an edit has the same result
   result-cached : (outcome : Result Contents DeckFault) (named : List ℕ)
       → edit_result outcome named (dated_in other.session) ≡ edit_result outcome named (dated_in state.session)
   result-cached (Ok deck) named = refl
@@ -119,7 +119,7 @@ pub or-second : (a b : Bool) → (a || b) ≡ false → b ≡ false
 or-second true b h = absurd (true≢false h)
 or-second false b h = h
 
--- the prompt does not tell of it
+-- the prompt does not depend on the cache
 prompt-cached : (state : State) (cached : Kept) (reductions : ℕ)
     → prompt (with_cache cached reductions state).session ≡ prompt state.session
 unfolding prompt
@@ -136,7 +136,7 @@ read-line state cached reductions line h = go (nat_le (length line) longest_line
     go true = cache-law state cached reductions (command_of line) h
     go false = record { out = refl; err = refl; cached = cached; reductions = reductions; after = refl }
 
--- one line more
+-- the talks stay the same with one more line
 talk-line : (a b : Talk) (line : List ℕ) → asks_stats (command_of line) ≡ false → AreSameButCached a b
     → AreSameButCached (with_answer a (answer a.state line) line) (with_answer b (answer b.state line) line)
 talk-line a b line h d =

@@ -7,7 +7,7 @@ use Rattle.live_table.specs.Calls.{names_in}
 use Rattle.live_table.specs.Shown.{Shown}
 use Rattle.session.specs.Counting.{counted, statistics}
 
--- three counts behind a word
+-- three counts, each followed by words
 pub statistics_are : (table : Shown) (settled names reductions : ℕ) (first second third whole : List ℕ)
     → settled ≡ map_of.len table.kept → names ≡ length (names_in (table_in table.deck))
     → reductions ≡ table.reductions → first ≡ codes "settled " → second ≡ first ++ counted settled (codes " of ")

@@ -1,4 +1,4 @@
--- How an input is cut into lines, part by part.
+-- The lines of an input, cut part by part.
 use Rattle.std.proofs.Common.{◌≡◌, ◌==◌, ◌++◌, ◌∷◌, ◌-◌, [], ℕ, List, Bool, true, false, cond, not, length, take, refl}
 use Rattle.std.proofs.Common.{sym, ap, ◌∙◌, arith, append_assoc, length-append}
 use Rattle.std.proofs.lemmas.Bool.{and_parts}
@@ -6,7 +6,7 @@ use Rattle.std.proofs.lemmas.List.{append-nil, take-append-le, take_all}
 use Rattle.def_entry.specs.Cuts.{lacks}
 use Rattle.session.specs.Input.{Cut, cut_from, with_line, whole_lines, unfinished, lines_of, if_any}
 
--- two parts of the bytes
+-- the cut of two parts together
 abbrev pub both : Cut → Cut → Cut
 both a b = record { whole = a.whole ++ b.whole; open_line = b.open_line }
 
@@ -25,7 +25,7 @@ cut-append part (x ∷ xs) ys = by (cut-append [] xs ys) (cut-append (part ++ x 
     by ends goes true = ap (with_line part) ends
     by ends goes false = goes
 
--- a piece without a line feed goes on with the line
+-- a piece without a line feed continues the line
 pub cut-piece : (part piece : List ℕ) → lacks 10 piece ≡ true
     → cut_from part piece ≡ record { whole = []; open_line = part ++ piece }
 cut-piece part [] e = ap (λ t. record { whole = []; open_line = t }) (sym (append-nil part))
@@ -66,7 +66,7 @@ lines_feed taken more =
     ap (λ (c : Cut). c.whole ++ if_any c.open_line) (cut-append [] taken (10 ∷ more))
     ∙ append_assoc (whole_lines taken) (unfinished taken ∷ whole_lines more) (if_any (unfinished more))
 
--- a piece and a line feed end the line, and what stands behind has its own lines
+-- a piece and a line feed end the line, and the bytes after them have their own lines
 module _ (taken piece : List ℕ) (clear : lacks 10 piece ≡ true) where
   pub whole_line : whole_lines (taken ++ (piece ++ 10 ∷ [])) ≡ whole_lines taken ++ (unfinished taken ++ piece) ∷ []
   whole_line =
@@ -84,7 +84,7 @@ module _ (taken piece : List ℕ) (clear : lacks 10 piece ≡ true) where
       ∙ ap (λ ls. ls ++ unfinished (taken ++ piece) ∷ lines_of more) (whole_piece taken piece clear)
       ∙ ap (λ l. whole_lines taken ++ l ∷ lines_of more) (open_piece taken piece clear)
 
--- the lines of all bytes are the whole lines of a front of them, and more
+-- the lines of all bytes begin with the complete lines of a front of them
 pub lines_split : (front rest : List ℕ)
     → (more : List (List ℕ)) × (lines_of (front ++ rest) ≡ whole_lines front ++ more)
 lines_split front rest = (
@@ -93,7 +93,7 @@ lines_split front rest = (
       ∙ append_assoc (whole_lines front) (cut_from (unfinished front) rest).whole (if_any (unfinished (front ++ rest))),
 )
 
--- the end of the input
+-- if no line is open at the end, all lines are complete
 pub nothing_open : (taken : List ℕ) → unfinished taken ≡ [] → lines_of taken ≡ whole_lines taken
 nothing_open taken e = ap (λ l. whole_lines taken ++ if_any l) e ∙ append-nil (whole_lines taken)
 
@@ -105,12 +105,12 @@ pub line_open : (taken : List ℕ) → (unfinished taken ≡ [] → ⊥) → lin
     ∷ []
 line_open taken h = ap (λ t. whole_lines taken ++ t) (any_of (unfinished taken) h)
 
--- the whole lines of a front stand among those of all bytes
+-- the complete lines of all bytes begin with those of a front of them
 pub whole_split : (front rest : List ℕ)
     → whole_lines (front ++ rest) ≡ whole_lines front ++ (cut_from (unfinished front) rest).whole
 whole_split front rest = ap (λ (c : Cut). c.whole) (cut-append [] front rest)
 
--- what was taken is what is no longer left
+-- the bytes taken are those before the bytes left
 pub take-front : (xs ys : List ℕ) → take (length (xs ++ ys) - length ys) (xs ++ ys) ≡ xs
 take-front xs ys =
     let n : length (xs ++ ys) - length ys ≡ length xs = omega (arith, length-append xs ys) in

@@ -1,4 +1,4 @@
--- How much the deck of a text holds that includes no file, and that it is within the limits.
+-- The size of the deck of a text that includes no file: it is within the limits.
 use Rattle.std.proofs.Common.{◌≡◌, ◌≤◌, ◌<◌, inl, inr, Result, Ok, Err, ◌+◌, ◌*◌, ◌++◌, ℕ, List, [], ◌∷◌, Bool, true}
 use Rattle.std.proofs.Common.{false, length, if◌then◌else◌, sym, ap, subst, ◌∙◌, arith, map}
 use Rattle.std.specs.Prelude.{◌||◌, codes, nat_lt, suc}
@@ -34,7 +34,7 @@ use Rattle.session.specs.TextDecks.{HasRoom, line_feeds, text_deck}
 use Rattle.session.proofs.LogicalSizes.{logical_room, room}
 use Rattle.deck_lines.specs.Readings.{Reading, Stands, Defines, Includes, Faulty, reading_of}
 
--- the bytes of a line, and so many for the line itself
+-- the size of a line: its bytes, and a constant for the line itself
 abbrev pub size : DeckLine → ℕ
 size line = length line.text + 671
 
@@ -136,7 +136,7 @@ rest_size included file blocks (line ∷ lines) none =
     let more : sum_by room (line ∷ lines) ≡ room line + sum_by room lines = sum_by-cons room line lines in
     omega arith
 
--- lines that are small are within the limits
+-- lines with a small total size are within the limits
 within_limits : (lines : List DeckLine) → sum_by size lines ≤ 60000000 → pass_limit lines ≡ false
 unfolding pass_limit
 within_limits lines small =
@@ -149,7 +149,7 @@ within_limits lines small =
     neither : (a b : Bool) → a ≡ false → b ≡ false → (a || b) ≡ false
     neither a b e f = ap (λ (x : Bool). x || b) e ∙ f
 
--- where no file is, no include is read
+-- if there is no file, no include is read
 unread : (depth : ℕ) (file : List ℕ) → ReadsNone (included_by no_files (suc depth) file)
 unfolding included_below
 unread depth file word = (
@@ -172,7 +172,7 @@ deck_within name text has =
     let short : length text ≤ 16777216 = has.1 in
     within_limits lines (omega arith)
 
--- there is one
+-- a text that has room has a deck
 pub text_made : (name text : List ℕ) (settings : Settings) → HasRoom text
     → after_text text name settings ≡ Ok (text_deck name text settings)
 unfolding text_deck
@@ -186,7 +186,7 @@ same_deck x y outcome a b = cc
 no_fault : (x : Contents) (fault : DeckFault) → Ok x ≡ Err fault → ⊥
 no_fault x fault is = cc
 
--- so no other is made
+-- a text that has room has no other deck
 pub made_is : (name text : List ℕ) (settings : Settings) (deck : Contents) → HasRoom text
     → after_text text name settings ≡ Ok deck → deck ≡ text_deck name text settings
 made_is name text settings deck has is =

@@ -1,4 +1,4 @@
--- Edits that are made, and those that leave all as it was.
+-- Edits that were made, and those that changed nothing.
 use Rattle.std.proofs.Common.{◌≡◌, ℕ, List, sym, ap, ◌∙◌, Ok}
 use Rattle.std.specs.Prelude.{Result}
 use Rattle.deck.specs.Decks.{Contents}

@@ -1,4 +1,4 @@
--- How a session over a source ends.
+-- The ending of a session over a source.
 use Rattle.std.proofs.Common.{inl, inr, ◌≡◌, ◌≤◌, ◌⊎◌, [], ℕ, List, Bool}
 use Rattle.std.proofs.Common.{true, false, refl, sym, ap, subst, ◌∙◌, arith}
 use Rattle.std.proofs.Common.{Some, None, Result, Ok, Err}
@@ -29,7 +29,7 @@ use Rattle.session.proofs.Breaking.{left_by, left_whole}
 same_end : (x y : SessionEnd) → Some x ≡ Some y → y ≡ x
 same_end x y e = cc
 
--- a part, if no store failed, and if one may have failed
+-- the output is a part, whether a store certainly did not fail or may have failed
 module _ (A : Type 0) (fed : Result A SessionFault) (first : Talk) (input : List ℕ) (start after : Outside)
     (part : IsPartIf (fed ≡ Err WriteFailed) (session_course first input) start after) where
   part_whole : (fed ≡ Err WriteFailed → ⊥) → IsPart (session_course first input) start after
@@ -60,7 +60,7 @@ module _ (A : Type 0) (fed : Result A SessionFault) (first : Talk) (input : List
     );
   }
 
-  -- what is left of a session that a fault ended
+  -- the output of a session that a fault ended
   pub by_fault : (fault : SessionFault) → fed ≡ Err fault
       → (fed ≡ Err ReadFailed → Rose start.fetch_faults after.fetch_faults)
       → (fed ≡ Err WriteFailed → Rose start.store_faults after.store_faults)
@@ -69,7 +69,7 @@ module _ (A : Type 0) (fed : Result A SessionFault) (first : Talk) (input : List
   by_fault WriteFailed is rose stored = part_but stored
   by_fault OutOfMemory is rose stored = part_whole (λ other. cc)
 
--- what is left of a session that a block ended
+-- the output of a session that ended within a block
 pub ended_by : (fed : Result Bool SessionFault) (ending : SessionEnd) (first : Talk) (input : List ℕ)
     (start after : Outside) → Some ending ≡ end_of fed
     → IsPartIf (fed ≡ Err WriteFailed) (session_course first input) start after
@@ -85,19 +85,19 @@ ended_by (Err fault) ending first input start after q part all rose stored =
     (same_end ending (fault_end fault) q)
     (by_fault Bool (Err fault) first input start after part fault refl rose stored)
 
--- the same of the whole input
+-- an ending over an equal input is one over this input
 pub ended_at : (first : Talk) (i input : List ℕ) (ending : SessionEnd) (start after : Outside) → i ≡ input
     → IsEnded (session_course first i) ending start after → IsEnded (session_course first input) ending start after
 ended_at first i input ending start after p ended =
     subst (λ t. IsEnded (session_course first t) ending start after) p ended
 
--- where the session goes on
+-- the session goes on after the bytes that were fed
 pub goes_on : (fed : Result Bool SessionFault) → None ≡ end_of fed → fed ≡ Ok false
 goes_on (Ok false) e = refl
 goes_on (Ok true) e = cc
 goes_on (Err fault) e = cc
 
--- and where it is done
+-- a line of the bytes that were fed ended the session
 pub done_by : (fed : Result Bool SessionFault) (ending : SessionEnd) → Some ending ≡ end_of fed → ending ≡ Done
     → fed ≡ Ok true
 done_by (Ok false) ending e d = cc
@@ -135,7 +135,7 @@ module _ (before after : World) where
   fed_cause (Err OutOfMemory) ending e read stored =
       record { read = λ q. cc; write = λ q. cc; too_long = λ q. cc }
 
-  -- at the end of the input
+  -- the cause of an ending at the end of the input
   pub end_cause : {A : Type 0} (fed : Result A SessionFault) (ending : SessionEnd) → ending ≡ last_end fed
       → (IsErrOf fed ReadFailed → Rose before.files.fetch_faults after.files.fetch_faults)
       → (IsErrOf fed WriteFailed → Rose before.files.store_faults after.files.store_faults)
@@ -148,7 +148,7 @@ module _ (before after : World) where
   end_cause (Err OutOfMemory) ending e read stored =
       record { read = λ q. cc; write = λ q. cc; too_long = λ q. cc }
 
--- a cause since a later time is one since an earlier time
+-- a cause since a later time is a cause since an earlier time
 pub cause_since : (ending : SessionEnd) (source : SourceSeen) (out err out_mid err_mid : SinkSeen)
     (files files_mid : FilesSeen) (steps steps_mid : ℕ) (after : World)
     → out.faults ≤ out_mid.faults → err.faults ≤ err_mid.faults
@@ -165,12 +165,12 @@ cause_since ending source out err out_mid err_mid files files_mid steps steps_mi
   too_long = cause.too_long;
 }
 
--- nothing is a front of some bytes
+-- no bytes are a front of any bytes
 nothing_put : (o out : Option (List ℕ)) (bytes : List ℕ) → out ≡ o → GrowsByFront o out bytes
 nothing_put None out bytes e = (0, omega arith, e)
 nothing_put (Some held) out bytes e = (0, omega arith, e ∙ ap Some (sym (append-nil held)))
 
--- a session that is opened has written nothing, and answered no line
+-- a session that was opened has written nothing and answered no line
 pub unwritten : (first : Talk) (input : List ℕ) (said : Said) (session : Known) (start now : Outside)
     → Opens first said session start now → IsPart (session_course first input) start now
 unwritten first input said session start now opened = record {

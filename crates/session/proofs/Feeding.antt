@@ -1,4 +1,4 @@
--- A block of an input, line by line.
+-- Answering a block of an input, line by line.
 use Rattle.std.proofs.Common.{◌≡◌, ◌++◌, ◌∷◌, [], ℕ, List, Bool, true, false, refl, sym, ap, subst, ◌∙◌, append_assoc}
 use Rattle.std.proofs.Common.{Some, None}
 use Rattle.std.proofs.Common.{Ok, Err}
@@ -15,12 +15,12 @@ use Rattle.session.specs.declared.fault.SessionFault.{SessionFault}
 use Rattle.session.proofs.Breaking.{broken_line, broken_rest}
 use Rattle.session.proofs.Talking.{next, fed_piece, fed_line, fed_last}
 
--- the lines of a session that stands are cut behind the bytes taken
+-- a session at this point holds the rest of the bytes read
 pub stands_holds : (base : Base) (first : Talk) (taken : List ℕ) (held : Option (List ℕ)) (now : Now)
     → Stands base first taken held now → Holds taken held
 stands_holds base first taken held now s = record { going = s.going; part = s.part }
 
--- what stands so far of a block: this much of it is answered, and the rest is to come
+-- a block in progress: one part of it is answered, and the rest is to come
 module _ (base : Base) (first : Talk) (taken block ready rest : List ℕ) (held : Option (List ℕ)) (now : Now)
     (b : block ≡ ready ++ rest) (s : Stands base first (taken ++ ready) held now) where
   abbrev talk : Talk
@@ -29,7 +29,7 @@ module _ (base : Base) (first : Talk) (taken block ready rest : List ℕ) (held 
   whole : (tail : List ℕ) → rest ≡ tail → (taken ++ ready) ++ tail ≡ taken ++ block
   whole tail r = append_assoc taken ready tail ∙ ap (λ t. taken ++ t) (ap (λ t. ready ++ t) (sym r) ∙ sym b)
 
-  -- no line feed stands in the rest
+  -- the rest has no line feed
   pub rest_held : cut_at 10 rest ≡ None → (held_now : Option (List ℕ))
       → held_now ≡ readable (unfinished (taken ++ ready) ++ rest) → Stands base first (taken ++ block) held_now now
   rest_held cut held_now h =
@@ -43,7 +43,7 @@ module _ (base : Base) (first : Talk) (taken block ready rest : List ℕ) (held 
       (sym (append_assoc (taken ++ ready) rest more) ∙ ap (λ t. t ++ more) (whole rest refl))
       (broken_rest fault base first (taken ++ ready) held now s (rest ++ more))
 
-  -- one stands there
+  -- the rest has a line feed
   module _ (piece behind : List ℕ) (cut : cut_at 10 rest ≡ Some (piece, behind)) where
     abbrev line : List ℕ
     line = unfinished (taken ++ ready) ++ piece
@@ -76,7 +76,7 @@ module _ (base : Base) (first : Talk) (taken block ready rest : List ℕ) (held 
           (fed_line base first (taken ++ ready) held now s piece parts.1 held_now after d h a),
     )
 
--- a line that is answered is so whatever it is called
+-- the answer to a line is the answer to an equal line
 pub line_ended : (base : Base) (talk : Talk) (result : Result Bool SessionFault) (one same : List ℕ)
     (held : Option (List ℕ)) (now : Now) → one ≡ same → held ≡ Some []
     → MatchResult result (λ done. (done ≡ is_last one) × IsAt base (next talk one) now)
@@ -88,7 +88,7 @@ line_ended base talk (Ok done) one same held now e h told =
 line_ended base talk (Err fault) one same held now e h told =
     subst (λ l. IsBroken fault base talk (l ∷ []) now) e told
 
--- a part of no byte
+-- a piece after an empty part is the whole line
 pub no_part : (part piece : List ℕ) → is_empty part ≡ true → piece ≡ part ++ piece
 no_part [] piece e = refl
 no_part (b ∷ part) piece e = cc

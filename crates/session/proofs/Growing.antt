@@ -1,4 +1,4 @@
--- What a sink has only grows.
+-- The bytes on a sink only grow.
 use Rattle.std.proofs.Common.{◌≡◌, ◌⊎◌, ◌++◌, ◌∙◌, [], ℕ, List, inl, inr, refl, sym, ap, take, append_assoc, Some, None}
 use Rattle.std.specs.declared.option.Option.{Option}
 use Rattle.std.proofs.lemmas.List.{append-nil}
@@ -6,20 +6,20 @@ use Rattle.units_io.specs.Bytes.{GrowsByFront, grown}
 use Rattle.session.specs.Outside.{GrowsAtLeast}
 use Rattle.session.proofs.Blocks.{grown_twice}
 
--- a sink that nothing was written to
+-- nothing was written to the sink
 pub same_grows : (o : Option (List ℕ)) → GrowsAtLeast o o []
 same_grows None = ([], refl)
 same_grows (Some held) = ([], ap Some (sym (append-nil held)))
 
--- a front of some bytes was
+-- a front of some bytes was written
 pub front_grows : (o new : Option (List ℕ)) (bytes : List ℕ) → GrowsByFront o new bytes → GrowsAtLeast o new []
 front_grows o new bytes f = (take f.0 bytes, f.2)
 
--- all of them were
+-- all of the bytes were written
 pub all_grows : (o new : Option (List ℕ)) (bytes : List ℕ) → new ≡ grown o bytes → GrowsAtLeast o new bytes
 all_grows o new bytes e = ([], e ∙ ap (grown o) (sym (append-nil bytes)))
 
--- and then more
+-- more was written after the bytes
 pub grows_more : (o mid new : Option (List ℕ)) (bytes : List ℕ) → GrowsAtLeast o mid bytes → GrowsAtLeast mid new []
     → GrowsAtLeast o new bytes
 grows_more o mid new bytes first later = (
@@ -32,7 +32,7 @@ pub grows_again : (o mid new : Option (List ℕ)) → GrowsAtLeast o mid [] → 
     → GrowsAtLeast o new []
 grows_again o mid new first later = grows_more o mid new [] first later
 
--- nothing was written to one sink, or all of some bytes to another
+-- nothing was written to one sink, or all of some bytes to the other
 pub order_grows : (A : Type 0) (o new : Option (List ℕ)) (bytes : List ℕ) → A ⊎ (new ≡ grown o bytes)
     → A ⊎ GrowsAtLeast o new bytes
 order_grows A o new bytes (inl same) = inl same

@@ -1,4 +1,4 @@
--- The lines of an input that a session hears, as its bytes are taken up.
+-- The lines of an input that a session hears, as its bytes are fed.
 use Rattle.std.proofs.Common.{◌≡◌, ◌++◌, ◌∷◌, ◌||◌, ◌∙◌, [], ℕ, List, Bool, true, false, cond, refl, sym, ap, subst}
 use Rattle.std.proofs.Common.{append_assoc, Some, None, Option}
 use Rattle.std.specs.List.{list_any}
@@ -13,7 +13,7 @@ use Rattle.session.specs.Telling.{IsToldIf}
 use Rattle.session.proofs.Cutting.{line_open, lines_line, lines_split, open_line, open_piece, whole_line, whole_piece}
 use Rattle.session.proofs.Cutting.{whole_split}
 
--- lines that end no session are heard, and so are those after them
+-- lines that do not end the session are heard, and so are the lines after them
 pub heard-going : (xs ys : List (List ℕ)) → list_any is_last xs ≡ false → heard (xs ++ ys) ≡ xs ++ heard ys
 heard-going [] ys e = refl
 heard-going (x ∷ xs) ys e = by (heard-going xs ys) (is_last x) e
@@ -28,7 +28,7 @@ or-false true = refl
 or-false false = refl
 
 module _ (taken : List ℕ) (going : list_any is_last (whole_lines taken) ≡ false) where
-  -- the whole lines are heard, and then more
+  -- the complete lines are heard, and then perhaps more
   pub heard_more : (more : List ℕ)
       → (lines : List (List ℕ)) × (heard (lines_of (taken ++ more)) ≡ whole_lines taken ++ lines)
   heard_more more =
@@ -49,7 +49,7 @@ module _ (taken : List ℕ) (going : list_any is_last (whole_lines taken) ≡ fa
     abbrev line : List ℕ
     line = unfinished taken ++ piece
 
-    -- what follows once a line feed has come
+    -- the lines heard after a line feed
     pub heard_feed : (more : List ℕ)
         → heard (lines_of (taken ++ (piece ++ 10 ∷ more)))
         ≡ whole_lines taken ++ line ∷ cond (is_last line) [] (heard (lines_of more))
@@ -63,7 +63,7 @@ module _ (taken : List ℕ) (going : list_any is_last (whole_lines taken) ≡ fa
         ∙ list_any-append is_last (whole_lines taken) (line ∷ [])
         ∙ ap (λ d. d || (is_last line || false)) going ∙ or-false (is_last line)
 
-    -- a last line is one of the whole lines, whatever follows it
+    -- if a line is the last, one of the complete lines is, whatever follows
     pub last_among : (behind : List ℕ) → true ≡ is_last line
         → list_any is_last (whole_lines (taken ++ (piece ++ 10 ∷ behind))) ≡ true
     last_among behind d =
@@ -79,7 +79,7 @@ module _ (taken : List ℕ) (going : list_any is_last (whole_lines taken) ≡ fa
         joined =
             append_assoc taken (piece ++ 10 ∷ []) behind ∙ ap (λ t. taken ++ t) (append_assoc piece (10 ∷ []) behind)
 
--- if none of some lines has a property, one among them has it not
+-- if no line has a property, a line among them does not have it
 none-among : (p : List ℕ → Bool) (before : List (List ℕ)) (line : List ℕ) (after : List (List ℕ))
     → list_any p (before ++ line ∷ after) ≡ false → p line ≡ false
 none-among p before line after h =
@@ -95,17 +95,17 @@ none-among p before line after h =
     second-false true b e = cc
     second-false false b e = e
 
--- nothing is taken yet
+-- before any byte is read, nothing is held
 pub holds_none : (held : Option (List ℕ)) → held ≡ readable [] → Holds [] held
 holds_none held h = record { going = refl; part = h }
 
--- so much of a block is taken up, and the rest is to come
+-- a block in progress: one part of it was fed, and the rest is to come
 module _ (taken block ready rest : List ℕ) (held : Option (List ℕ)) (b : block ≡ ready ++ rest)
     (h : Holds (taken ++ ready) held) where
   whole : (tail : List ℕ) → rest ≡ tail → (taken ++ ready) ++ tail ≡ taken ++ block
   whole tail r = append_assoc taken ready tail ∙ ap (λ t. taken ++ t) (ap (λ t. ready ++ t) (sym r) ∙ sym b)
 
-  -- no line feed is in the rest
+  -- the rest has no line feed
   pub rest_holds : cut_at 10 rest ≡ None → (held_now : Option (List ℕ))
       → held_now ≡ readable (unfinished (taken ++ ready) ++ rest) → Holds (taken ++ block) held_now
   rest_holds cut held_now e =
@@ -115,7 +115,7 @@ module _ (taken block ready rest : List ℕ) (held : Option (List ℕ)) (b : blo
         part = e ∙ ap readable (sym (open_piece (taken ++ ready) rest clear));
       })
 
-  -- one is
+  -- the rest has a line feed
   module _ (piece behind : List ℕ) (cut : cut_at 10 rest ≡ Some (piece, behind)) where
     abbrev ended : List ℕ
     ended = unfinished (taken ++ ready) ++ piece
@@ -129,7 +129,7 @@ module _ (taken block ready rest : List ℕ) (held : Option (List ℕ)) (b : blo
         ap (λ t. list_any is_last (whole_lines t)) (sym (whole (piece ++ 10 ∷ behind) parts.0))
         ∙ last_among (taken ++ ready) h.going piece parts.1 behind d
 
-    -- or it is not, and the session goes on
+    -- the line that it ends is not the last, and the session goes on
     pub line_holds : (held_now : Option (List ℕ)) → false ≡ is_last ended → held_now ≡ Some []
         → (done : List ℕ) × (block ≡ done ++ behind) × Holds (taken ++ done) held_now
     unfolding readable
@@ -144,7 +144,7 @@ module _ (taken block ready rest : List ℕ) (held : Option (List ℕ)) (b : blo
       }),
     )
 
-    -- if no line of the input that is heard has a property, this one has it not
+    -- if no line that is heard has a property, this line does not have it
     line_has_none : (p : List ℕ → Bool) (more : List ℕ)
         → list_any p (heard (lines_of ((taken ++ block) ++ more))) ≡ false → p ended ≡ false
     line_has_none p more none =
@@ -159,11 +159,11 @@ module _ (taken block ready rest : List ℕ) (held : Option (List ℕ)) (b : blo
             ∙ sym (append_assoc (taken ++ ready) (piece ++ 10 ∷ behind) more)
             ∙ ap (λ t. t ++ more) (whole (piece ++ 10 ∷ behind) parts.0)
 
-    -- if none names a file, this one does not
+    -- if no line that is heard names a file, this line names none
     pub line_names_none : (more : List ℕ) → NamesNoFile ((taken ++ block) ++ more) → names_file_in ended ≡ false
     line_names_none more none = line_has_none names_file_in more none
 
-    -- files that are told if one of them loads a file are told if this one does
+    -- files that are known if a line loads one are known if this line does
     pub line_told : (more : List ℕ) (files : Option FileMap)
         → IsToldIf (any_loads_file ((taken ++ block) ++ more)) files → IsToldIf (loads_file_in ended) files
     line_told more None told = line_has_none loads_file_in more told
@@ -184,7 +184,7 @@ module _ (input : List ℕ) (held : Option (List ℕ)) (h : Holds input held) (s
   end_told None told = end_has_none loads_file_in told
   end_told (Some old) told = tt
 
--- the same line, and the same input
+-- an equal line loads a file exactly if this line does
 pub told_line : (line same : List ℕ) (files : Option FileMap) → line ≡ same → IsToldIf (loads_file_in same) files
     → IsToldIf (loads_file_in line) files
 told_line line same files e told = subst (λ l. IsToldIf (loads_file_in l) files) (sym e) told

@@ -1,4 +1,4 @@
--- A line that is not whole yet, as it is held.
+-- Holding a line that is not complete yet.
 use Rattle.std.proofs.Common.{◌≡◌, ◌==◌, ◌++◌, ◌+◌, ◌<◌, ◌≤◌, ◌∷◌, [], ℕ, List, Bool, true, false, cond, length, refl}
 use Rattle.std.proofs.Common.{sym, ap, ◌∙◌}
 use Rattle.std.proofs.Common.{Option, Some, None, Ok, Err, OnOk, is_ok, arith, length-append}
@@ -25,13 +25,13 @@ short_or_long : (n : ℕ) → (b : Bool) → nat_le n 65536 ≡ b → cond b (n 
 short_or_long n true e = grind (arith, nat_tests)
 short_or_long n false e = grind (arith, nat_tests)
 
--- what is so where a call is done, by its result
+-- the effect of a call that succeeded
 pub where_done : {T E : Type 0} (r : Result T E) (new more old : List ℕ) → new ≡ cond (is_ok r) more old
     → OnOk r (new ≡ more)
 where_done (Ok x) new more old e = e
 where_done (Err x) new more old e = tt
 
--- what is read of a part is the part, and nothing is read of one that is too long
+-- a part that can be read is the line; a part that is too long is not read
 pub record IsRead (part line : List ℕ) : Type 0 where
   pub same : part ≡ line
   pub short : length part ≤ 65536
@@ -52,7 +52,7 @@ read_none part e = by (nat_le (length part) 65536) refl e
     by true q e = cc
     by false q e = short_or_long (length part) false q
 
--- how a line is held: its bytes, or that they are too many
+-- how a line is held: its bytes, or the fact that it is too long
 module _ (long : Bool) (bytes : List ℕ) (held : Option (List ℕ)) (is : cond long None (Some bytes) ≡ held)
     (part : List ℕ)
     (h : held ≡ readable part) where

@@ -1,4 +1,4 @@
--- The bytes of lines are those of the input, and no other cut gives them.
+-- The bytes of the lines are those of the input, and no other cut has these properties.
 use Rattle.std.proofs.Common.{◌≡◌, ◌==◌, ◌&&◌, ◌++◌, ◌∷◌, ◌∙◌, [], ℕ, List, Bool, true, false, cond, not, refl, sym}
 use Rattle.std.proofs.Common.{ap, ap₂, append_assoc, arith}
 use Rattle.std.specs.List.{list_all}
@@ -17,7 +17,7 @@ bytes_of cut = fed cut.whole ++ cut.open_line
 is_feed : (b : ℕ) → (b == 10) ≡ true → b ≡ 10
 is_feed b e = grind (arith, nat_tests)
 
--- what a cut begins with and the bytes behind it are not lost
+-- a cut loses none of the bytes
 pub joined_from : (part bytes : List ℕ) → bytes_of (cut_from part bytes) ≡ part ++ bytes
 joined_from part [] = sym (append-nil part)
 joined_from part (b ∷ bytes) = by (b == 10) refl (joined_from [] bytes) (joined_from (part ++ b ∷ []) bytes)
@@ -30,12 +30,12 @@ joined_from part (b ∷ bytes) = by (b == 10) refl (joined_from [] bytes) (joine
         ∙ ap (λ t. part ++ 10 ∷ t) ends ∙ ap (λ n. part ++ n ∷ bytes) (sym (is_feed b e))
     by false e ends goes = goes ∙ append_assoc part (b ∷ []) bytes
 
--- a byte that is no line feed
+-- a part without a line feed, followed by another byte, has none
 still-clear : (part : List ℕ) (b : ℕ) → (b == 10) ≡ false → lacks 10 part ≡ true → lacks 10 (part ++ b ∷ []) ≡ true
 still-clear part b q e =
     list_all-append (λ b. not (b == 10)) part (b ∷ []) ∙ ap₂ (λ (x y : Bool). x && (not y && true)) e q
 
--- no line holds a line feed
+-- no line contains a line feed
 pub lines-clear : (part bytes : List ℕ) → lacks 10 part ≡ true → list_all (lacks 10) (cut_from part bytes).whole ≡ true
 lines-clear part [] e = refl
 lines-clear part (b ∷ bytes) e = by (b == 10) refl (lines-clear [] bytes refl) (lines-clear (part ++ b ∷ []) bytes)
@@ -57,7 +57,7 @@ rest-clear part (b ∷ bytes) e = by (b == 10) refl (rest-clear [] bytes refl) (
     by true q ends goes = ends
     by false q ends goes = goes (still-clear part b q e)
 
--- lines without one are those of their bytes
+-- lines without line feeds are the lines of their bytes
 cut-of : (lines : List (List ℕ)) (rest : List ℕ) → list_all (lacks 10) lines ≡ true → lacks 10 rest ≡ true
     → cut_from [] (fed lines ++ rest) ≡ record { whole = lines; open_line = rest }
 cut-of [] rest h k = cut-piece [] rest k

@@ -1,4 +1,4 @@
--- What events leave does not depend on the steps before.
+-- The state after events does not depend on the steps before.
 use Rattle.std.proofs.Common.{◌≡◌, ◌+◌, ◌-◌, ℕ, Bool, true, false, List, [], ◌∷◌, refl, ap, ◌∙◌, add_assoc, arith}
 use Rattle.std.specs.FinMap as map_of
 use Rattle.std.specs.Option.{is_none}
@@ -10,7 +10,7 @@ use Rattle.live_table.specs.States.{AsksKey, AsksWords, Becomes, Event, State, a
 use Rattle.live_table.specs.States.{with_outcomes}
 use Rattle.session.specs.Queries.{Leaves, after_events, newly, shown_with}
 
--- so many steps later
+-- the state n steps later
 abbrev later : ℕ → State → State
 later n s = record s { steps = n + s.steps }
 

@@ -1,4 +1,4 @@
--- How much the logical lines of a text hold.
+-- The size of the logical lines of a text.
 use Rattle.std.proofs.Common.{◌≡◌, ◌==◌, ◌≤◌, ◌+◌, ◌*◌, ◌++◌, ◌∷◌, [], ℕ, List, Bool, true, false, length}
 use Rattle.std.proofs.Common.{cond}
 use Rattle.std.proofs.Common.{map, reverse, if◌then◌else◌, refl, sym, ap, ◌∙◌, arith, length-append}
@@ -13,7 +13,7 @@ use Rattle.def_lines.specs.Lines.{joined, lines_from, logical_lines, onto_line, 
 use Rattle.def_lines.specs.declared.line.Line.{Line}
 use Rattle.session.specs.TextDecks.{line_feeds}
 
--- the bytes of a line, and so many for the line itself
+-- the size of a line: its bytes, and a constant for the line itself
 abbrev pub weight : List ℕ → ℕ
 weight text = length text + 1352
 
@@ -68,7 +68,7 @@ cleaned_shorter line = by (ends_with 13 line)
         omega (arith, before_shorter (before_byte 35 (front line)), first_shorter 35 (front line), front_shorter line)
     by false = omega (arith, before_shorter (before_byte 35 line), first_shorter 35 line)
 
--- a text that ends in some byte is longer than what stands before it
+-- a text that ends with a byte is one longer than the text before that byte
 front_one : (b : ℕ) (text : List ℕ) → ends_with b text ≡ true → length (front text) + 1 ≡ length text
 front_one b text e = by (reverse text) refl
   where
@@ -144,7 +144,7 @@ shown_room (line ∷ lines) = by (is_shown line) (shown_room lines) (sum_by-cons
         omega (arith, rest, all, new)
     by false rest all = omega (arith, rest, all)
 
--- each has its bytes and a place
+-- the total size of the logical lines is bounded by the bytes and the line feeds of the text
 pub logical_room : (text : List ℕ)
     → sum_by room (shown (logical_lines text)) ≤ length text + 1352 * line_feeds text + 1352
 logical_room text =

@@ -1,4 +1,4 @@
--- The versions of the deck change no answer but those to `:undo` and `:redo`.
+-- The versions of the deck affect only the answers to `:undo` and `:redo`.
 use Rattle.std.proofs.Common.{◌≡◌, ◌∙◌, ◌+◌, ◌++◌, refl, sym, ap, ap₂, subst, ℕ, Bool, true, false, true≢false, List}
 use Rattle.std.proofs.Common.{[]}
 use Rattle.std.proofs.Common.{◌∷◌, Option, Some, None, Result, Ok, Err, if◌then◌else◌, length, nat_le}
@@ -105,7 +105,7 @@ versions-law state versions (command.Bad word) h =
 versions-law state versions (command.Expression text) h =
     expression-dated state versions state.session.pending text
 
--- the prompt does not depend on them
+-- the prompt does not depend on the versions
 prompt-dated : (state : State) (versions : Versions)
     → prompt (with_versions versions state).session ≡ prompt state.session
 unfolding prompt
@@ -122,7 +122,7 @@ read-line state versions line h = go (nat_le (length line) longest_line)
     go true = versions-law state versions (command_of line) h
     go false = record { out = refl; err = refl; newly = refl; versions = versions; after = refl }
 
--- one line more
+-- the talks stay the same with one more line
 talk-line : (a b : Talk) (line : List ℕ) → asks_undo_or_redo (command_of line) ≡ false → AreSameButVersions a b
     → AreSameButVersions (with_answer a (answer a.state line) line) (with_answer b (answer b.state line) line)
 talk-line a b line h d =

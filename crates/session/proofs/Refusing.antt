@@ -1,4 +1,4 @@
--- Why a file is not loaded.
+-- The reasons why a file is not loaded.
 use Rattle.std.proofs.Common.{◌≡◌, ◌⊎◌, true, sym, ap, ◌∙◌, inl, inr, Err, true≢false}
 use Rattle.std.specs.Prelude.{Result}
 use Rattle.deck.specs.Decks.{Contents}
@@ -6,7 +6,7 @@ use Rattle.deck.specs.Loading.{MayFail}
 use Rattle.deck.specs.declared.fault.DeckFault.{DeckFault}
 use Rattle.session.specs.Editing.{is_refusal}
 
--- a refusal that is told is that of the outcome
+-- a refusal of a load is that of its outcome
 pub load_fault : (outcome : Result Contents DeckFault) (fault : DeckFault) → is_refusal fault ≡ true
     → MayFail fault ⊎ (outcome ≡ Err fault) → outcome ≡ Err fault
 load_fault outcome fault r (inl (inl e)) = absurd (true≢false (sym r ∙ ap is_refusal e))

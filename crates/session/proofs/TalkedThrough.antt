@@ -21,7 +21,7 @@ use Rattle.session.specs.declared.said.Said.{Said}
 use Rattle.session.proofs.Holding.{readable_short}
 use Rattle.session.proofs.Writing.{fed_on, fed_over}
 
--- where nothing is said and nothing is held, a session stands at its beginning
+-- a session without output and with nothing held is at its beginning
 pub stands_first :
     (session : Known) (said : Said) (held : Option (List ℕ)) (steps : ℕ) → said.out.items ≡ [] → said.err.items ≡ []
     → held ≡ Some []
@@ -33,12 +33,12 @@ stands_first session said held steps o e h = record {
   part = h ∙ sym (readable_short [] (omega arith));
 }
 
--- what is said of a talk where the session stands behind it
+-- the session is after a talk, and has said all of it
 pub talked_at : (talk : Talk) (now : Now) (steps : ℕ) → IsAt (at_first (Some no_files) steps) talk now
     → IsTalked talk now.said now.session steps now.steps
 talked_at talk now steps at = record { out = sym at.out; session = at.session; steps = at.steps }
 
--- the same behind its last line
+-- the session is after the last line of a talk, and has said all of it
 pub talked_over : (first : Talk) (lines : List ℕ) (now : Now) (steps : ℕ)
     → IsOver (at_first (Some no_files) steps) first lines
     (lines ++ []) now
@@ -47,7 +47,7 @@ talked_over first lines now steps over =
     talked_at (talk_on first lines) now steps
     (subst (λ bytes. IsAt (at_first (Some no_files) steps) (talk_on first bytes) now) (append-nil lines) over.at)
 
--- lines of which some are taken up, and then more
+-- some of the lines were fed, and then more
 module _ (base : Base) (first : Talk) (lines done rest : List ℕ) (b : lines ≡ done ++ rest) where
   pub lines_on : (over : Bool) (left : List ℕ) (held : Option (List ℕ)) (now : Now) → over ≡ false
       → Fed (Ok over) base first done rest left [] held now
@@ -65,14 +65,14 @@ module _ (base : Base) (first : Talk) (lines done rest : List ℕ) (b : lines �
       subst (λ t. IsOver base first t (t ++ []) now) (sym b)
       (fed_over (Ok over) base first done rest left [] held now (ap Ok is) fed)
 
-  -- nothing is left of them
+  -- no bytes are left
   pub lines_done : (held : Option (List ℕ)) (now : Now) → (length rest == 0) ≡ true → Stands base first done held now
       → Stands base first lines held now
   lines_done held now none s =
       subst (λ t. Stands base first t held now)
       (sym (b ∙ ap (λ t. done ++ t) (empty-nil rest none) ∙ append-nil done)) s
 
--- what is told of a trial, where there is memory for it
+-- the summary of a trial, unless memory ran out
 pub told_summary : {E : Type 0} (result : Result (List ℕ) E) (n bytes : ℕ) (table : Shown) (trial : Trial) (old new : ℕ)
     → ((text : List ℕ) → text ≡ summary n bytes table → Tells trial text old new)
     → IfOk result (λ text. text ≡ summary n bytes table) → IfOk result (λ text. Tells trial text old new)

@@ -13,12 +13,12 @@ use Rattle.session.specs.Standing.{Base, Now, IsAt, Begins, IsBefore, Stands, Is
 use Rattle.session.proofs.Cutting.{nothing_open, open_line, open_piece, whole_line, whole_piece}
 use Rattle.session.proofs.HeardLines.{heard-going, heard_end, heard_feed, last_among, last_feed}
 
--- lines are answered one behind another
+-- lines are answered one after another
 pub talk-append : (talk : Talk) (xs ys : List (List ℕ)) → talk_over talk (xs ++ ys) ≡ talk_over (talk_over talk xs) ys
 talk-append talk [] ys = refl
 talk-append talk (x ∷ xs) ys = talk-append (with_answer talk (answer talk.state x) x) xs ys
 
--- what was said stays said
+-- a front of a front is a front
 pub begins-more : (xs ys zs : List ℕ) → Begins xs ys → Begins ys zs → Begins xs zs
 begins-more xs ys zs p q = (p.0 ++ q.0, q.1 ∙ ap (λ t. t ++ q.0) p.1 ∙ append_assoc xs p.0 q.0)
 
@@ -50,7 +50,7 @@ module _ (first : Talk) (taken : List ℕ) (going : list_any is_last (whole_line
   talk_end h = ap (talk_over first) (heard_end taken going h) ∙ talk-append first (whole_lines taken)
       (unfinished taken ∷ [])
 
-  -- no line is open at the end
+  -- the talk over an input on which no line is left open
   pub talk_ended : unfinished taken ≡ [] → talk_on first taken ≡ talked
   talk_ended h =
       ap (λ ls. talk_over first (heard ls)) (nothing_open taken h ∙ sym (append-nil (whole_lines taken)))
@@ -70,7 +70,7 @@ module _ (first : Talk) (taken : List ℕ) (going : list_any is_last (whole_line
     pub over_feed : talk_over first (whole_lines (taken ++ (piece ++ 10 ∷ []))) ≡ next talked line
     over_feed = ap (talk_over first) (whole_line taken piece clear) ∙ talk-append first (whole_lines taken) (line ∷ [])
 
--- what is said at a point of a talk is before all that follows
+-- the output at a point of a talk is a front of that of everything that follows
 pub at_before : (base : Base) (talk more : Talk) (lines : List (List ℕ)) (now : Now) → IsAt base talk now
     → more ≡ talk_over talk lines → IsBefore base more now.said
 at_before base talk more lines now at e = record {
@@ -82,7 +82,7 @@ at_before base talk more lines now at e = record {
 
 module _ (base : Base) (first : Talk) (taken : List ℕ) (held : Option (List ℕ)) (now : Now)
     (s : Stands base first taken held now) where
-  -- a piece that goes on with the line
+  -- the piece continues the line
   pub fed_piece : (piece : List ℕ) (held_now : Option (List ℕ)) → lacks 10 piece ≡ true
       → held_now ≡ readable (unfinished taken ++ piece) → Stands base first (taken ++ piece) held_now now
   fed_piece piece held_now clear h = record {
@@ -95,7 +95,7 @@ module _ (base : Base) (first : Talk) (taken : List ℕ) (held : Option (List �
     abbrev answered : Talk
     answered = next (talk_over first (whole_lines taken)) (unfinished taken ++ piece)
 
-    -- a line that is answered, and is not the last
+    -- the line is answered and is not the last
     pub fed_line : (held_now : Option (List ℕ)) (after : Now) → false ≡ is_last (unfinished taken ++ piece)
         → held_now ≡ Some [] → IsAt base answered after → Stands base first (taken ++ (piece ++ 10 ∷ [])) held_now after
     unfolding readable
@@ -105,7 +105,7 @@ module _ (base : Base) (first : Talk) (taken : List ℕ) (held : Option (List �
       part = h ∙ ap readable (sym (open_line taken piece clear));
     }
 
-    -- the last line, whatever stands behind it
+    -- the line is the last, whatever follows it
     pub fed_last : (behind more : List ℕ) (after : Now) → true ≡ is_last (unfinished taken ++ piece)
         → IsAt base answered after
         → IsOver base first (taken ++ (piece ++ 10 ∷ behind)) ((taken ++ (piece ++ 10 ∷ behind)) ++ more) after
@@ -127,7 +127,7 @@ module _ (base : Base) (first : Talk) (taken : List ℕ) (held : Option (List �
             ≡ answered
         alone = ap (λ c. talk_over answered (cond c [] (heard (lines_of (behind ++ more))))) (sym d)
 
-  -- the end of the input, with no line open or with one
+  -- the end of the input, with no line open or with one open
   pub end_open : unfinished taken ≡ [] → IsAt base (talk_on first taken) now
   end_open e = subst (λ t. IsAt base t now) (sym (talk_ended first taken s.going e)) s.at
 

@@ -1,4 +1,4 @@
--- What is told behind an edit of what is watched.
+-- The report on watched conversions after an edit.
 use Rattle.std.proofs.Common.{◌≡◌, ◌+◌, ◌∷◌, [], ℕ, List, Ok, Option, refl, sym, ap, subst, ◌∙◌, arith}
 use Rattle.units_io.specs.FileMap.{FileMap}
 use Rattle.deck.specs.Decks.{Contents}
@@ -28,7 +28,7 @@ use Rattle.watch.specs.Watched.{Subject}
 no_more : (n : ℕ) → n ≡ n + 0
 no_more n = omega arith
 
--- an answer that says that the edit is made
+-- the result says that the edit was made
 pub is_made : (r : EditResult) (said : Declared) (old new : Dated) → said ≡ answer.Made
     → IsEdited {E = SessionFault} r (Ok said) old new → Makes r old new
 is_made r said old new e is = subst (λ (a : Declared). IsEdited {E = SessionFault} r (Ok a) old new) e is
@@ -38,7 +38,7 @@ module _ (r : EditResult) (notices : List ℕ) (options : Options) (pending : Op
   abbrev was : State
   was = state_of (known_dated options (dated old before) pending watched) m
 
-  -- a line refuses the edit
+  -- the edit is refused with a line
   pub refused_answered : (new : Dated) (n : ℕ) → r ≡ Refused reply.out → new ≡ dated old before → reply.err ≡ []
       → Said (editing r notices was) reply (known_dated options new pending watched) n n
   refused_answered new n is same quiet =
@@ -72,7 +72,7 @@ module _ (r : EditResult) (notices : List ℕ) (options : Options) (pending : Op
         ∙ ap (λ (t : Shown). known options t pending (versions_of (timeline after (version_of mid.deck))) watched)
         (left.table ∙ ap (λ (d : Contents). after_events events d old) deck)
 
-    -- the edit is made, and what it has changed is told
+    -- the edit was made, and the watched conversions that it changed are reported
     pub made_answered : reply.out ≡ told_by_edit (table_in old.deck) (table_in mid.deck) options watched
         → reply.err ≡ notices
         → Said (editing r notices was) reply (known_dated options (dated new after) pending watched_now) n k

@@ -1,4 +1,4 @@
--- How many lines the definitions of a trial have.
+-- The number of lines in the definitions of a trial.
 use Rattle.std.proofs.Common.{◌≡◌, ◌==◌, ◌<◌, ◌+◌, ◌/◌, ◌%◌, ◌^◌, ◌++◌, ◌∷◌, [], ℕ, zero, suc, List, false, cond}
 use Rattle.std.proofs.Common.{map}
 use Rattle.std.proofs.Common.{codes, refl, ap, ◌∙◌, arith}
@@ -13,7 +13,7 @@ use Rattle.session.specs.TrialLines.{definitions, multiple, unit_name}
 feeds-append : (xs ys : List ℕ) → line_feeds (xs ++ ys) ≡ line_feeds xs + line_feeds ys
 feeds-append xs ys = sum_by-append (λ (b : ℕ). cond (b == 10) 1 0) xs ys
 
--- no digit is one
+-- no digit is a line feed
 digits_feed : (ds : List ℕ) → line_feeds (map (λ d. 48 + d) ds) ≡ 0
 digits_feed [] = refl
 digits_feed (d ∷ ds) =
@@ -50,7 +50,7 @@ multiple_feeds i factor j h k l =
       name_feeds j l,
     )
 
--- one for each unit
+-- there is one line for each unit
 pub definitions_feeds : (n : ℕ) → n < 2 ^ 63 → line_feeds (definitions n) ≡ n + 1
 definitions_feeds zero h = refl
 definitions_feeds (suc n) h =

@@ -1,4 +1,4 @@
--- An undo after an edit, and a load of what was saved.
+-- An undo after an edit, and a load after a save.
 use Rattle.std.proofs.Common.{◌≡◌, ◌∙◌, ◌≤◌, refl, sym, ap, ℕ, true, false, true≢false, List, [], Option, Some}
 use Rattle.std.proofs.Common.{None, Result, Ok, Err, if◌then◌else◌, length, cond, arith}
 use Rattle.std.specs.Prelude.{nat_lt}
@@ -31,7 +31,7 @@ use Rattle.session.specs.Versions.{Dated, Versions, versions_behind}
 use Rattle.session.proofs.Caching.{cache-law, cache-talk}
 use Rattle.session.proofs.OtherVersions.{versions-law, versions-talk}
 
--- what an edit gives, if it is made
+-- the versions after an edit, if it was made
 abbrev versions_in : EditResult → Versions → Versions
 versions_in (Made deck versions) none = versions
 versions_in (Refused line) none = none
@@ -65,18 +65,18 @@ module _ (before : Dated) (deck : Contents) (versions : Versions) where
   after-edit Undo h e = absurd (true≢false h)
   after-edit Redo h e = absurd (true≢false h)
 
--- the version of the deck once an undo is made
+-- the version of the deck after an undo
 abbrev undone_version : State → Version
 undone_version state = version_of (deck_in (answer_to state (Edit Undo)).after)
 
--- the same lines and settings give the same table
+-- decks with the same lines and settings have the same table
 restored : (before after : Contents) → version_of after ≡ version_of before → IsRestored before after
 restored before after e = record {
   version = e;
   table = ap (λ (v : Version). table_of (definitions v.settings v.lines)) e;
 }
 
--- once an edit with this result is undone
+-- undoing an edit with this result restores the version
 undone-made : (state : State) (result : EditResult) (notices : List ℕ) (deck : Contents) (versions : Versions)
     → result ≡ Made deck versions → versions ≡ versions_behind deck (dated_in state.session)
     → undone_version (editing result notices state).after ≡ version_of (deck_in state)
@@ -103,7 +103,7 @@ undo-load state name deck made =
 not-less : (m n : ℕ) → n ≤ m → nat_lt m n ≡ false
 not-less m n h = grind (arith, nat_tests)
 
--- the file of that name has the text
+-- the file of this name has the saved text
 file-there : (files : FileMap) (name : List ℕ) (d : Contents) → CanBeSaved d
     → file_of (files_saved (saved_file d) name files) name ≡ Some (saved d)
 file-there files name d can =

@@ -1,4 +1,4 @@
--- What is watched, and the queries that are made for it.
+-- Watched conversions, and the queries that are made for them.
 use Rattle.std.proofs.Common.{◌≡◌, ◌==◌, ◌+◌, ◌++◌, ◌∷◌, [], ℕ, List, Option, Bool, false, Ok, Err, map, refl, sym, ap}
 use Rattle.std.proofs.Common.{subst, ◌∙◌, arith, length}
 use Rattle.std.specs.Prelude.{Result}
@@ -26,7 +26,7 @@ use Rattle.watch.specs.Watched.{Subject, all_queries, queries_of, renewed, reply
 use Rattle.watch.specs.declared.watch.Watch.{Watch}
 
 module _ (table : Table) (options : Options) where
-  -- watches with other replies are of the same conversions
+  -- renewed watches are of the same conversions
   pub same_subjects : (watches : List Watch) → map subject_of (map (renewed table options) watches)
       ≡ map subject_of watches
   same_subjects [] = refl
@@ -50,7 +50,7 @@ not_full watches room = by (length (map subject_of watches)) (length-map watches
     by : (n : ℕ) → n ≡ length watches → (n == 1000) ≡ false
     by n e = grind (arith, nat_tests, room, e)
 
--- a result that is there is no fault
+-- a success is not an error
 pub no_fault : {A E : Type 0} (x : A) (fault : E) → Ok x ≡ Err fault → ⊥
 no_fault x fault e = cc
 
@@ -59,7 +59,7 @@ module _ (options : Options) (pending : Option (List ℕ)) (versions : Versions)
   abbrev events : List Event
   events = queries_of (table_in old.deck) options s
 
-  -- a conversion is watched, and its reply is told
+  -- a conversion is watched, and its reply is returned
   pub watch_answered : (length watches ≡ 1000 → ⊥)
       → reply.out ≡ notice (length watches + 1) (reply_to (table_in old.deck) options s) → reply.err ≡ []
       → now ≡ watches ++ watch_on (table_in old.deck) options s ∷ [] → Follows events old new n k

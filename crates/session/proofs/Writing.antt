@@ -1,4 +1,4 @@
--- What a piece of the input gave is written.
+-- The output for a piece of the input is written.
 use Rattle.std.proofs.Common.{MatchResult, inl, ◌≡◌, ◌++◌, [], ℕ, List, Bool, true, false, refl, sym, ap, subst, ◌∙◌}
 use Rattle.std.proofs.Common.{append_assoc, length, ◌==◌, Some, Result, Ok, Err}
 use Rattle.std.specs.declared.option.Option.{Option}
@@ -26,7 +26,7 @@ use Rattle.session.proofs.Ending.{by_fault, ended_by, part_but}
 use Rattle.session.proofs.HeardLines.{heard_more}
 use Rattle.session.proofs.Talking.{at_before}
 
--- how far a talk is answered by what was taken up, whether the session goes on, is over, or broke off
+-- how far a talk is answered by the bytes that were fed, whether the session goes on, is over, or broke off
 fed_broken : (result : Result Bool SessionFault) (base : Base) (first : Talk) (taken bytes left more : List ℕ)
     (held : Option (List ℕ)) (now : Now) → Fed result base first taken bytes left more held now
     → BreaksOff (result ≡ Err WriteFailed) base first (heard (lines_of ((taken ++ bytes) ++ more))) now
@@ -46,21 +46,21 @@ fed_broken (Err fault) base first taken bytes left more held now broken =
     broken_by (fault ≡ WriteFailed) (Err fault ≡ Err WriteFailed) base first
     (heard (lines_of ((taken ++ bytes) ++ more))) now (λ is. ap Err is) broken
 
--- where a line ended the session
+-- a line of the bytes that were fed ended the session
 pub fed_over : (fed : Result Bool SessionFault) (base : Base) (first : Talk) (taken bytes left more : List ℕ)
     (held : Option (List ℕ)) (now : Now) → fed ≡ Ok true → Fed fed base first taken bytes left more held now
     → IsOver base first (taken ++ bytes) ((taken ++ bytes) ++ more) now
 fed_over fed base first taken bytes left more held now is up =
     subst (λ (r : Result Bool SessionFault). Fed r base first taken bytes left more held now) is up
 
--- and where it goes on
+-- the session goes on after the bytes that were fed
 pub fed_on : (fed : Result Bool SessionFault) (base : Base) (first : Talk) (taken bytes left more : List ℕ)
     (held : Option (List ℕ)) (now : Now) → fed ≡ Ok false → Fed fed base first taken bytes left more held now
     → (done : List ℕ) × (bytes ≡ done ++ left) × Stands base first (taken ++ done) held now
 fed_on fed base first taken bytes left more held now is up =
     subst (λ (r : Result Bool SessionFault). Fed r base first taken bytes left more held now) is up
 
--- a session that waits within a block of its input takes up bytes of the rest, and what that gave is written
+-- a session that waits within a block was fed bytes of the rest, and their output is written
 module _ (first : Talk) (taken block ready rest left more : List ℕ) (b : block ≡ ready ++ rest)
     (held : Option (List ℕ)) (session : Known) (start now : Outside)
     (w : Waits first (taken ++ ready) held session start now) (fed : Result Bool SessionFault)
@@ -76,7 +76,7 @@ module _ (first : Talk) (taken block ready rest left more : List ℕ) (b : block
   abbrev all_input : List ℕ
   all_input = (taken ++ block) ++ more
 
-  -- in part
+  -- the output is written in part, and it is a part of the whole
   part_if : GrowsByFront now.out after.out said.out.items → GrowsByFront now.err after.err said.err.items
       → IsPartIf (fed ≡ Err WriteFailed) (session_course first all_input) start after
   part_if o e =
@@ -85,13 +85,13 @@ module _ (first : Talk) (taken block ready rest left more : List ℕ) (b : block
       (same_input taken block ready rest more b)
       (fed_broken fed stood first (taken ++ ready) rest left more held_now stands_now up)) o e
 
-  -- a part of what was said is written
+  -- the output is written in part
   pub part_written : GrowsByFront now.out after.out said.out.items → GrowsByFront now.err after.err said.err.items
       → (fed ≡ Err WriteFailed → Rose start.store_faults after.store_faults)
       → IsPartBut (session_course first all_input) start after
   part_written o e rose = part_but Bool fed first all_input start after (part_if o e) rose
 
-  -- in full, and it is the last
+  -- the output is written in full, and it is the last
   whole_written : after.out ≡ grown now.out said.out.items → after.err ≡ grown now.err said.err.items → fed ≡ Ok true
       → IsAll (output_of (talk_on first all_input)) start after
   whole_written o e is =
@@ -99,7 +99,7 @@ module _ (first : Talk) (taken block ready rest left more : List ℕ) (b : block
       after (same_input taken block ready rest more b)
       (fed_over fed stood first (taken ++ ready) rest left more held_now stands_now is up).at o e
 
-  -- by how the session ends
+  -- the output is written in full, and the session ended
   pub ended_written : (ending : SessionEnd) → Some ending ≡ end_of fed → after.out ≡ grown now.out said.out.items
       → after.err ≡ grown now.err said.err.items
       → (fed ≡ Err ReadFailed → Rose start.fetch_faults after.fetch_faults)
@@ -110,7 +110,7 @@ module _ (first : Talk) (taken block ready rest left more : List ℕ) (b : block
       (part_if (front_all now.out after.out said.out.items o) (front_all now.err after.err said.err.items e))
       (whole_written o e) rose stored
 
-  -- in full, and the session goes on behind more of the block
+  -- the output is written in full, and the session goes on after more of the block
   pub waits_on : after.out ≡ grown now.out said.out.items → after.err ≡ grown now.err said.err.items → fed ≡ Ok false
       → (done : List ℕ) × (block ≡ done ++ left) × Waits first (taken ++ done) held_now new start after
   waits_on o e is =
@@ -144,7 +144,7 @@ waits_at_first first taken block held session start was is out err files fetches
       }),
 )
 
--- and behind one of which nothing is left
+-- a session waits after a block of which nothing is left
 pub waits_behind : (first : Talk) (taken block ready rest : List ℕ) (held : Option (List ℕ)) (session : Known)
     (start now : Outside) → block ≡ ready ++ rest → (length rest == 0) ≡ true
     → Waits first (taken ++ ready) held session start now → Waits first (taken ++ block) held session start now
@@ -152,7 +152,7 @@ waits_behind first taken block ready rest held session start now b none w =
     subst (λ t. Waits first (taken ++ t) held session start now)
     (sym (b ∙ ap (λ t. ready ++ t) (empty-nil rest none) ∙ append-nil ready)) w
 
--- a session that waits takes up the end of its input, and what that gave is written
+-- a waiting session was fed the end of its input, and the output for that is written
 module _ (first : Talk) (input : List ℕ) (held : Option (List ℕ)) (session : Known) (start now : Outside)
     (w : Waits first input held session start now) (A : Type 0) (fed : Result A SessionFault) (said : Said)
     (new : Known) (after : Outside)
@@ -181,13 +181,13 @@ module _ (first : Talk) (input : List ℕ) (held : Option (List ℕ)) (session :
           broken_by (fault ≡ WriteFailed) (Err fault ≡ Err WriteFailed) stood_last first (heard (lines_of input))
           stands_last (λ is. ap Err is) broken
 
-  -- a part of what was said last is written
+  -- the last output is written in part
   pub last_part : GrowsByFront now.out after.out said.out.items → GrowsByFront now.err after.err said.err.items
       → (fed ≡ Err WriteFailed → Rose start.store_faults after.store_faults)
       → IsPartBut (session_course first input) start after
   last_part o e rose = part_but A fed first input start after (last_if o e) rose
 
-  -- all of it is, and the session ends
+  -- the last output is written in full, and the session ends
   pub last_written : (ending : SessionEnd) → ending ≡ last_end fed → after.out ≡ grown now.out said.out.items
       → after.err ≡ grown now.err said.err.items
       → (fed ≡ Err ReadFailed → Rose start.fetch_faults after.fetch_faults)

@@ -1,4 +1,4 @@
--- Some lines, and what they are answered with, whatever the session is.
+-- Some lines and the answers to them, in any session.
 use Rattle.std.specs.Prelude.{◌≡◌, ◌+◌, ◌++◌, ◌∷◌, [], ℕ, List, false, true, length, take, drop, Some, None, Ok, Err}
 use Rattle.std.specs.Prelude.{codes}
 use Rattle.std.specs.FinMap as map_of
@@ -26,27 +26,27 @@ use Rattle.session.specs.Sessions.{State}
 use Rattle.session.specs.Steps.{answer}
 use Rattle.session.specs.Watching.{is_full}
 
--- a reply on `out`, and nothing changes
+-- the answer is a reply on `out`, and nothing changes
 abbrev pub IsOnly : (line : List ℕ) → (reply : List ℕ) → State → Type 0
 IsOnly line reply state = answer state line ≡ saying reply state
 
--- the deck once a line is answered
+-- the deck after a line is answered
 abbrev pub deck_after : State → (line : List ℕ) → Contents
 deck_after state line = deck_in (answer state line).after
 
--- an answer is this reply, no FROM is pending after it, and the deck is as before
+-- the answer is this reply, no FROM is pending after it, and the deck is as before
 pub record IsAnsweredBy (reply : List ℕ) (given : Answer) (state : State) : Type 0 where
   pub out : given.out ≡ reply
   pub err : given.err ≡ []
   pub pending : given.after.session.pending ≡ None
   pub deck : deck_in given.after ≡ deck_in state
 
--- an answer says nothing, and this FROM is pending after it
+-- the answer is empty, and this FROM is pending after it
 pub record IsPending (from : List ℕ) (given : Answer) : Type 0 where
   pub out : given.out ≡ []
   pub pending : given.after.session.pending ≡ Some from
 
--- a line is the TO of this FROM, over the definitions of the examples of replies
+-- the reply to a line as TO of this FROM, over the definitions of the examples of replies
 abbrev pub Converts : (from line reply : List ℕ) → Type 0
 Converts from line reply =
     (state : State) → table_in (deck_in state) ≡ measures → state.session.options ≡ default
@@ -56,7 +56,7 @@ pub record AnswerExamples : Type 0 where
   pub quit : (state : State) → IsOnly (codes "quit") [] state
   pub blank : (state : State) → state.session.pending ≡ None → IsOnly (codes " # no text") [] state
   pub long : (state : State) (line : List ℕ) → readable line ≡ None → IsOnly line (codes "line too long\n") state
-  -- refusals
+  -- lines that are refused
   pub unknown : (state : State) → IsOnly (codes ":exit") (codes "unknown command: :exit\n") state
   pub bad : (state : State) → IsOnly (codes ":set SYSTEM") (codes "bad command: :set\n") state
   pub no_key : (state : State) → IsOnly (codes ":drop") (codes "bad command: :drop\n") state
@@ -77,11 +77,11 @@ pub record AnswerExamples : Type 0 where
       → IsOnly (codes ":save mine") (codes "file too long: mine\n") state
   pub many_watches : (state : State) → is_full state.session.watched ≡ true
       → IsOnly (codes ":watch ft ; m") (codes "too many watches\n") state
-  -- a FROM that has a value, of which the text is pending and not the value
+  -- a FROM that has a value: its text is pending, not the value
   pub from : (state : State) (x : Amount) → state.session.pending ≡ None
       → from_value (table_in (deck_in state)) state.session.options (codes "2 km") ≡ Good x
       → IsPending (codes "2 km") (answer state (codes " 2 km"))
-  -- conversions that are granted, and one of units that do not conform
+  -- conversions that succeed, and one of units that do not conform
   pub linear : Converts (codes "2 km") (codes " yards # far") (codes "\t* 2187.2266\n\t/ 0.0004572\n")
   pub reciprocal : Converts (codes "2 Hz") (codes "s") (codes "\treciprocal conversion\n\t* 0.5\n\t/ 2\n")
   pub unlike : Converts (codes "m") (codes "s") (codes "conformability error\n\t1 m\n\t1 s\n")
@@ -97,7 +97,7 @@ pub record AnswerExamples : Type 0 where
       ≡ after_switch (with_variable (deck_in state).settings (codes "SYSTEM") (codes "us")) (deck_in state)
   pub locale : (state : State) → deck_after state (codes ":locale en_GB")
       ≡ after_switch (with_locale (deck_in state).settings (codes "en_GB")) (deck_in state)
-  -- and what edits nothing: four names of seven are settled, by six reductions
+  -- lines that edit nothing: four of seven names are settled, after six reductions
   pub stats : (state : State) → map_of.len state.session.table.kept ≡ 4
       → length (names_in (table_in (deck_in state))) ≡ 7 → state.session.table.reductions ≡ 6
       → IsOnly (codes ":stats") (codes "settled 4 of 7, reductions 6\n") state

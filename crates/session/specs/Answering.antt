@@ -1,4 +1,4 @@
--- What the answer to a line leaves.
+-- The effects of the answer to a line.
 use Rattle.std.specs.Prelude.{◌≡◌, ◌+◌, ◌≤◌, ℕ, Result, Ok, Err, IsErrOf, ⊤}
 use Rattle.std.specs.declared.option.Option.{Option}
 use Rattle.units_io.specs.Faults.{Rose, next}
@@ -21,7 +21,7 @@ pub record Scene : Type 0 where
 abbrev pub scene_of : Known → (files : Option FileMap) → (steps : ℕ) → Scene
 scene_of session files steps = record { session = session; files = files; steps = steps }
 
--- a line was answered so: the bytes on each sink, and the scene behind it
+-- a line was answered in this way: the bytes on each sink, and the scene after it
 pub record Says (answer : Answer) (reply : LineReply) (before after : Scene) : Type 0 where
   pub out : reply.out ≡ answer.out
   pub err : reply.err ≡ answer.err
@@ -29,23 +29,24 @@ pub record Says (answer : Answer) (reply : LineReply) (before after : Scene) : T
   pub files : after.files ≡ when_told before.files answer.after.files
   pub steps : after.steps ≡ before.steps + answer.newly
 
--- a line was answered so, unless there was a fault
+-- a line was answered in this way, unless there was a fault
 abbrev pub IsAnswered : Answer → Result LineReply SessionFault → Scene → Scene → Type 0
 IsAnswered answer (Ok reply) before after = Says answer reply before after
 IsAnswered answer (Err _) before after = ⊤
 
--- a line that asks for this was answered by the state before it, where the files are told, or where it loads none
+-- a line with this command was answered as its state before it requires, if the contents of the files are known or the
+-- command loads none
 abbrev pub IsAnswerTo : Command → Result LineReply SessionFault → Scene → Scene → Type 0
 IsAnswerTo command result before after =
     (m : FileMap) → TellsIf (is_load command) before.files m
     → IsAnswered (answer_to (state_of before.session m) command) result before after
 
--- the count of failed fetches afterwards: one more exactly where a file could not be read
+-- the count of failed fetches afterwards: one more exactly if a file could not be read
 abbrev pub faults_after : {A : Type 0} → (faults : ℕ) → Result A SessionFault → ℕ
 faults_after faults (Err ReadFailed) = next faults
 faults_after faults _ = faults
 
--- how often a fetch failed, and how often a store
+-- the numbers of failed fetches and failed stores
 pub record FileFaults : Type 0 where
   pub fetches : ℕ
   pub stores : ℕ
@@ -53,14 +54,14 @@ pub record FileFaults : Type 0 where
 abbrev pub file_faults : (fetches stores : ℕ) → FileFaults
 file_faults fetches stores = record { fetches = fetches; stores = stores }
 
--- file faults are counted: a fetch failed exactly where a file could not be read, and where a file could not be written
--- a store failed
+-- file faults are counted: a fetch failed exactly if a file could not be read, and a store failed if a file could not
+-- be written
 pub record AreCounted {A : Type 0} (result : Result A SessionFault) (before now : FileFaults) : Type 0 where
   pub counted : now.fetches ≡ faults_after before.fetches result
   pub cause : IsErrOf result ReadFailed → Rose before.fetches now.fetches
   pub written : IsErrOf result WriteFailed → Rose before.stores now.stores
   pub later : before.stores ≤ now.stores
 
--- no file fault
+-- there was no file fault
 abbrev pub IsCalm : {A : Type 0} → Result A SessionFault → Type 0
 IsCalm result = (IsErrOf result ReadFailed → ⊥) × (IsErrOf result WriteFailed → ⊥)

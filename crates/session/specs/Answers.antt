@@ -1,4 +1,4 @@
--- What a line is answered with, and the state behind it.
+-- The answers to lines, and the states after them.
 use Rattle.std.specs.Prelude.{◌+◌, ◌++◌, ◌∷◌, [], ℕ, List, Bool, true, false, Option, Result, Ok, Err, codes, length}
 use Rattle.units_io.specs.FileMap.{FileMap, with_file}
 use Rattle.deck.specs.Tables.{table as table_in}
@@ -15,14 +15,14 @@ use Rattle.watch.specs.Changes.{notice}
 use Rattle.watch.specs.Edits.{told_by_edit}
 use Rattle.watch.specs.Watched.{Subject, queries_of, reply_to}
 
--- the bytes on each sink, how many names are newly settled, and the state behind the line
+-- the bytes on each sink, the number of newly settled names, and the state after the line
 pub record Answer : Type 0 where
   pub out : List ℕ
   pub err : List ℕ
   pub newly : ℕ
   pub after : State
 
--- a text on `out`, and nothing changes
+-- a text on `out`; nothing changes
 abbrev pub saying : List ℕ → State → Answer
 saying text state = record { out = text; err = []; newly = 0; after = state }
 
@@ -32,7 +32,7 @@ with_table table pending state =
     let session = state.session in
     record { session = known session.options table pending session.versions session.watched; files = state.files }
 
--- a state whose deck was edited: this table, and these versions before it and behind it
+-- a state with an edited deck: this table, and these versions before and after it
 abbrev pub with_edit : Shown → Versions → State → State
 with_edit table versions state =
     let session = state.session in
@@ -44,7 +44,7 @@ with_watched table watched state =
     let session = state.session in
     record { session = known session.options table session.pending session.versions watched; files = state.files }
 
--- what is asked, with this FROM pending behind it
+-- the reply of a query, after which this FROM is pending
 abbrev pub replying : Asked → (pending : Option (List ℕ)) → State → Answer
 replying asked pending state = record {
   out = asked.reply.text;
@@ -53,8 +53,8 @@ replying asked pending state = record {
   after = with_table (asked_table asked.queries state.session.table) pending state;
 }
 
--- an edit that came to this, with the notices of a file that was loaded: of what is watched, all is asked for again,
--- and what has changed is told
+-- the answer to an edit with this result, with the notices of a file if one was loaded: all watched conversions are
+-- queried again, and those that changed are reported
 abbrev pub editing : EditResult → (notices : List ℕ) → State → Answer
 editing (Refused line) notices state = saying line state
 editing (Made deck versions) notices state =
@@ -67,7 +67,8 @@ editing (Made deck versions) notices state =
       after = with_edit (after_events events deck session.table) versions state;
     }
 
--- a conversion is watched from now on, and its reply is told; or a line says that there are as many as there may be
+-- a conversion is watched from now on, and its reply is returned; or a line says that the largest number is already
+-- watched
 abbrev pub watching : (full : Bool) → Subject → State → Answer
 watching true s state = saying (codes "too many watches\n") state
 watching false s state =
@@ -81,11 +82,11 @@ watching false s state =
       after = with_watched (asked_table events session.table) (session.watched ++ s ∷ []) state;
     }
 
--- nothing is watched any more
+-- nothing is watched any longer
 abbrev pub unwatching : State → Answer
 unwatching state = record { out = []; err = []; newly = 0; after = with_watched state.session.table [] state }
 
--- a file of this name with the text of the deck, or a line that it would be too long
+-- the answer to a save: nothing, or a line that says that the file would be too long
 abbrev pub saved_line : Result (List ℕ) SaveFault → (name : List ℕ) → List ℕ
 saved_line (Ok text) name = []
 saved_line (Err fault) name = word_line (codes "file too long: ") name

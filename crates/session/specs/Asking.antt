@@ -1,4 +1,4 @@
--- What is asked of the live table of a session for a text that is to be FROM.
+-- The queries of the live table for a text as FROM.
 use Rattle.std.specs.Prelude.{[], ℕ, List, Option, Some, None, false}
 use Rattle.def_entry.specs.Tables.{Table}
 use Rattle.reply.specs.Replies.{from_value, value_queries}
@@ -8,17 +8,17 @@ use Rattle.reply.specs.declared.reply.FromValue.{FromValue}
 use Rattle.reply.specs.declared.reply.FromValue.TheVariants.{Good, Bad}
 use Rattle.survey.specs.Asked.{Asked, fault_reply}
 
--- a text that has a value is FROM
+-- a text is FROM if it has a value
 abbrev pub from_of : FromValue → (text : List ℕ) → Option (List ℕ)
 from_of (Good x) text = Some text
 from_of (Bad fault) text = None
 
--- nothing is said of it before TO stands; of another its fault
+-- the reply to FROM alone before TO is given: nothing if it has a value, or else its fault
 abbrev pub from_reply : FromValue → Reply
 from_reply (Good x) = record { text = []; refused = false }
 from_reply (Bad fault) = fault_reply fault
 
--- a text that is to be FROM
+-- the reply and the queries for a text as FROM
 abbrev pub valued : Table → Options → (text : List ℕ) → Asked
 valued table options text = record {
   reply = from_reply (from_value table options text);

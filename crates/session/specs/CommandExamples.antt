@@ -1,9 +1,9 @@
--- Some lines, and what they ask for.
+-- Some lines and the commands that they give.
 use Rattle.std.specs.Prelude.{◌≡◌, [], ℕ, List, codes}
 use Rattle.session.specs.Commands.{Bad, Blank, Conformable, Define, DropLast, Edit, Expression, Load, Locale}
 use Rattle.session.specs.Commands.{Quit, Redo, Save, Search, Set, Stats, Undo, Unknown, Unwatch, Watch, command_of}
 
--- the word of a command that lacks what it needs
+-- a line that gives `Bad` with this word
 abbrev pub IsBad : (line word : List ℕ) → Type 0
 IsBad line word = command_of line ≡ Bad word
 
@@ -15,7 +15,7 @@ pub record CommandExamples : Type 0 where
   pub search : command_of (codes "search  foot ") ≡ Search (codes "foot")
   pub expression : command_of (codes " 2 km # far") ≡ Expression (codes "2 km")
   pub search_alone : command_of (codes "search") ≡ Expression (codes "search")
-  -- each word with its arguments
+  -- each command word with its arguments
   pub define : command_of (codes ":define  yard 3 ft ") ≡ Edit (Define (codes "yard 3 ft"))
   pub drop : command_of (codes ":drop k-") ≡ Edit (DropLast (codes "k-"))
   pub drop_alone : command_of (codes ":drop") ≡ Edit (DropLast [])
@@ -28,7 +28,7 @@ pub record CommandExamples : Type 0 where
   pub stats : command_of (codes ":stats") ≡ Stats
   pub watch : command_of (codes ":watch 1 ft ; m ; s") ≡ Watch (codes "1 ft") (codes "m ; s")
   pub unwatch : command_of (codes ":unwatch") ≡ Unwatch
-  -- words that lack an argument, or have one too many
+  -- command words that lack an argument, or have one too many
   pub no_definition : IsBad (codes ":define") (codes ":define")
   pub no_value : IsBad (codes ":set SYSTEM") (codes ":set")
   pub no_locale : IsBad (codes ":locale ") (codes ":locale")
@@ -41,6 +41,6 @@ pub record CommandExamples : Type 0 where
   pub blank_from : IsBad (codes ":watch ; m") (codes ":watch")
   pub list_as_to : IsBad (codes ":watch ft ; ?") (codes ":watch")
   pub unwatch_one : IsBad (codes ":unwatch ft") (codes ":unwatch")
-  -- and words that are none of them
+  -- words that are not command words
   pub unknown : command_of (codes ":quit now") ≡ Unknown (codes ":quit")
   pub prefix : command_of (codes ":und") ≡ Unknown (codes ":und")

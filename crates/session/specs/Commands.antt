@@ -1,4 +1,4 @@
--- What a line of a session asks for.
+-- The commands that the lines of a session give.
 use Rattle.std.specs.Prelude.{◌==◌, ◌||◌, ◌∷◌, [], ℕ, List, Bool, true, false, not, if◌then◌else◌, codes}
 use Rattle.std.specs.Prelude.{Option, Some, None}
 use Rattle.std.specs.Str.{bytes_eq}
@@ -9,7 +9,7 @@ use Rattle.def_lines.specs.Words.{first_word, behind_word, is_empty}
 use Rattle.session.specs.declared.colon_word.ColonWord.{ColonWord}
 use Rattle.session.specs.declared.colon_word.ColonWord.TheVariants as colon
 
--- an edit of the deck that needs no file; `DropLast` has the text behind its word, which may be the text of no key
+-- an edit of the deck that needs no file; `DropLast` has the text after its word, which may name no key
 pub data DeckEdit : Type 0 where
   Define : List ℕ → DeckEdit
   DropLast : List ℕ → DeckEdit
@@ -33,34 +33,34 @@ pub data Command : Type 0 where
   Bad : List ℕ → Command
   Expression : List ℕ → Command
 
--- a command, unless it lacks what it needs
+-- a command if its arguments are good, or else `Bad` with its word
 abbrev pub where_good : Bool → Command → (word : List ℕ) → Command
 where_good good command word = if good then command else Bad word
 
--- FROM and TO of a conversion to watch: neither is blank, and TO asks for no list of what conforms
+-- the watch of FROM and TO: neither may be blank, and TO may not be `?`
 abbrev pub watch_sides : (from to word : List ℕ) → Command
 watch_sides from to word =
     where_good (not (is_empty from || is_empty to || bytes_eq to (codes "?"))) (Watch from to) word
 
--- they stand before and behind the first `;`, without blanks at their ends
+-- FROM and TO before and after the first `;`, without blanks at their ends
 abbrev pub watch_parts : Option (List ℕ × List ℕ) → (word : List ℕ) → Command
 watch_parts None word = Bad word
 watch_parts (Some p) word = watch_sides (trimmed p.0) (trimmed p.1) word
 
--- a name, and a value behind it
+-- a name, followed by a value
 abbrev pub set_command : (rest word : List ℕ) → Command
 set_command rest word =
     where_good (not (is_empty (behind_word rest))) (Edit (Set (first_word rest) (behind_word rest))) word
 
--- a command that needs a text behind its word
+-- a command that needs a text after its word
 abbrev pub with_text : Command → (rest word : List ℕ) → Command
 with_text command rest word = where_good (not (is_empty rest)) command word
 
--- a command with nothing behind its word
+-- a command that must have nothing after its word
 abbrev pub alone : Command → (rest word : List ℕ) → Command
 alone command rest word = where_good (is_empty rest) command word
 
--- the words that begin with a colon
+-- the command words, which begin with a colon
 abbrev pub colon_words : List (List ℕ × ColonWord)
 colon_words =
     (codes ":define", colon.Define)
@@ -76,12 +76,12 @@ colon_words =
     ∷ (codes ":unwatch", colon.Unwatch)
     ∷ []
 
--- what stands beside a word in such a list
+-- the entry of a word in such a list, if it has one
 abbrev pub beside : List ℕ → List (List ℕ × ColonWord) → Option ColonWord
 beside word [] = None
 beside word (c ∷ cs) = if bytes_eq word c.0 then Some c.1 else beside word cs
 
--- what each asks for with the rest behind it
+-- the command of each command word, given the rest of its line
 abbrev pub with_rest : ColonWord → (rest word : List ℕ) → Command
 with_rest colon.Define rest word = with_text (Edit (Define rest)) rest word
 with_rest colon.DropLast rest word = Edit (DropLast rest)
@@ -95,20 +95,20 @@ with_rest colon.Stats rest word = alone Stats rest word
 with_rest colon.Watch rest word = watch_parts (cut_at 59 rest) word
 with_rest colon.Unwatch rest word = alone Unwatch rest word
 
--- the same where the word is one of them
+-- the command of a command word, or `Unknown` if the word is not one
 abbrev pub colon_by : Option ColonWord → (rest word : List ℕ) → Command
 colon_by None rest word = Unknown word
 colon_by (Some asked) rest word = with_rest asked rest word
 
--- what a word that begins with a colon and the rest behind it ask for
+-- the command of a word that begins with a colon, given the rest of its line
 unfoldable pub colon_command : (word rest : List ℕ) → Command
 colon_command word rest = colon_by (beside word colon_words) rest word
 
--- `search` with a text, and without one an expression
+-- `search` with a text; without one it is an expression
 abbrev pub searching : (rest text : List ℕ) → Command
 searching rest text = if is_empty rest then Expression text else Search rest
 
--- what a text asks for
+-- the command that the text of a line gives
 unfoldable pub command_in : List ℕ → Command
 command_in [] = Blank
 command_in (b ∷ bytes) =
@@ -119,7 +119,7 @@ command_in (b ∷ bytes) =
     else if bytes_eq (first_word text) (codes "search") then searching (behind_word text) text
     else Expression text
 
--- what a line asks for
+-- the command that a line gives
 abbrev pub command_of : List ℕ → Command
 command_of line = command_in (line_content line)
 
@@ -135,7 +135,7 @@ abbrev pub is_save : Command → Bool
 is_save (Save name) = true
 is_save _ = false
 
--- the name of the file that it saves
+-- the name of the file that a command saves
 abbrev pub saved_name : Command → Option (List ℕ)
 saved_name (Save name) = Some name
 saved_name _ = None
@@ -144,6 +144,6 @@ saved_name _ = None
 abbrev pub saved_in : List ℕ → Option (List ℕ)
 saved_in line = saved_name (command_of line)
 
--- it names a file
+-- whether a command names a file
 abbrev pub names_file : Command → Bool
 names_file command = is_load command || is_save command

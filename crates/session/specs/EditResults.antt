@@ -1,4 +1,4 @@
--- What edits of the deck of a session come to.
+-- The results of edits of the deck of a session.
 use Rattle.std.specs.Prelude.{[], ℕ, List, Option, Some, None, Result, Ok, Err, codes}
 use Rattle.def_entry.specs.Keys.{key_of}
 use Rattle.def_entry.specs.declared.key.Key.{Key}
@@ -12,27 +12,28 @@ use Rattle.session.specs.Editing.{deck_with, refusal, with_locale, with_variable
 use Rattle.session.specs.Lines.{line_of, word_line}
 use Rattle.session.specs.Versions.{Dated, Versions, timeline_of, versions_behind, versions_of}
 
--- it is made, and gives this deck with these versions before and behind it; or a line refuses it, and nothing changes
+-- the edit is made and gives this deck, with these versions before and after it; or it is refused with a line, and
+-- nothing changes
 pub data EditResult : Type 0 where
   Made : Contents → Versions → EditResult
   Refused : (line : List ℕ) → EditResult
 
--- an edit of this outcome, where it is one of a key or a file written so
+-- the result of an edit with this outcome; `named` is the key or file as it was typed, if the edit has one
 abbrev pub edit_result : Result Contents DeckFault → (named : List ℕ) → Dated → EditResult
 edit_result (Ok deck) named before = Made deck (versions_behind deck before)
 edit_result (Err fault) named before = Refused (line_of (refusal fault named))
 
--- an undo or a redo to this timeline, or that there is nothing to do
+-- the result of an undo or a redo: it gives this timeline, or there is nothing to undo or redo
 abbrev pub turn_result : Option Timeline → (nothing : List ℕ) → Contents → EditResult
 turn_result None nothing deck = Refused (line_of nothing)
 turn_result (Some t) nothing deck = Made (deck_with t.present deck) (versions_of t)
 
--- the last line of a key is taken out, where the text is that of a key
+-- the result of removing the last line of the key that a text names, if it names one
 abbrev pub drop_result : Option Key → (text : List ℕ) → Dated → EditResult
 drop_result None text before = Refused (word_line (codes "bad command: ") (codes ":drop"))
 drop_result (Some key) text before = edit_result (after_drop key before.table.deck) text before
 
--- what each edit comes to
+-- the result of each edit
 abbrev pub edited_by : DeckEdit → Dated → EditResult
 edited_by (Define line) before = edit_result (after_define (trimmed line) before.table.deck) [] before
 edited_by (DropLast text) before = drop_result (key_of text) text before

@@ -1,6 +1,5 @@
--- Laws of what came before a line. Outcomes that are cached change no answer but that to `:stats`; the versions of the
--- deck change none but those to `:undo` and `:redo`; an undo gives back what an edit changed, and a load gives back
--- what was saved.
+-- Laws about the past of a line. Cached outcomes affect only the answer to `:stats`; versions of the deck affect only
+-- the answers to `:undo` and `:redo`; an undo restores what an edit changed, and a load restores what was saved.
 use Rattle.std.specs.Prelude.{◌≡◌, ℕ, List, Bool, true, false, Ok}
 use Rattle.std.specs.List.{list_any}
 use Rattle.deck.specs.Decks.{Contents}
@@ -19,7 +18,7 @@ use Rattle.session.specs.Steps.{answer_to}
 use Rattle.session.specs.Talks.{Talk, talk_over}
 use Rattle.session.specs.Versions.{Versions}
 
--- a state with these outcomes cached, and this count of names that were settled
+-- a state with these cached outcomes, and this count of settled names
 abbrev pub with_cache : Kept → (reductions : ℕ) → State → State
 with_cache cached reductions state =
     let session = state.session in
@@ -51,7 +50,7 @@ abbrev pub asks_undo_or_redo : Command → Bool
 asks_undo_or_redo (Edit edit) = is_undo_or_redo edit
 asks_undo_or_redo _ = false
 
--- two answers have the same bytes, and the states after them differ in the cache and its count alone
+-- two answers have the same bytes, and the states after them differ only in the cache and its count
 pub record IsSameButCached (a b : Answer) : Type 0 where
   pub out : b.out ≡ a.out
   pub err : b.err ≡ a.err
@@ -59,7 +58,8 @@ pub record IsSameButCached (a b : Answer) : Type 0 where
   pub reductions : ℕ
   pub after : b.after ≡ with_cache cached reductions a.after
 
--- two answers have the same bytes and settle as many names, and the states after them differ in their versions alone
+-- two answers have the same bytes and settle equally many names, and the states after them differ only in their
+-- versions
 pub record IsSameButVersions (a b : Answer) : Type 0 where
   pub out : b.out ≡ a.out
   pub err : b.err ≡ a.err
@@ -67,7 +67,7 @@ pub record IsSameButVersions (a b : Answer) : Type 0 where
   pub versions : Versions
   pub after : b.after ≡ with_versions versions a.after
 
--- the same of two talks
+-- two talks have said the same bytes, and their states differ only in the cache and its count
 pub record AreSameButCached (a b : Talk) : Type 0 where
   pub out : b.out ≡ a.out
   pub err : b.err ≡ a.err
@@ -82,7 +82,7 @@ pub record AreSameButVersions (a b : Talk) : Type 0 where
   pub versions : Versions
   pub state : b.state ≡ with_versions versions a.state
 
--- a deck has the lines and the settings of another, and so the table that all replies are made from
+-- a deck has the lines and the settings of another, and therefore the same table, from which all replies are made
 pub record IsRestored (before after : Contents) : Type 0 where
   pub version : version_of after ≡ version_of before
   pub table : table_in after ≡ table_in before
@@ -95,34 +95,34 @@ deck_in state = state.session.table.deck
 abbrev pub after_undone : State → Command → State
 after_undone state command = (answer_to (answer_to state command).after (Edit Undo)).after
 
--- law: what is cached, and how much was counted, changes no answer but that to `:stats`
+-- law: the cache and its count affect only the answer to `:stats`
 abbrev pub CacheLaw : Type 0
 CacheLaw = (state : State) (cached : Kept) (reductions : ℕ) (command : Command) → asks_stats command ≡ false
     → IsSameButCached (answer_to state command) (answer_to (with_cache cached reductions state) command)
 
--- law: nor the answers to many lines, if none of them asks for it
+-- law: the cache and its count do not affect the answers to lines, if none of them is `:stats`
 abbrev pub CacheTalkLaw : Type 0
 CacheTalkLaw = (a b : Talk) (lines : List (List ℕ)) → list_any (λ line. asks_stats (command_of line)) lines ≡ false
     → AreSameButCached a b → AreSameButCached (talk_over a lines) (talk_over b lines)
 
--- law: versions change no answer but those to `:undo` and `:redo`
+-- law: versions affect only the answers to `:undo` and `:redo`
 abbrev pub VersionsLaw : Type 0
 VersionsLaw = (state : State) (versions : Versions) (command : Command) → asks_undo_or_redo command ≡ false
     → IsSameButVersions (answer_to state command) (answer_to (with_versions versions state) command)
 
--- law: nor the answers to many lines, if none of them is one of these
+-- law: versions do not affect the answers to lines, if none of them is `:undo` or `:redo`
 abbrev pub VersionsTalkLaw : Type 0
 VersionsTalkLaw = (a b : Talk) (lines : List (List ℕ))
     → list_any (λ line. asks_undo_or_redo (command_of line)) lines ≡ false
     → AreSameButVersions a b → AreSameButVersions (talk_over a lines) (talk_over b lines)
 
--- law: an undo after an edit that was made gives back the lines, the settings and the table
+-- law: an undo after an edit that was made restores the lines, the settings and the table
 abbrev pub UndoLaw : Type 0
 UndoLaw = (state : State) (edit : DeckEdit) (deck : Contents) (versions : Versions) → is_undo_or_redo edit ≡ false
     → edited_by edit (dated_in state.session) ≡ Made deck versions
     → IsRestored (deck_in state) (deck_in (after_undone state (Edit edit)))
 
--- law: so does an undo after a load that was made
+-- law: an undo after a load that was made restores them too
 abbrev pub UndoLoadLaw : Type 0
 UndoLoadLaw = (state : State) (name : List ℕ) (deck : Contents) → after_append state.files name (deck_in state) ≡ Ok
     deck
@@ -136,7 +136,7 @@ pub record HistoryLaws : Type 0 where
   pub undo : UndoLaw
   pub undo_load : UndoLoadLaw
 
--- law: a load of what a session saved, as a run with that file makes it, gives its definitions back, under all settings
+-- law: if a run loads a file that a session saved, it has the definitions of that session, under all settings
 abbrev pub SaveLaw : Type 0
 SaveLaw = (state : State) (name : List ℕ) (settings : Settings) → CanBeSaved (deck_in state)
     → IsGivenBack (deck_in state) settings (after_load (answer_to state (Save name)).after.files name settings)

@@ -1,7 +1,7 @@
 -- The lines of an input.
 use Rattle.std.specs.Prelude.{◌==◌, ◌∷◌, ◌++◌, [], ℕ, List, if◌then◌else◌}
 
--- the lines that a line feed ends, and what stands behind the last line feed
+-- the lines that end with a line feed, and the bytes after the last line feed
 pub record Cut : Type 0 where
   pub whole : List (List ℕ)
   pub open_line : List ℕ
@@ -9,16 +9,16 @@ pub record Cut : Type 0 where
 abbrev pub with_line : List ℕ → Cut → Cut
 with_line line cut = record { whole = line ∷ cut.whole; open_line = cut.open_line }
 
--- how bytes are cut that stand behind those of a line that is not whole yet
+-- the cut of `bytes` after the bytes `part` of an unfinished line
 abbrev pub cut_from : (part bytes : List ℕ) → Cut
 cut_from part [] = record { whole = []; open_line = part }
 cut_from part (b ∷ bytes) = if b == 10 then with_line part (cut_from [] bytes) else cut_from (part ++ b ∷ []) bytes
 
--- the lines that a line feed ends
+-- the lines that end with a line feed
 abbrev pub whole_lines : List ℕ → List (List ℕ)
 whole_lines bytes = (cut_from [] bytes).whole
 
--- what no line feed ends
+-- the bytes after the last line feed
 abbrev pub unfinished : List ℕ → List ℕ
 unfinished bytes = (cut_from [] bytes).open_line
 
@@ -26,6 +26,6 @@ abbrev pub if_any : List ℕ → List (List ℕ)
 if_any [] = []
 if_any (b ∷ bytes) = (b ∷ bytes) ∷ []
 
--- the lines of an input: each ends at a line feed or at the end, and an empty rest is no line
+-- the lines of an input: each ends at a line feed or at the end of the input, and an empty rest is not a line
 abbrev pub lines_of : List ℕ → List (List ℕ)
 lines_of bytes = whole_lines bytes ++ if_any (unfinished bytes)

@@ -1,4 +1,4 @@
--- What the files are where a line is not answered, and where a session breaks off.
+-- The files after a line that is not answered, and after a session that broke off.
 use Rattle.std.specs.Prelude.{◌≡◌, ◌⊎◌, ◌∷◌, ℕ, List, Result, Ok, Err, Some, None, ⊤}
 use Rattle.std.specs.declared.option.Option.{Option}
 use Rattle.units_io.specs.FileMap.{FileMap}
@@ -7,25 +7,26 @@ use Rattle.session.specs.Hearing.{saved_by}
 use Rattle.session.specs.declared.fault.SessionFault.{SessionFault}
 use Rattle.session.specs.declared.fault.SessionFault.TheVariants.{WriteFailed}
 
--- of told files that of this name may be anything, and every other is as before; untold ones stay so
+-- every file but the one with this name is as before; if the contents were not known, they are still not known
 abbrev pub KeepsAllBut : (name : List ℕ) → (old new : Option FileMap) → Type 0
 KeepsAllBut name None new = new ≡ None
 KeepsAllBut name (Some old) new = (kept : FileMap) × (new ≡ Some kept) × KeepsOthers old kept name
 
--- the files behind a save that was not answered: where this file could not be written no other has changed, and with
--- another fault none has
+-- the files after a save that was not answered: if this file could not be written, no other has changed; with any other
+-- fault none has
 abbrev pub SaveKeeps : {A : Type 0} → (name : List ℕ) → Result A SessionFault → (old new : Option FileMap) → Type 0
 SaveKeeps name (Ok _) old new = ⊤
 SaveKeeps name (Err WriteFailed) old new = KeepsAllBut name old new
 SaveKeeps name (Err _) old new = new ≡ old
 
--- the same behind a line that saves the file of this name, or none: then all files are as before, answered or not
+-- the files after a line that saves the file of this name, as after that save; after a line that saves none, all files
+-- are as before, whether it was answered or not
 abbrev pub LineKeeps : {A : Type 0} → (name : Option (List ℕ)) → Result A SessionFault → (old new : Option FileMap)
     → Type 0
 LineKeeps None result old new = new ≡ old
 LineKeeps (Some name) result old new = SaveKeeps name result old new
 
--- the next of these lines saves a file, and that file may be anything; every other is as it was left
+-- the next of these lines saves a file, which may now have any contents; all other files are as they were left
 pub record IsSpoilt (rest : List (List ℕ)) (left files : FileMap) : Type 0 where
   pub line : List ℕ
   pub later : List (List ℕ)
@@ -34,7 +35,7 @@ pub record IsSpoilt (rest : List (List ℕ)) (left files : FileMap) : Type 0 whe
   pub saves : saved_by line ≡ Some name
   pub others : KeepsOthers left files name
 
--- the files where the answers break off before these lines: as the answers left them, or, only if a store failed, with
--- the file spoilt that the next line saves
+-- the files if the answers broke off before these lines: as the answers left them, or, only if a store failed, with the
+-- file damaged that the next line saves
 abbrev pub AreLeft : (failed : Type 0) → (rest : List (List ℕ)) → (left files : FileMap) → Type 0
 AreLeft failed rest left files = (files ≡ left) ⊎ (failed × IsSpoilt rest left files)

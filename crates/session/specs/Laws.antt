@@ -13,18 +13,18 @@ fed (line ∷ lines) = line ++ 10 ∷ fed lines
 pub record LineLaws : Type 0 where
   -- no byte of an input is lost
   pub joined : (bytes : List ℕ) → fed (whole_lines bytes) ++ unfinished bytes ≡ bytes
-  -- no line holds a line feed
+  -- no line contains a line feed
   pub lines_clear : (bytes : List ℕ) → list_all (lacks 10) (whole_lines bytes) ≡ true
   pub rest_clear : (bytes : List ℕ) → lacks 10 (unfinished bytes) ≡ true
-  -- and no other cut has these properties
+  -- no other cut has these properties
   pub only : (lines : List (List ℕ)) (rest : List ℕ) → list_all (lacks 10) lines ≡ true → lacks 10 rest ≡ true
       → (whole_lines (fed lines ++ rest) ≡ lines) × (unfinished (fed lines ++ rest) ≡ rest)
-  -- a session goes on behind lines of which none is the last
+  -- a session goes on after lines none of which is the last
   pub on : (before lines : List (List ℕ)) → list_any is_last before ≡ false →
       heard (before ++ lines) ≡ before ++ heard lines
-  -- and hears nothing behind the last
+  -- a session hears nothing after its last line
   pub over : (line : List ℕ) (lines : List (List ℕ)) → is_last line ≡ true → heard (line ∷ lines) ≡ line ∷ []
-  -- some lines
+  -- examples
   pub rest_is_line : lines_of (codes "a\nb") ≡ codes "a" ∷ codes "b" ∷ []
   pub no_empty_rest : lines_of (codes "a\n\n") ≡ codes "a" ∷ [] ∷ []
   pub quit_with_comment : is_last (codes " quit # done\r") ≡ true

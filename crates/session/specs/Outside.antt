@@ -1,4 +1,4 @@
--- What is found outside of the program, and what is left there.
+-- The state outside the program.
 use Rattle.std.specs.Prelude.{◌≡◌, ◌⊎◌, ◌+◌, ◌++◌, ◌-◌, ◌^◌, ◌<◌, [], ℕ, List, true, length, take, Some, None}
 use Rattle.std.specs.declared.option.Option.{Option}
 use Rattle.std.specs.List.{list_any}
@@ -8,7 +8,8 @@ use Rattle.units_io.specs.Faults.{Rose}
 use Rattle.session.specs.Hearing.{is_last}
 use Rattle.session.specs.Input.{whole_lines}
 
--- what source, sinks and files tell, the counts of failed fetches and stores, and the count of steps
+-- the known contents of the source, the sinks and the files; the counts of failed fetches and stores; and the count of
+-- steps
 pub record Outside : Type 0 where
   pub left : Option (List ℕ)
   pub out : Option (List ℕ)
@@ -30,20 +31,20 @@ outside_of left out err files fetch_faults store_faults steps = record {
   steps = steps;
 }
 
--- the bytes of an input that were taken, by what is left of it
+-- the bytes of an input that were read, given the bytes left of it
 abbrev pub taken_of : (input : List ℕ) → (left : Option (List ℕ)) → List ℕ
 taken_of input None = []
 taken_of input (Some left) = take (length input - length left) input
 
--- an input was taken to its end, or to a line that ends the session
+-- an input was read to its end, or to a line that ends the session
 abbrev pub IsReadToEnd : (input : List ℕ) → (left : Option (List ℕ)) → Type 0
 IsReadToEnd input left = (left ≡ Some []) ⊎ (list_any is_last (whole_lines (taken_of input left)) ≡ true)
 
--- more than so many bytes were taken between two counts, which stay at the end of their type
+-- more than `most` bytes were read between two counts, which saturate at the maximum of their type
 abbrev pub TookMoreThan : (most before after : ℕ) → Type 0
 TookMoreThan most before after = (before + most < after) ⊎ (after ≡ 2 ^ 64 - 1)
 
--- a told list of bytes has grown by these at its end, and perhaps by more
+-- a known list of bytes has grown at its end by these bytes, and perhaps by more
 abbrev pub GrowsAtLeast : (old new : Option (List ℕ)) → (bytes : List ℕ) → Type 0
 GrowsAtLeast old new bytes = (more : List ℕ) × (new ≡ grown old (bytes ++ more))
 

@@ -1,4 +1,4 @@
--- What private functions say of the answer to a line.
+-- The contracts of private functions for the answer to a line.
 use Rattle.std.specs.Prelude.{◌++◌, ◌≡◌, ◌+◌, [], ℕ, List, Bool, Result, Ok, Err, ⊤, if◌then◌else◌}
 use Rattle.live_table.specs.Calls.{IsEdit}
 use Rattle.live_table.specs.Shown.{Shown}
@@ -12,7 +12,7 @@ use Rattle.session.specs.Queries.{asked_table, newly}
 use Rattle.session.specs.Sessions.{Known, prompt}
 use Rattle.session.specs.Versions.{Dated}
 
--- what was asked is answered so, and leaves the table and the count of steps that its queries leave
+-- the reply is the answer to a query, and the table and the count of steps are as its queries leave them
 pub record Replies {A : Type 0} (events : List Event) (answer reply : A) (old new : Shown) (steps_old steps_new : ℕ)
     : Type 0 where
   pub said : reply ≡ answer
@@ -25,24 +25,25 @@ IsReplied events answer (Ok reply) old new steps_old steps_new =
     Replies events answer reply old new steps_old steps_new
 IsReplied events answer (Err _) old new steps_old steps_new = ⊤
 
--- an edit came to this: it is made
+-- an edit with this result was made
 pub record Makes (r : EditResult) (old new : Dated) : Type 0 where
   pub is : r ≡ Made new.table.deck new.versions
   pub edit : IsEdit old.table new.table
 
--- or a line refuses it, and nothing changes; as with a fault
+-- an edit with this result was made; or it was refused with a line, and nothing changes; or there was a fault, and
+-- nothing changes
 abbrev pub IsEdited : {E : Type 0} → EditResult → Result Declared E → (old new : Dated) → Type 0
 IsEdited r (Ok answer.Made) old new = Makes r old new
 IsEdited r (Ok (answer.Refused line)) old new = (r ≡ Refused line) × (new ≡ old)
 IsEdited r (Err _) old new = new ≡ old
 
--- these bytes on the sinks, and whether the session ends
+-- the bytes on the sinks, and whether the session ends
 pub record IsLine (reply : LineReply) (text notices : List ℕ) (last : Bool) : Type 0 where
   pub out : reply.out ≡ text
   pub err : reply.err ≡ notices
   pub done : reply.done ≡ last
 
--- an answer that leaves the files
+-- an answer that leaves the files as they are
 pub record Said (answer : Answer) (reply : LineReply) (new : Known) (steps_old steps_new : ℕ) : Type 0 where
   pub out : reply.out ≡ answer.out
   pub err : reply.err ≡ answer.err
@@ -53,6 +54,6 @@ abbrev pub IsSaid : {E : Type 0} → Answer → Result LineReply E → (new : Kn
 IsSaid answer (Ok reply) session steps_old steps_new = Said answer reply session steps_old steps_new
 IsSaid answer (Err _) session steps_old steps_new = ⊤
 
--- what a line says on `out`: its answer, and the prompt for the next line unless it was the last
+-- the output of a line on `out`: its answer, and the prompt for the next line unless it was the last
 abbrev pub line_said : LineReply → Known → List ℕ
 line_said reply session = reply.out ++ (if reply.done then [] else prompt session)

@@ -1,4 +1,4 @@
--- What a session over a source is.
+-- The runs of a session over a source.
 use Rattle.std.specs.Prelude.{◌≡◌, ◌⊎◌, ◌≤◌, ◌++◌, ℕ, List, [], Bool, true, false, Result, Ok, Err, Some, None}
 use Rattle.std.specs.declared.option.Option.{Option}
 use Rattle.std.specs.List.{list_any}
@@ -20,8 +20,8 @@ use Rattle.session.specs.declared.over_source.SessionEnd.TheVariants.{Done, Read
 use Rattle.session.specs.declared.over_source.SessionEnd.TheVariants.{InputTooLong}
 use Rattle.session.specs.declared.said.Said.{Said}
 
--- the cause of an ending that is not the end of the input or of the session: a read or a fetch failed, a write or a
--- store failed, or more was taken than the limit
+-- the cause of an ending other than the end of the input or of the session: a read or a fetch failed, a write or a
+-- store failed, or more bytes were read than the limit
 pub record HasItsCause (ending : SessionEnd) (before after : World) : Type 0 where
   pub read : ending ≡ ReadFault →
       Rose before.source.faults after.source.faults ⊎ Rose before.files.fetch_faults after.files.fetch_faults
@@ -30,28 +30,28 @@ pub record HasItsCause (ending : SessionEnd) (before after : World) : Type 0 whe
       ⊎ Rose before.files.store_faults after.files.store_faults
   pub too_long : ending ≡ InputTooLong → TookMoreThan 4294967296 before.source.taken after.source.taken
 
--- each sink has all the bytes that it had
+-- each sink still has all the bytes that it had
 pub record HaveGrown (before after : World) : Type 0 where
   pub out : GrowsAtLeast before.out.written after.out.written []
   pub err : GrowsAtLeast before.err.written after.err.written []
 
--- a session that opens with what is said, and then answered the lines of a source, and ended so
+-- a session wrote its opening `said`, answered the lines of a source, and ended in this way
 pub record IsSessionRun (said : Said) (session : Known) (ending : SessionEnd) (before after : World) : Type 0 where
-  -- at the end both sinks have all that the session says over its whole input, and the files are as it leaves them;
-  -- or the first lines are answered, each sink has a front of what is shown for these, and the files are as they leave
-  -- them; if the input is too long, or the source failed, these lines are the whole lines of the bytes taken, and all
-  -- is shown; a store that failed can have spoilt the one file that the next line saves. Files that no line loads may
-  -- hold anything, and nothing need be told of them
+  -- after `Done` both sinks have everything that the session says over its whole input, and the files are as it leaves
+  -- them; after any other ending the lines up to some line are answered, each sink has a front of the output for them,
+  -- and the files are as they leave them; if the input is too long or the source failed, these are the complete lines
+  -- of the bytes read, and all of their output is written; a store that failed can have damaged the one file that the
+  -- next line saves. If no line loads a file, the files may hold anything, and their contents need not be known
   pub told : (first : Talk) (input : List ℕ) (start : Outside) → before.source.left ≡ Some input →
       IsToldIf (any_loads_file input) before.files.told → Opens first said session start (outside before) →
       IsEnded (session_course first input) ending start (outside after)
-  -- a session that is done has read its input to the end, or to a line that ends it
+  -- a session that ended with `Done` has read its input to the end, or to a line that ends it
   pub heard : (input : List ℕ) → before.source.left ≡ Some input → ending ≡ Done →
       IsReadToEnd input after.source.left
   -- every other ending has its cause
   pub caused : HasItsCause ending before after
 
--- the same of a session that waits for its first line, all that it said before is written
+-- the run of a session that waits for its first line, with all its earlier output written
 pub record AreAnswered (held : Option (List ℕ)) (session : Known) (ending : SessionEnd) (before after : World) : Type 0
   where
     pub told : (first : Talk) (input : List ℕ) (start : Outside) → before.source.left ≡ Some input →
@@ -64,14 +64,14 @@ pub record AreAnswered (held : Option (List ℕ)) (session : Known) (ending : Se
     pub caused : HasItsCause ending before after
     pub grows : HaveGrown before after
 
--- no count of faults has fallen
+-- no count of faults has decreased
 pub record AreLater (before now : World) : Type 0 where
   pub fetches : before.files.fetch_faults ≤ now.files.fetch_faults
   pub stores : before.files.store_faults ≤ now.files.store_faults
   pub out : before.out.faults ≤ now.out.faults
   pub err : before.err.faults ≤ now.err.faults
 
--- a session that waits has answered a block of its input, all that this gave is written, and it waits again
+-- a waiting session has answered a block of its input and written all of the output for it, and waits again
 pub record GoesOn (block : List ℕ) (held : Option (List ℕ)) (session : Known) (held_now : Option (List ℕ))
     (session_now : Known) (before after : World) : Type 0 where
   pub waits : (first : Talk) (taken more : List ℕ) (start : Outside) →
@@ -81,7 +81,7 @@ pub record GoesOn (block : List ℕ) (held : Option (List ℕ)) (session : Known
   pub later : AreLater before after
   pub grows : HaveGrown before after
 
--- a line of a block of its input, or a fault at it, has ended a session that waits so
+-- a line of the block, or a fault at one, ended a waiting session in this way
 pub record EndsInBlock (ending : SessionEnd) (block : List ℕ) (held : Option (List ℕ)) (session : Known)
     (before after : World) : Type 0 where
   pub told : (first : Talk) (taken more : List ℕ) (start : Outside) →
@@ -92,7 +92,7 @@ pub record EndsInBlock (ending : SessionEnd) (block : List ℕ) (held : Option (
   pub caused : HasItsCause ending before after
   pub grows : HaveGrown before after
 
--- a block was answered: the session goes on, or it has ended so
+-- a block was answered: the session goes on, or it has ended in this way
 abbrev pub IsBlockAnswered : Option SessionEnd → (block : List ℕ) → (held : Option (List ℕ)) → Known
     → (held_now : Option (List ℕ)) → (session_now : Known) → (before after : World) → Type 0
 IsBlockAnswered None block held session held_now session_now before after =
@@ -100,7 +100,7 @@ IsBlockAnswered None block held session held_now session_now before after =
 IsBlockAnswered (Some ending) block held session held_now session_now before after =
     EndsInBlock ending block held session before after
 
--- a session that waits for more has ended so at the end of its input
+-- a session that waited for more input ended in this way at the end of its input
 pub record IsEndAnswered (ending : SessionEnd) (held : Option (List ℕ)) (session : Known) (before after : World)
     : Type 0 where
   pub told : (first : Talk) (input : List ℕ) (start : Outside) → IsToldIf (any_loads_file input) start.files →
@@ -110,25 +110,25 @@ pub record IsEndAnswered (ending : SessionEnd) (held : Option (List ℕ)) (sessi
   pub caused : HasItsCause ending before after
   pub grows : HaveGrown before after
 
--- how the lines of a block are cut: the session goes on behind all of it; or one of its lines is the last, if the
--- session is done
+-- how the lines of a block are cut: the session goes on after the whole block; or one of its lines is the last, if the
+-- session ended with `Done`
 abbrev pub IsBlockCut : Option SessionEnd → (taken block : List ℕ) → (held : Option (List ℕ)) → Type 0
 IsBlockCut None taken block held = Holds (taken ++ block) held
 IsBlockCut (Some ending) taken block held = ending ≡ Done → list_any is_last (whole_lines (taken ++ block)) ≡ true
 
--- how a session ends by a fault
+-- how a fault ends a session
 abbrev pub fault_end : SessionFault → SessionEnd
 fault_end ReadFailed = ReadFault
 fault_end WriteFailed = WriteFault
 fault_end OutOfMemory = NoMemory
 
--- how a session ends by what was taken up, unless it goes on
+-- how a session ended with the bytes that were fed, or `None` if it goes on
 abbrev pub end_of : Result Bool SessionFault → Option SessionEnd
 end_of (Ok false) = None
 end_of (Ok true) = Some Done
 end_of (Err fault) = Some (fault_end fault)
 
--- how a session ends by the end of its input
+-- how a session ended at the end of its input
 abbrev pub last_end : {A : Type 0} → Result A SessionFault → SessionEnd
 last_end (Ok _) = Done
 last_end (Err fault) = fault_end fault

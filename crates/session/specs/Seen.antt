@@ -1,4 +1,4 @@
--- What contracts see of a command: the bytes of its texts.
+-- Commands as contracts see them: the bytes of their texts.
 use Rattle.session.specs.declared.command.Command.{Command as Declared}
 use Rattle.session.specs.declared.command.Command.TheVariants as line
 use Rattle.session.specs.declared.command.DeckEdit.{DeckEdit as DeclaredEdit}

@@ -16,8 +16,8 @@ use Rattle.session.specs.Versions.{Dated, Versions, dated}
 use Rattle.watch.specs.Watched.{AreCurrent, Subject, subject_of}
 use Rattle.watch.specs.declared.watch.Watch.{Watch}
 
--- what contracts see of a session: how replies are written, the live table, the text of FROM where one is pending, the
--- versions of the deck that an undo and a redo give back, and the conversions that are watched
+-- a session as contracts see it: the options for its replies, the live table, the text of FROM if one is pending, the
+-- versions of the deck that an undo and a redo restore, and the watched conversions
 pub record Known : Type 0 where
   pub options : Options
   pub table : Shown
@@ -25,7 +25,7 @@ pub record Known : Type 0 where
   pub versions : Versions
   pub watched : List Subject
 
--- it is stored as its parts
+-- the encodings of sessions and their parts
 abbrev pub version_code : Coded Version
 version_code =
     code_by _ (coded× (coded_list line.the_row.coded) settings.the_row.coded) (λ v. (v.lines, v.settings))
@@ -51,27 +51,27 @@ known_code =
     (λ p. record { options = p.0; table = p.1.0; pending = p.1.1.0; versions = p.1.1.1.0; watched = p.1.1.1.1 })
     (λ _. refl)
 
--- a session and the files that it sees
+-- a session and the files that it can use
 pub record State : Type 0 where
   pub session : Known
   pub files : FileMap
 
--- of these parts
+-- a session with these parts
 abbrev pub known : Options → Shown → (pending : Option (List ℕ)) → Versions → (watched : List Subject) → Known
 known options table pending versions watched =
     record { options = options; table = table; pending = pending; versions = versions; watched = watched }
 
--- the same of a live table with the versions of its deck
+-- a session with these parts, given a live table with the versions of its deck
 abbrev pub known_dated : Options → Dated → (pending : Option (List ℕ)) → (watched : List Subject) → Known
 known_dated options d pending watched = known options d.table pending d.versions watched
 
--- a session of these parts, as contracts see it
+-- a session with these parts, given a history and watches, as contracts see it
 abbrev pub known_by : Options → Shown → Course → (pending : Option (List ℕ)) → List Watch → Known
 known_by options table history pending watches =
     known_dated options (dated table history) pending (map subject_of watches)
 
--- parts of one session: its replies can be printed, its history is one of its deck, and each reply that is kept of what
--- is watched is that in its table
+-- the parts belong to one session: its replies can be printed, its history is one of its deck, and each stored reply of
+-- a watch is the reply in its table
 abbrev pub AreParts : Options → Shown → Course → List Watch → Type 0
 AreParts options table history watches =
     IsPrintable options × Follows history table.deck × AreCurrent (table_in table.deck) options watches
@@ -87,6 +87,6 @@ abbrev pub prompt_by : (pending : Option (List ℕ)) → List ℕ
 prompt_by None = codes "You have: "
 prompt_by (Some from) = codes "You want: "
 
--- what stands before the next line
+-- the prompt before the next line
 unfoldable pub prompt : Known → List ℕ
 prompt session = if session.options.quiet then [] else prompt_by session.pending

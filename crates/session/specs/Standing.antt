@@ -1,4 +1,4 @@
--- Where a session stands while its input comes.
+-- The state of a session while its input is read.
 use Rattle.std.specs.Prelude.{◌≡◌, ◌+◌, ◌++◌, ℕ, List, Bool, true, false, Result, Ok, Err, ⊤}
 use Rattle.std.specs.declared.option.Option.{Option}
 use Rattle.std.specs.List.{list_any}
@@ -13,14 +13,14 @@ use Rattle.session.specs.declared.fault.SessionFault.{SessionFault}
 use Rattle.session.specs.declared.fault.SessionFault.TheVariants.{WriteFailed}
 use Rattle.session.specs.declared.said.Said.{Said}
 
--- what was written before, what was told of the files, and the count of steps at the start
+-- the output before the session, the known contents of the files, and the count of steps at the start
 pub record Base : Type 0 where
   pub out : List ℕ
   pub err : List ℕ
   pub files : Option FileMap
   pub steps : ℕ
 
--- what the program has: the bytes that are said and not yet written, the session, the files, and the count of steps
+-- the state of the program: the output that is not written yet, the session, the files, and the count of steps
 pub record Now : Type 0 where
   pub said : Said
   pub session : Known
@@ -30,7 +30,7 @@ pub record Now : Type 0 where
 abbrev pub now_of : Said → Known → (files : Option FileMap) → (steps : ℕ) → Now
 now_of said session files steps = record { said = said; session = session; files = files; steps = steps }
 
--- the program stands at this point of the talk; files of which nothing is told may be any
+-- the program is at this point of the talk; files whose contents are not known may hold anything
 pub record IsAt (base : Base) (talk : Talk) (now : Now) : Type 0 where
   pub out : talk.out ≡ base.out ++ now.said.out.items
   pub err : talk.err ≡ base.err ++ now.said.err.items
@@ -38,18 +38,18 @@ pub record IsAt (base : Base) (talk : Talk) (now : Now) : Type 0 where
   pub files : now.files ≡ when_told base.files talk.state.files
   pub steps : now.steps ≡ base.steps + talk.steps
 
--- some bytes are the front of others
+-- the bytes are a front of others
 abbrev pub Begins : List ℕ → List ℕ → Type 0
 Begins xs ys = (rest : List ℕ) × (ys ≡ xs ++ rest)
 
--- what is said is a front of a talk
+-- the output is a front of that of a talk
 pub record IsBefore (base : Base) (talk : Talk) (said : Said) : Type 0 where
   pub out : Begins (base.out ++ said.out.items) talk.out
   pub err : Begins (base.err ++ said.err.items) talk.err
 
--- the first of these lines are answered, and the others are not: what is said is a front of the talk over the answered
--- ones, and the files are as that talk leaves them, or, only if a store failed, with the file spoilt that the next line
--- saves
+-- the lines up to some line are answered, and the others are not: the output is a front of the talk over the answered
+-- lines, and the files are as that talk leaves them, or, only if a store failed, with the file damaged that the next
+-- line saves
 pub record BreaksOff (failed : Type 0) (base : Base) (talk : Talk) (lines : List (List ℕ)) (now : Now) : Type 0 where
   pub answered : List (List ℕ)
   pub rest : List (List ℕ)
@@ -58,36 +58,36 @@ pub record BreaksOff (failed : Type 0) (base : Base) (talk : Talk) (lines : List
   pub left : (m : FileMap) × (now.files ≡ when_told base.files m)
       × AreLeft failed rest (talk_over talk answered).state.files m
 
--- the answers to these lines broke off by a fault
+-- the answers to these lines broke off with a fault
 abbrev pub IsBroken : SessionFault → Base → Talk → (lines : List (List ℕ)) → Now → Type 0
 IsBroken fault base talk lines now = BreaksOff (fault ≡ WriteFailed) base talk lines now
 
--- no whole line of the bytes taken is the last, and the rest is held
+-- no complete line of the bytes read is the last, and the rest is held
 pub record Holds (taken : List ℕ) (held : Option (List ℕ)) : Type 0 where
   pub going : list_any is_last (whole_lines taken) ≡ false
   pub part : held ≡ readable (unfinished taken)
 
--- bytes of an input were taken up: a front of them, with these left; or one of their lines is the last; or there was a
--- fault
+-- bytes of an input were fed: a front of them, so that these are left; or one of their lines is the last; or there was
+-- a fault
 abbrev pub IsTakenUp : Result Bool SessionFault → (taken bytes left : List ℕ) → (held : Option (List ℕ)) → Type 0
 IsTakenUp (Ok false) taken bytes left held =
     (done : List ℕ) × (bytes ≡ done ++ left) × Holds (taken ++ done) held
 IsTakenUp (Ok true) taken bytes left held = list_any is_last (whole_lines (taken ++ bytes)) ≡ true
 IsTakenUp (Err _) taken bytes left held = ⊤
 
--- the whole lines of the bytes taken are answered, none of them is the last, and the rest is held
+-- the complete lines of the bytes read are answered, none of them is the last, and the rest is held
 pub record Stands (base : Base) (first : Talk) (taken : List ℕ) (held : Option (List ℕ)) (now : Now) : Type 0 where
   pub at : IsAt base (talk_over first (whole_lines taken)) now
   pub going : list_any is_last (whole_lines taken) ≡ false
   pub part : held ≡ readable (unfinished taken)
 
--- the talk over the whole input is answered
+-- the talk over the whole input is finished
 pub record IsOver (base : Base) (first : Talk) (taken input : List ℕ) (now : Now) : Type 0 where
   pub at : IsAt base (talk_on first input) now
   pub last : list_any is_last (whole_lines taken) ≡ true
 
--- bytes of an input were taken up: the session goes on behind some of them, and these are left; or a line of them
--- ended it, or there was a fault
+-- bytes of an input were fed: the session goes on after some of them, and these are left; or one of their lines ended
+-- it; or there was a fault
 abbrev pub Fed : Result Bool SessionFault → Base → Talk → (taken bytes left more : List ℕ)
     → (held : Option (List ℕ)) → Now → Type 0
 Fed (Ok false) base first taken bytes left more held now =

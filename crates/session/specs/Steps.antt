@@ -19,7 +19,7 @@ use Rattle.session.specs.Sessions.{State, dated_in}
 use Rattle.session.specs.Watching.{is_full}
 use Rattle.watch.specs.Watched.{subject}
 
--- a text is FROM: its fault, or else it is pending
+-- the answer to a text as FROM: its fault, or else the text becomes the pending FROM
 abbrev pub from_answer : (text : List ℕ) → State → Answer
 from_answer text state =
     let table = table_in state.session.table.deck in
@@ -41,7 +41,7 @@ expression_answer None text state = from_answer text state
 expression_answer (Some from) text state =
     replying (converted (table_in state.session.table.deck) state.session.options from text) None state
 
--- the answer to what a line asks for
+-- the answer to a command
 unfoldable pub answer_to : State → Command → Answer
 answer_to state Blank = blank_answer state.session.pending state
 answer_to state Quit = saying [] state
@@ -59,7 +59,7 @@ answer_to state (Unknown word) = saying (word_line (codes "unknown command: ") w
 answer_to state (Bad word) = saying (word_line (codes "bad command: ") word) state
 answer_to state (Expression text) = expression_answer state.session.pending text state
 
--- the answer to a line as it is read
+-- the answer to a line as it was read, which may be too long
 abbrev pub answer_read : State → Option (List ℕ) → Answer
 answer_read state None = saying (codes "line too long\n") state
 answer_read state (Some line) = answer_to state (command_of line)

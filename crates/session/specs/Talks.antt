@@ -9,20 +9,20 @@ use Rattle.session.specs.Lines.{lines_of_texts}
 use Rattle.session.specs.Sessions.{Known, State, prompt}
 use Rattle.session.specs.Steps.{answer}
 
--- what is said so far on each sink, how many names were newly settled, and the state
+-- the output so far for each sink, the number of newly settled names, and the state
 pub record Talk : Type 0 where
   pub out : List ℕ
   pub err : List ℕ
   pub steps : ℕ
   pub state : State
 
--- before the first line: the messages, the banner and the prompt, unless quiet
+-- the output before the first line: the messages, the banner and the prompt, unless the session is quiet
 unfoldable pub opening : Known → List ℕ
 opening session =
     if session.options.quiet then []
     else (lines_of_texts (messages session.table.deck) ++ banner session.table.deck) ++ prompt session
 
--- a session that opens, with the notices of its definitions on `err`
+-- the talk of a session that opens, with the notices of its definitions on `err`
 abbrev pub opened : State → Talk
 opened state = record {
   out = opening state.session;
@@ -31,7 +31,7 @@ opened state = record {
   state = state;
 }
 
--- what an answer says on `out`, and the prompt for the next line, unless the line was the last
+-- the output of an answer on `out`, and the prompt for the next line, unless this line was the last
 abbrev pub spoken : Answer → (line : List ℕ) → List ℕ
 spoken answer line = answer.out ++ (if is_last line then [] else prompt answer.after.session)
 
@@ -43,7 +43,7 @@ with_answer talk answer line = record {
   state = answer.after;
 }
 
--- a talk once these lines are answered
+-- a talk after these lines are answered
 abbrev pub talk_over : Talk → List (List ℕ) → Talk
 talk_over talk [] = talk
 talk_over talk (line ∷ lines) = talk_over (with_answer talk (answer talk.state line) line) lines

@@ -1,4 +1,4 @@
--- The deck of a text that has room for its lines.
+-- The decks of texts that are within the limits of a deck.
 use Rattle.std.specs.Prelude.{◌==◌, ◌<◌, ◌≤◌, ℕ, List, length}
 use Rattle.std.specs.List.{count_by}
 use Rattle.units_io.specs.FileMap.{longest_file}
@@ -8,14 +8,14 @@ use Rattle.deck.specs.Edits.{with_excerpt}
 use Rattle.deck.specs.Loading.{empty_deck}
 use Rattle.deck.specs.declared.settings.Settings.{Settings}
 
--- how many line feeds stand in a text
+-- the number of line feeds in a text
 abbrev pub line_feeds : (text : List ℕ) → ℕ
 line_feeds text = count_by (λ b. b == 10) text
 
--- fewer than 30,000 line feeds, in no more bytes than a file may have
+-- a text has fewer than 30,000 line feeds, and no more bytes than a file may have
 abbrev pub HasRoom : (text : List ℕ) → Type 0
 HasRoom text = (line_feeds text < 30000) × (length text ≤ longest_file)
 
--- the deck of a text with room, in which each include is of an absent file
+-- the deck of a text that has room, in which every include names an absent file
 unfoldable pub text_deck : (name text : List ℕ) → Settings → Contents
 text_deck name text settings = with_excerpt (lone_deck_of name text) (empty_deck settings)

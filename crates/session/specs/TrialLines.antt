@@ -1,21 +1,21 @@
--- The made-up definitions and lines of a trial.
+-- The generated definitions and lines of a trial.
 use Rattle.std.specs.Prelude.{◌≡◌, ◌++◌, ◌+◌, ◌*◌, ◌/◌, ◌%◌, [], ℕ, zero, suc, List, codes}
 use Rattle.std.specs.Fmt.{decimal}
 
--- the name of a unit by number
+-- the name of the unit with a number
 abbrev pub unit_name : ℕ → List ℕ
 unit_name i = codes "u_" ++ decimal i
 
--- the unit of a number as a multiple of another
+-- the line that defines unit `i` as `factor` times unit `j`
 abbrev pub multiple : (i factor j : ℕ) → List ℕ
 multiple i factor j = ((unit_name i ++ codes " ") ++ (decimal factor ++ codes " ")) ++ (unit_name j ++ codes "\n")
 
--- the definitions up to one of a number: each unit is once, twice or three times that of half its number
+-- the definitions up to that of unit `n`: each unit is one, two or three times the unit with half its number
 abbrev pub definitions : ℕ → List ℕ
 definitions zero = codes "u_0 !\n"
 definitions (suc n) = definitions n ++ multiple (suc n) (1 + suc n % 3) (suc n / 2)
 
--- of a trial of n rounds the k-th: an edit, and a conversion of some unit to the first
+-- the k-th round of a trial of n rounds: an edit, and a conversion of some unit to `u_0`
 abbrev pub edited : (n k : ℕ) → ℕ
 edited n k = 1 + 7 * k % n
 
@@ -27,7 +27,7 @@ round n k =
     (codes ":define " ++ multiple (edited n k) (2 + k % 3) (edited n k / 2))
     ++ (unit_name (asked n k) ++ codes "\nu_0\n")
 
--- the first of its rounds
+-- the first k rounds of a trial of n rounds
 abbrev pub rounds : (n k : ℕ) → List ℕ
 rounds n zero = []
 rounds n (suc k) = rounds n k ++ round n (suc k)

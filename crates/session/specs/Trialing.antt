@@ -1,16 +1,16 @@
--- What a trial leaves.
+-- The effects of a trial.
 use Rattle.std.specs.Prelude.{◌≡◌, ◌+◌, ℕ, List}
 use Rattle.session.specs.Sessions.{Known}
 use Rattle.session.specs.Talks.{Talk}
 use Rattle.session.specs.Trials.{Trial}
 use Rattle.session.specs.declared.said.Said.{Said}
 
--- what is told, and the names that were settled
+-- the summary of a trial, and the count of settled names
 pub record Tells (trial : Trial) (told : List ℕ) (steps_old steps_new : ℕ) : Type 0 where
   pub text : told ≡ trial.text
   pub steps : steps_new ≡ steps_old + trial.steps
 
--- a session has said all of a talk on `out`, and stands behind it
+-- a session has put all of a talk on `out`, and is in the state after it
 pub record IsTalked (talk : Talk) (said : Said) (new : Known) (steps_old steps_new : ℕ) : Type 0 where
   pub out : said.out.items ≡ talk.out
   pub session : new ≡ talk.state.session

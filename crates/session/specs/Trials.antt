@@ -1,4 +1,4 @@
--- A trial: a session over made-up definitions and made-up lines.
+-- A trial: a session over generated definitions and generated lines.
 use Rattle.std.specs.Prelude.{◌++◌, ◌+◌, [], ℕ, List, None, true, length, codes}
 use Rattle.units_io.specs.FileMap.{no_files}
 use Rattle.deck.specs.Decks.{Contents}
@@ -13,21 +13,21 @@ use Rattle.session.specs.TextDecks.{text_deck}
 use Rattle.session.specs.TrialLines.{definitions, rounds}
 use Rattle.session.specs.Versions.{no_versions}
 
--- a session that sees no file and has said nothing
+-- a talk without output, of a session that uses no files
 abbrev pub silent : Known → Talk
 silent session = record { out = []; err = []; steps = 0; state = state_of session no_files }
 
--- a quiet session over a deck of which no name is settled
+-- a quiet session over a deck in which no name is settled
 abbrev pub quiet_session : Options → Contents → Known
 quiet_session options deck =
     known (record options { quiet = true }) (fresh deck) None no_versions []
 
--- what is told of a trial, and how many names it settled
+-- the summary of a trial, and the number of names that it settled
 pub record Trial : Type 0 where
   pub text : List ℕ
   pub steps : ℕ
 
--- what is told of rounds whose replies have so many bytes, and which left this table
+-- the summary of n rounds whose replies have `bytes` bytes and which left this table
 abbrev pub summary : (n bytes : ℕ) → Shown → List ℕ
 summary n bytes table =
     (((codes "definitions " ++ counted (n + 1) (codes ", edits ")) ++ counted n (codes ", reply bytes "))
@@ -38,7 +38,7 @@ trial_over options n deck =
     let talk = talk_on (silent (quiet_session options deck)) (rounds n n) in
     record { text = summary n (length talk.out) talk.state.session.table; steps = talk.steps }
 
--- the definitions of a trial
+-- the deck of a trial
 abbrev pub trial_deck : Settings → ℕ → Contents
 trial_deck settings n = text_deck (codes "trial") (definitions n) settings
 

@@ -1,4 +1,4 @@
--- The versions of the deck of a session that an undo and a redo give back.
+-- The versions of the deck of a session that an undo and a redo restore.
 use Rattle.std.specs.Prelude.{[], List}
 use Rattle.deck.specs.Decks.{Contents}
 use Rattle.edit_history.specs.Histories.{Course}
@@ -6,16 +6,16 @@ use Rattle.edit_history.specs.Timelines.{Timeline, edited, timeline}
 use Rattle.edit_history.specs.Versions.{Version, version_of}
 use Rattle.live_table.specs.Shown.{Shown}
 
--- those before the present one, the last of them first, and those that were undone, the one undone last first
+-- the versions before the present one, the last one first, and those that were undone, the one undone last first
 pub record Versions : Type 0 where
   pub past : List Version
   pub future : List Version
 
--- none: a deck that was not edited
+-- the versions of a deck that was never edited: none
 abbrev pub no_versions : Versions
 no_versions = record { past = []; future = [] }
 
--- with the present one they are a timeline
+-- the timeline of these versions and the present one
 abbrev pub timeline_of : Contents → Versions → Timeline
 timeline_of deck versions = record { past = versions.past; present = version_of deck; future = versions.future }
 
@@ -27,11 +27,11 @@ pub record Dated : Type 0 where
   pub table : Shown
   pub versions : Versions
 
--- those behind an edit to this deck: the version before it is put on the past, and the future is empty
+-- the versions after an edit that gives this deck: the version before it is added to the past, and the future is empty
 abbrev pub versions_behind : Contents → Dated → Versions
 versions_behind deck before = versions_of (edited (version_of deck) (timeline_of before.table.deck before.versions))
 
--- by its history
+-- a live table with the versions that its history gives
 abbrev pub dated : Shown → Course → Dated
 dated table history =
     record { table = table; versions = versions_of (timeline history (version_of table.deck)) }

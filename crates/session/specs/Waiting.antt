@@ -1,4 +1,4 @@
--- Where a session stands between two pieces of its input.
+-- The state of a session between two pieces of its input.
 use Rattle.std.specs.Prelude.{◌≡◌, ◌+◌, ◌-◌, ◌^◌, ◌≤◌, ◌⊎◌, [], ℕ, List, false}
 use Rattle.std.specs.declared.option.Option.{Option}
 use Rattle.std.specs.List.{list_any}
@@ -13,11 +13,11 @@ use Rattle.session.specs.Talks.{Talk, talk_over}
 use Rattle.session.specs.Telling.{when_told}
 use Rattle.session.specs.declared.said.Said.{Said}
 
--- nothing was written before a session
+-- the base of a session before which nothing was written
 abbrev pub at_first : (files : Option FileMap) → (steps : ℕ) → Base
 at_first files steps = record { out = []; err = []; files = files; steps = steps }
 
--- a session is opened behind some planning, which wrote nothing; what it says first is not written yet
+-- a session was opened after the planning, which wrote nothing; the opening is not written yet
 pub record Opens (first : Talk) (said : Said) (session : Known) (before now : Outside) : Type 0 where
   pub out : now.out ≡ before.out
   pub err : now.err ≡ before.err
@@ -27,7 +27,8 @@ pub record Opens (first : Talk) (said : Said) (session : Known) (before now : Ou
   pub at : IsAt (at_first before.files before.steps) first
       (record { said = said; session = session; files = now.files; steps = now.steps })
 
--- the whole lines of the bytes taken are answered and written, none of them is the last, and the rest is held
+-- the complete lines of the bytes read are answered and their output is written, none of them is the last, and the rest
+-- is held
 pub record Waits (first : Talk) (taken : List ℕ) (held : Option (List ℕ)) (new : Known) (before now : Outside)
     : Type 0 where
   pub out : now.out ≡ grown before.out (talk_over first (whole_lines taken)).out
@@ -38,6 +39,6 @@ pub record Waits (first : Talk) (taken : List ℕ) (held : Option (List ℕ)) (n
   pub going : list_any is_last (whole_lines taken) ≡ false
   pub part : held ≡ readable (unfinished taken)
 
--- so many bytes were taken between two counts, which stay at the end of their type
+-- at least `total` bytes were read between two counts, which saturate at the maximum of their type
 abbrev pub TookAtLeast : (total before after : ℕ) → Type 0
 TookAtLeast total before after = (before + total ≤ after) ⊎ (after ≡ 2 ^ 64 - 1)

@@ -1,4 +1,4 @@
--- What is asked of the live table of a session for the conversions that are watched.
+-- The queries of a live table for the watched conversions.
 use Rattle.std.specs.Prelude.{◌==◌, ◌∷◌, List, Bool, flat_map, length}
 use Rattle.def_entry.specs.Tables.{Table}
 use Rattle.deck.specs.Decks.{Contents}
@@ -7,14 +7,14 @@ use Rattle.live_table.specs.States.{Becomes, Event}
 use Rattle.reply.specs.declared.options.Options.{Options}
 use Rattle.watch.specs.Watched.{Subject, most_watches, queries_of}
 
--- as many are watched as there may be
+-- whether the largest number of conversions is watched
 abbrev pub is_full : List Subject → Bool
 is_full watched = length watched == most_watches
 
--- the queries of all of them, in order
+-- the queries of all watched conversions, in order
 abbrev pub watched_queries : Table → Options → List Subject → List Event
 watched_queries table options watched = flat_map (queries_of table options) watched
 
--- an edit gives this deck, and then all of them are asked for again
+-- the events of an edit: it gives this deck, and then all watched conversions are queried again
 abbrev pub edit_events : Contents → Options → List Subject → List Event
 edit_events deck options watched = Becomes (table_in deck) ∷ watched_queries (table_in deck) options watched

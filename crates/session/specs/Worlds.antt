@@ -1,10 +1,10 @@
--- All that a session over a source touches, and a run of the program.
+-- Everything that a session over a source, or a run of the program, touches.
 use Rattle.std.specs.Prelude.{ℕ, List}
 use Rattle.std.specs.declared.option.Option.{Option}
 use Rattle.units_io.specs.FileMap.{FileMap}
 use Rattle.session.specs.Outside.{Outside, outside_of}
 
--- a source: the bytes that are left of it, how many were taken, and how often a read failed
+-- a source: the bytes left of it, the number of bytes read, and the number of failed reads
 pub record SourceSeen : Type 0 where
   pub left : Option (List ℕ)
   pub taken : ℕ
@@ -13,7 +13,7 @@ pub record SourceSeen : Type 0 where
 abbrev pub source_of : (left : Option (List ℕ)) → (taken faults : ℕ) → SourceSeen
 source_of left taken faults = record { left = left; taken = taken; faults = faults }
 
--- a sink: the bytes that stand on it, and how often a write failed
+-- a sink: the bytes written to it, and the number of failed writes
 pub record SinkSeen : Type 0 where
   pub written : Option (List ℕ)
   pub faults : ℕ
@@ -21,7 +21,7 @@ pub record SinkSeen : Type 0 where
 abbrev pub sink_of : (written : Option (List ℕ)) → (faults : ℕ) → SinkSeen
 sink_of written faults = record { written = written; faults = faults }
 
--- files: what is told of them, how often a fetch failed, and how often a store
+-- files: their known contents, and the numbers of failed fetches and failed stores
 pub record FilesSeen : Type 0 where
   pub told : Option FileMap
   pub fetch_faults : ℕ
@@ -31,7 +31,7 @@ abbrev pub files_of : (told : Option FileMap) → (fetch_faults store_faults : �
 files_of told fetch_faults store_faults =
     record { told = told; fetch_faults = fetch_faults; store_faults = store_faults }
 
--- all that a run touches, and the count of steps
+-- everything that a run touches, and the count of steps
 pub record World : Type 0 where
   pub source : SourceSeen
   pub out : SinkSeen
@@ -42,7 +42,7 @@ pub record World : Type 0 where
 abbrev pub world_of : SourceSeen → (out err : SinkSeen) → FilesSeen → (steps : ℕ) → World
 world_of source out err files steps = record { source = source; out = out; err = err; files = files; steps = steps }
 
--- what is told of it
+-- the state outside the program in a world
 abbrev pub outside : World → Outside
 outside world =
     outside_of world.source.left world.out.written world.err.written world.files.told world.files.fetch_faults

@@ -1,4 +1,4 @@
--- What is written, in full or in part.
+-- Output that is written in full or in part.
 use Rattle.std.specs.Prelude.{◌≡◌, ◌+◌, ◌++◌, ℕ, List, false}
 use Rattle.std.specs.List.{list_any}
 use Rattle.units_io.specs.Bytes.{grown, GrowsByFront}
@@ -14,36 +14,37 @@ use Rattle.session.specs.declared.over_source.SessionEnd.{SessionEnd}
 use Rattle.session.specs.declared.over_source.SessionEnd.TheVariants.{Done, ReadFault, WriteFault, NoMemory}
 use Rattle.session.specs.declared.over_source.SessionEnd.TheVariants.{InputTooLong}
 
--- the bytes for each sink, how many names are newly settled, and the files at the end
+-- the bytes for each sink, the number of newly settled names, and the files at the end
 pub record Output : Type 0 where
   pub out : List ℕ
   pub err : List ℕ
   pub steps : ℕ
   pub files : FileMap
 
--- all of it: its bytes stand on both sinks, its steps are counted, its files are there
+-- the whole output: both sinks have its bytes, its steps are counted, and the files are as it says
 pub record IsAll (output : Output) (before after : Outside) : Type 0 where
   pub out : after.out ≡ grown before.out output.out
   pub err : after.err ≡ grown before.err output.err
   pub files : after.files ≡ when_told before.files output.files
   pub steps : after.steps ≡ before.steps + output.steps
 
--- a front of its bytes on each sink
+-- a front of the output on each sink
 pub record IsFront (output : Output) (before after : Outside) : Type 0 where
   pub out : GrowsByFront before.out after.out output.out
   pub err : GrowsByFront before.err after.err output.err
 
--- the session goes on behind the bytes taken: all stands that is shown for their whole lines, of which none is the last
+-- the session goes on after the bytes read: the output for their complete lines is written in full, and none of these
+-- lines is the last
 pub record IsCut (shown : Output) (taken : List ℕ) (before after : Outside) : Type 0 where
   pub all : IsAll shown before after
   pub going : list_any is_last (whole_lines taken) ≡ false
 
--- what is shown once these lines are answered, and the input
+-- the output after any lines are answered, and the input
 pub record Course : Type 0 where
   pub shown : (lines : List (List ℕ)) → Output
   pub input : List ℕ
 
--- the lines of the input that are heard
+-- the lines of the input that the session hears
 abbrev pub heard_in : Course → List (List ℕ)
 heard_in course = heard (lines_of course.input)
 
@@ -55,8 +56,8 @@ abbrev pub IsCutShort : Course → Outside → Outside → Type 0
 IsCutShort course before after =
     let taken = taken_of course.input after.left in IsCut (course.shown (whole_lines taken)) taken before after
 
--- a part of a course: of the lines that are heard the first ones are answered; each sink has a front of what is shown
--- for these, and the files are as they leave them
+-- a part of a course: the heard lines up to some line are answered, each sink has a front of the output for them, and
+-- the files are as they leave them
 pub record IsPart (course : Course) (before after : Outside) : Type 0 where
   pub answered : List (List ℕ)
   pub rest : List (List ℕ)
@@ -64,7 +65,7 @@ pub record IsPart (course : Course) (before after : Outside) : Type 0 where
   pub front : IsFront (course.shown answered) before after
   pub files : after.files ≡ when_told before.files (course.shown answered).files
 
--- the same, or, only if a store failed, with the file spoilt that the next line saves
+-- a part of a course, or, only if a store failed, one with the file damaged that the next line saves
 pub record IsPartIf (failed : Type 0) (course : Course) (before after : Outside) : Type 0 where
   pub answered : List (List ℕ)
   pub rest : List (List ℕ)
@@ -73,7 +74,7 @@ pub record IsPartIf (failed : Type 0) (course : Course) (before after : Outside)
   pub files : (m : FileMap) × (after.files ≡ when_told before.files m)
       × AreLeft failed rest (course.shown answered).files m
 
--- the same by the count of failed stores
+-- a part of a course, where a risen count of failed stores says that a store failed
 abbrev pub IsPartBut : Course → (before after : Outside) → Type 0
 IsPartBut course before after = IsPartIf (Rose before.store_faults after.store_faults) course before after
 
@@ -85,8 +86,8 @@ output_of talk = record { out = talk.out; err = talk.err; steps = talk.steps; fi
 abbrev pub session_course : Talk → (input : List ℕ) → Course
 session_course first input = record { shown = λ lines. output_of (talk_over first lines); input = input }
 
--- what is left of a session by its end: all of it; or a part, which is cut behind the bytes taken where the input is
--- too long, and where a read failed that is none of a file
+-- the output of a session by its ending: all of it; or a part, which is cut after the bytes read if the input is too
+-- long, or if a read failed and no fetch did
 abbrev pub IsEnded : Course → SessionEnd → Outside → Outside → Type 0
 IsEnded course Done before after = IsAll (whole course) before after
 IsEnded course ReadFault before after =

@@ -37,18 +37,18 @@ use survey::search_report;
 use units_io::{Files, Steps, StoreFault, Text};
 use watch::Watches;
 
-/// What a line is answered with, and whether it ends the session.
+/// The answer to a line, and whether the line ends the session.
 #[derive(Drop)]
 pub struct LineReply {
-    /// What is said.
+    /// The text of the answer.
     pub out: Text,
-    /// The notices of a file that was loaded.
+    /// The notices of a loaded file.
     pub err: Text,
     /// Whether the line ends the session.
     pub done: bool,
 }
 
-/// A text on `out`, and nothing on `err`.
+/// Returns a reply with a text on `out` and nothing on `err`.
 pub(crate) fn saying(alloc: Global, out: Text) -> LineReply
     ensures { IsLine result out [] false }
 {
@@ -59,14 +59,14 @@ pub(crate) fn saying(alloc: Global, out: Text) -> LineReply
     }
 }
 
-// Some words and a word behind them, on a line of `out`.
+// Returns a reply that consists of a line on `out`: some words, followed by a word.
 fn saying_word(alloc: Global, words: &[u8], word: &[u8]) -> Result<LineReply, AllocError>
     ensures { IfOk result (λ reply. IsLine reply (lines.word_line words.now word.now) [] false) }
 {
     Ok(saying(alloc, word_line(alloc, words, word)?))
 }
 
-// The answer to a line that ends the session.
+// Returns the answer to a line that ends the session.
 fn last_reply(alloc: Global) -> LineReply
     ensures { IsLine result [] [] true }
 {
@@ -77,7 +77,7 @@ fn last_reply(alloc: Global) -> LineReply
     }
 }
 
-// A text that is FROM: its fault, or else it is pending.
+// Takes a text as FROM: returns its fault, or makes it the pending FROM.
 fn take_from<L: Ledger>(
     alloc: Global,
     options: &Options,
@@ -106,7 +106,7 @@ fn take_from<L: Ledger>(
     }
 }
 
-// A blank line: the pending FROM alone.
+// Answers a blank line: the reply to the pending FROM alone.
 fn answer_blank<L: Ledger>(
     alloc: Global,
     options: &Options,
@@ -129,7 +129,7 @@ fn answer_blank<L: Ledger>(
     Ok(saying(alloc, text))
 }
 
-// What conforms to the pending FROM, which stays.
+// Answers with the units that conform to the pending FROM, which stays pending.
 fn answer_conformable<L: Ledger>(
     alloc: Global,
     options: &Options,
@@ -153,7 +153,7 @@ fn answer_conformable<L: Ledger>(
     Ok(saying(alloc, text))
 }
 
-// FROM, or the TO of the pending FROM.
+// Answers an expression, which is FROM, or TO if a FROM is pending.
 fn answer_expression<L: Ledger>(
     alloc: Global,
     options: &Options,
@@ -178,7 +178,7 @@ fn answer_expression<L: Ledger>(
     Ok(saying(alloc, reply))
 }
 
-// Gives a file the text of the deck.
+// Stores the text of the deck in a file.
 #[tactic(auto, unfolding(crate::specs::Steps::answer_to))]
 fn save<F: Files>(
     alloc: Global,
@@ -207,7 +207,7 @@ fn save<F: Files>(
     }
 }
 
-// Gives a file these bytes.
+// Stores bytes in a file.
 fn store<F: Files>(
     alloc: Global,
     name: &[u8],
@@ -232,7 +232,7 @@ fn store<F: Files>(
     }
 }
 
-// Answers what needs no file.
+// Answers a command that needs no file.
 #[tactic(auto, unfolding(crate::specs::Steps::answer_to))]
 fn perform<L: Ledger>(
     alloc: Global,
@@ -275,10 +275,10 @@ fn perform<L: Ledger>(
 }
 
 impl Session {
-    /// Answers a line as it was read, without its line feed. `ReadFailed` comes only where a fetch failed and
-    /// `WriteFailed` only where a store failed, which the files count, and `OutOfMemory` where there is no memory.
-    /// After each the session is used no more, and the files are as before, but perhaps for the one that `WriteFailed`
-    /// is about. A line that names no file asks for none.
+    /// Answers a line, given as it was read but without its line feed. Returns `ReadFailed` only if a fetch failed and
+    /// `WriteFailed` only if a store failed, both of which the files count, and `OutOfMemory` if memory runs out. After
+    /// an error the session can no longer be used, and the files are as before, except perhaps the one that could not
+    /// be written. A line that names no file uses none.
     pub fn line<F: Files, L: Ledger>(
         &mut self,
         alloc: Global,

@@ -1,4 +1,4 @@
-//! Queries of the live table of a session, and what they leave of it.
+//! Queries of the live table of a session, and the state that they leave it in.
 
 ghost use Rattle.std.specs.Prelude.{◌≡◌};
 ghost use Rattle.deck.specs.Tables as tables;
@@ -14,7 +14,7 @@ use std::sync::ledger::Ledger;
 use survey::conformable_reply;
 use units_io::{Steps, Text};
 
-/// What a text is worth.
+/// Returns the value of a text as FROM.
 pub(crate) fn valued<L: Ledger>(
     alloc: Global,
     options: &Options,
@@ -31,7 +31,7 @@ pub(crate) fn valued<L: Ledger>(
     from_value(alloc, table, options, text, steps)
 }
 
-/// The reply to a text alone.
+/// Returns the reply to FROM alone.
 pub(crate) fn defined<L: Ledger>(
     alloc: Global,
     options: &Options,
@@ -48,7 +48,7 @@ pub(crate) fn defined<L: Ledger>(
     Ok(reply.text)
 }
 
-/// The reply to a conversion.
+/// Returns the reply to a conversion.
 pub(crate) fn converted<L: Ledger>(
     alloc: Global,
     options: &Options,
@@ -66,7 +66,7 @@ pub(crate) fn converted<L: Ledger>(
     Ok(reply.text)
 }
 
-/// The units that conform to a text, or its fault.
+/// Returns the units that conform to FROM, or the fault of FROM.
 pub(crate) fn conformable<L: Ledger>(
     alloc: Global,
     options: &Options,

@@ -1,36 +1,36 @@
-//! The words that begin with a colon.
+//! The command words, which begin with a colon.
 
 ghost use Rattle.std.specs.Prelude.{◌≡◌};
 ghost use Rattle.session.specs.Commands.{beside, colon_words};
 
-/// What a word that begins with a colon asks for.
+/// The meaning of a word that begins with a colon.
 #[derive(Clone, Copy)]
 pub enum ColonWord {
-    /// `:define`: a definition at the end of the deck.
+    /// `:define`: adds a definition at the end of the deck.
     Define,
-    /// `:drop`: the last definition of a name is taken out.
+    /// `:drop`: removes the last definition of a name.
     DropLast,
-    /// `:set`: a variable gets a value.
+    /// `:set`: gives a variable a value.
     Set,
-    /// `:locale`: another locale.
+    /// `:locale`: puts another locale in force.
     Locale,
-    /// `:undo`: the deck before the last edit.
+    /// `:undo`: restores the deck before the last edit.
     Undo,
-    /// `:redo`: the deck before the last undo.
+    /// `:redo`: restores the deck before the last undo.
     Redo,
-    /// `:load`: the definitions of a file.
+    /// `:load`: adds the definitions of a file.
     Load,
-    /// `:save`: the deck into a file.
+    /// `:save`: stores the deck in a file.
     Save,
-    /// `:stats`: how many names are settled.
+    /// `:stats`: reports how many names are settled.
     Stats,
-    /// `:watch`: a conversion is told anew when an edit changes it.
+    /// `:watch`: reports a conversion again whenever an edit changes its reply.
     Watch,
-    /// `:unwatch`: nothing is watched any more.
+    /// `:unwatch`: ends all watches.
     Unwatch,
 }
 
-// What a word asks for, if it is one of them.
+// Returns the meaning of a word, or `None` if it is not a command word.
 pub(crate) fn colon_word_of(word: &[u8]) -> Option<ColonWord>
     ensures { result ≡ beside word.now colon_words }
 {

@@ -1,4 +1,4 @@
-//! What a line of a session asks for.
+//! Reading a line of a session as a command.
 
 ghost use Rattle.std.specs.Prelude.{◌≡◌};
 ghost use Rattle.def_entry.specs.Cuts as cuts;
@@ -12,59 +12,59 @@ use def_lines::{line_content, split_word, trim};
 /// An edit of the deck that needs no file.
 #[derive(Clone, Copy)]
 pub enum DeckEdit<'a> {
-    /// A definition line at the end.
+    /// Adds a definition line at the end.
     Define(&'a [u8]),
-    /// The last definition of what the text behind the word names, which may be no key.
+    /// Removes the last definition of what this text names. The text may name no key.
     DropLast(&'a [u8]),
-    /// The value of a variable.
+    /// Gives the variable of this name a value.
     Set(&'a [u8], &'a [u8]),
-    /// The locale.
+    /// Puts a locale in force.
     Locale(&'a [u8]),
-    /// The deck before the last edit.
+    /// Restores the deck before the last edit.
     Undo,
-    /// The deck before the last undo.
+    /// Restores the deck before the last undo.
     Redo,
 }
 
-/// What a line of a session asks for.
+/// The command that a line of a session gives.
 #[derive(Clone, Copy)]
 pub enum Command<'a> {
-    /// Nothing, or the reply to FROM alone where it is pending.
+    /// A blank line: does nothing, or replies to FROM alone if one is pending.
     Blank,
-    /// The end of the session.
+    /// Ends the session.
     Quit,
-    /// What conforms to FROM.
+    /// Lists the units that conform to FROM.
     Conformable,
-    /// The names that contain a text.
+    /// Lists the names that contain a text.
     Search(&'a [u8]),
     /// An edit of the deck that needs no file.
     Edit(DeckEdit<'a>),
-    /// The definitions of a file of this name at the end of the deck.
+    /// Adds the definitions of the file of this name at the end of the deck.
     Load(&'a [u8]),
-    /// A file of this name with the deck.
+    /// Stores the deck in the file of this name.
     Save(&'a [u8]),
-    /// A conversion to watch: FROM and TO, neither of them blank.
+    /// Watches a conversion: FROM and TO, neither of them blank.
     Watch(&'a [u8], &'a [u8]),
-    /// Nothing is watched any more.
+    /// Ends all watches.
     Unwatch,
-    /// How many names are settled.
+    /// Reports how many names are settled.
     Stats,
-    /// A word that begins with a colon and is none of them.
+    /// A word that begins with a colon and is not a command word.
     Unknown(&'a [u8]),
-    /// A word that lacks what it needs.
+    /// A command word whose arguments are missing or wrong.
     Bad(&'a [u8]),
-    /// FROM, or TO where FROM is pending.
+    /// An expression: FROM, or TO if a FROM is pending.
     Expression(&'a [u8]),
 }
 
-/// What a line asks for.
+/// Returns the command that a line gives.
 pub fn read_command(line: &[u8]) -> Command<'_>
     ensures { seen_command result ≡ spec.command_of line.now }
 {
     command_in_text(line_content(line))
 }
 
-// What the text of a line asks for.
+// Returns the command that the text of a line gives.
 #[tactic(auto, unfolding(crate::specs::Commands::command_in))]
 fn command_in_text(text: &[u8]) -> Command<'_>
     ensures { seen_command result ≡ spec.command_in text.now }
@@ -88,7 +88,7 @@ fn command_in_text(text: &[u8]) -> Command<'_>
     Command::Expression(text)
 }
 
-// `search` with a text, and without one an expression.
+// `search` with a text; without one it is an expression.
 fn search_command<'a>(rest: &'a [u8], text: &'a [u8]) -> Command<'a>
     ensures { seen_command result ≡ spec.searching rest.now text.now }
 {
@@ -99,7 +99,7 @@ fn search_command<'a>(rest: &'a [u8], text: &'a [u8]) -> Command<'a>
     }
 }
 
-// What a word that begins with a colon and the rest behind it ask for.
+// Returns the command of a word that begins with a colon and the rest of its line.
 #[tactic(auto, unfolding(crate::specs::Commands::colon_command))]
 fn command_by_word<'a>(word: &'a [u8], rest: &'a [u8]) -> Command<'a>
     ensures { seen_command result ≡ spec.colon_command word.now rest.now }
@@ -110,7 +110,7 @@ fn command_by_word<'a>(word: &'a [u8], rest: &'a [u8]) -> Command<'a>
     }
 }
 
-// What one of them asks for with the rest behind it.
+// Returns the command of a command word and the rest of its line.
 fn command_of_word<'a>(asked: ColonWord, rest: &'a [u8], word: &'a [u8]) -> Command<'a>
     ensures { seen_command result ≡ spec.with_rest asked rest.now word.now }
 {
@@ -129,7 +129,7 @@ fn command_of_word<'a>(asked: ColonWord, rest: &'a [u8], word: &'a [u8]) -> Comm
     }
 }
 
-// A name, and a value behind it.
+// Reads a name, followed by a value.
 fn set_command<'a>(rest: &'a [u8], word: &'a [u8]) -> Command<'a>
     ensures { seen_command result ≡ spec.set_command rest.now word.now }
 {
@@ -141,7 +141,7 @@ fn set_command<'a>(rest: &'a [u8], word: &'a [u8]) -> Command<'a>
     )
 }
 
-// FROM and TO before and behind the first `;`, where neither is blank and TO asks for no list of what conforms.
+// Reads FROM and TO, before and after the first `;`. Neither may be blank, and TO may not be `?`.
 fn watch_command<'a>(rest: &'a [u8], word: &'a [u8]) -> Command<'a>
     ensures { seen_command result ≡ spec.watch_parts (cuts.cut_at 59 rest.now) word.now }
 {
@@ -151,7 +151,7 @@ fn watch_command<'a>(rest: &'a [u8], word: &'a [u8]) -> Command<'a>
     }
 }
 
-// FROM and TO, where neither is blank and TO asks for no list of what conforms.
+// Returns the watch of FROM and TO. Neither may be blank, and TO may not be `?`.
 fn watch_sides<'a>(from: &'a [u8], to: &'a [u8], word: &'a [u8]) -> Command<'a>
     ensures { seen_command result ≡ spec.watch_sides from.now to.now word.now }
 {
@@ -161,21 +161,21 @@ fn watch_sides<'a>(from: &'a [u8], to: &'a [u8], word: &'a [u8]) -> Command<'a>
     Command::Watch(from, to)
 }
 
-// A command that needs a text behind its word.
+// Returns a command that needs a text after its word.
 fn with_text<'a>(command: Command<'a>, rest: &'a [u8], word: &'a [u8]) -> Command<'a>
     ensures { seen_command result ≡ spec.with_text (seen_command command.entry) rest.now word.now }
 {
     where_good(!rest.is_empty(), command, word)
 }
 
-// A command with nothing behind its word.
+// Returns a command that must have nothing after its word.
 fn alone<'a>(command: Command<'a>, rest: &'a [u8], word: &'a [u8]) -> Command<'a>
     ensures { seen_command result ≡ spec.alone (seen_command command.entry) rest.now word.now }
 {
     where_good(rest.is_empty(), command, word)
 }
 
-// A command, unless it lacks what it needs.
+// Returns a command if its arguments are good, or else `Bad` with its word.
 fn where_good<'a>(good: bool, command: Command<'a>, word: &'a [u8]) -> Command<'a>
     ensures { seen_command result ≡ spec.where_good good (seen_command command.entry) word.now }
 {

@@ -1,4 +1,4 @@
-//! What is counted of a live table.
+//! The counts of a live table.
 
 ghost use Rattle.std.specs.Prelude.{◌≡◌, ◌++◌, IfOk, OnOk};
 ghost use Rattle.session.specs.Counting as spec;
@@ -9,7 +9,7 @@ use live_table::LiveTable;
 use std::alloc::{AllocError, Global};
 use units_io::Text;
 
-/// How many names are settled, of how many, and how many were.
+/// Returns the line with the number of settled names, the number of all names, and the number of reductions so far.
 #[tactic(auto, unfolding(crate::specs::Counting::statistics))]
 pub(crate) fn statistics(alloc: Global, table: &LiveTable) -> Result<Text, AllocError>
     ensures { IfOk result (λ text. text ≡ spec.statistics table.now) }
@@ -22,7 +22,7 @@ pub(crate) fn statistics(alloc: Global, table: &LiveTable) -> Result<Text, Alloc
     Ok(Text::from(text))
 }
 
-/// Puts how many definitions there are.
+/// Appends the line with the numbers of definitions.
 #[tactic(auto, unfolding(crate::specs::Counting::banner))]
 pub(crate) fn put_banner(alloc: Global, text: &mut Vec<u8>, deck: &Deck) -> Result<(), AllocError>
     ensures { OnOk result (text.new.items ≡ text.old.items ++ spec.banner deck.now) }
@@ -42,7 +42,7 @@ pub(crate) fn put_banner(alloc: Global, text: &mut Vec<u8>, deck: &Deck) -> Resu
     )
 }
 
-/// Puts a count and the words behind it.
+/// Appends a count, followed by words.
 pub(crate) fn put_count(
     alloc: Global,
     text: &mut Vec<u8>,

@@ -1,4 +1,4 @@
-//! Edits of the deck of a session, and the lines that refuse them.
+//! Edits of the deck of a session, and the lines that report refused edits.
 
 ghost use Rattle.std.specs.Prelude.{◌≡◌, ◌↔◌, [], codes, Ok, Some, option_map, true, IfOk, IsErrOf};
 ghost use Rattle.def_entry.specs.Keys.{key_of};
@@ -18,23 +18,23 @@ ghost use Rattle.session.specs.Versions.{dated, timeline_of};
 use crate::command::DeckEdit;
 use crate::fault::SessionFault;
 use crate::lines::{line_of, word_line};
-use deck::{DeckFault, Settings};
+use deck::DeckFault;
 use def_entry::{Key, KeyFault, entry_fault_text, read_key, told_law};
 use edit_history::{History, HistoryFault, histories_are_timelines};
 use live_table::LiveTable;
-use std::alloc::{AllocError, Global};
+use std::alloc::Global;
 use units_io::Text;
 
-/// What an edit came to.
+/// The result of an edit.
 #[derive(Drop)]
 pub enum EditResult {
-    /// It is made.
+    /// The edit was made.
     Made,
-    /// This line refuses it, and nothing has changed.
+    /// The edit was refused, as this line says, and nothing has changed.
     Refused(Text),
 }
 
-/// Makes an edit, unless a line refuses it.
+/// Makes an edit, or returns the line that says why it is refused.
 pub(crate) fn make_edit(
     alloc: Global,
     table: &mut LiveTable,
@@ -57,7 +57,7 @@ pub(crate) fn make_edit(
     }
 }
 
-// Defines by a line.
+// Adds a definition line.
 fn define(
     alloc: Global,
     table: &mut LiveTable,
@@ -79,7 +79,7 @@ fn define(
     }
 }
 
-// Takes out the last active line of a key, where the text is that of a key.
+// Removes the last active line of the key that a text names, if it names one.
 fn drop_by_text(
     alloc: Global,
     table: &mut LiveTable,
@@ -102,7 +102,7 @@ fn drop_by_text(
     }
 }
 
-// Takes out the last active line of a key, which was written so.
+// Removes the last active line of a key. `text` is the key as it was typed.
 fn drop_last(
     alloc: Global,
     table: &mut LiveTable,
@@ -140,8 +140,11 @@ fn set_variable(
     ensures follows { Follows history.new table.new.deck }
     ensures calm { IsCalm result }
 {
-    let settings = variable_settings(alloc, table.deck().settings(), name, value)?;
-    switch(alloc, table, history, settings)
+    histories_are_timelines();
+    match history.set(alloc, table, name, value) {
+        Ok(()) => Ok(EditResult::Made),
+        Err(fault) => Ok(EditResult::Refused(refusal_line(alloc, fault, b"")?)),
+    }
 }
 
 // Puts another locale in force.
@@ -159,62 +162,14 @@ fn set_locale(
     ensures follows { Follows history.new table.new.deck }
     ensures calm { IsCalm result }
 {
-    let settings = locale_settings(alloc, table.deck().settings(), locale)?;
-    switch(alloc, table, history, settings)
-}
-
-// The settings with this value of a variable.
-fn variable_settings(
-    alloc: Global,
-    settings: &Settings,
-    name: &[u8],
-    value: &[u8],
-) -> Result<Settings, AllocError>
-    ensures { IfOk result (λ made. made ≡ spec.with_variable settings.now name.now value.now) }
-{
-    let locale = settings.locale.copy(alloc)?;
-    let name = Text::from_bytes(alloc, name)?;
-    let value = Text::from_bytes(alloc, value)?;
-    let mut vars = settings.vars.copy(alloc)?;
-    vars.set(alloc, name, value)?;
-    Ok(Settings { locale, vars })
-}
-
-// The settings with this locale.
-fn locale_settings(
-    alloc: Global,
-    settings: &Settings,
-    locale: &[u8],
-) -> Result<Settings, AllocError>
-    ensures { IfOk result (λ made. made ≡ spec.with_locale settings.now locale.now) }
-{
-    let locale = Text::from_bytes(alloc, locale)?;
-    let vars = settings.vars.copy(alloc)?;
-    Ok(Settings { locale, vars })
-}
-
-// Puts other settings in force.
-fn switch(
-    alloc: Global,
-    table: &mut LiveTable,
-    history: &mut History,
-    settings: Settings,
-) -> Result<EditResult, SessionFault>
-    requires { Follows history.old table.old.deck }
-    ensures edit { let was = dated table.old history.old in
-        IsEdited (edit_result (Ok (deck_edit.after_switch settings table.old.deck)) [] was)
-        result was (dated table.new history.new) }
-    ensures follows { Follows history.new table.new.deck }
-    ensures calm { IsCalm result }
-{
     histories_are_timelines();
-    match history.switch(alloc, table, settings) {
+    match history.set_locale(alloc, table, locale) {
         Ok(()) => Ok(EditResult::Made),
         Err(fault) => Ok(EditResult::Refused(refusal_line(alloc, fault, b"")?)),
     }
 }
 
-// Takes the last edit back that was done and not undone.
+// Takes back the last edit that is done.
 fn undo(
     alloc: Global,
     table: &mut LiveTable,
@@ -256,7 +211,7 @@ fn redo(
     }
 }
 
-// The line that says that there is nothing to undo or to redo.
+// Returns the line that says that there is nothing to undo or to redo.
 fn nothing_line(alloc: Global, fault: HistoryFault) -> Result<Text, SessionFault>
     ensures line { IfOk result (λ line. Some line ≡ option_map lines.line_of (spec.nothing fault)) }
     ensures calm { IsCalm result }
@@ -268,7 +223,7 @@ fn nothing_line(alloc: Global, fault: HistoryFault) -> Result<Text, SessionFault
     }
 }
 
-/// The line that refuses an edit, or the fault by which the session ends.
+/// Returns the line that says why an edit is refused, or the fault that ends the session.
 pub(crate) fn refusal_line(
     alloc: Global,
     fault: DeckFault,

@@ -1,18 +1,18 @@
-//! Why a line is not answered.
+//! The reasons why a line is not answered.
 
 use std::alloc::{AllocError, AllocFailed};
 use thiserror::Error;
 
-/// Why a line is not answered. The session is used no more.
+/// Why a line is not answered. The session can then no longer be used.
 #[derive(Clone, Copy, Debug, PartialEq, Eq, Error)]
 pub enum SessionFault {
-    /// A file could not be read, and the files have counted it.
+    /// A file could not be read; the files have counted that.
     #[error("a file could not be read")]
     ReadFailed,
-    /// A file could not be written, and the files have counted it.
+    /// A file could not be written; the files have counted that.
     #[error("a file could not be written")]
     WriteFailed,
-    /// There is no memory.
+    /// Memory ran out.
     #[error("out of memory")]
     OutOfMemory,
 }

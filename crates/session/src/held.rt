@@ -1,4 +1,4 @@
-//! A line that is not whole yet.
+//! A line that is not complete yet.
 
 ghost use Rattle.std.specs.Prelude.{◌≡◌, ◌++◌, ◌≤◌, [], List, ℕ, Some, OnOk, IfSome, length};
 ghost use Rattle.std.specs.Option.{option_copied};
@@ -8,10 +8,10 @@ ghost use Rattle.session.specs.Hearing.{longest_line, readable};
 use std::alloc::{AllocError, Global};
 use std::marker::Model;
 
-/// The longest line that is read.
+/// The longest line that is read, in bytes.
 pub(crate) const LONGEST_LINE: usize = 65_536;
 
-/// The bytes of a line so far, or that they are too many, which contracts see as `None`.
+/// The bytes of a line so far, or the fact that it is too long, which contracts see as `None`.
 #[derive(Drop)]
 pub(crate) struct Held {
     bytes: Vec<u8>,
@@ -31,7 +31,7 @@ impl Model for Held {
 }
 
 impl Held {
-    /// No byte of a line. It takes no memory.
+    /// Returns an empty line. Allocates no memory.
     pub(crate) fn new(alloc: Global) -> Held
         ensures { result ≡ Some [] }
     {
@@ -41,7 +41,7 @@ impl Held {
         }
     }
 
-    /// More bytes of the line. The only error is want of memory.
+    /// Appends bytes to the line. The only error is running out of memory.
     pub(crate) fn add(&mut self, piece: &[u8]) -> Result<(), AllocError>
         ensures { (part : List ℕ) → self.old ≡ readable part → OnOk result (self.new ≡ readable (part ++ piece.now)) }
     {
@@ -55,14 +55,14 @@ impl Held {
         self.bytes.extend_from_slice(piece)
     }
 
-    /// Whether no byte of a line is held.
+    /// Returns whether the line has no bytes yet.
     pub(crate) fn is_empty(&self) -> bool
         ensures { (part : List ℕ) → self.now ≡ readable part → result ≡ is_empty part }
     {
         !self.long && self.bytes.is_empty()
     }
 
-    /// The line, unless it is too long.
+    /// Returns the line, or `None` if it is too long.
     pub(crate) fn line(&self) -> Option<&[u8]>
         ensures is { option_copied result ≡ self.now }
         ensures short { IfSome result (λ line. length line.now ≤ longest_line) }
@@ -73,7 +73,7 @@ impl Held {
         Some(self.bytes.as_slice())
     }
 
-    /// No byte of a line from now on.
+    /// Empties the line.
     pub(crate) fn clear(&mut self)
         ensures { self.new ≡ Some [] }
     {

@@ -1,4 +1,4 @@
-//! Laws of a session. A function does nothing: its contract is the law.
+//! Laws of a session. The functions do nothing: the contract of each is the law.
 
 ghost use Rattle.session.specs.AnswerExamples.{AnswerExamples};
 ghost use Rattle.session.specs.CommandExamples.{CommandExamples};
@@ -10,40 +10,40 @@ ghost use Rattle.session.specs.TrialLines.{TrialExamples};
 use deck_save::saved_decks_are_given_back;
 use reply::grant_examples_law;
 
-/// The lines of an input, and which of them a session hears.
+/// The lines of an input, and those that a session hears.
 pub fn line_laws()
     ensures { LineLaws }
 {}
 
-/// What queries and edits leave of a live table does not depend on the steps before.
+/// The state that queries and edits leave a live table in does not depend on earlier steps.
 pub fn leaves_law()
     ensures { LeavesLaw }
 {}
 
-/// What some lines ask for.
+/// The commands that some lines give.
 pub fn command_examples()
     ensures { CommandExamples }
 {}
 
-/// What some lines are answered with.
+/// The answers to some lines.
 pub fn answer_examples()
     ensures { AnswerExamples }
 {
     grant_examples_law();
 }
 
-/// The definitions and a round of a short trial.
+/// The definitions and one round of a short trial.
 pub fn trial_examples()
     ensures { TrialExamples }
 {}
 
-/// Cached outcomes change no answer but that to `:stats`, versions of the deck change none but those to `:undo` and
-/// `:redo`, and an undo after an edit gives back the lines, the settings and the table.
+/// Cached outcomes affect only the answer to `:stats`, and versions of the deck only those to `:undo` and `:redo`. An
+/// undo after an edit restores the lines, the settings and the table.
 pub fn history_laws()
     ensures { HistoryLaws }
 {}
 
-/// A load of what a session saved gives its definitions back.
+/// Loading what a session saved restores its definitions.
 pub fn save_law()
     ensures { SaveLaw }
 {

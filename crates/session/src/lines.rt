@@ -1,4 +1,4 @@
-//! Lines of answers.
+//! The lines of answers.
 
 ghost use Rattle.std.specs.Prelude.{◌≡◌, ◌++◌, [], IfOk, OnOk};
 ghost use Rattle.session.specs.Lines as spec;
@@ -7,14 +7,14 @@ use deck::Deck;
 use std::alloc::{AllocError, Global};
 use units_io::Text;
 
-/// A text of no byte, which takes no memory.
+/// Returns an empty text. Allocates no memory.
 pub(crate) fn no_text(alloc: Global) -> Text
     ensures { result ≡ [] }
 {
     Text::from(Vec::new(alloc))
 }
 
-/// A text with its line feed, with no copy.
+/// Appends a line feed to a text, without copying the text.
 pub(crate) fn line_of(text: Text) -> Result<Text, AllocError>
     ensures { IfOk result (λ line. line ≡ spec.line_of text) }
 {
@@ -23,7 +23,7 @@ pub(crate) fn line_of(text: Text) -> Result<Text, AllocError>
     Ok(Text::from(line))
 }
 
-/// Some words and a word behind them, on a line.
+/// Returns a line with some words, followed by a word.
 pub(crate) fn word_line(alloc: Global, words: &[u8], word: &[u8]) -> Result<Text, AllocError>
     ensures { IfOk result (λ line. line ≡ spec.word_line words.now word.now) }
 {
@@ -33,7 +33,7 @@ pub(crate) fn word_line(alloc: Global, words: &[u8], word: &[u8]) -> Result<Text
     Ok(Text::from(line))
 }
 
-/// The notices of a deck, each on a line. The only error is want of memory.
+/// Returns the notices of a deck, each on a line. The only error is running out of memory.
 pub fn notice_lines(alloc: Global, deck: &Deck) -> Result<Vec<u8>, AllocError>
     ensures { IfOk result (λ lines. lines.items ≡ spec.lines_of_texts deck.now.notices) }
 {
@@ -42,7 +42,7 @@ pub fn notice_lines(alloc: Global, deck: &Deck) -> Result<Vec<u8>, AllocError>
     Ok(lines)
 }
 
-/// Puts texts, each with its line feed.
+/// Appends texts, each with a line feed.
 pub(crate) fn put_lines(lines: &mut Vec<u8>, texts: &[Text]) -> Result<(), AllocError>
     ensures { OnOk result (lines.new.items ≡ lines.old.items ++ spec.lines_of_texts texts.now) }
 {
@@ -52,7 +52,7 @@ pub(crate) fn put_lines(lines: &mut Vec<u8>, texts: &[Text]) -> Result<(), Alloc
     Ok(())
 }
 
-// Puts a text with its line feed.
+// Appends a text and a line feed.
 fn put_line(lines: &mut Vec<u8>, text: &[u8]) -> Result<(), AllocError>
     ensures { OnOk result (lines.new.items ≡ lines.old.items ++ spec.line_of text.now) }
 {

@@ -1,4 +1,4 @@
-//! A session over a source: what a block of input gave is written in one piece, or in more where it is long.
+//! A session over a source. The output for a block of input is written in one piece, or in several if it is long.
 
 ghost use Rattle.std.specs.Prelude.{◌≡◌, ◌≤◌, ◌<◌, ◌⊎◌, ◌++◌, [], List, ℕ, Some, length};
 ghost use Rattle.session.specs.Hearing.{NamesNoFile};
@@ -16,18 +16,18 @@ use std::alloc::Global;
 use std::sync::ledger::Ledger;
 use units_io::{Files, Sink, Source, Steps};
 
-/// How a session ends.
+/// How a session ended.
 #[derive(Clone, Copy, Debug, PartialEq, Eq)]
 pub enum SessionEnd {
-    /// Its input is read to the end, or to a line that ends it.
+    /// The input was read to its end, or to a line that ends the session.
     Done,
     /// The source failed, or a file could not be read.
     ReadFault,
     /// A sink failed, or a file could not be written.
     WriteFault,
-    /// There is no memory.
+    /// Memory ran out.
     NoMemory,
-    /// More than 4,294,967,296 bytes of input were taken.
+    /// More than 4,294,967,296 bytes of input were read.
     InputTooLong,
 }
 
@@ -35,16 +35,17 @@ const BLOCK: usize = 65_536;
 
 const MOST_INPUT: u64 = 4_294_967_296;
 
-/// Writes what is to be said before the first line, and then answers the lines of a source, block by block. What one
-/// block gave is written before more is taken, and as soon as it is long; notices are written before replies.
+/// Writes the opening, and then answers the lines of a source, block by block. The output for a block is written before
+/// more is read, and as soon as it is long; notices are written before replies.
 ///
-/// `run`: `specs/Runs.antt` has all that holds of it. At the end both sinks have all that the session says over its
-/// whole input. With another ending the first lines are answered: each sink has a front of what is shown for these, and
-/// the files are as these leave them, but perhaps for one that could not be written; if the input is too long, or the
-/// source failed, these are the whole lines of the bytes taken, and all is shown. Every ending but `Done` and want of
-/// memory has its cause. Nothing need be told of the files if no line loads one. `unasked`: if no line names a file, no
-/// file is asked for. `opening`: nothing is taken from the source before the opening is written. `order`: nothing is
-/// written to `out` before the opening's notices.
+/// `run`: `specs/Runs.antt` states everything that holds of a run. If it ends with `Done`, both sinks have everything
+/// that the session says over its whole input. With any other ending the lines up to some line have been answered: each
+/// sink has a front of the output for them, and the files are as these lines leave them, except perhaps for one that
+/// could not be written. If the input is too long or the source failed, these are the complete lines of the bytes read,
+/// and all of their output is written. Every ending except `Done` and `NoMemory` has its cause. The contents of the
+/// files need not be known if no line loads one. `unasked`: if no line names a file, the files are not used. `opening`:
+/// nothing is read from the source before the opening is written. `order`: nothing is written to `out` before the
+/// notices of the opening.
 pub fn run_session<S: Source, O: Sink, E: Sink, F: Files, L: Ledger>(
     alloc: Global,
     session: &mut Session,
@@ -89,7 +90,7 @@ pub fn run_session<S: Source, O: Sink, E: Sink, F: Files, L: Ledger>(
     )
 }
 
-// Answers the lines of a source, where all that was said is written.
+// Answers the lines of a source. All output so far has been written.
 fn answer_blocks<S: Source, O: Sink, E: Sink, F: Files, L: Ledger>(
     alloc: Global,
     session: &mut Session,
@@ -132,8 +133,8 @@ fn answer_blocks<S: Source, O: Sink, E: Sink, F: Files, L: Ledger>(
     SessionEnd::InputTooLong
 }
 
-// Answers the lines of a block, and tells how the session ends by it, unless it goes on. What is said is written behind
-// each line that makes it long, and behind the block.
+// Answers the lines of a block. Returns how the session ended, or `None` if it goes on. The output is written after
+// each line that makes it long, and after the block.
 fn answer_block<O: Sink, E: Sink, F: Files, L: Ledger>(
     alloc: Global,
     session: &mut Session,
@@ -169,7 +170,7 @@ fn answer_block<O: Sink, E: Sink, F: Files, L: Ledger>(
     None
 }
 
-// Answers the line that the end of the input ends, where one is held, and tells how the session ends.
+// Answers the line that the end of the input completes, if there is one, and returns how the session ended.
 fn answer_end<O: Sink, E: Sink, F: Files, L: Ledger>(
     alloc: Global,
     session: &mut Session,
@@ -195,7 +196,7 @@ fn answer_end<O: Sink, E: Sink, F: Files, L: Ledger>(
     last_end(fed)
 }
 
-// How a session ends by what was taken up, unless it goes on.
+// Returns how the session ended with the bytes that were fed, or `None` if it goes on.
 fn end_of(fed: Result<bool, SessionFault>) -> Option<SessionEnd>
     ensures { result ≡ spec.end_of fed }
 {
@@ -206,7 +207,7 @@ fn end_of(fed: Result<bool, SessionFault>) -> Option<SessionEnd>
     }
 }
 
-// How a session ends at the end of its input.
+// Returns how the session ended at the end of its input.
 fn last_end(fed: Result<(), SessionFault>) -> SessionEnd
     ensures { result ≡ spec.last_end fed }
 {
@@ -216,7 +217,7 @@ fn last_end(fed: Result<(), SessionFault>) -> SessionEnd
     }
 }
 
-// How a session ends by a fault.
+// Returns how a fault ends the session.
 fn fault_end(fault: SessionFault) -> SessionEnd
     ensures { result ≡ spec.fault_end fault }
 {

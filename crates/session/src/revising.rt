@@ -1,4 +1,4 @@
-//! Edits of the deck of a session, and what they tell of what is watched.
+//! Edits of the deck of a session, and the reports on watched conversions that they change.
 
 ghost use Rattle.std.specs.Prelude.{◌≡◌, ℕ, List, Some, IfOk, IsErrOf, [], false};
 ghost use Rattle.std.specs.declared.option.Option.{Option};
@@ -28,7 +28,8 @@ use std::sync::ledger::Ledger;
 use units_io::{Files, Steps, Text};
 use watch::Watches;
 
-/// Makes an edit that needs no file, and tells what has changed of what is watched; or a line refuses it.
+/// Makes an edit that needs no file and reports the watched conversions that it changed, or says why the edit is
+/// refused.
 pub(crate) fn edit<L: Ledger>(
     alloc: Global,
     options: &Options,
@@ -56,8 +57,8 @@ pub(crate) fn edit<L: Ledger>(
     }
 }
 
-/// Puts what a file adds, with its notices on `err`, and tells what has changed of what is watched;
-/// or a line refuses it.
+/// Adds the definitions of a file, with its notices on `err`, and reports the watched conversions that this changed, or
+/// says why the file is refused.
 pub(crate) fn load<F: Files, L: Ledger>(
     alloc: Global,
     options: &Options,

@@ -1,4 +1,4 @@
-//! What is said and not yet written.
+//! Output that is not written yet.
 
 ghost use Rattle.std.specs.Prelude.{◌≡◌, ◌⊎◌, ◌≤◌, ◌++◌, [], OnErr, OnOk, IfOk};
 ghost use Rattle.units_io.specs.Bytes.{grown, GrowsByFront};
@@ -15,10 +15,10 @@ use crate::session::Session;
 use std::alloc::{AllocError, Global};
 use units_io::{Failed, Sink, put_all};
 
-// As long as this, what is said is written before more is answered.
+// Output of this length is written before more lines are answered.
 const LONG: usize = 65_536;
 
-/// What is said and not yet written, on each sink.
+/// The output for each sink that is not written yet.
 #[derive(Drop)]
 pub struct Said {
     pub out: Vec<u8>,
@@ -26,8 +26,8 @@ pub struct Said {
 }
 
 impl Said {
-    /// What stands before the first line: the messages, the banner and the prompt, unless quiet, and the notices of
-    /// the definitions on `err`. The only error is want of memory.
+    /// Returns the output before the first line: the messages, the banner and the prompt, unless the session is quiet,
+    /// and the notices of the definitions on `err`. The only error is running out of memory.
     pub fn opening(alloc: Global, session: &Session) -> Result<Said, AllocError>
         ensures out { IfOk result (λ said. said.out.items ≡ opening session.now) }
         ensures err { IfOk result (λ said. said.err.items ≡ lines_of_texts session.now.table.deck.notices) }
@@ -38,7 +38,7 @@ impl Said {
         Ok(Said { out, err })
     }
 
-    /// Nothing.
+    /// Discards the output.
     pub(crate) fn clear(&mut self)
         ensures out { self.new.out.items ≡ [] }
         ensures err { self.new.err.items ≡ [] }
@@ -47,13 +47,14 @@ impl Said {
         self.err.clear();
     }
 
-    // Whether it is so long, on a sink, that it is to be written.
+    // Returns whether the output for a sink is so long that it has to be written.
     pub(crate) fn is_long(&self) -> bool {
         self.out.len() >= LONG || self.err.len() >= LONG
     }
 
-    /// Writes it, to each sink in one piece, and to `err` first: nothing is written to `out` before all of `err` is.
-    /// The only error is `Failed`, of a sink that has counted it; then each sink has a front of its bytes.
+    /// Writes the output to each sink in one piece, first to `err`: nothing is written to `out` before all of `err` is.
+    /// The only error is `Failed`, if a sink failed, which that sink has counted; then each sink has a front of its
+    /// bytes.
     pub fn write<O: Sink, E: Sink>(&self, out: &mut O, err: &mut E) -> Result<(), Failed>
         ensures whole { OnOk result ((O.written out.new ≡ grown (O.written out.old) self.now.out.items)
             × (E.written err.new ≡ grown (E.written err.old) self.now.err.items)) }
@@ -69,7 +70,7 @@ impl Said {
         put_all(out, self.out.as_slice())
     }
 
-    // Adds an answer, and the prompt for the next line unless it was the last.
+    // Appends an answer, and the prompt for the next line unless this was the last line.
     pub(crate) fn add(&mut self, session: &Session, reply: &LineReply) -> Result<(), AllocError>
         ensures whole { OnOk result ((self.new.out.items ≡ self.old.out.items ++ line_said reply.now session.now)
             × (self.new.err.items ≡ self.old.err.items ++ reply.now.err)) }
@@ -85,7 +86,7 @@ impl Said {
     }
 }
 
-// Puts the messages, the banner and the prompt, unless quiet.
+// Appends the messages, the banner and the prompt, unless the session is quiet.
 #[tactic(auto, unfolding(crate::specs::Talks::opening))]
 fn put_opening(alloc: Global, out: &mut Vec<u8>, session: &Session) -> Result<(), AllocError>
     ensures { OnOk result (out.new.items ≡ out.old.items ++ opening session.now) }

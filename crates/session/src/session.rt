@@ -13,8 +13,8 @@ use std::marker::Model;
 use units_io::Text;
 use watch::Watches;
 
-/// A session: how replies are written, the live table with the history of its edits, the text of FROM where one is
-/// pending, and the conversions that are watched.
+/// A session: the options for its replies, the live table with the history of its edits, the text of FROM if one is
+/// pending, and the watched conversions.
 pub struct Session {
     pub(crate) options: Options,
     pub(crate) table: LiveTable,
@@ -23,7 +23,7 @@ pub struct Session {
     pub(crate) watches: Watches,
 }
 
-// By hand, so that who drops a session proves nothing of what it holds.
+// Written by hand, so that code that drops a session need not prove anything about its contents.
 impl Drop for Session {
     fn drop(self) {
         let Session {
@@ -49,7 +49,7 @@ impl Model for Session {
 }
 
 impl Session {
-    /// A session over a table, with no FROM pending, nothing to undo and nothing watched. It takes no memory.
+    /// Returns a session over a table, with no pending FROM, nothing to undo and nothing watched. Allocates no memory.
     pub fn new(alloc: Global, table: LiveTable, options: Options) -> Session
         requires { IsPrintable options }
         ensures { result ≡ known options table None no_versions [] }
@@ -63,7 +63,7 @@ impl Session {
         }
     }
 
-    /// The prompt of the present state.
+    /// Returns the prompt in the present state.
     #[tactic(auto, unfolding(crate::specs::Sessions::prompt))]
     pub fn prompt(&self) -> &[u8]
         ensures { result.now ≡ prompt self.now }
@@ -77,14 +77,14 @@ impl Session {
         }
     }
 
-    /// Whether nothing stands before the first line, and no prompt before the next.
+    /// Returns whether the session is quiet: nothing is written before its first line, and it has no prompts.
     pub(crate) fn is_quiet(&self) -> bool
         ensures { result ≡ self.now.options.quiet }
     {
         self.options.quiet
     }
 
-    /// The live table.
+    /// Borrows the live table.
     pub fn table(&self) -> &LiveTable
         ensures { result.now ≡ self.now.table }
     {

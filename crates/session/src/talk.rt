@@ -1,4 +1,4 @@
-//! A session that answers the bytes of an input, block by block.
+//! Answering the bytes of an input, block by block.
 
 ghost use Rattle.std.specs.Prelude.{◌≡◌, ◌++◌, ◌∷◌, ◌≤◌, ◌<◌, List, ℕ, Some, [], length, IfOk, IfSome, MatchResult};
 ghost use Rattle.std.specs.Prelude.{codes, false};
@@ -28,9 +28,9 @@ use std::alloc::{AllocError, Global};
 use std::sync::ledger::Ledger;
 use units_io::{Files, Steps, Text};
 
-// Takes up the bytes of a block, to its end or to that of a line behind which what is said is long, and tells whether a
-// line of it ends the session. Where none does, `rest` is then what is left of the block. Lines that stand whole in the
-// block are answered where they stand.
+// Answers the lines of a block, to the end of the block or to the line after which the output is long. Returns whether
+// a line ended the session. If none did, `rest` is then the unread remainder of the block. Lines that lie completely
+// within the block are answered without a copy.
 pub(crate) fn feed<F: Files, L: Ledger>(
     alloc: Global,
     session: &mut Session,
@@ -72,7 +72,7 @@ pub(crate) fn feed<F: Files, L: Ledger>(
     }
 }
 
-// Takes up the end of the input, which ends a line that is held.
+// Handles the end of the input, which completes a line that is held.
 pub(crate) fn feed_end<F: Files, L: Ledger>(
     alloc: Global,
     session: &mut Session,
@@ -102,7 +102,7 @@ pub(crate) fn feed_end<F: Files, L: Ledger>(
     }
 }
 
-// Answers the line that is held with a piece at its end, and tells whether it is the last.
+// Answers the held line, completed by a piece, and returns whether it is the last.
 fn end_line<F: Files, L: Ledger>(
     alloc: Global,
     session: &mut Session,
@@ -142,7 +142,7 @@ fn end_line<F: Files, L: Ledger>(
     done
 }
 
-// A line, unless it is too long.
+// Returns the line, or `None` if it is too long.
 #[tactic(auto, unfolding(crate::specs::Hearing::readable))]
 fn short(line: &[u8]) -> Option<&[u8]>
     ensures is { option_copied result ≡ readable line.now }
@@ -154,7 +154,7 @@ fn short(line: &[u8]) -> Option<&[u8]>
     Some(line)
 }
 
-// Answers a line, or one that is too long, and tells whether it is the last.
+// Answers a line, or `None` for one that is too long, and returns whether it is the last.
 fn reply<F: Files, L: Ledger>(
     alloc: Global,
     session: &mut Session,
@@ -187,7 +187,7 @@ fn reply<F: Files, L: Ledger>(
     }
 }
 
-// The answer to a line, or to one that is too long.
+// Returns the answer to a line, or to one that is too long.
 fn answer_line<F: Files, L: Ledger>(
     alloc: Global,
     session: &mut Session,
@@ -213,7 +213,7 @@ fn answer_line<F: Files, L: Ledger>(
     }
 }
 
-// The answer to a line that is too long.
+// Returns the answer to a line that is too long.
 fn too_long(alloc: Global) -> Result<LineReply, AllocError>
     ensures { IfOk result (λ reply. IsLine reply (codes "line too long\n") [] false) }
 {

@@ -1,4 +1,4 @@
-//! The deck of a text that has room for its lines.
+//! Decks of texts that are within the limits of a deck.
 
 ghost use Rattle.std.specs.Prelude.{◌≡◌, IfOk, Ok};
 ghost use Rattle.deck.specs.Loading.{after_text};
@@ -7,8 +7,9 @@ ghost use Rattle.session.specs.TextDecks as spec;
 use deck::{Deck, DeckFault, Settings};
 use std::alloc::{AllocError, Global};
 
-/// The deck of a text of fewer than 30,000 line feeds, in which each include is of an absent file. The name stands in
-/// its notices. Such a text is within the limits of a deck, so the only error is want of memory.
+/// Returns the deck of a text of fewer than 30,000 line feeds, in which every include names an absent file. `name` is
+/// the file name in its notices. Such a text is within the limits of a deck, so the only error is running out of
+/// memory.
 pub fn text_deck(
     alloc: Global,
     text: &[u8],
@@ -23,7 +24,7 @@ pub fn text_deck(
         Ok(deck) => Ok(deck),
         Err(fault) => match fault {
             DeckFault::OutOfMemory => Err(AllocError),
-            // There is room for its lines.
+            // The deck has room for its lines.
             _ => unreachable!(),
         },
     }

@@ -1,4 +1,4 @@
-//! A trial: a session over made-up definitions and made-up lines.
+//! A trial: a session over generated definitions and generated lines.
 
 ghost use Rattle.std.specs.Prelude.{◌≡◌, ◌≤◌, IfOk};
 ghost use Rattle.reply.specs.Options.{IsPrintable};
@@ -20,8 +20,8 @@ use std::alloc::{AllocError, Global};
 use std::sync::ledger::Ledger;
 use units_io::{Steps, Text};
 
-/// A trial of so many rounds, 1 to 20,000, over as many definitions and one: what is told of it. The only error is want
-/// of memory: its definitions are within the limits of a deck.
+/// Runs a trial of `rounds` rounds, 1 to 20,000, over one more definition than that, and returns its summary. The
+/// definitions are within the limits of a deck, so the only error is running out of memory.
 pub fn run_trial<L: Ledger>(
     alloc: Global,
     options: Options,
@@ -42,7 +42,7 @@ pub fn run_trial<L: Ledger>(
     summary(alloc, rounds, said.out.len(), session.table())
 }
 
-// A session that says nothing but answers.
+// Returns a session that says nothing but answers.
 fn quiet_session(alloc: Global, deck: Deck, options: Options) -> Session
     requires { IsPrintable options }
     ensures { result ≡ spec.quiet_session options deck }
@@ -54,7 +54,7 @@ fn quiet_session(alloc: Global, deck: Deck, options: Options) -> Session
     Session::new(alloc, LiveTable::new(alloc, deck), options)
 }
 
-// What the session says to all lines.
+// Returns what the session says to all lines.
 fn talked<L: Ledger>(
     alloc: Global,
     session: &mut Session,
@@ -86,7 +86,7 @@ fn talked<L: Ledger>(
     }
 }
 
-// What is told of rounds that gave so many bytes and left this table.
+// Returns the summary of a trial whose replies have `bytes` bytes and that left this table.
 fn summary(alloc: Global, rounds: u16, bytes: usize, table: &LiveTable) -> Result<Text, AllocError>
     ensures { IfOk result (λ text. text ≡ spec.summary rounds bytes table.now) }
 {

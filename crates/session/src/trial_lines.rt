@@ -1,4 +1,4 @@
-//! The made-up definitions and lines of a trial.
+//! The generated definitions and lines of a trial.
 
 ghost use Rattle.std.specs.Prelude.{◌≡◌, ◌++◌, ◌≤◌, ◌+◌, ◌*◌, ◌%◌, IfOk, OnOk, length};
 ghost use Rattle.session.specs.TextDecks.{HasRoom};
@@ -6,7 +6,7 @@ ghost use Rattle.session.specs.TrialLines as spec;
 
 use std::alloc::{AllocError, Global};
 
-/// The definitions of a trial of so many rounds. The only error is want of memory.
+/// Returns the definitions of a trial of `last` rounds. The only error is running out of memory.
 pub(crate) fn definitions(alloc: Global, last: u16) -> Result<Vec<u8>, AllocError>
     requires { last ≤ 20000 }
     ensures is { IfOk result (λ text. text.items ≡ spec.definitions last) }
@@ -21,7 +21,7 @@ pub(crate) fn definitions(alloc: Global, last: u16) -> Result<Vec<u8>, AllocErro
     Ok(text)
 }
 
-/// The lines of all rounds of a trial of so many. The only error is want of memory.
+/// Returns the lines of all rounds of a trial. The only error is running out of memory.
 pub(crate) fn all_rounds(alloc: Global, rounds: u16) -> Result<Vec<u8>, AllocError>
     requires some { 1 ≤ rounds }
     ensures { IfOk result (λ text. text.items ≡ spec.rounds rounds rounds) }
@@ -35,7 +35,7 @@ pub(crate) fn all_rounds(alloc: Global, rounds: u16) -> Result<Vec<u8>, AllocErr
     Ok(text)
 }
 
-// Puts the k-th round of a trial of so many.
+// Appends the k-th round of a trial.
 fn put_round(alloc: Global, text: &mut Vec<u8>, rounds: u16, k: u16) -> Result<(), AllocError>
     requires some { 1 ≤ rounds }
     requires within { k ≤ rounds }
@@ -48,7 +48,7 @@ fn put_round(alloc: Global, text: &mut Vec<u8>, rounds: u16, k: u16) -> Result<(
     text.extend_from_slice(b"\nu_0\n")
 }
 
-// A number from 1 to so many, which steps on by a factor.
+// Returns a number from 1 to `most` for round `k`; it advances by `factor` from round to round.
 fn spread(factor: u32, k: u16, most: u16) -> u16
     requires some { 1 ≤ most }
     requires small { factor ≤ 11 }
@@ -58,7 +58,7 @@ fn spread(factor: u32, k: u16, most: u16) -> u16
     1 + (factor * u32::from(k) % u32::from(most)) as u16
 }
 
-// Puts the unit of a number as a multiple of another, on a line.
+// Appends a line that defines unit `i` as `factor` times unit `j`.
 fn put_multiple(
     alloc: Global,
     text: &mut Vec<u8>,
@@ -78,7 +78,7 @@ fn put_multiple(
     Ok(())
 }
 
-// Puts the name of a unit.
+// Appends the name of the i-th unit.
 fn put_name(alloc: Global, text: &mut Vec<u8>, i: u16) -> Result<(), AllocError>
     ensures is { OnOk result (text.new.items ≡ text.old.items ++ spec.unit_name i) }
     ensures short { OnOk result (length text.new.items ≤ length text.old.items + 7) }

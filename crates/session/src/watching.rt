@@ -1,4 +1,4 @@
-//! Conversions that a session watches.
+//! The conversions that a session watches.
 
 ghost use Rattle.std.specs.Prelude.{◌≡◌, ℕ, List, map, IfOk, OnOk, false};
 ghost use Rattle.std.specs.declared.option.Option.{Option};
@@ -25,8 +25,8 @@ use std::sync::ledger::Ledger;
 use units_io::{Steps, Text};
 use watch::{WatchFault, Watches};
 
-/// What an edit has changed of what is watched, for which all is asked for again. The only error is
-/// want of memory, after which nothing is watched.
+/// Queries all watched conversions again and returns the report on those that an edit changed. The only error is
+/// running out of memory, after which nothing is watched.
 pub(crate) fn tell_changes<L: Ledger>(
     alloc: Global,
     options: &Options,
@@ -53,7 +53,7 @@ pub(crate) fn tell_changes<L: Ledger>(
     }
 }
 
-/// Watches a conversion, and tells its reply, unless as many are watched as there may be.
+/// Watches a conversion and returns its reply, unless the largest number is already watched.
 pub(crate) fn watch<L: Ledger>(
     alloc: Global,
     options: &Options,

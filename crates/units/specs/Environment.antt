@@ -4,7 +4,7 @@ use Rattle.std.specs.Prelude.{codes, if◌then◌else◌}
 use Rattle.std.specs.Str.{is_utf8}
 use Rattle.units_io.specs.Named.{Pairs, value_of}
 
--- one more variable at the end, unless its name has a value already
+-- the variables with one more at the end, unless its name has a value already
 abbrev pub with_new : Pairs → List ℕ → List ℕ → Pairs
 with_new vars name value = if is_some (value_of vars name) then vars else vars ++ (name, value) ∷ []
 
@@ -12,21 +12,22 @@ with_new vars name value = if is_some (value_of vars name) then vars else vars +
 abbrev pub place_of_mark : List ℕ → Option ℕ
 place_of_mark = position (λ b. b == 61)
 
--- the variable of an entry whose name ends at this place
+-- the variables with that of an entry whose name ends at this place
 abbrev pub with_name_to : Pairs → List ℕ → Option ℕ → Pairs
 with_name_to vars entry None = vars
 with_name_to vars entry (Some place) = with_new vars (take place entry) (drop (place + 1) entry)
 
--- the variable of an entry `NAME=VALUE` in UTF-8, of two with one name the first; any other entry adds none
+-- the variables with that of an entry `NAME=VALUE` in UTF-8; of several with one name the first counts, and any other
+-- entry adds none
 abbrev pub with_entry : Pairs → List ℕ → Pairs
 with_entry vars entry = if is_utf8 entry then with_name_to vars entry (place_of_mark entry) else vars
 
--- the variables of entries, in order
+-- the variables with those of several entries, in order
 abbrev pub with_entries : Pairs → List (List ℕ) → Pairs
 with_entries vars [] = vars
 with_entries vars (entry ∷ entries) = with_entries (with_entry vars entry) entries
 
--- law: some entries, each with the variables behind those before it
+-- law: the variables of some entries
 pub record EntriesLaw : Type 0 where
   pub none : with_entries [] [] ≡ []
   pub no_mark : with_entries [] (codes "no mark" ∷ [] ∷ []) ≡ []

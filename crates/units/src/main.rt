@@ -1,4 +1,4 @@
-//! Converts between units by definitions of a file, or by those that are built in.
+//! Converts between units by the definitions of a file, or by the built-in ones.
 #![tactic(auto)]
 
 mod environment;
@@ -14,8 +14,8 @@ use std::sync::ledger::{Blank, Ledger};
 use units_io::{DirFiles, StdSink, StdSource, Steps, Texts, Vars};
 use units_run::{Status, status_law, units_main};
 
-// The run on the system's streams and files, with a count of steps that nobody reads. Which endings there may be is
-// decided by the words alone; if these need neither files nor input, so is the one status of their run.
+// Runs on the system's streams and files, with a count of steps that nobody reads. The words alone decide which endings
+// are possible. If they need neither files nor input, they also decide the status.
 fn run_on<L: Ledger>(rt: HostRuntime, words: &Texts, vars: &Vars, blank: Blank) -> Status
     requires name { blank.name ≡ L.name }
     requires parts { blank.parts ≡ L.parts }

@@ -13,7 +13,7 @@ short : nat_le (length built_in) 16777216 ≡ true
 unfolding built_in
 short = refl
 
--- there is room for it
+-- the built-in text has room
 pub built_in_room : (text : List ℕ) → text ≡ built_in → HasRoom text
 built_in_room text is =
     let feeds : nat_lt (line_feeds built_in) 30000 ≡ true = few in

@@ -21,7 +21,7 @@ use Rattle.units_run.specs.declared.status.Status.TheVariants.{Done, Refused, Us
 use Rattle.units_run.specs.declared.status.Status.TheVariants.{NoMemory, InputTooLong}
 use Rattle.units_run.proofs.Running.{front_same, plan_course, plan_end}
 
--- a check that came to an end has written all
+-- a check with a stated ending has done all its work
 pub check_worked : (bytes : List ℕ) (ending : Status) (before after : Option (List ℕ))
     → IsWritten bytes ending before after → IsStated ending → IsWorked ending
 check_worked bytes Done before after w stated = tt
@@ -33,7 +33,7 @@ check_worked bytes WriteFault before after w stated = absurd stated
 check_worked bytes NoMemory before after w stated = absurd stated
 check_worked bytes InputTooLong before after w stated = absurd w
 
--- it takes no input
+-- a check reads no input
 pub check_unread : (bytes : List ℕ) (ending : Status) (before after : Option (List ℕ))
     → IsWritten bytes ending before after → ending ≡ ReadFault → ⊥
 check_unread bytes ending before after w is = subst (λ (e : Status). IsWritten bytes e before after) is w
@@ -73,7 +73,7 @@ module _ (run : plans.WholeRun) (files : FileMap) (input : List ℕ) (plan : Che
     err = front_same before.err after.err run.err err;
   }
 
--- a planned check that is written, in full or in part, is the run
+-- a planned check that is written in full or in part is the run
 pub check_run : (want : plans.Plan) (files : FileMap) (input : List ℕ) (plan : CheckPlan) (ending : Status) (now : ℕ)
     (before after : Outside) → IsPlan want files (Check plan) before.steps now
     → IsWritten (report_of plan) ending before.out after.out

@@ -29,7 +29,7 @@ use Rattle.units_run.specs.declared.status.Status.TheVariants as status
 use Rattle.units_run.specs.declared.status.Status.TheVariants.{Done, Refused}
 use Rattle.units_run.proofs.Running.{plan_course, plan_end}
 
--- the ending of rows, as one of the run
+-- the ending of the rows as an ending of the run
 done_by : (refused : Bool) → (if refused then column.Refused else column.Done) ≡ column.Done
     → Done ≡ (if refused then Refused else Done)
 done_by true e = cc
@@ -42,7 +42,7 @@ refused_by false e = cc
 
 module _ (work : ColumnWork) (m : FileMap) (input : List ℕ) (before after : Outside)
     (noticed : after.err ≡ grown before.err work.err) (files : after.files ≡ when_told before.files m) where
-  -- a conversion that ended so, by what its rows wrote
+  -- a conversion with this ending, from what its rows wrote
   pub converted : (end : ColumnEnd) → IsWritten (rows_of work input) end before.out after.out
       → (is_over end ≡ true → after.steps ≡ before.steps + steps_of work input)
       → IsConverted (column_run work m input).output (column_run work m input).status (column_status end) before after
@@ -59,7 +59,7 @@ module _ (work : ColumnWork) (m : FileMap) (input : List ℕ) (before after : Ou
   converted column.WriteFault w counted = record { out = w; err = front_all _ _ _ noticed }
   converted column.NoMemory w counted = record { out = w; err = front_all _ _ _ noticed }
 
--- which stated endings there are
+-- a stated ending of a column is one after all the work was done
 pub ends_worked : (end : ColumnEnd) → IsStated (column_status end) → IsWorked (column_status end)
 ends_worked column.Done s = tt
 ends_worked column.Refused s = tt
@@ -68,7 +68,7 @@ ends_worked column.WriteFault s = absurd s
 ends_worked column.NoMemory s = absurd s
 ends_worked column.InputTooLong s = absurd s
 
--- where no session is opened a run may end so
+-- a run that opens no session may end after all the work was done
 pub worked_may_end : (file : Bool) (status : Status) → IsWorked status → MayEnd true file false status
 worked_may_end file status.Done w = tt
 worked_may_end file status.Refused w = refl
@@ -79,7 +79,7 @@ worked_may_end file status.WriteFault w = absurd w
 worked_may_end file status.NoMemory w = absurd w
 worked_may_end file status.InputTooLong w = absurd w
 
--- a column that is planned
+-- the plan of a column
 pub planned_column : (want : plans.Plan) (m : FileMap) (plan : ColumnPlan) (old new : ℕ)
     → IsPlan want m (Columns plan) old new
     → (work : ColumnWork) × (want ≡ plans.Columns work) × IsColumn work plan old new
@@ -87,7 +87,7 @@ planned_column (plans.Whole run) m plan old new planned = absurd planned
 planned_column (plans.Opened talk) m plan old new planned = absurd planned
 planned_column (plans.Columns work) m plan old new planned = (work, refl, planned)
 
--- what it leaves, whatever the files are called
+-- the output of a planned column, whatever the files are
 pub column_left : (want : plans.Plan) (work : ColumnWork) (m : FileMap) (input : List ℕ) (status : Status)
     (before : Outside) (left out err : Option (List ℕ)) (files same : Option FileMap) (fetches stores steps : ℕ)
     → want ≡ plans.Columns work → files ≡ same
@@ -103,7 +103,7 @@ column_left want work m input status before left out err files same fetches stor
     (λ (f : Option FileMap). IsConverted (column_run work m input).output (column_run work m input).status status before
     (outside_of left out err f fetches stores steps)) (sym kept) converts)
 
--- only a run that is over came to its end
+-- if all the work was done, the run over the column finished
 pub over_worked : (end : ColumnEnd) → IsWorked (column_status end) → is_over end ≡ true
 over_worked column.Done w = refl
 over_worked column.Refused w = refl
@@ -114,7 +114,7 @@ over_worked column.InputTooLong w = absurd w
 
 module _ (work : ColumnWork) (plan : ColumnPlan) (n now : ℕ) (at : IsColumn work plan n now) (from to : List ℕ)
     (is_from : from ≡ plan.from) (is_to : to ≡ plan.to) where
-  -- what is made of the parts of a plan is made of the work
+  -- a function of the parts of the plan is that function of the parts of the work
   pub by_work : {X : Type 0} (f : Shown → Options → (from to : List ℕ) → (column : ℕ) → (header : Bool) → X)
       → f plan.table plan.options from to plan.column plan.header
       ≡ f (fresh work.deck) work.options work.from work.to work.column work.header
@@ -130,7 +130,7 @@ module _ (work : ColumnWork) (plan : ColumnPlan) (n now : ℕ) (at : IsColumn wo
       → rows (table plan.table.deck) plan.options from to (input_of input plan.column plan.header) ≡ rows_of work input
   rows_same input = by_work (λ s o f t k h. rows (table s.deck) o f t (input_of input k h))
 
-  -- the steps of the queries that were made
+  -- the steps are those of the queries that were made
   pub steps_same : LeavesLaw → (input : List ℕ) (after : Shown) (new : ℕ)
       → Follows (queries (table plan.table.deck) plan.options from to (input_of input plan.column plan.header))
       plan.table after now new

@@ -73,16 +73,16 @@ use Rattle.units_run.proofs.Planned.{plan_taken}
 abbrev first : List ℕ
 first = codes "first.units"
 
--- the lines of no input
+-- the lines heard of an empty input
 abbrev none_heard : List (List ℕ)
 none_heard = heard (lines_of [])
 
--- what is planned over a file of this text
+-- the plan over a file with this text
 abbrev pub plan_over : CommandLine → (text : List ℕ) → Pairs → FileMap → Plan
 plan_over line text vars files =
     file_plan line first (with_answer files first (answer_of (Some text)) (empty_deck (settings_of line vars))) files
 
--- the run of words over a file of this text
+-- the run of words over a file with this text
 pub run_by_file : (words : List (List ℕ)) (line : CommandLine) (text input out err : List ℕ) (status : Status)
     → AreLine words line → line.trial ≡ None → line.file ≡ Some first
     → ((vars : Pairs) (files : FileMap)
@@ -103,7 +103,7 @@ run_by_file words line text input out err status is trial file gives vars files 
 -- ---- a conversion
 
 module _ (vars : Pairs) (files : FileMap) (line : CommandLine) (text : List ℕ) where
-  -- the deck of a file of this text
+  -- the deck of a file with this text
   abbrev pub deck_over : Contents
   deck_over = with_excerpt (deck_of files first text) (empty_deck (settings_of line vars))
 
@@ -130,7 +130,7 @@ unfolding definitions deck_of rest_excerpt reading_of entry_in behind_line kind_
     gcd_within rises
 measures_table vars files line = refl
 
--- the run over the measures of a line that converts
+-- the run of a command line that converts over the measures
 measures_run : (line : CommandLine) (from to : List ℕ) (reply : Reply)
     → ((d : Contents) (files : FileMap) → work_by line.from line d files
     ≡ replied d (converted (table d) default from to))
@@ -222,7 +222,7 @@ one_key law name entry t is =
         by true = refl
         by false = refl
 
--- the run of a check, by the keys of its table
+-- the report of a check, given the keys of its table
 abbrev report_over : Contents → List Key → List ℕ
 report_over deck keys = lines_of_texts deck.notices ++ check_among (table deck) (style_of (options_of checking)) keys
 
@@ -237,7 +237,7 @@ check_by deck keys bytes files is reports =
 abbrev faulty_text : List ℕ
 faulty_text = codes "feet\nft 12 in\n"
 
--- `12 in`
+-- the entry `12 in`
 abbrev twelve_inches : Entry
 twelve_inches = expression (codes "12 in") (number_of (numeral 12 (pos 0)) (codes "in"))
 
@@ -275,7 +275,7 @@ finds law vars files =
     (check_by deck (unit (codes "ft") ∷ []) _ files
     (one_key law (codes "ft") twelve_inches (table deck) (faulty_table vars files)) (faulty_report vars files))
 
--- one primitive, which is sound
+-- a text with one primitive, which is sound
 abbrev sound_text : List ℕ
 sound_text = codes "m !\n"
 

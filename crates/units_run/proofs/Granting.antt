@@ -1,4 +1,4 @@
--- The reply of a run that converts.
+-- The reply of a run that makes a conversion.
 use Rattle.std.proofs.Common.{◌≡◌, ◌∙◌, ◌&&◌, ◌||◌, [], ℕ, List, Bool, true, false, Option, Some, None, Result, Ok}
 use Rattle.std.proofs.Common.{refl}
 use Rattle.std.proofs.Common.{sym, ap, subst, codes, if◌then◌else◌, is_some, not, unwrap_or}
@@ -39,7 +39,7 @@ use Rattle.units_run.proofs.Planned.{fetches_none, plan_taken, tells_less}
 use Rattle.units_run.proofs.Running.{plan_course, plan_end}
 use Rattle.units_run.proofs.Statuses.{told_some}
 
--- a stated ending leaves all
+-- with a stated ending all output is there
 left_all : (course : Course) (wanted ending : Status) (before after : Outside) → IsStated ending
     → IsLeft course wanted ending before after → (ending ≡ wanted) × IsAll (whole course) before after
 left_all course wanted Done before after stated left = left
@@ -57,7 +57,7 @@ some_same a b e = ap (λ (o : Option (List ℕ)). unwrap_or o []) e
 none_some : (text : List ℕ) → None ≡ Some text → ⊥
 none_some text e = cc
 
--- the content of a text that is there
+-- the content of a text that is given
 content_of : (t : Option (List ℕ)) (text : List ℕ) → option_map line_content t ≡ Some text
     → line_content (unwrap_or t []) ≡ text
 content_of None text e = absurd (none_some text e)
@@ -67,7 +67,7 @@ is_there : (t : Option (List ℕ)) (text : List ℕ) → option_map line_content
 is_there None text e = absurd (none_some text e)
 is_there (Some t) text e = refl
 
--- one FROM without a column needs no input
+-- a FROM without a column needs no input
 none_needed : (taken trial from check column : Bool) → from ≡ true → column ≡ false
     → ((taken && (not trial && not (from || check))) || (taken && ((not trial && from) && column))) ≡ false
 none_needed false trial from check column e f = refl
@@ -76,7 +76,7 @@ none_needed true false true check false e f = refl
 none_needed true false true check true e f = cc
 none_needed true false false check column e f = cc
 
--- a TO that is neither blank nor `?`
+-- the reply for a TO that is neither blank nor `?` is that of the conversion
 asked_converted : (t : Table) (options : Options) (from to : List ℕ) → is_empty to ≡ false
     → bytes_eq to (codes "?") ≡ false → asked_for t options from to ≡ converted t options from to
 asked_converted t options from to some one =
@@ -86,7 +86,7 @@ asked_converted t options from to some one =
     else converted t options from to) some
     ∙ ap (λ (b : Bool). if b then conformable t options from else converted t options from to) one
 
--- work over the definitions in force
+-- the plan is the work over the definitions in force
 deck_known : (file : Option (List ℕ)) (line : CommandLine) (settings : Settings) (files : FileMap) (deck : Contents)
     → definitions_by file settings files ≡ Ok deck
     → deck_plan file line settings files ≡ work_by line.from line deck files
@@ -110,7 +110,7 @@ module _ (line : CommandLine) (deck : Contents) (files : FileMap) (from to : Lis
       (content_of line.to to to_is)
       ∙ ap (replied deck) (asked_converted (table deck) (options_of line) from to some one)
 
--- the plan of words that ask for a conversion
+-- the plan of words that give a conversion
 conversion_plan : (words : List (List ℕ)) (vars : Pairs) (files : FileMap) (deck : Contents) (from to : List ℕ)
     → AsksForConversion words vars files deck from to
     → plan_of words vars files

@@ -1,4 +1,4 @@
--- What some words lead to.
+-- The needs of some words.
 use Rattle.std.proofs.Common.{◌≡◌, ◌&&◌, ◌||◌, ℕ, List, Bool, false, Option, None, ap, ◌∙◌, if◌then◌else◌}
 use Rattle.units_io.specs.Fetching.{answer_of}
 use Rattle.units_io.specs.FileMap.{FileMap, file_of}
@@ -16,7 +16,7 @@ use Rattle.units_run.specs.Plans.{complaint}
 use Rattle.units_run.specs.Work.{file_plan}
 use Rattle.units_run.specs.declared.status.Status.TheVariants.{NoFile}
 
--- what words need, by their command line
+-- the needs of words, from their command line
 pub line_needs : (words : List (List ℕ)) (line : CommandLine) → AreLine words line
     → HasNeeds words (loads_file line || is_session line) (is_session line || is_column line)
 line_needs words line is =
@@ -34,14 +34,14 @@ untaken_needs words is =
       ap (λ (b : Bool). (b && is_session read) || (b && is_column read)) is,
     )
 
--- how much input they take at most
+-- the limit of the input of words, from their command line
 pub line_most : (words : List (List ℕ)) (line : CommandLine) → AreLine words line
     → most_input words ≡ (if is_column line then 16777216 else 4294967296)
 line_most words line is =
     ap (λ (b : Bool). if b && is_column (command_line_of words) then 16777216 else 4294967296) is.0
     ∙ ap (λ (l : CommandLine). if is_column l then 16777216 else 4294967296) is.1
 
--- the definition file is absent
+-- the plan if the definition file is absent
 pub absent_file : (line : CommandLine) (name : List ℕ) (settings : Settings) (files : FileMap)
     → file_of files name ≡ None
     → file_plan line name (after_load files name settings) files ≡ complaint (no_deck_line Absent name) NoFile

@@ -1,4 +1,4 @@
--- What words do not need.
+-- Files and input that words do not need.
 use Rattle.std.proofs.Common.{◌≡◌, ◌&&◌, ◌||◌, ℕ, List, Bool, true, false, Option, Some, None, Result, Ok, Err}
 use Rattle.std.proofs.Common.{refl, sym, ap, subst, ◌∙◌, if◌then◌else◌, is_some, not}
 use Rattle.units_io.specs.FileMap.{FileMap}
@@ -18,7 +18,7 @@ use Rattle.units_run.specs.Settings.{settings_of}
 use Rattle.units_run.specs.Work.{checked, deck_plan, file_plan, from_plan, opened_over, plan_by, plan_of, work_by}
 use Rattle.units_run.proofs.Planned.{left_false, plan_taken, plan_untaken, right_false}
 
--- work on a deck that opens no session is the same over all files
+-- the plan of work that opens no session is the same over all files
 work_same : (from : Option (List ℕ)) (check : Bool) (line : CommandLine) (deck : Contents) (files others : FileMap)
     → line.check ≡ check → not (is_some from || check) ≡ false
     → work_by from line deck files ≡ work_by from line deck others
@@ -54,12 +54,12 @@ files_by true words vars files others is none =
 files_by false words vars files others is none =
     sym (plan_untaken words vars files is) ∙ plan_untaken words vars others is
 
--- words that need no file lead to the same over all files
+-- words that need no file have the same plan over all files
 pub any_files : (words : List (List ℕ)) (vars : Pairs) (files others : FileMap) → needs_files words ≡ false
     → plan_of words vars files ≡ plan_of words vars others
 any_files words vars files others none = files_by (are_taken words) words vars files others refl none
 
--- a reply is whole
+-- the plan of a reply is whole
 from_whole : (column : Option ℕ) (line : CommandLine) (from to : List ℕ) (deck : Contents) → is_some column ≡ false
     → IsWhole (from_plan column line from to deck)
 from_whole None line from to deck none = tt
@@ -105,12 +105,12 @@ input_by true words vars files is none =
     (plan_whole line.trial line (settings_of line vars) files none)
 input_by false words vars files is none = subst IsWhole (plan_untaken words vars files is) tt
 
--- all of a run that needs no input is known before any is taken
+-- a run that needs no input is completely known before any is read
 pub no_input : (words : List (List ℕ)) (vars : Pairs) (files : FileMap) → needs_input words ≡ false
     → IsWhole (plan_of words vars files)
 no_input words vars files none = input_by (are_taken words) words vars files refl none
 
--- and it is the same over all input
+-- a whole plan gives the same run over all input
 pub whole_same : (plan : Plan) (files : FileMap) (input other : List ℕ) (lines others : List (List ℕ)) → IsWhole plan
     → run_over plan files input lines ≡ run_over plan files other others
 whole_same (Whole run) files input other lines others whole = refl

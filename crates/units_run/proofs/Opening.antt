@@ -1,4 +1,4 @@
--- What a planned run writes first.
+-- The output that a planned run writes first.
 use Rattle.std.proofs.Common.{◌≡◌, ◌∙◌, ◌⊎◌, [], inl, inr, ℕ, List, subst, sym}
 use Rattle.std.specs.declared.option.Option.{Option}
 use Rattle.column_run.proofs.Writing.{grown_none}
@@ -16,7 +16,7 @@ use Rattle.units_run.specs.declared.plan.Plan.TheVariants.{Whole, Check, Opened,
 use Rattle.units_run.specs.declared.status.Status.{Status}
 use Rattle.units_run.proofs.Running.{at_least}
 
--- a whole plan: `err` has all before `out` has any
+-- with a whole plan, `err` has all its bytes before `out` has any
 pub whole_order : {A : Type 0} (want : plans.Plan) (m : FileMap) (said : Said) (status : Status) (old new : ℕ)
     (before after : Option (List ℕ)) → IsPlan want m (Whole said status) old new
     → A ⊎ (after ≡ grown before said.err.items) → A ⊎ GrowsAtLeast before after (first_on_err want)
@@ -26,7 +26,7 @@ whole_order (plans.Whole run) m said status old new before after planned (inr al
 whole_order (plans.Opened talk) m said status old new before after planned w = absurd planned
 whole_order (plans.Columns work) m said status old new before after planned w = absurd planned
 
--- a check has nothing on `err`
+-- a check writes nothing to `err`
 pub check_order : (want : plans.Plan) (m : FileMap) (plan : CheckPlan) (old new : ℕ) (before after : Option (List ℕ))
     → IsPlan want m (Check plan) old new → after ≡ before → GrowsAtLeast before after (first_on_err want)
 check_order (plans.Whole run) m plan old new before after planned same =
@@ -34,7 +34,7 @@ check_order (plans.Whole run) m plan old new before after planned same =
 check_order (plans.Opened talk) m plan old new before after planned same = absurd planned
 check_order (plans.Columns work) m plan old new before after planned same = absurd planned
 
--- a session
+-- with a session, `err` has its opening before `out` has any bytes
 pub session_order : {A : Type 0} (want : plans.Plan) (m : FileMap) (said : Said) (session : Known) (old new : ℕ)
     (before after : Option (List ℕ)) → IsPlan want m (Opened said session) old new
     → A ⊎ GrowsAtLeast before after said.err.items → A ⊎ GrowsAtLeast before after (first_on_err want)
@@ -57,7 +57,7 @@ session_opening (plans.Opened talk) m said session old new out out_now err err_n
     )
 session_opening (plans.Columns work) m said session old new out out_now err err_now planned w = absurd planned
 
--- a column
+-- with a column, `err` has the notices before `out` has any bytes
 pub column_order : {A B : Type 0} (want : plans.Plan) (m : FileMap) (plan : ColumnPlan) (old new : ℕ)
     (before after : Option (List ℕ)) → IsPlan want m (Columns plan) old new
     → (A × B) ⊎ (after ≡ grown before plan.notices.items) → B ⊎ GrowsAtLeast before after (first_on_err want)

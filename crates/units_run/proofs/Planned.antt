@@ -1,4 +1,4 @@
--- A plan, by the words.
+-- The plan of the words.
 use Rattle.std.proofs.Common.{◌≡◌, ◌&&◌, ◌||◌, inl, inr, ℕ, List, Bool, true, false, Result, Err, Some, None, refl, sym}
 use Rattle.std.proofs.Common.{ap, subst, ◌∙◌, if◌then◌else◌, is_some, not}
 use Rattle.std.specs.declared.option.Option.{Option}
@@ -24,7 +24,7 @@ use Rattle.units_run.specs.Work.{file_plan, line_plan, plan_of}
 use Rattle.units_run.specs.declared.plan.Plan.{Plan}
 use Rattle.units_run.specs.declared.status.Status.TheVariants.{NoFile, Usage}
 
--- words that are taken, and words that are not
+-- the plans of words that are valid, and of words that are not
 pub plan_taken : (words : List (List ℕ)) (vars : Pairs) (m : FileMap) (line : CommandLine) → are_taken words ≡ true
     → line ≡ command_line_of words → line_plan line vars m ≡ plan_of words vars m
 unfolding plan_of
@@ -38,7 +38,7 @@ unfolding plan_of
 plan_untaken words vars m taken =
     sym (ap (λ b. if b then line_plan (command_line_of words) vars m else complaint usage_text Usage) taken)
 
--- there is no deck
+-- the plan if there is no deck
 pub deck_missing : {E : Type 0} (outcome : Result Contents DeckFault) (fault : DeckFault) (line : CommandLine)
     (name : List ℕ) (m : FileMap) (result : Result Plan E) (n : ℕ) → (MayFail fault → ⊥) → IsLoaded outcome (Err fault)
     → IsPlanned (complaint (no_deck_line fault name) NoFile) m result n n
@@ -47,7 +47,7 @@ deck_missing outcome fault line name m result n known (inl may) planned = absurd
 deck_missing outcome fault line name m result n known (inr is) planned =
     subst (λ (o : Result Contents DeckFault). IsPlanned (file_plan line name o m) m result n n) (sym is) planned
 
--- then no fetch failed
+-- if there is no deck, no fetch failed
 pub none_failed : (n : ℕ) (fault : DeckFault) → (MayFail fault → ⊥)
     → faults_after_load {T = Contents} n (Err fault) ≡ n
 none_failed n (fault.BadLine reason) known = refl
@@ -66,7 +66,7 @@ pub right_false : (a b : Bool) → (a || b) ≡ false → b ≡ false
 right_false true b e = cc
 right_false false b e = e
 
--- what words do not need, their command line does not load
+-- if the words need no file, their command line loads none
 pub loads_needed : (words : List (List ℕ)) (line : CommandLine) → are_taken words ≡ true → line ≡ command_line_of words
     → needs_files words ≡ false → loads_file line ≡ false
 loads_needed words line taken read none =
@@ -75,13 +75,13 @@ loads_needed words line taken read none =
     ∙ left_false (loads_file read_line) (is_session read_line)
     (sym (ap (λ b. b && (loads_file read_line || is_session read_line)) taken) ∙ none)
 
--- nor do words that name no definition file
+-- if the words name no definition file, their command line loads none
 pub loads_named : (words : List (List ℕ)) (line : CommandLine) → are_taken words ≡ true → line ≡ command_line_of words
     → needs_definitions words ≡ false → loads_file line ≡ false
 loads_named words line taken read none =
     ap loads_file read ∙ sym (ap (λ b. b && loads_file (command_line_of words)) taken) ∙ none
 
--- what serves a need serves a lesser one
+-- a value that is known whenever it is needed is known for a lesser need
 pub tells_less : {X : Type 0} (needed less : Bool) (o : Option X) (x : X) → (needed ≡ false → less ≡ false)
     → TellsIf needed o x → TellsIf less o x
 tells_less needed less (Some told) x h s = s
@@ -98,7 +98,7 @@ input_files words e =
     by true false s e = e
     by false l s e = e
 
--- where something is needed it is told
+-- a value that is needed is known
 pub tells_needed : {X : Type 0} (needed : Bool) (o : Option X) (x : X) → needed ≡ true → TellsIf needed o x → o ≡ Some x
 tells_needed true None x e h = cc
 tells_needed false None x e h = cc
@@ -122,7 +122,7 @@ fetches_none words input none =
     let line = command_line_of words in
     none_fetched (are_taken words) (loads_file line) (is_session line) (any_loads_file input) none
 
--- files that are told if one is fetched are told if a line of the session loads one
+-- files that are known if one is fetched are known if a line of the session loads one
 pub session_told : (words : List (List ℕ)) (input : List ℕ) (files : Option FileMap) (m : FileMap)
     → opens_session words ≡ true → TellsIf (fetches_file words input) files m → IsToldIf (any_loads_file input) files
 session_told words input (Some told) m opens s = tt
@@ -130,19 +130,19 @@ session_told words input None m opens s =
     and_false (opens_session words) (any_loads_file input) opens
     (right_false (needs_definitions words) (opens_session words && any_loads_file input) s)
 
--- they serve for the definition file
+-- files that are known if one is fetched are known if the definition file is loaded
 pub definitions_told : (words : List (List ℕ)) (input : List ℕ) (files : Option FileMap) (m : FileMap)
     → TellsIf (fetches_file words input) files m → TellsIf (needs_definitions words) files m
 definitions_told words input files m s =
     tells_less (fetches_file words input) (needs_definitions words) files m
     (left_false (needs_definitions words) (opens_session words && any_loads_file input)) s
 
--- what is told is told, needed or not
+-- a known value is known, needed or not
 pub tells_told : {X : Type 0} (needed : Bool) (o : Option X) (x : X) → o ≡ Some x → TellsIf needed o x
 tells_told needed (Some told) x e = cc
 tells_told needed None x e = cc
 
--- words that lead to a session lead to no column
+-- words that lead to a session do not lead to a column
 both_none : (taken trial from check column : Bool) → (taken && (not trial && not (from || check))) ≡ true
     → (taken && ((not trial && from) && column)) ≡ true → ⊥
 both_none true false true check column e f = cc
@@ -163,7 +163,7 @@ pub not_both : (b : Bool) → b ≡ true → b ≡ false → ⊥
 not_both true e f = cc
 not_both false e f = cc
 
--- a session takes as much input as it may
+-- the limit of the input of a session
 pub session_most : (words : List (List ℕ)) → opens_session words ≡ true → 4294967296 ≡ most_input words
 session_most words e =
     sym (ap (λ (b : Bool). if b then 16777216 else 4294967296)
@@ -172,7 +172,7 @@ session_most words e =
 pub column_most : (words : List (List ℕ)) → converts_column words ≡ true → 16777216 ≡ most_input words
 column_most words e = sym (ap (λ (b : Bool). if b then 16777216 else 4294967296) e)
 
--- words that are not taken lead to neither
+-- words that are not valid lead to neither
 pub no_lead : (words : List (List ℕ)) → are_taken words ≡ false → (opens_session words || converts_column words) ≡ true
     → ⊥
 no_lead words untaken leads =

@@ -1,4 +1,4 @@
--- A check report that is written by the block.
+-- Writing a check report block by block.
 use Rattle.std.proofs.Common.{◌≡◌, ◌∙◌, ◌++◌, ◌||◌, ℕ, List, [], ◌∷◌, Bool, true, false, Some, None, refl, sym, ap}
 use Rattle.std.proofs.Common.{◌-◌, ◌==◌, append_assoc, arith, drop, if◌then◌else◌, length, not, subst, take}
 use Rattle.std.specs.declared.option.Option.{Option}
@@ -22,7 +22,7 @@ use Rattle.units_io.specs.Bytes.{grown, GrowsByFront}
 use Rattle.units_run.specs.Checks.{IsWritten}
 use Rattle.units_run.specs.declared.status.Status.TheVariants.{Done, Refused}
 
--- keys at some places and at others after them
+-- the keys at two lists of places, one after the other
 keys_both : (deck : Contents) (xs ys : List ℕ)
     → keys_there deck.lines (xs ++ ys) ≡ keys_there deck.lines xs ++ keys_there deck.lines ys
 keys_both deck [] ys = refl
@@ -34,7 +34,7 @@ keys_both deck (x ∷ xs) ys = go (key_there deck.lines x) (keys_both deck xs ys
     go None e = e
     go (Some k) e = ap (λ (ks : List Key). k ∷ ks) e
 
--- bytes and more bytes are not empty if one of the two is not
+-- two lists of bytes together are not empty if either is not
 some_both : (xs ys : List ℕ) → not (is_empty (xs ++ ys)) ≡ (not (is_empty xs) || not (is_empty ys))
 some_both [] ys = refl
 some_both (x ∷ xs) ys = refl
@@ -42,18 +42,18 @@ some_both (x ∷ xs) ys = refl
 true_false : true ≡ false → ⊥
 true_false is = cc
 
--- all places behind the first ones
+-- taking as many places as are left after the first n takes all of them
 places_behind : (n : ℕ) (places : List ℕ) → take (length places - n) (drop n places) ≡ drop n places
 places_behind n places =
     let long : length (drop n places) ≡ length places - n = length-drop n places in
     take_all (length places - n) (drop n places) (omega arith)
 
--- there are none
+-- a list of places whose length is 0 is empty
 pub no_places : (places : List ℕ) (none : Bool) → none ≡ (length places == 0) → none ≡ true → places ≡ []
 no_places [] none is e = refl
 no_places (x ∷ places) none is e = absurd (grind (arith, nat_tests, is, e))
 
--- how a report ends by whether it has a byte
+-- the ending of a report, depending on whether it has any bytes
 pub reported : (bytes : List ℕ) (any : Bool) (before after : Option (List ℕ)) → any ≡ not (is_empty bytes)
     → after ≡ grown before bytes → IsWritten bytes (if any then Refused else Done) before after
 reported [] true before after is all = absurd (true_false is)
@@ -62,7 +62,7 @@ reported (b ∷ bytes) true before after is all = (refl, all)
 reported (b ∷ bytes) false before after is all = absurd (true_false (sym is))
 
 module _ (deck : Contents) (options : Options) where
-  -- the lines of the keys at some places, and what is asked for them
+  -- the lines of the keys at some places, and the queries that are made for them
   abbrev pub lines_of : List ℕ → List ℕ
   lines_of places = check_among (table deck) (style_of options) (keys_there deck.lines places)
 
@@ -81,7 +81,7 @@ module _ (deck : Contents) (options : Options) where
       ∙ flat_map-append (λ (k : Key). (checked (table deck) k).events) (keys_there deck.lines xs)
       (keys_there deck.lines ys)
 
--- the lines of the first places are made, and all but the last of them are written
+-- the lines of the first places are made, and all of them but the last are written
 pub record IsUnderway (options : Options) (places head : List ℕ) (start : Option (List ℕ)) (before : Shown) (old : ℕ)
     (rest lines : List ℕ) (any : Bool) (out : Option (List ℕ)) (now : Shown) (new : ℕ) : Type 0 where
   pub front : List ℕ
@@ -109,7 +109,7 @@ module _ (options : Options) (places head : List ℕ) (start : Option (List ℕ)
 
   module _ (rest lines : List ℕ) (any : Bool) (out : Option (List ℕ)) (now : Shown) (new : ℕ)
       (u : IsUnderway options places head start before old rest lines any out now new) where
-    -- all bytes, of which those that are made are a front
+    -- all bytes of the report, of which the bytes made so far are a front
     all_text : head ++ lines_of before.deck options places
         ≡ u.written ++ (lines ++ lines_of before.deck options rest)
     all_text =
@@ -119,7 +119,7 @@ module _ (options : Options) (places head : List ℕ) (start : Option (List ℕ)
         ∙ ap (λ (ls : List ℕ). ls ++ lines_of before.deck options rest) (sym u.text)
         ∙ append_assoc u.written lines (lines_of before.deck options rest)
 
-    -- what is written is a front of all
+    -- the bytes written so far are a front of all
     pub front_now : GrowsByFront start out (head ++ lines_of before.deck options places)
     front_now =
         front_more start out u.written (lines ++ lines_of before.deck options rest) _ all_text
@@ -148,7 +148,7 @@ module _ (options : Options) (places head : List ℕ) (start : Option (List ℕ)
           ∙ append_assoc head (lines_of before.deck options u.front) (lines_of before.deck options (take n rest))
           ∙ ap (λ (ls : List ℕ). head ++ ls) (sym (lines_both before.deck options u.front (take n rest)))
 
-      -- so it is if a front of the next lines is written
+      -- if a front of the next lines is written, too, the bytes written are still a front of all
       pub front_next : (after : Option (List ℕ)) → GrowsByFront out after further
           → GrowsByFront start after (head ++ lines_of before.deck options places)
       front_next after f =
@@ -191,7 +191,7 @@ module _ (options : Options) (places head : List ℕ) (start : Option (List ℕ)
             (subst (λ (d : Contents). Follows (queries_of d options (take n rest)) now later new last) u.deck made));
       }
 
-  -- no place is left, and all is written
+  -- no place is left, and everything is written
   module _ (rest lines : List ℕ) (any : Bool) (out : Option (List ℕ)) (now : Shown) (new : ℕ)
       (u : IsUnderway options places head start before old rest lines any out now new) (none : rest ≡ [])
       (cleared : lines ≡ []) where

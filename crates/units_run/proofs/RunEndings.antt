@@ -1,4 +1,4 @@
--- How a run ends by its words.
+-- The ways in which a run may end, from its words.
 use Rattle.std.proofs.Common.{◌≡◌, ◌&&◌, ◌||◌, ℕ, List, Bool, true, false, Option, Some, None, Result, Ok, Err}
 use Rattle.std.proofs.Common.{refl, sym, subst, if◌then◌else◌, is_some, not}
 use Rattle.units_io.specs.FileMap.{FileMap}
@@ -20,7 +20,7 @@ use Rattle.units_run.specs.Work.{checked, deck_plan, file_plan, from_plan, opene
 use Rattle.units_run.specs.declared.status.Status.TheVariants.{Done, Refused}
 use Rattle.units_run.proofs.Planned.{plan_taken, plan_untaken}
 
--- where no session is opened there may be a refusal
+-- a run that opens no session may end with `Refused`
 refused_may_end : (file refused : Bool) → MayEnd true file false (if refused then Refused else Done)
 refused_may_end file true = refl
 refused_may_end file false = tt
@@ -64,7 +64,7 @@ module _ (files : FileMap) (input : List ℕ) (lines : List (List ℕ)) where
   plan_ends (Some rounds) line settings m = tt
   plan_ends None line settings m = deck_ends line.file line settings m
 
-  -- words that are taken or not
+  -- the endings of valid words, and of words that are not
   pub words_end : (taken : Bool) (words : List (List ℕ)) (vars : Pairs) (m : FileMap) → are_taken words ≡ taken
       → MayEnd taken (loads_file (command_line_of words)) (taken && is_session (command_line_of words))
       (run_over (plan_of words vars m) files input lines).status

@@ -34,7 +34,7 @@ use Rattle.units_run.proofs.Planned.{left_false, not_both, or_true}
 use Rattle.column_run.proofs.Writing.{grown_none}
 use Rattle.units_run.proofs.Seeing.{SeesFiles}
 
--- the ending of a whole plan is a stated one
+-- the status of a whole plan is a stated ending
 pub may_end_stated : (taken file session : Bool) (status : Status) → MayEnd taken file session status → IsStated status
 may_end_stated false file session status is = subst IsStated (sym is) tt
 may_end_stated true file session Done may = tt
@@ -46,7 +46,7 @@ may_end_stated true file session WriteFault may = absurd may
 may_end_stated true file session NoMemory may = absurd may
 may_end_stated true file session InputTooLong may = absurd may
 
--- how words may end that are taken, and lead to a session or to none
+-- the ways in which valid words may end, whether or not they lead to a session
 pub taken_may_end : (taken file session opens : Bool) (status : Status) → taken ≡ true → session ≡ opens
     → MayEnd true file opens status → MayEnd taken file session status
 taken_may_end taken file session opens status is_taken is may =
@@ -71,7 +71,7 @@ plan_course want files input = record { shown = λ lines. (run_over want files i
 abbrev pub plan_end : plans.Plan → FileMap → (input : List ℕ) → Status
 plan_end want files input = (run_over want files input (heard (lines_of input))).status
 
--- a whole plan that is written
+-- the run of a whole plan that is written in full
 pub whole_run : (want : plans.Plan) (files : FileMap) (input : List ℕ) (said : Said) (status : Status)
     (before after : Outside) → IsStated status → IsPlan want files (Whole said status) before.steps after.steps
     → after.out ≡ grown before.out said.out.items → after.err ≡ grown before.err said.err.items
@@ -88,11 +88,11 @@ whole_run (plans.Whole run) files input said status before after stated planned 
 whole_run (plans.Opened talk) files input said status before after stated planned out err kept = absurd planned
 whole_run (plans.Columns work) files input said status before after stated planned out err kept = absurd planned
 
--- the same files
+-- equal known files are equal
 files_same : (files same : FileMap) → Some files ≡ Some same → files ≡ same
 files_same files same e = ap (λ (o : Option FileMap). unwrap_or o files) e
 
--- a session that is opened
+-- the plan of a session, which is opened
 pub opened_talk : (want : plans.Plan) (files : FileMap) (said : Said) (session : Known) (before now : Outside)
     → IsPlan want files (Opened said session) before.steps now.steps → now.out ≡ before.out → now.err ≡ before.err
     → now.files ≡ before.files → before.files ≡ when_told before.files files → before.fetch_faults ≤ now.fetch_faults
@@ -127,7 +127,7 @@ session_left course end.WriteFault before after ended = ended
 session_left course end.NoMemory before after ended = ended
 session_left course end.InputTooLong before after ended = ended
 
--- the run of an opened plan is that of its session
+-- the run of a plan with a session is that of the session
 pub opened_run : (want : plans.Plan) (first : Talk) (files : FileMap) (input : List ℕ) (end : SessionEnd)
     (before after : Outside) → want ≡ plans.Opened first → IsEnded (session_course first input) end before after
     → IsLeftOf want (plan_course want files input) (plan_end want files input) (status_of end) before after
@@ -136,11 +136,11 @@ opened_run want first files input end before after is ended =
     (λ (w : plans.Plan). IsLeftOf w (plan_course w files input) (plan_end w files input) (status_of end) before after)
     (sym is) (session_left (session_course first input) end before after ended)
 
--- where nothing is written, what stands is a front of anything
+-- if nothing is written, the new bytes are a front of anything
 pub front_same : (o after : Option (List ℕ)) (xs : List ℕ) → after ≡ o → GrowsByFront o after xs
 front_same o after xs e = (0, omega arith, e ∙ grown_none o)
 
--- if no line is answered, and nothing written, that is a part
+-- if no line is answered and nothing is written, the output is a part of the whole
 unbegun : (want : plans.Plan) (files : FileMap) (input : List ℕ) (before after : Outside) → SeesFiles want files
     → after.out ≡ before.out → after.err ≡ before.err → after.files ≡ when_told before.files files
     → IsPart (plan_course want files input) before after
@@ -160,7 +160,7 @@ unbegun want files input before after sees o e kept = record {
     by (plans.Opened talk) sees = sym sees
     by (plans.Columns work) sees = refl
 
--- no plan, since a file could not be read
+-- the run without a plan because a file could not be read
 pub unread_run : (want : plans.Plan) (files : FileMap) (input : List ℕ) (before after : Outside) → SeesFiles want files
     → after.out ≡ before.out → after.err ≡ before.err → after.files ≡ when_told before.files files
     → Rose before.fetch_faults after.fetch_faults
@@ -172,7 +172,7 @@ unread_run (plans.Opened talk) files input before after sees o e kept rose =
 unread_run (plans.Columns work) files input before after sees o e kept rose =
     (o, front_same before.err after.err _ e)
 
--- or since there is no memory
+-- the run without a plan because memory ran out
 pub unmade_run : (want : plans.Plan) (files : FileMap) (input : List ℕ) (before after : Outside) → SeesFiles want files
     → after.out ≡ before.out → after.err ≡ before.err → after.files ≡ when_told before.files files
     → IsLeftOf want (plan_course want files input) (plan_end want files input) NoMemory before after
@@ -183,7 +183,7 @@ unmade_run (plans.Opened talk) files input before after sees o e kept =
 unmade_run (plans.Columns work) files input before after sees o e kept =
     record { out = front_same before.out after.out _ o; err = front_same before.err after.err _ e }
 
--- a whole plan that is written in part
+-- the run of a whole plan that is written in part
 pub cut_run : (want : plans.Plan) (files : FileMap) (input : List ℕ) (said : Said) (status : Status)
     (before after : Outside) → IsPlan want files (Whole said status) before.steps after.steps
     → GrowsByFront before.out after.out said.out.items → GrowsByFront before.err after.err said.err.items
@@ -202,14 +202,14 @@ cut_run (plans.Whole run) files input said status before after planned out err k
 cut_run (plans.Opened talk) files input said status before after planned out err kept = absurd planned
 cut_run (plans.Columns work) files input said status before after planned out err kept = absurd planned
 
--- a failed read is no failed write, and no input that is too long
+-- a read fault is neither a write fault nor input that is too long
 pub no_write : ReadFault ≡ WriteFault → ⊥
 no_write is = cc
 
 pub not_long : ReadFault ≡ InputTooLong → ⊥
 not_long is = cc
 
--- want of memory is none of these
+-- running out of memory is none of these endings
 pub memory_done : NoMemory ≡ Done → ⊥
 memory_done is = cc
 
@@ -222,13 +222,13 @@ memory_write is = cc
 pub memory_long : NoMemory ≡ InputTooLong → ⊥
 memory_long is = cc
 
--- files that are told are as they were when nothing changes them
+-- the files do not change if nothing changes them
 pub tells_stay : (needed : Bool) (files : Option FileMap) (m : FileMap) → TellsIf needed files m
     → files ≡ when_told files m
 tells_stay needed None m h = refl
 tells_stay needed (Some told) m h = ap Some h
 
--- a session that failed so ended so
+-- a run ends with a read fault only if its session does
 pub read_end : (e : SessionEnd) → status_of e ≡ ReadFault → e ≡ end.ReadFault
 read_end end.Done is = cc
 read_end end.ReadFault is = refl
@@ -264,7 +264,7 @@ file_end end.WriteFault is = cc
 file_end end.NoMemory is = cc
 file_end end.InputTooLong is = cc
 
--- a session that came to its end is done
+-- a session with a stated ending is done
 pub session_may_end : (file : Bool) (e : SessionEnd) → IsStated (status_of e) → MayEnd true file true (status_of e)
 session_may_end file end.Done s = tt
 session_may_end file end.ReadFault s = absurd s
@@ -272,7 +272,7 @@ session_may_end file end.WriteFault s = absurd s
 session_may_end file end.NoMemory s = absurd s
 session_may_end file end.InputTooLong s = absurd s
 
--- a plan that is whole opens no session and converts no column
+-- a whole plan opens no session and converts no column
 pub none_opened : (want : plans.Plan) (files : FileMap) (said : Said) (session : Known) (old new : ℕ)
     → plans.IsWhole want → IsPlan want files (Opened said session) old new → ⊥
 none_opened (plans.Whole run) files said session old new whole planned = planned
@@ -289,7 +289,7 @@ pub neither : {A B : Type 0} → (A → ⊥) → (B → ⊥) → A ⊎ B → ⊥
 neither a b (inl x) = a x
 neither a b (inr x) = b x
 
--- a session that was opened is no run that opens none
+-- a session that was opened is not a run that opens none
 pub session_opens : (words : List (List ℕ)) (vars : Pairs) (told : Option FileMap) (said : Said) (session : Known)
     (e : SessionEnd) (ending : Status) (old new : ℕ) → opens_session words ≡ true → status_of e ≡ ending
     → ((m : FileMap) → TellsIf (needs_definitions words) told m
@@ -300,13 +300,13 @@ session_opens words vars told said session e ending old new opens is planned =
     (λ whole.
     none_opened (plan_of words vars whole.0) whole.0 said session old new whole.2 (planned whole.0 whole.1)))
 
--- a run that takes no input opens no session
+-- a run that reads no input opens no session
 pub takes_opens : (words : List (List ℕ)) (vars : Pairs) (ending : Status) (told : Option FileMap)
     → TakesNone words vars ending told → OpensNone words vars ending told
 takes_opens words vars ending told (inl none) = inl (left_false (opens_session words) (converts_column words) none)
 takes_opens words vars ending told (inr none) = inr none
 
--- words that lead to a session or to a column, and yet to a whole run: there is no deck
+-- a whole run cannot end with `Done` if its words lead to a session, because then there is no deck
 pub no_session_done : (session column : Bool) (status : Status) → ((session || column) ≡ true → status ≡ NoFile)
     → session ≡ true → status ≡ Done → ⊥
 no_session_done true column status h opens done = let e : Done ≡ NoFile = sym done ∙ h refl in cc
@@ -317,7 +317,7 @@ pub no_column_worked : (session column : Bool) (status : Status) → ((session |
 no_column_worked session true status h converts worked = subst IsWorked (h (or_true session)) worked
 no_column_worked session false status h converts worked = cc
 
--- an ending that is neither a failed read nor a failed write is no fault
+-- an ending that is neither a read fault nor a write fault is not a fault
 pub no_fault : (ending : Status) → (ending ≡ ReadFault → ⊥) → (ending ≡ WriteFault → ⊥) → IsFaultless ending
 no_fault Done read write = tt
 no_fault Refused read write = tt
@@ -331,7 +331,7 @@ no_fault InputTooLong read write = tt
 pub same_le : (n k : ℕ) → k ≡ n → n ≤ k
 same_le n k e = omega arith
 
--- bytes that were written are at least those
+-- a sink to which bytes were written has grown by at least those bytes
 pub at_least : (before after : Option (List ℕ)) (bytes said : List ℕ) → said ≡ bytes → after ≡ grown before said
     → GrowsAtLeast before after bytes
 at_least before after bytes said is all =

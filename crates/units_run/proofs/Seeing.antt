@@ -1,4 +1,4 @@
--- The files that a planned session sees.
+-- The files of a planned session.
 use Rattle.std.proofs.Common.{◌≡◌, [], ℕ, List, Bool, true, false, Option, Some, None, Result, Ok, Err, refl}
 use Rattle.std.proofs.Common.{if◌then◌else◌, unwrap_or}
 use Rattle.std.specs.Prelude.{⊤}
@@ -20,7 +20,7 @@ use Rattle.units_run.specs.Work.{checked, deck_plan, file_plan, from_plan, line_
 use Rattle.units_run.specs.Work.{work_by}
 use Rattle.units_run.specs.declared.status.Status.TheVariants.{Usage}
 
--- a session that is planned sees these files
+-- a planned session uses these files
 abbrev pub SeesFiles : Plan → FileMap → Type 0
 SeesFiles (Whole run) files = ⊤
 SeesFiles (Opened talk) files = talk.state.files ≡ files
@@ -55,7 +55,7 @@ line_sees : (rounds : Option ℕ) (line : CommandLine) (settings : Settings) (fi
 line_sees (Some rounds) line settings files = tt
 line_sees None line settings files = deck_sees line.file line settings files
 
--- the files of the run are those that its session sees
+-- the files of the run are those of its session
 pub plan_sees : (words : List (List ℕ)) (vars : Pairs) (files : FileMap) → SeesFiles (plan_of words vars files) files
 unfolding plan_of
 plan_sees words vars files = by (are_taken words)

@@ -21,7 +21,7 @@ use Rattle.units_run.specs.declared.status.Status.TheVariants.{NoMemory, InputTo
 use Rattle.units_run.proofs.Needing.{any_files, no_input}
 use Rattle.units_run.proofs.Planned.{fetches_none, tells_less}
 
--- a stated ending is the wanted one
+-- a stated ending is the status of the run
 left_status : (course : Course) (wanted ending : Status) (before after : Outside) → IsStated ending
     → IsLeft course wanted ending before after → ending ≡ wanted
 left_status course wanted Done before after stated left = left.0
@@ -53,7 +53,7 @@ plan_status (Opened talk) course wanted ending before after stated left =
 plan_status (Columns work) course wanted ending before after stated left =
     converted_status (whole course) wanted ending before after stated left
 
--- something that is told, if it is not needed
+-- a value that is not needed, and may be known
 pub told_some : {X : Type 0} (needed : Bool) (told : Option X) (x : X) → needed ≡ false
     → (y : X) × TellsIf needed told y
 told_some needed (Some y) x none = (y, refl)

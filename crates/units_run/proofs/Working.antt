@@ -29,14 +29,14 @@ use Rattle.units_run.specs.declared.plan.Plan.TheVariants.{Whole, Check}
 use Rattle.units_run.specs.declared.status.Status.{Status}
 use Rattle.units_run.specs.declared.status.Status.TheVariants.{Done, Refused}
 
--- what is asked for by equal options and texts
+-- equal options and texts have the same reply and queries
 pub asked_same : (t : Table) (a b : Options) (from from_too to to_too : List ℕ) → a ≡ b → from ≡ from_too → to ≡ to_too
     → asked_for t a from to ≡ asked_for t b from_too to_too
 asked_same t a b from from_too to to_too o f g =
     ap (λ (x : Options). asked_for t x from to) o
     ∙ (ap (λ (x : List ℕ). asked_for t b x to) f ∙ ap (λ (x : List ℕ). asked_for t b from_too x) g)
 
--- the plan of a command line is that of its kind
+-- the plan of a command line is of the kind that its words lead to
 pub work_kind : {E : Type 0} (result : Result Plan E) (from : Option (List ℕ)) (check : Bool) (column : Option ℕ)
     (session converts : Bool) → not (is_some from || check) ≡ session → (is_some from && is_some column) ≡ converts
     → IfOk result (IsFor true false session converts)
@@ -45,7 +45,7 @@ work_kind result from check column session converts is has kind =
     subst (λ (s : Bool). IfOk result (IsFor true false s (is_some from && is_some column))) (sym is)
     (subst (λ (b : Bool). IfOk result (IsFor true false session b)) (sym has) kind)
 
--- what is done with a FROM that stands, by its column
+-- the plan for a FROM that is given, from its column
 pub from_stands : (line : CommandLine) (deck : Contents) (m : FileMap) (from word : List ℕ) (column : Option ℕ)
     → line.from ≡ Some word → from ≡ word → line.column ≡ column
     → from_plan column line (line_content from) (line_content (unwrap_or line.to [])) deck ≡ work_by line.from line deck
@@ -57,12 +57,12 @@ from_stands line deck m from word column stands same is =
 
 module _ (law : LeavesLaw) (deck : Contents) (before after : Shown) (old new : ℕ) (is : before ≡ fresh deck)
     (m : FileMap) where
-  -- the steps of queries of a table of which no name is settled
+  -- the steps of queries of a table in which no name is settled
   queries-counted : (es : List Event) → Follows es before after old new → new ≡ old + newly es (fresh deck)
   queries-counted es follows =
       (law es (fresh deck) after old new (subst (λ (s : Shown). Follows es s after old new) is follows)).steps
 
-  -- a reply
+  -- the plan of a reply
   pub reply-planned : (asked : Asked) (reply : Reply) (said : Said) (status : Status)
       → (reply ≡ asked.reply) × Follows asked.queries before after old new → said.out.items ≡ reply.text
       → said.err.items ≡ lines_of_texts deck.notices → status ≡ (if reply.refused then Refused else Done)
@@ -74,7 +74,7 @@ module _ (law : LeavesLaw) (deck : Contents) (before after : Shown) (old new : �
     steps = queries-counted asked.queries answer.1;
   }
 
--- a check
+-- the plan of a check
 pub check_planned : (line : CommandLine) (plan : CheckPlan) (m : FileMap) (n : ℕ)
     → plan.table ≡ fresh plan.table.deck → plan.notices.items ≡ lines_of_texts plan.table.deck.notices
     → plan.options ≡ options_of line → IsPlan (checked line plan.table.deck) m (Check plan) n n

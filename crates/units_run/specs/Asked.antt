@@ -1,4 +1,4 @@
--- What FROM and TO on a command line ask of a table.
+-- The reply to FROM and TO on a command line.
 use Rattle.std.specs.Prelude.{ℕ, List, codes, if◌then◌else◌}
 use Rattle.std.specs.Str.{bytes_eq}
 use Rattle.def_entry.specs.Tables.{Table}
@@ -6,7 +6,7 @@ use Rattle.def_lines.specs.Words.{is_empty}
 use Rattle.reply.specs.declared.options.Options.{Options}
 use Rattle.survey.specs.Asked.{Asked, conformable, converted, defined}
 
--- FROM with this TO, which may be blank, or `?`
+-- FROM with this TO, which may be blank or `?`
 abbrev pub asked_for : Table → Options → (from to : List ℕ) → Asked
 asked_for table options from to =
     if is_empty to then defined table options from

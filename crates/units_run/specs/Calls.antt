@@ -16,7 +16,7 @@ use Rattle.units_run.specs.Work.{plan_of}
 use Rattle.units_run.specs.declared.status.Status.{Status}
 use Rattle.units_run.specs.declared.status.Status.TheVariants.{Done, Refused}
 
--- the bytes for each sink, how many names are newly settled, the files at the end, and the ending
+-- the bytes for each sink, the number of newly settled names, the files at the end, and the status
 pub record Run : Type 0 where
   pub output : Output
   pub status : Status
@@ -30,7 +30,7 @@ steps_of work input =
     newly (queries (table work.deck) work.options work.from work.to (input_of input work.column work.header))
     (fresh work.deck)
 
--- the run of a column over its whole input; a row that is refused makes it a refusal
+-- the run of a column over its whole input; a refused row gives the status `Refused`
 abbrev pub column_run : ColumnWork → FileMap → (input : List ℕ) → Run
 column_run work files input = record {
   output = record {
@@ -42,7 +42,7 @@ column_run work files input = record {
   status = if is_refused (rows_of work input) then Refused else Done;
 }
 
--- the run of a plan, once these lines of its input are answered
+-- the run of a plan after these lines of its input are answered
 abbrev pub run_over : Plan → FileMap → (input : List ℕ) → (lines : List (List ℕ)) → Run
 run_over (Whole run) files input lines = record {
   output = record { out = run.out; err = run.err; steps = run.steps; files = files };
@@ -51,7 +51,7 @@ run_over (Whole run) files input lines = record {
 run_over (Opened talk) files input lines = record { output = output_of (talk_over talk lines); status = Done }
 run_over (Columns work) files input lines = column_run work files input
 
--- what is asked of a run
+-- everything that a run depends on
 pub record Call : Type 0 where
   pub words : List (List ℕ)
   pub vars : Pairs
@@ -61,7 +61,7 @@ pub record Call : Type 0 where
 abbrev pub plan_for : Call → Plan
 plan_for call = plan_of call.words call.vars call.files
 
--- the run so far, once these lines of its input are answered
+-- the run so far, after these lines of its input are answered
 abbrev pub shown_of : Call → (lines : List (List ℕ)) → Run
 shown_of call lines = run_over (plan_for call) call.files call.input lines
 
@@ -69,6 +69,6 @@ shown_of call lines = run_over (plan_for call) call.files call.input lines
 abbrev pub run_of : Call → Run
 run_of call = shown_of call (heard (lines_of call.input))
 
--- the course of what is asked for
+-- the course of a call
 abbrev pub course_of : Call → Course
 course_of call = record { shown = λ lines. (shown_of call lines).output; input = call.input }

@@ -11,14 +11,15 @@ use Rattle.units_run.specs.declared.check_plan.CheckPlan.{CheckPlan}
 use Rattle.units_run.specs.declared.status.Status.{Status}
 use Rattle.units_run.specs.declared.status.Status.TheVariants.{Done, Refused, WriteFault, NoMemory}
 
--- the bytes of a planned report, and how many names it newly settles
+-- the bytes of a planned report, and the number of names that it newly settles
 abbrev pub report_of : CheckPlan → List ℕ
 report_of plan = plan.notices.items ++ check_report (table plan.table.deck) (style_of plan.options)
 
 abbrev pub steps_of : CheckPlan → ℕ
 steps_of plan = newly (check_queries (table plan.table.deck)) plan.table
 
--- what of these bytes is on a sink, by the ending: all of them, and any byte makes it a refusal; or a front of them
+-- the bytes of a report on a sink, by the ending: all of them, with the status `Refused` if there are any; or a front
+-- of them
 abbrev pub IsWritten : List ℕ → Status → (before after : Option (List ℕ)) → Type 0
 IsWritten bytes Done before after = (is_empty bytes ≡ true) × (after ≡ grown before bytes)
 IsWritten bytes Refused before after = (is_empty bytes ≡ false) × (after ≡ grown before bytes)

@@ -11,12 +11,12 @@ use Rattle.units_run.specs.BuiltIn.{built_in, built_in_name}
 abbrev pub built_in_deck : Settings → Contents
 built_in_deck settings = text_deck built_in_name built_in settings
 
--- why there is no deck of a file
+-- the reason why a file gives no deck
 abbrev pub no_deck : DeckFault → List ℕ
 no_deck fault.TooLong = codes "units: file too long: "
 no_deck fault.DeckFull = codes "units: deck full: "
 no_deck _ = codes "units: no file: "
 
--- the line that says so of the file of this name
+-- the line that reports why the file of this name gives no deck
 abbrev pub no_deck_line : DeckFault → (name : List ℕ) → List ℕ
 no_deck_line fault name = no_deck fault ++ name ++ codes "\n"

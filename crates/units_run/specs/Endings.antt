@@ -1,4 +1,4 @@
--- What a run leaves, by its ending.
+-- The output of a run, by its ending.
 use Rattle.std.specs.Prelude.{◌≡◌, ℕ, List, Bool, true, false, ⊤}
 use Rattle.command_line.specs.Taken.{are_taken}
 use Rattle.command_line.specs.Fields.{command_line_of}
@@ -16,7 +16,7 @@ use Rattle.units_run.specs.declared.status.Status.{Status}
 use Rattle.units_run.specs.declared.status.Status.TheVariants as status
 use Rattle.units_run.specs.declared.status.Status.TheVariants.{ReadFault, WriteFault, NoMemory, InputTooLong}
 
--- the number that the process ends with
+-- the exit status of the process
 abbrev pub code_of : Status → ℕ
 code_of status.Done = 0
 code_of status.Refused = 1
@@ -27,7 +27,7 @@ code_of status.WriteFault = 5
 code_of status.NoMemory = 6
 code_of status.InputTooLong = 7
 
--- an ending that is the end of a run, and neither a fault, a limit nor want of memory
+-- an ending that the definition of the run states: neither a fault, a limit nor running out of memory
 abbrev pub IsStated : Status → Type 0
 IsStated ReadFault = ⊥
 IsStated WriteFault = ⊥
@@ -35,20 +35,20 @@ IsStated NoMemory = ⊥
 IsStated InputTooLong = ⊥
 IsStated ending = ⊤
 
--- an ending that no fault makes
+-- an ending that is not caused by a fault
 abbrev pub IsFaultless : Status → Type 0
 IsFaultless ReadFault = ⊥
 IsFaultless WriteFault = ⊥
 IsFaultless ending = ⊤
 
--- an ending with all that was asked for, also where that is a refusal
+-- an ending after all the work was done, refusals included
 abbrev pub IsWorked : Status → Type 0
 IsWorked status.Done = ⊤
 IsWorked status.Refused = ⊤
 IsWorked ending = ⊥
 
--- how a run may end, faults, limits and want of memory aside, by whether its words are taken, and lead to a definition
--- file and to a session: there may be no deck of a file, and a session is never refused
+-- how a run may end, apart from faults, limits and running out of memory, depending on whether its words are valid,
+-- name a definition file and lead to a session: a file may give no deck, and a session never ends with `Refused`
 abbrev pub MayEnd : (taken file session : Bool) → Status → Type 0
 MayEnd false file session ending = ending ≡ status.Usage
 MayEnd true file session status.Done = ⊤
@@ -56,11 +56,11 @@ MayEnd true file session status.Refused = session ≡ false
 MayEnd true file session status.NoFile = file ≡ true
 MayEnd true file session ending = ⊥
 
--- the same by the words
+-- how a run with these words may end
 abbrev pub MayEndBy : (words : List (List ℕ)) → Status → Type 0
 MayEndBy words ending = MayEnd (are_taken words) (loads_file (command_line_of words)) (opens_session words) ending
 
--- how a session ended, as an ending of the run
+-- the status for the end of a session
 abbrev pub status_of : SessionEnd → Status
 status_of end.Done = status.Done
 status_of end.ReadFault = status.ReadFault
@@ -68,7 +68,7 @@ status_of end.WriteFault = status.WriteFault
 status_of end.NoMemory = status.NoMemory
 status_of end.InputTooLong = status.InputTooLong
 
--- and how a conversion of a column ended
+-- the status for the end of a column conversion
 abbrev pub column_status : ColumnEnd → Status
 column_status column.Done = status.Done
 column_status column.Refused = status.Refused
@@ -77,8 +77,8 @@ column_status column.WriteFault = status.WriteFault
 column_status column.NoMemory = status.NoMemory
 column_status column.InputTooLong = status.InputTooLong
 
--- what is left of a run of this course and this ending: all of it; or a part, which is cut behind the bytes taken
--- where the input is too long, and where a read failed that is none of a file
+-- the output of a run with this course, by its ending: all of it; or a part, which is cut after the bytes read if the
+-- input is too long, or if a read failed and no fetch did
 abbrev pub IsLeft : Course → (wanted : Status) → Status → (before after : Outside) → Type 0
 IsLeft course wanted ReadFault before after =
     IsPart course before after × (Rests before.fetch_faults after.fetch_faults → IsCutShort course before after)
@@ -87,8 +87,7 @@ IsLeft course wanted WriteFault before after = IsPartBut course before after
 IsLeft course wanted NoMemory before after = IsPart course before after
 IsLeft course wanted ending before after = (ending ≡ wanted) × IsAll (whole course) before after
 
--- what is left of a run over column input: all of it; or no byte on `out`, where its input is not there in full; or a
--- front
+-- the output of a run over column input: all of it; or no byte on `out`, if the input was not read in full; or a front
 abbrev pub IsConverted : Output → (wanted : Status) → Status → (before after : Outside) → Type 0
 IsConverted output wanted ReadFault before after =
     (after.out ≡ before.out) × GrowsByFront before.err after.err output.err
@@ -98,12 +97,12 @@ IsConverted output wanted WriteFault before after = IsFront output before after
 IsConverted output wanted NoMemory before after = IsFront output before after
 IsConverted output wanted ending before after = (ending ≡ wanted) × IsAll output before after
 
--- the same of any plan
+-- the output of a run with any plan
 abbrev pub IsLeftOf : Plan → Course → (wanted : Status) → Status → (before after : Outside) → Type 0
 IsLeftOf (Columns work) course wanted ending before after = IsConverted (whole course) wanted ending before after
 IsLeftOf plan course wanted ending before after = IsLeft course wanted ending before after
 
--- what a run leaves: that of its words, variables, files and input, by its ending
+-- what a run leaves, by its ending, for its words, variables, files and input
 abbrev pub IsRunOf : Call → Status → (before after : Outside) → Type 0
 IsRunOf call ending before after =
     IsLeftOf (plan_for call) (course_of call) (run_of call).status ending before after

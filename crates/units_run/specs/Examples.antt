@@ -1,4 +1,4 @@
--- Some words, and what they lead to.
+-- Some words and the runs that they lead to.
 use Rattle.std.specs.Prelude.{◌≡◌, ◌∷◌, ℕ, List, [], Bool, true, false, Some, None, codes}
 use Rattle.units_io.specs.FileMap.{FileMap, file_of}
 use Rattle.units_io.specs.Named.{Pairs}
@@ -10,17 +10,17 @@ use Rattle.units_run.specs.Options.{options_of}
 use Rattle.units_run.specs.declared.status.Status.{Status}
 use Rattle.units_run.specs.declared.status.Status.TheVariants.{Usage, NoFile}
 
--- whether words need files, and input
+-- whether words need files, and whether they need input
 abbrev pub HasNeeds : (words : List (List ℕ)) → (files input : Bool) → Type 0
 HasNeeds words files input = (needs_files words ≡ files) × (needs_input words ≡ input)
 
--- the run that says this on `err`, and nothing else
+-- the run that writes this to `err`, and nothing else
 abbrev pub complained : (text : List ℕ) → Status → FileMap → Run
 complained text status files =
     record { output = record { out = []; err = text; steps = 0; files = files }; status = status }
 
 pub record RunExamples : Type 0 where
-  -- a session needs both, a column its input
+  -- a session needs both, and a column needs its input
   pub session : HasNeeds [] true true
   pub column : HasNeeds (codes "--column" ∷ codes "2" ∷ codes "--header" ∷ codes "feet" ∷ codes "m" ∷ []) false true
   -- a reply, a check and a trial need no input
@@ -29,13 +29,13 @@ pub record RunExamples : Type 0 where
       true false
   pub check : HasNeeds (codes "-c" ∷ codes "-l" ∷ codes "en_GB" ∷ []) false false
   pub trial : HasNeeds (codes "--trial" ∷ codes "007" ∷ []) false false
-  -- nor do words that are not taken
+  -- words that are not valid need neither
   pub untaken : HasNeeds (codes "-d" ∷ codes "0" ∷ codes "m" ∷ codes "ft" ∷ []) false false
-  -- the most bytes of input of a session, and of a column
+  -- the most bytes of input that a session reads, and that a column reads
   pub session_input : most_input [] ≡ 4294967296
   pub column_input :
       most_input (codes "--column" ∷ codes "2" ∷ codes "--header" ∷ codes "feet" ∷ codes "m" ∷ []) ≡ 16777216
-  -- words that are not taken, and a definition file that is absent
+  -- words that are not valid, and an absent definition file
   pub usage : (vars : Pairs) (files : FileMap) (input : List ℕ) →
       run_of (record {
         words = codes "-d" ∷ codes "0" ∷ codes "m" ∷ codes "ft" ∷ [];
@@ -52,7 +52,7 @@ pub record RunExamples : Type 0 where
         input = input;
       })
       ≡ complained (codes "units: no file: first.units\n") NoFile files
-  -- eight digits where none are asked for, and no other option
+  -- eight digits by default, and no other option
   pub no_options : options_of no_line
       ≡ record {
         digits = 8;

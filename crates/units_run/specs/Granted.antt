@@ -1,4 +1,4 @@
--- Which conversions a run grants.
+-- The conversions that a run grants.
 use Rattle.std.specs.Prelude.{◌≡◌, ℕ, List, true, false, Option, Some, None, Result, Ok, codes, if◌then◌else◌}
 use Rattle.std.specs.Prelude.{option_map}
 use Rattle.std.specs.Str.{bytes_eq}
@@ -34,7 +34,7 @@ definitions_by (Some name) settings files = after_load files name settings
 abbrev pub definitions_in : CommandLine → Pairs → FileMap → Result Contents DeckFault
 definitions_in line vars files = definitions_by line.file (settings_of line vars) files
 
--- the words ask for one conversion over these definitions, of FROM to a TO that is neither blank nor `?`
+-- the words give one conversion over these definitions, of FROM to a TO that is neither blank nor `?`
 pub record AsksForConversion (words : List (List ℕ)) (vars : Pairs) (files : FileMap) (deck : Contents)
     (from to : List ℕ) : Type 0 where
   pub taken : are_taken words ≡ true
@@ -46,7 +46,7 @@ pub record AsksForConversion (words : List (List ℕ)) (vars : Pairs) (files : F
   pub one : bytes_eq to (codes "?") ≡ false
   pub definitions : definitions_in (command_line_of words) vars files ≡ Ok deck
 
--- the reply to FROM and TO is on `out`, and a refusal is the status
+-- the reply to FROM and TO is on `out`, and the status says whether it is a refusal
 pub record IsReplyTo (words : List (List ℕ)) (deck : Contents) (from to : List ℕ) (ending : Status)
     (before after : Option (List ℕ)) : Type 0 where
   pub reply : Reply
@@ -54,7 +54,7 @@ pub record IsReplyTo (words : List (List ℕ)) (deck : Contents) (from to : List
   pub out : after ≡ grown before reply.text
   pub ends : ending ≡ (if reply.refused then Refused else Done)
 
--- a conversion that the words ask for is granted exactly if full expansion is defined, conformable and within 127 bits,
+-- a conversion that the words give is granted exactly if full expansion is defined, conformable and within 127 bits,
 -- and its number is that exact fraction
 abbrev pub GrantsExactly : (words : List (List ℕ)) → Pairs → Status → (told : Option FileMap) →
     (before after : Option (List ℕ)) → Type 0

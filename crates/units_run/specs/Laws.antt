@@ -1,4 +1,4 @@
--- Laws of what words lead to.
+-- Laws about the words of a run.
 use Rattle.std.specs.Prelude.{◌≡◌, ℕ, List, false}
 use Rattle.units_io.specs.FileMap.{FileMap}
 use Rattle.units_io.specs.Named.{Pairs}
@@ -11,15 +11,15 @@ use Rattle.units_run.specs.Plans.{IsWhole}
 use Rattle.units_run.specs.Work.{plan_of}
 use Rattle.units_run.specs.declared.status.Status.{Status}
 
--- law: what is not needed changes nothing
+-- law: files and input that are not needed make no difference
 pub record NeedLaws : Type 0 where
-  -- words that need no file lead to the same over all files
+  -- words that need no file have the same plan over all files
   pub any_files : (words : List (List ℕ)) (vars : Pairs) (files others : FileMap) → needs_files words ≡ false →
       plan_of words vars files ≡ plan_of words vars others
-  -- all of a run that needs no input is known before any is taken
+  -- a run that needs no input is completely known before any is read
   pub no_input : (words : List (List ℕ)) (vars : Pairs) (files : FileMap) → needs_input words ≡ false →
       IsWhole (plan_of words vars files)
-  -- and it is the same over all input
+  -- a run that needs no input is the same over all input
   pub any_input : (words : List (List ℕ)) (vars : Pairs) (files : FileMap) (input other : List ℕ) →
       needs_input words ≡ false →
       run_of (record { words = words; vars = vars; files = files; input = input })
@@ -31,11 +31,12 @@ HasItsStatus words vars ending =
     needs_files words ≡ false → needs_input words ≡ false → IsStated ending → (files : FileMap) (input : List ℕ)
     → ending ≡ (run_of (record { words = words; vars = vars; files = files; input = input })).status
 
--- law: so they do also if nothing is told of the files and of the input
+-- law: words that need neither have the status of their run, even if the contents of the files and of the input are not
+-- known
 abbrev pub StatusLaw : Type 0
 StatusLaw = (words : List (List ℕ)) (vars : Pairs) (ending : Status) (before after : World)
     → IsRun words vars ending before after → HasItsStatus words vars ending
 
--- law: a run ends as its words may
+-- law: a run ends in one of the ways that its words allow
 abbrev pub EndingLaw : Type 0
 EndingLaw = (call : Call) → MayEndBy call.words (run_of call).status

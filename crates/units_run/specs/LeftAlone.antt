@@ -1,4 +1,4 @@
--- What a run leaves alone.
+-- The parts of the world that a run leaves alone.
 use Rattle.std.specs.Prelude.{◌≡◌, ◌⊎◌, ℕ, List, false}
 use Rattle.std.specs.declared.option.Option.{Option}
 use Rattle.units_io.specs.FileMap.{FileMap}
@@ -10,16 +10,16 @@ use Rattle.units_run.specs.Work.{plan_of}
 use Rattle.units_run.specs.declared.status.Status.{Status}
 use Rattle.units_run.specs.declared.status.Status.TheVariants.{NoFile}
 
--- over the files that are told all of the run is known before any input is taken
+-- with the known files, the whole run is known before any input is read
 abbrev pub IsPlannedWhole : (words : List (List ℕ)) → Pairs → (told : Option FileMap) → Type 0
 IsPlannedWhole words vars told =
     (files : FileMap) × TellsIf (needs_definitions words) told files × IsWhole (plan_of words vars files)
 
--- a run that takes no input: its words lead neither to a session nor to a column; or there is no deck for one, as its
--- ending tells, or the files do
+-- a run that reads no input: its words lead neither to a session nor to a column; or there is no deck for one, as its
+-- ending says or the files show
 abbrev pub TakesNone : (words : List (List ℕ)) → Pairs → Status → (told : Option FileMap) → Type 0
 TakesNone words vars ending told = (needs_input words ≡ false) ⊎ (ending ≡ NoFile) ⊎ IsPlannedWhole words vars told
 
--- a run that opens no session, and so stores no file
+-- a run that opens no session, and therefore stores no file
 abbrev pub OpensNone : (words : List (List ℕ)) → Pairs → Status → (told : Option FileMap) → Type 0
 OpensNone words vars ending told = (opens_session words ≡ false) ⊎ (ending ≡ NoFile) ⊎ IsPlannedWhole words vars told

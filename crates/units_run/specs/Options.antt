@@ -1,9 +1,9 @@
--- How replies are made and written, by the command line.
+-- The options for replies, from the command line.
 use Rattle.std.specs.Prelude.{◌≤◌, ◌&&◌, ◌||◌, IfSome, not, unwrap_or}
 use Rattle.command_line.specs.declared.fields.CommandLine.{CommandLine}
 use Rattle.reply.specs.declared.options.Options.{Options}
 
--- eight digits where none are asked for; `--terse` is four flags together; a compact reply is never verbose
+-- eight digits by default; `--terse` stands for four flags; a compact reply is never verbose
 unfoldable pub options_of : CommandLine → Options
 options_of line = record {
   digits = unwrap_or line.digits 8;
@@ -16,14 +16,14 @@ options_of line = record {
   verbose = line.verbose && not (line.compact || line.terse);
 }
 
--- where digits are asked for, they are from 1 to 36
+-- if a number of digits is given, it is from 1 to 36
 abbrev pub HasDigits : CommandLine → Type 0
 HasDigits line = IfSome line.digits (λ n. (1 ≤ n) × (n ≤ 36))
 
--- where a column is asked for, it is from 1 to 65,535
+-- if a column is given, it is from 1 to 65,535
 abbrev pub HasColumn : CommandLine → Type 0
 HasColumn line = IfSome line.column (λ n. (1 ≤ n) × (n ≤ 65535))
 
--- where a trial is asked for, it is of 1 to 20,000 rounds
+-- if a trial is given, it has 1 to 20,000 rounds
 abbrev pub HasRounds : CommandLine → Type 0
 HasRounds line = IfSome line.trial (λ n. (1 ≤ n) × (n ≤ 20000))

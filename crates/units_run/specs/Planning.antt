@@ -1,4 +1,4 @@
--- A plan as the program has it.
+-- The plans of the program.
 use Rattle.std.specs.Prelude.{◌≡◌, ◌+◌, ◌||◌, ◌≤◌, [], ℕ, List, Bool, true, false, Some, Result, Ok, Err, ⊤}
 use Rattle.std.specs.Prelude.{if◌then◌else◌}
 use Rattle.std.specs.declared.option.Option.{Option}
@@ -26,14 +26,14 @@ use Rattle.units_run.specs.declared.plan.Plan.TheVariants.{Whole, Check, Opened,
 use Rattle.units_run.specs.declared.status.Status.{Status}
 use Rattle.units_run.specs.declared.status.Status.TheVariants.{Done, Refused, NoFile}
 
--- a whole run, as it is said, whose steps are taken
+-- a whole run as output, with its steps taken
 pub record IsSaid (want : plans.WholeRun) (said : Said) (status : Status) (steps_old steps_new : ℕ) : Type 0 where
   pub out : said.out.items ≡ want.out
   pub err : said.err.items ≡ want.err
   pub ends : status ≡ want.status
   pub steps : steps_new ≡ steps_old + want.steps
 
--- a check report is to be written so, and no step is taken yet
+-- a check report to be written, with no step taken yet
 pub record IsCheck (want : plans.WholeRun) (plan : CheckPlan) (steps_old steps_new : ℕ) : Type 0 where
   pub out : want.out ≡ report_of plan
   pub err : want.err ≡ []
@@ -41,7 +41,7 @@ pub record IsCheck (want : plans.WholeRun) (plan : CheckPlan) (steps_old steps_n
   pub asks : want.steps ≡ steps_of plan
   pub steps : steps_new ≡ steps_old
 
--- a column is to be converted so, and no step is taken yet
+-- a column to be converted, with no step taken yet
 pub record IsColumn (want : plans.ColumnWork) (plan : ColumnPlan) (steps_old steps_new : ℕ) : Type 0 where
   pub table : plan.table ≡ fresh want.deck
   pub options : plan.options ≡ want.options
@@ -52,7 +52,7 @@ pub record IsColumn (want : plans.ColumnWork) (plan : ColumnPlan) (steps_old ste
   pub err : plan.notices.items ≡ want.err
   pub steps : steps_new ≡ steps_old
 
--- the program's plan is this one
+-- a plan of the program is this plan
 abbrev pub IsPlan : plans.Plan → FileMap → Plan → (steps_old steps_new : ℕ) → Type 0
 IsPlan (plans.Whole run) files (Whole said status) steps_old steps_new = IsSaid run said status steps_old steps_new
 IsPlan (plans.Whole run) files (Check plan) steps_old steps_new = IsCheck run plan steps_old steps_new
@@ -66,9 +66,9 @@ abbrev pub IsPlanned : {E : Type 0} → plans.Plan → FileMap → Result Plan E
 IsPlanned want files (Ok plan) steps_old steps_new = IsPlan want files plan steps_old steps_new
 IsPlanned want files (Err _) steps_old steps_new = ⊤
 
--- which plan there may be: a whole run by how it may end, which where the words lead to a session or to a column is
--- only since there is no deck; a check only if they lead to neither; a session only where they lead to one, and a
--- column only where they lead to one, with options that can be printed and a number from 1
+-- the plans that are possible: a whole run, with a status that is allowed, and for words that lead to a session or a
+-- column only because there is no deck; a check, if the words lead to neither; a session, if the words lead to one; and
+-- a column, if the words lead to one, with options that can be printed and a number from 1
 abbrev pub IsFor : (taken file session column : Bool) → Plan → Type 0
 IsFor taken file session column (Whole said status) =
     ((session || column) ≡ true → status ≡ NoFile) × MayEnd taken file session status
@@ -78,7 +78,7 @@ IsFor taken file session column (Opened said opened) = (taken ≡ true) × (sess
 IsFor taken file session column (Columns plan) =
     (taken ≡ true) × (column ≡ true) × IsPrintable plan.options × (1 ≤ plan.column)
 
--- what a conversion of a column touches
+-- the part of the world that a column conversion touches
 pub record Ends : Type 0 where
   pub left : Option (List ℕ)
   pub out : Option (List ℕ)
@@ -88,7 +88,7 @@ pub record Ends : Type 0 where
 abbrev pub ends_of : (left out err : Option (List ℕ)) → (steps : ℕ) → Ends
 ends_of left out err steps = record { left = left; out = out; err = err; steps = steps }
 
--- a planned column is converted, whatever files stand beside it
+-- a planned column is converted, whatever the files are
 abbrev pub IsConversion : ColumnPlan → Status → (before after : Ends) → Type 0
 IsConversion plan ending before after =
     (work : plans.ColumnWork) (m : FileMap) (input : List ℕ) (files : Option FileMap)

@@ -4,6 +4,6 @@ use Rattle.units_io.specs.Named.{Pairs}
 use Rattle.command_line.specs.declared.fields.CommandLine.{CommandLine}
 use Rattle.deck.specs.declared.settings.Settings.{Settings}
 
--- the locale that is asked for, or `en_US`, and the variables of the environment
+-- the locale on the command line, or `en_US`, and the variables of the environment
 abbrev pub settings_of : CommandLine → Pairs → Settings
 settings_of line vars = record { locale = unwrap_or line.locale (codes "en_US"); vars = vars }

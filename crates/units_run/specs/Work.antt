@@ -1,4 +1,4 @@
--- What the words ask for: the usage line, a trial, a reply, a report, or a session.
+-- The work that the words ask for: the usage line, a trial, a reply, a report, or a session.
 use Rattle.std.specs.Prelude.{◌++◌, ℕ, List, [], Option, Some, None, Result, Ok, Err, if◌then◌else◌, unwrap_or}
 use Rattle.units_io.specs.FileMap.{FileMap}
 use Rattle.units_io.specs.Named.{Pairs}
@@ -38,11 +38,11 @@ replied deck asked = Whole (record {
   status = if asked.reply.refused then Refused else Done;
 })
 
--- the check report, with the notices at its head
+-- the check report, which begins with the notices
 abbrev pub checked_lines : CommandLine → Contents → List ℕ
 checked_lines line deck = lines_of_texts deck.notices ++ check_report (table deck) (style_of (options_of line))
 
--- the same on `out`; a line of it is a refusal
+-- the plan of a check report, which is on `out`; if it has any line, the status is `Refused`
 abbrev pub checked : CommandLine → Contents → Plan
 checked line deck = Whole (record {
   out = checked_lines line deck;
@@ -56,7 +56,7 @@ abbrev pub opened_over : CommandLine → Contents → FileMap → Plan
 opened_over line deck files =
     Opened (opened (state_of (known (options_of line) (fresh deck) None no_versions []) files))
 
--- what is done with FROM: its reply, or the column of this number is converted
+-- the plan for FROM: its reply, or the conversion of the column with this number
 abbrev pub from_plan : (column : Option ℕ) → CommandLine → (from to : List ℕ) → Contents → Plan
 from_plan None line from to deck = replied deck (asked_for (table deck) (options_of line) from to)
 from_plan (Some column) line from to deck = Columns (record {
@@ -69,36 +69,36 @@ from_plan (Some column) line from to deck = Columns (record {
   err = lines_of_texts deck.notices;
 })
 
--- what is done with a deck: the reply to FROM or the conversion of a column, the check, or a session
+-- the plan over a deck: the reply to FROM or the conversion of a column, the check, or a session
 abbrev pub work_by : (from : Option (List ℕ)) → CommandLine → Contents → FileMap → Plan
 work_by (Some from) line deck files =
     from_plan line.column line (line_content from) (line_content (unwrap_or line.to [])) deck
 work_by None line deck files = if line.check then checked line deck else opened_over line deck files
 
--- the same over the file of this name, of which there may be no deck
+-- the plan over the file of this name, which may give no deck
 abbrev pub file_plan : CommandLine → (name : List ℕ) → Result Contents DeckFault → FileMap → Plan
 file_plan line name (Ok deck) files = work_by line.from line deck files
 file_plan line name (Err fault) files = complaint (no_deck_line fault name) NoFile
 
--- the same over the definition file, or over the built-in text where none is named
+-- the plan over the definition file, or over the built-in text if none is named
 abbrev pub deck_plan : (file : Option (List ℕ)) → CommandLine → Settings → FileMap → Plan
 deck_plan None line settings files = work_by line.from line (built_in_deck settings) files
 deck_plan (Some name) line settings files = file_plan line name (after_load files name settings) files
 
--- what is told of a trial
+-- the plan with the summary of a trial
 abbrev pub trial_plan : Trial → Plan
 trial_plan trial = Whole (record { out = trial.text; err = []; steps = trial.steps; status = Done })
 
--- a trial, or work on a deck
+-- the plan of a trial, or of work on a deck
 abbrev pub plan_by : (rounds : Option ℕ) → CommandLine → Settings → FileMap → Plan
 plan_by (Some rounds) line settings files = trial_plan (trial (options_of line) settings rounds)
 plan_by None line settings files = deck_plan line.file line settings files
 
--- what a command line asks for
+-- the plan of a command line
 abbrev pub line_plan : CommandLine → Pairs → FileMap → Plan
 line_plan line vars files = plan_by line.trial line (settings_of line vars) files
 
--- what the words lead to
+-- the plan of the words
 unfoldable pub plan_of : (words : List (List ℕ)) → (vars : Pairs) → FileMap → Plan
 plan_of words vars files =
     if are_taken words then line_plan (command_line_of words) vars files else complaint usage_text Usage

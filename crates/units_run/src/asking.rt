@@ -1,4 +1,4 @@
-//! What FROM and TO ask of a table.
+//! The reply to FROM and TO on a command line.
 ghost use Rattle.deck.specs.Tables as tables;
 ghost use Rattle.reply.specs.Options.{IsPrintable};
 ghost use Rattle.units_run.specs.Asked as spec;
@@ -11,7 +11,7 @@ use std::sync::ledger::Ledger;
 use survey::conformable_reply;
 use units_io::Steps;
 
-/// The reply to FROM with this TO, which may be blank, or `?`. The only error is want of memory.
+/// Returns the reply to FROM with this TO, which may be blank or `?`. The only error is running out of memory.
 pub(crate) fn ask<L: Ledger>(
     alloc: Global,
     table: &mut LiveTable,

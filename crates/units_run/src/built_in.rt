@@ -84,7 +84,7 @@ zincgauge[in] 1 0.002, 10 0.02, 15 0.04, \\
 !unitlist ftin ft;in
 ";
 
-/// The definitions that stand where no file is named.
+/// Returns the definitions that are used if no file is named.
 #[tactic(auto, unfolding(crate::specs::BuiltIn::built_in))]
 pub(crate) fn built_in() -> &'static [u8]
     ensures is { result.now ≡ spec.built_in }

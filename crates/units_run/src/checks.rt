@@ -1,4 +1,4 @@
-//! The check report, which is written as it is made.
+//! Writing the check report as it is made.
 
 ghost use Rattle.std.specs.Prelude.{◌≡◌, ◌+◌, ◌++◌, ◌||◌, if◌then◌else◌, not};
 ghost use Rattle.deck.specs.PlacedKeys.{keys_there};
@@ -22,9 +22,9 @@ use std::sync::ledger::Ledger;
 use survey::{check_places, put_check_block};
 use units_io::{Sink, Steps, put_all};
 
-/// Writes a check report, with the notices of the definitions at its head. Its lines are written as they are made, so
-/// that a long report takes no more memory than a short one. The table stays in memory: the system takes that back with
-/// the process.
+/// Writes a check report, which begins with the notices of the definitions. Its lines are written as they are made, so
+/// that a long report takes no more memory than a short one. The table is never freed: the system reclaims its memory
+/// when the process ends.
 pub(crate) fn write_check<O: Sink, L: Ledger>(
     alloc: Global,
     plan: CheckPlan,
@@ -50,7 +50,7 @@ pub(crate) fn write_check<O: Sink, L: Ledger>(
     status
 }
 
-// Writes some bytes and then the lines of the report.
+// Writes the bytes in `lines` and then the lines of the report.
 fn write_report<O: Sink, L: Ledger>(
     alloc: Global,
     lines: &mut Vec<u8>,
@@ -70,12 +70,12 @@ fn write_report<O: Sink, L: Ledger>(
     let Ok(places) = check_places(alloc, table, steps) else {
         return Status::NoMemory;
     };
-    // The outcomes in the table are right also if it has no key.
+    // The cached outcomes in the table are right, even if it has no key.
     table.kept_right();
     write_blocks(alloc, lines, table, options, places.as_slice(), out, steps)
 }
 
-// Writes some bytes and then the lines of the keys at some places, block by block.
+// Writes the bytes in `lines` and then the lines of the keys at `places`, block by block.
 fn write_blocks<O: Sink, L: Ledger>(
     alloc: Global,
     lines: &mut Vec<u8>,
@@ -113,14 +113,14 @@ fn write_blocks<O: Sink, L: Ledger>(
     }
 }
 
-// Whether some bytes, or others before them, are not empty.
+// Returns whether there are any bytes: these, or earlier ones, as `any` says.
 fn has_bytes(any: bool, bytes: &[u8]) -> bool
     ensures { result ≡ (any || not (is_empty bytes.now)) }
 {
     any || !bytes.is_empty()
 }
 
-// How a check report with some bytes, or with none, ends the run.
+// Returns the status for a check report; `any` says whether the report has any bytes.
 fn report_status(any: bool) -> Status
     ensures { result ≡ (if any then Status.Refused else Status.Done) }
 {

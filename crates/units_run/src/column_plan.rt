@@ -1,11 +1,11 @@
-//! A column that is to be converted.
+//! The plan of a column conversion.
 
 use live_table::LiveTable;
 use reply::Options;
 use units_io::Text;
 
-/// A column of the input that is to be converted: the notices of the definitions, their table, how replies are made,
-/// FROM and TO, the number of the column, from 1, and whether the first record is a header.
+/// A column of the input to be converted: the notices of the definitions, their table, the options for replies, FROM
+/// and TO, the number of the column, counted from 1, and whether the first record is a header.
 pub struct ColumnPlan {
     pub notices: Vec<u8>,
     pub table: LiveTable,
@@ -16,7 +16,7 @@ pub struct ColumnPlan {
     pub header: bool,
 }
 
-// By hand, so that who drops a plan proves nothing of what it holds.
+// Written by hand, so that code that drops a plan need not prove anything about its contents.
 impl Drop for ColumnPlan {
     fn drop(self) {
         let ColumnPlan {

@@ -17,7 +17,7 @@ use std::mem;
 use std::sync::ledger::Ledger;
 use units_io::{Sink, Source, Steps, put_all};
 
-/// Writes the notices, and then the rows of the input, which is read to its end before.
+/// Writes the notices, reads the input to its end, and then writes its rows.
 pub(crate) fn convert_column<S: Source, O: Sink, E: Sink, L: Ledger>(
     alloc: Global,
     plan: ColumnPlan,
@@ -60,7 +60,7 @@ pub(crate) fn convert_column<S: Source, O: Sink, E: Sink, L: Ledger>(
     status_of(end)
 }
 
-// How a conversion that ended so ends the run.
+// Returns the status for the end of a column conversion.
 fn status_of(end: ColumnEnd) -> Status
     ensures { result ≡ spec.column_status end }
 {

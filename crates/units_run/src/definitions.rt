@@ -1,4 +1,4 @@
-//! The definitions that are built in, and the settings of a run.
+//! The built-in definitions, and the settings of a run.
 ghost use Rattle.std.specs.Prelude.{◌≡◌, IfOk};
 ghost use Rattle.units_run.specs.Definitions as definitions;
 ghost use Rattle.units_run.specs.Settings as settings;
@@ -10,7 +10,8 @@ use session::text_deck;
 use std::alloc::{AllocError, Global};
 use units_io::{Text, Vars};
 
-/// The locale that is asked for, or `en_US`, and the variables of the environment.
+/// Returns the settings: the locale on the command line, or `en_US` if it names none, and the variables of the
+/// environment.
 pub(crate) fn settings_of(
     alloc: Global,
     line: &CommandLine,
@@ -26,7 +27,7 @@ pub(crate) fn settings_of(
     Ok(Settings { locale, vars })
 }
 
-/// The deck of the built-in text.
+/// Returns the deck of the built-in text.
 pub(crate) fn built_in_deck(alloc: Global, settings: Settings) -> Result<Deck, AllocError>
     ensures { IfOk result (λ deck. deck ≡ definitions.built_in_deck settings) }
 {

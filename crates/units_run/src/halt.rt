@@ -1,15 +1,15 @@
-//! Why a run ends early.
+//! The reasons why a run ends early.
 ghost use Rattle.std.specs.Prelude.{◌≡◌};
 ghost use Rattle.units_run.specs.declared.halt.Halt.TheVariants.{NoMemory};
 
 use std::alloc::AllocError;
 
-/// Why a run ends before anything is written.
+/// Why a run ends before it writes anything.
 #[derive(Clone, Copy, Debug, PartialEq, Eq)]
 pub(crate) enum Halt {
-    /// A file could not be read, and the files have counted it.
+    /// A file could not be read; the files have counted that.
     ReadFault,
-    /// There was not enough memory.
+    /// Memory ran out.
     NoMemory,
 }
 

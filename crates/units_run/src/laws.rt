@@ -1,4 +1,4 @@
-//! Laws of what words lead to, and some words. The functions here do nothing: their contracts are what is said.
+//! Laws about the words of a run, and examples. The functions do nothing: the contract of each is the law.
 
 ghost use Rattle.units_run.specs.BuiltIn.{PinnedText};
 ghost use Rattle.units_run.specs.Examples.{RunExamples};
@@ -9,27 +9,27 @@ use command_line::{refused_examples, taken_examples};
 use deck::key_lists_are_one;
 use reply::grant_examples_law;
 
-/// Files and input that the words do not need change nothing.
+/// Files and input that the words do not need make no difference.
 pub fn need_laws()
     ensures { NeedLaws }
 {}
 
-/// A run ends as its words may.
+/// A run ends in one of the ways that its words allow.
 pub fn ending_law()
     ensures { EndingLaw }
 {}
 
-/// Words that need neither files nor input end with the status of their run, whatever is told.
+/// Words that need neither files nor input end with the status of their run, even if no contents are known.
 pub fn status_law()
     ensures { StatusLaw }
 {}
 
-/// The built-in text is this one.
+/// The length and a checksum of the built-in text.
 pub fn built_in_is_pinned()
     ensures { PinnedText }
 {}
 
-/// Some words, and what they lead to.
+/// Some words and the runs that they lead to.
 pub fn run_examples()
     ensures { RunExamples }
 {
@@ -37,7 +37,7 @@ pub fn run_examples()
     refused_examples();
 }
 
-/// Some runs over a file of a few lines, from the words to the bytes.
+/// Some runs over a file of a few lines, from the words to the bytes written.
 pub fn file_examples()
     ensures { FileExamples }
 {

@@ -1,5 +1,5 @@
-//! What a run of the program does: the definitions that its words ask for, and the reply, the check, the trial or the
-//! session over them.
+//! A run of the program: the definitions that its words name, and the reply, the check, the trial or the session over
+//! them.
 #![tactic(auto)]
 
 mod asking;

@@ -1,4 +1,4 @@
-//! A run over a file of which there is no deck.
+//! Runs over a file that gives no deck.
 ghost use Rattle.std.specs.Prelude.{◌≡◌, ℕ, Bool, true, IfOk, IsErrOf};
 ghost use Rattle.units_io.specs.FileMap.{FileMap};
 ghost use Rattle.deck.specs.Loading.{MayFail};
@@ -12,8 +12,8 @@ use crate::status::Status;
 use deck::DeckFault;
 use std::alloc::{AllocError, Global};
 
-/// The line on `err` that says why there is no deck of the file of this name, where no fetch failed and there was
-/// enough memory.
+/// Returns the plan that writes to `err` why the file of this name gives no deck. Returns an error if a fetch failed or
+/// memory ran out.
 pub(crate) fn no_deck_plan(alloc: Global, fault: &DeckFault, name: &[u8]) -> Result<Plan, Halt>
     ensures told { (m : FileMap) (n : ℕ) →
         IsPlanned (complaint (spec.no_deck_line fault.now name.now) Status.NoFile) m result n n }
@@ -28,7 +28,7 @@ pub(crate) fn no_deck_plan(alloc: Global, fault: &DeckFault, name: &[u8]) -> Res
     }
 }
 
-// The line on `err`.
+// Returns the plan with the line for `err`.
 fn no_deck_complaint(alloc: Global, fault: &DeckFault, name: &[u8]) -> Result<Plan, AllocError>
     ensures told { (m : FileMap) (n : ℕ) →
         IsPlanned (complaint (spec.no_deck_line fault.now name.now) Status.NoFile) m result n n }
@@ -40,7 +40,7 @@ fn no_deck_complaint(alloc: Global, fault: &DeckFault, name: &[u8]) -> Result<Pl
     Plan::complaint(alloc, &text, Status::NoFile)
 }
 
-// Why there is none.
+// Returns the reason why there is no deck.
 fn no_deck(fault: &DeckFault) -> &'static [u8]
     ensures { result.now ≡ spec.no_deck fault.now }
 {

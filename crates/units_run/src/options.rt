@@ -1,4 +1,4 @@
-//! How replies are made and written, by the command line.
+//! The options for replies, from the command line.
 ghost use Rattle.std.specs.Prelude.{◌≡◌};
 ghost use Rattle.reply.specs.Options.{IsPrintable};
 ghost use Rattle.units_run.specs.Options as spec;
@@ -6,7 +6,7 @@ ghost use Rattle.units_run.specs.Options as spec;
 use command_line::CommandLine;
 use reply::Options;
 
-/// The options that a command line asks for.
+/// Returns the options of a command line.
 #[tactic(auto, unfolding(crate::specs::Options::options_of))]
 pub(crate) fn options_of(line: &CommandLine) -> Options
     requires { spec.HasDigits line.now }

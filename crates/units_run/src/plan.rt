@@ -1,4 +1,4 @@
-//! What the words lead to before any input is taken.
+//! The plan that the words lead to before any input is read.
 ghost use Rattle.std.specs.Prelude.{◌≡◌, ◌||◌, ℕ, Bool, true, IfOk};
 ghost use Rattle.units_io.specs.FileMap.{FileMap};
 ghost use Rattle.units_run.specs.Endings.{MayEnd};
@@ -11,21 +11,21 @@ use crate::status::Status;
 use session::{Said, Session};
 use std::alloc::{AllocError, Global};
 
-/// What the words lead to before any input is taken.
+/// The plan that the words lead to before any input is read.
 #[derive(Drop)]
 pub(crate) enum Plan {
-    /// All that a run writes, and its ending once that is written.
+    /// All output of a run, and its status once that is written.
     Whole(Said, Status),
-    /// A check report that is to be written.
+    /// A check report to be written.
     Check(CheckPlan),
-    /// A session, and what stands before its first line.
+    /// A session, and the output before its first line.
     Opened(Said, Session),
-    /// A column of the input that is to be converted.
+    /// A column of the input to be converted.
     Columns(ColumnPlan),
 }
 
 impl Plan {
-    /// A text on `err`, and nothing else.
+    /// Returns the plan that writes a text to `err`, and nothing else.
     pub(crate) fn complaint(alloc: Global, text: &[u8], status: Status) -> Result<Plan, AllocError>
         ensures told { (m : FileMap) (n : ℕ) → IsPlanned (spec.complaint text.now status) m result n n }
         ensures kind { (taken file session column : Bool) → ((session || column) ≡ true → status ≡ Status.NoFile) →

@@ -26,23 +26,24 @@ use std::mem;
 use std::sync::ledger::Ledger;
 use units_io::{Files, Sink, Source, Steps, Text, Vars};
 
-/// Does all that the program does: for every command line, set of files and session input it writes exactly the stated
-/// replies, each that of a fresh load of the definitions then in force; a conversion is granted exactly where full
-/// expansion is defined, conformable and within 127 bits, with that exact fraction as its value; any other ending is a
-/// counted fault, a stated limit or want of memory. The words are those after the program's name. The definitions of a
-/// run stay in memory, which the system takes back with the process.
+/// Runs the whole program. For every command line, set of files and session input, it writes exactly the specified
+/// replies, each as after a fresh load of the definitions then in force. A conversion is granted exactly if full
+/// expansion is defined, conformable and within 127 bits, and its value is that exact fraction. Every other ending is a
+/// counted fault, a stated limit, or running out of memory. `words` are the words after the program's name. The
+/// definitions of a run are never freed: the system reclaims their memory when the process ends.
 ///
 /// `run`: with a stated status (0 to 3) both sinks have all bytes of the run, its files and its count of steps are
-/// those of the run, and the status is its own. With another status each sink has a front of its bytes: if the input
-/// was too long (7), or the source failed (4), exactly what is shown for the whole lines of the bytes taken, and of a
-/// column no byte on `out`. Files that the run does not fetch may hold anything, and nothing need be told of them.
-/// `specs/Headline.antt` has all that holds of a run. `granted`: which conversions are granted, and with which numbers.
+/// those of the run, and so is the status. With any other status each sink has a front of the bytes. If the input was
+/// too long (7) or the source failed (4), the output is exactly that for the complete lines of the bytes read, and a
+/// column has no byte on `out`. Files that the run does not fetch may hold anything, and their contents need not be
+/// known. `specs/Headline.antt` states everything that holds of a run. `granted`: which conversions are granted, and
+/// with which numbers.
 ///
-/// `source`: nothing is taken outside of a session and of a column, or if there is no deck. `opened`: nothing is taken
-/// before the opening of the session or the notices before a column are written, whatever the ending. `order`: nothing
-/// is written to `out` before the notices on `err`. `unasked`: no file is asked for if none is needed. `unnamed`: nor
-/// by a session of which no line names one. `unread`: if no session is opened, and a fetch failed, nothing is taken and
-/// nothing is written.
+/// `source`: nothing is read except by a session or a column, and nothing if there is no deck. `opened`: nothing is
+/// read before the opening of the session, or the notices before a column, are written, whatever the ending. `order`:
+/// nothing is written to `out` before the notices on `err`. `unasked`: the files are not used if none is needed.
+/// `unnamed`: nor are they used by a session in which no line names one. `unread`: if no session is opened and a fetch
+/// failed, nothing is read and nothing is written.
 pub fn units_main<S: Source, O: Sink, E: Sink, F: Files, L: Ledger>(
     alloc: Global,
     words: &[Text],
@@ -95,7 +96,7 @@ pub fn units_main<S: Source, O: Sink, E: Sink, F: Files, L: Ledger>(
     }
 }
 
-// How a session that ended so ends the run.
+// Returns the status for the end of a session.
 fn status_of(end: SessionEnd) -> Status
     ensures { result ≡ endings.status_of end }
 {

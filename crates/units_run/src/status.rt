@@ -1,30 +1,30 @@
-//! How a run ends.
+//! The status of a run.
 ghost use Rattle.std.specs.Prelude.{◌≡◌};
 ghost use Rattle.units_run.specs.Endings.{code_of};
 
-/// The ending of a run.
+/// How a run ended.
 #[derive(Clone, Copy, Debug, PartialEq, Eq)]
 pub enum Status {
-    /// The run came to its end.
+    /// The run finished.
     Done,
     /// A reply is a fault or a conformability error, a check found something, or a cell is an error.
     Refused,
-    /// The words are not taken.
+    /// The words are not a valid command line.
     Usage,
-    /// The definition file is absent, too long, or too much for a deck.
+    /// The definition file is absent, too long, or exceeds the limits of a deck.
     NoFile,
-    /// The source or the files failed, and have counted it.
+    /// The source or the files failed, and have counted that.
     ReadFault,
-    /// A sink failed, or a file could not be written, and that is counted.
+    /// A sink failed, or a file could not be written; that is counted.
     WriteFault,
-    /// There was not enough memory.
+    /// Memory ran out.
     NoMemory,
-    /// More than 4,294,967,296 bytes of a session, or 16,777,216 of a column, were taken.
+    /// More than 4,294,967,296 bytes of the input of a session, or 16,777,216 of that of a column, were read.
     InputTooLong,
 }
 
 impl Status {
-    /// The number that the process ends with.
+    /// Returns the exit status of the process.
     pub fn code(self) -> u8
         ensures { result ≡ code_of self }
     {

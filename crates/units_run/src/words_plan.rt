@@ -1,4 +1,4 @@
-//! What the words lead to.
+//! From the words to a plan.
 ghost use Rattle.std.specs.Prelude.{◌≡◌, ◌≤◌, ◌&&◌, ◌||◌, IfOk, IsErrOf, OnOk, Some, true, false, is_some, not};
 ghost use Rattle.units_io.specs.FileMap.{FileMap};
 ghost use Rattle.units_io.specs.Faults.{Rose};
@@ -28,7 +28,7 @@ use std::alloc::{AllocError, Global};
 use std::sync::ledger::Ledger;
 use units_io::{Files, Steps, Text, Vars};
 
-/// What these words and variables lead to over these files.
+/// Returns the plan that these words and variables lead to over these files.
 pub(crate) fn make_plan<F: Files, L: Ledger>(
     alloc: Global,
     words: &[Text],
@@ -55,7 +55,7 @@ pub(crate) fn make_plan<F: Files, L: Ledger>(
     }
 }
 
-// What a command line leads to: a trial, or work on a deck.
+// Returns the plan of a command line: a trial, or work on a deck.
 fn line_plan<F: Files, L: Ledger>(
     alloc: Global,
     line: &CommandLine,
@@ -82,7 +82,7 @@ fn line_plan<F: Files, L: Ledger>(
     }
 }
 
-// What is told of a trial. The only error is want of memory.
+// Returns the plan with the summary of a trial. The only error is running out of memory.
 fn trial_plan<L: Ledger>(
     alloc: Global,
     line: &CommandLine,
@@ -105,7 +105,7 @@ fn trial_plan<L: Ledger>(
     Ok(Plan::Whole(said, Status::Done))
 }
 
-// What a command line leads to over its definition file, or over the built-in text where none is named.
+// Returns the plan of a command line over its definition file, or over the built-in text if it names none.
 fn deck_plan<F: Files, L: Ledger>(
     alloc: Global,
     line: &CommandLine,
@@ -135,7 +135,7 @@ fn deck_plan<F: Files, L: Ledger>(
     }
 }
 
-// What a command line leads to over the file of this name.
+// Returns the plan of a command line over the file of this name.
 fn file_plan<F: Files, L: Ledger>(
     alloc: Global,
     line: &CommandLine,

@@ -1,4 +1,4 @@
-//! What is done with a deck: the reply to FROM, the check, or a session.
+//! Work on a deck: the reply to FROM, the check, or a session.
 ghost use Rattle.std.specs.Prelude.{◌≡◌, ◌≤◌, ◌&&◌, ◌||◌, ℕ, [], IfOk, Some, None, true, false, is_some, not};
 ghost use Rattle.std.specs.Prelude.{unwrap_or};
 ghost use Rattle.std.specs.Prelude.{if◌then◌else◌};
@@ -26,9 +26,9 @@ use std::mem;
 use std::sync::ledger::Ledger;
 use units_io::{Steps, Text};
 
-/// The plan of a command line over a deck: the reply to FROM where that stands, or the check, or else a session. The
-/// only error is want of memory. A table that was asked for a reply stays in memory: the system takes that back with
-/// the process, at once.
+/// Returns the plan of a command line over a deck: the reply to FROM if it is given, or else the check, or else a
+/// session. The only error is running out of memory. A table that has made a reply is never freed: the system reclaims
+/// its memory when the process ends, which is soon.
 pub(crate) fn work<L: Ledger>(
     alloc: Global,
     line: &CommandLine,
@@ -61,7 +61,7 @@ pub(crate) fn work<L: Ledger>(
     }
 }
 
-// The reply to FROM, with the notices on `err`.
+// Returns the plan with the reply to FROM, with the notices on `err`.
 fn reply_plan<L: Ledger>(
     alloc: Global,
     line: &CommandLine,
@@ -96,7 +96,7 @@ fn reply_plan<L: Ledger>(
     Ok(Plan::Whole(said, status))
 }
 
-// A column that is to be converted from FROM.
+// Returns the plan of the conversion of a column from FROM.
 fn column_plan(
     alloc: Global,
     line: &CommandLine,
@@ -126,7 +126,7 @@ fn column_plan(
     }))
 }
 
-// The check report, with the notices at its head.
+// Returns the plan of the check report, which begins with the notices.
 fn check_plan(alloc: Global, line: &CommandLine, table: LiveTable) -> Result<Plan, AllocError>
     requires digits { HasDigits line.now }
     requires fresh { table ≡ queries.fresh table.deck }
@@ -141,7 +141,7 @@ fn check_plan(alloc: Global, line: &CommandLine, table: LiveTable) -> Result<Pla
     }))
 }
 
-// A session over a table of which no name is settled.
+// Returns the plan of a session over a table in which no name is settled.
 fn session_plan(alloc: Global, line: &CommandLine, table: LiveTable) -> Result<Plan, AllocError>
     requires digits { HasDigits line.now }
     requires fresh { table ≡ queries.fresh table.deck }
@@ -153,7 +153,7 @@ fn session_plan(alloc: Global, line: &CommandLine, table: LiveTable) -> Result<P
     Ok(Plan::Opened(said, session))
 }
 
-// TO as it is read, which is blank where it does not stand.
+// Returns the contents of TO, which is blank if TO is not given.
 fn to_text(line: &CommandLine) -> &[u8]
     ensures { result.now ≡ line_content (unwrap_or line.now.to []) }
 {
@@ -163,7 +163,7 @@ fn to_text(line: &CommandLine) -> &[u8]
     }
 }
 
-// How a reply ends the run.
+// Returns the status for a reply.
 fn reply_status(refused: bool) -> Status
     ensures is { result ≡ (if refused then Status.Refused else Status.Done) }
     ensures worked { MayEnd true false false result }

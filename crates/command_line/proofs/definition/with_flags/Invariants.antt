@@ -3,7 +3,7 @@ use Rattle.clap.specs.Words.{app_of}
 use Rattle.command_line.specs.Rules.{flag_rule, with_rules}
 use Rattle.command_line.proofs.definition.with_flags.Given as goal
 
--- what the flags to come make of the command
+-- the command with the remaining flags
 abbrev pub invariant-loop-name : goal.invariant-loop-name
 invariant-loop-name l =
     with_rules (app_of l.command) (map (λ flag. flag_rule flag.0.now flag.1) (drop l.name-index l.flags))

@@ -7,7 +7,7 @@ use Rattle.command_line.proofs.TakenLemmas.{are_parsed-faulty, are_parsed-faultl
 use Rattle.command_line.proofs.TakenLemmas.{are_parsed-no_texts}
 use Rattle.command_line.proofs.read.parsed_line.Goals as goal
 
--- the slice of a list of texts holds the words of the list
+-- the slice of a list of texts contains the words of the list
 slice_words : (slice items : List (Bor Text)) (words : List Text) → slice ≡ items
     → map (λ text. text.now) items ≡ words → map (λ text. text.now) slice ≡ words
 slice_words slice items words same texts =
