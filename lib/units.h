@@ -4,7 +4,7 @@
 
        units_table table = UNITS_TABLE;
        units_entry file = {UNITS_TEXT("my.units"), UNITS_TEXT("m !\nft 3048|10000 m\n")};
-       units_definitions definitions = {UNITS_TEXT("my.units"), &file, 1, NULL, 0, UNITS_TEXT("en_US")};
+       units_definitions definitions = {UNITS_TEXT("my.units"), &file, 1, NULL, 0, UNITS_TEXT("en_US"), NULL, 0};
        units_options options = {.exact = 1, .one_line = 1, .compact = 1};
        uint8_t reply[256];
        size_t length;
@@ -105,7 +105,8 @@ typedef struct units_entry {
     size_t content_length;
 } units_entry;
 
-/* What a table is opened over. Of two entries with one name the last counts. */
+/* What a table is opened over. Of two entries with one name the last counts. No reply depends on the seed: give random
+   bytes if the definitions come from someone who may choose names that collide in a hash table, and none otherwise. */
 typedef struct units_definitions {
     const uint8_t *main; /* the name of the file to read */
     size_t main_length;
@@ -115,6 +116,8 @@ typedef struct units_definitions {
     size_t variables_count;
     const uint8_t *locale; /* for the lines !locale, such as en_US */
     size_t locale_length;
+    const uint8_t *seed; /* for the hash tables, such as 16 bytes of getrandom(), or NULL */
+    size_t seed_length;
 } units_definitions;
 
 /* How a reply is made and written. A flag is set by any value but 0. */

@@ -1,4 +1,4 @@
-/* Answers questions over definition files, for tools/compare_c_library.py: answers MAIN FILE..
+/* Answers questions over definition files, for tools/comparisons/compare_c_library.py: answers MAIN FILE..
    Reads FROM and TO, each on a line. Writes `STATUS LENGTH`, a line feed and the reply, and then the same for the value
    of FROM, whose text has its number before the dimension. */
 #include "units.h"
@@ -39,7 +39,7 @@ int main(int count, char **words) {
     size_t length;
     for (int i = 1; i < count && i < 64; i++) files[i - 1] = read_file(words[i]);
     units_definitions given = {(const uint8_t *)words[1], strlen(words[1]), files, (size_t)count - 1, NULL, 0,
-                               UNITS_TEXT("en_US")};
+                               UNITS_TEXT("en_US"), NULL, 0};
     if (units_open(&table, &given) != UNITS_DONE) return 3;
     while (fgets(from, sizeof from, stdin) && fgets(to, sizeof to, stdin)) {
         from[strcspn(from, "\n")] = 0;

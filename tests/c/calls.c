@@ -267,7 +267,7 @@ static void openings(void) {
     units_entry files[] = {entry("main", main_file), entry("sub/length.units", "nonsense"),
                            entry("sub/length.units", length_file), entry("sub/inch.units", inch_file)};
     units_entry variables[] = {entry("LENGTHS", "short"), entry("LENGTHS", "long")};
-    units_definitions given = {TEXT("main"), files, 4, variables, 2, TEXT("en_GB")};
+    units_definitions given = {TEXT("main"), files, 4, variables, 2, TEXT("en_GB"), TEXT("a seed")};
     units_table table = UNITS_TABLE;
     check(units_close(&table) == UNITS_CLOSED, "to close a closed table");
     expect("a closed table", units_convert(&table, TEXT("m"), TEXT("m"), &exact, buffer, sizeof buffer, &length),
@@ -296,15 +296,15 @@ static void openings(void) {
 
 static void refused_openings(void) {
     units_entry file = entry("a", "m !\n");
-    units_definitions given = {TEXT("b"), &file, 1, NULL, 0, UNITS_NO_TEXT};
+    units_definitions given = {TEXT("b"), &file, 1, NULL, 0, UNITS_NO_TEXT, UNITS_NO_TEXT};
     units_table table = UNITS_TABLE;
     check(units_open(&table, &given) == UNITS_NO_SUCH_FILE, "no such file");
-    given = (units_definitions){TEXT("a"), NULL, 0, NULL, 0, UNITS_NO_TEXT};
+    given = (units_definitions){TEXT("a"), NULL, 0, NULL, 0, UNITS_NO_TEXT, UNITS_NO_TEXT};
     check(units_open(&table, &given) == UNITS_NO_SUCH_FILE, "no files");
     static char longest[16777218];
     memset(longest, '\n', sizeof longest - 1);
     file = entry("a", longest);
-    given = (units_definitions){TEXT("a"), &file, 1, NULL, 0, UNITS_NO_TEXT};
+    given = (units_definitions){TEXT("a"), &file, 1, NULL, 0, UNITS_NO_TEXT, UNITS_NO_TEXT};
     check(units_open(&table, &given) == UNITS_FILE_TOO_LONG, "a file that is too long");
     file.content_length = 16777216;
     check(units_open(&table, &given) == UNITS_DONE, "a file that is just short enough");

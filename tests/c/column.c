@@ -1,4 +1,4 @@
-/* Converts a column of its standard input over a definition file, for tools/compare_c_columns.py and
+/* Converts a column of its standard input over a definition file, for tools/comparisons/compare_c_columns.py and
    bench/c_library.py: column [--seconds] DIGITS EXACT ROUND HEADER NUMBER FROM TO DEFINITIONS
    Writes the text of units_convert_column, and ends with 0, with 1 after UNITS_CELL_ERROR, or else with 2. With
    --seconds it writes the processor time of the call in seconds. The definitions are one file without includes. */
@@ -37,7 +37,7 @@ int main(int count, char **words) {
     if (count != 9) return 2;
     text definitions = read_all(fopen(words[8], "rb")), input = read_all(stdin);
     units_entry entry = {UNITS_TEXT("main"), definitions.bytes, definitions.length};
-    units_definitions given = {UNITS_TEXT("main"), &entry, 1, NULL, 0, UNITS_TEXT("en_US")};
+    units_definitions given = {UNITS_TEXT("main"), &entry, 1, NULL, 0, UNITS_TEXT("en_US"), NULL, 0};
     units_options options = {.digits = (uint8_t)atoi(words[1]), .exact = (uint8_t)atoi(words[2]),
                              .round = (uint8_t)atoi(words[3])};
     units_column column = {(const uint8_t *)words[6], strlen(words[6]), (const uint8_t *)words[7], strlen(words[7]),

@@ -45,7 +45,7 @@ static uint32_t convert(const char *from, const char *to) {
 static uint32_t open_table(void) {
     units_entry files[] = {{UNITS_TEXT("main"), TEXT(main_text)}, {UNITS_TEXT("more"), TEXT(more_text)}};
     units_entry variable = {UNITS_TEXT("A"), UNITS_TEXT("b")};
-    units_definitions definitions = {UNITS_TEXT("main"), files, 2, &variable, 1, UNITS_TEXT("en_US")};
+    units_definitions definitions = {UNITS_TEXT("main"), files, 2, &variable, 1, UNITS_TEXT("en_US"), NULL, 0};
     return units_open(&table, &definitions);
 }
 

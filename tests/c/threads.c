@@ -45,7 +45,7 @@ static void convert_column(worker *own, units_table *table, const char *number, 
 static void *work(void *at) {
     worker *own = at;
     units_entry file = {UNITS_TEXT("main"), (const uint8_t *)text, strlen(text)};
-    units_definitions definitions = {UNITS_TEXT("main"), &file, 1, NULL, 0, UNITS_NO_TEXT};
+    units_definitions definitions = {UNITS_TEXT("main"), &file, 1, NULL, 0, UNITS_NO_TEXT, UNITS_NO_TEXT};
     units_table table = UNITS_TABLE;
     uint8_t buffer[64];
     size_t length;

@@ -1,4 +1,4 @@
--- The first records of a text, as many as it has bytes and one more, are all of them.
+-- A text has at most one more record than it has bytes, so that many first records are all of them.
 use Rattle.std.proofs.Common.{◌≡◌, ◌≤◌, ◌+◌, ◌∷◌, ◌∙◌, [], ℕ, zero, suc, Bool, true, false, List, Option, Some, None}
 use Rattle.std.proofs.Common.{ap, length, arith}
 use Rattle.std.specs.Prelude.{if◌then◌else◌}
@@ -12,7 +12,7 @@ use Rattle.column_convert.specs.Blocks.{first}
 use Rattle.column_convert.specs.Inputs.{Input, input_of}
 use Rattle.column_convert.specs.Records.{Fields}
 
--- no more records than were asked for
+-- if at most `n` records follow a record, there are at most `n + 1` with it
 few_next : (n : ℕ) (more : State → List ℕ → List Fields) (read : Option Read)
     → ((state : State) (text : List ℕ) → length (more state text) ≤ n) → length (records_next more read) ≤ suc n
 few_next n more None few = omega arith
@@ -24,7 +24,7 @@ few config zero state text = omega arith
 few config (suc n) state text =
     few_next n (records_from config n) (next_record config state [] [] text) (few config n)
 
--- a byte order mark is a part of the text
+-- a text without its byte order mark is no longer than the text
 no_longer : (text : List ℕ) → length (strip_bom text) ≤ length text
 unfolding strip_bom
 no_longer [] = omega arith
@@ -49,7 +49,7 @@ all_first text number header most is =
       few default_config (length (strip_bom text) + 1) parser.StartRecord (strip_bom text),
     )))
 
--- the same of a copy of the text
+-- the first records of a copy of the text are all of its records
 pub copy_first : (text copy : List ℕ) (number : ℕ) (header : Bool) (most : ℕ) (columns : Input) → copy ≡ text
     → columns ≡ input_of copy number header → most ≡ length text + 1
     → first most columns ≡ input_of text number header

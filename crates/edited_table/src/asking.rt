@@ -1,4 +1,4 @@
-//! Conversions and values. They count no steps, and change neither the deck nor the history.
+//! Conversions and values. They report no step count, and they change neither the deck nor the history.
 
 ghost use Rattle.std.specs.Prelude.{◌≡◌, ◌<◌, IfOk};
 ghost use Rattle.deck.specs.Tables as tables;
@@ -14,7 +14,7 @@ use std::sync::ledger::{Blank, Ledger};
 use units_io::Steps;
 
 impl EditedTable {
-    /// The reply to a conversion. The only error is want of memory.
+    /// Returns the reply to a conversion. Fails only if memory runs out.
     pub fn convert(
         &mut self,
         alloc: Global,
@@ -31,7 +31,7 @@ impl EditedTable {
         counted_conversion::<Brand>(alloc, &mut self.table, options, from, to, Blank::new(1))
     }
 
-    /// The value of an expression, or the text of its first fault. The only error is want of memory.
+    /// Returns the value of an expression, or the text of its first fault. Fails only if memory runs out.
     pub fn value(
         &mut self,
         alloc: Global,
@@ -48,7 +48,7 @@ impl EditedTable {
     }
 }
 
-// A conversion with a count of steps that nobody reads.
+// Makes a conversion with a step counter that nobody reads.
 fn counted_conversion<L: Ledger>(
     alloc: Global,
     table: &mut LiveTable,
@@ -69,7 +69,7 @@ fn counted_conversion<L: Ledger>(
     convert_reply(alloc, table, options, from, to, &mut steps)
 }
 
-// A value with a count of steps that nobody reads.
+// Evaluates an expression with a step counter that nobody reads.
 fn counted_value<L: Ledger>(
     alloc: Global,
     table: &mut LiveTable,

@@ -1,4 +1,4 @@
-//! Columns of texts of records.
+//! Conversion of one column of a text of records.
 
 ghost use Rattle.std.specs.Prelude.{◌≡◌, ◌<◌, ◌≤◌, IfOk};
 ghost use Rattle.column_convert.specs.Blocks.{block_of};
@@ -16,20 +16,20 @@ use std::marker::Brand;
 use std::sync::ledger::{Blank, Ledger};
 use units_io::{Steps, Text};
 
-/// A column of a text of records, and what its fields are converted from and to.
+/// A column of a text of records, and the units that its fields are converted from and to.
 #[derive(Clone, Copy)]
 pub struct Column<'a> {
     pub from: &'a [u8],
     pub to: &'a [u8],
     /// The number of the column, from 1.
     pub number: usize,
-    /// Whether the first record is a header, which stays as it is.
+    /// Whether the first record is a header, which is copied unchanged.
     pub has_header: bool,
 }
 
 impl EditedTable {
-    /// The records of a text, each with its field of the column converted, or with an error there. The only error is
-    /// want of memory.
+    /// Returns the records of `text`, each with its field in the column converted or replaced by an error. Fails only
+    /// if memory runs out.
     pub fn convert_column(
         &mut self,
         alloc: Global,
@@ -49,7 +49,7 @@ impl EditedTable {
     }
 }
 
-// A column with a count of steps that nobody reads.
+// Converts a column with a step counter that nobody reads.
 fn counted_column<L: Ledger>(
     alloc: Global,
     table: &mut LiveTable,
@@ -68,7 +68,7 @@ fn counted_column<L: Ledger>(
         (input_of text.now column.now.number column.now.has_header))) }
     ensures deck { table.new.deck ≡ table.old.deck }
 {
-    // A text has no more records than bytes, but for an empty last one.
+    // A text has at most one record per byte, plus an empty last one.
     let Some(most) = text.len().checked_add(1) else {
         return Err(AllocError);
     };

@@ -1,4 +1,4 @@
-//! A live table and its history.
+//! A live table and its edit history.
 
 ghost use Rattle.std.specs.Prelude.{◌≡◌};
 ghost use Rattle.edited_table.specs.Edited.{unedited};
@@ -9,13 +9,13 @@ use live_table::LiveTable;
 use std::alloc::Global;
 use std::marker::Model;
 
-/// A live table together with the history of its edits, which is always one of the table's deck.
+/// A live table together with the history of its edits. The history always belongs to the table's deck.
 pub struct EditedTable {
     pub(crate) table: LiveTable,
     pub(crate) history: History,
 }
 
-// By hand, so that a function that drops one proves nothing about its parts.
+// Implemented by hand, so that a function that drops an `EditedTable` proves nothing about its parts.
 impl Drop for EditedTable {
     fn drop(self) {
         let EditedTable {
@@ -39,7 +39,7 @@ impl Model for EditedTable {
 }
 
 impl EditedTable {
-    /// A table over this deck with no name settled and no edit made. It takes no memory.
+    /// Returns a table over `deck` with no name settled and no edit made. Does not allocate.
     pub fn new(alloc: Global, deck: Deck) -> EditedTable
         ensures { result ≡ unedited deck }
     {
@@ -49,7 +49,7 @@ impl EditedTable {
         }
     }
 
-    /// The live table.
+    /// Returns the live table.
     pub fn table(&self) -> &LiveTable
         ensures { result.now ≡ self.now.table }
     {

@@ -1,4 +1,4 @@
-//! Edits, and taking them back. A refusal, for want of memory too, changes nothing.
+//! Edits, undo and redo. A refused edit changes nothing, even if the reason is lack of memory.
 
 ghost use Rattle.std.specs.Prelude.{◌≡◌};
 ghost use Rattle.def_lines.specs.Blanks.{trimmed};
@@ -14,7 +14,7 @@ use edit_history::HistoryFault;
 use std::alloc::Global;
 
 impl EditedTable {
-    /// Adds the definition of a line at the end of the deck. The refusals are those of `LiveTable::define`.
+    /// Appends the definition in `line` to the deck. The errors are those of `LiveTable::define`.
     pub fn define(&mut self, alloc: Global, line: &[u8]) -> Result<(), DeckFault>
         ensures edit { edit.IsEditOf (deck_edit.after_define (trimmed line.now) self.old.table.deck)
             self.old.table self.new.table result }
@@ -23,7 +23,7 @@ impl EditedTable {
         self.history.define(alloc, &mut self.table, line)
     }
 
-    /// Removes the last active definition of a key. The refusals are those of `LiveTable::drop_last`.
+    /// Removes the last active definition of `key`. The errors are those of `LiveTable::drop_last`.
     pub fn drop_last(&mut self, alloc: Global, key: &Key) -> Result<(), DeckFault>
         ensures edit { edit.IsEditOf (deck_edit.after_drop key.now self.old.table.deck)
             self.old.table self.new.table result }
@@ -32,7 +32,7 @@ impl EditedTable {
         self.history.drop_last(alloc, &mut self.table, key)
     }
 
-    /// Takes back the last edit that is not undone. `NothingToUndo` if there is none.
+    /// Undoes the last edit that is not undone. Fails with `NothingToUndo` if there is none.
     pub fn undo(&mut self, alloc: Global) -> Result<(), HistoryFault>
         ensures { calls.IsUndone NothingToUndo self.old.history self.new.history
             self.old.table self.new.table result }
@@ -40,7 +40,7 @@ impl EditedTable {
         self.history.undo(alloc, &mut self.table)
     }
 
-    /// Makes the last undone edit again. `NothingToRedo` if there is none, or if an edit followed the undo.
+    /// Redoes the last undone edit. Fails with `NothingToRedo` if there is none, or if an edit followed the undo.
     pub fn redo(&mut self, alloc: Global) -> Result<(), HistoryFault>
         ensures { calls.IsUndone NothingToRedo (calls.turned self.old.history) (calls.turned self.new.history)
             self.old.table self.new.table result }

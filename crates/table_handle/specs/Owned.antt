@@ -1,4 +1,4 @@
--- What a handle owns: the block of a box with an edited table in it, or nothing.
+-- The resources of a handle: the block of a box that contains an edited table, or nothing.
 use Rattle.std.specs.Prelude.{Option, None, Some}
 use Rattle.std.specs.Coded.{Coded, coded_option}
 use base.Fml.{Fml, ftrue}

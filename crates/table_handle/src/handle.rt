@@ -1,4 +1,4 @@
-//! An edited table behind a pointer that may be null.
+//! An edited table behind a nullable pointer.
 
 ghost use Rattle.std.specs.Prelude.{◌≡◌, IfOk, Option, None, Some};
 ghost use Rattle.edited_table.specs.Edited.{Edited};
@@ -11,9 +11,9 @@ use std::marker::Model;
 use std::mem;
 use std::ptr::null_mut;
 
-/// An edited table on the heap, or none. It has the layout of a C struct with one pointer. Contracts see the table.
+/// An edited table on the heap, or none. The layout is that of a C struct with one pointer. Contracts see the table.
 ///
-/// Dropping a handle does not free its table: take it first.
+/// Dropping a handle does not free its table: call `take` first.
 #[repr(C)]
 #[derive(Drop)]
 pub struct Handle {
@@ -27,7 +27,7 @@ impl Model for Handle {
 }
 
 impl Handle {
-    /// Gives this table to a handle without one.
+    /// Stores `table` in a handle that has none.
     pub fn put(&mut self, table: Box<EditedTable, Global>)
         requires { self.old.held ≡ None }
         ensures { self.new.held ≡ Some table.value }
@@ -35,7 +35,7 @@ impl Handle {
         *self = Handle::of_parts(Parts::of(table));
     }
 
-    /// Takes the table out of a handle that has one.
+    /// Takes the table out of a handle that has one, and leaves the handle empty.
     pub fn take(&mut self, alloc: Global) -> Box<EditedTable, Global>
         requires { self.old.held ≡ None → ⊥ }
         ensures table { self.old.held ≡ Some result.value }
@@ -45,7 +45,7 @@ impl Handle {
         whole.into_parts().into_box()
     }
 
-    // A handle without a table.
+    // Returns a handle without a table.
     fn empty(alloc: Global) -> Handle
         ensures { result.held ≡ None }
     {
@@ -55,7 +55,7 @@ impl Handle {
         }
     }
 
-    // The parts of a box as a handle.
+    // Returns the handle whose table has these parts.
     fn of_parts(parts: Parts<EditedTable, Global>) -> Handle
         ensures { result.held ≡ Some parts.value }
     {
@@ -66,7 +66,7 @@ impl Handle {
         }
     }
 
-    // The parts of the box behind a handle that has one.
+    // Returns the parts of the box of a handle that has a table.
     fn into_parts(self) -> Parts<EditedTable, Global>
         requires { self.held ≡ None → ⊥ }
         ensures { self.held ≡ Some result.value }

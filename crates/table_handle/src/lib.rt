@@ -1,4 +1,4 @@
-//! A handle: an edited table in a struct that a C caller can hold between calls.
+//! A handle: a struct with an edited table that a C caller can hold between calls.
 #![tactic(auto)]
 
 mod handle;

@@ -1,4 +1,4 @@
-//! A box as its pointer and its allocator.
+//! A box split into its pointer and its allocator.
 
 ghost use Rattle.std.specs.Prelude.{◌≡◌};
 ghost use Rattle.std.specs.Box.Ownership.{box_owns};
@@ -18,7 +18,7 @@ impl<T, A: Allocator> Model for Parts<T, A> {
 }
 
 impl<T, A: Allocator> Parts<T, A> {
-    // The parts of a box.
+    // Splits a box into its parts.
     pub(crate) fn of(b: Box<T, A>) -> Parts<T, A>
     where
         T: Drop,
@@ -28,7 +28,7 @@ impl<T, A: Allocator> Parts<T, A> {
         Parts { ptr, alloc }
     }
 
-    // The box of these parts.
+    // Rebuilds the box from its parts.
     pub(crate) fn into_box(self) -> Box<T, A>
         ensures { result.value ≡ self.value }
     {

@@ -1,4 +1,4 @@
--- What an edit leaves, by how it was answered.
+-- The effect of an edit, given its answer.
 use Rattle.std.proofs.Common.{◌≡◌, ◌≢◌, ◌<◌, ◌∙◌, ℕ, List, true, Result, Ok, Err, refl, sym, ap, subst, arith, inl, inr}
 use Rattle.std.specs.Prelude.{IfErr, IfOk, IsErr}
 use Rattle.std.specs.declared.alloc.AllocError.{AllocError}
@@ -17,7 +17,7 @@ use Rattle.units_c.specs.Statuses.{code}
 use Rattle.units_c.specs.Tables.{definitions_of}
 use Rattle.units_c.specs.declared.answer.Answer.{Answer}
 
--- the status of a refusal with words of its own is none of those that all calls share
+-- the code of a refusal with its own message is greater than the codes of `Done` and `NoMemory`
 refusal_code : (why : DeckFault) (named : List ℕ) → is_told_refusal why ≡ true → why ≢ fault.OutOfMemory
     → 1 < code (refusal why named).status
 refusal_code (fault.BadLine (entry.BadName name)) named has_words other = omega arith
@@ -35,7 +35,7 @@ refusal_code fault.TooLong named has_words other = omega arith
 refusal_code fault.ReadFailed named has_words other = omega arith
 refusal_code fault.OutOfMemory named has_words other = absurd (other refl)
 
--- the same definitions, by their parts
+-- tables with equal parts have the same definitions
 pub same_definitions : (old new : Edited) → new.table ≡ old.table → new.history ≡ old.history
     → definitions_of new ≡ definitions_of old
 same_definitions old new table history =
@@ -43,7 +43,7 @@ same_definitions old new table history =
     ∙ ap (λ (h : Course). definitions_of (record { table = old.table; history = h })) history
 
 module _ (outcome : Result Contents DeckFault) (named : List ℕ) (old new : Edited) where
-  -- a refusal leaves all as it was
+  -- a refused edit leaves the deck and the history unchanged
   edit_refused : (why : DeckFault) (answer : Answer) → new.table ≡ old.table → new.history ≡ old.history
       → is_told_refusal why ≡ true → answer ≡ refusal why named → why ≢ fault.OutOfMemory → outcome ≡ Err why
       → IsAnsweredEdit (deck_after outcome old.table.deck) (Ok answer) old new
@@ -60,7 +60,7 @@ module _ (outcome : Result Contents DeckFault) (named : List ℕ) (old new : Edi
         memory = λ m. omega arith;
       }
 
-  -- the definitions are those of the outcome
+  -- an edit leaves the deck of its outcome
   pub edit_left : (edited : Result (Unit {0}) DeckFault) (answered : Result Answer AllocError)
       → IsEditOf outcome old.table new.table edited
       → IsNoted old.history new.history old.table.deck new.table.deck edited

@@ -1,4 +1,4 @@
--- What a call says of the table of its caller, from what it did with the content.
+-- The effect of a call on the caller's table, derived from its effect on the content.
 use Rattle.std.proofs.Common.{◌≡◌, ◌≢◌, ◌<◌, ◌≤◌, ℕ, List, Option, Some, Result, Ok, Err, sym, ap, subst, arith, length}
 use Rattle.std.specs.Prelude.{IfErr, IfOk}
 use Rattle.std.specs.declared.alloc.AllocError.{AllocError}
@@ -12,7 +12,7 @@ use Rattle.units_c.specs.Turns.{IsAnsweredTurn, Turns}
 use Rattle.units_c.specs.declared.answer.Answer.{Answer}
 use Rattle.units_c.specs.declared.status.Status.TheVariants as status
 
--- the result of a call whose answer has a text of `n` bytes and this status
+-- a call whose result is `Done` has an answer with the status `Done`; the text of the answer has `n` bytes
 was_done : (n room result s : ℕ) → (n ≤ room → result ≡ s) → (room < n → result ≡ 2) → result ≡ 0
     → s ≡ 0
 was_done n room result s fits short done = grind arith
@@ -21,7 +21,7 @@ not_done : (n room result s : ℕ) → (n ≤ room → result ≡ s) → (s ≡ 
     → s ≢ 0
 not_done n room result s fits silent other done = grind arith
 
--- the history after an edit of an open table
+-- an edit of an open table with this answer satisfies `NotesEdit`
 notes : (e e' : Edited) (deck : Contents) (answered : Result Answer AllocError) (room result written : ℕ)
     (out : List ℕ) → IfErr answered (λ _. result ≡ code status.NoMemory)
     → IfOk answered (λ answer. IsHandedOut answer room result written out)
@@ -35,7 +35,7 @@ notes e e' deck (Ok answer) room result written out memory handed is = (
 notes e e' deck (Err x) room result written out memory handed is =
     ((λ done. absurd (omega arith)), (λ _. ap (λ (d : Contents × Course). d.1) is))
 
--- the table after an undo or a redo
+-- an undo or a redo of an open table with this answer satisfies `Turns`
 turns : (IsTurn : Edited → Edited → Type 0) (e e' : Edited) (answered : Result Answer AllocError)
     (room result written : ℕ) (out : List ℕ) → IfErr answered (λ _. result ≡ code status.NoMemory)
     → IfOk answered (λ answer. IsHandedOut answer room result written out)

@@ -1,4 +1,4 @@
--- A reply tells by its text what the conversion came to.
+-- The text of a reply determines the outcome of the conversion.
 use Rattle.std.proofs.Common.{◌≡◌, ◌∙◌, ℕ, List, Result, Ok, Err, refl, ap}
 use Rattle.def_entry.specs.Tables.{Table}
 use Rattle.def_lines.specs.Blanks.{trimmed}
@@ -17,7 +17,7 @@ use Rattle.units_c.specs.declared.status.Status.{Status}
 abbrev answer_of : Status → List ℕ → Answer
 answer_of s words = record { status = s; text = words }
 
--- by what the conversion comes to
+-- the answer for a reply has the status of the outcome of the conversion
 by_outcome : TellStatuses → (options : Options) (from to : List ℕ) (outcome : _)
     → reply_answer (as_conversion (form_of options) from to outcome) ≡ record {
       status = conversion_status outcome (as_conversion (form_of options) from to outcome);
@@ -33,7 +33,7 @@ pub reply_is : TellStatuses → (table : Table) (options : Options) (from to : L
 reply_is laws table options from to =
     by_outcome laws options (trimmed from) (trimmed to) (converting table options from to).answer
 
--- a fault in words has the status of the fault
+-- the answer for the text of a fault is the answer to the value
 pub worth_is : TellStatuses → (options : Options) (worth : Result Amount ReplyFault) (text : List ℕ)
     → as_value options worth ≡ Bad text
     → answer_of (status_of_text text) text ≡ value_answer options worth

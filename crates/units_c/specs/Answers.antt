@@ -1,4 +1,4 @@
--- What calls answer: a status, and a text that they hand out.
+-- The answers of calls: a status, and a text for the caller.
 use Rattle.std.specs.Prelude.{◌≡◌, ◌<◌, ◌≤◌, ℕ, List, Result, Ok, Err, length, take, if◌then◌else◌}
 use Rattle.def_entry.specs.Tables.{Table}
 use Rattle.def_lines.specs.Blanks.{trimmed}
@@ -18,32 +18,32 @@ use Rattle.units_c.specs.declared.answer.Answer.{Answer}
 use Rattle.units_c.specs.declared.status.Status.{Status}
 use Rattle.units_c.specs.declared.status.Status.TheVariants as status
 
--- a reply as its text tells its status
+-- the answer for a reply: its status is determined by its text
 abbrev pub reply_answer : Reply → Answer
 reply_answer reply =
     record { status = if reply.refused then status_of_text reply.text else status.Done; text = reply.text }
 
--- the status of a conversion: that of its fault, or, if it comes to an end without one, whether it is a conformability
--- error, as the text of the reply tells
+-- the status of a conversion: that of its fault, or, if it has none, the status that the text of the reply determines
+-- (`Done` or a conformability error)
 abbrev pub conversion_status : {C : Type 0} → Result C ReplyFault → Reply → Status
 conversion_status (Ok c) reply = (reply_answer reply).status
 conversion_status (Err fault) reply = fault_status fault
 
--- to a conversion: the reply of the program, with its status
+-- the answer to a conversion: the reply of the program and its status
 abbrev pub conversion_answer : Table → Options → (from to : List ℕ) → Answer
 conversion_answer table options from to =
     let reply = conversion_reply table options from to in
     record { status = conversion_status (converting table options from to).answer reply; text = reply.text }
 
--- the names that a quantity is measured in, as in its text
+-- the dimension of a quantity, as in its text
 abbrev pub dimension_text : Amount → List ℕ
 dimension_text x = trimmed (powers_text x.exponents)
 
--- what an expression is worth
+-- the value of an expression
 abbrev pub worth_of : Table → (expression : List ℕ) → Result Amount ReplyFault
 worth_of table expression = (text_worth table (trimmed expression)).answer
 
--- the dimension of a value, or the fault in words
+-- the dimension of a value, or the text of the fault
 abbrev pub worth_text : Options → Result Amount ReplyFault → List ℕ
 worth_text options (Ok x) = dimension_text x
 worth_text options (Err fault) = fault_text (style_of options) fault
@@ -51,8 +51,8 @@ worth_text options (Err fault) = fault_text (style_of options) fault
 abbrev pub value_answer : Options → Result Amount ReplyFault → Answer
 value_answer options worth = record { status = worth_status worth; text = worth_text options worth }
 
--- an answer was handed out to a buffer of this room: its text at the front of the buffer, or, if the buffer is too
--- short, only the length of the text
+-- an answer was delivered to a buffer with this room: its text is at the front of the buffer, or, if the buffer is too
+-- short, only the length of the text is reported
 pub record IsHandedOut (answer : Answer) (room result written : ℕ) (out : List ℕ) : Type 0 where
   pub length_told : written ≡ length answer.text
   pub status_told : length answer.text ≤ room → result ≡ code answer.status

@@ -1,4 +1,4 @@
--- What columns of texts of records answer.
+-- The answers to column conversions.
 use Rattle.std.specs.Prelude.{ℕ, List, Bool, if◌then◌else◌}
 use Rattle.column_convert.specs.Blocks.{is_refused, text_of}
 use Rattle.column_convert.specs.Inputs.{input_of}
@@ -11,15 +11,15 @@ use Rattle.units_c.specs.declared.column.UnitsColumn.{UnitsColumn}
 use Rattle.units_c.specs.declared.status.Status.{Status}
 use Rattle.units_c.specs.declared.status.Status.TheVariants as status
 
--- the status of rows of which a cell is an error or not
+-- the status of rows, given whether a cell is an error
 abbrev pub rows_status : (refused : Bool) → Status
 rows_status refused = if refused then status.CellError else status.Done
 
--- rows one behind another, with their status
+-- the concatenated rows, with their status
 abbrev pub rows_answer : List ColumnRow → Answer
 rows_answer rows = record { status = rows_status (is_refused rows); text = text_of rows }
 
--- to a column of a text: the rows that the program writes
+-- the answer to a column conversion: the rows that the program writes
 abbrev pub column_answer : Table → Options → UnitsColumn → (text : List ℕ) → Answer
 column_answer table options c text =
     rows_answer (rows table options c.from.now c.to.now (input_of text c.number (is_set c.header)))

@@ -1,4 +1,4 @@
--- Definitions that C gives in memory.
+-- Definitions that C passes in memory.
 use Rattle.std.specs.Prelude.{◌≡◌, ◌≢◌, [], ◌∷◌, ℕ, List, Option, Some, None, Result, Ok, Err}
 use Rattle.deck.specs.Decks.{Contents}
 use Rattle.deck.specs.Loading.{after_load}
@@ -14,12 +14,12 @@ use Rattle.units_c.specs.declared.status.Status.TheVariants as status
 use Rattle.units_io.specs.FileMap.{FileMap, no_files, with_file}
 use Rattle.units_io.specs.Named.{Pairs, with_value}
 
--- files with those of a list, of which the last of a name counts
+-- files with those of a list added; the last file of a name counts
 abbrev pub with_files : FileMap → List UnitsEntry → FileMap
 with_files files [] = files
 with_files files (e ∷ es) = with_files (with_file files e.name.now e.content.now) es
 
--- variables with those of a list, of which the last of a name counts
+-- variables with those of a list added; the last value of a name counts
 abbrev pub with_values : Pairs → List UnitsEntry → Pairs
 with_values pairs [] = pairs
 with_values pairs (e ∷ es) = with_values (with_value pairs e.name.now e.content.now) es
@@ -27,11 +27,11 @@ with_values pairs (e ∷ es) = with_values (with_value pairs e.name.now e.conten
 abbrev pub settings_of : UnitsDefinitions → Settings
 settings_of d = record { locale = d.locale.now; vars = with_values [] d.variables.now }
 
--- the deck of the main file, with the files that it includes
+-- the deck of the main file and of the files that it includes
 abbrev pub deck_of : UnitsDefinitions → Result Contents DeckFault
 deck_of d = after_load (with_files no_files d.files.now) d.main.now (settings_of d)
 
--- why a deck is not loaded, or an edit refused
+-- the status of a load that failed with this fault
 abbrev pub load_status : DeckFault → Status
 load_status fault.Absent = status.NoSuchFile
 load_status fault.TooLong = status.FileTooLong
@@ -39,13 +39,13 @@ load_status fault.ReadFailed = status.ReadFailed
 load_status fault.DeckFull = status.DeckFull
 load_status _ = status.NoMemory
 
--- a table was opened over these definitions: nothing of it is settled or edited
+-- the table is open over these definitions, with no name settled and no edit made
 abbrev pub IsOpened : UnitsDefinitions → Option Edited → Type 0
 IsOpened d None = ⊥
 IsOpened d (Some e) = (deck_of d ≡ Ok e.table.deck) × (e ≡ unedited e.table.deck)
 
--- the status of opening a closed table over a deck with this outcome: that of the outcome, or a failure of memory or of
--- a file
+-- the status of opening a closed table over a deck with this outcome: the status of the outcome, `NoMemory` or
+-- `ReadFailed`
 abbrev pub IsOpenStatus : Result Contents DeckFault → (result : ℕ) → Type 0
 IsOpenStatus (Ok deck) result =
     (result ≢ code status.NoMemory) → (result ≢ code status.ReadFailed) → result ≡ code status.Done

@@ -1,4 +1,4 @@
--- What edits answer, and what they leave.
+-- The answers to edits, and their effect on the table.
 use Rattle.std.specs.Prelude.{◌≡◌, ◌≢◌, ◌++◌, [], ℕ, List, Bool, true, Option, Some, None, Result, Ok, Err, ⊤, codes}
 use Rattle.std.specs.declared.alloc.AllocError.{AllocError}
 use Rattle.deck.specs.Decks.{Contents}
@@ -18,7 +18,7 @@ use Rattle.units_c.specs.declared.answer.Answer.{Answer}
 use Rattle.units_c.specs.declared.status.Status.{Status}
 use Rattle.units_c.specs.declared.status.Status.TheVariants as status
 
--- why a line gives no entry
+-- the status of a line that is not an entry
 abbrev pub entry_status : EntryFault → Status
 entry_status (entry.BadName name) = status.BadName
 entry_status entry.BadForm = status.BadDefinition
@@ -26,7 +26,7 @@ entry_status entry.BadTable = status.BadTable
 entry_status (entry.Parse parse) = parse_status parse
 entry_status entry.OutOfMemory = status.NoMemory
 
--- why an edit is refused, with its words; `named` is how the key was written
+-- the answer that refuses an edit; `named` is the key as the caller wrote it
 abbrev pub refusal : DeckFault → (named : List ℕ) → Answer
 refusal (fault.BadLine why) named = record { status = entry_status why; text = entry_fault_text why }
 refusal fault.NoSuchKey named =
@@ -37,11 +37,11 @@ refusal fault.TooLong named = record { status = status.FileTooLong; text = codes
 refusal fault.ReadFailed named = record { status = status.ReadFailed; text = [] }
 refusal fault.OutOfMemory named = record { status = status.NoMemory; text = [] }
 
--- to an edit that is made
+-- the answer to a successful edit
 abbrev pub made : Answer
 made = record { status = status.Done; text = [] }
 
--- to an edit with this outcome
+-- the answer to an edit with this outcome
 abbrev pub edit_answer : Result Contents DeckFault → (named : List ℕ) → Answer
 edit_answer (Ok deck) named = made
 edit_answer (Err why) named = refusal why named
@@ -51,7 +51,7 @@ abbrev pub deck_after : Result Contents DeckFault → Contents → Contents
 deck_after (Ok made) deck = made
 deck_after (Err why) deck = deck
 
--- the outcome of dropping a key, if the text is one
+-- the outcome of dropping a key, or `None` if the text is not a key
 abbrev pub drop_outcome : Option Key → Contents → Option (Result Contents DeckFault)
 drop_outcome None deck = None
 drop_outcome (Some key) deck = Some (after_drop key deck)
@@ -64,7 +64,7 @@ abbrev pub deck_after_drop : Option (Result Contents DeckFault) → Contents →
 deck_after_drop None deck = deck
 deck_after_drop (Some outcome) deck = deck_after outcome deck
 
--- an edit leaves this deck, unless there was no memory: then the deck is as before
+-- after an edit the deck is `edit` of the old one, or is unchanged if memory ran out
 abbrev pub LeavesDeck : (result : ℕ) → (Contents → Contents) → (before after : Option Edited) → Type 0
 LeavesDeck result edit None after = after ≡ None
 LeavesDeck result edit (Some e) None = ⊥
@@ -72,7 +72,7 @@ LeavesDeck result edit (Some e) (Some e') =
     (result ≢ code status.NoMemory → e'.table.deck ≡ edit e.table.deck)
     × (result ≡ code status.NoMemory → e'.table.deck ≡ e.table.deck)
 
--- an edit that is made is noted, so that an undo takes it back; without one the history stays
+-- a successful edit is recorded in the history, so that it can be undone; any other edit leaves the history unchanged
 abbrev pub NotesEdit : (result : ℕ) → (before after : Option Edited) → Type 0
 NotesEdit result None after = ⊤
 NotesEdit result (Some e) None = ⊥
@@ -80,12 +80,12 @@ NotesEdit result (Some e) (Some e') =
     (result ≡ code status.Done → IsNoted e.history e'.history e.table.deck e'.table.deck (Ok tt))
     × (result ≢ code status.Done → e'.history ≡ e.history)
 
--- to an edit that ended so
+-- the answer to an edit that returned this result
 abbrev pub edited_answer : Result (Unit {0}) DeckFault → (named : List ℕ) → Answer
 edited_answer (Ok _) named = made
 edited_answer (Err why) named = refusal why named
 
--- a refusal has words of its own
+-- whether a refusal has its own message
 abbrev pub is_told_refusal : DeckFault → Bool
 is_told_refusal (fault.BadLine why) = is_told why
 is_told_refusal _ = true
@@ -94,7 +94,7 @@ abbrev pub IsTold : Result (Unit {0}) DeckFault → Type 0
 IsTold (Ok _) = ⊤
 IsTold (Err why) = is_told_refusal why ≡ true
 
--- an edit was answered so, and left this deck; it is noted in the history exactly if its status is `Done`
+-- an edit with this answer leaves the deck `left`; it is recorded in the history exactly if the status is `Done`
 pub record IsEditAnswered (left : Contents) (answer : Answer) (before after : Edited) : Type 0 where
   pub deck : after.table.deck ≡ left
   pub noted : code answer.status ≡ code status.Done
@@ -103,7 +103,7 @@ pub record IsEditAnswered (left : Contents) (answer : Answer) (before after : Ed
   pub silent : code answer.status ≡ code status.Done → answer.text ≡ []
   pub memory : code answer.status ≢ code status.NoMemory
 
--- the same; or there was no memory for it, and the definitions are as before
+-- `IsEditAnswered` if there is an answer; if memory ran out, the definitions are unchanged
 abbrev pub IsAnsweredEdit : (left : Contents) → Result Answer AllocError → (before after : Edited) → Type 0
 IsAnsweredEdit left (Err _) before after = definitions_of after ≡ definitions_of before
 IsAnsweredEdit left (Ok answer) before after = IsEditAnswered left answer before after

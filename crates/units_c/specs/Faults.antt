@@ -14,26 +14,26 @@ use Rattle.tree_eval.specs.declared.fault.ValueFault.TheVariants as value
 use Rattle.units_c.specs.declared.status.Status.{Status}
 use Rattle.units_c.specs.declared.status.Status.TheVariants as status
 
--- of a text that is no expression
+-- the status of a text that is not an expression
 abbrev pub parse_status : ParseFault → Status
 parse_status (parse.Syntax place) = status.SyntaxError
 parse_status parse.NumeralTooLong = status.NumeralTooLong
 parse_status parse.NestedTooDeep = status.NestedTooDeep
 parse_status parse.OutOfMemory = status.NoMemory
 
--- of names
+-- the status of a fault of a name
 abbrev pub name_status : NameFault → Status
 name_status (name.Unknown word key) = status.UnknownUnit
 name_status (name.Refused word key) = status.RefusedFunction
 name_status (name.Cycle keys) = status.Cycle
 
--- of a fraction
+-- the status of a fault of a fraction
 abbrev pub number_status : FracFault → Status
 number_status number.Overflow = status.Overflow
 number_status number.DivisionByZero = status.DivisionByZero
 number_status number.NoExactRoot = status.NoExactRoot
 
--- of a value
+-- the status of a fault of a value
 abbrev pub value_status : ValueFault → Status
 value_status (value.Number fault) = number_status fault
 value_status (value.NotConformable x y) = status.UnlikeSum
@@ -48,14 +48,14 @@ value_status (value.OutsideTable function) = status.OutsideTable
 value_status (value.NeedsArgument function) = status.ArgumentNeeded
 value_status (value.CallsTooDeep function) = status.CallsTooDeep
 
--- of a reply
+-- the status of a fault of a reply
 abbrev pub fault_status : ReplyFault → Status
 fault_status (Parse fault) = parse_status fault
 fault_status (Name fault) = name_status fault
 fault_status (Value fault) = value_status fault
 fault_status (ListUnit place) = status.ListUnitNotPositive
 
--- of what an expression is worth
+-- the status of a value or of its fault
 abbrev pub worth_status : Result Amount ReplyFault → Status
 worth_status (Ok x) = status.Done
 worth_status (Err fault) = fault_status fault

@@ -3,11 +3,11 @@ use Rattle.std.specs.Prelude.{◌≡◌, ◌+◌, ◌*◌, ◌^◌, ℕ, pos, in
 use Rattle.frac128.specs.Fraction.{Fraction}
 use Rattle.units_c.specs.declared.number.UnitsNumber.{UnitsNumber}
 
--- the number of two words
+-- the number with these high and low words
 abbrev pub joined : (high low : ℕ) → ℕ
 joined high low = high * 2 ^ 64 + low
 
--- the words are those of a fraction
+-- the words of `n` represent the fraction `x`
 pub record IsNumber (n : UnitsNumber) (x : Fraction) : Type 0 where
   pub sign : n.negative ≡ (if int_lt x.num (pos 0) then 1 else 0)
   pub numerator : joined n.numerator_high n.numerator_low ≡ unsigned_abs x.num

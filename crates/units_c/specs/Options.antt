@@ -1,17 +1,17 @@
--- The options that C gives.
+-- The options that C passes in.
 use Rattle.std.specs.Prelude.{◌==◌, ℕ, Bool, not, true, Option, Some, None, nat_lt, if◌then◌else◌}
 use Rattle.reply.specs.declared.options.Options.{Options}
 use Rattle.units_c.specs.declared.options.UnitsOptions.{UnitsOptions}
 
--- a byte of C as a flag
+-- whether a byte from C sets a flag
 abbrev pub is_set : ℕ → Bool
 is_set byte = not (byte == 0)
 
--- the significant digits, of which 0 asks for 8
+-- the number of significant digits, where 0 means 8
 abbrev pub digits_of : ℕ → ℕ
 digits_of digits = if digits == 0 then 8 else digits
 
--- the options of replies, if the digits are at most 36
+-- the options of replies, or `None` if there are more than 36 digits
 abbrev pub options_of : UnitsOptions → Option Options
 options_of o = if nat_lt 36 o.digits then None else Some (record {
   digits = digits_of o.digits;

@@ -1,4 +1,4 @@
--- The numbers by which C knows the statuses of calls.
+-- The status codes that C sees.
 use Rattle.std.specs.Prelude.{ℕ}
 use Rattle.units_c.specs.declared.status.Status.{Status}
 use Rattle.units_c.specs.declared.status.Status.TheVariants as status

@@ -1,4 +1,4 @@
--- Tables that C holds, and what calls on them answer.
+-- The tables that C holds, and the answers of calls on them.
 use Rattle.std.specs.Prelude.{◌≡◌, ◌≢◌, ℕ, List, Option, Some, None, option_map}
 use Rattle.deck.specs.Decks.{Contents}
 use Rattle.deck.specs.Tables.{table}
@@ -14,20 +14,20 @@ use Rattle.units_c.specs.declared.status.Status.TheVariants as status
 abbrev pub open_mark : ℕ
 open_mark = 1970170228
 
--- the definitions by which a table answers
+-- the table of definitions that queries use
 abbrev pub table_of : Edited → Table
 table_of e = table e.table.deck
 
--- what only edits change
+-- the part of a table that only edits change
 abbrev pub definitions_of : Edited → Contents × Course
 definitions_of e = (e.table.deck, e.history)
 
--- a call was answered so if the table was open and there was memory
+-- a call on an open table delivers this answer unless memory runs out; on a closed table its result is `Closed`
 abbrev pub IsAnswered : Option Edited → (Edited → Answer) → (room result written : ℕ) → (out : List ℕ) → Type 0
 IsAnswered None answer room result written out = result ≡ code status.Closed
 IsAnswered (Some e) answer room result written out =
     result ≢ code status.NoMemory → IsHandedOut (answer e) room result written out
 
--- a table has the same definitions and the same history as before, or is closed as before
+-- the definitions and the history are unchanged, and a closed table stays closed
 abbrev pub IsUnedited : (before after : Option Edited) → Type 0
 IsUnedited before after = option_map definitions_of after ≡ option_map definitions_of before

@@ -1,4 +1,4 @@
--- What undos and redos answer, and what they leave.
+-- The answers to undos and redos, and their effect on the table.
 use Rattle.std.specs.Prelude.{◌≡◌, ◌≢◌, [], ◌∷◌, ℕ, List, Option, Some, None, Result, Ok, Err, codes}
 use Rattle.std.specs.declared.alloc.AllocError.{AllocError}
 use Rattle.edit_history.specs.Calls.{IsMoved}
@@ -13,24 +13,24 @@ use Rattle.units_c.specs.declared.answer.Answer.{Answer}
 use Rattle.units_c.specs.declared.status.Status.{Status}
 use Rattle.units_c.specs.declared.status.Status.TheVariants as status
 
--- to an undo or a redo, by the steps that are left
+-- the answer to an undo or a redo, given the steps that are left
 abbrev pub turn_answer : Status → (words : List ℕ) → List Step → Answer
 turn_answer nothing words [] = record { status = nothing; text = words }
 turn_answer nothing words (step ∷ steps) = made
 
--- the last edit that was done is taken back
+-- the last edit that was made is undone
 abbrev pub IsBack : (before after : Edited) → Type 0
 IsBack before after =
     IsMoved before.history.done after.history.done before.history.undone after.history.undone before.table.deck
     after.table.deck
 
--- the edit that was undone last is made again
+-- the last undone edit is redone
 abbrev pub IsAgain : (before after : Edited) → Type 0
 IsAgain before after =
     IsMoved before.history.undone after.history.undone before.history.done after.history.done before.table.deck
     after.table.deck
 
--- an undo or a redo leaves this; without an edit to turn, nothing changes
+-- the effect of an undo or a redo on a table; if there is no edit to undo or redo, nothing changes
 abbrev pub Turns : (Edited → Edited → Type 0) → (result : ℕ) → (before after : Option Edited) → Type 0
 Turns IsTurn result None after = after ≡ None
 Turns IsTurn result (Some e) None = ⊥
@@ -38,7 +38,7 @@ Turns IsTurn result (Some e) (Some e') =
     (result ≡ code status.Done → IsTurn e e')
     × (result ≢ code status.Done → definitions_of e' ≡ definitions_of e)
 
--- to an undo or a redo that ended so
+-- the answer to an undo or a redo with this outcome
 abbrev pub turned_answer : Result (Unit {0}) HistoryFault → Answer
 turned_answer (Ok _) = made
 turned_answer (Err history.NothingToUndo) =
@@ -47,13 +47,13 @@ turned_answer (Err history.NothingToRedo) =
     record { status = status.NothingToRedo; text = codes "nothing to redo" }
 turned_answer (Err history.OutOfMemory) = record { status = status.NoMemory; text = [] }
 
--- an undo or a redo was answered so
+-- an undo or a redo with this answer: the edit is undone or redone exactly if the status is `Done`
 pub record IsTurnAnswered (IsTurn : Edited → Edited → Type 0) (answer : Answer) (before after : Edited) : Type 0 where
   pub turned : code answer.status ≡ code status.Done → IsTurn before after
   pub unturned : code answer.status ≢ code status.Done → definitions_of after ≡ definitions_of before
   pub silent : code answer.status ≡ code status.Done → answer.text ≡ []
 
--- the same; or there was no memory for it, and the definitions are as before
+-- `IsTurnAnswered` if there is an answer; if memory ran out, the definitions are unchanged
 abbrev pub IsAnsweredTurn : (Edited → Edited → Type 0) → Result Answer AllocError → (before after : Edited) → Type 0
 IsAnsweredTurn IsTurn (Err _) before after = definitions_of after ≡ definitions_of before
 IsAnsweredTurn IsTurn (Ok answer) before after = IsTurnAnswered IsTurn answer before after

@@ -1,4 +1,4 @@
--- The options by which values are told.
+-- The options that values are written with.
 use Rattle.std.specs.Prelude.{true, false, ⊤, Result, Ok, Err}
 use Rattle.quantity.specs.Amount.{Amount}
 use Rattle.reply.specs.declared.fault.ReplyFault.{ReplyFault}
@@ -6,7 +6,7 @@ use Rattle.reply.specs.declared.options.Options.{Options}
 use Rattle.units_c.specs.Numbers.{IsNumber}
 use Rattle.units_c.specs.declared.number.UnitsNumber.{UnitsNumber}
 
--- numbers in faults are exact
+-- the options for values: numbers in the texts of faults are exact
 abbrev pub exact_options : Options
 exact_options = record {
   digits = 8;
@@ -19,7 +19,7 @@ exact_options = record {
   verbose = false;
 }
 
--- the words are those of the number of a value, if there is one
+-- if there is a value, the words represent its number
 abbrev pub HasNumber : UnitsNumber → Result Amount ReplyFault → Type 0
 HasNumber n (Ok x) = IsNumber n x.value
 HasNumber n (Err fault) = ⊤

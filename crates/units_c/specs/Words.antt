@@ -1,4 +1,4 @@
--- How the text of a fault tells its status: by its first words.
+-- The status of a fault, determined by the first words of its text.
 use Rattle.std.specs.Prelude.{◌≡◌, ◌++◌, ◌∷◌, [], ℕ, List, Option, Some, None, codes, nat_eq, if◌then◌else◌, unwrap_or}
 use Rattle.std.specs.List.{starts_with}
 use Rattle.digits_print.specs.declared.style.Style.{Style}
@@ -12,16 +12,16 @@ use Rattle.units_c.specs.Faults.{fault_status}
 use Rattle.units_c.specs.declared.status.Status.{Status}
 use Rattle.units_c.specs.declared.status.Status.TheVariants as status
 
--- words with the status that they begin the texts of
+-- the first words of texts, each with the status of the texts that begin with them
 abbrev pub Rows : Type 0
 Rows = List (List ℕ × Status)
 
--- the status of the first row whose words begin a text
+-- the status of the first row whose words are a prefix of the text
 abbrev pub status_in : Rows → List ℕ → Option Status
 status_in [] text = None
 status_in (row ∷ rows) text = if starts_with nat_eq text row.0 then Some row.1 else status_in rows text
 
--- the same in one list of rows or else in another
+-- a status, or else the status in `rows`
 abbrev pub or_in : Option Status → Rows → List ℕ → Option Status
 or_in (Some s) rows text = Some s
 or_in None rows text = status_in rows text
@@ -60,12 +60,14 @@ function_rows =
     ∷ (codes "calls too deep: ", status.CallsTooDeep)
     ∷ []
 
--- the status that a text tells; a text that tells none is that of a want of memory, which has no words
+-- the status of the fault with this text; a text that begins with none of the words has the status of an out-of-memory
+-- fault, which has no text
 abbrev pub status_of_text : List ℕ → Status
 status_of_text text =
     unwrap_or (or_in (or_in (status_in question_rows text) number_rows text) function_rows text) status.NoMemory
 
--- law: the text of each fault tells its status, alone and as a line, and so does that of a conformability error
+-- law: the text of each fault, alone or as a line, determines its status, and so does the text of a conformability
+-- error
 pub record TellStatuses : Type 0 where
   pub alone : (style : Style) (fault : ReplyFault) → status_of_text (fault_text style fault) ≡ fault_status fault
   pub line : (style : Style) (fault : ReplyFault)

@@ -1,4 +1,4 @@
-//! Answers, and handing them out to a buffer of the caller.
+//! Answers, and their delivery to a buffer of the caller.
 
 ghost use Rattle.std.specs.Prelude.{◌≡◌, IfErr, IfOk, length};
 ghost use Rattle.units_c.specs.Answers as spec;
@@ -19,7 +19,7 @@ pub struct Answer {
     pub(crate) text: Text,
 }
 
-/// The answer that a reply is.
+/// Returns the answer for a reply.
 pub(crate) fn reply_answer(reply: Reply) -> Answer
     ensures { result ≡ spec.reply_answer reply }
 {
@@ -30,7 +30,7 @@ pub(crate) fn reply_answer(reply: Reply) -> Answer
     }
 }
 
-// The status of a reply.
+// Returns the status of a reply.
 fn reply_status(reply: &Reply) -> Status
     ensures { result ≡ (spec.reply_answer reply.now).status }
 {
@@ -41,7 +41,7 @@ fn reply_status(reply: &Reply) -> Status
     }
 }
 
-/// The answer that the text of a fault is.
+/// Returns the answer for the text of a fault.
 pub(crate) fn fault_answer(text: Text) -> Answer
     ensures { result ≡ record { status = words.status_of_text text; text = text } }
 {
@@ -49,8 +49,8 @@ pub(crate) fn fault_answer(text: Text) -> Answer
     Answer { status, text }
 }
 
-/// Puts the text of an answer at the front of a buffer that has room for it, and its length into `written`. Returns
-/// the number of the answer's status, or of `NoRoom` if the buffer is too short, or of `NoMemory` without an answer.
+/// Copies the text of an answer to the front of `out` if it fits, and stores its length in `written`. Returns the code
+/// of the answer's status, of `NoRoom` if `out` is too short, or of `NoMemory` if there is no answer.
 pub(crate) fn deliver(
     answered: Result<Answer, AllocError>,
     out: &mut [u8],
@@ -69,7 +69,7 @@ pub(crate) fn deliver(
     }
 }
 
-// Hands out an answer.
+// Delivers an answer to a buffer.
 fn hand_out(answer: &Answer, out: &mut [u8], written: &mut usize) -> u32
     ensures { spec.IsHandedOut answer.now (length out.old) result written.new out.new }
 {

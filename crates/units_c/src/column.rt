@@ -1,4 +1,4 @@
-//! Columns of texts of records.
+//! Conversion of one column of a text of records.
 
 ghost use Rattle.std.specs.Prelude.{◌≡◌, ◌≤◌, IfOk, IfSome, None, length};
 ghost use Rattle.reply.specs.Options.{IsPrintable};
@@ -16,19 +16,19 @@ use edited_table::{Column, EditedTable};
 use reply::Options;
 use std::alloc::{AllocError, Global};
 
-/// A column of a text of records, and what its fields are converted from and to.
+/// A column of a text of records, and the units that its fields are converted from and to.
 #[repr(C)]
 pub struct UnitsColumn<'a> {
     pub from: &'a [u8],
     pub to: &'a [u8],
     /// The number of the column, from 1.
     pub number: usize,
-    /// The first record is a header, which stays as it is.
+    /// Whether the first record is a header, which is copied unchanged. Any byte but 0 means yes.
     pub header: u8,
 }
 
-/// Converts a column of a text of records, as `--column` does. The rows are put into the buffer, and their length into
-/// `written`.
+/// Converts a column of a text of records, as `--column` does. Copies the rows to `out` and stores their length in
+/// `written`. Returns the status code. A column number of 0 is an error, `BadOptions`.
 #[unsafe(no_mangle)]
 pub extern "C" fn units_convert_column(
     alloc: Global,
@@ -61,7 +61,7 @@ pub extern "C" fn units_convert_column(
     deliver(answered, out, written)
 }
 
-// The answer to a column.
+// Converts a column and returns the answer.
 fn answer_column(
     alloc: Global,
     content: &mut EditedTable,
@@ -88,7 +88,7 @@ fn answer_column(
     })
 }
 
-// The status of rows of which a cell is an error or not.
+// Returns the status of rows, given whether a cell is an error.
 fn rows_status(refused: bool) -> Status
     ensures { result ≡ spec.rows_status refused }
 {

@@ -17,7 +17,8 @@ use edited_table::EditedTable;
 use reply::Options;
 use std::alloc::{AllocError, Global};
 
-/// Converts a text to another. The reply of the program is put into the buffer, and its length into `written`.
+/// Converts `from` to `to`. Copies the reply of the program to `out` and stores its length in `written`. Returns the
+/// status code.
 #[unsafe(no_mangle)]
 pub extern "C" fn units_convert(
     alloc: Global,
@@ -45,7 +46,7 @@ pub extern "C" fn units_convert(
     deliver(answered, out, written)
 }
 
-// The answer to a conversion.
+// Makes a conversion and returns the answer.
 fn answer_conversion(
     alloc: Global,
     content: &mut EditedTable,

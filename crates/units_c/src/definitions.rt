@@ -1,4 +1,4 @@
-//! Definitions that C gives: files in memory, variables and a locale.
+//! Definitions that C passes in: files in memory, variables and a locale.
 
 ghost use Rattle.std.specs.Prelude.{◌≡◌, IfOk, OnOk};
 ghost use Rattle.deck.specs.Loading.{IsLoaded};
@@ -7,7 +7,7 @@ ghost use Rattle.units_io.specs.FileMap.{no_files};
 
 use deck::{Deck, DeckFault, Settings};
 use std::alloc::{AllocError, Global};
-use units_io::{MemFiles, Text, Vars};
+use units_io::{HashSeed, MemFiles, Text, Vars};
 
 /// A file or a variable: its name, and the bytes of the file or the value of the variable.
 #[repr(C)]
@@ -16,20 +16,23 @@ pub struct UnitsEntry<'a> {
     pub content: &'a [u8],
 }
 
-/// What a table is opened over. Of two entries with one name the last counts.
+/// The definitions that a table is opened over. If two entries have the same name, the last one counts.
 #[repr(C)]
 pub struct UnitsDefinitions<'a> {
     /// The name of the file to read.
     pub main: &'a [u8],
-    /// The files, with those that it includes.
+    /// The files: the main file and those that it includes.
     pub files: &'a [UnitsEntry<'a>],
-    /// The variables that the files may ask for.
+    /// The variables that the files may query.
     pub variables: &'a [UnitsEntry<'a>],
     /// The locale, such as `en_US`.
     pub locale: &'a [u8],
+    /// Random bytes, if the definitions come from someone who may choose names that collide in a hash table, or none.
+    /// No reply depends on them.
+    pub seed: &'a [u8],
 }
 
-/// The deck of the main file, with the files that it includes.
+/// Loads the deck of the main file and of the files that it includes.
 pub(crate) fn read_deck(
     alloc: Global,
     definitions: &UnitsDefinitions<'_>,
@@ -42,17 +45,17 @@ pub(crate) fn read_deck(
     Deck::load(alloc, &mut files, definitions.main, settings)
 }
 
-// The settings.
+// Returns the settings in `definitions`.
 fn read_settings(alloc: Global, definitions: &UnitsDefinitions<'_>) -> Result<Settings, AllocError>
     ensures { IfOk result (λ settings. settings ≡ spec.settings_of definitions.now) }
 {
     let locale = Text::from_bytes(alloc, definitions.locale)?;
-    let mut vars = Vars::new(alloc);
+    let mut vars = Vars::with_seed(alloc, HashSeed::from_bytes(definitions.seed));
     put_values(alloc, &mut vars, definitions.variables)?;
     Ok(Settings { locale, vars })
 }
 
-// Adds files.
+// Adds the files in `entries`.
 fn put_files(
     alloc: Global,
     files: &mut MemFiles,
@@ -66,7 +69,7 @@ fn put_files(
     Ok(())
 }
 
-// Adds variables.
+// Adds the variables in `entries`.
 fn put_values(alloc: Global, vars: &mut Vars, entries: &[UnitsEntry<'_>]) -> Result<(), AllocError>
     ensures { OnOk result (vars.new ≡ spec.with_values vars.old entries.now) }
 {

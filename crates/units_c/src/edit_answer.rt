@@ -18,7 +18,7 @@ use expr_tree::ParseFault;
 use std::alloc::{AllocError, Global};
 use units_io::Text;
 
-// The answer to an edit that ended so; `named` is how the key was written.
+// Returns the answer to an edit with this outcome. `named` is the key as the caller wrote it.
 fn answer_edit(
     alloc: Global,
     edited: &Result<(), DeckFault>,
@@ -35,7 +35,7 @@ fn answer_edit(
     }
 }
 
-// The answer that refuses an edit.
+// Returns the answer that refuses an edit.
 fn refusal(alloc: Global, fault: &DeckFault, named: &[u8]) -> Result<Answer, AllocError>
     requires { spec.is_told_refusal fault.now ≡ true }
     ensures answer { IfOk result (λ answer. answer ≡ spec.refusal fault.now named.now) }
@@ -59,7 +59,7 @@ fn refusal(alloc: Global, fault: &DeckFault, named: &[u8]) -> Result<Answer, All
     }
 }
 
-// The status of a line that gives no entry.
+// Returns the status of a line that is not an entry.
 fn entry_status(fault: &EntryFault) -> Status
     ensures { result ≡ spec.entry_status fault.now }
 {
@@ -74,7 +74,7 @@ fn entry_status(fault: &EntryFault) -> Status
     }
 }
 
-/// Adds the definition of a line.
+/// Adds the definition in `line` and returns the answer.
 pub(crate) fn answer_define(
     alloc: Global,
     content: &mut EditedTable,
@@ -90,7 +90,7 @@ pub(crate) fn answer_define(
     answer_edit(alloc, &edited, b"")
 }
 
-// Adds the definition of a line. A refusal has words of its own.
+// Adds the definition in `line`. Every refusal has its own message.
 fn define_line(alloc: Global, content: &mut EditedTable, line: &[u8]) -> Result<(), DeckFault>
     ensures edit { IsEditOf (after_define (trimmed line.now) content.old.table.deck)
         content.old.table content.new.table result }
@@ -102,7 +102,8 @@ fn define_line(alloc: Global, content: &mut EditedTable, line: &[u8]) -> Result<
     content.define(alloc, line)
 }
 
-/// Drops the last active definition of a key, if the text is one.
+/// Drops the last active definition of the key that `text` names, and returns the answer. Refuses a text that is not a
+/// key.
 pub(crate) fn answer_drop(
     alloc: Global,
     content: &mut EditedTable,
@@ -121,7 +122,7 @@ pub(crate) fn answer_drop(
     }
 }
 
-// Drops the last active definition of a key, which was written so.
+// Drops the last active definition of `key`, which the caller wrote as `text`.
 fn answer_drop_of(
     alloc: Global,
     content: &mut EditedTable,
@@ -138,7 +139,7 @@ fn answer_drop_of(
     answer_edit(alloc, &edited, text)
 }
 
-/// The answer to an edit that is made.
+/// Returns the answer to a successful edit.
 pub(crate) fn made(alloc: Global) -> Answer
     ensures { result ≡ spec.made }
 {
@@ -148,7 +149,7 @@ pub(crate) fn made(alloc: Global) -> Answer
     }
 }
 
-/// A status with these words.
+/// Returns an answer with this status and this text.
 pub(crate) fn said(alloc: Global, status: Status, words: &[u8]) -> Result<Answer, AllocError>
     ensures { IfOk result (λ answer. answer ≡ record { status = status; text = words.now }) }
 {
@@ -156,7 +157,7 @@ pub(crate) fn said(alloc: Global, status: Status, words: &[u8]) -> Result<Answer
     Ok(Answer { status, text })
 }
 
-// A status with these words and a word.
+// Returns an answer with this status, whose text is `words` followed by `word`.
 fn said_of(alloc: Global, status: Status, words: &[u8], word: &[u8]) -> Result<Answer, AllocError>
     ensures { IfOk result (λ answer. answer ≡ record { status = status; text = words.now ++ word.now }) }
 {

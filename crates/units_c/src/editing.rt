@@ -1,4 +1,4 @@
-//! Edits of an open table. A refusal changes nothing, and neither does want of memory.
+//! Edits of an open table. A refused edit changes nothing, nor does an edit that runs out of memory.
 
 ghost use Rattle.std.specs.Prelude.{◌≡◌, [], codes, length};
 ghost use Rattle.def_lines.specs.Blanks.{trimmed};
@@ -16,7 +16,8 @@ use crate::turn_answer::{answer_redo, answer_undo};
 use crate::unit_table::UnitsTable;
 use std::alloc::Global;
 
-/// Adds the definition of a line, as `:define` does in a session. After a refusal the buffer has its text.
+/// Adds the definition in `line`, as `:define` does in a session. Returns the status code. If the edit is refused,
+/// `out` gets the reason.
 #[unsafe(no_mangle)]
 pub extern "C" fn units_define(
     alloc: Global,
@@ -41,8 +42,8 @@ pub extern "C" fn units_define(
     deliver(answered, out, written)
 }
 
-/// Removes the last active definition of a key, which is written as in `:drop`. After a refusal the buffer has its
-/// text.
+/// Removes the last active definition of a key, written as in `:drop`. Returns the status code. If the edit is refused,
+/// `out` gets the reason.
 #[unsafe(no_mangle)]
 pub extern "C" fn units_drop(
     alloc: Global,
@@ -68,7 +69,7 @@ pub extern "C" fn units_drop(
     deliver(answered, out, written)
 }
 
-/// Takes back the last edit that is not undone.
+/// Undoes the last edit that is not undone. Returns the status code, which is that of `NothingToUndo` if there is none.
 #[unsafe(no_mangle)]
 pub extern "C" fn units_undo(
     alloc: Global,
@@ -90,7 +91,7 @@ pub extern "C" fn units_undo(
     deliver(answered, out, written)
 }
 
-/// Makes the last undone edit again.
+/// Redoes the last undone edit. Returns the status code, which is that of `NothingToRedo` if there is none.
 #[unsafe(no_mangle)]
 pub extern "C" fn units_redo(
     alloc: Global,

@@ -1,11 +1,12 @@
-//! The status that the text of a fault tells.
+//! The status of a fault, from its text.
 
 ghost use Rattle.std.specs.Prelude.{◌≡◌};
 ghost use Rattle.units_c.specs.Words as spec;
 
 use crate::status::Status;
 
-/// The status that the text of a fault tells, by its first words.
+/// Returns the status of a fault, from the first words of its text. Returns `NoMemory` if the text begins with none of
+/// these words.
 pub(crate) fn status_of_text(text: &[u8]) -> Status
     ensures { result ≡ spec.status_of_text text.now }
 {
@@ -18,7 +19,7 @@ pub(crate) fn status_of_text(text: &[u8]) -> Status
     function_status(text).unwrap_or(Status::NoMemory)
 }
 
-// That of a fault of a question as a whole or of its names.
+// The status of a fault of a query as a whole or of its names.
 fn question_status(text: &[u8]) -> Option<Status>
     ensures { result ≡ spec.status_in spec.question_rows text.now }
 {
@@ -43,7 +44,7 @@ fn question_status(text: &[u8]) -> Option<Status>
     }
 }
 
-// That of a fault of a number, of a sum or of an exponent.
+// The status of a fault of a number, a sum or an exponent.
 fn number_status(text: &[u8]) -> Option<Status>
     ensures { result ≡ spec.status_in spec.number_rows text.now }
 {
@@ -64,7 +65,7 @@ fn number_status(text: &[u8]) -> Option<Status>
     }
 }
 
-// That of a fault of a function or a table of points.
+// The status of a fault of a function or a table of points.
 fn function_status(text: &[u8]) -> Option<Status>
     ensures { result ≡ spec.status_in spec.function_rows text.now }
 {

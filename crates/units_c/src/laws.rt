@@ -1,8 +1,8 @@
-//! Laws. A function does nothing: its contract is the law.
+//! Laws. The functions do nothing: their contracts are the laws.
 
 ghost use Rattle.units_c.specs.Words.{TellStatuses};
 
-/// The text of each fault tells its status.
+/// The text of each fault determines its status.
 pub fn statuses_law()
     ensures { TellStatuses }
 {}

@@ -1,6 +1,6 @@
-//! The library that C calls: unit tables in memory that are opened, queried, edited and closed.
+//! The C library: unit tables in memory that are opened, queried, edited and closed.
 //!
-//! No call opens a file, ends the process or keeps anything outside the table of its caller.
+//! No call opens a file, ends the process or stores anything outside the caller's table.
 #![tactic(auto)]
 
 mod answer;

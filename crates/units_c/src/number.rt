@@ -1,4 +1,4 @@
-//! Numbers in words that C has.
+//! Numbers as 64-bit words, which C can read.
 
 ghost use Rattle.std.specs.Prelude.{◌≡◌, ◌/◌, ◌%◌, ◌^◌};
 ghost use Rattle.units_c.specs.Numbers as spec;
@@ -19,7 +19,7 @@ pub struct UnitsNumber {
 }
 
 impl UnitsNumber {
-    /// Puts a fraction here.
+    /// Stores a fraction.
     pub(crate) fn set(&mut self, x: &Frac)
         ensures { spec.IsNumber self.new x.now }
     {
@@ -33,14 +33,14 @@ impl UnitsNumber {
     }
 }
 
-// The upper word of a number.
+// Returns the high 64 bits of a number.
 fn high_word(n: u128) -> u64
     ensures { result ≡ n / 2 ^ 64 }
 {
     (n / WORD) as u64
 }
 
-// The lower word of a number.
+// Returns the low 64 bits of a number.
 fn low_word(n: u128) -> u64
     ensures { result ≡ n % 2 ^ 64 }
 {

@@ -13,7 +13,8 @@ use deck::DeckFault;
 use edited_table::EditedTable;
 use std::alloc::Global;
 
-/// Opens a closed table over definitions in memory. After any status but `Done` the table is as before.
+/// Opens a closed table over definitions in memory. Returns the status code. The table changes only if it is that of
+/// `Done`.
 #[unsafe(no_mangle)]
 pub extern "C" fn units_open(
     alloc: Global,
@@ -38,7 +39,7 @@ pub extern "C" fn units_open(
     }
 }
 
-/// Closes a table and frees its memory. Returns whether it was open.
+/// Closes a table and frees its memory. Returns the code of `Done`, or of `Closed` if the table was not open.
 #[unsafe(no_mangle)]
 pub extern "C" fn units_close(alloc: Global, table: &mut UnitsTable) -> u32
     ensures closed { table.new.handle.held ≡ None }
@@ -51,7 +52,7 @@ pub extern "C" fn units_close(alloc: Global, table: &mut UnitsTable) -> u32
     }
 }
 
-// A table over definitions, on the heap.
+// Allocates a table over `definitions`.
 fn read_table(
     alloc: Global,
     definitions: &UnitsDefinitions<'_>,
@@ -65,7 +66,7 @@ fn read_table(
     Ok(content)
 }
 
-// The status of a load that failed.
+// Returns the status of a failed load.
 fn load_status(fault: &DeckFault) -> Status
     ensures { result ≡ spec.load_status fault.now }
 {

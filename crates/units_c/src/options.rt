@@ -1,4 +1,4 @@
-//! The options that C gives.
+//! The options that C passes in.
 
 ghost use Rattle.std.specs.Prelude.{◌≡◌, IfSome};
 ghost use Rattle.reply.specs.Options.{IsPrintable};
@@ -6,28 +6,28 @@ ghost use Rattle.units_c.specs.Options as spec;
 
 use reply::Options;
 
-/// How replies are made and written. A flag is set by any byte but 0.
+/// How replies are computed and written. A flag is set by any byte but 0.
 #[repr(C)]
 #[derive(Clone, Copy)]
 pub struct UnitsOptions {
-    /// The significant digits of a number, from 1 to 36; 0 asks for 8.
+    /// The significant digits of a number, from 1 to 36; 0 means 8.
     pub digits: u8,
-    /// Numbers as `n` or `n|d`; the digits have no effect.
+    /// Write numbers as `n` or `n|d`; the digits have no effect.
     pub exact: u8,
-    /// No reciprocal conversion.
+    /// Make no reciprocal conversion.
     pub strict: u8,
-    /// Only the first line of a linear conversion.
+    /// Write only the first line of a linear conversion.
     pub one_line: u8,
-    /// No tab and no signs; lists are joined by `;`. It turns `verbose` off.
+    /// Write no tab and no signs, and join lists by `;`. Turns `verbose` off.
     pub compact: u8,
-    /// The last count of a list is rounded.
+    /// Round the last count of a list.
     pub round: u8,
-    /// The texts of FROM and TO in the reply.
+    /// Write the texts of FROM and TO in the reply.
     pub verbose: u8,
 }
 
 impl UnitsOptions {
-    /// The options of replies, or `None` if the digits are above 36.
+    /// Returns the options of replies, or `None` if there are more than 36 digits.
     pub(crate) fn read(&self) -> Option<Options>
         ensures is { result ≡ spec.options_of self.now }
         ensures printable { IfSome result IsPrintable }

@@ -12,7 +12,8 @@ use edited_table::EditedTable;
 use std::alloc::{AllocError, Global};
 use survey::search_report;
 
-/// Lists the definitions whose names contain a text, a line for each, as `search` does in a session.
+/// Lists the definitions whose names contain `text`, one per line, as `search` does in a session. Returns the status
+/// code.
 #[unsafe(no_mangle)]
 pub extern "C" fn units_search(
     alloc: Global,
@@ -35,7 +36,7 @@ pub extern "C" fn units_search(
     deliver(answered, out, written)
 }
 
-// The answer to a search.
+// Searches and returns the answer.
 fn answer_search(alloc: Global, content: &EditedTable, text: &[u8]) -> Result<Answer, AllocError>
     ensures { IfOk result (λ answer.
         answer ≡ record { status = statuses.Done; text = report (table_of content.now) text.now }) }

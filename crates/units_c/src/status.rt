@@ -1,9 +1,9 @@
-//! The statuses of calls.
+//! The status codes of calls.
 
 ghost use Rattle.std.specs.Prelude.{◌≡◌};
 ghost use Rattle.units_c.specs.Statuses as spec;
 
-/// What a call came to. C sees the number.
+/// The outcome of a call. C sees its number.
 #[derive(Clone, Copy, Debug, PartialEq, Eq)]
 pub enum Status {
     Done = 0,
@@ -49,7 +49,7 @@ pub enum Status {
 }
 
 impl Status {
-    /// The number of a status.
+    /// Returns the number of a status.
     pub fn code(self) -> u32
         ensures { result ≡ spec.code self }
     {

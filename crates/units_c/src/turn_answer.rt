@@ -12,7 +12,7 @@ use edit_history::HistoryFault;
 use edited_table::EditedTable;
 use std::alloc::{AllocError, Global};
 
-/// Takes back the last edit that is not undone.
+/// Undoes the last edit that is not undone, and returns the answer.
 pub(crate) fn answer_undo(alloc: Global, content: &mut EditedTable) -> Result<Answer, AllocError>
     ensures answer { IfOk result (λ answer. answer
         ≡ spec.turn_answer statuses.NothingToUndo (codes "nothing to undo") content.old.history.done) }
@@ -22,7 +22,7 @@ pub(crate) fn answer_undo(alloc: Global, content: &mut EditedTable) -> Result<An
     answer_turn(alloc, turned)
 }
 
-/// Makes the last undone edit again.
+/// Redoes the last undone edit, and returns the answer.
 pub(crate) fn answer_redo(alloc: Global, content: &mut EditedTable) -> Result<Answer, AllocError>
     ensures answer { IfOk result (λ answer. answer
         ≡ spec.turn_answer statuses.NothingToRedo (codes "nothing to redo") content.old.history.undone) }
@@ -32,7 +32,7 @@ pub(crate) fn answer_redo(alloc: Global, content: &mut EditedTable) -> Result<An
     answer_turn(alloc, turned)
 }
 
-// The answer to an undo or a redo that ended so.
+// Returns the answer to an undo or a redo with this outcome.
 fn answer_turn(alloc: Global, turned: Result<(), HistoryFault>) -> Result<Answer, AllocError>
     ensures answer { IfOk result (λ answer. answer ≡ spec.turned_answer turned) }
     ensures known { IfOk result (λ _. turned ≢ Err history_fault.OutOfMemory) }

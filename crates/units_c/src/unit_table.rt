@@ -1,4 +1,4 @@
-//! The struct by which C holds a table.
+//! The struct that holds a table for C.
 
 ghost use Rattle.std.specs.Prelude.{◌≡◌, ◌==◌, None, Some, true, false, is_some, option_map};
 ghost use Rattle.units_c.specs.Tables.{open_mark};
@@ -7,10 +7,10 @@ use edited_table::EditedTable;
 use std::alloc::Global;
 use table_handle::Handle;
 
-// The state of an open table.
+// The value of `state` in an open table.
 const OPEN: u64 = 1_970_170_228;
 
-/// A unit table, open or closed. A struct of zeros is a closed one.
+/// A unit table, open or closed. A struct of zeros is a closed table.
 #[repr(C)]
 pub struct UnitsTable {
     pub(crate) state: u64,
@@ -19,7 +19,7 @@ pub struct UnitsTable {
 }
 
 impl UnitsTable {
-    /// Whether the table is open.
+    /// Returns whether the table is open.
     #[tactic(auto, using(crate::proofs::Held::absent))]
     pub(crate) fn is_open(&self) -> bool
         ensures open { result ≡ true → self.now.handle.held ≡ None → ⊥ }
@@ -28,7 +28,7 @@ impl UnitsTable {
         self.state == OPEN
     }
 
-    /// Takes the content out of an open table, which is closed then; `None` if it is closed already.
+    /// Closes an open table and returns its content, or `None` if the table is already closed.
     pub(crate) fn take(&mut self, alloc: Global) -> Option<Box<EditedTable, Global>>
         ensures taken { option_map (λ table. table.value) result ≡ self.old.handle.held }
         ensures closed { self.new.handle.held ≡ None }
@@ -41,7 +41,7 @@ impl UnitsTable {
         Some(content)
     }
 
-    /// Opens a closed table with this content.
+    /// Opens a closed table with `content`.
     pub(crate) fn put(&mut self, content: Box<EditedTable, Global>)
         requires { self.old.handle.held ≡ None }
         ensures { self.new.handle.held ≡ Some content.value }

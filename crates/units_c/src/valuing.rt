@@ -21,8 +21,8 @@ use reply::{FromValue, Options};
 use std::alloc::{AllocError, Global};
 use units_io::Text;
 
-/// Evaluates an expression. Its number is put into `number`, and its dimension into the buffer, as in
-/// `kg m^2 / s^2`; after a fault the buffer has the text of the fault.
+/// Evaluates an expression. Stores its number in `number` and copies its dimension, such as `kg m^2 / s^2`, to `out`.
+/// Returns the status code. If the expression has a fault, `out` gets the text of the fault.
 #[unsafe(no_mangle)]
 pub extern "C" fn units_value(
     alloc: Global,
@@ -48,7 +48,7 @@ pub extern "C" fn units_value(
     deliver(answered, out, written)
 }
 
-// The answer to an expression, and its number.
+// Evaluates an expression, stores its number, and returns the answer.
 fn answer_value(
     alloc: Global,
     content: &mut EditedTable,
@@ -73,7 +73,7 @@ fn answer_value(
     }
 }
 
-// The dimension of a quantity: what follows the number in its text.
+// Returns the dimension of a quantity: the part of its text after the number.
 fn dimension(alloc: Global, x: &Quantity) -> Result<Text, AllocError>
     ensures { IfOk result (λ text. text ≡ spec.dimension_text x.now) }
 {
@@ -83,7 +83,7 @@ fn dimension(alloc: Global, x: &Quantity) -> Result<Text, AllocError>
     Text::from_bytes(alloc, trim(powers))
 }
 
-// What follows a front of a text.
+// Returns the part of `text` after its first `front.len()` bytes.
 fn after_front<'a>(text: &'a [u8], front: &[u8]) -> &'a [u8]
     requires { length front.now ≤ length text.now }
     ensures { result.now ≡ drop (length front.now) text.now }
@@ -91,7 +91,7 @@ fn after_front<'a>(text: &'a [u8], front: &[u8]) -> &'a [u8]
     &text[front.len()..]
 }
 
-// Exact numbers in the texts of faults.
+// Returns options that write exact numbers in the texts of faults.
 fn exact() -> Options
     ensures is { result ≡ exact_options }
     ensures printable { IsPrintable result }

@@ -1,7 +1,7 @@
 """Conversions of numpy arrays and pandas series, in floating point.
 
-These need numpy or pandas. They multiply by the exact ratio of the units, rounded to a float, so a number may differ from
-the nearest float by one unit in the last place; `Units.convert_column` gives the nearest one.
+They need numpy or pandas. Each number is multiplied by the exact ratio of the units, rounded to a float. So it may
+differ from the nearest float by one unit in the last place; `Units.convert_column` returns the nearest one.
 """
 
 from __future__ import annotations
@@ -14,9 +14,9 @@ from .units import Units
 
 
 def convert_array(units: Units, array: Any, source: str, target: str) -> Any:
-    """Return a numpy array of floats: each number of `source` in `target`. The shape stays; NaN stays NaN.
+    """Return a numpy array of floats of the same shape: each number of `source` in `target`. NaN stays NaN.
 
-    A function, such as ``tempF``, is evaluated for each number, exactly; NaN and infinity then raise `ValueError` or
+    A function, such as ``tempF``, is evaluated exactly for each number; NaN then raises `ValueError`, and infinity
     `OverflowError`.
 
     Raises `ConformabilityError` if the dimensions differ.

@@ -1,4 +1,4 @@
-"""What the two back ends have in common."""
+"""The interface of the two back ends."""
 
 from __future__ import annotations
 
@@ -8,7 +8,7 @@ from .quantity import Quantity
 
 
 class Definitions(NamedTuple):
-    """What a back end is opened over: a file, a text, or else the built-in definitions."""
+    """The definitions of a back end: those of a file, of a text, or else the built-in ones."""
 
     path: Optional[str]
     text: Optional[str]
@@ -20,7 +20,7 @@ class BackEnd(Protocol):
     """A session of the program, or a table of the library. Each call raises a `UnitsError` for a fault."""
 
     def convert(self, source: str, target: str) -> str:
-        """Return the reply of the program: exact, strict, compact, and only its first line."""
+        """Return the first line of the program's reply, exact, strict and compact."""
 
     def value(self, expression: str) -> Quantity:
         """Return the value of an expression."""
@@ -32,13 +32,13 @@ class BackEnd(Protocol):
         """Remove the last definition of a key."""
 
     def undo(self) -> None:
-        """Take back the last edit."""
+        """Undo the last edit."""
 
     def redo(self) -> None:
-        """Make the last undone edit again."""
+        """Redo the last undone edit."""
 
     def search(self, text: str) -> List[str]:
         """Return the lines of a search."""
 
     def close(self) -> None:
-        """End the session, or free the table. A second call does nothing."""
+        """End the session or free the table. A second call does nothing."""

@@ -14,7 +14,7 @@ class SyntaxFault(UnitsError):
 
 
 class NumeralTooLong(UnitsError):
-    """A numeral is past its limits."""
+    """A numeral is too long."""
 
 
 class NestedTooDeep(UnitsError):
@@ -22,7 +22,7 @@ class NestedTooDeep(UnitsError):
 
 
 class UnknownUnit(UnitsError):
-    """A word names no unit."""
+    """A word is not the name of a unit."""
 
 
 class RefusedFunction(UnitsError):
@@ -66,11 +66,11 @@ class UnlikeSum(ConformabilityError):
 
 
 class ListUnitNotPositive(UnitsError):
-    """A unit of a list is not above zero."""
+    """A unit of a list is not positive."""
 
 
 class FunctionFault(UnitsError):
-    """A function of the definitions has no value. Base class."""
+    """A function has no value. Base class."""
 
 
 class NotInDomain(FunctionFault):
@@ -110,7 +110,7 @@ class DefinitionFault(UnitsError):
 
 
 class NoSuchFile(DefinitionFault):
-    """There is no definition file of this name."""
+    """There is no definition file with this name."""
 
 
 class FileTooLong(DefinitionFault):
@@ -150,7 +150,7 @@ class NothingToRedo(DefinitionFault):
 
 
 class NotAnExpression(UnitsError):
-    """A text that this package does not pass on: blank, of several lines, too long, or a command or list."""
+    """A text is not passed to the back end: it is blank, of several lines, too long, or a command or list."""
 
 
 class BackEndError(UnitsError):
@@ -158,11 +158,11 @@ class BackEndError(UnitsError):
 
 
 class OutOfMemory(BackEndError, MemoryError):
-    """No memory was left. The definitions are as before."""
+    """There was not enough memory. The definitions are as before."""
 
 
 class Kind(NamedTuple):
-    """A kind of fault: its number in units.h, the words that begin its text in a session, and its exception."""
+    """A kind of fault: its status in units.h, the beginning of its text in a session, and its exception."""
 
     status: int
     words: str

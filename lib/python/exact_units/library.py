@@ -40,6 +40,8 @@ class _Definitions(Structure):
         ("variables_count", c_size_t),
         ("locale", c_char_p),
         ("locale_length", c_size_t),
+        ("seed", c_char_p),
+        ("seed_length", c_size_t),
     ]
 
 
@@ -72,7 +74,7 @@ _SIGNATURES: Dict[str, List[Any]] = {
 
 
 def load_library(path: str) -> ctypes.CDLL:
-    """Return the shared library at a path, or by its name where the system looks for libraries.
+    """Return the shared library at a path, or the one that the system finds by this name.
 
     Raises `BackEndError` if there is none, or if it lacks a call.
     """
@@ -115,9 +117,10 @@ class LibraryBackEnd:
             main = b"definitions"
             files = {main: built_in() if definitions.text is None else definitions.text.encode()}
         variables = _encodable(definitions.variables)
-        locale = definitions.locale.encode()
+        locale, seed = definitions.locale.encode(), os.urandom(16)
         given = _Definitions(
-            main, len(main), _entries(files), len(files), _entries(variables), len(variables), locale, len(locale)
+            main, len(main), _entries(files), len(files), _entries(variables), len(variables), locale, len(locale),
+            seed, len(seed),
         )
         status = self._calls.units_open(self._table_at, byref(given))
         if status == _NO_MEMORY:
@@ -128,7 +131,7 @@ class LibraryBackEnd:
             raise fault_of_status(status, texts.get(status, f"units_open returned {status}"))
 
     def _text(self, call: Callable[..., int], *arguments: Any) -> str:
-        """Return the text of a call, or raise its fault. An edit is never made twice."""
+        """Return the text of a call, or raise its fault. If the buffer is too short, make it longer and call again."""
         status = call(self._table_at, *arguments, self._buffer, self._size, self._length_at)
         if status == _DONE:
             return str(self._view[: self._length.value], "utf-8", "surrogateescape")
@@ -179,7 +182,7 @@ class LibraryBackEnd:
         self._edit(self._calls.units_redo)
 
     def _edit(self, call: Callable[..., int], *arguments: Any) -> None:
-        # Only a refusal has a text, so a short buffer means that nothing was edited, and the call may be repeated.
+        # Only a refusal has a text. So if the buffer is too short, nothing was edited, and the call may be repeated.
         self._text(call, *arguments)
 
     def search(self, text: str) -> List[str]:
@@ -202,7 +205,7 @@ def _entries(texts: Dict[bytes, bytes]) -> Any:
 
 
 def _encodable(variables: Dict[str, str]) -> Dict[bytes, bytes]:
-    """Return the variables that are UTF-8: the program skips the others."""
+    """Return the variables that are UTF-8; the program skips the others too."""
     encoded: Dict[bytes, bytes] = {}
     for name, value in variables.items():
         try:
@@ -213,7 +216,7 @@ def _encodable(variables: Dict[str, str]) -> Dict[bytes, bytes]:
 
 
 def _read_with_includes(main: bytes) -> Dict[bytes, bytes]:
-    """Return a definition file and each file that it may include, by the names by which the library looks for them."""
+    """Return a definition file and each file that it may include, by the names that the library looks up."""
     text = _read(main)
     if text is None:
         raise NoSuchFile(f"no file: {os.fsdecode(main)}")
@@ -231,12 +234,12 @@ def _read_with_includes(main: bytes) -> Dict[bytes, bytes]:
 
 
 def _beside(includer: bytes, word: bytes) -> bytes:
-    """Return the name by which the library looks for an included file."""
+    """Return the name that the library looks up for an included file."""
     return word if word.startswith(b"/") else includer[: includer.rfind(b"/") + 1] + word
 
 
 def _read(name: bytes) -> Optional[bytes]:
-    """Return the bytes of a file, cut after the first that is too much for the library."""
+    """Return the bytes of a file, but at most one more than the library accepts. None if there is no file."""
     try:
         with open(name, "rb") as file:
             return file.read(_LONGEST_FILE + 1)
@@ -247,7 +250,7 @@ def _read(name: bytes) -> Optional[bytes]:
 
 
 def _included_words(text: bytes) -> Sequence[bytes]:
-    """Return the file names in the lines of a text that may be includes, and perhaps in others."""
+    """Return the file names in all lines that may be includes, and perhaps some in other lines."""
     words: List[bytes] = []
     for line in text.replace(b"\\\n", b" ").split(b"\n"):
         parts: Tuple[bytes, ...] = tuple(line.partition(b"#")[0].split())

@@ -11,7 +11,7 @@ Number = Union[int, Fraction]
 
 
 def read_fraction(text: str) -> Fraction:
-    """Return the fraction that ``n`` or ``n|d`` spells.
+    """Return the fraction that is written as ``n`` or ``n|d``.
 
     Raises `UnitsError` if the text is neither.
 
@@ -54,8 +54,9 @@ def read_dimension(text: str) -> Dict[str, Fraction]:
 class Quantity:
     """An exact number of base units. It is immutable and hashable.
 
-    ``+ - * / **``, comparisons and ``abs`` are exact. Those that need equal dimensions raise `UnlikeSum` otherwise.
-    Plain numbers (``int`` and ``Fraction``) are quantities without a dimension; a ``float`` raises `TypeError`.
+    ``+ - * / **``, comparisons and ``abs`` are exact. Sums and order comparisons of unlike dimensions raise
+    `UnlikeSum`. Plain numbers (``int`` and ``Fraction``) are quantities without a dimension; a ``float`` raises
+    `TypeError`.
 
     >>> speed = Quantity(Fraction(5, 18), {"m": 1, "s": -1})
     >>> print(speed * speed / 2)
@@ -83,11 +84,11 @@ class Quantity:
 
     @property
     def dimension(self) -> Dict[str, Fraction]:
-        """The exponent of each base unit that has one, by name."""
+        """The exponents other than 0, by the name of the base unit."""
         return dict(self._dimension)
 
     def conforms(self, other: "Quantity") -> bool:
-        """Return whether the two have the same dimension."""
+        """Return whether both have the same dimension."""
         return self._dimension == other._dimension
 
     def __repr__(self) -> str:
@@ -219,7 +220,7 @@ def _fraction_root(x: Fraction, degree: int) -> Fraction:
 
 
 def _whole_root(n: int, degree: int) -> Optional[int]:
-    """Return the whole root of a number, if it has one."""
+    """Return the root of a number if it is a whole number, else None."""
     low, high = 0, 1 << (n.bit_length() // degree + 1)
     while low < high:
         middle = (low + high) // 2

@@ -1,4 +1,4 @@
-"""The back end over a session of the program. Each reply is read up to the next prompt, so the two stay in step."""
+"""The back end over a session of the program. Each reply is read up to the next prompt."""
 
 from __future__ import annotations
 
@@ -16,7 +16,7 @@ _HAVE, _WANT = b"You have: ", b"You want: "
 
 
 class SessionBackEnd:
-    """A session that is kept running. Several threads may use it: each question is asked as a whole."""
+    """A running session. Several threads may use it, since a lock keeps the lines of a question together."""
 
     def __init__(self, program: str, definitions: Definitions) -> None:
         self._lock = threading.Lock()
@@ -49,12 +49,12 @@ class SessionBackEnd:
         self._read()
 
     def _collect_errors(self, stream: Iterable[bytes]) -> None:
-        # Notices go there too, and a session that nobody reads would wait for room in the pipe.
+        # Notices are written there too, and the session would block if nobody emptied the pipe.
         for line in stream:
             self._errors[-20:] = [*self._errors[-19:], line]
 
     def _read(self) -> Tuple[str, bool]:
-        """Return what is written up to the next prompt, and whether that asks for a target."""
+        """Return the text up to the next prompt, and whether the prompt asks for a target."""
         process = self._process
         if process is None or process.stdout is None:
             raise BackEndError("the session is closed")
@@ -67,7 +67,7 @@ class SessionBackEnd:
         return written[: -len(_HAVE)].decode("utf-8", "surrogateescape"), written.endswith(_WANT)
 
     def _ended(self) -> UnitsError:
-        """Return why the session ended. It is closed then."""
+        """Close the session, which has ended, and return the reason."""
         status = self._close()
         words = b"".join(self._errors).decode("utf-8", "replace").strip().rpartition("\n")[2]
         fault = fault_of_text(words[len("units: ") :] if words.startswith("units: ") else words)
@@ -157,7 +157,7 @@ class SessionBackEnd:
 
 
 def saved_definitions(program: str) -> bytes:
-    """Return the built-in definitions of a program, as it saves them. Raises `BackEndError` if it cannot."""
+    """Return the built-in definitions of a program, as it saves them. Raises `BackEndError` if that fails."""
     with tempfile.TemporaryDirectory() as folder:
         path = os.path.join(folder, "built_in.units")
         try:

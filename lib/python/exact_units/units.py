@@ -1,4 +1,4 @@
-"""Definitions, and the questions that they answer."""
+"""The class `Units`: definitions that can be asked and edited."""
 
 from __future__ import annotations
 
@@ -15,7 +15,7 @@ from .quantity import Quantity, read_fraction
 Real = Union[int, float, Fraction, Decimal]
 
 _FOLDER = os.path.dirname(os.path.abspath(__file__))
-# What a session does not take as an expression: bytes, and first words.
+# Bytes and first words that no expression in a session has.
 _has_special = re.compile(r"[\n\r\0;#]").search
 _is_command = re.compile(r"[:?]|(?:search|quit|exit|help|conformable)(?:\s|\Z)").match
 _LONGEST = 60_000
@@ -24,19 +24,19 @@ _LONGEST = 60_000
 class Units:
     """Unit definitions that answer questions exactly.
 
-    Units() has the built-in definitions, Units(path) those of a file with its includes, and Units(text=...) those of a
-    text. Over the shared library (backend "library") a question takes microseconds and no other process; over a session
-    of the program (backend "session") it needs the program alone. "auto" takes the library if it is there. The answers
-    are the same.
+    ``Units()`` has the built-in definitions, ``Units(path)`` those of a file with its includes, and ``Units(text=...)``
+    those of a text. The backend "library" uses the shared library: a question takes microseconds and no other process.
+    The backend "session" uses a session of the program. "auto" uses the library if it is available. The answers are the
+    same.
 
-    path: a definition file, in the format of GNU units.
-    text: definitions, in place of a file.
-    locale: for the lines ``!locale``, as in GNU units.
-    variables: for the lines ``!var`` and ``!varnot``; by default the environment.
+    path: a definition file in the format of GNU units.
+    text: definitions instead of a file.
+    locale: the locale of ``!locale`` lines.
+    variables: the variables of ``!var`` and ``!varnot`` lines; by default the environment.
     library: the shared library; by default ``$EXACT_UNITS_LIBRARY``, the one in this package, or ``libunits.so.1``.
     program: the program; by default ``$EXACT_UNITS_PROGRAM``, the one in this package, or ``units``.
 
-    Raises `BackEndError` if there is neither, and `DefinitionFault` if the definitions are not loaded.
+    Raises `BackEndError` if the back end is not available, and `DefinitionFault` if the definitions cannot be loaded.
 
     >>> with Units() as units:
     ...     print(units.convert("3 ft", "m"))
@@ -66,7 +66,7 @@ class Units:
 
     @property
     def backend(self) -> str:
-        """Which back end answers: "library" or "session"."""
+        """The back end: "library" or "session"."""
         return "library" if type(self._back_end).__name__ == "LibraryBackEnd" else "session"
 
     def convert(self, source: str, target: str) -> Fraction:
@@ -111,11 +111,11 @@ class Units:
     def convert_column(self, numbers: Iterable[Real], source: str, target: str) -> List[float]:
         """Return each number of `source` in `target`, as the float nearest to the exact answer.
 
-        A float counts as its exact binary value. Two units are compared once. A function is evaluated for each number:
-        a `source` such as ``tempF`` is applied to it, and a `target` such as ``tempC`` is inverted.
+        A float counts as its exact binary value. The ratio of two units is computed once. A function is evaluated for
+        each number: a `source` such as ``tempF`` is applied to it, and a `target` such as ``tempC`` is inverted.
 
-        Raises `ConformabilityError` if the dimensions differ, the exception of a fault, `OverflowError` for an infinite
-        number or an answer past the largest float, and `ValueError` for NaN.
+        Raises `ConformabilityError` if the dimensions differ, the exception of any other fault, `OverflowError` for
+        infinity and for an answer beyond the largest float, and `ValueError` for NaN.
 
         >>> Units().convert_column([1, 2.5], "ft", "in")
         [12.0, 30.0]
@@ -135,7 +135,7 @@ class Units:
         top, bottom = ratio.numerator, ratio.denominator
         for x in numbers:
             n, d = x.as_integer_ratio()
-            # Python rounds a quotient of whole numbers to the nearest float.
+            # Python rounds the quotient of two integers to the nearest float.
             yield n * top / (d * bottom)
 
     def _evaluated(self, numbers: Iterable[Real], source: str, target: str, is_function: bool) -> Iterator[float]:
@@ -154,7 +154,7 @@ class Units:
             return None
 
     def define(self, line: str) -> None:
-        """Add a definition; a later one of the same name counts.
+        """Add a definition. It replaces an earlier one of the same name.
 
         Raises a `DefinitionFault`, or the fault of the expression.
 
@@ -171,18 +171,18 @@ class Units:
         self._back_end.define(_line(line))
 
     def drop(self, key: str) -> None:
-        """Remove the last definition of ``ft``, of the prefix ``kilo-``, of the function ``tempF()``.
+        """Remove the last definition of a key, such as ``ft``, the prefix ``kilo-`` or the function ``tempF()``.
 
         Raises `NoSuchDefinition`, or `BadKey` if the text is not a key.
         """
         self._back_end.drop(_line(key))
 
     def undo(self) -> None:
-        """Take back the last edit. Raises `NothingToUndo` if there is none."""
+        """Undo the last edit. Raises `NothingToUndo` if there is none."""
         self._back_end.undo()
 
     def redo(self) -> None:
-        """Make the last undone edit again. Raises `NothingToRedo` if there is none."""
+        """Redo the last undone edit. Raises `NothingToRedo` if there is none."""
         self._back_end.redo()
 
     def search(self, text: str) -> List[Tuple[str, str]]:
@@ -195,7 +195,7 @@ class Units:
         return [(name, definition) for _, name, definition in (row.split("\t", 2) for row in rows if "\t" in row)]
 
     def close(self) -> None:
-        """End the session, or free the table. Any later question raises `BackEndError`."""
+        """End the session or free the table. Any later question raises `BackEndError`."""
         self._back_end.close()
 
     def __enter__(self) -> "Units":
@@ -206,7 +206,7 @@ class Units:
 
 
 def _line(text: str) -> str:
-    """Return a text without the blanks around it, if it is one line that a session takes as it is."""
+    """Return a text without the blanks around it, if it is a single line that a session reads unchanged."""
     text = text.strip(" \t")
     if not text or len(text) > _LONGEST or any(c in text for c in "\n\r\0"):
         raise NotAnExpression(f"not one line: {text[:40]!r}")
@@ -214,7 +214,7 @@ def _line(text: str) -> str:
 
 
 def _expression(text: str) -> str:
-    """Return a text without the blanks around it, if both back ends take it as an expression."""
+    """Return a text without the blanks around it, if both back ends read it as an expression."""
     text = text.strip(" \t")
     if not text or len(text) > _LONGEST or _has_special(text) or _is_command(text):
         raise NotAnExpression(f"not an expression: {_line(text)[:40]!r}")
@@ -222,7 +222,7 @@ def _expression(text: str) -> str:
 
 
 def _plain(reply: str) -> str:
-    """Return a reply that is a number alone."""
+    """Return a reply if it is only a number, or raise `ConformabilityError`."""
     if " " in reply:
         raise ConformabilityError(f"not a plain number: {reply}")
     return reply
@@ -254,7 +254,7 @@ def _program(program: Optional[str]) -> str:
 
 
 def _packaged(name: str) -> str:
-    """Return the path of a file of this package, or else its bare name, for the system to find."""
+    """Return the path of a file of this package, or else its name, which the system looks up."""
     path = os.path.join(_FOLDER, name)
     return path if os.path.exists(path) else name
 

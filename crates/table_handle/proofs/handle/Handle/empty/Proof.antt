@@ -1,4 +1,4 @@
--- `empty` owns nothing behind null.
+-- The handle that `empty` returns is null and owns nothing.
 use Rattle.std.specs.Prelude.{None}
 use mathlib.Core.Path.{refl, sym, subst}
 use lib.Dec.{T}
@@ -41,7 +41,7 @@ use Rattle.table_handle.specs.contracts.handle.Handle.empty.Key.{name as #self}
 use Rattle.table_handle.proofs.handle.Handle.empty.Statement as stated
 use Rattle.table_handle.proofs.handle.Handle.empty.Code as code
 
--- the machine value of a handle at null
+-- the machine value of a null handle
 abbrev null_word : Val → Val
 null_word hv = vstruct (vcons vnull (vcons hv vnil))
 

@@ -1,4 +1,4 @@
--- `into_parts` moves two fields, and what they own goes with them.
+-- `into_parts` moves two fields together with the resources that they own.
 use Rattle.std.specs.Prelude.{◌≡◌, Option, None, Some}
 use mathlib.Core.Path.{refl, sym, subst, ap}
 use mathlib.Core.List.{List, [], ◌∷◌, ◌++◌}
@@ -33,7 +33,7 @@ use Rattle.table_handle.specs.contracts.handle.Handle.into_parts.Key.{name as #s
 use Rattle.table_handle.proofs.handle.Handle.into_parts.Statement as stated
 use Rattle.table_handle.proofs.handle.Handle.into_parts.Code as code
 
--- what is not absent
+-- an option that is not `None` is `Some x` for an `x`
 pub present : {A : Type 0} (o : Option A) → (o ≡ None → ⊥) → (x : A) × (o ≡ Some x)
 present (Some x) some = (x, refl)
 present None some = absurd (some refl)

@@ -1,4 +1,4 @@
--- `of_parts` moves two fields, and what they own goes with them.
+-- `of_parts` moves two fields together with the resources that they own.
 use Rattle.std.specs.Prelude.{Some}
 use mathlib.Core.Path.{refl, sym, subst}
 use mathlib.Core.List.{List, [], ◌∷◌, ◌++◌}
