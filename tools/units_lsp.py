@@ -7,8 +7,9 @@ It speaks the Language Server Protocol on standard input and output: diagnostics
 hover and the symbols of a file. All answers come from `units-why`; only the splitting of lines is done here.
 
 A file that another file of its folder includes is checked as a part of that one, so that it may use what the other
-files define. The initialization option `root` names the file to check instead. Text that is not saved is checked in a
-temporary copy of the files that belong together; a file that is included by a path with `..` is not found there.
+files define. The initialization option `root` names the file to check instead, and `findings` lists the words that
+follow `--lint`, which are `["--captures"]` without it. Text that is not saved is checked in a temporary copy of the
+files that belong together; a file that is included by a path with `..` is not found there.
 """
 
 from __future__ import annotations
@@ -26,7 +27,8 @@ import threading
 from pathlib import Path
 from urllib.parse import unquote, urlparse
 
-SEVERITIES = {"error": 1, "warning": 2}
+SEVERITIES = {"error": 1, "warning": 2, "information": 3}
+FINDINGS = ["--captures"]  # asked for without the initialization option `findings`
 FUNCTION, VARIABLE, LIST, CONSTANT = 12, 13, 18, 14  # kinds of symbols in the protocol
 INCLUDE = re.compile(r"^[ \t]*![ \t]*include[ \t]+(\S+)[ \t]*(?:#.*)?$", re.MULTILINE)
 NAME = re.compile(r"[ \t]*\+?([^\s#!+(\[]+)([(\[]?)")
@@ -51,6 +53,11 @@ def column_of(line: str, character: int) -> int:
             return place
         units += utf16_length(char)
     return len(line)
+
+
+def characters_before(line: str, column: int) -> int:
+    """How many characters of a line are before a column that counts bytes from 1."""
+    return len(line.encode("utf-8", "surrogateescape")[: column - 1].decode("utf-8", "surrogateescape"))
 
 
 def span(line: str, number: int, start: int, end: int) -> dict:
@@ -120,6 +127,7 @@ class Server:
         self.out = out
         self.texts: dict[str, str] = {}
         self.root: str | None = None
+        self.findings = FINDINGS
         self.changed: set[str] = set()
         self.reported: dict[Path, set[str]] = {}
 
@@ -169,7 +177,7 @@ class Server:
         found: dict[str, list[dict]] = {uri: []}
         with self.overlay_of(uri) as overlay:
             root = overlay.original(str(overlay.root))
-            for finding in self.run(overlay, "--lint"):
+            for finding in self.run(overlay, "--lint", *self.findings):
                 if "file" in finding:
                     place = overlay.original(finding["file"])
                     found.setdefault(place.as_uri(), []).append(self.diagnostic(place, finding, overlay))
@@ -183,10 +191,9 @@ class Server:
         number = finding["line"] - 1
         lines = self.text_at(path).split("\n")
         line = lines[number] if number < len(lines) else ""
-        head = line.encode("utf-8", "surrogateescape")[: finding["column"] - 1]
-        start = len(head.decode("utf-8", "surrogateescape"))
-        name = NAME.match(line) if "key" in finding else None
-        end = name.end(1) if name else len(line.split("#")[0].rstrip())
+        start, end = (characters_before(line, finding[place]) for place in ("column", "end"))
+        if start == end:
+            end = len(line.split("#")[0].rstrip())
         key = f"{finding['key']}: " if "key" in finding else ""
         return {
             "range": span(line, number, start, max(start, end)),
@@ -268,6 +275,7 @@ class Server:
     def initialize(self, params: dict) -> dict:
         options = params.get("initializationOptions") or {}
         self.root = options.get("root")
+        self.findings = options.get("findings", FINDINGS)
         self.program = options.get("program", self.program)
         capabilities = {
             "textDocumentSync": {"openClose": True, "change": 1, "save": True},

@@ -8,7 +8,10 @@ vim.api.nvim_create_autocmd('FileType', {
       name = 'units',
       cmd = { 'python3', '/usr/local/share/units/lsp/units_lsp.py' },
       root_dir = vim.fn.fnamemodify(event.file, ':p:h'),
-      -- init_options = { root = 'all.units' }, -- the file to check, relative to the folder of the edited one
+      -- init_options = {
+      --   root = 'all.units', -- the file to check, relative to the folder of the edited one
+      --   findings = { '--captures', '--unused' }, -- what is reported besides the default findings
+      -- },
     })
     vim.lsp.buf_attach_client(event.buf, client)
   end,

@@ -1,4 +1,4 @@
-;;; Drives the language server from Emacs without a screen, for tools/check_lsp.py.
+;;; Drives the language server from Emacs without a screen, for tools/checks/check_lsp.py.
 ;;; UNITS_LSP is PYTHON|SERVER|UNITS_WHY|FILE.
 (unless (locate-library "eglot") ; Debian's packages, which `emacs -Q` leaves out
   (let ((default-directory "/usr/share/emacs/site-lisp/elpa"))
@@ -34,6 +34,11 @@
                            :position (list :line line :character character))))
   (check (wait-until (lambda () (flymake-start) (cl-some (lambda (text) (string-match-p "unknown unit: missing" text)) (texts))))
          "diagnostics in Emacs")
+  (check (cl-some (lambda (found)
+                    (and (string-match-p "rod: 5 m does not conform to kg" (flymake-diagnostic-text found))
+                         (eq 'eglot-warning (flymake-diagnostic-type found))))
+                  (flymake-diagnostics))
+         "warnings in Emacs")
   (let ((where (aref (ask :textDocument/definition 0 9) 0)))
     (check (and (string-suffix-p "base.units" (plist-get where :uri))
                 (= 3 (plist-get (plist-get (plist-get where :range) :start) :line)))
@@ -45,6 +50,6 @@
   (search-forward "missing")
   (replace-match "in")
   (eglot--signal-textDocument/didChange)
-  (check (wait-until (lambda () (flymake-start) (= 1 (length (texts))))) "diagnostics of a change in Emacs")
+  (check (wait-until (lambda () (flymake-start) (= 3 (length (texts))))) "diagnostics of a change in Emacs")
   (set-buffer-modified-p nil)
   (kill-emacs 0))

@@ -1,4 +1,4 @@
--- Drives the language server from Neovim without a screen, for tools/check_lsp.py.
+-- Drives the language server from Neovim without a screen, for tools/checks/check_lsp.py.
 -- UNITS_LSP is PYTHON|SERVER|UNITS_WHY|FILE.
 local python, server, program, file = unpack(vim.split(vim.env.UNITS_LSP, '|', { plain = true }))
 
@@ -15,11 +15,16 @@ local client = vim.lsp.start_client({
 vim.lsp.buf_attach_client(0, client)
 vim.wait(20000, function() return #vim.diagnostic.get(0) > 0 end, 50)
 
-local messages = {}
+local messages, severities = {}, {}
 for _, found in ipairs(vim.diagnostic.get(0)) do
-  messages[found.lnum] = found.message
+  messages[found.lnum], severities[found.lnum] = found.message, found.severity
 end
 check(messages[1] == 'shelf: unknown unit: missing in shelf', 'diagnostics in Neovim')
+check(
+  messages[4] == 'rod: 5 m does not conform to kg' and severities[4] == vim.diagnostic.severity.WARN
+    and severities[5] == vim.diagnostic.severity.INFO,
+  'warnings in Neovim'
+)
 
 local function ask(method, line, character)
   local params = {
@@ -37,5 +42,5 @@ local hover = ask('textDocument/hover', 3, 10)
 check(hover and hover.contents.value:match('^board: plural, 12 in = 0.3048 m'), 'hover in Neovim')
 
 vim.api.nvim_buf_set_lines(0, 1, 2, false, { 'shelf 3 in' })
-vim.wait(20000, function() return #vim.diagnostic.get(0) == 1 end, 50)
-check(#vim.diagnostic.get(0) == 1, 'diagnostics of a change in Neovim')
+vim.wait(20000, function() return #vim.diagnostic.get(0) == 3 end, 50)
+check(#vim.diagnostic.get(0) == 3, 'diagnostics of a change in Neovim')

@@ -23,7 +23,7 @@ use Rattle.line_files.specs.FileLines.{FileLine, file_lines, in_file, include_li
 use Rattle.line_files.specs.FileLines.{lines_of_answer, rest_lines}
 use Rattle.line_files.specs.Laws.{IsLineOf, IsInItsFile}
 
--- a block that a line of its number opens
+-- a block has the number of one of these lines
 abbrev IsOpenedIn : List Line → Block → Type 0
 IsOpenedIn all block = (source : Line) × Contains all source × (block.number ≡ source.number)
 
@@ -31,7 +31,7 @@ module _ (P : FileLine → Type 0) (file : List ℕ) (all : List Line)
     (own : (line : DeckLine) → IsLineOf all line → P (in_file file line))
     (included : List ℕ → Included) (below : List ℕ → List FileLine)
     (deeper : (word : List ℕ) → AllByRecursion P (below word)) where
-  -- a line with a mark or without
+  -- a property of the lines of a file holds for a line with any mark
   plain : (line : Line) → Contains all line → (mark : Bool)
       → P (in_file file (record { number = line.number; text = line.text; mark = mark }))
   plain line i mark = own (record { number = line.number; text = line.text; mark = mark })
@@ -60,7 +60,7 @@ module _ (P : FileLine → Type 0) (file : List ℕ) (all : List Line)
   each_line blocks line i (Defines entry) = (plain line i false, tt)
   each_line blocks line i (Faulty text) = (plain line i true, tt)
 
-  -- the blocks stay opened by lines of the file
+  -- the outer blocks of blocks opened by lines of the file are opened by lines of the file
   outer : (blocks : List Block) → AllByRecursion (IsOpenedIn all) blocks
       → AllByRecursion (IsOpenedIn all) (outer_blocks blocks)
   outer [] h = tt
@@ -115,7 +115,7 @@ abbrev ok_of : Result (List ℕ) FetchFault → List ℕ
 ok_of (Ok x) = x
 ok_of (Err fault) = []
 
--- what is read of a file is what it holds
+-- the bytes that are read from a file are its contents
 read_is : (o : Option (List ℕ)) (bytes : List ℕ) → answer_of o ≡ Ok bytes → o ≡ Some bytes
 read_is None bytes e = cc
 read_is (Some held) bytes e = by (nat_le (length held) longest_file) e
@@ -125,7 +125,7 @@ read_is (Some held) bytes e = by (nat_le (length held) longest_file) e
     by false e = cc
 
 module _ (files : FileMap) where
-  -- the lines of one file and of those below it
+  -- the lines of one file and of the files below it are in their files
   each_file : (included : List ℕ → Included) (below : List ℕ → List FileLine)
       → ((word : List ℕ) → AllByRecursion (IsInItsFile files) (below word)) → (name bytes : List ℕ)
       → file_of files name ≡ Some bytes

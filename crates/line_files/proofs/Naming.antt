@@ -4,7 +4,7 @@ use Rattle.std.proofs.lemmas.List.{get_or_append_left, map-append}
 use Rattle.std.proofs.Math.Seq.{get_or-append_seam}
 use Rattle.line_files.specs.Names.{AreBelow, name_at, names_at}
 
--- a name more
+-- the names at places do not change if a name is appended
 pub widened : (names : List (List ℕ)) (name : List ℕ) (places : List ℕ) → AreBelow (length names) places
     → names_at (names ++ name ∷ []) places ≡ names_at names places
 widened names name [] h = refl
@@ -15,7 +15,7 @@ pub below_more : (n m : ℕ) (places : List ℕ) → n < m → AreBelow n places
 below_more n m [] l h = tt
 below_more n m (place ∷ places) l h = (let k = h.0 in omega (arith, k, l), below_more n m places l h.1)
 
--- a place more
+-- places below a bound stay below it if another such place is appended
 pub below_next : (n place : ℕ) (places : List ℕ) → AreBelow n places → place < n → AreBelow n (places ++ place ∷ [])
 below_next n place [] h l = (l, tt)
 below_next n place (p ∷ places) h l = (h.0, below_next n place places h.1 l)
@@ -30,13 +30,13 @@ one_longer [] name = omega arith
 one_longer (n ∷ names) name = let l = one_longer names name in omega (arith, l)
 
 module _ (names longer : List (List ℕ)) (name : List ℕ) (e : longer ≡ names ++ name ∷ []) where
-  -- the places of names are those of more names
+  -- places below the number of names are below the number of names after one is appended
   pub still_below : (places : List ℕ) → AreBelow (length names) places → AreBelow (length longer) places
   still_below places h =
       subst (λ ns. AreBelow (length ns) places) (sym e)
       (below_more (length names) (length (names ++ name ∷ [])) places (one_longer names name) h)
 
-  -- the place of the new name
+  -- the place of the new name is below the new number of names
   pub last_below : (n : ℕ) → n ≡ length names → n < length longer
   last_below n h = subst (λ k. k < length longer) (sym h) (subst (λ ns. length names < length ns) (sym e)
       (one_longer names name))

@@ -20,14 +20,14 @@ use Rattle.line_files.specs.FileLines.{FileLine, all_in_file, file_names, in_fil
 use Rattle.line_files.specs.FileLines.{lines_above, lines_below, lines_of, lines_of_answer, rest_lines}
 use Rattle.line_files.specs.Steps.{role_in}
 
--- lines that were put in a file are in it
+-- the file of each missing end line is the file of its block
 ends_named : (file : List ℕ) (blocks : List Block)
     → file_names (map (in_file file) (map missing_end blocks)) ≡ map (λ block. file) blocks
 ends_named file [] = refl
 ends_named file (block ∷ blocks) = ap (λ (names : List (List ℕ)). file ∷ names) (ends_named file blocks)
 
 module _ (included : List ℕ → Included) (below : List ℕ → List FileLine) (file : List ℕ) (blocks : List Block) where
-  -- the next line of a file
+  -- passing the next line of a file adds the files of its lines
   pub line_passed : (ys zs : List Line) (x : Line) → ys ≡ x ∷ zs → (mid whole now : List (List ℕ)) →
       mid ++ file_names (rest_lines included below file blocks ys) ≡ whole →
       now ≡ mid ++ file_names (line_lines included below file blocks x (reading_of x.text)) →
@@ -44,7 +44,7 @@ module _ (included : List ℕ → Included) (below : List ℕ → List FileLine)
       ∙ ap (λ ls. mid ++ file_names (rest_lines included below file blocks ls)) (sym h)
       ∙ so_far
 
-  -- the end of a file
+  -- passing the end of a file adds the file of each missing end line
   pub file_passed : {E : Type 0} (ys : List Line) (mid whole after : List (List ℕ)) (r : Result (Unit {0}) E) →
       ys ≡ [] → mid ++ file_names (rest_lines included below file blocks ys) ≡ whole →
       OnOk r (after ≡ mid ++ map (λ block. file) blocks) → OnOk r (after ≡ whole)
@@ -67,7 +67,7 @@ module _ (included : List ℕ → Included) (below : List ℕ → List FileLine)
       by true e = rw e refl
       by false e = rw e refl
 
-  -- a line that includes no file
+  -- a line that includes no file adds one line of its file
   pub plain_named : (line : Line) (reading : Reading) (role : Role) → role_in reading ≡ Some role
       → file_names (line_lines included below file blocks line reading) ≡ file ∷ []
   plain_named line (Stands own) role e = role_named line own
@@ -94,7 +94,7 @@ module _ (included : List ℕ → Included) (below : List ℕ → List FileLine)
       unwrapped None = Inside
   plain_behind line (Includes name) role e = cc
 
--- an include line, and the lines of its file
+-- the files of an include line are its own file, and then those of the lines of the included file
 pub include_named : (files : FileMap) (depth : ℕ) (name file : List ℕ) (line : Line)
     → file_names (include_lines file line (included_below files depth name) (lines_below files depth name))
     ≡ file ∷ file_names (lines_below files depth name)
@@ -113,7 +113,7 @@ include_named files (suc depth) name file line = by (answer_of (file_of files na
     by (Err Failed) = refl
     by (Err OutOfMemory) = refl
 
--- an include line whose file was passed
+-- passing an include line and its file adds the files of all their lines
 pub include_passed : {E : Type 0} (r : Result (Unit {0}) E) (files : FileMap) (depth : ℕ) (file name word : List ℕ)
     (line : Line) (blocks : List Block) (before mid after : List (List ℕ)) →
     reading_of line.text ≡ Includes word → mid ≡ before ++ file ∷ [] → name ≡ beside file word →
@@ -130,7 +130,7 @@ include_passed (Ok u) files depth file name word line blocks before mid after re
     (λ w. lines_below files depth (beside file w)) file blocks line r)) (sym reading)
 include_passed (Err e) files depth file name word line blocks before mid after reading middle named told = told
 
--- too many files are included one in another
+-- at the maximum depth an include adds no lines
 pub none_below : (files : FileMap) (depth : ℕ) (name : List ℕ) → depth ≡ 0 → (before : List (List ℕ))
     → before ≡ before ++ file_names (lines_below files depth name)
 unfolding lines_below
@@ -149,13 +149,13 @@ module _ (files : FileMap) (depth : ℕ) (name : List ℕ) (nonzero : depth ≡ 
   deeper : suc (depth - 1) ≡ depth
   deeper = omega (arith, nonzero)
 
-  -- a file that was read
+  -- the lines below an include whose file was read are those of the file
   pub read_below : (bytes : List ℕ) → answer_of (file_of files name) ≡ Ok bytes
       → lines_below files depth name ≡ lines_above files (depth - 1) name bytes
   read_below bytes a = subst (λ n. lines_below files n name ≡ lines_above files (depth - 1) name bytes) deeper
       (below_answer files (depth - 1) name (Ok bytes) a)
 
-  -- a file that was not read
+  -- an include whose file was not read adds no lines
   pub missing_below : (fault : FetchFault) → answer_of (file_of files name) ≡ Err fault
       → (before : List (List ℕ)) → before ≡ before ++ file_names (lines_below files depth name)
   missing_below fault a before =
@@ -163,20 +163,20 @@ module _ (files : FileMap) (depth : ℕ) (name : List ℕ) (nonzero : depth ≡ 
       (subst (λ n. lines_below files n name ≡ []) deeper (below_answer files (depth - 1) name (Err fault) a))
       ∙ append-nil before)
 
--- what is told of files that are told
+-- the facts known about files hold for files that are known
 pub told_of : (o : Option FileMap) (P : FileMap → Type 0) (m : FileMap) → o ≡ Some m → IfSome o P → P m
 told_of o P m e h = rw e at h
 
--- the next line is the first one
+-- the line that is taken is the first line
 pub line_taken : (lines rest : List Line) (o : Option Line) (line : Line) → TakesFirst (λ y. y) lines o rest
     → o ≡ Some line → lines ≡ line ∷ rest
 line_taken lines rest o line h e = rw e at h
 
--- no line is left
+-- if no line is taken, no line is left
 pub none_taken : (lines rest : List Line) (o : Option Line) → TakesFirst (λ y. y) lines o rest → o ≡ None → lines ≡ []
 none_taken lines rest o h e = (rw e at h).0
 
--- the innermost block is the last one
+-- the innermost block, which is the last one, comes first in the reversed list
 pub last_first : (all blocks : List Block) (block : Block) (file : List ℕ) → all ≡ blocks ++ block ∷ []
     → map (λ (b : Block). file) (reverse all) ≡ file ∷ map (λ (b : Block). file) (reverse blocks)
 last_first all blocks block file e = ap (λ bs. map (λ (b : Block). file) (reverse bs)) e

@@ -1,4 +1,4 @@
--- The lines of a deck with the files that they are in.
+-- The lines of a deck with their files.
 use Rattle.std.specs.Prelude.{◌++◌, ℕ, zero, suc, List, [], ◌∷◌, map, Result, Ok, Err}
 use Rattle.units_io.specs.FileMap.{FileMap, file_of}
 use Rattle.units_io.specs.Fetching.{answer_of}
@@ -30,14 +30,14 @@ include_lines file line (Read excerpt) below = in_file file (plain_line line.num
 include_lines file line (NotRead text) below = in_file file (marked_line line.number line.text) ∷ []
 
 module _ (included : List ℕ → Included) (below : List ℕ → List FileLine) (file : List ℕ) where
-  -- the lines that one line of a file with these open blocks gives, by its reading
+  -- the lines that one line of a file with these open blocks contributes, given its reading
   abbrev pub line_lines : List Block → Line → Reading → List FileLine
   line_lines blocks line (Includes name) = include_lines file line (included name) (below name)
   line_lines blocks line (Stands role) = all_in_file file (line_excerpt included file blocks line (Stands role))
   line_lines blocks line (Defines entry) = all_in_file file (line_excerpt included file blocks line (Defines entry))
   line_lines blocks line (Faulty text) = all_in_file file (line_excerpt included file blocks line (Faulty text))
 
-  -- the rest of a file with these open blocks
+  -- the lines of the rest of a file with these open blocks
   unfoldable pub rest_lines : List Block → List Line → List FileLine
   rest_lines blocks [] = all_in_file file (file_end file blocks)
   rest_lines blocks (line ∷ lines) =
@@ -49,26 +49,26 @@ abbrev pub lines_of_answer : (List ℕ → Included) → (List ℕ → List File
 lines_of_answer included below name (Ok bytes) = rest_lines included below name [] (shown (logical_lines bytes))
 lines_of_answer included below name (Err fault) = []
 
--- the lines of an included file and of the files below it, if so many files may be included one in another
+-- the lines of an included file and of the files below it, if files may be nested this deep, counting this file
 unfoldable pub lines_below : FileMap → ℕ → List ℕ → List FileLine
 lines_below files zero name = []
 lines_below files (suc depth) name =
     lines_of_answer (included_by files depth name) (λ word. lines_below files depth (beside name word)) name
     (answer_of (file_of files name))
 
--- the lines of a file of this name and these bytes, if so many files may be included one in another below it
+-- the lines of a file with this name and these bytes, if files may be nested this deep below it
 abbrev pub lines_above : FileMap → ℕ → List ℕ → List ℕ → List FileLine
 lines_above files depth name bytes =
     rest_lines (included_by files depth name) (λ word. lines_below files depth (beside name word)) name []
     (shown (logical_lines bytes))
 
--- the lines that one line of a file gives
+-- the lines that one line of a file contributes
 abbrev pub lines_of : FileMap → ℕ → List ℕ → List Block → Line → List FileLine
 lines_of files depth name blocks line =
     line_lines (included_by files depth name) (λ word. lines_below files depth (beside name word)) name blocks line
     (reading_of line.text)
 
--- the lines of a file of this name and these bytes, and of the files that it includes
+-- the lines of a file with this name and these bytes, and of the files that it includes
 abbrev pub file_lines : FileMap → List ℕ → List ℕ → List FileLine
 file_lines files name bytes = lines_above files most_depth name bytes
 

@@ -10,7 +10,7 @@ use Rattle.deck_lines.specs.declared.line.DeckLine.{DeckLine}
 use Rattle.deck_lines.specs.declared.line.Ending.{Ending}
 use Rattle.line_files.specs.FileLines.{FileLine, file_lines}
 
--- a line of a deck has the number and the text of one of these lines, or it is the end line that a block lacks and has
+-- a line of a deck has the number and the text of one of these lines, or it is the missing end line of a block and has
 -- the number of the line that opens the block
 pub record IsLineOf (lines : List Line) (line : DeckLine) : Type 0 where
   pub source : Line
@@ -23,7 +23,7 @@ abbrev pub IsInItsFile : FileMap → FileLine → Type 0
 IsInItsFile files x =
     (bytes : List ℕ) × (file_of files x.file ≡ Some bytes) × IsLineOf (shown (logical_lines bytes)) x.line
 
--- Without their files these are the lines of the deck, in order, and each is in its file.
+-- law: without their files, `file_lines` are the lines of the deck, in order, and each is in its file
 pub record FileLinesLaw : Type 0 where
   pub lines : (files : FileMap) (name bytes : List ℕ)
       → map (λ x. x.line) (file_lines files name bytes) ≡ (deck_of files name bytes).lines

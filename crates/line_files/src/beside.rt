@@ -6,7 +6,7 @@ ghost use Rattle.deck_lines.specs.Includes.{beside, folder_of};
 use std::alloc::{AllocError, Global};
 use units_io::Text;
 
-/// The name of the file that a line of the file `includer` includes by the word `name`.
+/// Returns the name of the file that a line of the file `includer` includes by the word `name`.
 pub(crate) fn name_beside(alloc: Global, includer: &[u8], name: &[u8]) -> Result<Text, AllocError>
     ensures { IfOk result (λ full. full ≡ beside includer.now name.now) }
 {
@@ -18,7 +18,7 @@ pub(crate) fn name_beside(alloc: Global, includer: &[u8], name: &[u8]) -> Result
     Ok(Text::from(full))
 }
 
-// The name up to and including its last `/`.
+// Returns the name up to and including its last `/`.
 fn folder(name: &[u8]) -> &[u8]
     ensures { result.now ≡ folder_of name.now }
 {

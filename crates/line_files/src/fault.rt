@@ -1,13 +1,13 @@
-//! Why the files of lines are unknown.
+//! The errors of finding the files of lines.
 
 use std::alloc::{AllocError, AllocFailed};
 
-/// Why the files of lines are unknown.
+/// The reason why the files of lines cannot be found.
 #[derive(Clone, Copy, Debug, PartialEq, Eq)]
 pub enum LineFilesFault {
-    /// The files no longer have the lines of the deck, or one could not be read.
+    /// The files no longer have the lines of the deck, or a file could not be read.
     Changed,
-    /// Want of memory.
+    /// An allocation failed.
     OutOfMemory,
 }
 

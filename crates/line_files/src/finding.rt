@@ -16,12 +16,12 @@ use def_lines::{Cursor, LentLine, Line};
 use std::alloc::Global;
 use units_io::{FetchFault, Files};
 
-/// How deep files are included below the first one.
+/// The maximum depth of included files below the first file.
 const MOST_DEPTH: u8 = 16;
 
-/// The files of the lines of a deck that was loaded from a file of this name and these bytes. Each file that it
-/// includes is read once more, and no definition is parsed. The error is `Changed` if the files have other lines than
-/// the deck, or if one of them cannot be read.
+/// Returns the files of the lines of a deck that was loaded from a file with this name and these bytes. Each file that
+/// it includes is read once more, and no definition is parsed. The error is `Changed` if the files have other lines
+/// than the deck or one of them cannot be read, and `OutOfMemory` if an allocation fails.
 pub fn find_line_files<F: Files>(
     alloc: Global,
     files: &mut F,
@@ -47,7 +47,7 @@ pub fn find_line_files<F: Files>(
     Ok(found)
 }
 
-// The lines of a file of this name and these bytes, if so many files may be included one in another below it.
+// Passes over the lines of a file with this name and these bytes. Below it, files may be nested up to `depth` deep.
 #[cycle(pass)]
 fn pass_file<F: Files>(
     alloc: Global,
@@ -74,7 +74,7 @@ fn pass_file<F: Files>(
     pass_missing_ends(alloc, pass, file, blocks)
 }
 
-// The next line of a file in which these blocks are open.
+// Passes over the next line of a file in which `blocks` are open.
 #[cycle(pass)]
 fn pass_line<F: Files>(
     alloc: Global,
@@ -102,8 +102,8 @@ fn pass_line<F: Files>(
     }
 }
 
-// The lines of the file of this name, which a line includes, if so many files may be included one in another, this
-// one counted.
+// Passes over the lines of the included file with this name. Files may be nested up to `depth` deep, counting this
+// file.
 #[cycle(pass)]
 fn pass_include<F: Files>(
     alloc: Global,
@@ -128,7 +128,7 @@ fn pass_include<F: Files>(
     }
 }
 
-// The end lines of the blocks that are not closed, the innermost first.
+// Passes over the end lines of the blocks that are not closed, innermost first.
 fn pass_missing_ends(
     alloc: Global,
     pass: &mut Pass<'_>,

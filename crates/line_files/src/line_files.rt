@@ -1,18 +1,19 @@
 //! The file names of lines.
 
 ghost use Rattle.std.specs.Prelude.{◌≡◌, ◌<◌, ◌++◌, ◌∷◌, [], length, option_map, slice_get, true, OnOk};
+ghost use Rattle.std.specs.Option.{is_some};
 ghost use Rattle.line_files.specs.Names as spec;
 
 use std::alloc::{AllocError, Global};
 use std::marker::Model;
 use units_io::{Text, Texts};
 
-/// The name of the file of each line, in order. A line takes eight bytes, and the name of a file as many as it has.
+/// The name of the file of each line, in order. A line takes eight bytes, and the name of a file takes its length.
 /// Contracts see it as a list of names.
 #[derive(Drop)]
 pub struct LineFiles {
     names: Texts,
-    // For each line the place of its file among the names.
+    // For each line, the index of its file in `names`.
     numbers: Vec<usize>,
 }
 
@@ -28,7 +29,7 @@ impl Model for LineFiles {
 }
 
 impl LineFiles {
-    /// No line.
+    /// Returns a list without lines.
     pub(crate) fn new(alloc: Global) -> LineFiles
         ensures { result ≡ [] }
     {
@@ -38,14 +39,14 @@ impl LineFiles {
         }
     }
 
-    /// How many lines there are.
+    /// Returns the number of lines.
     pub fn len(&self) -> usize
         ensures { result ≡ length self.now }
     {
         self.numbers.len()
     }
 
-    /// The name of the file of the line at this place, from 0.
+    /// Returns the name of the file of the line at this place, counted from 0, or `None` if there is no such line.
     pub fn name(&self, line: usize) -> Option<&[u8]>
         ensures { option_map (λ name. name.now) result ≡ slice_get self.now line }
     {
@@ -55,18 +56,20 @@ impl LineFiles {
         }
     }
 
-    /// The number of the file of the line at this place. A file that is included twice has two numbers. No contract
-    /// says which line has which number.
-    pub fn file_number(&self, line: usize) -> Option<usize> {
+    /// Returns the number of the file of the line at this place, or `None` if there is no such line. A file that is
+    /// included twice has two numbers. No contract states which line has which number.
+    pub fn file_number(&self, line: usize) -> Option<usize>
+        ensures { is_some result ≡ is_some (slice_get self.now line) }
+    {
         self.numbers.get(line).copied()
     }
 
-    /// How many names are stored.
+    /// Returns the number of stored names.
     pub(crate) fn name_count(&self) -> usize {
         self.names.len()
     }
 
-    /// Puts a line of the file of this name at the end. If the name is stored at `near`, it is not stored again.
+    /// Appends a line of the file with this name. If the name is stored at `near`, it is not stored again.
     pub(crate) fn push(&mut self, alloc: Global, name: &[u8], near: usize) -> Result<(), AllocError>
         ensures { OnOk result (self.new ≡ self.old ++ name.now ∷ []) }
     {
@@ -82,7 +85,7 @@ impl LineFiles {
     }
 }
 
-// The name at a place, or the empty one.
+// Returns the name at a place, or the empty name if there is none.
 fn name_at(names: &[Text], place: usize) -> &[u8]
     ensures { result.now ≡ spec.name_at names.now place }
 {
@@ -92,7 +95,7 @@ fn name_at(names: &[Text], place: usize) -> &[u8]
     }
 }
 
-// Whether the name at a place is this one.
+// Reports whether the name at a place is `name`.
 fn has_name(names: &[Text], place: usize, name: &[u8]) -> bool
     ensures within { result ≡ true → place < length names.now }
     ensures name { result ≡ true → spec.name_at names.now place ≡ name.now }

@@ -1,4 +1,4 @@
-//! The lines of files, compared with those of a deck as they are read.
+//! Compares the lines of files with those of a deck as they are read.
 
 ghost use Rattle.std.specs.Prelude.{◌≡◌, ◌++◌, ◌∷◌, [], OnOk};
 ghost use Rattle.deck_lines.specs.Blocks.{end_text};
@@ -10,14 +10,14 @@ use deck_lines::Ending;
 use def_lines::Line;
 use std::alloc::Global;
 
-/// The files of the lines that were read so far, and the lines of the deck.
+/// The files of the lines that have been read so far, and the lines of the deck.
 #[derive(Drop)]
 pub(crate) struct Pass<'a> {
     pub(crate) expected: &'a [Line],
     pub(crate) found: LineFiles,
 }
 
-/// A file that is read: its name, and where that may be stored.
+/// A file that is being read: its name, and the index at which the name may be stored.
 #[derive(Clone, Copy)]
 pub(crate) struct NamedFile<'a> {
     pub(crate) name: &'a [u8],
@@ -25,7 +25,8 @@ pub(crate) struct NamedFile<'a> {
 }
 
 impl<'a> Pass<'a> {
-    /// Puts the next line, which is in this file. `Changed` if the deck does not have it at this place.
+    /// Appends the next line, which is in this file. The error is `Changed` if the deck does not have this line at this
+    /// place, and `OutOfMemory` if an allocation fails.
     pub(crate) fn push(
         &mut self,
         alloc: Global,
@@ -43,7 +44,7 @@ impl<'a> Pass<'a> {
     }
 }
 
-// Whether there is a line, of this number and this text.
+// Reports whether there is a line, and it has this number and this text.
 fn is_line(line: Option<&Line>, number: u32, text: &[u8]) -> bool {
     match line {
         Some(line) => line.number == number && line.text.as_bytes() == text,
@@ -51,7 +52,7 @@ fn is_line(line: Option<&Line>, number: u32, text: &[u8]) -> bool {
     }
 }
 
-/// The end line of a block.
+/// Returns the text of the end line for an ending.
 pub(crate) fn end_line_text(ending: Ending) -> &'static [u8]
     ensures { result.now ≡ end_text ending }
 {
@@ -62,7 +63,7 @@ pub(crate) fn end_line_text(ending: Ending) -> &'static [u8]
     }
 }
 
-/// Whether two ends are one.
+/// Reports whether two endings are equal.
 pub(crate) fn same_ending(ending: Ending, other: Ending) -> bool
     ensures { result ≡ blocks.same_ending ending other }
 {

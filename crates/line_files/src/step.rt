@@ -1,4 +1,4 @@
-//! What a line means for the files of the lines after it.
+//! The effect of a line on the files of the lines after it.
 
 ghost use Rattle.std.specs.Prelude.{◌≡◌, OnOk, reverse};
 ghost use Rattle.deck_lines.specs.Excerpts as excerpts;
@@ -9,16 +9,16 @@ use crate::pass::same_ending;
 use deck_lines::{Block, Ending, Role};
 use def_lines::{LineKind, classify};
 
-/// What a line means for the files of the lines after it.
+/// The effect of a line on the files of the lines after it.
 #[derive(Clone, Copy)]
 pub(crate) enum Step<'a> {
-    /// The lines of the file of this name follow.
+    /// The lines of the file with this name follow.
     Includes(&'a [u8]),
-    /// The file goes on, and the line does this to its blocks.
+    /// The file continues, and the line has this effect on its open blocks.
     Changes(Role),
 }
 
-/// What a line means for the files of the lines after it. A definition is not parsed.
+/// Returns the effect of a line on the files of the lines after it. A definition is not parsed.
 #[tactic(auto, unfolding(deck_lines::specs::Readings::reading_of))]
 pub(crate) fn step_of(line: &[u8]) -> Step<'_>
     ensures { spec.IsStepOf line.now result }
@@ -40,7 +40,7 @@ pub(crate) fn step_of(line: &[u8]) -> Step<'_>
     Step::Changes(role)
 }
 
-/// The open blocks after a line of this number that does this to them, the innermost last.
+/// Updates the open blocks, innermost last, for a line with this number and role.
 pub(crate) fn change_blocks(
     blocks: &mut Vec<Block>,
     number: u32,
@@ -61,7 +61,7 @@ pub(crate) fn change_blocks(
     Ok(())
 }
 
-// Whether this end line closes the innermost block.
+// Reports whether an end line with this ending closes the innermost block, which is the last.
 fn closes_innermost(blocks: &[Block], ending: Ending) -> bool
     ensures { result ≡ excerpts.closes_innermost ending (reverse blocks.now) }
 {

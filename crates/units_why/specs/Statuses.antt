@@ -1,4 +1,4 @@
--- The numbers of statuses.
+-- The exit codes of statuses.
 use Rattle.std.specs.Prelude.{ℕ}
 use Rattle.units_why.specs.declared.status.Status.{Status}
 use Rattle.units_why.specs.declared.status.Status.TheVariants.{Done, NoFile, NoMemory, ReadFault, Refused, Usage}

@@ -1,8 +1,8 @@
-//! What a run writes.
+//! The output of a run.
 
 use std::alloc::Global;
 
-/// What a run writes, and whether its status is that of a refusal.
+/// The output of a run, and whether its status is `Refused`.
 #[derive(Drop)]
 pub(crate) struct Answer {
     pub(crate) out: Vec<u8>,
@@ -11,7 +11,7 @@ pub(crate) struct Answer {
 }
 
 impl Answer {
-    /// Nothing.
+    /// Returns an empty answer.
     pub(crate) fn new(alloc: Global) -> Answer {
         Answer {
             out: Vec::new(alloc),

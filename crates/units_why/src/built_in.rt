@@ -1,7 +1,10 @@
-//! The built-in definitions, byte for byte those of `units`.
+//! The built-in definitions, byte for byte the same as those of `units`.
 
 ghost use Rattle.std.specs.Prelude.{◌≤◌, length};
 ghost use Rattle.units_io.specs.FileMap.{longest_file};
+
+/// The file name that is reported for places in the built-in definitions.
+pub(crate) const BUILT_IN_NAME: &[u8] = b"builtin";
 
 /// The text of the built-in definitions.
 const BUILT_IN: &[u8] = b"# primitives
@@ -84,7 +87,7 @@ zincgauge[in] 1 0.002, 10 0.02, 15 0.04, \\
 !unitlist ftin ft;in
 ";
 
-/// The definitions of a run that names no file.
+/// Returns the definitions for a run that names no file.
 pub(crate) fn built_in() -> &'static [u8]
     ensures { length result.now ≤ longest_file }
 {

@@ -1,6 +1,6 @@
-//! The definitions of a run, and the file of each of their lines.
+//! The definitions of a run, and the file of each line.
 
-use crate::built_in::built_in;
+use crate::built_in::{BUILT_IN_NAME, built_in};
 use crate::stop::Stop;
 use deck::{Deck, NoFiles, Settings};
 use line_files::{LineFiles, LineFilesFault, find_line_files};
@@ -9,17 +9,15 @@ use std::alloc::{AllocError, Global};
 use units_io::{FetchFault, Files, Text, Vars};
 use why_words::Request;
 
-// The file name of the built-in definitions.
-const BUILT_IN_NAME: &[u8] = b"builtin";
-
-/// The definitions of a run. The files of lines are unknown if a file changed between the two times it was read.
+/// The definitions of a run. The files of the lines are unknown if a file changed between the two times it was read.
 #[derive(Drop)]
 pub(crate) struct Definitions {
     pub(crate) table: LiveTable,
     pub(crate) files: Option<LineFiles>,
+    pub(crate) are_built_in: bool,
 }
 
-/// The definitions that a request names, or the built-in ones.
+/// Loads the definitions that a request names, or the built-in ones.
 pub(crate) fn load<F: Files>(
     alloc: Global,
     files: &mut F,
@@ -33,7 +31,7 @@ pub(crate) fn load<F: Files>(
     }
 }
 
-// The locale that is asked for, or `en_US`, and the variables of the environment.
+// Returns the requested locale, or `en_US`, and the variables of the environment.
 fn settings_of(alloc: Global, request: &Request, vars: &Vars) -> Result<Settings, AllocError> {
     let locale = match &request.locale {
         Some(locale) => locale.copy(alloc)?,
@@ -54,7 +52,11 @@ fn load_built_in(alloc: Global, settings: Settings) -> Result<Definitions, Stop>
     );
     let files = known(found)?;
     let table = LiveTable::new(alloc, deck);
-    Ok(Definitions { table, files })
+    Ok(Definitions {
+        table,
+        files,
+        are_built_in: true,
+    })
 }
 
 fn load_file<F: Files>(
@@ -67,10 +69,14 @@ fn load_file<F: Files>(
     let found = read_again(alloc, files, name, &deck);
     let files = known(found)?;
     let table = LiveTable::new(alloc, deck);
-    Ok(Definitions { table, files })
+    Ok(Definitions {
+        table,
+        files,
+        are_built_in: false,
+    })
 }
 
-// The files of the lines of a deck that was loaded from the file of this name.
+// Returns the files of the lines of a deck that was loaded from the file `name`.
 fn read_again<F: Files>(
     alloc: Global,
     files: &mut F,
@@ -84,7 +90,7 @@ fn read_again<F: Files>(
     }
 }
 
-// The files of lines, or none if the files changed.
+// Returns the files of the lines, or `None` if the files changed.
 fn known(found: Result<LineFiles, LineFilesFault>) -> Result<Option<LineFiles>, AllocError> {
     match found {
         Ok(files) => Ok(Some(files)),

@@ -5,21 +5,22 @@ ghost use Rattle.units_why.specs.Environment as spec;
 
 use std::alloc::{AllocError, Global};
 use std::env::FillError;
+use std::random::RandomSource;
 use std::rt::Env;
 use std::str;
-use units_io::{Text, Texts, Vars};
+use units_io::{HashSeed, Text, Texts, Vars};
 
-// How often a buffer is doubled before an entry counts as too long for memory.
+// The number of times that a buffer is doubled before an entry counts as too long for memory.
 const MOST_DOUBLINGS: usize = 24;
 
-// Where an entry is sought.
+// The source of an entry.
 #[derive(Clone, Copy)]
 enum Place {
     Word(usize),
     Variable(usize),
 }
 
-// The bytes of the entry at a place, or none behind the last one.
+// Returns the bytes of the entry at `place`, or `None` after the last one.
 fn entry_at<R: Env>(rt: &R, alloc: Global, place: Place) -> Result<Option<Vec<u8>>, AllocError> {
     let mut size = 256usize;
     for _ in 0..MOST_DOUBLINGS {
@@ -40,7 +41,7 @@ fn entry_at<R: Env>(rt: &R, alloc: Global, place: Place) -> Result<Option<Vec<u8
     Err(AllocError)
 }
 
-/// The words after the program's name.
+/// Returns the command-line words after the program's name.
 pub fn collect_words<R: Env>(rt: &R, alloc: Global) -> Result<Texts, AllocError> {
     let mut words = Texts::new(alloc);
     for i in 1..usize::MAX {
@@ -52,14 +53,14 @@ pub fn collect_words<R: Env>(rt: &R, alloc: Global) -> Result<Texts, AllocError>
     Ok(words)
 }
 
-// The place of the first `=`.
+// Returns the place of the first `=`.
 fn place_of_mark(entry: &[u8]) -> Option<usize>
     ensures { result ≡ spec.place_of_mark entry.now }
 {
     entry.iter().position(|b| *b == b'=')
 }
 
-// Whether the bytes of an entry are UTF-8.
+// Returns whether the bytes of an entry are UTF-8.
 fn is_text(entry: &[u8]) -> bool
     ensures { result ≡ is_utf8 entry.now }
 {
@@ -69,7 +70,7 @@ fn is_text(entry: &[u8]) -> bool
     }
 }
 
-// Puts a variable at the end, unless its name has a value already.
+// Appends a variable, unless its name already has a value.
 fn push_new(alloc: Global, vars: &mut Vars, name: &[u8], value: &[u8]) -> Result<(), AllocError>
     ensures ok { OnOk result (vars.new ≡ spec.with_new vars.old name.now value.now) }
     ensures err { OnErr result (vars.new ≡ vars.old) }
@@ -82,8 +83,8 @@ fn push_new(alloc: Global, vars: &mut Vars, name: &[u8], value: &[u8]) -> Result
     vars.push(alloc, (name, value))
 }
 
-/// Adds the variable of an entry `NAME=VALUE` in UTF-8 whose name is new. Any other entry changes nothing, nor does
-/// a refusal.
+/// Adds the variable of a UTF-8 entry `NAME=VALUE`, unless its name already has a value. Ignores any other entry. On an
+/// error, nothing changes.
 pub fn add_entry(alloc: Global, vars: &mut Vars, entry: &[u8]) -> Result<(), AllocError>
     ensures ok { OnOk result (vars.new ≡ spec.with_entry vars.old entry.now) }
     ensures err { OnErr result (vars.new ≡ vars.old) }
@@ -97,9 +98,10 @@ pub fn add_entry(alloc: Global, vars: &mut Vars, entry: &[u8]) -> Result<(), All
     push_new(alloc, vars, &entry[..place], &entry[place + 1..])
 }
 
-/// The variables of the environment that are UTF-8, of those with one name the first.
-pub fn collect_vars<R: Env>(rt: &R, alloc: Global) -> Result<Vars, AllocError> {
-    let mut vars = Vars::new(alloc);
+/// Returns the variables of the environment that are UTF-8. If a name occurs twice, the first one counts. The table of
+/// the variables has a random seed, which the tables of the run inherit.
+pub fn collect_vars<R: Env + RandomSource>(rt: &R, alloc: Global) -> Result<Vars, AllocError> {
+    let mut vars = Vars::with_seed(alloc, HashSeed::random(rt));
     for i in 0..usize::MAX {
         let Some(entry) = entry_at(rt, alloc, Place::Variable(i))? else {
             break;

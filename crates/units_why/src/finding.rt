@@ -1,16 +1,20 @@
-//! Findings in definitions, and how they are written.
+//! Findings in definitions, and their output formats.
 
 use crate::json::{put_number, put_number_member, put_string, put_text_member};
+use crate::mark::Mark;
+use def_entry::Key;
 use std::alloc::{AllocError, Global};
 use units_io::Text;
 
-/// How much a finding matters.
+/// The severity of a finding.
 #[derive(Clone, Copy, Debug, PartialEq, Eq, Drop)]
 pub(crate) enum Severity {
     /// A definition has no value, or a line has no effect.
     Error,
-    /// A definition is replaced by a later one.
+    /// A definition has a value or an effect that is probably not the intended one.
     Warning,
+    /// A definition may be as intended.
+    Information,
 }
 
 impl Severity {
@@ -18,27 +22,47 @@ impl Severity {
         match self {
             Severity::Error => b"error",
             Severity::Warning => b"warning",
+            Severity::Information => b"information",
         }
     }
 }
 
-/// Where a finding is.
+/// The place of a finding, which is the place of its mark.
 #[derive(Clone, Copy)]
 pub(crate) struct Spot<'a> {
     pub(crate) file: &'a [u8],
     pub(crate) line: usize,
+    /// The start and the end of the part at fault, in bytes from 1.
     pub(crate) column: usize,
+    pub(crate) end: usize,
 }
 
-/// What was found at a key, or at a line that defines none.
+/// A finding about a key, or about a line that defines none.
 #[derive(Drop)]
 pub(crate) struct Finding {
     pub(crate) severity: Severity,
     pub(crate) key: Text,
     pub(crate) message: Text,
+    /// The part of the line that is at fault.
+    pub(crate) mark: Mark,
 }
 
-/// Puts `FILE:LINE:COLUMN: KEY: message`, without the place or the key if there is none.
+/// A finding with its line in the deck.
+#[derive(Drop)]
+pub(crate) struct LineFinding {
+    pub(crate) place: usize,
+    pub(crate) finding: Finding,
+}
+
+/// Returns the text of a key, or an empty text for `None`.
+pub(crate) fn key_text(alloc: Global, key: Option<Key>) -> Result<Text, AllocError> {
+    match key {
+        Some(key) => def_entry::key_text(alloc, &key),
+        None => Text::from_bytes(alloc, b""),
+    }
+}
+
+/// Appends `FILE:LINE:COLUMN: KEY: message`, without the place or the key if there is none.
 pub(crate) fn put_finding_text(
     alloc: Global,
     out: &mut Vec<u8>,
@@ -63,7 +87,7 @@ pub(crate) fn put_finding_text(
     Ok(())
 }
 
-/// Puts a finding as an object on a line of its own.
+/// Appends a finding as a JSON object on a line of its own.
 pub(crate) fn put_finding_json(
     alloc: Global,
     out: &mut Vec<u8>,
@@ -76,6 +100,7 @@ pub(crate) fn put_finding_json(
         put_text_member(out, b"file", spot.file)?;
         put_number_member(alloc, out, b"line", spot.line)?;
         put_number_member(alloc, out, b"column", spot.column)?;
+        put_number_member(alloc, out, b"end", spot.end)?;
     }
     let key = finding.key.as_bytes();
     if !key.is_empty() {

@@ -1,9 +1,9 @@
-//! Texts as JSON.
+//! JSON output.
 
 use std::alloc::{AllocError, Global};
 use std::str;
 
-/// Puts a string. A text that is not UTF-8 has U+FFFD for each byte outside of ASCII.
+/// Appends a string. If the text is not UTF-8, each byte outside of ASCII becomes U+FFFD.
 pub(crate) fn put_string(out: &mut Vec<u8>, text: &[u8]) -> Result<(), AllocError> {
     out.push(b'"')?;
     let is_utf8 = is_text(text);
@@ -21,7 +21,7 @@ fn is_text(text: &[u8]) -> bool {
     }
 }
 
-// Puts a byte of a string.
+// Appends a byte of a string.
 fn put_byte(out: &mut Vec<u8>, byte: u8, is_utf8: bool) -> Result<(), AllocError> {
     match byte {
         b'"' => out.extend_from_slice(b"\\\"".as_slice())?,
@@ -33,7 +33,7 @@ fn put_byte(out: &mut Vec<u8>, byte: u8, is_utf8: bool) -> Result<(), AllocError
     Ok(())
 }
 
-// Puts a control character.
+// Appends a control character.
 fn put_control(out: &mut Vec<u8>, byte: u8) -> Result<(), AllocError> {
     out.extend_from_slice(b"\\u00".as_slice())?;
     out.push(hex_digit(byte / 16))?;
@@ -41,7 +41,7 @@ fn put_control(out: &mut Vec<u8>, byte: u8) -> Result<(), AllocError> {
     Ok(())
 }
 
-// The digit of a number below 16, in hexadecimal.
+// Returns the hexadecimal digit of a number below 16.
 fn hex_digit(n: u8) -> u8 {
     match n {
         0..=9 => b'0' + n,
@@ -50,7 +50,7 @@ fn hex_digit(n: u8) -> u8 {
     }
 }
 
-/// Puts a member whose value is a string, and a comma before it.
+/// Appends a comma and a member whose value is a string.
 pub(crate) fn put_text_member(
     out: &mut Vec<u8>,
     name: &[u8],
@@ -60,7 +60,7 @@ pub(crate) fn put_text_member(
     put_string(out, text)
 }
 
-/// Puts a member whose value is a number, and a comma before it.
+/// Appends a comma and a member whose value is a number.
 pub(crate) fn put_number_member(
     alloc: Global,
     out: &mut Vec<u8>,
@@ -71,7 +71,7 @@ pub(crate) fn put_number_member(
     put_number(alloc, out, number)
 }
 
-/// Puts a number in decimal digits.
+/// Appends a number in decimal.
 pub(crate) fn put_number(
     alloc: Global,
     out: &mut Vec<u8>,
@@ -81,7 +81,7 @@ pub(crate) fn put_number(
     Ok(())
 }
 
-/// Puts a member whose value is true or false, and a comma before it.
+/// Appends a comma and a member whose value is true or false.
 pub(crate) fn put_flag_member(
     out: &mut Vec<u8>,
     name: &[u8],
@@ -97,7 +97,7 @@ pub(crate) fn put_flag_member(
     Ok(())
 }
 
-/// Puts the name of a member that is not the first one.
+/// Appends a comma and the name of a member.
 pub(crate) fn put_name(out: &mut Vec<u8>, name: &[u8]) -> Result<(), AllocError> {
     out.extend_from_slice(b",\"".as_slice())?;
     out.extend_from_slice(name)?;

@@ -1,26 +1,39 @@
-//! Says which definitions, on which lines of which files, a value comes from, and where definitions have faults.
+//! Reports the definitions that a value comes from, with their files and lines, and the faults in definitions.
 #![tactic(auto)]
 
+mod aliases;
+mod ambiguous;
 mod answer;
 mod built_in;
-mod columns;
+mod captures;
 mod definitions;
+mod entries;
 mod environment;
 mod finding;
 mod json;
 mod lint;
+mod mark;
 mod notice;
+mod open_file;
 mod outcome;
 mod path;
 mod places;
+mod reading;
+mod report;
 mod row_json;
 mod row_text;
 mod row_words;
 mod run;
 mod shadows;
+mod span;
 mod status;
 mod stop;
+mod text_part;
 mod tree;
+mod unit_notes;
+mod unmet;
+mod unused;
+mod values;
 mod why;
 
 ghost use Rattle.std.specs.Prelude.{◌≡◌, ◌<◌};
@@ -33,7 +46,7 @@ use std::process::ExitCode;
 use std::sync::ledger::{Blank, Ledger};
 use units_io::{DirFiles, StdSink, Steps, Texts, Vars};
 
-// The run on the system's streams and files, with a count of steps that nobody reads.
+// Runs on the system's streams and files, with a step counter that nobody reads.
 fn run_on<L: Ledger>(rt: HostRuntime, words: &Texts, vars: &Vars, blank: Blank) -> Status
     requires name { blank.name ≡ L.name }
     requires parts { blank.parts ≡ L.parts }

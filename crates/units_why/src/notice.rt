@@ -1,34 +1,35 @@
-//! Notices of a deck as findings.
+//! Conversion of the notices of a deck to findings.
 
-use crate::finding::{Finding, Severity, Spot};
+use crate::finding::{Finding, Severity};
+use crate::mark::mark_of;
 use std::alloc::{AllocError, Global};
 use std::str;
 use units_io::{Text, prefix_len};
 
-/// A notice `FILE:LINE: MESSAGE` in its parts. `None` if it has no such parts.
+/// The parts of a notice `FILE:LINE: MESSAGE`.
 #[derive(Clone, Copy)]
 pub(crate) struct Notice<'a> {
-    pub(crate) spot: Spot<'a>,
+    pub(crate) file: &'a [u8],
+    pub(crate) line: usize,
     pub(crate) message: &'a [u8],
 }
 
-/// The parts of a notice. Its file name ends before the first `:LINE: ` in it.
+/// Splits a notice at the first `:LINE: ` into its parts. Returns `None` if the text contains no `:LINE: `.
 pub(crate) fn read_notice(text: &[u8]) -> Option<Notice<'_>> {
     for at in 0..text.len() {
         let (file, rest) = text.split_at(at);
         if let Some((line, message)) = read_line_number(rest) {
-            let spot = Spot {
+            return Some(Notice {
                 file,
                 line,
-                column: 1,
-            };
-            return Some(Notice { spot, message });
+                message,
+            });
         }
     }
     None
 }
 
-// The number and the rest of a text that begins with `:NUMBER: `.
+// Returns the number and the rest of a text that begins with `:NUMBER: `.
 fn read_line_number(text: &[u8]) -> Option<(usize, &[u8])> {
     let (mark, digits) = text.split_first()?;
     if *mark != b':' {
@@ -40,11 +41,12 @@ fn read_line_number(text: &[u8]) -> Option<(usize, &[u8])> {
     Some((number, message))
 }
 
-/// The finding of a line that has no effect.
+/// Returns the finding for a line that has no effect.
 pub(crate) fn notice_finding(alloc: Global, message: &[u8]) -> Result<Finding, AllocError> {
     Ok(Finding {
         severity: Severity::Error,
         key: Text::from_bytes(alloc, b"")?,
         message: Text::from_bytes(alloc, message)?,
+        mark: mark_of(alloc, b"", message)?,
     })
 }

@@ -17,17 +17,17 @@ use value_sources::value_tree;
 /// The outcome of a row.
 #[derive(Drop)]
 pub(crate) enum Outcome {
-    /// Its reduced value.
+    /// The reduced value of its definition.
     Value(Text),
-    /// A step of its definition, or of one below it, that has no value.
+    /// The fault of a step, in its definition or in one below it, that has no value.
     Fault(Text),
-    /// A name that it reaches is unknown, refused or on a cycle.
+    /// A name that its definition reaches is unknown, refused or on a cycle.
     NameFault,
-    /// A function has no value of its own.
+    /// The key is a function, which has no value of its own.
     Function,
 }
 
-/// The outcome of a key that has an entry.
+/// Returns the outcome of a key that has an entry.
 pub(crate) fn outcome_of<L: Ledger>(
     alloc: Global,
     table: &mut LiveTable,
@@ -43,7 +43,7 @@ pub(crate) fn outcome_of<L: Ledger>(
     }
 }
 
-// The outcome of an expression.
+// Returns the outcome of an expression.
 fn tree_outcome<L: Ledger>(
     alloc: Global,
     table: &mut LiveTable,
@@ -65,14 +65,14 @@ fn tree_outcome<L: Ledger>(
     }
 }
 
-// A value as the options ask for it.
+// Returns the text of a value in the format that the options select.
 fn value_text(alloc: Global, options: &Options, value: &Quantity) -> Result<Text, AllocError>
     requires { IsPrintable options.now }
 {
     value.show(alloc, style_of(options))
 }
 
-// The style of numbers.
+// Returns the style of numbers that the options select.
 fn style_of(options: &Options) -> Style
     requires { IsPrintable options.now }
     ensures { IsStyle result }

@@ -1,15 +1,15 @@
-//! The rows above a row.
+//! The path of rows above a row.
 
 use std::alloc::{AllocError, Global};
 
-/// The rows above the next one, and the lines of the deck whose definitions these are.
+/// The rows above the next row, and which lines of the deck have their definitions on this path.
 #[derive(Drop)]
 pub(crate) struct Path {
     rows: Vec<PathRow>,
     lines: Vec<LineState>,
 }
 
-// A row of the path, and the place of its line in the deck.
+// A row of the path, and the place of its definition in the deck.
 #[derive(Clone, Copy, Drop)]
 struct PathRow {
     row: usize,
@@ -24,7 +24,7 @@ struct LineState {
 }
 
 impl Path {
-    /// No row, over a deck of so many lines.
+    /// Returns an empty path over a deck with this many lines.
     pub(crate) fn new(alloc: Global, lines: usize) -> Result<Path, AllocError> {
         let mut states = Vec::new(alloc);
         let state = LineState {
@@ -38,7 +38,7 @@ impl Path {
         })
     }
 
-    /// Leaves all rows but those above a row of this depth.
+    /// Removes the rows that are not above a row at this depth.
     pub(crate) fn leave(&mut self, depth: usize) {
         for _ in depth..self.rows.len() {
             if let Some(left) = self.rows.pop() {
@@ -47,7 +47,7 @@ impl Path {
         }
     }
 
-    /// Enters a row whose definition is at this place.
+    /// Appends a row whose definition is at `place`.
     pub(crate) fn enter(
         &mut self,
         row: usize,
@@ -62,7 +62,7 @@ impl Path {
         Ok(())
     }
 
-    /// The row directly above.
+    /// Returns the row directly above the next row.
     pub(crate) fn parent(&self) -> Option<usize> {
         match self.rows.last() {
             Some(last) => Some(last.row),
@@ -70,7 +70,7 @@ impl Path {
         }
     }
 
-    /// Whether the definition at this place is on the path.
+    /// Returns whether the definition at this place is on the path.
     pub(crate) fn is_open(&self, place: usize) -> bool {
         match self.lines.get(place) {
             Some(state) => state.is_open,
@@ -78,7 +78,7 @@ impl Path {
         }
     }
 
-    /// Whether the definition at this place was found to have a fault.
+    /// Returns whether a fault was found in the definition at this place.
     pub(crate) fn is_faulty(&self, place: usize) -> bool {
         match self.lines.get(place) {
             Some(state) => state.is_faulty,

@@ -1,4 +1,4 @@
-//! Rows as JSON, one object a line.
+//! The JSON format of rows, one object per line.
 
 use crate::json::{put_flag_member, put_name, put_number_member, put_string, put_text_member};
 use crate::outcome::Outcome;
@@ -10,7 +10,7 @@ use def_entry::put_key;
 use std::alloc::{AllocError, Global};
 use value_sources::Row;
 
-/// Puts the object of a row.
+/// Appends the object for a row.
 pub(crate) fn put_row_json(
     alloc: Global,
     out: &mut Vec<u8>,
@@ -38,7 +38,7 @@ pub(crate) fn put_row_json(
     Ok(())
 }
 
-// Puts the key of a row, and how the word leads to it.
+// Appends the key of a row, and how the word leads to it.
 fn put_key_members(alloc: Global, out: &mut Vec<u8>, row: &Row) -> Result<(), AllocError> {
     let Some(key) = row.key() else {
         return Ok(());
@@ -77,7 +77,7 @@ fn put_outcome(out: &mut Vec<u8>, outcome: &Outcome, is_explained: bool) -> Resu
     }
 }
 
-// Puts the places of the lines that a definition replaces.
+// Appends the places of the lines that a definition replaces.
 fn put_replaced(
     alloc: Global,
     out: &mut Vec<u8>,
@@ -104,7 +104,7 @@ fn put_replaced(
     Ok(())
 }
 
-// Puts the object of a line.
+// Appends the object for a line.
 fn put_line_object(
     alloc: Global,
     out: &mut Vec<u8>,

@@ -1,4 +1,4 @@
-//! Rows as lines of text.
+//! The text format of rows, one line per row.
 
 use crate::outcome::Outcome;
 use crate::places::{Places, put_place};
@@ -9,13 +9,13 @@ use def_entry::Key;
 use std::alloc::{AllocError, Global};
 use value_sources::Row;
 
-// A row is indented by two blanks for each row above it, up to this many. Deeper rows begin with their depth, so that
-// the tree of a long chain does not grow with the square of its length.
+// A row is indented by two blanks for each row above it, up to this many rows. Deeper rows begin with their depth, so
+// that the output for a long chain does not grow with the square of its length.
 const MOST_INDENTED: usize = 20;
 
 const BLANKS: &[u8] = b"                                        ";
 
-/// Puts the line of a row.
+/// Appends the line for a row.
 pub(crate) fn put_row_text(
     alloc: Global,
     out: &mut Vec<u8>,
@@ -56,7 +56,7 @@ fn put_indent(alloc: Global, out: &mut Vec<u8>, depth: usize) -> Result<(), Allo
     Ok(())
 }
 
-// Puts how the word leads to its key, and the text of the definition.
+// Appends how the word leads to its key, and the text of the definition.
 fn put_definition(
     out: &mut Vec<u8>,
     places: Places<'_>,
@@ -76,7 +76,7 @@ fn put_definition(
     }
 }
 
-// Puts how the word leads to its key, and some words.
+// Appends how the word leads to its key, followed by `words`.
 fn put_mention(out: &mut Vec<u8>, row: &Row, words: &[u8]) -> Result<(), AllocError> {
     if let Some(key) = row.key() {
         out.extend_from_slice(resolution_word(row, key))?;
@@ -88,7 +88,7 @@ fn put_mention(out: &mut Vec<u8>, row: &Row, words: &[u8]) -> Result<(), AllocEr
     Ok(())
 }
 
-// Puts the part of the definition above that the word is in.
+// Appends which part of the definition above contains the word.
 fn put_site(out: &mut Vec<u8>, row: &Row) -> Result<(), AllocError> {
     if let Some(site) = site_word(row.site()) {
         out.extend_from_slice(b" (".as_slice())?;
@@ -98,7 +98,7 @@ fn put_site(out: &mut Vec<u8>, row: &Row) -> Result<(), AllocError> {
     Ok(())
 }
 
-// Puts the word as it is written, if that differs from the name.
+// Appends the word as it is written, if it differs from the name.
 fn put_word(out: &mut Vec<u8>, row: &Row, key: &Key) -> Result<(), AllocError> {
     if is_rewritten(row, key) {
         out.extend_from_slice(b" in ".as_slice())?;
@@ -125,7 +125,7 @@ fn put_outcome(out: &mut Vec<u8>, outcome: &Outcome, is_explained: bool) -> Resu
     Ok(())
 }
 
-// Puts the place of a definition, and the places of those that it replaces.
+// Appends the place of a definition, and the places of the definitions that it replaces.
 fn put_places(
     alloc: Global,
     out: &mut Vec<u8>,

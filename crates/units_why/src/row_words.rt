@@ -1,11 +1,11 @@
-//! Words for rows.
+//! The words that describe rows.
 
 use def_entry::{Key, Kind, put_key};
 use expr_tree::WordKind;
 use std::alloc::AllocError;
 use value_sources::{Resolution, Row, Site};
 
-/// How the word of a row leads to its key.
+/// Returns how the word of a row leads to its key.
 pub(crate) fn resolution_word(row: &Row, key: &Key) -> &'static [u8] {
     match (key.kind, row.resolution(), row.word_kind()) {
         (Kind::Prefix, _, _) => b"prefix",
@@ -16,7 +16,7 @@ pub(crate) fn resolution_word(row: &Row, key: &Key) -> &'static [u8] {
     }
 }
 
-// Whether a word is the function that an alias names, which is called in the direction of the alias.
+// Returns whether the word is the function that an alias names. That function is called in the direction of the alias.
 fn is_alias_target(row: &Row) -> bool {
     match row.site() {
         Site::AliasTarget => true,
@@ -24,7 +24,7 @@ fn is_alias_target(row: &Row) -> bool {
     }
 }
 
-/// The part of the definition above that the word is in, or none if that has one part only.
+/// Returns which part of the definition above contains the word, or `None` if that definition has only one part.
 pub(crate) fn site_word(site: Site) -> Option<&'static [u8]> {
     match site {
         Site::Expression | Site::Body => None,
@@ -37,12 +37,12 @@ pub(crate) fn site_word(site: Site) -> Option<&'static [u8]> {
     }
 }
 
-/// Whether the word of a row is written otherwise than the name of its key.
+/// Returns whether the word of a row differs from the name of its key.
 pub(crate) fn is_rewritten(row: &Row, key: &Key) -> bool {
     row.word() != key.name.as_bytes()
 }
 
-/// Puts the name of a row: its key, or its word if that is unknown.
+/// Appends the name of a row: its key, or its word if the word is unknown.
 pub(crate) fn put_name(out: &mut Vec<u8>, row: &Row) -> Result<(), AllocError> {
     match row.key() {
         Some(key) => put_key(out, key),
@@ -50,7 +50,7 @@ pub(crate) fn put_name(out: &mut Vec<u8>, row: &Row) -> Result<(), AllocError> {
     }
 }
 
-/// What a row is told to be if it leads to no definition.
+/// Returns the fault of a row that leads to no definition.
 pub(crate) fn fault_word(row: &Row) -> &'static [u8] {
     if row.is_refused() {
         b"refused function"

@@ -17,8 +17,8 @@ use std::sync::ledger::Ledger;
 use units_io::{Files, Sink, Steps, Text, Vars, put_all};
 use why_words::{Inquiry, Request, WordsFault, read_words, usage_text};
 
-/// Answers the request of some words over these files, and returns how the run ends. The words are those after the name
-/// of the program.
+/// Answers the request on the command line over these files, and returns the status of the run. `words` are the words
+/// after the name of the program.
 pub(crate) fn run<O: Sink, E: Sink, F: Files, L: Ledger>(
     alloc: Global,
     words: &[Text],
@@ -35,7 +35,7 @@ pub(crate) fn run<O: Sink, E: Sink, F: Files, L: Ledger>(
     }
 }
 
-// Writes a text on the sink for complaints.
+// Writes a text to `err` and returns `status`, or `WriteFault` if that fails.
 fn complain<E: Sink>(err: &mut E, text: &[u8], status: Status) -> Status {
     match put_all(err, text) {
         Ok(()) => status,
@@ -59,7 +59,7 @@ fn run_request<O: Sink, E: Sink, F: Files, L: Ledger>(
         Err(stop) => return stopped(alloc, err, request, stop),
     };
     let answer = answer_to(alloc, &mut definitions, request, files, steps);
-    // The process ends next, and taking a table apart costs more than its last query.
+    // The process ends next, and freeing the table costs more than its last query.
     mem::forget(definitions);
     match answer {
         Ok(answer) => write(out, err, &answer),
@@ -67,7 +67,7 @@ fn run_request<O: Sink, E: Sink, F: Files, L: Ledger>(
     }
 }
 
-// The complaint of a run without definitions.
+// Reports why a run has no definitions.
 fn stopped<E: Sink>(alloc: Global, err: &mut E, request: &Request, stop: Stop) -> Status {
     let Some(words) = stop.words() else {
         return stop.status();
@@ -78,7 +78,7 @@ fn stopped<E: Sink>(alloc: Global, err: &mut E, request: &Request, stop: Stop) -
     }
 }
 
-// Some words and the name of the file.
+// Returns a line with `words` and the name of the file.
 fn complaint(alloc: Global, words: &[u8], request: &Request) -> Result<Text, AllocError> {
     let mut text = Vec::from_slice(alloc, words)?;
     if let Some(name) = &request.file {
@@ -88,7 +88,7 @@ fn complaint(alloc: Global, words: &[u8], request: &Request) -> Result<Text, All
     Ok(Text::from(text))
 }
 
-// The answer to a request.
+// Returns the answer to a request.
 fn answer_to<F: Files, L: Ledger>(
     alloc: Global,
     definitions: &mut Definitions,
@@ -107,7 +107,15 @@ fn answer_to<F: Files, L: Ledger>(
             answer.err = notices;
             answer
         }
-        Inquiry::Lint => lint(alloc, definitions, &options, request.json, files, steps)?,
+        Inquiry::Lint(asked) => lint(
+            alloc,
+            definitions,
+            &options,
+            *asked,
+            request.json,
+            files,
+            steps,
+        )?,
     };
     if definitions.files.is_none() {
         answer.err.extend_from_slice(
@@ -117,7 +125,7 @@ fn answer_to<F: Files, L: Ledger>(
     Ok(answer)
 }
 
-// The notices of a load, one a line.
+// Returns the notices of the load, one per line.
 fn notice_lines(alloc: Global, deck: &Deck) -> Result<Vec<u8>, AllocError> {
     let mut text = Vec::new(alloc);
     for notice in deck.notices().as_slice() {
@@ -139,7 +147,7 @@ fn question_of<'a>(from: &'a Text, to: &'a Option<Text>, json: bool) -> Question
     }
 }
 
-// How values are written.
+// Returns the options that values are written with.
 fn options_of(request: &Request) -> Options
     requires { HasDigits request.now }
     ensures { IsPrintable result }
@@ -156,7 +164,7 @@ fn options_of(request: &Request) -> Options
     }
 }
 
-// Writes an answer, complaints first.
+// Writes an answer, error messages first.
 fn write<O: Sink, E: Sink>(out: &mut O, err: &mut E, answer: &Answer) -> Status {
     let Ok(()) = put_all(err, answer.err.as_slice()) else {
         return Status::WriteFault;

@@ -4,17 +4,17 @@ use deck::Deck;
 use def_entry::Kind;
 use std::alloc::{AllocError, Global};
 
-/// For each line of a deck the active lines before it that define the same key, if it is the line in force. All are
-/// found in one pass over the deck.
+/// For each line in force of a deck, the earlier active lines that define the same key. All of them are found in one
+/// pass over the deck.
 #[derive(Drop)]
 pub(crate) struct Shadows {
-    // For each line the first one that it replaces, and for each replaced line the next one.
+    // For each line in force, the first line that it replaces, and for each replaced line, the next one.
     next: Vec<Option<usize>>,
     active: Vec<bool>,
 }
 
 impl Shadows {
-    /// The replaced lines of a deck.
+    /// Finds the replaced lines of a deck.
     pub(crate) fn of(alloc: Global, deck: &Deck) -> Result<Shadows, AllocError> {
         let active = deck.active_lines(alloc)?;
         let mut next = Vec::new(alloc);
@@ -33,7 +33,7 @@ impl Shadows {
         Ok(shadows)
     }
 
-    // Whether more active lines define keys than there are keys.
+    // Returns whether more active lines define keys than there are keys.
     fn has_any(&self, deck: &Deck) -> bool {
         let mut lines = 0usize;
         for place in 0..self.active.len() {
@@ -48,7 +48,7 @@ impl Shadows {
         lines > keys
     }
 
-    /// The line in force of the key of an active line, if that is another one.
+    /// Returns the line in force of the key of an active line, if that is a different line.
     pub(crate) fn replacing(&self, deck: &Deck, place: usize) -> Option<usize> {
         if !self.active.get(place).copied().unwrap_or(false) {
             return None;
@@ -58,14 +58,14 @@ impl Shadows {
         if last == place { None } else { Some(last) }
     }
 
-    // Links a line before the others that its last line replaces.
+    // Inserts a line in front of the other lines that `last` replaces.
     fn link(&mut self, place: usize, last: usize) {
         let first = self.after(last);
         self.set(place, first);
         self.set(last, Some(place));
     }
 
-    /// The first line that a line replaces, or the next one after a replaced line.
+    /// Returns the first line that a line replaces, or the next one after a replaced line.
     pub(crate) fn after(&self, place: usize) -> Option<usize> {
         match self.next.get(place) {
             Some(next) => *next,

@@ -1,16 +1,16 @@
-//! How a run ends.
+//! The exit status of a run.
 
 ghost use Rattle.std.specs.Prelude.{◌≡◌};
 ghost use Rattle.units_why.specs.Statuses as spec;
 
-/// The ending of a run, with the numbers that `units` has for it.
+/// The outcome of a run. The numbers are the same as those of `units`.
 #[derive(Clone, Copy, Debug, PartialEq, Eq)]
 pub(crate) enum Status {
     /// The answer is written.
     Done,
     /// The value is a fault or a conformability error, or the definitions have findings.
     Refused,
-    /// The words are not taken.
+    /// The command line is not valid.
     Usage,
     /// The definition file is absent, too long, or too much for a deck.
     NoFile,
@@ -23,7 +23,7 @@ pub(crate) enum Status {
 }
 
 impl Status {
-    /// The number that the process ends with.
+    /// Returns the exit code of the process.
     pub(crate) fn code(self) -> u8
         ensures { result ≡ spec.code_of self }
     {

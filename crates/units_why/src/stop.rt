@@ -1,26 +1,26 @@
-//! Why a run ends without an answer.
+//! The reasons why a run ends without an answer.
 
 use crate::status::Status;
 use deck::DeckFault;
 use std::alloc::AllocError;
 
-/// Why a run ends without an answer.
+/// The reasons why a run ends without an answer.
 #[derive(Clone, Copy, Debug, PartialEq, Eq)]
 pub(crate) enum Stop {
-    /// There is no file of this name.
+    /// There is no file with this name.
     NoFile,
     /// The file is longer than the limit.
     FileTooLong,
-    /// The lines pass a limit.
+    /// The lines exceed a limit of the deck.
     DeckFull,
     /// A file could not be read.
     ReadFailed,
-    /// Want of memory.
+    /// Memory ran out.
     OutOfMemory,
 }
 
 impl Stop {
-    /// The status of the run.
+    /// Returns the status of the run.
     pub(crate) fn status(self) -> Status {
         match self {
             Stop::NoFile | Stop::FileTooLong | Stop::DeckFull => Status::NoFile,
@@ -29,7 +29,7 @@ impl Stop {
         }
     }
 
-    /// The words before the name of the file, or none if the run says nothing.
+    /// Returns the words before the name of the file, or `None` if the run prints no message.
     pub(crate) fn words(self) -> Option<&'static [u8]> {
         match self {
             Stop::NoFile => Some(b"units-why: no file: ".as_slice()),

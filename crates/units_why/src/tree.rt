@@ -22,20 +22,20 @@ pub(crate) struct TreeRow {
     pub(crate) is_explained: bool,
 }
 
-/// What there is to say of a row.
+/// What is known about a row.
 #[derive(Drop)]
 pub(crate) enum Standing {
     /// The word is unknown, or the name of a function that is refused.
     Unknown,
-    /// The key has a row above.
+    /// The key already has a row above.
     Above,
-    /// The key has a row above that this one is below: its definition is on a cycle.
+    /// The key has a row above, and this row is below that row: the definition is on a cycle.
     Cycle,
     /// The line in force of the key is at this place of the deck, and its definition has this outcome.
     Defined(usize, Outcome),
 }
 
-/// The tree of an expression. It has no row if the text is no expression.
+/// Returns the tree of an expression. It has no row if the text is not an expression.
 pub(crate) fn tree_of<L: Ledger>(
     alloc: Global,
     table: &mut LiveTable,
@@ -57,7 +57,7 @@ pub(crate) fn tree_of<L: Ledger>(
     Ok(tree)
 }
 
-// Puts a row at the end of a tree.
+// Appends a row to a tree.
 fn put_row<L: Ledger>(
     alloc: Global,
     table: &mut LiveTable,
@@ -85,13 +85,13 @@ fn put_row<L: Ledger>(
     Ok(())
 }
 
-// The place of the line in force of the key of a row.
+// Returns the place of the line in force of the key of a row.
 fn place_of(deck: &Deck, row: &Row) -> Option<usize> {
     let key = row.key()?;
     deck.last_place(key)
 }
 
-// What there is to say of a row whose key has its line in force at this place.
+// Returns what is known about a row whose key has its line in force at `place`.
 fn standing_of<L: Ledger>(
     alloc: Global,
     table: &mut LiveTable,
@@ -120,7 +120,7 @@ fn standing_of<L: Ledger>(
     Ok(Standing::Defined(place, outcome))
 }
 
-// The place of the definition that the rows below a row come from.
+// Returns the place of the definition that the rows below a row come from.
 fn defined_at(standing: &Standing) -> Option<usize> {
     match standing {
         Standing::Defined(place, _) => Some(*place),
@@ -128,7 +128,7 @@ fn defined_at(standing: &Standing) -> Option<usize> {
     }
 }
 
-// Whether a row has a fault.
+// Returns whether a row has a fault.
 fn has_fault(path: &Path, standing: &Standing, place: Option<usize>) -> bool {
     match standing {
         Standing::Unknown | Standing::Cycle => true,
@@ -141,7 +141,7 @@ fn has_fault(path: &Path, standing: &Standing, place: Option<usize>) -> bool {
     }
 }
 
-// Notes at the row above that a row directly below it has a fault.
+// Marks the row above: a row directly below it has a fault, which explains its own.
 fn mark_parent(path: &Path, tree: &mut Vec<TreeRow>) {
     if let Some(parent) = path.parent() {
         if parent < tree.len() {

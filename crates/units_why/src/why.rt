@@ -1,4 +1,4 @@
-//! The answer to why an expression has its value.
+//! Explains why an expression has its value.
 
 ghost use Rattle.reply.specs.Options.{IsPrintable};
 
@@ -17,7 +17,7 @@ use std::alloc::{AllocError, Global};
 use std::sync::ledger::Ledger;
 use units_io::Steps;
 
-/// What is asked: an expression, a unit to which it is converted, which may be blank, and whether the answer is JSON.
+/// A query: an expression, the unit to convert it to, which may be blank, and whether the answer is JSON.
 #[derive(Clone, Copy)]
 pub(crate) struct Question<'a> {
     pub(crate) from: &'a [u8],
@@ -25,7 +25,7 @@ pub(crate) struct Question<'a> {
     pub(crate) json: bool,
 }
 
-/// The reply to a question, followed by the trees of its expression and its unit.
+/// Returns the reply to a question, followed by the trees of its expression and its unit.
 pub(crate) fn explain<L: Ledger>(
     alloc: Global,
     definitions: &mut Definitions,

@@ -34,7 +34,7 @@ none_there : (ks : List Key) → length ks ≡ 0 → ks ≡ []
 none_there [] e = refl
 none_there (k ∷ ks) e = absurd (omega (arith, e))
 
--- ---- what a search among the keys of a table found, where none was tried before
+-- ---- the targets that a search among the keys of a table found, if none was tried before
 pub found_by : (t : Table) (u : WordUse) (law : LookupLaw) (w : Targets) (before tried : List Key) (kind : WordKind)
     (text : List ℕ)
     → before ≡ [] → kind ≡ u.kind → text ≡ u.text

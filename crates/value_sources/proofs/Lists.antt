@@ -1,4 +1,4 @@
--- Members of lists, and of lists that are made from lists.
+-- Members of lists, and of lists that are computed from lists.
 use Rattle.std.proofs.Common.{◌≡◌, ◌⊎◌, ◌<◌, ◌∷◌, [], ℕ, zero, suc, Bool, true, List, length, map, get_or, Contains}
 use Rattle.std.proofs.Common.{flat_map, refl, sym, ap, subst, inl, inr, arith}
 use Rattle.std.specs.List.{list_any}
@@ -22,7 +22,7 @@ module _ {A : Type 0} where
       at zero l e = inl (sym e)
       at (suc i) l e = inr (i, omega arith, e)
 
-  -- a test that holds of a member, and a member of which a test holds
+  -- a test that holds for a member, and a member for which a test holds
   pub any_member : (p : A → Bool) (xs : List A) (x : A) → Contains xs x → p x ≡ true → list_any p xs ≡ true
   any_member p [] x i e = absurd (no_member x i)
   any_member p (y ∷ ys) x i e =

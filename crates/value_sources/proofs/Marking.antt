@@ -23,14 +23,14 @@ or_none : (b : Bool) → (b || false) ≡ cond b true false
 or_none true = refl
 or_none false = refl
 
--- a key is among some keys and one more if it is among them or is that one
+-- a key is among some keys and one more if it is among them or is the additional one
 among_push : (before : List Key) (n k : Key)
     → is_among (before ++ n ∷ []) k ≡ cond (is_same k n) true (is_among before k)
 among_push [] n k = or_none (is_same k n)
 among_push (m ∷ before) n k =
     or_cond (is_same k m) (is_same k n) (is_among (before ++ n ∷ []) k) (is_among before k) (among_push before n k)
 
--- once its line is marked, a key is among those that were visited
+-- once the line of a key is marked, the key is among the visited ones
 pub marked_next : (d : Contents) (marks : List Bool) (before : List Key) (n : Key) (place : ℕ)
     → length marks ≡ length d.lines → MarksVisits d marks before → last_place d.settings d.lines n ≡ Some place
     → MarksVisits d (set marks place true) (before ++ n ∷ [])

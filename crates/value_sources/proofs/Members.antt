@@ -21,7 +21,7 @@ use Rattle.value_sources.proofs.Words.{key_words_are, words_at}
 abbrev pub LeadOn : List Mention → Key → Type 0
 LeadOn ms n = (m : Mention) × Contains ms m × (m.target ≡ Some n)
 
--- a key that is among others is one of them, and the other way round
+-- a key is found among others if and only if it is one of them
 pub among_is : (ks : List Key) (n : Key) → is_among ks n ≡ true → Contains ks n
 among_is ks n e =
     let r : (k : Key) × Contains ks k × (is_same n k ≡ true) = any_cases (is_same n) ks e in
@@ -65,7 +65,7 @@ to_member depth u (k ∷ ks) n i =
     (subst (λ (os : List (Option Key)). Contains os (Some n)) (sym (some_targets depth u k ks))
     (map_member (λ (x : Key). Some x) (k ∷ ks) n i))
 
--- ---- mentions of words lead exactly to the keys to which the words do
+-- ---- mentions of words lead exactly to the keys that the words lead to
 lead_cases : (table : Table) (depth : ℕ) (uses : List Use) (n : Key) → LeadOn (mentions table depth uses) n
     → WordsLeadTo table (words_of uses) n
 lead_cases table depth uses n (m, i, e) =
@@ -84,7 +84,7 @@ lead_member table depth uses n (w, i, t) =
     to_member depth r.0 (targets table r.0.word) n (subst (λ (x : WordUse). Contains (targets table x) n) r.2 t) in
     (l.0, flat_member (λ (u : Use). mentions_to depth u (targets table u.word)) uses r.0 l.0 r.1 l.1, sym l.2)
 
--- those of an entry
+-- the mentions of an entry lead exactly to the keys that its words lead to
 pub entry_cases : (table : Table) (depth : ℕ) (k n : Key) → LeadOn (mentions table depth (key_uses table k)) n
     → WordsLeadTo table (key_words table k) n
 entry_cases table depth k n l =
@@ -97,7 +97,7 @@ entry_member table depth k n l =
     lead_member table depth (key_uses table k) n
     (subst (λ (ws : List WordUse). WordsLeadTo table ws n) (sym (key_words_are table k)) l)
 
--- those of an expression
+-- the mentions of an expression lead exactly to the keys that its words lead to
 pub first_cases : (table : Table) (words : List WordUse) (n : Key) → LeadOn (first_mentions table words) n
     → WordsLeadTo table words n
 first_cases table words n l =

@@ -14,7 +14,7 @@ use Rattle.value_sources.specs.Rows.{AreRows, AreRowsOf, Finished, Visited, Skip
 use Rattle.value_sources.proofs.Members.{is_among_of}
 use Rattle.value_sources.proofs.Reached.{keys_visited}
 
--- a key that equals none of some keys is the same as none of them
+-- a key that equals none of some keys is not found among them
 apart : (n : Key) (ks : List Key) → ((k : Key) → Contains ks k → n ≡ k → ⊥)
     → AllByRecursion (λ k. is_same n k ≡ false) ks
 apart n [] h = tt
@@ -25,7 +25,7 @@ apart n (k ∷ ks) h = (not_same (is_same n k) refl, apart n ks (λ j i. h j (me
     not_same false e = refl
 
 module _ (table : Table) where
-  -- no visited key was visited before
+  -- no key that the rows visit was visited before
   keys_new : {before : List Key} {pending : List Mention} {rows : List Row} → AreRows table before pending rows
       → (n : Key) → Contains (visited_keys rows) n → Contains before n → ⊥
   keys_new Finished n i j = no_member n i

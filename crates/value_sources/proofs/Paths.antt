@@ -1,4 +1,4 @@
--- The keys of the entries that a row is in.
+-- The keys of the entries that contain a row.
 use Rattle.std.proofs.Common.{◌≡◌, ◌⊎◌, ◌++◌, ◌∷◌, ◌+◌, ◌<◌, ◌&&◌, [], ℕ, zero, suc, Bool, true, false}
 use Rattle.std.proofs.Common.{true≢false, not, List}
 use Rattle.std.proofs.Common.{length, take, set, get_or, Contains, Option, Some, None, option_map, refl, sym, ap}
@@ -66,7 +66,7 @@ same_bool false false f g = refl
 
 -- ---- a path and the lines of its keys
 module _ (d : Contents) (depths places : List ℕ) (path : List Key) (is : IsPath d depths places path) where
-  -- at each place of a line is a key of which it is the line
+  -- at each place of a line the path has a key for which that line is in force
   key_there : (i place : ℕ) → slice_get places i ≡ Some place
       → (k : Key) × (slice_get path i ≡ Some k) × (last_place d.settings d.lines k ≡ Some place)
   key_there i place e = by (slice_get path i) refl
@@ -86,7 +86,7 @@ module _ (d : Contents) (depths places : List ℕ) (path : List Key) (is : IsPat
             (ap (option_map (last_place d.settings d.lines)) (sym q) ∙ h),
       )
 
-  -- and each key has its line
+  -- each key of the path has its line at the same place
   line_there : (i : ℕ) (k : Key) → slice_get path i ≡ Some k
       → (place : ℕ) × (slice_get places i ≡ Some place) × (last_place d.settings d.lines k ≡ Some place)
   line_there i k e = by (slice_get places i) refl
@@ -115,7 +115,7 @@ module _ (d : Contents) (depths places : List ℕ) (path : List Key) (is : IsPat
       line_there i k at in
       (i, r.0, r.1, r.2)
 
-  -- so a line is one of the path exactly if its key is
+  -- a line is on the path exactly if its key is
   member_by : (n : Key) (i place : ℕ) → last_place d.settings d.lines n ≡ Some place → slice_get places i ≡ Some place
       → Contains path n
   member_by n i place e at =
@@ -155,7 +155,7 @@ module _ (d : Contents) (depths places : List ℕ) (path : List Key) (is : IsPat
       let z : None ≡ Some r.1 = sym e ∙ r.3 in cc)
       (λ h. absurd (true≢false (sym h)))
 
-  -- the path up to some depth
+  -- the path up to a depth
   pub path_cut : (k : ℕ) → IsPath d depths (take k places) (take k path)
   path_cut k = record {
     places_are = sym (take-map (λ (x : ℕ). Some x) k places)
@@ -163,7 +163,7 @@ module _ (d : Contents) (depths places : List ℕ) (path : List Key) (is : IsPat
     depths_are = λ i place e. is.depths_are i place (get_take k places i place e);
   }
 
-  -- one more key
+  -- the path with one more key
   pub path_push : (n : Key) (place : ℕ) → last_place d.settings d.lines n ≡ Some place → (Contains path n → ⊥)
       → place < length depths
       → IsPath d (set depths place (length places)) (places ++ place ∷ []) (path ++ n ∷ [])
@@ -189,8 +189,8 @@ no_path d depths places none =
     subst (λ (ps : List ℕ). IsPath d depths ps []) (sym none)
     (record { places_are = refl; depths_are = λ i place e. cc })
 
--- ---- what a row does
--- a row without a key
+-- ---- the effect of a row
+-- a row without a key does not close a cycle
 pub closes_none : (path : List Key) (r : Row) → r.mention.target ≡ None → closes_cycle path r ≡ false
 closes_none path r e = ap (λ (o : Option Key). not r.is_visit && is_on (path_at path r) o) e ∙ by r.is_visit
   where
@@ -198,11 +198,11 @@ closes_none path r e = ap (λ (o : Option Key). not r.is_visit && is_on (path_at
     by true = refl
     by false = refl
 
--- a row that visits its key
+-- a row that visits its key does not close a cycle
 pub closes_visit : (path : List Key) (r : Row) → r.is_visit ≡ true → closes_cycle path r ≡ false
 closes_visit path r e = ap (λ (b : Bool). not b && is_on (path_at path r) r.mention.target) e
 
--- a row that does not
+-- a row that does not visit its key closes a cycle exactly if the key is on the path
 pub closes_skip : (path : List Key) (r : Row) (n : Key) → r.is_visit ≡ false → r.mention.target ≡ Some n
     → closes_cycle path r ≡ is_among (path_at path r) n
 closes_skip path r n e t =
@@ -221,7 +221,7 @@ visited_skip r e = ap (λ (b : Bool). cond b r.mention.target None) e
 pub visited_visit : (r : Row) (n : Key) → r.is_visit ≡ true → r.mention.target ≡ Some n → visited_key r ≡ Some n
 visited_visit r n e t = ap (λ (b : Bool). cond b r.mention.target None) e ∙ t
 
--- the line of a key is one of the deck
+-- the line of a key is one of the lines of the deck
 pub line_inside : (d : Contents) (o : Option Key) (place : ℕ)
     → option_and_then (last_place d.settings d.lines) o ≡ Some place → place < length d.lines
 line_inside d None place e = cc
@@ -237,7 +237,7 @@ module _ (d : Contents) (depths places : List ℕ) (path : List Key) (r : Row) (
   stays e = subst (IsPath d depths now)
       (sym (ap (λ (o : Option Key). path_at path r ++ cons_option o []) e ∙ append-nil (path_at path r))) cut
 
-  -- a row whose key has no line
+  -- the path after a row whose key has no line
   pub row_without_line : option_and_then (last_place d.settings d.lines) r.mention.target ≡ None → CanFollow d path r
       → (false ≡ closes_cycle path r) × IsPath d depths now (path_after path r)
   row_without_line none follow = by r.mention.target refl none
@@ -256,7 +256,7 @@ module _ (d : Contents) (depths places : List ℕ) (path : List Key) (r : Row) (
       by None t e = (sym (closes_none path r t), stays (visited_none r t))
       by (Some n) t e = without n t e r.is_visit refl
 
-  -- a row that visits nothing
+  -- the path after a row that visits nothing
   pub row_skipped : (place : ℕ) → option_and_then (last_place d.settings d.lines) r.mention.target ≡ Some place
       → r.is_visit ≡ false
       → (is_open depths now place ≡ closes_cycle path r) × IsPath d depths now (path_after path r)
@@ -270,7 +270,7 @@ module _ (d : Contents) (depths places : List ℕ) (path : List Key) (r : Row) (
         stays (visited_skip r v),
       )
 
-  -- a row that visits its key
+  -- the path after a row that visits its key
   pub row_visited : (place len : ℕ) (after : List ℕ) → len ≡ length now → after ≡ now ++ place ∷ []
       → option_and_then (last_place d.settings d.lines) r.mention.target ≡ Some place → r.is_visit ≡ true
       → length depths ≡ length d.lines → CanFollow d path r
@@ -338,7 +338,7 @@ left_next law d path _ _ (before, _, Visited {m = m} {n = k} {pending = pending}
       ],
 )
 
--- the flag of one more row is put behind the others
+-- the flag of one more row is appended to the others
 pub flags_next : (flags now : List Bool) (flag : Bool) (path : List Key) (r : Row) (left rest : List Row)
     (all : List Bool) → left ≡ r ∷ rest → now ≡ flags ++ flag ∷ [] → flag ≡ closes_cycle path r
     → flags ++ cycle_flags path left ≡ all → now ++ cycle_flags (path_after path r) rest ≡ all

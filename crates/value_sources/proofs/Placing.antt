@@ -21,7 +21,7 @@ use Rattle.deck.specs.PlacedKeys.{key_there}
 use Rattle.deck.specs.Tables.{Definitions, definition_by, definitions, definitions_by, definitions_from, entry_at}
 use Rattle.deck.specs.Tables.{is_present, last_place, place_of, table, table_of}
 
--- each of these that a key finds is that of the line at its place
+-- each definition that a key finds is that of the line at its place
 abbrev AreInPlace : List DeckLine → Definitions → Type 0
 AreInPlace lines ds =
     (k : Key) (d : ℕ × Entry) → lookup (is_same k) ds ≡ Some d → definition_at lines d.0 ≡ Some (k, d.1)
@@ -31,32 +31,32 @@ abbrev EachInPlace : List DeckLine → Definitions → Type 0
 EachInPlace lines [] = ⊤
 EachInPlace lines (d ∷ ds) = (definition_at lines d.1.0 ≡ Some (d.0, d.1.1)) × EachInPlace lines ds
 
--- definitions of two lists that are in place are so together
+-- definitions of two lists that are in place are in place in the concatenation
 each-append : (lines : List DeckLine) (ds es : Definitions) → EachInPlace lines ds → EachInPlace lines es
     → EachInPlace lines (ds ++ es)
 each-append lines [] es h g = g
 each-append lines (d ∷ ds) es h g = (h.0, each-append lines ds es h.1 g)
 
--- and in the other order
+-- definitions that are in place are in place in reverse order
 each-reverse : (lines : List DeckLine) (ds : Definitions) → EachInPlace lines ds → EachInPlace lines (reverse ds)
 each-reverse lines [] h = tt
 each-reverse lines (d ∷ ds) h =
     subst (EachInPlace lines) (sym (reverse-append (d ∷ []) ds))
     (each-append lines (reverse ds) (d ∷ []) (each-reverse lines ds h.1) (h.0, tt))
 
--- the next item is at the length of a list
+-- the item after a list is at the place that is the length of the list
 at_length : {A : Type 0} (xs : List A) (y : A) (ys : List A) → slice_get (xs ++ y ∷ ys) (length xs) ≡ Some y
 at_length [] y ys = refl
 at_length (x ∷ xs) y ys = at_length xs y ys
 
--- so is what a line defines
+-- the definition of a single line is in place
 one_in_place : (lines : List DeckLine) (place : ℕ) (active : Bool) (o : Option (Key × Entry))
     → definition_at lines place ≡ o → EachInPlace lines (definition_by place active o)
 one_in_place lines place active None h = tt
 one_in_place lines place true (Some e) h = (h, tt)
 one_in_place lines place false (Some e) h = tt
 
--- and what lines define from a place on
+-- the definitions of the lines from a place on are in place
 from_in_place : (fs : List Bool) (xs before lines : List DeckLine) → lines ≡ before ++ xs
     → EachInPlace lines (definitions_from (length before) fs xs)
 from_in_place [] xs before lines e = tt
@@ -69,7 +69,7 @@ from_in_place (f ∷ fs) (x ∷ xs) before lines e =
     (subst (λ n. EachInPlace lines (definitions_from n fs xs)) next
     (from_in_place fs xs (before ++ x ∷ []) lines (e ∙ sym (append_assoc before (x ∷ []) xs))))
 
--- so is what a key finds
+-- the definition that a key finds is in place
 found : (lines : List DeckLine) (ds : Definitions) → EachInPlace lines ds → AreInPlace lines ds
 found lines [] h k v e = cc
 found lines (d ∷ ds) h k v e = by (λ g. found lines ds h.1 k v g) (is_same k d.0) refl e
@@ -82,7 +82,7 @@ found lines (d ∷ ds) h k v e = by (λ g. found lines ds h.1 k v g) (is_same k 
         (h.0 ∙ ap (λ j. Some (j, d.1.1)) (sym ((same_keys k d.0).0 t)))
     by ih false t g = ih g
 
--- and so are the definitions of a deck
+-- the definitions of a deck are in place
 in_place : (d : Contents) → AreInPlace d.lines (definitions d.settings d.lines)
 unfolding definitions
 in_place d =
@@ -101,7 +101,7 @@ entry_found (d ∷ ds) k = ap (cond (is_same k d.0) (Some d.1.1)) (entry_found d
     by true = refl
     by false = refl
 
--- a key has a place where it has an entry
+-- a key has a place exactly if it has an entry
 place_present : (ds : Definitions) (k : Key) → is_some (place_of ds k) ≡ is_present (table_of ds) k
 place_present ds k = by (lookup (is_same k) ds) ∙ ap is_some (sym (entry_found ds k))
   where
@@ -125,17 +125,17 @@ there_by lines ds placed k place = by (lookup (is_same k) ds) refl
     by None e h = cc
     by (Some d) e h = ap (key_there lines) (sym (same_Some d.0 place h)) ∙ ap (option_map (λ d. d.0)) (placed k d e)
 
--- the line at the last place of a key defines it
+-- the line at the last place of a key defines the key
 pub there : (d : Contents) (k : Key) (place : ℕ) → last_place d.settings d.lines k ≡ Some place
     → key_there d.lines place ≡ Some k
 there d k place e = there_by d.lines (definitions d.settings d.lines) (in_place d) k place e
 
--- so keys with one last place are one
+-- two keys with the same last place are equal
 pub one_key : (d : Contents) (k n : Key) (place : ℕ) → last_place d.settings d.lines k ≡ Some place
     → last_place d.settings d.lines n ≡ Some place → k ≡ n
 one_key d k n place e h = same_Some k n (sym (there d k place e) ∙ there d n place h)
 
--- and the place is one of a line
+-- the last place of a key is the place of a line
 pub within : (d : Contents) (k : Key) (place : ℕ) → last_place d.settings d.lines k ≡ Some place
     → place < length d.lines
 within d k place e = by (slice_get d.lines place) refl (there d k place e)

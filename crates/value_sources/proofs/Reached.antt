@@ -16,13 +16,13 @@ use Rattle.value_sources.specs.Rows.{visited}
 use Rattle.value_sources.proofs.Members.{LeadOn, among_is, entry_cases, entry_member, first_cases, first_member}
 use Rattle.value_sources.specs.Uses.{key_uses}
 
--- what the words of a reached key reach is reached
+-- a key that the words of a reached key lead to is reached
 onward : {table : Table} {words : List WordUse} {n m : Key} → WordsReach table words n
     → WordsReach table (key_words table n) m → WordsReach table words m
 onward (at_once l) r = further l r
 onward (further l q) r = further l (onward q r)
 
--- a row that visits a key adds it to the keys
+-- a row that visits a key adds it to the visited keys
 pub keys_visited : (m : Mention) (n : Key) (rows : List Row) → m.target ≡ Some n
     → visited_keys (visited m ∷ rows) ≡ n ∷ visited_keys rows
 keys_visited m n rows e = ap (λ (o : Option Key). cons_option o (visited_keys rows)) e
@@ -56,7 +56,7 @@ module _ (table : Table) where
   abbrev IsKnown : List Key → List Row → Key → Type 0
   IsKnown before rows n = Contains before n ⊎ Contains (visited_keys rows) n
 
-  -- with one more visit
+  -- a known key is known with one more visit
   with_visited : (before : List Key) (m : Mention) (k : Key) (rows : List Row) → m.target ≡ Some k → (n : Key)
       → IsKnown (before ++ k ∷ []) rows n → IsKnown before (visited m ∷ rows) n
   with_visited before m k rows e n (inl i) =
@@ -91,7 +91,7 @@ module _ (table : Table) where
             (x, Contains-append_right (mentions table (m.depth + 1) (key_uses table k)) pending x j, q))
       ]
 
-  -- so are the keys that the words of a visited key lead to
+  -- the keys that the words of a visited key lead to were visited before or are visited by the rows
   pub keys_known : {before : List Key} {pending : List Mention} {rows : List Row} → AreRows table before pending rows
       → (k n : Key) → Contains (visited_keys rows) k → WordsLeadTo table (key_words table k) n → IsKnown before rows n
   keys_known Finished k n i l = absurd (no_member k i)
@@ -110,7 +110,7 @@ module _ (table : Table) where
       first_lead (x, a, b) =
           (x, Contains-append_left (mentions table (m.depth + 1) (key_uses table j)) pending x a, b)
 
-  -- if nothing was visited before, the rows visit them all
+  -- if nothing was visited before, the rows visit all known keys
   known_visited : (rows : List Row) (n : Key) → IsKnown [] rows n → Contains (visited_keys rows) n
   known_visited rows n (inl i) = absurd (no_member n i)
   known_visited rows n (inr i) = i

@@ -11,7 +11,7 @@ use Rattle.value_sources.specs.Mentions.{Mention, mentions, mentions_to}
 use Rattle.value_sources.specs.Uses.{Use, use_at, uses_at}
 
 module _ {A : Type 0} where
-  -- the last of those that are left is pushed
+  -- the last of the remaining mentions is pushed
   pub push_last : (pending left_before now left all : List A) (m : A) → left_before ≡ left ++ m ∷ []
       → now ≡ pending ++ m ∷ [] → pending ++ reverse left_before ≡ all → now ++ reverse left ≡ all
   push_last pending left_before now left all m f n h =
@@ -19,7 +19,7 @@ module _ {A : Type 0} where
       ∙ (append_assoc pending (m ∷ []) (reverse left)
       ∙ (ap (λ (xs : List A). pending ++ xs) (sym (ap reverse f ∙ reverse-append left (m ∷ []))) ∙ h))
 
-  -- all of them were pushed
+  -- all mentions were pushed
   pub pushed_all : (pending now ms : List A) → now ≡ pending ++ reverse ms → reverse now ≡ ms ++ reverse pending
   pushed_all pending now ms n =
       ap reverse n
@@ -40,7 +40,7 @@ mentions_next t depth s words i d lt ns led before now all n h =
     ∙ (ap (λ (ms : List Mention). before ++ ms)
     (sym (at_drop_more (λ (ws : List WordUse). mentions t depth (uses_at s ws)) words i d lt)) ∙ h))
 
--- the mentions of two lists of words
+-- the mentions of two lists of words are appended one after another
 pub mentions_both : (t : Table) (depth : ℕ) (a b : List Use)
     → mentions t depth (a ++ b) ≡ mentions t depth a ++ mentions t depth b
 mentions_both t depth [] b = refl

@@ -1,4 +1,4 @@
--- Keys at which a word looks, one behind another.
+-- The keys that a lookup tries in turn.
 use Rattle.std.proofs.Common.{◌≡◌, ◌≤◌, ◌+◌, ◌-◌, ◌++◌, ◌∷◌, [], ℕ, suc, List, Some, length, take, drop, refl, ◌∙◌, ap}
 use Rattle.std.proofs.Common.{arith, length-append}
 use Rattle.std.specs.List.{slice_get}
@@ -9,7 +9,7 @@ use Rattle.def_entry.specs.declared.key.Kind.{Kind}
 use Rattle.value_sources.specs.declared.tried_keys.TriedKey.{TriedKey}
 use Rattle.value_sources.specs.TriedKeys.{AreWithin, key_in, keys_in}
 
--- a name stays the same where more come behind
+-- the name of a key does not change when bytes are appended
 same_key : (visited_keys more : List ℕ) (k : TriedKey) → k.start ≤ k.end → k.end ≤ length visited_keys
     → key_in (visited_keys ++ more) k ≡ key_in visited_keys k
 same_key visited_keys more k h w =
@@ -31,7 +31,7 @@ same_keys visited_keys more (k ∷ ks) s e =
     same_keys visited_keys more ks (λ i x q. s (suc i) x q) (λ i x q. e (suc i) x q) in
     λ i. a i ∷ b i
 
--- what stands behind the visited_keys before is the name of the last
+-- the bytes after the previous names are the name of the last key
 last_key : (visited_keys more : List ℕ) (k : TriedKey) → k.start ≡ length visited_keys
     → k.end ≡ length (visited_keys ++ more)
     → key_in (visited_keys ++ more) k ≡ key k.kind more
@@ -42,7 +42,7 @@ last_key visited_keys more k s e =
     ∙ (ap (λ (xs : List ℕ). key k.kind (take (k.end - k.start) xs)) (drop-append_seam visited_keys more)
     ∙ ap (key k.kind) (take_all (k.end - k.start) more m))
 
--- one more key is put behind the others
+-- one more key is appended
 pub tried_push : (visited_keys more all : List ℕ) (ks now : List TriedKey) (kind : Kind) (start end : ℕ)
     → AreWithin visited_keys ks
     → all ≡ visited_keys ++ more → now ≡ ks ++ record { kind = kind; start = start; end = end } ∷ []

@@ -35,7 +35,7 @@ worth_back : (r : Worth) → r ≡ worth_in (kept r)
 worth_back (Ok q) = refl
 worth_back (Err fault) = refl
 
--- what a key stands for that stands for an expression
+-- the meaning of a key that is an expression
 one_value : (t : Table) (n : Key) (x : Expanded) → key_meaning t n ≡ One x
     → value x None ≡ worth_in (outcome t n)
 one_value t n x e = worth_back (value x None) ∙ ap (λ (m : Meaning). worth_in (outcome_of m)) (sym e)
@@ -90,7 +90,7 @@ module _ (t : Table) (w : List ℕ) (d : Entry) (there : entry_at t (key kind.Un
       ∙ ap (by_names None) (ap (λ (m : Meaning). value (plain m) None) (word_means ∙ means)
       ∙ one_value t (key kind.Unit w) x means)
 
--- ---- by what the entry says
+-- ---- by the definition of the key
 module _ (closing : ClosedLaw) (meaning : ClosedMeaningLaw) (t : Table) where
   primitive_value : (k : Kind) (w : List ℕ) (d : Entry) (x : Expanded) (e : Syntax)
       → entry_at t (key k w) ≡ Some d → meaning_of (word_meaning t) w d.what ≡ One x → named_unit k w ≡ Some e

@@ -22,7 +22,7 @@ use Rattle.value_sources.proofs.Lists.{member_first, member_later}
 use Rattle.value_sources.proofs.Members.{entry_cases, first_cases}
 use Rattle.value_sources.proofs.Marking.{marked_next}
 
--- the keys that rows and one more visit
+-- the keys that rows and one more row visit
 keys_push : (rows : List Row) (r : Row)
     → visited_keys (rows ++ r ∷ []) ≡ visited_keys rows ++ cons_option (visited_key r) []
 keys_push [] r = refl
@@ -42,7 +42,7 @@ keys_visited : (rows : List Row) (m : Mention) (n : Key) → m.target ≡ Some n
 keys_visited rows m n e =
     keys_push rows (visited m) ∙ ap (λ (o : Option Key). visited_keys rows ++ cons_option o []) e
 
--- the keys to which words lead have entries, and so have those of mentions
+-- the keys that words, and so mentions, lead to have entries
 lead_found : TargetsLaw → (d : Contents) (words : List WordUse) (n : Key) → WordsLeadTo (table d) words n
     → is_present (table d) n ≡ true
 lead_found law d words n (u, i, t) = (law (is_present (table d)) u.kind u.text n t).1
@@ -55,7 +55,7 @@ pub first_found : TargetsLaw → (d : Contents) (words : List WordUse) (m : Ment
     → Contains (first_mentions (table d) words) m → IsFound (table d) m
 first_found law d words m i n e = lead_found law d words n (first_cases (table d) words n (m, i, e))
 
--- before the first row
+-- the state before the first row
 pub underway_start : TargetsLaw → (d : Contents) (words : List WordUse) (rows : List Row) (pending : List Mention)
     → rows ≡ []
     → reverse pending ≡ first_mentions (table d) words → IsUnderway d (first_mentions (table d) words) rows pending
@@ -79,7 +79,7 @@ module _ (d : Contents) (start : List Mention) (rows : List Row) (m : Mention) (
   left_found x i = h.found x (subst (λ (ms : List Mention). Contains ms x) (sym reversed)
       (member_later x m (reverse left) i))
 
-  -- after a row that visits nothing
+  -- the state after a row that visits nothing
   pub underway_skipped : is_skipped (visited_keys rows) m.target ≡ true
       → IsUnderway d start (rows ++ skipped m ∷ []) left
   underway_skipped p = record {
@@ -92,7 +92,7 @@ module _ (d : Contents) (start : List Mention) (rows : List Row) (m : Mention) (
     found = left_found;
   }
 
-  -- after a row that visits a key
+  -- the state after a row that visits a key
   pub underway_visited : TargetsLaw → (n : Key) → m.target ≡ Some n → is_among (visited_keys rows) n ≡ false
       → (now : List Mention) → reverse now ≡ mentions (table d) (m.depth + 1) (key_uses (table d) n) ++ reverse left
       → IsUnderway d start (rows ++ visited m ∷ []) now
@@ -112,7 +112,7 @@ module _ (d : Contents) (start : List Mention) (rows : List Row) (m : Mention) (
         ];
   }
 
--- after the last row
+-- the state after the last row
 pub underway_end : (d : Contents) (start : List Mention) (rows : List Row) (pending : List Mention) → pending ≡ []
     → IsUnderway d start rows pending → AreRows (table d) [] start rows
 underway_end d start rows pending none h =
@@ -128,7 +128,7 @@ marks_skipped d marks rows m h = record {
   marked = λ n. h.marked n ∙ ap (λ (ks : List Key). is_among ks n) (sym (keys_skipped rows m));
 }
 
--- and after one that visits a key, whose line was marked
+-- the marks after a row that visits a key, whose line was marked
 pub marks_visited : (d : Contents) (marks : List Bool) (rows : List Row) (m : Mention) (n : Key) (place : ℕ)
     → AreMarked d marks rows → m.target ≡ Some n → last_place d.settings d.lines n ≡ Some place
     → AreMarked d (set marks place true) (rows ++ visited m ∷ [])
@@ -138,7 +138,7 @@ marks_visited d marks rows m n place h e p = record {
       ∙ ap (λ (ks : List Key). is_among ks k) (sym (keys_visited rows m n e));
 }
 
--- ---- what a call answers
+-- ---- the results of calls
 pub on_ok : {A E P Q : Type 0} (r : Result A E) → (P → Q) → OnOk r P → OnOk r Q
 on_ok (Ok x) f p = f p
 on_ok (Err e) f p = p
@@ -147,7 +147,7 @@ pub none_left : (ms : List Mention) → length ms ≡ 0 → ms ≡ []
 none_left [] e = refl
 none_left (m ∷ ms) e = absurd (omega (arith, e))
 
--- the place that is found for the key of a mention, by what equals the marks, the key and the place
+-- the place that is found for the key of a mention, given values equal to the marks, the key and the place
 pub place_found : (d : Contents) (marks flags : List Bool) (rows : List Row) (key other : Option Key)
     (place answer : Option ℕ) → AreMarked d marks rows → flags ≡ marks → other ≡ key → answer ≡ place
     → ((before : List Key) → MarksVisits d flags before → IsUnvisitedPlace d before other answer)

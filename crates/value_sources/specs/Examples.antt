@@ -1,4 +1,4 @@
--- The rows of a small table, by hand.
+-- The rows of a small table, found by hand.
 use Rattle.std.specs.Prelude.{◌≡◌, ℕ, true, false, List, [], ◌∷◌, Some, None, codes, pos}
 use Rattle.expr_tree.specs.declared.word_list.WordUse.{WordUse}
 use Rattle.expr_tree.specs.declared.word_list.WordKind.{WordKind}
@@ -43,7 +43,7 @@ small =
 abbrev pub alone : List ℕ → WordUse
 alone text = record { text = text; kind = word_kind.Plain }
 
--- a word of the expression, and one of the entry of a key of the expression
+-- a word of the expression, and a word of the entry of a key of the expression
 abbrev pub outer : List ℕ → Resolution → Key → Mention
 outer text resolution n =
     record { depth = 0; site = Expression; word = alone text; resolution = resolution; target = Some n }
@@ -106,7 +106,7 @@ loop_rows = visited (outer (codes "loop") Name loop) ∷ skipped (inner (codes "
 
 -- law: the rows of `miles`, a plural, with the prefix and the unit of its entry below; of `m m`, whose second row
 -- visits nothing; of `x`, which is unknown; of `loop`, which is on a cycle; and of `~g(..)`, an alias of a function
--- with an inverse. The expression that gives the value of a prefix is its definition, that of a primitive unit is its
+-- with an inverse. The expression whose value is that of a prefix is its definition, that of a primitive unit is its
 -- name, and a function has none. The second row of `loop` closes a cycle, and the second row of `m m` does not.
 pub record ExamplesLaw : Type 0 where
   pub plural : AreRowsOf small (alone (codes "miles") ∷ [])

@@ -1,4 +1,4 @@
--- The rows of an expression, and what it reaches.
+-- The rows of an expression and the keys that it reaches.
 use Rattle.std.specs.Prelude.{◌≡◌, ◌↔◌, List, Contains}
 use Rattle.std.specs.List.{IsDistinct}
 use Rattle.expr_tree.specs.declared.word_list.WordUse.{WordUse}
@@ -9,7 +9,7 @@ use Rattle.table_names.specs.Leads.{WordsReach}
 use Rattle.value_sources.specs.Rows.{AreRowsOf, Row, visited_keys}
 
 -- law: the words of an expression have at most one list of rows. The keys that the rows visit are exactly those that
--- the words reach, each once. That there is such a list the call `rows` shows by returning it.
+-- the words reach, each once. The call `rows` shows that there is such a list by returning it.
 pub record RowsLaw : Type 0 where
   pub one : (table : Table) (words : List WordUse) (rows others : List Row) → AreRowsOf table words rows
       → AreRowsOf table words others → rows ≡ others

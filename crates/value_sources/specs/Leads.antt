@@ -1,4 +1,4 @@
--- The keys that a word leads to, as the program has them.
+-- The keys that a word leads to, as the code represents them.
 use Rattle.std.specs.Prelude.{ℕ, List, [], ◌∷◌, slice_index_or}
 use Rattle.def_entry.specs.declared.key.Key.{Key}
 use Rattle.def_entry.specs.declared.key.Kind.TheVariants as kind
@@ -11,6 +11,6 @@ lead_keys Nowhere = []
 lead_keys (One n) = n ∷ []
 lead_keys (Two n m) = n ∷ m ∷ []
 
--- the key at a place, one with an empty name beyond the last
+-- the key at a place; its name is empty beyond the last
 abbrev pub key_at : List Key → ℕ → Key
 key_at keys n = slice_index_or keys n (key kind.Unit [])

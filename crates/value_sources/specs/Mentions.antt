@@ -1,4 +1,4 @@
--- Words with the keys that they lead to.
+-- Words together with the keys that they lead to.
 use Rattle.std.specs.Prelude.{ℕ, List, [], ◌∷◌, map, flat_map, if◌then◌else◌, Option, Some, None}
 use Rattle.std.specs.Str.{bytes_eq}
 use Rattle.expr_tree.specs.declared.word_list.WordUse.{WordUse}
@@ -10,8 +10,8 @@ use Rattle.value_sources.specs.declared.resolution.Resolution.TheVariants.{Unkno
 use Rattle.value_sources.specs.declared.site.Site.{Site}
 use Rattle.value_sources.specs.Uses.{Use}
 
--- a word with one key that it leads to, or with none if it is unknown: how many entries deep it is, in which tree, and
--- how it leads to the key
+-- a word with one of the keys that it leads to, or with none if it is unknown: the number of entries that contain it,
+-- the tree that contains it, and how it leads to the key
 pub record Mention : Type 0 where
   pub depth : ℕ
   pub site : Site
@@ -31,12 +31,12 @@ mention_by resolution depth u n =
 abbrev pub sole_resolution : WordUse → Key → Resolution
 sole_resolution u n = if bytes_eq u.text n.name then Name else Plural
 
--- a word with each of the keys that it leads to. Of two keys the first is a prefix and the second its unit.
+-- a word with each of the keys that it leads to. Of two keys the first is a prefix and the second its unit
 abbrev pub mentions_to : ℕ → Use → List Key → List Mention
 mentions_to depth u [] = unknown_mention depth u ∷ []
 mentions_to depth u (n ∷ []) = mention_by (sole_resolution u.word n) depth u n ∷ []
 mentions_to depth u (n ∷ ns) = mention_by Prefix depth u n ∷ map (mention_by PrefixedUnit depth u) ns
 
--- words that are so deep, each with the keys that it leads to
+-- words at this depth, each with the keys that it leads to
 abbrev pub mentions : Table → ℕ → List Use → List Mention
 mentions table depth uses = flat_map (λ u. mentions_to depth u (targets table u.word)) uses

@@ -1,4 +1,4 @@
--- The rows of the tree below an expression: what evaluation meets, in its order, each entry gone through once.
+-- The rows of the tree below an expression: the words that evaluation encounters, in its order, each entry once.
 use Rattle.std.specs.Prelude.{◌≡◌, ◌+◌, ◌++◌, Bool, true, false, List, [], ◌∷◌, filter_map, Option, Some, None}
 use Rattle.std.specs.Prelude.{if◌then◌else◌}
 use Rattle.expr_tree.specs.declared.word_list.WordUse.{WordUse}
@@ -20,13 +20,13 @@ skipped m = record { mention = m; is_visit = false }
 abbrev pub visited : Mention → Row
 visited m = record { mention = m; is_visit = true }
 
--- nothing is visited: there is no key, or it was visited before
+-- no key is visited: there is none, or it was visited before
 abbrev pub is_skipped : (before : List Key) → Option Key → Bool
 is_skipped before None = true
 is_skipped before (Some n) = is_among before n
 
--- The rows of pending mentions, in order, if these keys were visited before. A key that was not is visited at once: the
--- mentions of its entry come before the pending ones.
+-- the rows of pending mentions, in order, if the keys `before` were visited already. A key that was not visited is
+-- visited at once: the mentions of its entry come before the pending ones
 pub data AreRows (table : Table) : (before : List Key) → (pending : List Mention) → List Row → Type 0 where
   Finished : {before : List Key} → AreRows table before [] []
   Skipped : {before : List Key} {m : Mention} {pending : List Mention} {rows : List Row}
@@ -37,11 +37,11 @@ pub data AreRows (table : Table) : (before : List Key) → (pending : List Menti
       → AreRows table (before ++ n ∷ []) (mentions table (m.depth + 1) (key_uses table n) ++ pending) rows
       → AreRows table before (m ∷ pending) (visited m ∷ rows)
 
--- the mentions of the words of an expression itself
+-- the mentions of the words of an expression
 abbrev pub first_mentions : Table → List WordUse → List Mention
 first_mentions table words = mentions table 0 (uses_at Expression words)
 
--- the rows of the words of an expression, before which nothing was visited
+-- the rows of the words of an expression, when no key was visited before
 abbrev pub AreRowsOf : Table → List WordUse → List Row → Type 0
 AreRowsOf table words rows = AreRows table [] (first_mentions table words) rows
 

@@ -1,17 +1,17 @@
--- Keys at which a word looks, their names one behind another.
+-- The keys that the lookup of a word tries, each with the range of its name among the names.
 use Rattle.std.specs.Prelude.{◌≡◌, ◌≤◌, ◌-◌, ℕ, List, Some, length, map, take, drop, slice_get}
 use Rattle.def_entry.specs.Keys.{key}
 use Rattle.def_entry.specs.declared.key.Key.{Key}
 use Rattle.value_sources.specs.declared.tried_keys.TriedKey.{TriedKey}
 
--- the key whose name stands at its place among the names
+-- the key whose name is at its range among the names
 abbrev pub key_in : (names : List ℕ) → TriedKey → Key
 key_in names tried = key tried.kind (take (tried.end - tried.start) (drop tried.start names))
 
 abbrev pub keys_in : (names : List ℕ) → List TriedKey → List Key
 keys_in names tried = map (key_in names) tried
 
--- each name stands within
+-- each range is within the names
 pub record AreWithin (names : List ℕ) (tried : List TriedKey) : Type 0 where
   pub starts : (i : ℕ) (k : TriedKey) → slice_get tried i ≡ Some k → k.start ≤ k.end
   pub ends : (i : ℕ) (k : TriedKey) → slice_get tried i ≡ Some k → k.end ≤ length names

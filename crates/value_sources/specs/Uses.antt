@@ -1,4 +1,4 @@
--- The words of an entry, each with the tree that it is in.
+-- The words of an entry, each with the tree that contains it.
 use Rattle.std.specs.Prelude.{◌≡◌, ◌++◌, ℕ, List, [], ◌∷◌, map, Option, Some, None}
 use Rattle.expr_tree.specs.declared.word_list.WordUse.{WordUse}
 use Rattle.expr_tree.specs.Words.{words_in}
@@ -12,7 +12,7 @@ use Rattle.table_names.specs.Words.{key_words}
 use Rattle.value_sources.specs.declared.site.Site.{Site}
 use Rattle.value_sources.specs.declared.site.Site.TheVariants as site
 
--- a word and the tree that it is in
+-- a word and the tree that contains it
 pub record Use : Type 0 where
   pub site : Site
   pub word : WordUse
@@ -29,11 +29,11 @@ function_uses d =
     uses_at site.InUnit (words_if d.in_unit) ++ uses_at site.OutUnit (words_if d.out_unit)
     ++ uses_at site.Forward (words_in d.forward) ++ uses_at site.Inverse (words_if d.inverse)
 
--- the function that an alias names
+-- the word of an alias, which is the function that it names
 abbrev pub alias_uses : List ℕ → List Use
 alias_uses target = uses_at site.AliasTarget (inverted_word target ∷ [])
 
--- the words of what an entry says, one tree after another
+-- the words of a definition, tree after tree
 abbrev pub what_uses : What → List Use
 what_uses what.Primitive = []
 what_uses what.Dimensionless = []
@@ -47,14 +47,14 @@ abbrev pub entry_uses : Option Entry → List Use
 entry_uses None = []
 entry_uses (Some e) = what_uses e.what
 
--- the words of the entry of a key, none if it has no entry
+-- the words of the entry of a key, or none if it has no entry
 abbrev pub key_uses : Table → Key → List Use
 key_uses table n = entry_uses (entry_at table n)
 
--- the words alone
+-- the words without their trees
 abbrev pub words_of : List Use → List WordUse
 words_of uses = map (λ u. u.word) uses
 
--- law: without their trees these are the words of the key
+-- law: without their trees the uses of a key are its words
 abbrev pub UsesLaw : Type 0
 UsesLaw = (table : Table) (n : Key) → words_of (key_uses table n) ≡ key_words table n

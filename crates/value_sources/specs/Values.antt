@@ -13,7 +13,7 @@ use Rattle.table_names.specs.Closed.{AreClosed}
 use Rattle.table_names.specs.Meanings.{outcome}
 use Rattle.live_table.specs.Answers.{answer, by_names}
 
--- a unit by its name
+-- the name of a unit as an expression
 abbrev pub named_unit : Kind → List ℕ → Option Syntax
 named_unit kind.Unit name = Some (Word name)
 named_unit kind.Prefix name = None
@@ -33,12 +33,13 @@ abbrev pub syntax_by : Kind → List ℕ → Option Entry → Option Syntax
 syntax_by kind name None = None
 syntax_by kind name (Some e) = syntax_in kind name e.what
 
--- The expression of which the value is that of a key: that of its definition, and for a primitive unit its name. The
--- value of the prefix `k- 1000` is that of `1000`, because the word `k` may be a unit. Functions and lists have none.
+-- the expression whose value is that of a key: the expression of its definition, or its name if it is a primitive or
+-- dimensionless unit. The value of the prefix `k- 1000` is that of `1000`, because the word `k` may be a unit.
+-- Functions and lists have no such expression
 abbrev pub value_syntax : Table → Key → Option Syntax
 value_syntax table n = syntax_by n.kind n.name (entry_at table n)
 
--- law: if that expression has no name fault, a query of it is answered by the outcome of the key
+-- law: if the expression of a key has no name fault, the result of a query of it is the outcome of the key
 abbrev pub ValueLaw : Type 0
 ValueLaw = (table : Table) (n : Key) (e : Syntax) → value_syntax table n ≡ Some e → AreClosed table (words_in e)
     → answer table e ≡ by_names None (worth_in (outcome table n))

@@ -1,4 +1,4 @@
--- A walk that is underway. Its pending mentions are a stack: the next one is the last.
+-- The state of a walk. Its pending mentions are a stack: the next one is the last.
 use Rattle.std.specs.Prelude.{◌≡◌, ◌++◌, true, Bool, List, [], length, reverse, Contains, Some}
 use Rattle.def_entry.specs.declared.key.Key.{Key}
 use Rattle.def_entry.specs.Tables.{Table, is_present}
@@ -12,12 +12,12 @@ use Rattle.value_sources.specs.Visits.{MarksVisits}
 abbrev pub IsFound : Table → Mention → Type 0
 IsFound table m = (n : Key) → m.target ≡ Some n → is_present table n ≡ true
 
--- there is a mark for each line, and the marks are those of the keys that rows visit
+-- there is a mark for each line, and the marks are those of the keys that the rows visit
 pub record AreMarked (d : Contents) (marks : List Bool) (rows : List Row) : Type 0 where
   pub room : length marks ≡ length d.lines
   pub marked : MarksVisits d marks (visited_keys rows)
 
--- the rows so far with those of the pending mentions are the rows of the mentions at the start
+-- the rows so far and those of the pending mentions are together the rows of the mentions at the start
 pub record IsUnderway (d : Contents) (start : List Mention) (rows : List Row) (pending : List Mention) : Type 0 where
   pub all : (rest : List Row) → AreRows (table d) (visited_keys rows) (reverse pending) rest
       → AreRows (table d) [] start (rows ++ rest)

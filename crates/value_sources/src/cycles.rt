@@ -14,8 +14,8 @@ use def_entry::Key;
 use name_lookup::targets_are_present;
 use std::alloc::{AllocError, Global};
 
-/// For each row of an expression whether it closes a cycle: it visits nothing, because its key is that of an entry that
-/// the row is in. Each row costs one look-up. The only error is want of memory.
+/// Returns for each row of an expression whether it closes a cycle. Such a row visits nothing, because its key is that
+/// of an entry that contains the row. Each row costs one lookup. The only error is lack of memory.
 pub fn cycle_flags(alloc: Global, deck: &Deck, rows: &[Row]) -> Result<Vec<bool>, AllocError>
     requires { (words : List WordUse) × AreRowsOf (tables.table deck.now) words rows.now }
     ensures { IfOk result (λ flags. flags.items ≡ spec.cycle_flags [] rows.now) }
@@ -30,7 +30,7 @@ pub fn cycle_flags(alloc: Global, deck: &Deck, rows: &[Row]) -> Result<Vec<bool>
     Ok(flags)
 }
 
-// The keys of the entries that a row is in: the places of their lines, outermost first, and for each line of the deck
+// The keys of the entries that contain a row: the places of their lines, outermost first, and for each line of the deck
 // the depth of the row that visited its key.
 #[derive(Drop)]
 struct KeyPath {
@@ -39,7 +39,7 @@ struct KeyPath {
 }
 
 impl KeyPath {
-    // The path before the first row.
+    // Returns the path before the first row.
     fn new(alloc: Global, deck: &Deck) -> Result<KeyPath, AllocError>
         ensures room { IfOk result (λ path. length path.depths.items ≡ length deck.now.lines) }
         ensures places { IfOk result (λ path. path.places.items ≡ []) }
@@ -52,7 +52,7 @@ impl KeyPath {
         })
     }
 
-    // Goes on to the next row, and answers whether that closes a cycle.
+    // Advances to the next row and returns whether that row closes a cycle.
     fn advance(&mut self, deck: &Deck, row: &Row) -> Result<bool, AllocError>
         requires { length self.old.depths.items ≡ length deck.now.lines }
         ensures room { length self.new.depths.items ≡ length deck.now.lines }
@@ -75,7 +75,7 @@ impl KeyPath {
     }
 }
 
-// The place of the line in force of a key, if there is one.
+// Returns the place of the line in force for a key, if there is one.
 fn line_of(deck: &Deck, key: Option<&Key>) -> Option<usize>
     ensures { result ≡ option_and_then (tables.last_place deck.now.settings deck.now.lines) (option_copied key.entry) }
 {
@@ -85,7 +85,7 @@ fn line_of(deck: &Deck, key: Option<&Key>) -> Option<usize>
     }
 }
 
-// Whether the line at a place is that of a key of the path.
+// Whether the line at a place is that of a key on the path.
 fn is_open(depths: &[usize], places: &[usize], place: usize) -> bool
     requires { place < length depths.now }
     ensures { result ≡ spec.is_open depths.now places.now place }

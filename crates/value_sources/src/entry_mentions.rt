@@ -20,7 +20,7 @@ use std::alloc::AllocError;
 use units_io::Text;
 
 impl<'a> Lookup<'a> {
-    /// Appends the mentions of the words of an entry, one tree after another. The only error is want of memory.
+    /// Appends the mentions of the words of an entry, tree after tree. The only error is lack of memory.
     pub(crate) fn put_entry_mentions(
         &self,
         tried: &mut TriedKeys,
@@ -115,7 +115,7 @@ impl<'a> Lookup<'a> {
     }
 }
 
-// A location.
+// Returns a location.
 fn at(depth: usize, site: Site) -> Location
     ensures { result ≡ record { depth = depth; site = site } }
 {

@@ -1,4 +1,4 @@
-//! The expressions that give the values of keys.
+//! The expressions whose values are those of keys.
 
 ghost use Rattle.std.specs.Prelude.{◌≡◌, IfOk, option_map};
 ghost use Rattle.deck.specs.Tables.{table};
@@ -11,9 +11,9 @@ use def_entry::{Key, Kind, What};
 use expr_tree::Tree;
 use std::alloc::{AllocError, Global};
 
-/// The expression of which the value is that of a key: that of its definition, and for a primitive unit its name. The
-/// word of a prefix may be a unit, so that a prefix cannot be asked for by its name. A function and a list have no such
-/// expression. The only error is want of memory.
+/// Returns the expression whose value is that of a key: the expression of its definition, or its name if it is a
+/// primitive or dimensionless unit. A prefix cannot be queried by its name, because the same word may be a unit.
+/// Returns `None` for a function, a list, or a key without an entry. The only error is lack of memory.
 pub fn value_tree(alloc: Global, deck: &Deck, key: &Key) -> Result<Option<Tree>, AllocError>
     ensures { IfOk result (λ tree. option_map syntax tree ≡ spec.value_syntax (table deck.now) key.now) }
 {
@@ -23,7 +23,7 @@ pub fn value_tree(alloc: Global, deck: &Deck, key: &Key) -> Result<Option<Tree>,
     }
 }
 
-// The expression of what an entry says of a key.
+// Returns the expression whose value is that of a key with this definition.
 fn tree_in(alloc: Global, key: &Key, what: &What) -> Result<Option<Tree>, AllocError>
     ensures { IfOk result (λ tree. option_map syntax tree
         ≡ spec.syntax_in key.now.kind key.now.name (what_view what.now)) }
@@ -35,7 +35,7 @@ fn tree_in(alloc: Global, key: &Key, what: &What) -> Result<Option<Tree>, AllocE
     }
 }
 
-// The name of a unit.
+// Returns the name of a unit as an expression, or `None` for any other key.
 fn named_unit(alloc: Global, key: &Key) -> Result<Option<Tree>, AllocError>
     ensures { IfOk result (λ tree. option_map syntax tree ≡ spec.named_unit key.now.kind key.now.name) }
 {

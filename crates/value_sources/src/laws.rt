@@ -7,12 +7,13 @@ ghost use Rattle.value_sources.specs.Values.{ValueLaw};
 
 use table_names::{closed_law, closed_meaning_law};
 
-/// An expression has one list of rows, and their keys are exactly those that it reaches, each once.
+/// An expression has exactly one list of rows, and the keys that they visit are exactly those that it reaches, each
+/// once.
 pub fn rows_law()
     ensures { RowsLaw }
 {}
 
-/// The words of an entry are those of its trees, one tree after another.
+/// The words of an entry are those of its trees, tree after tree.
 pub fn uses_law()
     ensures { UsesLaw }
 {}
@@ -22,7 +23,7 @@ pub fn examples_law()
     ensures { ExamplesLaw }
 {}
 
-/// The value of the expression of `value_tree` is the outcome of the key.
+/// The value of the expression that `value_tree` returns is the outcome of the key.
 pub fn value_law()
     ensures { ValueLaw }
 {

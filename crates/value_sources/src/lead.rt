@@ -5,10 +5,10 @@ use def_entry::Key;
 /// The keys that a word leads to.
 #[derive(Drop)]
 pub(crate) enum Lead {
-    /// None.
+    /// The word leads to no key.
     Nowhere,
-    /// One.
+    /// The word leads to a single key.
     One(Key),
-    /// A prefix and a unit.
+    /// The word leads to a prefix and a unit.
     Two(Key, Key),
 }

@@ -1,4 +1,4 @@
-//! The definitions behind a value: each name that an expression reaches, in the order in which evaluation meets it.
+//! The definitions on which a value depends: each name that an expression reaches, in the order of evaluation.
 #![tactic(auto)]
 
 mod cycles;

@@ -24,7 +24,7 @@ pub(crate) struct Lookup<'a> {
 }
 
 impl<'a> Lookup<'a> {
-    /// The keys that a word leads to. The only error is want of memory.
+    /// Returns the keys that a word leads to. The only error is lack of memory.
     pub(crate) fn lead(&self, tried: &mut TriedKeys, word: &WordUse) -> Result<Lead, AllocError>
         ensures { IfOk result (λ lead. targets (table self.now.deck.now) word.now ≡ lead_keys lead) }
     {
@@ -42,7 +42,7 @@ impl<'a> Lookup<'a> {
         }
     }
 
-    // A copy of the key that was tried so many places before the end.
+    // Returns a copy of the key that was tried `back` places before the end.
     fn last_key(&self, tried: &TriedKeys, back: usize) -> Result<Key, AllocError>
         requires some { 1 ≤ back }
         requires many { back ≤ length tried.now }

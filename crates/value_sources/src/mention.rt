@@ -1,4 +1,4 @@
-//! Words with the keys that they lead to.
+//! Words together with the keys that they lead to.
 
 ghost use Rattle.std.specs.Prelude.{◌≡◌};
 ghost use Rattle.std.specs.Option.{option_copied};
@@ -17,7 +17,7 @@ pub(crate) struct Location {
     pub(crate) site: Site,
 }
 
-/// A word of an expression or of an entry, with one key that it leads to, if it leads to any.
+/// A word of an expression or of an entry, with one of the keys that it leads to, if it leads to any.
 #[derive(Drop)]
 pub(crate) struct Mention {
     location: Location,
@@ -42,7 +42,7 @@ impl Model for Mention {
 }
 
 impl Mention {
-    /// A mention of a key, or of none.
+    /// Creates a mention of a key, or of none.
     pub(crate) fn new(
         location: Location,
         word: Text,
@@ -67,14 +67,14 @@ impl Mention {
         }
     }
 
-    /// How many entries deep the word is.
+    /// The number of entries that contain the word.
     pub(crate) fn depth(&self) -> usize
         ensures { result ≡ self.now.depth }
     {
         self.location.depth
     }
 
-    /// The tree that the word is in.
+    /// The tree that contains the word.
     pub(crate) fn site(&self) -> Site
         ensures { result ≡ self.now.site }
     {

@@ -17,7 +17,7 @@ use std::alloc::{AllocError, Global};
 use units_io::Text;
 
 impl<'a> Lookup<'a> {
-    /// Appends the mentions of the words of one tree. The only error is want of memory.
+    /// Appends the mentions of the words of one tree. The only error is lack of memory.
     pub(crate) fn put_mentions(
         &self,
         tried: &mut TriedKeys,
@@ -36,7 +36,7 @@ impl<'a> Lookup<'a> {
     }
 }
 
-/// Moves mentions behind others, the last one first.
+/// Moves mentions to the end of `pending`, the last one first.
 pub(crate) fn push_reversed(
     pending: &mut Vec<Mention>,
     mut mentions: Vec<Mention>,
@@ -49,7 +49,7 @@ pub(crate) fn push_reversed(
     Ok(())
 }
 
-// Appends the mentions of a word that leads to these keys.
+// Appends the mentions of a word with this lead.
 fn put_lead(
     alloc: Global,
     mentions: &mut Vec<Mention>,
@@ -79,7 +79,7 @@ fn put_lead(
     }
 }
 
-// How a word leads to the only key that it leads to.
+// Returns how a word leads to a key that is its only one.
 fn sole_resolution(word: &WordUse, key: &Key) -> Resolution
     ensures { result ≡ spec.sole_resolution word.now key.now }
 {
@@ -90,7 +90,7 @@ fn sole_resolution(word: &WordUse, key: &Key) -> Resolution
     }
 }
 
-// A mention of a key, or of none.
+// Creates a mention of a key, or of none.
 fn mention(
     alloc: Global,
     location: Location,

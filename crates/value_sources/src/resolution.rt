@@ -1,10 +1,10 @@
 //! How words are resolved.
 
-/// How a word leads to the key of its row. The kind of the key says whether that is a unit, a prefix or a function, and
-/// the kind of the word says whether a function is called forward or by its inverse.
+/// How a word leads to the key of its row. The kind of the key says whether the key is a unit, a prefix or a function,
+/// and the kind of the word says whether a function is called forward or by its inverse.
 #[derive(Clone, Copy, Debug, PartialEq, Eq, Drop)]
 pub enum Resolution {
-    /// It leads to no key: the word is unknown.
+    /// The word is unknown and leads to no key.
     Unknown,
     /// The word is the name of the key.
     Name,

@@ -11,8 +11,8 @@ use def_entry::Key;
 use expr_tree::{WordKind, is_refused};
 use std::marker::Model;
 
-/// A word that evaluation meets, with one key that it leads to. A word that is a prefix and a unit has two rows, one
-/// after the other.
+/// A word that evaluation encounters, with one of the keys that it leads to. A word that is a prefix and a unit has two
+/// rows, one after the other.
 #[derive(Drop)]
 pub struct Row {
     mention: Mention,
@@ -28,21 +28,23 @@ impl Model for Row {
 }
 
 impl Row {
-    // The row of a mention.
+    // Creates the row of a mention.
     pub(crate) fn new(mention: Mention, is_visit: bool) -> Row
         ensures { result ≡ record { mention = mention; is_visit = is_visit } }
     {
         Row { mention, is_visit }
     }
 
-    /// How many entries deep the word is: 0 in the expression itself, 1 in the entry of a key of the expression.
+    /// The number of entries that contain the word: 0 in the expression itself, 1 in the entry of a key of the
+    /// expression.
     pub fn depth(&self) -> usize
         ensures { result ≡ self.now.mention.depth }
     {
         self.mention.depth()
     }
 
-    /// The tree that the word is in, one of the entry of the last visited key above that is one less deep.
+    /// The tree that contains the word. It belongs to the entry of the last preceding visited key whose depth is one
+    /// less.
     pub fn site(&self) -> Site
         ensures { result ≡ self.now.mention.site }
     {
@@ -56,14 +58,14 @@ impl Row {
         self.mention.word()
     }
 
-    /// Whether the word is alone, before an operand in parentheses, or behind a `~`.
+    /// Whether the word is alone, before an operand in parentheses, or after a `~`.
     pub fn word_kind(&self) -> WordKind
         ensures { result ≡ self.now.mention.word.kind }
     {
         self.mention.word_kind()
     }
 
-    /// Whether the word is the name of a function that is refused, which is a fault whatever it leads to.
+    /// Whether the word is the name of a refused function, which is a fault whatever the word leads to.
     pub fn is_refused(&self) -> bool
         ensures { result ≡ names.is_refused self.now.mention.word.text }
     {
@@ -84,7 +86,8 @@ impl Row {
         self.mention.key()
     }
 
-    /// Whether the key is mentioned for the first time. The rows of the words of its entry follow, one deeper.
+    /// Whether this is the first mention of the key. If so, the rows of the words of its entry follow, one level
+    /// deeper.
     pub fn is_visit(&self) -> bool
         ensures { result ≡ self.now.is_visit }
     {

@@ -1,9 +1,9 @@
-//! The places of words.
+//! The trees that contain words.
 
-/// The tree that a word is in.
+/// The tree that contains a word.
 #[derive(Clone, Copy, Debug, PartialEq, Eq, Drop)]
 pub enum Site {
-    /// The expression that is asked for.
+    /// The expression that is queried.
     Expression,
     /// The expression of a unit or a prefix.
     Body,
@@ -11,11 +11,11 @@ pub enum Site {
     InUnit,
     /// The unit of the result of a function.
     OutUnit,
-    /// The result of a function by its argument.
+    /// The result of a function as an expression of its argument.
     Forward,
-    /// The argument of a function by its result.
+    /// The argument of a function as an expression of its result.
     Inverse,
-    /// An alias: the word is the function that it names, called in the direction in which the alias is called.
+    /// An alias: the word is the function that the alias names, called in the direction in which the alias is called.
     AliasTarget,
     /// The unit of a table of points.
     TableUnit,

@@ -1,4 +1,4 @@
-//! The keys at which a word of a query looks.
+//! The keys that the lookup of a word tries.
 
 ghost use Rattle.std.specs.Prelude.{◌≡◌, ◌<◌, ◌++◌, ◌∷◌, [], length, OnOk};
 ghost use Rattle.def_entry.specs.Keys.{key};
@@ -9,16 +9,16 @@ use name_lookup::{Looking, Present};
 use std::alloc::{AllocError, Global};
 use std::marker::Model;
 
-/// Keys in order, as long as one word is looked up. They keep their memory from one word to the next, and no key gets a
-/// number by them.
+/// The keys that the lookup of one word tries, in order. The memory is reused from one word to the next. No key gets a
+/// number here.
 #[derive(Drop)]
 pub(crate) struct TriedKeys {
-    // the names of all, one behind another
+    // the names of all keys, one after another
     names: Vec<u8>,
     keys: Vec<TriedKey>,
 }
 
-// The kind of a key, and where its name stands.
+// The kind of a key, and the range of its name.
 #[derive(Clone, Copy, Drop)]
 struct TriedKey {
     kind: Kind,
@@ -60,7 +60,7 @@ impl Looking for TriedKeys {
 }
 
 impl TriedKeys {
-    /// No key.
+    /// Returns an empty list of keys.
     pub(crate) fn new(alloc: Global) -> TriedKeys
         ensures { result ≡ [] }
     {
@@ -70,14 +70,14 @@ impl TriedKeys {
         }
     }
 
-    /// How many keys there are.
+    /// The number of keys.
     pub(crate) fn len(&self) -> usize
         ensures { result ≡ length self.now }
     {
         self.keys.len()
     }
 
-    /// The kind of the key at a place.
+    /// Returns the kind of the key at a place.
     pub(crate) fn kind(&self, place: usize) -> Kind
         requires { place < length self.now }
         ensures { result ≡ (key_at self.now place).kind }
@@ -85,7 +85,7 @@ impl TriedKeys {
         self.keys[place].kind
     }
 
-    /// The name of the key at a place.
+    /// Returns the name of the key at a place.
     pub(crate) fn name(&self, place: usize) -> &[u8]
         requires { place < length self.now }
         ensures { result.now ≡ (key_at self.now place).name }
@@ -94,7 +94,7 @@ impl TriedKeys {
         &self.names[tried.start..tried.end]
     }
 
-    /// Takes all keys out.
+    /// Removes all keys.
     pub(crate) fn clear(&mut self)
         ensures { self.new ≡ [] }
     {
@@ -102,7 +102,7 @@ impl TriedKeys {
         self.names.clear();
     }
 
-    // Puts a key behind the others. After want of memory some of its name may stand there, as no key.
+    // Appends a key. If memory runs out, part of its name may have been stored, but it belongs to no key.
     fn push(&mut self, kind: Kind, name: &[u8]) -> Result<(), AllocError>
         ensures { OnOk result (self.new ≡ self.old ++ key kind name.now ∷ []) }
     {

@@ -1,4 +1,4 @@
-//! The walk over all that an expression reaches.
+//! The walk over all names that an expression reaches.
 
 ghost use Rattle.std.specs.Prelude.{◌≡◌, ◌++◌, ◌+◌, ◌∷◌, [], IfOk, List, OnOk, Some, length, reverse, true};
 ghost use Rattle.std.specs.Option.{option_copied};
@@ -24,9 +24,10 @@ use live_table::LiveTable;
 use name_lookup::targets_are_present;
 use std::alloc::{AllocError, Global};
 
-/// The rows of an expression: each word that evaluation meets, in its order, with each key that it leads to. The rows
-/// of the words of an entry follow the first row of its key. The cost is that of the words of these entries: no entry
-/// is read twice, nothing is asked of the table, and nothing recurses. The only error is want of memory.
+/// Returns the rows of an expression: each word that evaluation encounters, in its order, with each of the keys that it
+/// leads to. The rows of the words of an entry follow the first row of its key. The cost is proportional to the words
+/// of these entries: no entry is read twice, the table is not queried, and nothing recurses. The only error is lack of
+/// memory.
 pub fn rows(alloc: Global, table: &LiveTable, tree: &Tree) -> Result<Vec<Row>, AllocError>
     ensures { IfOk result (λ rows.
         spec.AreRowsOf (tables.table table.now.deck) (words_in (syntax tree.now)) rows.items) }
@@ -44,8 +45,8 @@ pub fn rows(alloc: Global, table: &LiveTable, tree: &Tree) -> Result<Vec<Row>, A
     Ok(rows)
 }
 
-// The rows so far, and the mentions that are left, the next one last. Of each line of the deck it is marked whether the
-// key for which it is in force was visited.
+// The rows so far, and the pending mentions, the next one last. A line of the deck is marked if the key for which it is
+// in force was visited.
 #[derive(Drop)]
 struct Walk {
     tried: TriedKeys,
@@ -55,7 +56,7 @@ struct Walk {
 }
 
 impl Walk {
-    // The walk over an expression before its first row.
+    // Returns the walk over an expression before its first row.
     fn begin(lookup: &Lookup, tree: &Tree) -> Result<Walk, AllocError>
         ensures marked { IfOk result (λ walk. AreMarked lookup.now.deck.now walk.marks.items []) }
         ensures rows { IfOk result (λ walk. walk.rows.items ≡ []) }
@@ -73,7 +74,7 @@ impl Walk {
         })
     }
 
-    // Puts the row of the next mention, and the mentions of the entry of its key if that is visited.
+    // Appends the row of the next mention and, if the row visits its key, pushes the mentions of the entry of the key.
     fn step(&mut self, lookup: &Lookup, mention: Mention) -> Result<(), AllocError>
         requires found { IsFound (tables.table lookup.now.deck.now) mention }
         requires marked { AreMarked lookup.now.deck.now self.old.marks.items self.old.rows.items }
@@ -94,7 +95,7 @@ impl Walk {
     }
 }
 
-// The mentions of the words of an expression, the first one last.
+// Returns the mentions of the words of an expression, the first one last.
 fn first_mentions(
     lookup: &Lookup,
     tried: &mut TriedKeys,
@@ -115,7 +116,7 @@ fn first_mentions(
     Ok(pending)
 }
 
-// A mark for each line, none of them set.
+// Returns a mark for each line, none of which is set.
 fn no_marks(lookup: &Lookup) -> Result<Vec<bool>, AllocError>
     ensures { IfOk result (λ marks. AreMarked lookup.now.deck.now marks.items []) }
 {
@@ -124,7 +125,7 @@ fn no_marks(lookup: &Lookup) -> Result<Vec<bool>, AllocError>
     Ok(marks)
 }
 
-// The place of the line that is in force for a key, if the key was not visited.
+// Returns the place of the line that is in force for a key, if the key was not visited.
 fn unvisited_place(lookup: &Lookup, marks: &[bool], key: Option<&Key>) -> Option<usize>
     requires { (n : AnyKey) → option_copied key ≡ Some n
         → tables.is_present (tables.table lookup.now.deck.now) n ≡ true }
@@ -143,7 +144,8 @@ fn unvisited_place(lookup: &Lookup, marks: &[bool], key: Option<&Key>) -> Option
     }
 }
 
-// The mentions of the words of the entry of a key, in order. The entry is found faster if its line is at this place.
+// Returns the mentions of the words of the entry of a key, in order. The entry is found faster if its line is at
+// `place`.
 fn entry_mentions(
     lookup: &Lookup,
     tried: &mut TriedKeys,
@@ -154,7 +156,7 @@ fn entry_mentions(
         ≡ mentions_spec.mentions (tables.table lookup.now.deck.now) (mention.now.depth + 1)
         (key_uses (tables.table lookup.now.deck.now) n)) }
 {
-    // No memory holds so many entries that a word could not be one deeper.
+    // No memory holds so many entries that the depth of a word would not fit.
     let Some(depth) = mention.depth().checked_add(1) else {
         return Err(AllocError);
     };

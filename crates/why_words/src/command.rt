@@ -1,9 +1,9 @@
-//! The command of the program, as clap sees it.
+//! The command line of the program, as a clap command.
 
 use clap::{Arg, ArgAction, Command};
 use std::alloc::{AllocError, Global};
 
-/// The command with all its arguments. Help and the version are no words of it.
+/// Returns the command with all its arguments. It has no arguments for help and the version.
 pub(crate) fn why_command<'a>(alloc: Global) -> Result<Command<'a>, AllocError> {
     let command = Command::new(alloc, "units-why")
         .no_binary_name(true)
@@ -15,6 +15,8 @@ pub(crate) fn why_command<'a>(alloc: Global) -> Result<Command<'a>, AllocError> 
     let command = with_flag(alloc, command, "exact")?;
     let command = with_flag(alloc, command, "json")?;
     let command = with_flag(alloc, command, "lint")?;
+    let command = with_flag(alloc, command, "captures")?;
+    let command = with_flag(alloc, command, "unused")?;
     let command = with_operand(alloc, command, "expression")?;
     with_operand(alloc, command, "unit")
 }

@@ -1,13 +1,13 @@
-//! Why words are not read.
+//! The errors of reading a command line.
 
 use std::alloc::{AllocError, AllocFailed};
 
-/// Why the words of a command line give no `Request`.
+/// Why the words of a command line are not a `Request`.
 #[derive(Clone, Copy, Debug)]
 pub enum WordsFault {
     /// The words are not a request to this program.
     Usage,
-    /// There was no memory left to read them.
+    /// Memory ran out.
     OutOfMemory,
 }
 

@@ -1,4 +1,4 @@
-//! The words of `units-why`, as clap reads them.
+//! The command line of `units-why`, parsed by clap.
 #![tactic(auto)]
 
 mod command;
@@ -8,4 +8,4 @@ mod request;
 
 pub use fault::WordsFault;
 pub use read::{read_words, usage_text};
-pub use request::{Inquiry, Request};
+pub use request::{Findings, Inquiry, Request};

@@ -1,23 +1,27 @@
-//! The words of the command line, read.
+//! Parsing of the command line.
 
-ghost use Rattle.std.specs.Prelude.{◌≤◌, IfOk, IfSome};
+ghost use Rattle.std.specs.Prelude.{◌≡◌, ◌≤◌, IfOk, IfSome};
 ghost use Rattle.why_words.specs.Digits.{HasDigits};
+ghost use Rattle.why_words.specs.Usage as usage;
 
 use crate::command::why_command;
 use crate::fault::WordsFault;
-use crate::request::{Inquiry, Request};
+use crate::request::{Findings, Inquiry, Request};
 use clap::ArgMatches;
 use clap::error::ErrorKind;
 use std::alloc::{AllocError, Global};
 use units_io::Text;
 
-/// What the program answers to words that it does not take.
-pub fn usage_text() -> &'static [u8] {
+/// Returns the usage message, which answers a command line that is not a request.
+pub fn usage_text() -> &'static [u8]
+    ensures { result.now ≡ usage.usage_text }
+{
     b"units-why: usage: units-why [options] EXPRESSION [UNIT], or units-why --lint [options]\n"
 }
 
-/// Reads the words after the name of the program. The error is `Usage` if they are no request: clap does not take
-/// them, one is not UTF-8, both digits and `--exact` are there, or not exactly one of an expression and `--lint` is.
+/// Parses the words after the name of the program. The error is `Usage` if clap rejects them, a word is not UTF-8, the
+/// digits are not a number from 1 to 36, both digits and `--exact` are given, not exactly one of an expression and
+/// `--lint` is given, or `--captures` or `--unused` is given without `--lint`.
 pub fn read_words(alloc: Global, words: &[Text]) -> Result<Request, WordsFault>
     ensures { IfOk result HasDigits }
 {
@@ -32,7 +36,7 @@ pub fn read_words(alloc: Global, words: &[Text]) -> Result<Request, WordsFault>
     }
 }
 
-// The words as texts, if each of them is UTF-8.
+// Returns the words as strings. The error is `Usage` if a word is not UTF-8.
 fn texts_of<'w>(alloc: Global, words: &'w [Text]) -> Result<Vec<&'w str>, WordsFault> {
     let mut texts = Vec::new(alloc);
     for word in words {
@@ -44,7 +48,7 @@ fn texts_of<'w>(alloc: Global, words: &'w [Text]) -> Result<Vec<&'w str>, WordsF
     Ok(texts)
 }
 
-// What the matches ask for.
+// Returns the request that the matches describe.
 fn request_of(alloc: Global, matches: &ArgMatches<'_>) -> Result<Request, WordsFault>
     ensures { IfOk result HasDigits }
 {
@@ -66,18 +70,23 @@ fn request_of(alloc: Global, matches: &ArgMatches<'_>) -> Result<Request, WordsF
     })
 }
 
-// What is asked: of an expression, or of all definitions.
+// Returns the query: either for an expression or for all definitions.
 fn inquiry_of(alloc: Global, matches: &ArgMatches<'_>) -> Result<Inquiry, WordsFault> {
     let expression = text_of(alloc, matches, "expression")?;
     let unit = text_of(alloc, matches, "unit")?;
+    let findings = Findings {
+        captures: has_flag(matches, "captures"),
+        unused: has_flag(matches, "unused"),
+    };
+    let asks_more = findings.captures || findings.unused;
     match (expression, has_flag(matches, "lint")) {
-        (Some(expression), false) => Ok(Inquiry::Value(expression, unit)),
-        (None, true) => Ok(Inquiry::Lint),
+        (Some(expression), false) if !asks_more => Ok(Inquiry::Value(expression, unit)),
+        (None, true) => Ok(Inquiry::Lint(findings)),
         _ => Err(WordsFault::Usage),
     }
 }
 
-// The number of digits, if there is one.
+// Returns the number of digits, if it is given. The error is `Usage` if it is not from 1 to 36.
 fn digits_of(matches: &ArgMatches<'_>) -> Result<Option<u8>, WordsFault>
     ensures { IfOk result (λ digits. IfSome digits (λ n. (1 ≤ n) × (n ≤ 36))) }
 {
@@ -90,7 +99,7 @@ fn digits_of(matches: &ArgMatches<'_>) -> Result<Option<u8>, WordsFault>
     }
 }
 
-// A number of digits, if it is from 1 to 36.
+// Returns `digits` if it is from 1 to 36, and otherwise the error `Usage`.
 fn digits_within(digits: u8) -> Result<Option<u8>, WordsFault>
     ensures { IfOk result (λ digits. IfSome digits (λ n. (1 ≤ n) × (n ≤ 36))) }
 {

@@ -1,29 +1,38 @@
-//! What the words ask for.
+//! The request in a command line.
 
 use units_io::Text;
 
-/// What the words ask for.
+/// The request in a command line.
 #[derive(Drop)]
 pub struct Request {
-    /// The definition file. Without one it is the built-in definitions.
+    /// The definition file, or `None` for the built-in definitions.
     pub file: Option<Text>,
-    /// The locale.
+    /// The locale, if one is given.
     pub locale: Option<Text>,
-    /// Significant digits, 1 to 36.
+    /// The number of significant digits, from 1 to 36, if one is given.
     pub digits: Option<u8>,
-    /// Numbers are written as integers or fractions.
+    /// Whether numbers are written as integers or fractions.
     pub exact: bool,
-    /// The answer is written as JSON, one object a line.
+    /// Whether the answer is written as JSON, one object per line.
     pub json: bool,
-    /// What is asked.
+    /// The query of a request.
     pub inquiry: Inquiry,
 }
 
-/// What is asked.
+/// The query of a request.
 #[derive(Drop)]
 pub enum Inquiry {
-    /// Which definitions the value of an expression, or its conversion to another one, comes from.
+    /// Report the definitions that the value of an expression, or its conversion to another one, comes from.
     Value(Text, Option<Text>),
-    /// Which definitions have faults, and where they are.
-    Lint,
+    /// Report the findings in all definitions, with their places.
+    Lint(Findings),
+}
+
+/// The optional findings to report.
+#[derive(Clone, Copy, Drop)]
+pub struct Findings {
+    /// Units whose names could be read as plurals or with prefixes.
+    pub captures: bool,
+    /// Definitions that no other definition uses.
+    pub unused: bool,
 }

@@ -1,7 +1,7 @@
 use Rattle.std.proofs.Common.{◌≡◌, ◌++◌, reverse, vec_len}
 use Rattle.value_sources.proofs.mentions.push_reversed.Given as goal
 
--- what was pushed with what is left is all
+-- the pushed mentions with those that are left are all mentions
 abbrev pub invariant-loop-mention : goal.invariant-loop-mention
 invariant-loop-mention l =
     l.pending.items ++ reverse l.mentions.items ≡ l.initial.pending.items ++ reverse l.initial.mentions.items

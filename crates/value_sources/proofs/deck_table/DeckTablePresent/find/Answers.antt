@@ -13,13 +13,13 @@ is_some-option_map : {A B : Type 0} (f : A → B) (o : Option A) → is_some (op
 is_some-option_map f None = refl
 is_some-option_map f (Some x) = refl
 
--- a key has a place exactly where it is among those of the table
+-- a key has a place exactly if it is among those of the table
 placed : (ds : Definitions) (k : Key) → is_some (place_of ds k) ≡ is_among (keys_of (table_of ds)) k
 placed ds k =
     is_some-option_map (λ p. p.0) (lookup (is_same k) ds)
     ∙ (is_some-lookup (is_same k) ds ∙ ap (list_any (is_same k)) (sym (keys_of-map_values (λ p. p.1) ds)))
 
-pub returns : goal.returns
-returns c =
+pub returns-clause-present : goal.returns-clause-present
+returns-clause-present c =
     let d = c.args.self.now.0.now in
     ap is_some c.place_of.ensures ∙ placed (definitions d.settings d.lines) (key_named c.args.kind c.args.name.now)

@@ -1,0 +1,6 @@
+-- The message for words that are not a request.
+use Rattle.std.specs.Prelude.{ℕ, List, codes}
+
+-- the line that shows both forms of a request
+abbrev pub usage_text : List ℕ
+usage_text = codes "units-why: usage: units-why [options] EXPRESSION [UNIT], or units-why --lint [options]\n"

@@ -1,0 +1,20 @@
+-- Lookup finds the first reading of a word.
+use Rattle.std.specs.Prelude.{◌≡◌, ℕ, List, [], ◌∷◌, false}
+use Rattle.expr_tree.specs.declared.word_list.WordKind.TheVariants.{Plain}
+use Rattle.def_entry.specs.Keys.{key}
+use Rattle.def_entry.specs.Tables.{Table, is_present}
+use Rattle.def_entry.specs.declared.key.Key.{Key}
+use Rattle.def_entry.specs.declared.key.Kind.TheVariants as kind
+use Rattle.name_lookup.specs.Candidates.{candidates, first_present}
+use Rattle.word_readings.specs.Readings.{readings}
+
+-- the keys of the first of some readings, or no key if there is none
+abbrev pub first : List (List Key) → List Key
+first [] = []
+first (keys ∷ others) = keys
+
+-- law: lookup of a word that names no unit and no function finds its first reading
+abbrev pub FirstReadingLaw : Type 0
+FirstReadingLaw = (table : Table) (word : List ℕ) → is_present table (key kind.Unit word) ≡ false
+    → is_present table (key kind.Func word) ≡ false
+    → first_present (is_present table) (candidates Plain word) ≡ first (readings table word)
