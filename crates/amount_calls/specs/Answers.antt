@@ -1,4 +1,4 @@
--- What each call answers.
+-- The answers to the calls.
 use Rattle.std.specs.Prelude.{◌≡◌, ◌++◌, ℕ, Bool, List, [], ◌∷◌, Result, Ok, Err, if◌then◌else◌, codes}
 use Rattle.std.specs.Fmt.{decimal}
 use Rattle.std.specs.List.{flat_map}
@@ -31,11 +31,11 @@ use Rattle.amount_calls.specs.declared.call.Single.TheVariants as single
 use Rattle.amount_calls.specs.declared.call.Pair.{Pair}
 use Rattle.amount_calls.specs.declared.call.Pair.TheVariants as pair
 
--- whether something holds
+-- `yes` or `no`
 abbrev pub yes_or_no : Bool → List ℕ
 yes_or_no holds = if holds then codes "yes" else codes "no"
 
--- what a step gives
+-- the result of a step
 abbrev pub taken : Step → Amount → Amount → Result Amount QuantityFault
 taken Add x y = sum_of x y
 taken Sub x y = difference_of x y
@@ -43,15 +43,15 @@ taken Mul x y = product_of x y
 taken Div x y = quotient_of x y
 taken Pow x y = power_of x y
 
--- a quantity, exactly
+-- the exact text of a quantity
 abbrev pub exactly : Amount → List ℕ
 exactly x = amount_text style.Exact x
 
--- two quantities that do not conform
+-- the message that two quantities do not conform
 abbrev pub unlike_text : Amount → Amount → List ℕ
 unlike_text x y = codes "not conformable: " ++ exactly x ++ codes " and " ++ exactly y
 
--- the quantity that a step gives, or the text of its fault
+-- the text of the result of a step, or of its fault
 abbrev pub quantity_text : Result Amount QuantityFault → List ℕ
 quantity_text (Ok x) = exactly x
 quantity_text (Err (step.Number fault)) = fault_text fault
@@ -60,20 +60,20 @@ quantity_text (Err step.ExponentNotNumber) = codes "exponent not a number"
 quantity_text (Err step.ExponentRange) = codes "exponent out of range"
 quantity_text (Err step.OutOfMemory) = []
 
--- the text is that of what a step gave, which is not want of memory
+-- the text is that of the result of a step, which did not run out of memory
 abbrev pub Says : Result Amount QuantityFault → List ℕ → Type 0
 Says (Err step.OutOfMemory) text = ⊥
 Says given text = text ≡ quantity_text given
 
--- some counts, each behind a space
+-- counts, each after a space
 abbrev pub listed : List Fraction → List ℕ
 listed counts = flat_map (λ count. codes " " ++ exact_text count) counts
 
--- a word and the place of a unit
+-- a word followed by the place of a unit
 abbrev pub placed_text : List ℕ → ℕ → List ℕ
 placed_text word place = word ++ decimal place
 
--- the counts of a split, or the text of its fault
+-- the text of the counts of a split, or of its fault
 abbrev pub counts_text : Result (List Fraction) SplitFault → List ℕ
 counts_text (Ok counts) = codes "counts" ++ listed counts
 counts_text (Err (splitting.NotConformable place)) = placed_text (codes "not conformable: ") place
@@ -81,39 +81,39 @@ counts_text (Err (splitting.ListUnitNotPositive place)) = placed_text (codes "no
 counts_text (Err (splitting.Number fault)) = fault_text fault
 counts_text (Err splitting.OutOfMemory) = []
 
--- the text is that of a split, which is not want of memory
+-- the text is that of the result of a split, which did not run out of memory
 abbrev pub Counts : Result Split SplitFault → List ℕ → Type 0
 Counts (Ok split) text = text ≡ counts_text (Ok split.counts)
 Counts (Err splitting.OutOfMemory) text = ⊥
 Counts (Err fault) text = text ≡ counts_text (Err fault)
 
--- the counts of some units, of which there have to be some
+-- the text of the counts of units, of which there must be at least one
 abbrev pub split_text : Bool → Amount → List Amount → List ℕ
 split_text round x [] = codes "no unit"
 split_text round x (unit ∷ units) = counts_text (counts_in round x (unit ∷ units))
 
--- the number that a table gives, or the text of its fault
+-- the text of the number that a table returns, or of its fault
 abbrev pub reading_text : Result Fraction TableFault → List ℕ
 reading_text (Ok x) = exact_text x
 reading_text (Err table.OutsideTable) = codes "outside the table"
 reading_text (Err (table.Number fault)) = fault_text fault
 
--- what a table gives
+-- the number that a table returns
 abbrev pub read : Way → List Point → Fraction → Result Fraction TableFault
 read At points x = y_at points x
 read Back points y = x_at points y
 
--- what some points give, where they are a table
+-- the text of the number that a table of these points returns, if they form a table
 abbrev pub read_text : Way → List Point → Fraction → List ℕ
 read_text way points x = if is_table points then reading_text (read way points x) else codes "no table"
 
--- what is asked of a quantity
+-- the answer to a call on one quantity
 abbrev pub single_text : Single → Amount → List ℕ
 single_text (single.Negate side) x = exactly (record x { value = negated x.value })
 single_text single.Copy x = exactly x
 single_text single.IsNumber x = yes_or_no (is_number x)
 
--- what is asked of two quantities
+-- the answer to a call on two quantities
 abbrev pub pair_text : Pair → Amount → Amount → List ℕ
 pair_text (pair.Step step side) x y = quantity_text (taken step x y)
 pair_text pair.Conforms x y = yes_or_no (conform x.exponents y.exponents)

@@ -1,4 +1,4 @@
-//! What a call answers.
+//! The answers to calls.
 
 ghost use Rattle.std.specs.Prelude.{◌≡◌, IfOk};
 ghost use Rattle.quantity.specs.Answers.{IsAnswer};
@@ -14,7 +14,7 @@ use std::alloc::{AllocError, Global};
 use unit_list::split;
 use units_io::Text;
 
-// What is asked of a quantity.
+// Returns the answer to a call on one quantity.
 pub(crate) fn single_answer(alloc: Global, single: Single, x: &Quantity) -> Result<Text, AllocError>
     ensures { IfOk result (λ text. text ≡ spec.single_text single x.now) }
 {
@@ -26,7 +26,7 @@ pub(crate) fn single_answer(alloc: Global, single: Single, x: &Quantity) -> Resu
     }
 }
 
-// What is asked of two quantities.
+// Returns the answer to a call on two quantities.
 pub(crate) fn pair_answer(
     alloc: Global,
     pair: Pair,
@@ -46,7 +46,7 @@ pub(crate) fn pair_answer(
     }
 }
 
-// The step that borrows the quantity on its left.
+// Makes a step that borrows the left quantity.
 fn lent(alloc: Global, step: Step, x: &Quantity, y: &Quantity) -> Result<Quantity, QuantityFault>
     ensures { IsAnswer result (spec.taken step x.now y.now) }
 {
@@ -59,7 +59,7 @@ fn lent(alloc: Global, step: Step, x: &Quantity, y: &Quantity) -> Result<Quantit
     }
 }
 
-// The step that takes the quantity on its left over.
+// Makes a step that takes ownership of the left quantity.
 fn taken(alloc: Global, step: Step, x: Quantity, y: &Quantity) -> Result<Quantity, QuantityFault>
     ensures { IsAnswer result (spec.taken step x y.now) }
 {
@@ -72,7 +72,7 @@ fn taken(alloc: Global, step: Step, x: Quantity, y: &Quantity) -> Result<Quantit
     }
 }
 
-// The counts of some units in a quantity.
+// Returns the counts of several units in a quantity.
 pub(crate) fn split_answer(
     alloc: Global,
     round: bool,
@@ -87,7 +87,7 @@ pub(crate) fn split_answer(
     counts_text(alloc, split(alloc, x, units, round))
 }
 
-// What a copy of a table gives.
+// Builds a table, reads a copy of it, and returns the result.
 pub(crate) fn read_answer(
     alloc: Global,
     way: Way,

@@ -12,14 +12,14 @@ pub(crate) enum Step {
     Pow,
 }
 
-// Whether a step borrows the quantity on its left or takes it over.
+// Whether a step borrows the left quantity or takes ownership of it.
 #[derive(Clone, Copy)]
 pub(crate) enum Left {
     Lent,
     Taken,
 }
 
-// What is asked of a quantity.
+// A call on one quantity.
 #[derive(Clone, Copy)]
 pub(crate) enum Single {
     Negate(Left),
@@ -27,7 +27,7 @@ pub(crate) enum Single {
     IsNumber,
 }
 
-// What is asked of two quantities.
+// A call on two quantities.
 #[derive(Clone, Copy)]
 pub(crate) enum Pair {
     Step(Step, Left),
@@ -35,7 +35,7 @@ pub(crate) enum Pair {
     IsReciprocal,
 }
 
-// How many significant digits are printed.
+// The number of significant digits to print.
 #[derive(Clone, Copy)]
 pub(crate) struct DigitCount {
     pub(crate) value: u8,
@@ -43,14 +43,14 @@ pub(crate) struct DigitCount {
     ghost most: { value ≤ 36 },
 }
 
-// Which way a table is read.
+// The direction in which a table is read.
 #[derive(Clone, Copy)]
 pub(crate) enum Way {
     At,
     Back,
 }
 
-// What a word asks for.
+// The kind of a call.
 #[derive(Clone, Copy)]
 pub(crate) enum Call {
     Single(Single),

@@ -1,4 +1,4 @@
-//! The answer to a line.
+//! The answers to lines.
 
 use crate::answer::{pair_answer, read_answer, single_answer, split_answer};
 use crate::call::{Call, Pair, Way};
@@ -10,7 +10,7 @@ use quantity::Style;
 use std::alloc::{AllocError, Global};
 use units_io::Text;
 
-// The answer to a line, which may be no call.
+// Returns the answer to a line, which may not be a call.
 pub(crate) fn line_answer(alloc: Global, line: &[u8]) -> Result<Text, AllocError> {
     match call_answer(alloc, line) {
         Ok(text) => Ok(text),
@@ -19,7 +19,7 @@ pub(crate) fn line_answer(alloc: Global, line: &[u8]) -> Result<Text, AllocError
     }
 }
 
-// The answer to a call: a word, and behind a space its arguments, with `;` between.
+// Returns the answer to a call: a word, followed by a space and its arguments, separated by `;`.
 fn call_answer(alloc: Global, line: &[u8]) -> Result<Text, Unread> {
     let (word, rest) = parted(line, b' ');
     match read_call(word)? {

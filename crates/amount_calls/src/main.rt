@@ -1,5 +1,5 @@
-//! Reads one call on quantities, lists of units or tables of points a line on standard input, and
-//! writes one answer a line on standard output.
+//! Reads calls on quantities, lists of units or tables of points from standard input, one per line, and writes the
+//! answers to standard output, one per line.
 #![tactic(auto)]
 
 mod answer;

@@ -1,4 +1,4 @@
-//! How a line spells a call.
+//! Parsing of calls.
 
 use crate::call::{Call, DigitCount, Left, Pair, Single, Step, Way};
 use frac128::Frac;
@@ -7,7 +7,7 @@ use std::alloc::{AllocError, Global};
 use std::str;
 use units_io::List;
 
-// Why a line gives no call.
+// Why a line is not a call.
 #[derive(Clone, Copy)]
 pub(crate) enum Unread {
     BadCall,
@@ -22,7 +22,7 @@ impl From<AllocError> for Unread {
     }
 }
 
-// What stands before the first such byte, and what stands behind it.
+// Splits a text at the first `mark` into the parts before and after it.
 pub(crate) fn parted(text: &[u8], mark: u8) -> (&[u8], &[u8]) {
     match text.iter().position(|&byte| byte == mark) {
         Some(end) => (&text[..end], &text[end + 1..]),
@@ -30,7 +30,7 @@ pub(crate) fn parted(text: &[u8], mark: u8) -> (&[u8], &[u8]) {
     }
 }
 
-// What a word asks for.
+// Returns the kind of call that a word names.
 pub(crate) fn read_call(word: &[u8]) -> Result<Call, Unread> {
     match word {
         b"negate" => Ok(Call::Single(Single::Negate(Left::Lent))),
@@ -47,7 +47,7 @@ pub(crate) fn read_call(word: &[u8]) -> Result<Call, Unread> {
     }
 }
 
-// What a word asks of two quantities.
+// Returns the call on two quantities that a word names.
 fn read_pair(word: &[u8]) -> Result<Pair, Unread> {
     match word {
         b"add" => Ok(Pair::Step(Step::Add, Left::Lent)),
@@ -66,7 +66,7 @@ fn read_pair(word: &[u8]) -> Result<Pair, Unread> {
     }
 }
 
-// Some quantities, with `;` between.
+// Reads quantities separated by `;`.
 pub(crate) fn read_units(alloc: Global, text: &[u8]) -> Result<List<Quantity>, Unread> {
     let mut units = List::new(alloc);
     for unit in text.split(|byte| *byte == b';') {
@@ -75,7 +75,7 @@ pub(crate) fn read_units(alloc: Global, text: &[u8]) -> Result<List<Quantity>, U
     Ok(units)
 }
 
-// Some points, with `;` between: an x, a space and a y.
+// Reads points separated by `;`. Each is an x, a space and a y.
 pub(crate) fn read_points(alloc: Global, text: &[u8]) -> Result<List<(Frac, Frac)>, Unread> {
     let mut points = List::new(alloc);
     if text.is_empty() {
@@ -88,7 +88,7 @@ pub(crate) fn read_points(alloc: Global, text: &[u8]) -> Result<List<(Frac, Frac
     Ok(points)
 }
 
-// A quantity: a fraction, and behind it names as `m`, `m^2` or `m^1|2`, with a space between.
+// Reads a quantity: a fraction followed by names such as `m`, `m^2` or `m^1|2`, separated by spaces.
 pub(crate) fn read_quantity(alloc: Global, text: &[u8]) -> Result<Quantity, Unread> {
     let (number, mut rest) = parted(text, b' ');
     let mut x = Quantity::number(alloc, read_fraction(number)?);
@@ -103,7 +103,7 @@ pub(crate) fn read_quantity(alloc: Global, text: &[u8]) -> Result<Quantity, Unre
     Ok(x)
 }
 
-// A name with its exponent.
+// Reads a name with its exponent.
 fn read_power(alloc: Global, word: &[u8]) -> Result<Quantity, Unread> {
     let (name, power) = parted(word, b'^');
     let name = Quantity::one(alloc, name)?;
@@ -114,7 +114,7 @@ fn read_power(alloc: Global, word: &[u8]) -> Result<Quantity, Unread> {
     known(name.raised(alloc, &power))
 }
 
-// The quantity that a step gave.
+// Returns the result of a step. A fault of the step makes the call bad.
 fn known(answer: Result<Quantity, QuantityFault>) -> Result<Quantity, Unread> {
     match answer {
         Ok(x) => Ok(x),
@@ -123,7 +123,7 @@ fn known(answer: Result<Quantity, QuantityFault>) -> Result<Quantity, Unread> {
     }
 }
 
-// A fraction as `n` or `n|d`, where it fits.
+// Reads a fraction `n` or `n|d`, if it fits.
 pub(crate) fn read_fraction(text: &[u8]) -> Result<Frac, Unread> {
     let (n, d) = parted(text, b'|');
     let n = read_whole(n)?;
@@ -131,7 +131,7 @@ pub(crate) fn read_fraction(text: &[u8]) -> Result<Frac, Unread> {
     Frac::new(n, d).or(Err(Unread::BadCall))
 }
 
-// A whole number.
+// Reads an integer.
 fn read_whole(text: &[u8]) -> Result<i128, Unread> {
     match str::from_utf8(text) {
         Ok(text) => text.parse().or(Err(Unread::BadCall)),
@@ -139,7 +139,7 @@ fn read_whole(text: &[u8]) -> Result<i128, Unread> {
     }
 }
 
-// A number of digits from 1 to 36.
+// Reads a number of digits from 1 to 36.
 pub(crate) fn read_count(text: &[u8]) -> Result<DigitCount, Unread> {
     match read_whole(text)? {
         value @ 1..=36 => Ok(DigitCount { value: value as u8 }),

@@ -12,7 +12,7 @@ use std::alloc::{AllocError, Global};
 use unit_list::{Split, SplitFault};
 use units_io::Text;
 
-// Whether something holds.
+// Returns `yes` or `no`.
 pub(crate) fn yes_or_no(alloc: Global, holds: bool) -> Result<Text, AllocError>
     ensures { IfOk result (λ text. text ≡ spec.yes_or_no holds) }
 {
@@ -23,7 +23,7 @@ pub(crate) fn yes_or_no(alloc: Global, holds: bool) -> Result<Text, AllocError>
     }
 }
 
-// An exponent as `n` or `n|d`.
+// Returns the text of an exponent, `n` or `n|d`.
 pub(crate) fn exponent_text(alloc: Global, exponent: &Exponent) -> Result<Text, AllocError>
     ensures { IfOk result (λ text. text ≡ exact_text exponent.now) }
 {
@@ -35,7 +35,7 @@ pub(crate) fn exponent_text(alloc: Global, exponent: &Exponent) -> Result<Text, 
     Ok(Text::from(text))
 }
 
-// The quantity that a step gave, exactly, or the text of its fault.
+// Returns the exact text of the result of a step, or the text of its fault.
 pub(crate) fn quantity_text(
     alloc: Global,
     answer: Result<Quantity, QuantityFault>,
@@ -54,7 +54,7 @@ pub(crate) fn quantity_text(
     }
 }
 
-// Two quantities that do not conform.
+// Returns the message that two quantities do not conform.
 fn unlike_text(alloc: Global, x: &Quantity, y: &Quantity) -> Result<Text, AllocError>
     ensures { IfOk result (λ text. text ≡ spec.unlike_text x.now y.now) }
 {
@@ -65,7 +65,7 @@ fn unlike_text(alloc: Global, x: &Quantity, y: &Quantity) -> Result<Text, AllocE
     Ok(Text::from(text))
 }
 
-// The counts of a split, or the text of its fault.
+// Returns the text of the counts of a split, or of its fault.
 pub(crate) fn counts_text(
     alloc: Global,
     answer: Result<Split, SplitFault>,
@@ -85,7 +85,7 @@ pub(crate) fn counts_text(
     }
 }
 
-// Puts some counts behind a text.
+// Appends counts, each after a space.
 fn put_counts(alloc: Global, text: &mut Vec<u8>, counts: &[Frac]) -> Result<(), AllocError>
     ensures { OnOk result (text.new.items ≡ text.old.items ++ spec.listed counts.now) }
 {
@@ -96,7 +96,7 @@ fn put_counts(alloc: Global, text: &mut Vec<u8>, counts: &[Frac]) -> Result<(), 
     Ok(())
 }
 
-// A word and the place of a unit, from 0.
+// Returns a word followed by the place of a unit, counted from 0.
 fn placed_text(alloc: Global, word: &[u8], place: usize) -> Result<Text, AllocError>
     ensures { IfOk result (λ text. text ≡ spec.placed_text word.now place) }
 {
@@ -105,7 +105,7 @@ fn placed_text(alloc: Global, word: &[u8], place: usize) -> Result<Text, AllocEr
     Ok(Text::from(text))
 }
 
-// The number that a table gave, exactly, or the text of its fault.
+// Returns the exact text of the number that a table returned, or the text of its fault.
 pub(crate) fn reading_text(
     alloc: Global,
     reading: Result<Frac, TableFault>,

@@ -1,4 +1,4 @@
--- What calls for replies and reports answer.
+-- The answers to calls for replies and reports.
 use Rattle.std.specs.Prelude.{◌++◌, ℕ, List, [], Bool, codes, if◌then◌else◌}
 use Rattle.digits_print.specs.declared.style.Style.TheVariants.{Exact}
 use Rattle.quantity.specs.Text.{amount_text}
@@ -16,24 +16,24 @@ use Rattle.answer_calls.specs.declared.call.Asked.{Asked}
 use Rattle.answer_calls.specs.declared.call.Asked.TheVariants.{Conversion, Definition, Value, Check, Search}
 use Rattle.answer_calls.specs.declared.call.Asked.TheVariants.{Conformable}
 
--- the line that stands behind what is refused
+-- the line that marks a refusal, if there is one
 abbrev pub mark_text : (refused : Bool) → List ℕ
 mark_text refused = if refused then codes "refused\n" else []
 
--- a reply
+-- the text of a reply
 abbrev pub reply_text : Reply → List ℕ
 reply_text reply = reply.text ++ mark_text reply.refused
 
--- a line, which may be refused
+-- the text of a line, which may be refused
 abbrev pub line_text : (line : List ℕ) (refused : Bool) → List ℕ
 line_text line refused = (line ++ codes "\n") ++ mark_text refused
 
--- what a text is worth, exact, or its fault
+-- the exact text of a value, or its fault
 abbrev pub value_text : FromValue → List ℕ
 value_text (Good x) = line_text (amount_text Exact x) Bool.false
 value_text (Bad text) = line_text text Bool.true
 
--- what is asked of a table
+-- the answer to a query of a table
 abbrev pub asked_text : Table → Options → Asked → List ℕ
 asked_text table options (Conversion from to) = reply_text (conversion_reply table options from.now to.now)
 asked_text table options (Definition from) = reply_text (definition_reply table options from.now)

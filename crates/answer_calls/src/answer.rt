@@ -1,4 +1,4 @@
-//! Answers to calls.
+//! The answers to calls.
 
 ghost use Rattle.std.specs.Prelude.{◌≡◌, ◌++◌, ◌<◌, OnOk};
 ghost use Rattle.deck.specs.Tables as tables;
@@ -15,7 +15,7 @@ use std::sync::ledger::{Blank, Ledger};
 use survey::{check_report, conformable_reply, search_report};
 use units_io::{Steps, Text};
 
-// Puts the answer to a line, which may be no call.
+// Appends the answer to a line, which may not be a call.
 pub(crate) fn put_answer(
     alloc: Global,
     live: &mut LiveTable,
@@ -39,7 +39,7 @@ pub(crate) fn put_answer(
     }
 }
 
-// Puts what is asked of a table, whose steps nobody counts.
+// Appends the answer to a query of a table, with a step counter that nobody reads.
 fn put_asked<L: Ledger>(
     alloc: Global,
     live: &mut LiveTable,
@@ -79,7 +79,7 @@ fn put_asked<L: Ledger>(
     }
 }
 
-// Puts the bytes of a reply, and behind them a line where it is refused.
+// Appends a reply, followed by a line that marks it if it is refused.
 fn put_reply(answers: &mut Vec<u8>, reply: &Reply) -> Result<(), AllocError>
     ensures { OnOk result (answers.new.items ≡ answers.old.items ++ spec.reply_text reply.now) }
 {
@@ -87,7 +87,7 @@ fn put_reply(answers: &mut Vec<u8>, reply: &Reply) -> Result<(), AllocError>
     put_mark(answers, reply.refused)
 }
 
-// Puts a value, exact, or the text of a fault as of a refused reply.
+// Appends the exact value, or the text of the fault as a refused line.
 fn put_value(alloc: Global, answers: &mut Vec<u8>, value: &FromValue) -> Result<(), AllocError>
     ensures { OnOk result (answers.new.items ≡ answers.old.items ++ spec.value_text value.now) }
 {
@@ -99,7 +99,7 @@ fn put_value(alloc: Global, answers: &mut Vec<u8>, value: &FromValue) -> Result<
     }
 }
 
-// Puts the bytes of a report.
+// Appends a report.
 fn put_report(answers: &mut Vec<u8>, report: &Text) -> Result<(), AllocError>
     ensures { OnOk result (answers.new.items ≡ answers.old.items ++ report.now) }
 {
@@ -107,7 +107,7 @@ fn put_report(answers: &mut Vec<u8>, report: &Text) -> Result<(), AllocError>
     Ok(())
 }
 
-// Puts a line, and behind it one that says so where it is refused.
+// Appends a line, followed by a line that marks it if it is refused.
 fn put_line(answers: &mut Vec<u8>, line: &[u8], refused: bool) -> Result<(), AllocError>
     ensures { OnOk result (answers.new.items ≡ answers.old.items ++ spec.line_text line.now refused) }
 {
@@ -116,7 +116,7 @@ fn put_line(answers: &mut Vec<u8>, line: &[u8], refused: bool) -> Result<(), All
     put_mark(answers, refused)
 }
 
-// Puts the line that stands behind what is refused.
+// Appends the line that marks a refusal.
 fn put_mark(answers: &mut Vec<u8>, refused: bool) -> Result<(), AllocError>
     ensures { OnOk result (answers.new.items ≡ answers.old.items ++ spec.mark_text refused) }
 {

@@ -1,4 +1,4 @@
-//! The calls, and how a line spells one.
+//! The calls, and their syntax.
 
 ghost use Rattle.std.specs.Prelude.{IfSome};
 ghost use Rattle.answer_calls.specs.Calls.{IsPrintableCall};
@@ -10,29 +10,29 @@ use reply::Options;
 // A call with its arguments.
 #[derive(Clone, Copy)]
 pub(crate) enum Call<'a> {
-    // Sets the options of what comes after.
+    // Sets the options for the following calls.
     Choose(Options),
     Ask(Asked<'a>),
 }
 
-// What is asked of a table.
+// A query of a table.
 #[derive(Clone, Copy)]
 pub(crate) enum Asked<'a> {
-    // The reply to the conversion of a text to another.
+    // The reply to the conversion of one text to another.
     Conversion(&'a [u8], &'a [u8]),
-    // The reply to a text alone.
+    // The reply to a text without a unit to convert it to.
     Definition(&'a [u8]),
-    // What a text is worth.
+    // The value of a text.
     Value(&'a [u8]),
     // The report on the faults of all keys.
     Check,
-    // The report on the keys whose names hold a text.
+    // The report on the keys whose names contain a text.
     Search(&'a [u8]),
-    // The report on the units that conform to what a text is worth.
+    // The report on the units that conform to the value of a text.
     Conformable(&'a [u8]),
 }
 
-// The call that a line spells: a word, and behind a space its arguments.
+// Reads the call in a line: a word, followed by a space and its arguments.
 pub(crate) fn read_call(line: &[u8]) -> Option<Call<'_>>
     ensures { IfSome result IsPrintableCall }
 {
@@ -43,7 +43,7 @@ pub(crate) fn read_call(line: &[u8]) -> Option<Call<'_>>
     Some(Call::Ask(read_asked(word, rest)?))
 }
 
-// What a word and its arguments ask.
+// Reads the query in a word and its arguments.
 fn read_asked<'a>(word: &[u8], rest: &'a [u8]) -> Option<Asked<'a>> {
     match word {
         b"convert" => {
@@ -59,7 +59,7 @@ fn read_asked<'a>(word: &[u8], rest: &'a [u8]) -> Option<Asked<'a>> {
     }
 }
 
-// What stands before the first ` to `, and what stands behind it.
+// Splits a text at the first ` to ` into the parts before and after it.
 fn cut_at_to(text: &[u8]) -> Option<(&[u8], &[u8])> {
     let at = text
         .windows(4)

@@ -1,4 +1,4 @@
-//! The options of replies, and how words spell them.
+//! The options of replies, and their syntax.
 
 ghost use Rattle.std.specs.Prelude.{◌≤◌, IfSome};
 ghost use Rattle.reply.specs.Options.{IsPrintable};
@@ -6,7 +6,7 @@ ghost use Rattle.reply.specs.Options.{IsPrintable};
 use reply::Options;
 use std::str;
 
-// No option, with eight digits.
+// Returns the default options: eight digits and no flag.
 pub(crate) fn default_options() -> Options
     ensures { IsPrintable result }
 {
@@ -22,8 +22,7 @@ pub(crate) fn default_options() -> Options
     }
 }
 
-// The options that words with spaces between them spell: the flags that are there, and a number of
-// digits, which is eight where there is none.
+// Reads options as words separated by spaces: flags, and a number of digits, which is eight if it is not given.
 pub(crate) fn read_options(words: &[u8]) -> Option<Options>
     ensures { IfSome result IsPrintable }
 {
@@ -34,7 +33,7 @@ pub(crate) fn read_options(words: &[u8]) -> Option<Options>
     Some(options)
 }
 
-// The options with one more, which a word spells.
+// Adds the option that a word names.
 fn with_option(mut options: Options, word: &[u8]) -> Option<Options>
     requires { IsPrintable options }
     ensures { IfSome result IsPrintable }
@@ -53,7 +52,7 @@ fn with_option(mut options: Options, word: &[u8]) -> Option<Options>
     Some(options)
 }
 
-// A number of digits.
+// Reads a number of digits from 1 to 36.
 fn read_digits(word: &[u8]) -> Option<u8>
     ensures least { IfSome result (λ digits. 1 ≤ digits) }
     ensures most { IfSome result (λ digits. digits ≤ 36) }

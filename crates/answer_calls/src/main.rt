@@ -1,5 +1,5 @@
-//! Reads a load and then calls for replies and reports over its deck, one a line, on standard input, and writes
-//! their answers on standard output. Files are those of the system.
+//! Reads a load and then calls for replies and reports over its deck from standard input, one per line, and writes
+//! their answers to standard output. The load reads files from the file system.
 #![tactic(auto)]
 
 mod answer;

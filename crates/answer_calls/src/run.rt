@@ -8,11 +8,10 @@ use live_table::LiveTable;
 use std::alloc::{AllocError, Global};
 use units_io::{Files, Text, Vars};
 
-// The answers to lines. The first line, `load FILE`, loads a deck; where it does not, its answer is
-// the only one. `convert FROM to TO` and `define FROM` answer a reply, `value FROM` what FROM is
-// worth, `check`, `search TEXT` and `conformable FROM` a report, and `options WORD..` sets the options
-// of what comes after. Behind a reply that is refused, and behind a fault in the place of a value or of
-// a report, stands a line that says so.
+// Returns the answers to the lines. The first line, `load FILE`, loads a deck; if that fails, its answer is the only
+// one. `convert FROM to TO` and `define FROM` answer with a reply, `value FROM` with the value of FROM, and `check`,
+// `search TEXT` and `conformable FROM` with a report. `options WORD..` sets the options for the following calls. A
+// refused reply, and a fault in place of a value or a report, are followed by a line that marks the refusal.
 pub(crate) fn answers_to<F: Files>(
     alloc: Global,
     files: &mut F,
@@ -27,7 +26,7 @@ pub(crate) fn answers_to<F: Files>(
     load_answers(alloc, outcome, calls)
 }
 
-// The answers to a load and to the calls behind it.
+// Returns the answers to a load and to the calls after it.
 fn load_answers(
     alloc: Global,
     outcome: Result<Deck, DeckFault>,
@@ -40,12 +39,12 @@ fn load_answers(
     }
 }
 
-// The answers to a load and to the calls on its table, which is given up with the last.
+// Returns the answers to a load and to the calls on its table, which is freed after the last call.
 fn table_answers(alloc: Global, mut live: LiveTable, calls: &[u8]) -> Result<Vec<u8>, AllocError> {
     call_answers(alloc, &mut live, calls)
 }
 
-// The answers to a load and to the calls on its table.
+// Returns the answers to a load and to the calls on its table.
 fn call_answers(alloc: Global, live: &mut LiveTable, calls: &[u8]) -> Result<Vec<u8>, AllocError> {
     let mut options = default_options();
     let mut answers = Vec::from_slice(alloc, b"ok\n")?;
@@ -56,14 +55,14 @@ fn call_answers(alloc: Global, live: &mut LiveTable, calls: &[u8]) -> Result<Vec
     Ok(answers)
 }
 
-// The settings of the United States with no variable.
+// Returns the settings with the locale `en_US` and no variables.
 fn american_settings(alloc: Global) -> Result<Settings, AllocError> {
     let locale = Text::from_bytes(alloc, b"en_US")?;
     let vars = Vars::new(alloc);
     Ok(Settings { locale, vars })
 }
 
-// What stands before the first line feed, and what stands behind it.
+// Splits the text at the first line feed into the parts before and after it.
 fn split_first_line(lines: &[u8]) -> (&[u8], &[u8]) {
     cut_at(lines, b'\n').unwrap_or((lines, b""))
 }

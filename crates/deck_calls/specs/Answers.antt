@@ -1,4 +1,4 @@
--- What calls on a deck answer.
+-- The answers to calls on a deck.
 use Rattle.std.specs.Prelude.{◌++◌, ◌∷◌, ℕ, Bool, true, false, List, [], map, length, codes, Option, Some, None, Result}
 use Rattle.std.specs.Prelude.{Ok, Err}
 use Rattle.std.specs.Fmt.{decimal}
@@ -14,12 +14,12 @@ use Rattle.deck.specs.Tables.{table}
 use Rattle.deck.specs.declared.fault.DeckFault.{DeckFault}
 use Rattle.deck.specs.declared.fault.DeckFault.TheVariants as fault
 
--- each item with a bar before it
+-- the items, each after a bar
 abbrev pub items_behind : List (List ℕ) → List ℕ
 items_behind [] = []
 items_behind (item ∷ items) = codes " | " ++ item ++ items_behind items
 
--- items with bars between, or that there are none
+-- the items separated by bars, or `none`
 abbrev pub list_text : List (List ℕ) → List ℕ
 list_text [] = codes "none"
 list_text (item ∷ items) = item ++ items_behind items
@@ -31,14 +31,14 @@ abbrev pub mark_text : Bool → List ℕ
 mark_text true = codes " ~"
 mark_text false = codes " "
 
--- a line with its number and its mark
+-- the text of a line with its number and its mark
 abbrev pub line_text : DeckLine → List ℕ
 line_text line = decimal line.number ++ mark_text line.mark ++ line.text
 
 abbrev pub lines_text : List DeckLine → List ℕ
 lines_text lines = list_text (map line_text lines)
 
--- why there is no deck, or an edit is refused
+-- why a load failed or an edit was refused
 abbrev pub fault_text : DeckFault → List ℕ
 fault_text (fault.BadLine line_fault) = entry_fault_text line_fault
 fault_text fault.NoSuchKey = codes "no such key"
@@ -48,27 +48,27 @@ fault_text fault.TooLong = codes "too long"
 fault_text fault.ReadFailed = codes "read failed"
 fault_text fault.OutOfMemory = []
 
--- the keys that an edit changes, or why it is refused
+-- the keys that an edit changed, or why it was refused
 abbrev pub outcome_text : Result (List Key) DeckFault → List ℕ
 outcome_text (Ok keys) = codes "changed: " ++ keys_text keys
 outcome_text (Err fault) = fault_text fault
 
--- the text of an entry, where there is one
+-- the text of an entry, or `none`
 abbrev pub entry_text : Option Entry → List ℕ
 entry_text (Some entry) = entry.text
 entry_text None = codes "none"
 
--- a place, where there is one
+-- the text of a place, or `none`
 abbrev pub place_text : Option ℕ → List ℕ
 place_text (Some place) = decimal place
 place_text None = codes "none"
 
--- the answer on a key, where the text is that of one
+-- the answer about a key, if the text is a key
 abbrev pub key_answer : (Key → List ℕ) → Option Key → List ℕ
 key_answer answer (Some key) = answer key
 key_answer answer None = codes "not a key"
 
--- how many keys of each kind there are, and how many lines and notices
+-- the number of keys of each kind, and the numbers of lines and notices
 abbrev pub count_text : Contents → List ℕ
 count_text d =
     decimal (key_count (table d) kind.Unit) ++ codes " units, "

@@ -1,4 +1,4 @@
-//! Answers in writing.
+//! The texts of answers.
 
 ghost use Rattle.std.specs.Prelude.{◌≡◌, ◌++◌, codes, IfOk, OnOk};
 ghost use Rattle.def_entry.specs.Faults as faults;
@@ -11,14 +11,14 @@ use expr_tree::ParseFault;
 use std::alloc::{AllocError, Global};
 use units_io::Texts;
 
-// These bytes.
+// Copies bytes to a new vector.
 pub(crate) fn line_of(alloc: Global, text: &[u8]) -> Result<Vec<u8>, AllocError>
     ensures { IfOk result (λ line. line.items ≡ text.now) }
 {
     Vec::from_slice(alloc, text)
 }
 
-// Why there is no deck, or an edit is refused.
+// Returns why a load failed or an edit was refused.
 pub(crate) fn fault_text(alloc: Global, fault: DeckFault) -> Result<Vec<u8>, AllocError>
     ensures { IfOk result (λ text. text.items ≡ answers.fault_text fault) }
 {
@@ -33,7 +33,7 @@ pub(crate) fn fault_text(alloc: Global, fault: DeckFault) -> Result<Vec<u8>, All
     }
 }
 
-// Why a line defines no key.
+// Returns why a line defines no key.
 fn line_fault_text(alloc: Global, fault: EntryFault) -> Result<Vec<u8>, AllocError>
     ensures { IfOk result (λ text. text.items ≡ faults.entry_fault_text fault) }
 {
@@ -43,7 +43,7 @@ fn line_fault_text(alloc: Global, fault: EntryFault) -> Result<Vec<u8>, AllocErr
     }
 }
 
-// The keys that an edit changes.
+// Returns the text of the keys that an edit changed.
 pub(crate) fn changes_text(alloc: Global, keys: &Keys) -> Result<Vec<u8>, AllocError>
     ensures { IfOk result (λ text. text.items ≡ codes "changed: " ++ answers.keys_text keys.now) }
 {
@@ -52,7 +52,7 @@ pub(crate) fn changes_text(alloc: Global, keys: &Keys) -> Result<Vec<u8>, AllocE
     Ok(text)
 }
 
-// Keys, with bars between, or that there are none.
+// Returns the keys separated by bars, or `none`.
 #[tactic(auto, using(crate::proofs::Written::keys_written))]
 pub(crate) fn keys_text(alloc: Global, keys: &Keys) -> Result<Vec<u8>, AllocError>
     ensures { IfOk result (λ text. text.items ≡ answers.keys_text keys.now) }
@@ -67,7 +67,7 @@ pub(crate) fn keys_text(alloc: Global, keys: &Keys) -> Result<Vec<u8>, AllocErro
     Ok(text)
 }
 
-// Texts, with bars between, or that there are none.
+// Returns the texts separated by bars, or `none`.
 #[tactic(auto, using(crate::proofs::Written::texts_written))]
 pub(crate) fn texts_text(alloc: Global, texts: &Texts) -> Result<Vec<u8>, AllocError>
     ensures { IfOk result (λ text. text.items ≡ answers.list_text texts.now) }
@@ -82,7 +82,7 @@ pub(crate) fn texts_text(alloc: Global, texts: &Texts) -> Result<Vec<u8>, AllocE
     Ok(text)
 }
 
-// Lines with their numbers, a `~` before one with the mark.
+// Returns the lines with their numbers, separated by bars, or `none`. A `~` precedes a line with the mark.
 #[tactic(auto, using(crate::proofs::Written::lines_written))]
 pub(crate) fn lines_text(alloc: Global, lines: &DeckLines) -> Result<Vec<u8>, AllocError>
     ensures { IfOk result (λ text. text.items ≡ answers.lines_text lines.now) }
@@ -97,7 +97,7 @@ pub(crate) fn lines_text(alloc: Global, lines: &DeckLines) -> Result<Vec<u8>, Al
     Ok(text)
 }
 
-// A line with its number and its mark.
+// Returns a line with its number and its mark.
 #[tactic(auto, using(crate::proofs::Written::appends))]
 fn line_text(alloc: Global, line: &DeckLine) -> Result<Vec<u8>, AllocError>
     ensures { IfOk result (λ text. text.items ≡ answers.line_text line.now) }
@@ -114,7 +114,7 @@ fn mark_text(mark: bool) -> &'static [u8]
     if mark { b" ~" } else { b" " }
 }
 
-// Puts an item behind others, with a bar between.
+// Appends a bar and an item.
 #[tactic(auto, using(crate::proofs::Written::appends))]
 pub(crate) fn put_item(text: &mut Vec<u8>, item: &[u8]) -> Result<(), AllocError>
     ensures { OnOk result (text.new.items ≡ text.old.items ++ codes " | " ++ item.now) }

@@ -1,4 +1,4 @@
-//! A deck under calls.
+//! A deck that calls operate on.
 
 use crate::answer::{fault_text, line_of};
 use crate::call::{Call, read_call};
@@ -8,8 +8,8 @@ use deck::{Deck, DeckFault, Settings, Splice};
 use std::alloc::{AllocError, Global};
 use units_io::{Files, Text, Vars};
 
-// A deck, a second one that was equal to it once, and the inverse of the last splice, where they are
-// there, and the settings of what comes after.
+// The state between calls: the deck, a snapshot of an earlier state of it, the inverse of the last splice, each if
+// there is one, and the settings for the following loads and edits.
 #[derive(Drop)]
 struct Board {
     deck: Option<Deck>,
@@ -18,7 +18,7 @@ struct Board {
     settings: Settings,
 }
 
-// The answers to calls, one a line, of which each has its answer on one line.
+// Returns the answers to calls. Each call and each answer takes one line.
 pub(crate) fn answers_to<F: Files>(
     alloc: Global,
     files: &mut F,
@@ -31,7 +31,7 @@ pub(crate) fn answers_to<F: Files>(
 }
 
 impl Board {
-    // No deck, and the settings of the United States with no variable.
+    // Returns a board without a deck, with the locale `en_US` and no variables.
     fn new(alloc: Global) -> Result<Board, AllocError> {
         let locale = Text::from_bytes(alloc, b"en_US")?;
         let vars = Vars::new(alloc);
@@ -56,7 +56,7 @@ impl Board {
         Ok(())
     }
 
-    // Adds the answer to a line, which may have its end with it.
+    // Appends the answer to a line, which may include its line feed.
     fn add_answer<F: Files>(
         &mut self,
         alloc: Global,
@@ -70,7 +70,7 @@ impl Board {
         Ok(())
     }
 
-    // The answer to a line, which may be no call.
+    // Returns the answer to a line, which may not be a call.
     fn answer_to<F: Files>(
         &mut self,
         alloc: Global,
@@ -106,7 +106,7 @@ impl Board {
         line_of(alloc, b"ok")
     }
 
-    // Takes over the deck of a file with its includes.
+    // Loads the deck of a file with its includes.
     fn load<F: Files>(
         &mut self,
         alloc: Global,
@@ -118,7 +118,7 @@ impl Board {
         self.take_deck(alloc, outcome)
     }
 
-    // Takes over the deck of the text of a file alone.
+    // Loads the deck of the text of a single file. Its includes count as absent files.
     fn load_text<F: Files>(
         &mut self,
         alloc: Global,
@@ -130,7 +130,7 @@ impl Board {
         self.take_deck(alloc, outcome)
     }
 
-    // The answer to a call that needs a deck.
+    // Returns the answer to a call that needs a deck.
     fn deck_answer<F: Files>(
         &mut self,
         alloc: Global,
@@ -155,7 +155,7 @@ impl Board {
         }
     }
 
-    // Takes a deck over, or says why there is none.
+    // Stores a loaded deck, or returns why the load failed.
     fn take_deck(
         &mut self,
         alloc: Global,
@@ -171,7 +171,7 @@ impl Board {
     }
 }
 
-// Keeps a second deck that is equal.
+// Stores a snapshot of the deck.
 fn snapshot_answer(
     alloc: Global,
     deck: &Deck,
@@ -181,7 +181,7 @@ fn snapshot_answer(
     line_of(alloc, b"ok")
 }
 
-// The deck of the text of a file alone.
+// Returns the deck of the text of a single file. Its includes count as absent files.
 fn deck_of_text<F: Files>(
     alloc: Global,
     files: &mut F,

@@ -1,4 +1,4 @@
-//! The calls, and how a line spells one.
+//! The calls, and their syntax.
 
 use def_entry::cut_at;
 use std::str;
@@ -6,15 +6,15 @@ use std::str;
 // A call with its arguments.
 #[derive(Clone, Copy)]
 pub(crate) enum Call<'a> {
-    // Sets the locale for what comes after.
+    // Sets the locale for the following loads and edits.
     Locale(&'a [u8]),
-    // Sets a variable for what comes after.
+    // Sets a variable for the following loads and edits.
     Set(&'a [u8], &'a [u8]),
-    // The deck of a file with its includes.
+    // Loads the deck of a file with its includes.
     Load(&'a [u8]),
-    // The deck of the text of a file alone.
+    // Loads the deck of the text of a single file. Its includes count as absent files.
     Text(&'a [u8]),
-    // Keeps a second deck that is equal to the first.
+    // Stores a snapshot of the deck.
     Snapshot,
     Edit(Edit<'a>),
     Ask(Question<'a>),
@@ -26,15 +26,14 @@ pub(crate) enum Edit<'a> {
     Define(&'a [u8]),
     Drop(&'a [u8]),
     Append(&'a [u8]),
-    // Puts the settings in force.
+    // Makes the settings take effect.
     Switch,
     Splice(Change<'a>),
-    // Makes the inverse of the last splice.
+    // Applies the inverse of the last splice.
     Back,
 }
 
-// Lines to be put in the place of others, with a `;` between, each with a `~` before it where it has
-// the mark.
+// Lines that replace other lines. They are separated by `;`, and a `~` precedes each line that has the mark.
 #[derive(Clone, Copy)]
 pub(crate) struct Change<'a> {
     pub at: usize,
@@ -42,7 +41,7 @@ pub(crate) struct Change<'a> {
     pub lines: &'a [u8],
 }
 
-// What is asked of the deck.
+// A query of the deck.
 #[derive(Clone, Copy)]
 pub(crate) enum Question<'a> {
     Entry(&'a [u8]),
@@ -54,11 +53,11 @@ pub(crate) enum Question<'a> {
     Messages,
     Defining,
     Settings,
-    // Whether the deck that was kept is equal.
+    // Whether the snapshot is equal to the deck.
     Compare,
 }
 
-// The call that a line spells: a word, and a space before each argument.
+// Reads the call in a line: a word, with a space before each argument.
 pub(crate) fn read_call(line: &[u8]) -> Option<Call<'_>> {
     if let Some(question) = plain_question(line) {
         return Some(Call::Ask(question));
@@ -73,7 +72,7 @@ pub(crate) fn read_call(line: &[u8]) -> Option<Call<'_>> {
     Some(Call::Edit(read_edit(word, rest)?))
 }
 
-// The questions without an argument by their words.
+// The queries without an argument, by their words.
 const PLAIN_QUESTIONS: &[(&[u8], Question<'static>)] = &[
     (b"count", Question::Count),
     (b"keys", Question::Keys),
@@ -94,7 +93,7 @@ fn plain_question(line: &[u8]) -> Option<Question<'static>> {
     None
 }
 
-// The call that makes a deck, keeps it or prepares for one.
+// Reads a call that loads a deck, takes a snapshot or changes the settings.
 fn board_call<'a>(word: &[u8], rest: &'a [u8]) -> Option<Call<'a>> {
     match word {
         b"locale" => Some(Call::Locale(rest)),
@@ -109,7 +108,7 @@ fn board_call<'a>(word: &[u8], rest: &'a [u8]) -> Option<Call<'a>> {
     }
 }
 
-// The question about a key.
+// Reads a query about a key.
 fn key_question<'a>(word: &[u8], rest: &'a [u8]) -> Option<Question<'a>> {
     match word {
         b"entry" => Some(Question::Entry(rest)),
@@ -118,7 +117,7 @@ fn key_question<'a>(word: &[u8], rest: &'a [u8]) -> Option<Question<'a>> {
     }
 }
 
-// The edit that a word and its arguments spell.
+// Reads the edit in a word and its arguments.
 fn read_edit<'a>(word: &[u8], rest: &'a [u8]) -> Option<Edit<'a>> {
     match word {
         b"define" => Some(Edit::Define(rest)),
@@ -131,7 +130,7 @@ fn read_edit<'a>(word: &[u8], rest: &'a [u8]) -> Option<Edit<'a>> {
     }
 }
 
-// A place, how many lines are cut there, and the lines that are put there.
+// Reads a splice: a place, the number of lines to cut there, and the lines to insert there.
 fn read_change(text: &[u8]) -> Option<Change<'_>> {
     let (at, text) = split_at_space(text);
     let (cut, lines) = split_at_space(text);
@@ -144,7 +143,7 @@ fn read_number(text: &[u8]) -> Option<usize> {
     str::from_utf8(text).ok()?.parse().ok()
 }
 
-// What stands before the first space, and what stands behind it.
+// Splits a text at the first space into the parts before and after it.
 fn split_at_space(text: &[u8]) -> (&[u8], &[u8]) {
     cut_at(text, b' ').unwrap_or((text, b""))
 }

@@ -1,4 +1,4 @@
-//! Edits of a deck, and what they answer.
+//! Edits of a deck, and their answers.
 
 ghost use Rattle.std.specs.Prelude.{◌≡◌, IfOk};
 ghost use Rattle.deck.specs.Splices.{CanSplice};
@@ -12,7 +12,7 @@ use def_entry::{KeyFault, Keys, read_key};
 use std::alloc::{AllocError, Global};
 use units_io::{Files, Text};
 
-// What an edit answers: the keys that it changes, or why it is refused.
+// Makes an edit, and returns the keys that it changed or why it was refused.
 pub(crate) fn edit_answer<F: Files>(
     alloc: Global,
     files: &mut F,
@@ -31,7 +31,7 @@ pub(crate) fn edit_answer<F: Files>(
     }
 }
 
-// The keys that an edit changed, or why it was refused.
+// Returns the keys that an edit changed, or why it was refused.
 fn outcome_text(alloc: Global, outcome: Result<Keys, DeckFault>) -> Result<Vec<u8>, AllocError>
     ensures { IfOk result (λ text. text.items ≡ answers.outcome_text outcome) }
 {
@@ -41,7 +41,7 @@ fn outcome_text(alloc: Global, outcome: Result<Keys, DeckFault>) -> Result<Vec<u
     }
 }
 
-// Drops the last line in force of the key that is written so.
+// Drops the last line in force of the key that `text` names.
 fn drop_answer(alloc: Global, deck: &mut Deck, text: &[u8]) -> Result<Vec<u8>, AllocError> {
     match read_key(alloc, text) {
         Ok(key) => outcome_text(alloc, deck.drop_last(alloc, &key)),
@@ -50,7 +50,7 @@ fn drop_answer(alloc: Global, deck: &mut Deck, text: &[u8]) -> Result<Vec<u8>, A
     }
 }
 
-// Puts these settings in force.
+// Makes these settings take effect.
 fn switch_answer(
     alloc: Global,
     deck: &mut Deck,
@@ -60,7 +60,7 @@ fn switch_answer(
     outcome_text(alloc, deck.switch(alloc, settings))
 }
 
-// Puts lines in the place of others, under these settings.
+// Replaces lines by other lines, under these settings.
 fn change_answer(
     alloc: Global,
     deck: &mut Deck,
@@ -73,7 +73,7 @@ fn change_answer(
     splice_answer(alloc, deck, inverse, change)
 }
 
-// Makes the inverse of the last splice.
+// Applies the inverse of the last splice.
 fn back_answer(
     alloc: Global,
     deck: &mut Deck,
@@ -85,7 +85,7 @@ fn back_answer(
     }
 }
 
-// The splice of these lines, each with the number 0, and these settings.
+// Returns the splice of these lines, each with the number 0, under these settings.
 fn splice_of(alloc: Global, change: Change<'_>, settings: &Settings) -> Result<Splice, AllocError> {
     let put = put_lines(alloc, change.lines)?;
     let settings = settings.copy(alloc)?;
@@ -97,7 +97,7 @@ fn splice_of(alloc: Global, change: Change<'_>, settings: &Settings) -> Result<S
     })
 }
 
-// The lines to be put, which have a `;` between.
+// Reads the lines to insert, which are separated by `;`.
 fn put_lines(alloc: Global, texts: &[u8]) -> Result<DeckLines, AllocError> {
     let mut put = DeckLines::new(alloc);
     for text in texts.split(|byte| *byte == b';') {
@@ -108,7 +108,7 @@ fn put_lines(alloc: Global, texts: &[u8]) -> Result<DeckLines, AllocError> {
     Ok(put)
 }
 
-// A line, with the mark where a `~` stands before it.
+// Reads a line. It has the mark if it begins with `~`.
 fn deck_line(alloc: Global, text: &[u8]) -> Result<DeckLine, AllocError> {
     let (text, mark) = match text.strip_prefix(b"~".as_slice()) {
         Some(rest) => (rest, true),
@@ -122,7 +122,7 @@ fn deck_line(alloc: Global, text: &[u8]) -> Result<DeckLine, AllocError> {
     })
 }
 
-// Makes a splice where that may be, and keeps its inverse.
+// Makes a splice if it is allowed, and stores its inverse.
 fn splice_answer(
     alloc: Global,
     deck: &mut Deck,
@@ -136,7 +136,7 @@ fn splice_answer(
     }
 }
 
-// Makes a splice, and keeps its inverse.
+// Makes a splice, and stores its inverse.
 fn made_splice_answer(
     alloc: Global,
     deck: &mut Deck,

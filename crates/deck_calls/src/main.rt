@@ -1,5 +1,5 @@
-//! Reads one call on a deck a line on standard input, and writes one answer a line on standard
-//! output. Files are those of the system.
+//! Reads calls on a deck from standard input, one per line, and writes the answers to standard output, one per line.
+//! The calls load files from the file system.
 #![tactic(auto)]
 
 mod answer;

@@ -1,4 +1,4 @@
-//! Questions on a deck, and their answers.
+//! Queries of a deck, and their answers.
 
 ghost use Rattle.std.specs.Prelude.{◌≡◌, ◌++◌, IfOk, OnOk, option_map};
 ghost use Rattle.std.specs.Fmt.{decimal};
@@ -15,7 +15,7 @@ use deck_lines::DeckLines;
 use def_entry::{Entry, Key, KeyFault, Kind, read_key};
 use std::alloc::{AllocError, Global};
 
-// The answer to a question.
+// Returns the answer to a query.
 pub(crate) fn question_answer(
     alloc: Global,
     deck: &Deck,
@@ -36,7 +36,7 @@ pub(crate) fn question_answer(
     }
 }
 
-// The text of the entry of the key that is written so.
+// Returns the text of the entry of the key that `text` names.
 fn entry_answer(alloc: Global, deck: &Deck, text: &[u8]) -> Result<Vec<u8>, AllocError>
     ensures { IfOk result (λ line. line.items ≡ answers.key_answer
         (λ k. answers.entry_text (tables.entry_at (tables.table deck.now) k)) (keys.key_of text.now)) }
@@ -47,7 +47,7 @@ fn entry_answer(alloc: Global, deck: &Deck, text: &[u8]) -> Result<Vec<u8>, Allo
     entry_text(alloc, deck.entry(key.kind, key.name.as_bytes()))
 }
 
-// The text of an entry, where there is one.
+// Returns the text of an entry, or `none`.
 fn entry_text(alloc: Global, entry: Option<Entry<'_>>) -> Result<Vec<u8>, AllocError>
     ensures { IfOk result (λ line. line.items ≡ answers.entry_text (option_map entry_view entry.entry)) }
 {
@@ -57,7 +57,7 @@ fn entry_text(alloc: Global, entry: Option<Entry<'_>>) -> Result<Vec<u8>, AllocE
     }
 }
 
-// The place of the last line in force of the key that is written so.
+// Returns the place of the last line in force of the key that `text` names.
 fn place_answer(alloc: Global, deck: &Deck, text: &[u8]) -> Result<Vec<u8>, AllocError>
     ensures { IfOk result (λ line. line.items ≡ answers.key_answer
         (λ k. answers.place_text (tables.last_place deck.now.settings deck.now.lines k)) (keys.key_of text.now)) }
@@ -71,7 +71,7 @@ fn place_answer(alloc: Global, deck: &Deck, text: &[u8]) -> Result<Vec<u8>, Allo
     }
 }
 
-// The key that is written so.
+// Reads a key. Returns `None` if the text is not a key.
 fn key_in(alloc: Global, text: &[u8]) -> Result<Option<Key>, AllocError>
     ensures { IfOk result (λ key. key ≡ keys.key_of text.now) }
 {
@@ -82,7 +82,7 @@ fn key_in(alloc: Global, text: &[u8]) -> Result<Option<Key>, AllocError>
     }
 }
 
-// How many keys of each kind there are, and how many lines and notices.
+// Returns the number of keys of each kind, and the numbers of lines and notices.
 #[tactic(auto, using(crate::proofs::Written::appends))]
 fn count_text(alloc: Global, deck: &Deck) -> Result<Vec<u8>, AllocError>
     ensures { IfOk result (λ text. text.items ≡ answers.count_text deck.now) }
@@ -116,7 +116,7 @@ fn put_count(alloc: Global, text: &mut Vec<u8>, count: usize, what: &[u8]) -> Re
     Ok(())
 }
 
-// All lines with their marks.
+// Returns all lines with their marks.
 pub(crate) fn all_lines(alloc: Global, deck: &Deck) -> Result<DeckLines, AllocError>
     ensures { IfOk result (λ lines. lines ≡ deck.now.lines) }
 {
@@ -124,7 +124,7 @@ pub(crate) fn all_lines(alloc: Global, deck: &Deck) -> Result<DeckLines, AllocEr
     deck.lines_from(alloc, 0, len)
 }
 
-// The locale, and the variables with their values.
+// Returns the text of the locale and of the variables with their values.
 fn settings_text(alloc: Global, settings: &Settings) -> Result<Vec<u8>, AllocError> {
     let mut text = line_of(alloc, settings.locale.as_bytes())?;
     for i in 0..settings.vars.len() {
@@ -137,7 +137,7 @@ fn settings_text(alloc: Global, settings: &Settings) -> Result<Vec<u8>, AllocErr
     Ok(text)
 }
 
-// Whether the deck that was kept is equal.
+// Returns whether the snapshot is equal to the deck.
 fn comparison(alloc: Global, deck: &Deck, snapshot: &Option<Deck>) -> Result<Vec<u8>, AllocError> {
     let Some(other) = snapshot else {
         return line_of(alloc, b"no snapshot");

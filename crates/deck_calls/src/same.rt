@@ -1,4 +1,4 @@
-//! Equal decks.
+//! Comparison of decks.
 
 use crate::question::all_lines;
 use deck::{Deck, Settings};
@@ -6,7 +6,7 @@ use deck_lines::DeckLine;
 use std::alloc::{AllocError, Global};
 use units_io::{Text, Vars};
 
-// Whether two decks have the same lines, marks, settings and notices.
+// Returns whether two decks have the same lines, marks, settings and notices.
 pub(crate) fn are_equal(alloc: Global, deck: &Deck, other: &Deck) -> Result<bool, AllocError> {
     let lines = all_lines(alloc, deck)?;
     let other_lines = all_lines(alloc, other)?;
@@ -45,7 +45,7 @@ fn are_same_settings(settings: &Settings, other: &Settings) -> bool {
     is_same_text(&settings.locale, &other.locale) && are_same_vars(&settings.vars, &other.vars)
 }
 
-// Whether the pairs are the same, in their order.
+// Returns whether two sets of variables have the same pairs in the same order.
 fn are_same_vars(vars: &Vars, others: &Vars) -> bool {
     if vars.len() != others.len() {
         return false;

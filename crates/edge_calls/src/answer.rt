@@ -1,20 +1,20 @@
-//! Answers, and how they are spelled.
+//! Answers, and their text.
 
 use edge_links::Nodes;
 use std::alloc::{AllocError, Global};
 
-// What a call answers.
+// The answer to a call.
 #[derive(Drop)]
 pub(crate) enum Answer {
     Done,
-    // What the call asks for is not there.
+    // The call refers to a node that does not exist, or there is no room for an edge.
     Refused,
     Number(usize),
     Nodes(Nodes),
 }
 
 impl Answer {
-    // A word, a number, or numbers with a space between.
+    // Returns the answer as a word, a number, or numbers separated by spaces.
     pub(crate) fn text(&self, alloc: Global) -> Result<String, AllocError> {
         match self {
             Answer::Done => String::from_str(alloc, "ok"),
@@ -25,7 +25,7 @@ impl Answer {
     }
 }
 
-// The numbers of nodes, or that there are none.
+// Returns the numbers of nodes, or `none`.
 fn nodes_text(alloc: Global, nodes: &[usize]) -> Result<String, AllocError> {
     let mut text = String::new(alloc);
     for node in nodes {

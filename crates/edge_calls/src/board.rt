@@ -1,4 +1,4 @@
-//! Linked edges under calls.
+//! Linked edges that calls operate on.
 
 ghost use Rattle.std.specs.Prelude.{◌≡◌, ◌&&◌, ◌∷◌, ◌<◌, ℕ, ◌+◌, false, true, nat_lt, IfOk};
 ghost use Rattle.std.specs.Bool.{OnFalse, OnTrue};
@@ -31,7 +31,7 @@ impl Model for Board {
 }
 
 impl Board {
-    // No node.
+    // Returns a board without nodes.
     pub(crate) fn new(alloc: Global) -> Board {
         Board {
             links: Links::new(alloc),
@@ -39,7 +39,7 @@ impl Board {
         }
     }
 
-    // The answer to a line, which may be no call.
+    // Returns the answer to a line, which may not be a call.
     pub(crate) fn line_answer(&mut self, alloc: Global, line: &[u8]) -> Result<String, AllocError> {
         match read_call(line) {
             Some(call) => self.answer(alloc, call)?.text(alloc),
@@ -47,7 +47,7 @@ impl Board {
         }
     }
 
-    // The answer to a call.
+    // Returns the answer to a call.
     fn answer(&mut self, alloc: Global, call: Call) -> Result<Answer, AllocError> {
         match call {
             Call::AddNode => Ok(Answer::Number(self.add_node(alloc)?)),
@@ -69,7 +69,7 @@ impl Board {
         }
     }
 
-    // Whether a node is there.
+    // Returns whether a node exists.
     fn has(&self, node: usize) -> bool
         ensures { result ≡ nat_lt node self.now.nodes }
     {
@@ -88,7 +88,7 @@ impl Board {
         Ok(node)
     }
 
-    // Links two nodes, where they and room are there.
+    // Links two nodes, if they exist and there is room for an edge. Returns whether they were linked.
     fn link(&mut self, user: usize, key: usize) -> bool
         ensures when { result ≡ nat_lt user self.old.nodes && nat_lt key self.old.nodes && nat_lt 0 self.old.spare }
         ensures linked { OnTrue result (SameEdges self.new.edges (edge user key ∷ self.old.edges)) }
@@ -103,7 +103,7 @@ impl Board {
         false
     }
 
-    // Unsettles a node, where it is there: the nodes that were cleared, in order.
+    // Unsettles a node, if it exists, and returns the nodes that were cleared, in order.
     fn unsettle(&mut self, alloc: Global, key: usize) -> Result<Answer, AllocError>
         ensures { IfOk result (IsUnsettled key self.old self.new) }
     {
@@ -118,7 +118,7 @@ impl Board {
         Ok(Answer::Nodes(marking.cleared(alloc)?))
     }
 
-    // The users of the edges to a node, where it is there.
+    // Returns the users of the edges to a node, if the node exists.
     fn users(&self, alloc: Global, key: usize) -> Result<Answer, AllocError>
         ensures { IfOk result (TellsUsers key self.now) }
     {

@@ -1,4 +1,4 @@
-//! The calls, and how a line spells one.
+//! The calls, and their syntax.
 
 use std::str;
 
@@ -13,7 +13,7 @@ pub(crate) enum Call {
     Users(usize),
 }
 
-// The call that a line spells: a word, and a space before each number.
+// Reads the call in a line: a word, with a space before each number.
 pub(crate) fn read_call(line: &[u8]) -> Option<Call> {
     let line = str::from_utf8(line).ok()?;
     let (word, rest) = line.split_once(' ').unwrap_or((line, ""));

@@ -1,4 +1,4 @@
-//! A mark for each node.
+//! Marks on nodes.
 
 ghost use Rattle.std.specs.Prelude.{◌≡◌, ◌+◌, IfOk, replicate, true};
 ghost use Rattle.edge_calls.specs.Marks.{unmarked};
@@ -32,7 +32,7 @@ impl Marks for Marking {
 }
 
 impl Marking {
-    // A mark on each node up to the last.
+    // Returns marks on all nodes up to `last`.
     pub(crate) fn up_to(alloc: Global, last: usize) -> Result<Marking, AllocError>
         ensures { IfOk result (λ marking. marking.are_marked.items ≡ replicate (last + 1) true) }
     {
@@ -41,7 +41,7 @@ impl Marking {
         Ok(Marking { are_marked })
     }
 
-    // The nodes up to the last that have no mark, in order.
+    // Returns the nodes without a mark, in order.
     pub(crate) fn cleared(&self, alloc: Global) -> Result<Nodes, AllocError>
         ensures { IfOk result (λ nodes. nodes ≡ unmarked 0 self.now.are_marked.items) }
     {

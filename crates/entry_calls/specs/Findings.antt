@@ -1,4 +1,4 @@
--- What is found on a line.
+-- The results of reading lines.
 use Rattle.std.specs.Prelude.{ℕ, List, Result, Ok, Err, if◌then◌else◌}
 use Rattle.def_lines.specs.Kinds.{kind_of}
 use Rattle.def_entry.specs.declared.fault.EntryFault.{EntryFault}
@@ -10,11 +10,11 @@ use Rattle.entry_calls.specs.declared.finding.Finding.{Finding}
 use Rattle.entry_calls.specs.declared.finding.Finding.TheVariants as finding
 use Rattle.entry_calls.specs.Shown.{entry_text}
 
--- an entry, or the fault of a line that has none
+-- the finding for an entry, or for the fault of a line that has none
 abbrev pub finding_by : Result (Key × Entry) EntryFault → Finding
 finding_by (Ok made) = finding.Entry (entry_text made.0 made.1)
 finding_by (Err fault) = finding.Refused (entry_fault_text fault)
 
--- what is found on a line of this text
+-- the finding for a line with this text
 unfoldable pub finding_of : List ℕ → Finding
 finding_of text = if has_entry (kind_of text) then finding_by (entry_of text) else finding.Other

@@ -1,4 +1,4 @@
--- Keys and entries in writing.
+-- The texts of keys and entries.
 use Rattle.std.specs.Prelude.{◌++◌, ℕ, List, [], codes, length, if◌then◌else◌}
 use Rattle.std.specs.Fmt.{decimal}
 use Rattle.std.specs.Option.{is_some}
@@ -7,7 +7,7 @@ use Rattle.def_entry.specs.Entries.{Entry, FunctionDef, What, Primitive, Dimensi
 use Rattle.def_entry.specs.Entries.{ListOf}
 use Rattle.def_entry.specs.Keys.{key_text}
 
--- a function, with the parts that it has beside its forward expression
+-- the description of a function, with the parts that it has besides its forward expression
 abbrev pub function_text : FunctionDef → List ℕ
 function_text f =
     codes "function"
@@ -17,7 +17,7 @@ function_text f =
     ++ (if is_some f.range then codes " range" else [])
     ++ (if is_some f.inverse then codes " inverse" else [])
 
--- what an entry says, in a few words
+-- the short description of an entry
 abbrev pub what_text : What → List ℕ
 what_text Primitive = codes "primitive"
 what_text Dimensionless = codes "dimensionless"
@@ -27,6 +27,6 @@ what_text (Alias target) = codes "alias of " ++ target
 what_text (Table t) = codes "table"
 what_text (ListOf parts) = codes "list of " ++ decimal (length parts)
 
--- a key and its entry, with bars between the text of the key, what the entry says and its text
+-- the text of a key, the description of its entry, and the text of its entry, separated by bars
 abbrev pub entry_text : Key → Entry → List ℕ
 entry_text k e = key_text k ++ codes " | " ++ what_text e.what ++ codes " | " ++ e.text

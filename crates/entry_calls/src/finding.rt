@@ -1,4 +1,4 @@
-//! What is found on a line.
+//! The result of reading a line.
 
 ghost use Rattle.std.specs.Prelude.{◌≡◌, true, IfOk};
 ghost use Rattle.def_lines.specs.Kinds.{kind_of};
@@ -13,18 +13,18 @@ use def_lines::{LineKind, classify};
 use std::alloc::{AllocError, Global};
 use units_io::Text;
 
-// What is found on a line.
+// The result of reading a line.
 #[derive(Drop)]
 pub(crate) enum Finding {
-    // It is neither a definition nor a list.
+    // The line is neither a definition nor a list.
     Other,
-    // It has an entry, which is shown so.
+    // The line has an entry, with this text.
     Entry(Text),
-    // It has a fault, with this text.
+    // The line has a fault, with this text.
     Refused(Text),
 }
 
-// What is found on a line of this text.
+// Reads a line with this text and returns the finding.
 #[tactic(auto, unfolding(crate::specs::Findings::finding_of))]
 pub(crate) fn finding_on(alloc: Global, text: &[u8]) -> Result<Finding, AllocError>
     ensures { IfOk result (λ finding. finding ≡ finding_of text.now) }
@@ -35,7 +35,7 @@ pub(crate) fn finding_on(alloc: Global, text: &[u8]) -> Result<Finding, AllocErr
     }
 }
 
-// What is found on a definition or a list.
+// Reads a definition or a list and returns the finding.
 fn entry_finding(alloc: Global, text: &[u8]) -> Result<Finding, AllocError>
     requires { has_entry (kind_of text.now) ≡ true }
     ensures { IfOk result (λ finding. finding ≡ finding_by (entry_of text.now)) }
@@ -54,7 +54,7 @@ fn entry_finding(alloc: Global, text: &[u8]) -> Result<Finding, AllocError>
     }
 }
 
-// A key and its entry, of which a copy is shown.
+// Returns the finding for a key and its entry, whose text is taken from a copy.
 fn found_entry(alloc: Global, key: &Key, entry: Entry<'_>) -> Result<Finding, AllocError>
     ensures { IfOk result (λ finding. finding ≡ finding_by (Ok (key.now, entry_view entry.entry))) }
 {
@@ -64,7 +64,7 @@ fn found_entry(alloc: Global, key: &Key, entry: Entry<'_>) -> Result<Finding, Al
     Ok(Finding::Entry(shown))
 }
 
-// A fault, which is told.
+// Returns the finding for a fault that has a message.
 fn found_fault(alloc: Global, fault: &EntryFault) -> Result<Finding, AllocError>
     requires { is_told fault.now ≡ true }
     ensures { IfOk result (λ finding. finding ≡ finding_by (Err fault.now)) }

@@ -1,5 +1,5 @@
-//! Reads a definition file on standard input, and writes what each of its definitions and lists gives
-//! on standard output: its number, and its key with its entry or why it is refused.
+//! Reads a definition file from standard input, and writes a row for each of its definitions and lists to standard
+//! output: its line number, and its key with its entry or the reason why it is refused.
 #![tactic(auto)]
 
 mod finding;

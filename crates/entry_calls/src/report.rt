@@ -10,7 +10,7 @@ use def_lines::{Line, split_lines};
 use std::alloc::{AllocError, Global};
 use units_io::{LONGEST_FILE, Text};
 
-// The report on a file, or that it is too long.
+// Returns the report on a file, or a message that the file is too long.
 pub(crate) fn answer_to(alloc: Global, bytes: &[u8]) -> Result<Vec<u8>, AllocError>
     ensures { IfOk result (λ out. out.items ≡ answer_of bytes.now) }
 {
@@ -20,7 +20,7 @@ pub(crate) fn answer_to(alloc: Global, bytes: &[u8]) -> Result<Vec<u8>, AllocErr
     report_on(alloc, bytes)
 }
 
-// The report on a file: what each definition and list gives, and how many there are and are refused.
+// Returns the report on a file: a row for each definition and list, and the numbers of these rows and of refusals.
 fn report_on(alloc: Global, bytes: &[u8]) -> Result<Vec<u8>, AllocError>
     requires { length bytes.now ≤ longest_file }
     ensures { IfOk result (λ out. out.items ≡ report_of bytes.now) }
@@ -38,16 +38,16 @@ fn report_on(alloc: Global, bytes: &[u8]) -> Result<Vec<u8>, AllocError>
 // The report on the lines so far.
 #[derive(Drop)]
 struct Report {
-    // A row for each definition and list.
+    // The rows for the definitions and lists.
     rows: Vec<u8>,
-    // How many definitions and lists there are.
+    // The number of definitions and lists.
     entries: usize,
-    // How many of them are refused.
+    // The number of refused definitions and lists.
     refusals: usize,
 }
 
 impl Report {
-    // The report on no line.
+    // Returns the report on no lines.
     fn new(alloc: Global) -> Report
         ensures rows { result.rows.items ≡ [] }
         ensures entries { result.entries ≡ 0 }
@@ -60,7 +60,7 @@ impl Report {
         }
     }
 
-    // Goes on with a line.
+    // Adds a line to the report.
     fn add(&mut self, alloc: Global, line: &Line) -> Result<(), AllocError>
         requires few_entries { self.old.entries + 1 < 2 ^ 64 }
         requires few_refusals { self.old.refusals + 1 < 2 ^ 64 }
@@ -85,7 +85,7 @@ impl Report {
         Ok(())
     }
 
-    // Puts a row at the end.
+    // Appends a row.
     fn put_row(
         &mut self,
         alloc: Global,
@@ -106,7 +106,7 @@ impl Report {
         Ok(())
     }
 
-    // The rows, and how many lines there are and are refused.
+    // Returns the rows, followed by the numbers of lines and of refusals.
     fn finished(self, alloc: Global) -> Result<Vec<u8>, AllocError>
         ensures { IfOk result (λ out. out.items ≡ self.rows.items ++ totals_text self.entries self.refusals) }
     {

@@ -1,4 +1,4 @@
-//! Keys and entries in writing.
+//! The texts of keys and entries.
 
 ghost use Rattle.std.specs.Prelude.{◌≡◌, ◌++◌, [], codes, if◌then◌else◌, IfOk, OnOk};
 ghost use Rattle.std.specs.Fmt.{decimal};
@@ -10,7 +10,7 @@ use def_entry::{Entry, FunctionDef, Key, KeyFault, What, key_text, read_key};
 use std::alloc::{AllocError, Global};
 use units_io::Text;
 
-// The text of a key, what its entry says, and the text of its entry, with bars between.
+// Returns the text of a key, a description of its entry, and the text of its entry, separated by bars.
 pub(crate) fn entry_text(alloc: Global, key: &Key, entry: Entry<'_>) -> Result<Text, AllocError>
     ensures { IfOk result (λ text. text ≡ spec.entry_text key.now (entry_view entry.entry)) }
 {
@@ -22,7 +22,7 @@ pub(crate) fn entry_text(alloc: Global, key: &Key, entry: Entry<'_>) -> Result<T
     Ok(Text::from(shown))
 }
 
-// The text of a key, which is read as a key and written again.
+// Returns the text of a key after it was read as a key and written again.
 fn key_shown(alloc: Global, key: &Key) -> Result<Text, AllocError>
     ensures { IfOk result (λ text. text ≡ keys.key_text key.now) }
 {
@@ -34,7 +34,7 @@ fn key_shown(alloc: Global, key: &Key) -> Result<Text, AllocError>
     }
 }
 
-// What an entry says, in a few words.
+// Returns a short description of an entry.
 fn what_text(alloc: Global, what: &What) -> Result<Text, AllocError>
     ensures { IfOk result (λ text. text ≡ spec.what_text (what_view what.now)) }
 {
@@ -49,7 +49,7 @@ fn what_text(alloc: Global, what: &What) -> Result<Text, AllocError>
     }
 }
 
-// An alias, with its target.
+// Describes an alias, with its target.
 fn alias_text(alloc: Global, target: &Text) -> Result<Text, AllocError>
     ensures { IfOk result (λ text. text ≡ codes "alias of " ++ target.now) }
 {
@@ -58,7 +58,7 @@ fn alias_text(alloc: Global, target: &Text) -> Result<Text, AllocError>
     Ok(Text::from(shown))
 }
 
-// A list of so many units.
+// Describes a list of `len` units.
 fn list_text(alloc: Global, len: usize) -> Result<Text, AllocError>
     ensures { IfOk result (λ text. text ≡ codes "list of " ++ decimal len) }
 {
@@ -67,7 +67,7 @@ fn list_text(alloc: Global, len: usize) -> Result<Text, AllocError>
     Ok(Text::from(shown))
 }
 
-// A function, with the parts that it has beside its forward expression.
+// Describes a function, with the parts that it has besides its forward expression.
 #[tactic(auto, using(crate::proofs::Parts::same_parts))]
 fn function_text(alloc: Global, function: &FunctionDef) -> Result<Text, AllocError>
     ensures { IfOk result (λ text. text ≡ spec.function_text (function_view function.now)) }
@@ -81,7 +81,7 @@ fn function_text(alloc: Global, function: &FunctionDef) -> Result<Text, AllocErr
     Ok(Text::from(shown))
 }
 
-// Puts a word at the end where its part stands.
+// Appends a word if its part is present.
 fn put_if(shown: &mut Vec<u8>, stands: bool, word: &[u8]) -> Result<(), AllocError>
     ensures { OnOk result (shown.new.items ≡ shown.old.items ++ (if stands then word.now else [])) }
 {

@@ -1,4 +1,4 @@
-//! Calls and their answers.
+//! The answers to calls.
 
 ghost use Rattle.std.specs.Prelude.{◌≡◌, ◌<◌, IfOk};
 ghost use Rattle.edit_history.specs.Histories.{Follows};
@@ -15,7 +15,7 @@ use std::marker::Brand;
 use std::sync::ledger::{Blank, Ledger};
 use units_io::{Steps, Text, Vars};
 
-// What an expression is worth.
+// Returns the value of an expression.
 pub(crate) fn value_answer(
     alloc: Global,
     table: &mut LiveTable,
@@ -30,7 +30,7 @@ pub(crate) fn value_answer(
     }
 }
 
-// What a query answers: a quantity, or that there is none.
+// Returns the text of the answer to a query: a quantity, or a message that there is no value.
 fn value_text(alloc: Global, answer: Result<Quantity, QueryFault>) -> Result<Text, AllocError> {
     match answer {
         Ok(value) => value.show(alloc, Style::Exact),
@@ -39,7 +39,7 @@ fn value_text(alloc: Global, answer: Result<Quantity, QueryFault>) -> Result<Tex
     }
 }
 
-// The query of a tree, whose steps nobody counts.
+// Evaluates a tree with a step counter that nobody reads.
 fn value_of<L: Ledger>(
     alloc: Global,
     table: &mut LiveTable,
@@ -55,7 +55,7 @@ fn value_of<L: Ledger>(
     table.value(alloc, tree, &mut steps)
 }
 
-// The lines of the deck, with a `;` behind each.
+// Returns the lines of the deck, each followed by `;`.
 pub(crate) fn lines_answer(alloc: Global, table: &LiveTable) -> Result<Text, AllocError> {
     let mut text = Vec::new(alloc);
     for line in table.deck().lines().as_slice() {
@@ -65,7 +65,7 @@ pub(crate) fn lines_answer(alloc: Global, table: &LiveTable) -> Result<Text, All
     Ok(Text::from(text))
 }
 
-// Drops the last line in force of the key that is written so.
+// Drops the last line in force of the key that `text` names.
 pub(crate) fn drop_answer(
     alloc: Global,
     history: &mut History,
@@ -82,7 +82,7 @@ pub(crate) fn drop_answer(
     }
 }
 
-// Puts another locale in force, and no variable.
+// Switches to another locale, with no variables.
 pub(crate) fn switch_answer(
     alloc: Global,
     history: &mut History,
@@ -100,7 +100,8 @@ pub(crate) fn switch_answer(
     )
 }
 
-// Whether an edit is made. Want of memory is told too, and what is asked next shows that it changed nothing.
+// Returns whether an edit was made. Lack of memory is reported too, so that the next query can show that the edit
+// changed nothing.
 pub(crate) fn made_text(alloc: Global, made: Result<(), DeckFault>) -> Result<Text, AllocError>
     ensures { IfOk result (λ text. text ≡ answers.made_text made) }
 {
@@ -111,7 +112,7 @@ pub(crate) fn made_text(alloc: Global, made: Result<(), DeckFault>) -> Result<Te
     }
 }
 
-// Whether an edit is undone or redone.
+// Returns whether an edit was undone or redone.
 pub(crate) fn undone_text(alloc: Global, made: Result<(), HistoryFault>) -> Result<Text, AllocError>
     ensures { IfOk result (λ text. text ≡ answers.undone_text made) }
 {

@@ -1,27 +1,27 @@
-//! The calls, and how a line spells one.
+//! The calls, and their syntax.
 
 use def_entry::cut_at;
 
 // A call with its arguments.
 #[derive(Clone, Copy)]
 pub(crate) enum Call<'a> {
-    // What an expression is worth.
+    // Evaluates an expression.
     Value(&'a [u8]),
-    // The lines of the deck.
+    // Lists the lines of the deck.
     Lines,
-    // Puts a line at the end.
+    // Appends a line.
     Define(&'a [u8]),
     // Drops the last line in force of a key.
     Drop(&'a [u8]),
-    // Puts a locale in force.
+    // Switches to a locale.
     Switch(&'a [u8]),
-    // Puts the deck of a file at the end.
+    // Appends the deck of a file.
     Append(&'a [u8]),
     Undo,
     Redo,
 }
 
-// The call that a line spells: a word, and a space before its argument.
+// Reads the call in a line: a word, with a space before its argument.
 pub(crate) fn read_call(line: &[u8]) -> Option<Call<'_>> {
     let (word, rest) = split_at_space(line);
     match word {
@@ -37,7 +37,7 @@ pub(crate) fn read_call(line: &[u8]) -> Option<Call<'_>> {
     }
 }
 
-// What stands before the first space, and what stands behind it.
+// Splits a text at the first space into the parts before and after it.
 fn split_at_space(text: &[u8]) -> (&[u8], &[u8]) {
     cut_at(text, b' ').unwrap_or((text, b""))
 }

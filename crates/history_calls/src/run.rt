@@ -13,10 +13,9 @@ use live_table::LiveTable;
 use std::alloc::{AllocError, Global};
 use units_io::{Files, Text, Vars};
 
-// The answers to lines, one a line. The first line, `load FILE`, loads a deck; where it does not, its answer is the
-// only one. `value EXPRESSION` is a query of its live table and `lines` tells its lines; `define LINE`, `drop KEY`,
-// `switch LOCALE` and `append FILE` are edits, which `undo` takes back and `redo` makes again. The only
-// error is want of memory.
+// Returns the answers to the lines, one per line. The first line, `load FILE`, loads a deck; if that fails, its answer
+// is the only one. `value EXPRESSION` queries its live table and `lines` returns its lines. `define LINE`, `drop KEY`,
+// `switch LOCALE` and `append FILE` are edits, which `undo` and `redo` undo and redo. Fails only if memory runs out.
 pub(crate) fn answers_to<F: Files>(
     alloc: Global,
     files: &mut F,
@@ -33,7 +32,7 @@ pub(crate) fn answers_to<F: Files>(
     }
 }
 
-// The answers to calls on the table of a deck that was not edited.
+// Returns the answers to calls on the table of an unedited deck.
 fn table_answers<F: Files>(
     alloc: Global,
     files: &mut F,
@@ -47,7 +46,7 @@ fn table_answers<F: Files>(
     Ok(answers)
 }
 
-// Adds the answers to calls, of which the last may have no line feed behind it.
+// Appends the answers to calls. The last call may lack a line feed.
 fn add_answers<F: Files>(
     alloc: Global,
     files: &mut F,
@@ -69,7 +68,7 @@ fn add_answers<F: Files>(
     add_answer(alloc, files, history, table, rest, answers)
 }
 
-// Adds the answer to a line.
+// Appends the answer to a line.
 fn add_answer<F: Files>(
     alloc: Global,
     files: &mut F,
@@ -87,7 +86,7 @@ fn add_answer<F: Files>(
     Ok(())
 }
 
-// The answer to a line, which may be no call.
+// Returns the answer to a line, which may not be a call.
 fn answer_to<F: Files>(
     alloc: Global,
     files: &mut F,
@@ -111,7 +110,7 @@ fn answer_to<F: Files>(
     }
 }
 
-// What stands before the first line feed, and what stands behind it.
+// Splits the text at the first line feed into the parts before and after it.
 fn split_first_line(lines: &[u8]) -> (&[u8], &[u8]) {
     cut_at(lines, b'\n').unwrap_or((lines, b""))
 }

@@ -1,4 +1,4 @@
--- Inverses at values that were answered.
+-- Inverses at values that queries returned.
 use Rattle.std.proofs.Common.{List, ℕ, Result, Ok, inl, inr, subst}
 use Rattle.def_entry.specs.Tables.{Table}
 use Rattle.quantity.specs.Amount.{Amount}
@@ -6,7 +6,7 @@ use Rattle.live_table.specs.Answers.{Answers, inverse_answer}
 use Rattle.live_table.specs.declared.fault.QueryFault.{QueryFault}
 use Rattle.live_calls.specs.Answers.{inverse_at}
 
--- an inverse at a value that a query answered is the inverse at what it was asked for
+-- the inverse at a value that a query returned is the inverse at the wanted result of the query
 pub inverse_of_answer : (t : Table) (name : List ℕ) (v : Amount) (wanted r : Result Amount QueryFault)
     → Answers (Ok v) wanted → Answers r (inverse_answer t name v) → Answers r (inverse_at t name wanted)
 inverse_of_answer t name v wanted r (inl e) h = cc

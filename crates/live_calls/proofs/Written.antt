@@ -1,4 +1,4 @@
--- What is written behind a text.
+-- Rules for appended texts.
 use Rattle.std.proofs.Common.{append_assoc}
 use Rattle.std.proofs.lemmas.List.{append-nil}
 

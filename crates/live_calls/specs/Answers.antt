@@ -1,4 +1,4 @@
--- What calls on a live table answer.
+-- The answers to calls on a live table.
 use Rattle.std.specs.Prelude.{◌++◌, ℕ, List, [], length, codes, if◌then◌else◌, Result, Ok, Err}
 use Rattle.std.specs.FinMap as map_of
 use Rattle.std.specs.Fmt.{decimal}
@@ -19,19 +19,19 @@ use Rattle.live_table.specs.Shown.{Shown}
 use Rattle.live_table.specs.declared.fault.QueryFault.{QueryFault}
 use Rattle.live_table.specs.declared.fault.QueryFault.TheVariants.{Name, Value, OutOfMemory}
 
--- a quantity, or the fault of a query
+-- the text of a quantity, or of the fault of a query
 abbrev pub query_text : Result Amount QueryFault → List ℕ
 query_text (Ok q) = amount_text Exact q
 query_text (Err (Name fault)) = name_fault_text fault
 query_text (Err (Value fault)) = value_fault_text Exact fault
 query_text (Err OutOfMemory) = []
 
--- what an expression is worth, where the text is one
+-- the text of the value of an expression, or of the fault of a text that is not an expression
 abbrev pub value_text : Table → Result Syntax ParseFault → List ℕ
 value_text t (Ok e) = query_text (answer t e)
 value_text t (Err fault) = parse_fault_text fault
 
--- the inverse of the function of this name at a value, or the fault that stands in its place
+-- the inverse of the function with this name at a value, or the fault of the value
 abbrev pub inverse_at : Table → List ℕ → Result Amount QueryFault → Result Amount QueryFault
 inverse_at t name (Ok value) = inverse_answer t name value
 inverse_at t name (Err fault) = Err fault
@@ -40,12 +40,12 @@ abbrev pub inverse_of_text : Table → List ℕ → Result Syntax ParseFault →
 inverse_of_text t name (Ok e) = query_text (inverse_at t name (answer t e))
 inverse_of_text t name (Err fault) = parse_fault_text fault
 
--- the inverse of a function at what an expression is worth, where there are both
+-- the text of the inverse of a function at the value of an expression, if both exist
 abbrev pub inverse_text : Table → List ℕ → Result Syntax ParseFault → List ℕ
 inverse_text t name e =
     if is_present t (key kind.Func name) then inverse_of_text t name e else codes "no function"
 
--- how many names are settled, have an entry, and were newly settled
+-- the number of names that are settled, that have an entry, and that were newly settled
 abbrev pub counts_text : Shown → List ℕ
 counts_text s =
     decimal (map_of.len s.kept) ++ codes " settled, "

@@ -1,4 +1,4 @@
-//! Answers in writing.
+//! The texts of answers.
 
 ghost use Rattle.std.specs.Prelude.{◌≡◌, IfOk, Result, Err};
 ghost use Rattle.def_entry.specs.Faults as faults;
@@ -15,14 +15,14 @@ use live_table::QueryFault;
 use quantity::{Quantity, Style};
 use std::alloc::{AllocError, Global};
 
-// These bytes.
+// Copies bytes to a new vector.
 pub(crate) fn line_of(alloc: Global, text: &[u8]) -> Result<Vec<u8>, AllocError>
     ensures { IfOk result (λ line. line.items ≡ text.now) }
 {
     Vec::from_slice(alloc, text)
 }
 
-// Why there is no deck of a file, in a line.
+// Returns a line that says why the load of a file failed.
 pub(crate) fn load_fault_text(fault: &DeckFault) -> &'static [u8] {
     match fault {
         DeckFault::Absent => b"absent\n",
@@ -32,7 +32,7 @@ pub(crate) fn load_fault_text(fault: &DeckFault) -> &'static [u8] {
     }
 }
 
-// What a query answers: a quantity, or its fault.
+// Returns the text of the answer to a query: a quantity, or its fault.
 pub(crate) fn query_text(
     alloc: Global,
     answer: &Result<Quantity, QueryFault>,
@@ -50,7 +50,7 @@ pub(crate) fn query_text(
     Ok(text)
 }
 
-// Why an expression has no tree.
+// Returns why a text is not an expression.
 pub(crate) fn parse_fault_line(alloc: Global, fault: ParseFault) -> Result<Vec<u8>, AllocError>
     ensures told { IfOk result (λ _. fault ≡ ParseFault.OutOfMemory → ⊥) }
     ensures text { IfOk result (λ text. text.items ≡ faults.parse_fault_text fault) }

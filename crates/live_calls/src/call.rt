@@ -1,4 +1,4 @@
-//! The calls, and how a line spells one.
+//! The calls, and their syntax.
 
 use def_entry::cut_at;
 use std::str;
@@ -6,28 +6,27 @@ use std::str;
 // A call with its arguments.
 #[derive(Clone, Copy)]
 pub(crate) enum Call<'a> {
-    // What an expression is worth.
+    // Evaluates an expression.
     Value(&'a [u8]),
-    // The inverse of a function at what an expression is worth.
+    // Evaluates the inverse of a function at the value of an expression.
     Inverse(&'a [u8], &'a [u8]),
-    // Asks for each name.
+    // Queries every name.
     All,
     Counts,
-    // Puts a line at the end.
+    // Appends a line.
     Define(&'a [u8]),
     // Drops the last line in force of a key.
     Drop(&'a [u8]),
-    // Puts a locale in force.
+    // Switches to a locale.
     Switch(&'a [u8]),
-    // Puts the deck of a file at the end.
+    // Appends the deck of a file.
     Append(&'a [u8]),
     Splice(Change<'a>),
-    // Makes the splice that takes the last one back.
+    // Undoes the last splice.
     Back,
 }
 
-// Lines to be put in the place of others, with a `;` between, each with a `~` before it where it has
-// the mark.
+// Lines that replace other lines. They are separated by `;`, and a `~` precedes each line that has the mark.
 #[derive(Clone, Copy)]
 pub(crate) struct Change<'a> {
     pub at: usize,
@@ -35,7 +34,7 @@ pub(crate) struct Change<'a> {
     pub lines: &'a [u8],
 }
 
-// The call that a line spells: a word, and a space before each argument.
+// Reads the call in a line: a word, with a space before each argument.
 pub(crate) fn read_call(line: &[u8]) -> Option<Call<'_>> {
     let (word, rest) = split_at_space(line);
     match word {
@@ -56,7 +55,7 @@ pub(crate) fn read_call(line: &[u8]) -> Option<Call<'_>> {
     }
 }
 
-// A place, how many lines are cut there, and the lines that are put there.
+// Reads a splice: a place, the number of lines to cut there, and the lines to insert there.
 fn read_change(text: &[u8]) -> Option<Change<'_>> {
     let (at, text) = split_at_space(text);
     let (cut, lines) = split_at_space(text);
@@ -69,7 +68,7 @@ fn read_number(text: &[u8]) -> Option<usize> {
     str::from_utf8(text).ok()?.parse().ok()
 }
 
-// What stands before the first space, and what stands behind it.
+// Splits a text at the first space into the parts before and after it.
 fn split_at_space(text: &[u8]) -> (&[u8], &[u8]) {
     cut_at(text, b' ').unwrap_or((text, b""))
 }

@@ -1,4 +1,4 @@
-//! Counts in writing.
+//! The texts of counts.
 
 ghost use Rattle.std.specs.Prelude.{◌≡◌, ◌++◌, IfOk, OnOk};
 ghost use Rattle.std.specs.Fmt.{decimal};
@@ -7,7 +7,8 @@ ghost use Rattle.live_calls.specs.Answers as answers;
 use live_table::LiveTable;
 use std::alloc::{AllocError, Global};
 
-// How many names are settled, how many have an entry, and how many were settled since the table was made.
+// Returns the number of names that are settled, the number that have an entry, and the number that were settled since
+// the table was created.
 #[tactic(auto, using(crate::proofs::Written::appends))]
 pub(crate) fn counts_answer(alloc: Global, live: &LiveTable) -> Result<Vec<u8>, AllocError>
     ensures { IfOk result (λ text. text.items ≡ answers.counts_text live.now) }

@@ -1,4 +1,4 @@
-//! Edits of the deck, and whether they are made.
+//! Edits of the deck, and their answers.
 
 ghost use Rattle.std.specs.Prelude.{◌≡◌, IfOk};
 ghost use Rattle.def_lines.specs.Blanks.{trimmed};
@@ -12,7 +12,7 @@ use live_table::LiveTable;
 use std::alloc::{AllocError, Global};
 use units_io::{Files, Text, Vars};
 
-// Puts a line at the end.
+// Appends a line.
 pub(crate) fn define_answer(
     alloc: Global,
     live: &mut LiveTable,
@@ -23,7 +23,7 @@ pub(crate) fn define_answer(
     made_text(alloc, live.define(alloc, line))
 }
 
-// Drops the last line in force of the key that is written so.
+// Drops the last line in force of the key that `text` names.
 pub(crate) fn drop_answer(
     alloc: Global,
     live: &mut LiveTable,
@@ -43,7 +43,7 @@ fn key_drop_answer(alloc: Global, live: &mut LiveTable, key: &Key) -> Result<Vec
     made_text(alloc, live.drop_last(alloc, key))
 }
 
-// Puts another locale in force, and no variable.
+// Switches to another locale, with no variables.
 pub(crate) fn switch_answer(
     alloc: Global,
     live: &mut LiveTable,
@@ -54,7 +54,7 @@ pub(crate) fn switch_answer(
     made_text(alloc, live.switch(alloc, Settings { locale, vars }))
 }
 
-// Puts the deck of a file at the end.
+// Appends the deck of a file.
 pub(crate) fn append_answer<F: Files>(
     alloc: Global,
     files: &mut F,
@@ -64,7 +64,8 @@ pub(crate) fn append_answer<F: Files>(
     made_text(alloc, live.append(alloc, files, name))
 }
 
-// Whether an edit is made. Want of memory is told too, and what is asked next shows that it changed nothing.
+// Returns whether an edit was made. Lack of memory is reported too, so that the next query can show that the edit
+// changed nothing.
 fn made_text(alloc: Global, made: Result<(), DeckFault>) -> Result<Vec<u8>, AllocError>
     ensures { IfOk result (λ text. text.items ≡ spec.edit_text made) }
 {

@@ -1,5 +1,5 @@
-//! Reads a load and then calls on a live table, one a line, on standard input, and writes one answer a line on standard
-//! output. Files are those of the system.
+//! Reads a load and then calls on a live table from standard input, one per line, and writes the answers to standard
+//! output, one per line. Loads read files from the file system.
 #![tactic(auto)]
 
 mod answers;

@@ -20,7 +20,7 @@ use std::marker::Brand;
 use std::sync::ledger::{Blank, Ledger};
 use units_io::Steps;
 
-// What an expression is worth.
+// Returns the value of an expression.
 pub(crate) fn value_answer(
     alloc: Global,
     live: &mut LiveTable,
@@ -39,7 +39,7 @@ pub(crate) fn value_answer(
     }
 }
 
-// The inverse of a function at what an expression is worth.
+// Returns the inverse of a function at the value of an expression.
 pub(crate) fn inverse_answer(
     alloc: Global,
     live: &mut LiveTable,
@@ -62,7 +62,7 @@ pub(crate) fn inverse_answer(
     }
 }
 
-// Asks for each name.
+// Queries every name.
 pub(crate) fn all_answer(alloc: Global, live: &mut LiveTable) -> Result<Vec<u8>, AllocError>
     ensures deck { live.new.deck ≡ live.old.deck }
 {
@@ -70,7 +70,7 @@ pub(crate) fn all_answer(alloc: Global, live: &mut LiveTable) -> Result<Vec<u8>,
     line_of(alloc, b"ok")
 }
 
-// The inverse of a function that has an entry at what a tree is worth.
+// Returns the inverse of a function that has an entry, at the value of a tree.
 fn inverse_at(
     alloc: Global,
     live: &mut LiveTable,
@@ -88,7 +88,7 @@ fn inverse_at(
     }
 }
 
-// The query of a tree, whose steps nobody counts.
+// Evaluates a tree with a step counter that nobody reads.
 fn value_of<L: Ledger>(
     alloc: Global,
     live: &mut LiveTable,
@@ -105,7 +105,7 @@ fn value_of<L: Ledger>(
     live.value(alloc, tree, &mut steps)
 }
 
-// The query of a function that has an entry, at a value, whose steps nobody counts.
+// Evaluates the inverse of a function that has an entry at a value, with a step counter that nobody reads.
 fn inverse_of<L: Ledger>(
     alloc: Global,
     live: &mut LiveTable,
@@ -124,7 +124,7 @@ fn inverse_of<L: Ledger>(
     live.unapply(alloc, name, value, &mut steps)
 }
 
-// The queries of all names, whose steps nobody counts.
+// Queries every name with a step counter that nobody reads.
 fn settle<L: Ledger>(alloc: Global, live: &mut LiveTable, blank: Blank) -> Result<(), AllocError>
     requires name { blank.name ≡ L.name }
     requires parts { blank.parts ≡ L.parts }

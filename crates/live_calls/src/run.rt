@@ -13,11 +13,10 @@ use std::alloc::{AllocError, Global};
 use std::mem;
 use units_io::{Files, Text, Vars};
 
-// The answers to lines, one a line. The first line, `load FILE`, loads a deck; where it does not,
-// its answer is the only one. `value EXPRESSION` and `unapply NAME EXPRESSION` are queries of its
-// live table, `settle` asks for each name, `counts` tells the counts, and `define LINE`, `drop KEY`,
-// `switch LOCALE`, `append FILE`, `splice AT CUT LINE;LINE..` and `back`, which takes the last
-// splice back, are edits. The only error is want of memory.
+// Returns the answers to the lines, one per line. The first line, `load FILE`, loads a deck; if that fails, its answer
+// is the only one. `value EXPRESSION` and `unapply NAME EXPRESSION` query its live table, `settle` queries every name,
+// and `counts` returns the counts. The edits are `define LINE`, `drop KEY`, `switch LOCALE`, `append FILE`,
+// `splice AT CUT LINE;LINE..`, and `back`, which undoes the last splice. Fails only if memory runs out.
 pub(crate) fn answers_to<F: Files>(
     alloc: Global,
     files: &mut F,
@@ -32,7 +31,7 @@ pub(crate) fn answers_to<F: Files>(
     answers_over(alloc, files, outcome, calls)
 }
 
-// The answers to a load and to calls behind it.
+// Returns the answers to a load and to the calls after it.
 fn answers_over<F: Files>(
     alloc: Global,
     files: &mut F,
@@ -46,7 +45,7 @@ fn answers_over<F: Files>(
     }
 }
 
-// The answers to calls on the table of a deck of which no name is settled.
+// Returns the answers to calls on the table of a deck with no name settled.
 fn table_answers<F: Files>(
     alloc: Global,
     files: &mut F,
@@ -57,7 +56,7 @@ fn table_answers<F: Files>(
     let mut back = None;
     let mut answers = line_of(alloc, b"ok\n")?;
     let added = add_answers(alloc, files, &mut live, &mut back, calls, &mut answers);
-    // The process ends next, and taking a table apart costs more than its last query.
+    // The process ends next, and freeing the table costs more than its last query.
     mem::forget(live);
     added?;
     Ok(answers)
@@ -77,7 +76,7 @@ fn add_answers<F: Files>(
     Ok(())
 }
 
-// Adds the answer to a line, which may have its end with it.
+// Appends the answer to a line, which may include its line feed.
 fn add_answer<F: Files>(
     alloc: Global,
     files: &mut F,
@@ -98,7 +97,7 @@ fn add_answer<F: Files>(
     Ok(())
 }
 
-// The answer to a line, which may be no call.
+// Returns the answer to a line, which may not be a call.
 fn answer_to<F: Files>(
     alloc: Global,
     files: &mut F,
@@ -121,14 +120,14 @@ fn answer_to<F: Files>(
     }
 }
 
-// The settings of the United States with no variable.
+// Returns the settings with the locale `en_US` and no variables.
 fn american_settings(alloc: Global) -> Result<Settings, AllocError> {
     let locale = Text::from_bytes(alloc, b"en_US")?;
     let vars = Vars::new(alloc);
     Ok(Settings { locale, vars })
 }
 
-// What stands before the first line feed, and what stands behind it.
+// Splits the text at the first line feed into the parts before and after it.
 fn split_first_line(lines: &[u8]) -> (&[u8], &[u8]) {
     cut_at(lines, b'\n').unwrap_or((lines, b""))
 }

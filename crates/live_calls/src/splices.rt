@@ -1,4 +1,4 @@
-//! Splices of the deck, and whether they are made.
+//! Splices of the deck, and their answers.
 
 use crate::answers::line_of;
 use crate::call::Change;
@@ -8,8 +8,8 @@ use live_table::LiveTable;
 use std::alloc::{AllocError, Global};
 use units_io::Text;
 
-// Makes the splice of these lines, each with the number 0, where that may be, and keeps the one that takes it back. One
-// that is refused for want of memory is kept itself.
+// Makes the splice of these lines, each with the number 0, if it is allowed, and stores the splice that undoes it. If
+// memory runs out, the refused splice itself is stored.
 pub(crate) fn splice_answer(
     alloc: Global,
     live: &mut LiveTable,
@@ -22,7 +22,7 @@ pub(crate) fn splice_answer(
     made_text(alloc, live, back, change)
 }
 
-// Makes the splice that takes the last one back, or the one that was refused last.
+// Makes the stored splice, which undoes the last one or is the one that was refused last.
 pub(crate) fn back_answer(
     alloc: Global,
     live: &mut LiveTable,
@@ -34,7 +34,7 @@ pub(crate) fn back_answer(
     }
 }
 
-// Makes a splice where that may be.
+// Makes a splice if it is allowed, and stores the splice that undoes it.
 fn made_text(
     alloc: Global,
     live: &mut LiveTable,
@@ -72,7 +72,7 @@ fn splice_of(alloc: Global, change: Change<'_>, settings: Settings) -> Result<Sp
     })
 }
 
-// A line, with the mark where a `~` stands before it.
+// Reads a line. It has the mark if it begins with `~`.
 fn deck_line(alloc: Global, text: &[u8]) -> Result<DeckLine, AllocError> {
     let (text, mark) = match text.strip_prefix(b"~".as_slice()) {
         Some(rest) => (rest, true),

@@ -1,4 +1,4 @@
--- What each call answers.
+-- The answers to the calls.
 use Rattle.std.specs.Prelude.{◌≡◌, ℕ, Bool, true, false, List, Result, Ok, Err, codes}
 use Rattle.std.specs.Fmt.{decimal}
 use Rattle.std.specs.Int.NonZero.{non_zero_u32_get}
@@ -25,7 +25,7 @@ use Rattle.number_calls.specs.declared.call.Step.TheVariants.{New, Negate, Floor
 use Rattle.number_calls.specs.declared.call.Call.{Call}
 use Rattle.number_calls.specs.declared.call.Call.TheVariants as call
 
--- what a step on fractions gives
+-- the result of a step on fractions
 abbrev pub IsTaken : Step → Result Fraction FracFault → Type 0
 IsTaken (New n d) taken = taken ≡ ratio n d
 IsTaken (Negate x) taken = taken ≡ Ok (negated x)
@@ -37,29 +37,29 @@ IsTaken (Div x y) taken = taken ≡ over x y
 IsTaken (Pow x k) taken = taken ≡ power x k
 IsTaken (Root x degree) taken = IsRootAnswer x (non_zero_u32_get degree) taken
 
--- a fraction exactly, or the text of the fault
+-- the exact text of a fraction, or the text of the fault
 abbrev pub fraction_text : Result Fraction FracFault → List ℕ
 fraction_text (Ok x) = exact_text x
 fraction_text (Err fault) = fault_text fault
 
--- the value of a numeral, or the text of the fault
+-- the text of the value of a numeral, or of the fault
 abbrev pub numeral_text : Result Decimal NumeralFault → List ℕ
 numeral_text (Ok numeral) = fraction_text (value_of numeral)
 numeral_text (Err NotNumeral) = codes "not a numeral"
 numeral_text (Err TooLong) = codes "too long"
 
--- whether something is so
+-- `true` or `false`
 abbrev pub truth_text : Bool → List ℕ
 truth_text true = codes "true"
 truth_text false = codes "false"
 
--- how the first of two fractions stands to the second
+-- how the first of two fractions compares to the second
 abbrev pub order_text : Ordering → List ℕ
 order_text Less = codes "less"
 order_text Equal = codes "equal"
 order_text Greater = codes "greater"
 
--- the text that a call answers
+-- the text is the answer to the call
 abbrev pub IsAnswer : Call → List ℕ → Type 0
 IsAnswer (call.Step step) text = (taken : Result Fraction FracFault) × IsTaken step taken × (text ≡ fraction_text taken)
 IsAnswer (call.Zero x) text = text ≡ truth_text (is_zero x)

@@ -1,4 +1,4 @@
-//! What a call answers.
+//! The answers to calls.
 
 ghost use Rattle.std.specs.Prelude.{◌≡◌, IfOk};
 ghost use Rattle.std.specs.Fmt.{decimal};
@@ -14,7 +14,7 @@ use std::alloc::{AllocError, Global};
 use std::cmp::Ordering;
 use units_io::Text;
 
-// The answer to a line, which may be no call.
+// Returns the answer to a line, which may not be a call.
 pub(crate) fn line_answer(alloc: Global, line: &[u8]) -> Result<Text, AllocError> {
     match read_call(line) {
         Some(call) => answer_to(alloc, &call),
@@ -22,7 +22,7 @@ pub(crate) fn line_answer(alloc: Global, line: &[u8]) -> Result<Text, AllocError
     }
 }
 
-// The answer to a call.
+// Returns the answer to a call.
 fn answer_to(alloc: Global, call: &Call<'_>) -> Result<Text, AllocError>
     ensures { IfOk result (λ text. spec.IsAnswer call.now text) }
 {
@@ -38,7 +38,7 @@ fn answer_to(alloc: Global, call: &Call<'_>) -> Result<Text, AllocError>
 }
 
 impl Step {
-    // The fraction that the step gives, or its fault.
+    // Makes the step and returns its result or its fault.
     fn taken(&self) -> Result<Frac, FracFault>
         ensures { spec.IsTaken self.now result }
     {
@@ -56,7 +56,7 @@ impl Step {
     }
 }
 
-// A fraction, or the text of a fault.
+// Returns the text of a fraction, or of a fault.
 fn fraction_answer(alloc: Global, taken: Result<Frac, FracFault>) -> Result<Text, AllocError>
     ensures { IfOk result (λ text. text ≡ spec.fraction_text taken) }
 {
@@ -66,7 +66,7 @@ fn fraction_answer(alloc: Global, taken: Result<Frac, FracFault>) -> Result<Text
     }
 }
 
-// The length of the longest numeral at the front.
+// Returns the length of the longest numeral at the front of `bytes`.
 fn length_answer(alloc: Global, bytes: &[u8]) -> Result<Text, AllocError>
     ensures { IfOk result (λ text. text ≡ decimal (numeral_len_of bytes.now)) }
 {
@@ -74,7 +74,7 @@ fn length_answer(alloc: Global, bytes: &[u8]) -> Result<Text, AllocError>
     Ok(Text::from(length.into_bytes()))
 }
 
-// The value of a numeral, or the text of a fault.
+// Returns the text of the value of a numeral, or of a fault.
 fn numeral_answer(alloc: Global, bytes: &[u8]) -> Result<Text, AllocError>
     ensures { IfOk result (λ text. text ≡ spec.numeral_text (read bytes.now)) }
 {
@@ -85,14 +85,14 @@ fn numeral_answer(alloc: Global, bytes: &[u8]) -> Result<Text, AllocError>
     }
 }
 
-// Whether something is so.
+// Returns `true` or `false`.
 fn truth_text(is: bool) -> &'static [u8]
     ensures { result.now ≡ spec.truth_text is }
 {
     if is { b"true" } else { b"false" }
 }
 
-// How the first of two fractions stands to the second.
+// Returns how the first of two fractions compares to the second.
 fn order_text(order: Ordering) -> &'static [u8]
     ensures { result.now ≡ spec.order_text order }
 {

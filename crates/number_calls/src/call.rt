@@ -19,7 +19,7 @@ pub(crate) enum Step {
     Root(Frac, NonZeroU32),
 }
 
-// How many significant digits are printed.
+// The number of significant digits to print.
 #[derive(Clone, Copy)]
 pub(crate) struct DigitCount {
     pub(crate) value: u8,

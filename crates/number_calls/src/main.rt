@@ -1,5 +1,5 @@
-//! Reads one call of the number libraries a line on standard input, and writes one answer a line
-//! on standard output.
+//! Reads calls of the number libraries from standard input, one per line, and writes the answers to standard output,
+//! one per line.
 #![tactic(auto)]
 
 mod answer;

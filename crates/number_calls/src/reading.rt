@@ -1,10 +1,10 @@
-//! How a line spells a call.
+//! Parsing of calls.
 
 use crate::call::{Call, DigitCount, Step};
 use frac128::Frac;
 use std::str;
 
-// The call that a line spells: a word, a space and what the word asks for.
+// Reads the call in a line: a word, a space and the arguments of the word.
 pub(crate) fn read_call(line: &[u8]) -> Option<Call<'_>> {
     let (word, rest) = split_at_space(line)?;
     match word {
@@ -14,13 +14,13 @@ pub(crate) fn read_call(line: &[u8]) -> Option<Call<'_>> {
     }
 }
 
-// What stands before the first space, and what stands behind it.
+// Splits a line at the first space into the parts before and after it. Returns `None` if there is no space.
 fn split_at_space(line: &[u8]) -> Option<(&[u8], &[u8])> {
     let space = line.iter().position(|&byte| byte == b' ')?;
     Some((&line[..space], &line[space + 1..]))
 }
 
-// The call of this word on numbers.
+// Reads the call on numbers that this word names.
 fn read_number_call<'a>(word: &[u8], rest: &str) -> Option<Call<'a>> {
     match word {
         b"cmp" => {
@@ -37,7 +37,7 @@ fn read_number_call<'a>(word: &[u8], rest: &str) -> Option<Call<'a>> {
     }
 }
 
-// The step of this word.
+// Reads the step that this word names.
 fn read_step(word: &[u8], rest: &str) -> Option<Step> {
     match word {
         b"negate" => Some(Step::Negate(read_fraction(rest)?)),
@@ -58,7 +58,7 @@ fn read_step(word: &[u8], rest: &str) -> Option<Step> {
     }
 }
 
-// The step of this word on two fractions.
+// Reads the step on two fractions that this word names.
 fn read_joining_step(word: &[u8], rest: &str) -> Option<Step> {
     let (x, y) = read_pair(rest)?;
     match word {
@@ -70,19 +70,19 @@ fn read_joining_step(word: &[u8], rest: &str) -> Option<Step> {
     }
 }
 
-// Two fractions with a space between.
+// Reads two fractions separated by a space.
 fn read_pair(text: &str) -> Option<(Frac, Frac)> {
     let (x, y) = text.split_once(' ')?;
     Some((read_fraction(x)?, read_fraction(y)?))
 }
 
-// A fraction as `n` or `n|d`, where it fits.
+// Reads a fraction `n` or `n|d`, if it fits.
 fn read_fraction(text: &str) -> Option<Frac> {
     let (n, d) = text.split_once('|').unwrap_or((text, "1"));
     Frac::new(n.parse().ok()?, d.parse().ok()?).ok()
 }
 
-// A number of digits from 1 to 36.
+// Reads a number of digits from 1 to 36.
 fn read_count(text: &str) -> Option<DigitCount> {
     match text.parse().ok()? {
         value @ 1..=36 => Some(DigitCount { value }),

@@ -1,8 +1,9 @@
-//! The runs over files and input, and what comes of each.
+//! The runs over files and input, with their expected outcomes.
 
 use units_run::Status;
 
-// A file with an include that is there, which has one too, and an include that is not; and a small file.
+// A file with two includes, of which the first exists and has an include of its own and the second does not exist; and
+// a small file.
 pub(crate) const FILES: &[(&[u8], &[u8])] = &[
     (
         b"main.units",
@@ -13,8 +14,9 @@ pub(crate) const FILES: &[(&[u8], &[u8])] = &[
     (b"s.units", b"s !\nms 1|1000 s\n"),
 ];
 
-// The words, which commas part; the input, behind so many blanks, and how much of it the source gives at a time; the
-// calls of each kind that fail, counted from 1; how many bytes each sink has room for; and what comes of it.
+// One run: its arguments, separated by commas; the input after `blanks` blanks, and how many bytes the source returns
+// at a time; the calls of each kind that fail, counted from 1; how many bytes each sink has room for; and the expected
+// outcome.
 #[derive(Clone, Copy)]
 pub(crate) struct Case {
     pub(crate) words: &'static [u8],
@@ -32,7 +34,7 @@ pub(crate) struct Case {
     pub(crate) err: &'static [u8],
 }
 
-// A conversion over files, which takes no input.
+// A conversion over files, which reads no input.
 pub(crate) const OVER_FILES: Case = Case {
     words: b"-f,main.units,z,m",
     blanks: 0,
@@ -49,7 +51,7 @@ pub(crate) const OVER_FILES: Case = Case {
     err: b"main.units:2: no file: gone.units\n",
 };
 
-// A file that cannot be read.
+// A run that ends because a file cannot be read.
 const UNREAD: Case = Case {
     status: Status::ReadFault,
     out: b"",
@@ -57,7 +59,7 @@ const UNREAD: Case = Case {
     ..OVER_FILES
 };
 
-// A session of one conversion.
+// A session with one conversion.
 const SESSION: Case = Case {
     words: b"-f,s.units",
     blanks: 0,
@@ -74,7 +76,7 @@ const SESSION: Case = Case {
     err: b"",
 };
 
-// A session over definitions with a notice.
+// A session over definitions that cause a notice.
 const NOTED: Case = Case {
     words: b"-f,main.units",
     input: b"z\nm\n",
@@ -83,14 +85,15 @@ const NOTED: Case = Case {
     ..SESSION
 };
 
-// A session that writes nothing but answers.
+// A session that writes only answers.
 const QUIET: Case = Case {
     words: b"-q,-f,s.units",
     out: b"\t* 1000\n\t/ 0.001\n",
     ..SESSION
 };
 
-// A line of 65,536 bytes, and one of 65,537, in a session that waits for FROM.
+// A line of 65,536 bytes, the longest that is allowed, in a session that waits for FROM. In `TOO_LONG` it has one byte
+// more.
 const LONGEST: Case = Case {
     blanks: 65_535,
     input: b"s\nms\n",
@@ -104,7 +107,7 @@ const TOO_LONG: Case = Case {
 };
 
 pub(crate) const CASES: &[Case] = &[
-    // Conversions: each fetch, some puts.
+    // Conversions in which each fetch and some puts fail.
     OVER_FILES,
     Case {
         failing_fetches: &[1],
@@ -165,7 +168,7 @@ pub(crate) const CASES: &[Case] = &[
         err: b"",
         ..OVER_FILES
     },
-    // Sessions: each take, some puts.
+    // Sessions in which each take and some puts fail.
     SESSION,
     Case {
         failing_takes: &[1],
@@ -218,7 +221,7 @@ pub(crate) const CASES: &[Case] = &[
         err: b"main.units:2: no file: gone.unit",
         ..NOTED
     },
-    // Lines, in pieces.
+    // Lines that the source returns in pieces.
     Case { piece: 1, ..QUIET },
     Case {
         input: b"1 s\nms",
@@ -270,7 +273,7 @@ pub(crate) const CASES: &[Case] = &[
         out: b"line too long\n",
         ..TOO_LONG
     },
-    // Files that are loaded.
+    // Sessions that load files.
     Case {
         input: b":load gone.units\n1 s\nms\n",
         out: b"no file: gone.units\n\t* 1000\n\t/ 0.001\n",
@@ -295,7 +298,7 @@ pub(crate) const CASES: &[Case] = &[
         out: b"",
         ..QUIET
     },
-    // Edits that are taken back, and files that are saved.
+    // Sessions that undo edits and save files.
     Case {
         input: b":define s 2 ms\n:undo\n1 s\nms\n:undo\n",
         out: b"\t* 1000\n\t/ 0.001\nnothing to undo\n",
@@ -318,7 +321,7 @@ pub(crate) const CASES: &[Case] = &[
         out: b"",
         ..QUIET
     },
-    // The trial, which asks for no file and no input.
+    // The trial, which reads no file and no input.
     Case {
         words: b"--trial,3",
         failing_fetches: &[1],

@@ -1,9 +1,9 @@
-//! The runs over a column, each read and each write of which fails in turn, and what comes of each.
+//! The runs over a column, in which each read and each write fails in turn, with their expected outcomes.
 
 use crate::cases::{Case, OVER_FILES};
 use units_run::Status;
 
-// A cell of three is an error.
+// One cell of three is an error.
 const COLUMN: Case = Case {
     words: b"-f,main.units,--column,1,z,m",
     input: b"1,a\n2,b\nx,c\n",
@@ -25,7 +25,7 @@ const UNWRITTEN: Case = Case {
     ..COLUMN
 };
 
-// The notices cannot be written, so no row is.
+// The notices cannot be written, so no row is written.
 const UNTOLD: Case = Case {
     out: b"",
     ..UNWRITTEN

@@ -1,4 +1,4 @@
-//! Runs of the program over files, sources and sinks in memory that fail at a given call.
+//! Runs of the program over in-memory files, sources and sinks that fail at a given call.
 #![tactic(auto)]
 
 #[cfg(test)]

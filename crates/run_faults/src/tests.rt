@@ -1,4 +1,4 @@
-//! The runs.
+//! Runs the cases and checks their outcomes.
 ghost use Rattle.std.specs.Prelude.{◌≡◌, ◌<◌};
 
 use crate::cases::{CASES, Case, FILES};
@@ -10,7 +10,7 @@ use std::test::Fail;
 use units_io::{MemFiles, MemSink, MemSource, Steps, Text, Texts, Vars};
 use units_run::{Status, units_main};
 
-// What a run leaves.
+// The status of a run and the bytes that it wrote.
 #[derive(Drop)]
 struct Outcome {
     status: Status,
@@ -18,7 +18,7 @@ struct Outcome {
     err: MemSink,
 }
 
-// The run of a case, over sinks that take 8 bytes at a time.
+// Runs a case over sinks that accept 8 bytes at a time.
 fn run<L: Ledger>(alloc: Global, case: &Case, blank: Blank) -> Result<Outcome, Fail>
     requires name { blank.name ≡ L.name }
     requires parts { blank.parts ≡ L.parts }

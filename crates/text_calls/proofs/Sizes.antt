@@ -1,4 +1,4 @@
--- How large trees are: each is larger than its parts.
+-- The sizes of trees: each tree is larger than its parts.
 use Rattle.std.proofs.Common.{◌≡◌, ◌+◌, ◌<◌, ℕ, zero, suc, List, [], ◌∷◌, length, map, get_or, ap, ◌∙◌, arith, Box}
 use Rattle.std.proofs.Common.{Global}
 use Rattle.expr_tree.specs.declared.operator.RootKind.{RootKind}
@@ -40,65 +40,65 @@ abbrev mutual
   terms_size NoTerm = 0
   terms_size (Term s e ts) = suc (size e + terms_size ts)
 
--- a call is one greater than its operand
+-- the size of a call is one more than that of its operand
 pub of_call_size : (t : Tree) (w : Box (List ℕ) Global) (e : Box Tree Global) → t ≡ made.Call w e
     → size (syntax t) ≡ suc (size (syntax e.value))
 of_call_size t w e is = ap (λ (x : Tree). size (syntax x)) is ∙ ap size (of_call w e)
 
--- so is an inverse
+-- the size of an inverse is one more than that of its operand
 pub of_inverse_size : (t : Tree) (w : Box (List ℕ) Global) (e : Box Tree Global) → t ≡ made.Inverse w e
     → size (syntax t) ≡ suc (size (syntax e.value))
 of_inverse_size t w e is = ap (λ (x : Tree). size (syntax x)) is ∙ ap size (of_inverse w e)
 
--- so is a root
+-- the size of a root is one more than that of its operand
 pub of_root_size : (t : Tree) (n : RootKind) (e : Box Tree Global) → t ≡ made.Root n e
     → size (syntax t) ≡ suc (size (syntax e.value))
 of_root_size t n e is = ap (λ (x : Tree). size (syntax x)) is ∙ ap size (of_root n e)
 
--- so is a group
+-- the size of a group is one more than that of its operand
 pub of_group_size : (t : Tree) (e : Box Tree Global) → t ≡ made.Group e → size (syntax t) ≡ suc (size (syntax e.value))
 of_group_size t e is = ap (λ (x : Tree). size (syntax x)) is ∙ ap size (of_group e)
 
--- so is a negated operand
+-- the size of a negation is one more than that of its operand
 pub of_negate_size : (t : Tree) (e : Box Tree Global) → t ≡ made.Negate e
     → size (syntax t) ≡ suc (size (syntax e.value))
 of_negate_size t e is = ap (λ (x : Tree). size (syntax x)) is ∙ ap size (of_negate e)
 
--- a power is one greater than both its parts
+-- the size of a power is one more than that of both its parts
 pub of_power_size : (t : Tree) (e f : Box Tree Global) → t ≡ made.Power e f
     → size (syntax t) ≡ suc (size (syntax e.value) + size (syntax f.value))
 of_power_size t e f is = ap (λ (x : Tree). size (syntax x)) is ∙ ap size (of_power e f)
 
--- operands side by side are one greater than all of them
+-- the size of juxtaposed operands is one more than that of all of them
 pub of_juxtaposed_size : (t : Tree) (es : Trees) → t ≡ made.Juxtaposed es
     → size (syntax t) ≡ suc (members_size (members (trees_of es)))
 of_juxtaposed_size t es is = ap (λ (x : Tree). size (syntax x)) is ∙ ap size (of_juxtaposed es)
 
--- so is a product
+-- the size of a product is one more than that of its members
 pub of_product_size : (t : Tree) (fs : FactorList) → t ≡ made.Product fs
     → size (syntax t) ≡ suc (factors_size (factors (factors_of fs)))
 of_product_size t fs is = ap (λ (x : Tree). size (syntax x)) is ∙ ap size (of_product fs)
 
--- so is a sum
+-- the size of a sum is one more than that of its members
 pub of_sum_size : (t : Tree) (ts : TermList) → t ≡ made.Sum ts
     → size (syntax t) ≡ suc (terms_size (terms (terms_of ts)))
 of_sum_size t ts is = ap (λ (x : Tree). size (syntax x)) is ∙ ap size (of_sum ts)
 
--- each of some operands is smaller than all together
+-- each operand is smaller than all of them together
 pub member_smaller : (ts : List Tree) (i : ℕ) (d : Tree) → i < length ts
     → size (syntax (get_or ts i d)) < members_size (members (map syntax ts))
 member_smaller [] i d h = absurd (omega arith)
 member_smaller (t ∷ ts) zero d h = omega arith
 member_smaller (t ∷ ts) (suc i) d h = omega (arith, member_smaller ts i d (omega arith))
 
--- so is each member of a product
+-- each member of a product is smaller than all of them together
 pub factor_smaller : (fs : List (Scale × Tree)) (i : ℕ) (d : Scale × Tree) → i < length fs
     → size (syntax (get_or fs i d).1) < factors_size (factors (map factor fs))
 factor_smaller [] i d h = absurd (omega arith)
 factor_smaller (f ∷ fs) zero d h = omega arith
 factor_smaller (f ∷ fs) (suc i) d h = omega (arith, factor_smaller fs i d (omega arith))
 
--- and each of a sum
+-- each member of a sum is smaller than all of them together
 pub term_smaller : (ts : List (Sign × Tree)) (i : ℕ) (d : Sign × Tree) → i < length ts
     → size (syntax (get_or ts i d).1) < terms_size (terms (map term ts))
 term_smaller [] i d h = absurd (omega arith)

@@ -1,4 +1,4 @@
--- What is written of a tree, part by part.
+-- The text of a tree, part by part.
 use Rattle.std.proofs.Common.{◌≡◌, ◌+◌, ◌<◌, ℕ, List, ◌++◌, drop, get_or, length, map, ap, append_assoc}
 use Rattle.std.proofs.lemmas.List.{append-nil, drop_more}
 use Rattle.std.specs.Prelude.{codes}
@@ -18,35 +18,35 @@ pub ruleset appends = (append_assoc, append-nil)
 
 pub ruleset written = (views, append_assoc, append-nil)
 
--- what is written of the member at a place, and of the members behind it
+-- the text of the member at a place, and of the members after it
 
--- the operands from a place on are written as the one there and those behind it
+-- the text of the operands from a place on is that of the operand there followed by that of the operands after it
 pub member_text : (ts : List Tree) (i : ℕ) (d : Tree) → i < length ts
     → members_text (members (map syntax (drop i ts))) ≡ codes " " ++ tree_text (syntax (get_or ts i d))
     ++ members_text (members (map syntax (drop (i + 1) ts)))
 member_text ts i d h = ap (λ xs. members_text (members (map syntax xs))) (drop_more ts i d h)
 
--- so are the members of a product
+-- `member_text` for the members of a product
 pub factor_text : (fs : List (Scale × Tree)) (i : ℕ) (d : Scale × Tree) → i < length fs
     → factors_text (factors (map factor (drop i fs)))
     ≡ scale_text (get_or fs i d).0 ++ tree_text (syntax (get_or fs i d).1)
     ++ factors_text (factors (map factor (drop (i + 1) fs)))
 factor_text fs i d h = ap (λ xs. factors_text (factors (map factor xs))) (drop_more fs i d h)
 
--- so are those of a sum
+-- `member_text` for the members of a sum
 pub term_text : (ts : List (Sign × Tree)) (i : ℕ) (d : Sign × Tree) → i < length ts
     → terms_text (terms (map term (drop i ts)))
     ≡ sign_text (get_or ts i d).0 ++ tree_text (syntax (get_or ts i d).1)
     ++ terms_text (terms (map term (drop (i + 1) ts)))
 term_text ts i d h = ap (λ xs. terms_text (terms (map term xs))) (drop_more ts i d h)
 
--- so are words
+-- `member_text` for words
 pub use_text : (uses : List WordUse) (i : ℕ) (d : WordUse) → i < length uses
     → uses_text (drop i uses) ≡ kind_text (get_or uses i d).kind ++ word_text (get_or uses i d).text
     ++ uses_text (drop (i + 1) uses)
 use_text uses i d h = ap uses_text (drop_more uses i d h)
 
--- so are keys
+-- `member_text` for keys
 pub key_written : (keys : List Key) (i : ℕ) (d : Key) → i < length keys
     → keys_text (drop i keys) ≡ codes " " ++ key_text (get_or keys i d) ++ keys_text (drop (i + 1) keys)
 key_written keys i d h = ap keys_text (drop_more keys i d h)

@@ -1,4 +1,4 @@
--- Trees in writing.
+-- The notation of trees.
 use Rattle.std.specs.Prelude.{ℕ, ℤ, pos, zero, List, [], ◌∷◌, ◌++◌, Result, Ok, Err, codes, if◌then◌else◌}
 use Rattle.std.specs.Fmt.{decimal, signed_decimal}
 use Rattle.frac128.specs.Decimals.{Decimal}
@@ -17,12 +17,12 @@ use Rattle.expr_tree.specs.Syntax as tree
 use Rattle.expr_tree.specs.Words.{words_in}
 use Rattle.def_entry.specs.Faults.{parse_fault_text}
 
--- a power of ten, which is not written where it is 1
+-- the text of a power of ten, which is empty if the power is 1
 abbrev pub power_text : ℤ → List ℕ
 power_text (pos zero) = []
 power_text power = codes "e" ++ signed_decimal power
 
--- a numeral, whether its value fits or not: its digits, and the power of ten behind them
+-- the text of a numeral, whether or not its value fits: its digits, followed by the power of ten
 abbrev pub numeral_text : Decimal → List ℕ
 numeral_text x = decimal x.coefficient ++ power_text x.scale
 
@@ -37,8 +37,8 @@ abbrev pub sign_text : Sign → List ℕ
 sign_text Plus = codes " + "
 sign_text Minus = codes " - "
 
--- each tree has its kind before its parts, in parentheses: as no word has a blank, a parenthesis or a
--- bracket in it, no two trees of expressions are written alike
+-- the text of a tree has its kind before its parts, in parentheses; as no word contains a blank, a parenthesis or a
+-- bracket, different trees of expressions have different texts
 abbrev mutual
   pub tree_text : Syntax → List ℕ
   tree_text (tree.Number x) = numeral_text x
@@ -67,17 +67,17 @@ abbrev mutual
   terms_text NoTerm = []
   terms_text (Term s e ts) = sign_text s ++ tree_text e ++ terms_text ts
 
--- a tree or its fault
+-- the text of a tree, or of its fault
 abbrev pub parsed_text : Result Syntax ParseFault → List ℕ
 parsed_text (Ok e) = tree_text e
 parsed_text (Err x) = parse_fault_text x
 
--- that there is a tree, or its fault
+-- the confirmation that there is a tree, or the text of its fault
 abbrev pub verdict_text : Result Syntax ParseFault → List ℕ
 verdict_text (Ok e) = codes "tree"
 verdict_text (Err x) = parse_fault_text x
 
--- how a word stands
+-- the text of the kind of a word
 abbrev pub kind_text : WordKind → List ℕ
 kind_text kind.Plain = codes " "
 kind_text kind.Call = codes " call "
@@ -87,12 +87,12 @@ abbrev pub uses_text : List WordUse → List ℕ
 uses_text [] = []
 uses_text (word ∷ words) = kind_text word.kind ++ word_text word.text ++ uses_text words
 
--- the words of a tree, each with how it stands, or its fault
+-- the text of the words of a tree, each with its kind, or of its fault
 abbrev pub words_text : Result Syntax ParseFault → List ℕ
 words_text (Ok e) = codes "words" ++ uses_text (words_in e)
 words_text (Err x) = parse_fault_text x
 
--- whether some bytes are a name, or a refused one
+-- whether bytes are a name, a refused name, or no name
 abbrev pub name_text : List ℕ → List ℕ
 name_text bytes =
     if is_name bytes then codes "name" else (if is_refused bytes then codes "refused name" else codes "no name")

@@ -1,4 +1,4 @@
-//! What a line answers.
+//! The answers to lines.
 
 ghost use Rattle.std.specs.Prelude.{◌≡◌, ◌≢◌, ◌++◌, IfOk, None};
 ghost use Rattle.std.specs.Option.{option_copied};
@@ -14,10 +14,10 @@ use def_entry::parse_fault_text;
 use expr_tree::{ParseFault, WordKind, Words, is_name, is_refused, parse_expr, words};
 use std::alloc::{AllocError, Global};
 
-// What a call and the text behind it answer: `plain` the tree of the text without a binder, `with`
-// the tree with the binder that stands before the text, `copy` the tree of a copy, `parse` that
-// there is a tree, `words` its words, and each of these a fault where there is one; `name`
-// whether the text is a name; `find` what a word leads to at its place in a table.
+// Returns the answer to a call with its text. `plain` answers with the tree of the text without a binder, `with` with
+// the tree under the binder that precedes the text, `copy` with the tree of a copy, `parse` with a confirmation that
+// there is a tree, and `words` with the words of the tree; each of these answers with the fault if there is one. `name`
+// answers whether the text is a name, and `find` which keys a word leads to, by its position, in a table.
 pub(crate) fn line_answer(alloc: Global, line: &[u8]) -> Result<Vec<u8>, AllocError> {
     let (call, text) = split_at_blank(line);
     match call {
@@ -35,7 +35,7 @@ pub(crate) fn line_answer(alloc: Global, line: &[u8]) -> Result<Vec<u8>, AllocEr
     }
 }
 
-// The tree of a text, or its fault.
+// Returns the tree of a text, or its fault.
 fn answer_to(alloc: Global, text: &[u8], binder: Option<&[u8]>) -> Result<Vec<u8>, AllocError>
     ensures { IfOk result (λ out. out.items ≡ spec.parsed_text (parsed (option_copied binder.entry) text.now)) }
 {
@@ -48,7 +48,7 @@ fn answer_to(alloc: Global, text: &[u8], binder: Option<&[u8]>) -> Result<Vec<u8
     Ok(out)
 }
 
-// The tree of a copy of the tree of a text, or its fault.
+// Returns the tree of a copy of the tree of a text, or its fault.
 fn copy_of(alloc: Global, text: &[u8]) -> Result<Vec<u8>, AllocError>
     ensures { IfOk result (λ out. out.items ≡ spec.parsed_text (parsed None text.now)) }
 {
@@ -65,7 +65,7 @@ fn copy_of(alloc: Global, text: &[u8]) -> Result<Vec<u8>, AllocError>
     Ok(out)
 }
 
-// That a text has a tree, or its fault.
+// Returns the confirmation that a text has a tree, or its fault.
 fn verdict_on(alloc: Global, text: &[u8]) -> Result<Vec<u8>, AllocError>
     ensures { IfOk result (λ out. out.items ≡ spec.verdict_text (parsed None text.now)) }
 {
@@ -78,7 +78,7 @@ fn verdict_on(alloc: Global, text: &[u8]) -> Result<Vec<u8>, AllocError>
     Ok(out)
 }
 
-// The words of a text, or its fault.
+// Returns the words of a text, or its fault.
 fn words_of(alloc: Global, text: &[u8]) -> Result<Vec<u8>, AllocError>
     ensures { IfOk result (λ out. out.items ≡ spec.words_text (parsed None text.now)) }
 {
@@ -94,7 +94,7 @@ fn words_of(alloc: Global, text: &[u8]) -> Result<Vec<u8>, AllocError>
     Ok(out)
 }
 
-// Puts words at the end, each with how it stands.
+// Appends words, each with its kind.
 #[tactic(auto, using(crate::proofs::Written::words_written))]
 fn put_uses(out: &mut Vec<u8>, uses: &Words<'_>) -> Result<(), AllocError>
     ensures { IfOk result (λ _. out.new.items ≡ out.old.items ++ spec.uses_text uses.now) }
@@ -106,7 +106,7 @@ fn put_uses(out: &mut Vec<u8>, uses: &Words<'_>) -> Result<(), AllocError>
     Ok(())
 }
 
-// How a word stands.
+// Returns the text of the kind of a word.
 fn kind_text(kind: WordKind) -> &'static [u8]
     ensures { result.now ≡ spec.kind_text kind }
 {
@@ -117,7 +117,7 @@ fn kind_text(kind: WordKind) -> &'static [u8]
     }
 }
 
-// Whether some bytes are a name, or a refused one.
+// Returns whether the bytes are a name, a refused name, or no name.
 fn naming(bytes: &[u8]) -> &'static [u8]
     ensures { result.now ≡ spec.name_text bytes.now }
 {
@@ -130,7 +130,7 @@ fn naming(bytes: &[u8]) -> &'static [u8]
     }
 }
 
-// Puts a fault at the end.
+// Appends the text of a fault.
 fn put_fault(alloc: Global, out: &mut Vec<u8>, fault: ParseFault) -> Result<(), AllocError>
     requires { fault ≢ parse.OutOfMemory }
     ensures { IfOk result (λ _. out.new.items ≡ out.old.items ++ faults.parse_fault_text fault) }

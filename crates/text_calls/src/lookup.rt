@@ -1,4 +1,4 @@
-//! What a word leads to in a table of a few keys.
+//! Lookup of a word in a table of a few keys.
 
 ghost use Rattle.std.specs.Prelude.{◌≡◌, ◌++◌, IfOk};
 ghost use Rattle.std.specs.List.{position};
@@ -23,7 +23,7 @@ struct Table {
 }
 
 impl Table {
-    // The table of the keys that stand between semicolons. What is no key is left out.
+    // Reads a table of keys separated by semicolons. Skips texts that are not keys.
     fn read(alloc: Global, texts: &[u8]) -> Result<Table, AllocError> {
         let mut keys = Keys::new(alloc);
         for text in texts.split(|byte| *byte == b';') {
@@ -40,33 +40,35 @@ impl Table {
 impl Present for Table {
     ghost keys = { λ table. table.keys };
 
+    ghost place = { λ table k. position (is_same k) table.keys };
+
     fn find(&self, kind: Kind, name: &[u8]) -> Option<usize> {
         place_of(self.keys.as_slice(), kind, name)
     }
 }
 
-// Where the first key of this kind and name stands.
+// Returns the place of the first key with this kind and name.
 fn place_of(keys: &[Key], kind: Kind, name: &[u8]) -> Option<usize>
     ensures { result ≡ position (is_same (key_spec.key kind name.now)) keys.now }
 {
     keys.iter().position(|key| is_key(key, kind, name))
 }
 
-// Whether the key is of this kind and name.
+// Returns whether the key has this kind and name.
 fn is_key(key: &Key, kind: Kind, name: &[u8]) -> bool
     ensures { result ≡ is_same (key_spec.key kind name.now) key.now }
 {
     is_kind(kind, key.kind) && name == key.name.as_bytes()
 }
 
-// Whether the kinds are one.
+// Returns whether the kinds are equal.
 fn is_kind(kind: Kind, other: Kind) -> bool
     ensures { result ≡ is_same_kind kind other }
 {
     kind == other
 }
 
-// What the place, the word and the keys of a line answer.
+// Returns the answer to a lookup, given the position of the word, the word and the keys.
 pub(crate) fn lookup_answer(alloc: Global, text: &[u8]) -> Result<Vec<u8>, AllocError> {
     let (place, text) = split_at_blank(text);
     let (word, keys) = split_at_blank(text);
@@ -106,7 +108,7 @@ impl Looking for Looked {
     }
 }
 
-// The keys that a word leads to at its place, and the keys that are looked at.
+// Returns the keys that a word of this kind leads to, and the keys that were looked at.
 fn found_in(
     alloc: Global,
     table: &Table,
@@ -124,7 +126,7 @@ fn found_in(
     Ok(out)
 }
 
-// Puts the targets among the keys that were looked at, and all of these, at the end.
+// Appends the targets, which are among the keys that were looked at, and all of these keys.
 fn put_found(
     alloc: Global,
     out: &mut Vec<u8>,
@@ -139,14 +141,14 @@ fn put_found(
     Ok(())
 }
 
-// The targets among the keys that were looked at.
+// Returns the targets, which are the last of the keys that were looked at.
 fn last_of(looked: &[Key], targets: Targets) -> &[Key]
     ensures { result.now ≡ last_keys (count targets) looked.now }
 {
     &looked[looked.len().saturating_sub(targets.count())..]
 }
 
-// Puts what some keys are and their texts at the end.
+// Appends a description of keys and their texts.
 #[tactic(auto, using(crate::proofs::Written::appends))]
 fn put_named(alloc: Global, out: &mut Vec<u8>, what: &[u8], keys: &[Key]) -> Result<(), AllocError>
     ensures { IfOk result (λ _. out.new.items ≡ out.old.items ++ (what.now ++ keys_text keys.now)) }
@@ -155,7 +157,7 @@ fn put_named(alloc: Global, out: &mut Vec<u8>, what: &[u8], keys: &[Key]) -> Res
     put_keys(alloc, out, keys)
 }
 
-// Puts the texts of keys at the end, each with a blank before it.
+// Appends the texts of keys, each after a blank.
 #[tactic(auto, using(crate::proofs::Written::keys_written))]
 fn put_keys(alloc: Global, out: &mut Vec<u8>, keys: &[Key]) -> Result<(), AllocError>
     ensures { IfOk result (λ _. out.new.items ≡ out.old.items ++ keys_text keys.now) }

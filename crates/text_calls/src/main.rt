@@ -1,5 +1,5 @@
-//! Reads one call on a text a line on standard input, and writes its answer on standard output: the
-//! tree of an expression or its fault, its words, or what a word leads to.
+//! Reads calls on texts from standard input, one per line, and writes their answers to standard output: the tree of an
+//! expression or its fault, its words, or the keys that a word leads to.
 #![tactic(auto)]
 
 mod answer;

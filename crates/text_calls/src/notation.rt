@@ -1,4 +1,4 @@
-//! Trees in writing: each with its kind before its parts, in parentheses, and words in brackets.
+//! The notation of trees: each has its kind before its parts, in parentheses, and words are in brackets.
 
 ghost use Rattle.std.specs.Prelude.{◌≡◌, ◌++◌, IfOk, codes};
 ghost use Rattle.expr_tree.specs.Trees as trees;
@@ -8,7 +8,7 @@ use expr_tree::{Factors, Scale, Sign, Terms, Tree, Trees};
 use frac128::Numeral;
 use std::alloc::{AllocError, Global};
 
-// Puts a tree at the end.
+// Appends a tree.
 #[cycle(put)]
 #[tactic(auto, using(crate::proofs::Sizes::sizes, crate::proofs::Written::written))]
 pub(crate) fn put_tree(alloc: Global, out: &mut Vec<u8>, tree: &Tree) -> Result<(), AllocError>
@@ -51,7 +51,7 @@ pub(crate) fn put_tree(alloc: Global, out: &mut Vec<u8>, tree: &Tree) -> Result<
     }
 }
 
-// Puts a quotient of two numerals at the end.
+// Appends a quotient of two numerals.
 #[tactic(auto, using(crate::proofs::Written::appends))]
 fn put_bar(
     alloc: Global,
@@ -69,7 +69,7 @@ fn put_bar(
     out.extend_from_slice(b")")
 }
 
-// Puts the kind of a tree and its word at the end.
+// Appends the kind of a tree and its word.
 #[tactic(auto, using(crate::proofs::Written::appends))]
 fn put_opening(out: &mut Vec<u8>, kind: &[u8], word: &[u8]) -> Result<(), AllocError>
     ensures { IfOk result (λ _. out.new.items ≡ out.old.items ++ kind.now ++ spec.word_text word.now) }
@@ -78,7 +78,7 @@ fn put_opening(out: &mut Vec<u8>, kind: &[u8], word: &[u8]) -> Result<(), AllocE
     put_word(out, word)
 }
 
-// Puts the last part of a tree at the end.
+// Appends the last part of a tree and the closing parenthesis.
 #[cycle(put)]
 #[tactic(auto, using(crate::proofs::Sizes::sizes, crate::proofs::Written::written))]
 fn put_last(alloc: Global, out: &mut Vec<u8>, tree: &Tree) -> Result<(), AllocError>
@@ -90,7 +90,7 @@ fn put_last(alloc: Global, out: &mut Vec<u8>, tree: &Tree) -> Result<(), AllocEr
     out.extend_from_slice(b")")
 }
 
-// Puts operands side by side at the end.
+// Appends juxtaposed operands.
 #[cycle(put)]
 #[tactic(auto, using(crate::proofs::Sizes::sizes, crate::proofs::Written::members_written))]
 fn put_members(alloc: Global, out: &mut Vec<u8>, members: &Trees) -> Result<(), AllocError>
@@ -106,7 +106,7 @@ fn put_members(alloc: Global, out: &mut Vec<u8>, members: &Trees) -> Result<(), 
     out.extend_from_slice(b")")
 }
 
-// Puts a product at the end.
+// Appends a product.
 #[cycle(put)]
 #[tactic(auto, using(crate::proofs::Sizes::sizes, crate::proofs::Written::factors_written))]
 fn put_factors(alloc: Global, out: &mut Vec<u8>, members: &Factors) -> Result<(), AllocError>
@@ -122,7 +122,7 @@ fn put_factors(alloc: Global, out: &mut Vec<u8>, members: &Factors) -> Result<()
     out.extend_from_slice(b")")
 }
 
-// Puts a sum at the end.
+// Appends a sum.
 #[cycle(put)]
 #[tactic(auto, using(crate::proofs::Sizes::sizes, crate::proofs::Written::terms_written))]
 fn put_terms(alloc: Global, out: &mut Vec<u8>, members: &Terms) -> Result<(), AllocError>
@@ -138,7 +138,7 @@ fn put_terms(alloc: Global, out: &mut Vec<u8>, members: &Terms) -> Result<(), Al
     out.extend_from_slice(b")")
 }
 
-// A `*` or `/`.
+// Returns `*` or `/` between blanks.
 fn scale_text(scale: Scale) -> &'static [u8]
     ensures { result.now ≡ spec.scale_text scale }
 {
@@ -148,7 +148,7 @@ fn scale_text(scale: Scale) -> &'static [u8]
     }
 }
 
-// A `+` or `-`.
+// Returns `+` or `-` between blanks.
 fn sign_text(sign: Sign) -> &'static [u8]
     ensures { result.now ≡ spec.sign_text sign }
 {
@@ -158,7 +158,7 @@ fn sign_text(sign: Sign) -> &'static [u8]
     }
 }
 
-// Puts a numeral at the end.
+// Appends a numeral.
 #[tactic(auto, using(crate::proofs::Written::appends))]
 fn put_numeral(alloc: Global, out: &mut Vec<u8>, x: &Numeral) -> Result<(), AllocError>
     ensures { IfOk result (λ _. out.new.items ≡ out.old.items ++ spec.numeral_text x.now) }
@@ -167,7 +167,7 @@ fn put_numeral(alloc: Global, out: &mut Vec<u8>, x: &Numeral) -> Result<(), Allo
     put_power(alloc, out, x.scale())
 }
 
-// Puts a power of ten at the end.
+// Appends a power of ten, unless it is 1.
 #[tactic(auto, using(crate::proofs::Written::appends))]
 fn put_power(alloc: Global, out: &mut Vec<u8>, power: i128) -> Result<(), AllocError>
     ensures { IfOk result (λ _. out.new.items ≡ out.old.items ++ spec.power_text power) }
@@ -180,7 +180,7 @@ fn put_power(alloc: Global, out: &mut Vec<u8>, power: i128) -> Result<(), AllocE
     Ok(())
 }
 
-// Puts a word at the end.
+// Appends a word in brackets.
 #[tactic(auto, using(crate::proofs::Written::appends))]
 pub(crate) fn put_word(out: &mut Vec<u8>, word: &[u8]) -> Result<(), AllocError>
     ensures { IfOk result (λ _. out.new.items ≡ out.old.items ++ spec.word_text word.now) }

@@ -4,7 +4,7 @@ use Rattle.def_lines.specs.Lines.{logical_lines}
 use Rattle.entry_calls.specs.Report.{is_entry_line, is_refused_line, row_of}
 use Rattle.entry_calls.proofs.report.report_on.Given as goal
 
--- what the rest gives behind what is there is what all lines give
+-- the report so far, continued with the lines that are left, is the report on all lines
 abbrev pub invariant-loop-line : goal.invariant-loop-line
 invariant-loop-line l = record {
   rows : l.report.rows.items ++ flat_map row_of l.rest ≡ flat_map row_of (logical_lines l.bytes);

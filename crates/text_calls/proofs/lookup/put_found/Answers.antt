@@ -3,7 +3,7 @@ use Rattle.name_lookup.specs.Targets.{count, last_keys}
 use Rattle.text_calls.specs.Lookups.{keys_text}
 use Rattle.text_calls.proofs.lookup.put_found.Goals as goal
 
--- two texts were put, one behind the other
+-- appending two texts in turn appends their concatenation
 both_put : (out first second then' done : List ℕ) → then' ≡ out ++ first → done ≡ then' ++ second
     → done ≡ out ++ (first ++ second)
 both_put out first second then' done e f = rw (f, e) (append_assoc out first second)

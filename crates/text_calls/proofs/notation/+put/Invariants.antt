@@ -19,7 +19,7 @@ decreases-put_factors l = 2 * factors_size (factors (factors_of l.members.now)) 
 abbrev pub decreases-put_terms : goal.decreases-put_terms
 decreases-put_terms l = 2 * terms_size (terms (terms_of l.members.now)) + 1
 
--- what is written and what is still to be written
+-- the text so far, followed by that of the members that are left, is the whole text
 
 abbrev pub invariant-put_members-loop-member : goal.invariant-put_members-loop-member
 invariant-put_members-loop-member l =

@@ -7,7 +7,7 @@ use Rattle.def_entry.specs.SameKeys.{is_same}
 use Rattle.text_calls.proofs.lookup.TablePresent.find.Goals as goal
 
 module _ {A : Type 0} (p : A → Bool) where
-  -- the first place that passes is one of a list exactly where something in it passes
+  -- the first place that passes is inside the list exactly if an element passes
   within : (xs : List A) → nat_lt (position_or_len p xs) (length xs) ≡ list_any p xs
   within [] = refl
   within (x ∷ xs) = by (within xs) (p x) refl
@@ -21,7 +21,7 @@ module _ {A : Type 0} (p : A → Bool) where
             (λ h. sym rest ∙ lt-ltb (position_or_len p xs) (length xs) (omega (arith, h))),
           )))
 
-  -- a place is found exactly there
+  -- a place is found exactly if an element passes
   found : (xs : List A) → is_some (position p xs) ≡ list_any p xs
   found xs = by (nat_lt (position_or_len p xs) (length xs)) ∙ within xs
     where
@@ -29,8 +29,12 @@ module _ {A : Type 0} (p : A → Bool) where
       by true = refl
       by false = refl
 
-pub returns : goal.returns
-returns c =
+pub returns-clause-present : goal.returns-clause-present
+returns-clause-present c =
     ap is_some c.place_of.ensures
     ∙ (found (is_same (key c.args.kind c.args.name.now)) c.as_slice.result.now
     ∙ ap (list_any (is_same (key c.args.kind c.args.name.now))) c.as_slice.ensures)
+
+pub returns-clause-place : goal.returns-clause-place
+returns-clause-place c =
+    c.place_of.ensures ∙ ap (position (is_same (key c.args.kind c.args.name.now))) c.as_slice.ensures
