@@ -3,7 +3,7 @@ is of an absent file) give a deck; `define LINE`, `drop KEY`, `append FILE`, `sw
 `splice AT CUT LINE;LINE..` edit it and answer the keys whose entries differ; `back` makes the inverse of
 the last splice. `locale L` and `set VAR VALUE` are the settings of what comes after. A line is shown with
 its number, and with a `~` where it stays without effect. The answers are those of an independent
-reading of the format, by tools/compare_decks.py --answer.
+reading of the format, by tools/comparisons/compare_decks.py --answer.
 
 An include stands beside its includer, not beside the first file. One that begins with `/` is taken as it is.
 

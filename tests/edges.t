@@ -126,7 +126,8 @@ Nodes and room that are not there.
 
 10,000 calls that link two of 40 nodes and forget one, at random, with the room that is left and the users of a key
 between them: at times a few edges between two that forget, at times so many that the room is used up. The answers are
-those of a plain list of edges (tools/compare_edges.py --answer), with the users in the order of their numbers.
+those of a plain list of edges (tools/comparisons/compare_edges.py --answer), with the users in the order of their
+numbers.
 
   $ awk '
   >   function below(n) { x = x * 16807 % 2147483647; return x % n }

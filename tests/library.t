@@ -1,5 +1,5 @@
-Everyday queries over the library of definitions. tools/library_queries.py writes this file and computes the answers
-from the definitions of the units. LIBRARY is the path of share/units/standard.units.
+Everyday queries over the library of definitions. tools/checks/library_queries.py writes this file and computes the
+answers from the definitions of the units. LIBRARY is the path of share/units/standard.units.
 
   $ over() { units -1 -f "$LIBRARY" "$@"; }
   $ over "3 acres" hectares

@@ -2,7 +2,7 @@ Live tables, by the calls of the crate live_table: a first `load FILE` makes the
 `unapply NAME EXPRESSION` (the inverse of a function at what the expression is worth) are queries, `settle` asks for
 each name, and `counts` tells how many names are settled, how many have an entry, and how many were settled since the
 load. `define LINE`, `drop KEY`, `switch LOCALE`, `append FILE`, `splice AT CUT LINE;LINE..` and `back`, which takes the last
-splice back, are edits. A value is printed exactly. The answers are those of plain recursion in Python (tools/compare_live.py --answer).
+splice back, are edits. A value is printed exactly. The answers are those of plain recursion in Python (tools/comparisons/compare_live.py --answer).
 
 A cycle has the chain of the name by which it is entered. No name fault is kept: each query gives its own.
 

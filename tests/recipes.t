@@ -1,4 +1,5 @@
-What the manual page warns of, each caveat with the way around it. Those of columns are run by tools/check_recipes.sh.
+What the manual page warns of, each caveat with the way around it. Those of columns are run by
+tools/checks/check_recipes.sh.
 
 A save writes the definitions in force: no comment, no include, no message, no faulty line, nothing of other locales.
 

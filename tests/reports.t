@@ -162,7 +162,7 @@ no value.
   [1]
 
 Each prefix of the definitions that are built in is checked: its notices and the faults of its keys are those of plain
-recursion in Python (tools/compare_reports.py --prefixes).
+recursion in Python (tools/comparisons/compare_reports.py --prefixes).
 
   $ for i in $(seq 0 1057); do head -c $i "$BUILTIN" > p.units; units -c -f p.units; echo $?; done > prefixes
   $ grep -cx 0 prefixes; grep -cx 1 prefixes

@@ -1,5 +1,6 @@
 Values of expressions and functions. The function `values` asks one session of `units` for the value of each line of
-its input, over the definitions in t.units. The expected values come from Python's fractions (tools/compare_values.py).
+its input, over the definitions in t.units. The expected values come from Python's fractions
+(tools/comparisons/compare_values.py).
 
   $ values() { sed 'a\\' | units -q -t --exact -f t.units 2>&1; }
 

@@ -32,7 +32,7 @@ if is_built "$name"; then
     echo "$program"
     exit
 fi
-if [ "$name" = units ] && "$root/tools/release.sh" --check > /dev/null; then
+if [ "$name" = units ] && "$root/tools/release/release.sh" --check > /dev/null; then
     # bin/units prefers the static program, which starts faster. Checks get the dynamic one, into which they load code.
     if [ -x "$root/release/units-x86_64-linux-static" ]; then
         record release/units-x86_64-linux-static

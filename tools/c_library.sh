@@ -1,11 +1,11 @@
 #!/usr/bin/env bash
-# Makes the C library from the proved crate units_c, which tools/c_archive.sh compiles: a static library, a shared
-# library, the header and a pkg-config file. The heap of the toolchain is merged in, so programs link with nothing but
-# the C library of the system.
+# Makes the C library from the proved crate units_c, which tools/release/c_archive.sh compiles: a static library, a
+# shared library, the header and a pkg-config file. The heap of the toolchain is merged in, so programs link with
+# nothing but the C library of the system.
 #   tools/c_library.sh FOLDER                 after bin/test
 #   tools/c_library.sh FOLDER --prefix PATH   with PATH in the pkg-config file, in place of FOLDER
 # FOLDER gets include/units.h and lib/{libunits.a,libunits.so,libunits.so.1,libunits.so.1.0.0,pkgconfig/units.pc}.
-# Needs gcc, binutils and the toolchain. The statuses are those of tools/c_archive.sh.
+# Needs gcc, binutils and the toolchain. The statuses are those of tools/release/c_archive.sh.
 set -eu
 script=$(readlink -f "${BASH_SOURCE[0]}")
 root=${script%/*/*}
@@ -25,7 +25,7 @@ case $# in
     *) usage ;;
 esac
 
-archive=$("$root/tools/c_archive.sh") || exit
+archive=$("$root/tools/release/c_archive.sh") || exit
 kit=$(readlink -f "$(command -v rt)")
 heap=${kit%/bin/rt}/c/liblibc_c.a
 

@@ -51,9 +51,9 @@ add_programs() {
     add 755 "$program" "$prefix/bin/$name"
     add_edited 755 "$root/bin/qunits" "$prefix/bin/qunits" "s/^name=units .*/name=$name/"
     add_all 644 "$prefix/share/qunits" "$root/share/qunits/functions.sh" "$root/share/qunits/first.units"
-    if [ -e "$root/tools/lint_units.py" ]; then
+    if [ -e "$root/tools/lint/lint_units.py" ]; then
         add_edited 755 "$root/bin/units-lint" "$prefix/bin/units-lint" "s/^name=units .*/name=$name/"
-        add_all 644 "$prefix/share/$name/lint" "$root"/tools/{lint_units,unit_answers,unit_files,unit_names}.py
+        add_all 644 "$prefix/share/$name/lint" "$root"/tools/lint/{lint_units,unit_answers,unit_files,unit_names}.py
     fi
 }
 
@@ -88,7 +88,7 @@ add_pages() {
     fi
     add_edited 644 "$man/units.1" "$prefix/share/man/man1/$name.1" "$edits"
     add_edited 644 "$man/qunits.1" "$prefix/share/man/man1/qunits.1" "$edits"
-    if [ -e "$root/tools/lint_units.py" ]; then
+    if [ -e "$root/tools/lint/lint_units.py" ]; then
         add_edited 644 "$man/units-lint.1" "$prefix/share/man/man1/units-lint.1" "$place_edits
             s#^\\.BR units \\(1\\)#.BR $(as_roff "$name") (1)#"
     fi
@@ -112,7 +112,7 @@ add_documents() {
 # add_completions: each file of completions is for all commands, under the name of each.
 add_completions() {
     local completions=$root/share/completions command edits="s/\\bunits qunits\\b/$name qunits/"
-    for command in "$name" qunits units-lint; do
+    for command in "$name" qunits units-lint ${units_why:+units-why}; do
         add_edited 644 "$completions/units.bash" "$prefix/share/bash-completion/completions/$command" "$edits"
         add_edited 644 "$completions/units.fish" "$(fish_folder)/$command.fish" "$edits"
     done

@@ -160,12 +160,13 @@ build_package() {
 # build_tarball: the layout of the repository without the sources: bin/units is the program itself.
 build_tarball() {
     local top=$work/$name-$version part
-    mkdir "$top" "$top/bin" "$top/tools"
+    mkdir "$top" "$top/bin" "$top/tools" "$top/tools/lint"
     install -m 755 "$program" "$top/bin/units"
-    for part in bin/qunits bin/units-lint tools/install.sh tools/import_gnu.sh tools/lint_units.py; do
+    for part in bin/qunits bin/units-lint tools/install.sh tools/import_gnu.sh tools/lint/lint_units.py; do
         install -m 755 "$root/$part" "$top/$part"
     done
-    install -m 644 "$root/tools/install_files.sh" "$root"/tools/unit_*.py "$top/tools"
+    install -m 644 "$root/tools/install_files.sh" "$top/tools"
+    install -m 644 "$root"/tools/lint/unit_*.py "$top/tools/lint"
     cp -R "$root/share" "$root/docs" "$root/examples" "$root/README.md" "$root/CHANGELOG.md" "$root/COPYING.md" "$top"
     if [ "$units_why" ]; then
         install -m 755 "$units_why" "$top/bin/units-why"
@@ -194,7 +195,7 @@ case ${1-} in
 esac
 if [ "$#" -gt 1 ]; then fail 'at most one folder is taken' 2; fi
 folder=${1:-$root/out}
-for file in COPYING.md CHANGELOG.md bin/qunits tools/lint_units.py; do
+for file in COPYING.md CHANGELOG.md bin/qunits tools/lint/lint_units.py; do
     if [ ! -e "$root/$file" ]; then fail "$file is missing"; fi
 done
 command -v dpkg-deb > /dev/null || fail 'dpkg-deb is not on the path'
@@ -206,7 +207,8 @@ if ! [[ $version =~ ^[0-9]+\.[0-9]+\.[0-9]+$ ]]; then fail "the .TH line of unit
 epoch=${SOURCE_DATE_EPOCH:-$(date -d "$(heading_field 1)" +%s)}
 program=$root/release/units-x86_64-linux
 units_why=$("$root/tools/built.sh" units_why 2> /dev/null) || units_why=
-"$root/tools/release.sh" --check >&2 || fail 'a package has the released program: make a release of these sources first'
+"$root/tools/release/release.sh" --check >&2 \
+    || fail 'a package has the released program: make a release of these sources first'
 
 work=$(mktemp -d)
 trap 'rm -rf "$work"' EXIT

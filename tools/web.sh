@@ -1,6 +1,6 @@
 #!/usr/bin/env bash
 # The page in a browser, as one file: the program compiled to WebAssembly, with web/ and share/units.
-#   tools/web.sh             after bin/test and tools/release.sh: makes release/units.html and its lines in
+#   tools/web.sh             after bin/test and tools/release/release.sh: makes release/units.html and its lines in
 #                            release/MADE_FROM. It makes everything twice and compares. web/out has the modules
 #   tools/web.sh --page TO   makes the page of the present web/ and share/units as the file TO, with the module that
 #                            is in release/units.html; this needs no toolchain
@@ -56,7 +56,7 @@ make() {
     command -v rt > /dev/null || give_up 'there is no command rt (see CONTRIBUTING.md)'
     command -v wasm-opt > /dev/null || give_up 'there is no command wasm-opt: tools/packages.sh installs binaryen'
     [ "$(sum_of "$root/crates/units/out/units" 2> /dev/null)" = "$(named program)" ] \
-        || give_up 'the built program is not the released one: run bin/test and tools/release.sh first'
+        || give_up 'the built program is not the released one: run bin/test and tools/release/release.sh first'
     KIT=$(dirname "$(dirname "$(readlink -f "$(command -v rt)")")")
     export KIT
     rm -rf "$out"

@@ -1,7 +1,7 @@
 // heap_test SEED ROUNDS: makes, grows, shrinks and frees blocks at random through the heap of the static program, and
 // refuses some of what that asks of the system. Each block keeps its bytes and overlaps no other, and a refusal changes
-// nothing. The heap takes at most three times what was in use at the most, however long it runs. Linked with
-// --wrap=mmap,--wrap=munmap,--wrap=mremap.
+// nothing. The heap takes at most three times what was in use at the most, however long it runs, and asks for one huge
+// page. Linked with --wrap=mmap,--wrap=munmap,--wrap=mremap,--wrap=madvise.
 #define _GNU_SOURCE
 #include <assert.h>
 #include <stdbool.h>
@@ -31,7 +31,7 @@ struct owned {
 static struct owned owned[BLOCKS];
 static uint64_t state;
 static bool refusing;
-static size_t refused, mapped;
+static size_t refused, mapped, huge_pages;
 
 static uint64_t random_below(uint64_t bound) {
     state = state * 6364136223846793005u + 1442695040888963407u;
@@ -63,6 +63,16 @@ void *__wrap_mremap(void *at, size_t before, size_t size, int flags) {
 int __wrap_munmap(void *at, size_t size) {
     mapped -= size;
     return __real_munmap(at, size);
+}
+
+int __real_madvise(void *at, size_t size, int advice);
+
+int __wrap_madvise(void *at, size_t size, int advice) {
+    if (advice == MADV_HUGEPAGE) {
+        huge_pages += 1;
+        assert((uintptr_t)at % size == 0);
+    }
+    return is_refused() ? -1 : __real_madvise(at, size, advice);
 }
 
 // Sizes as a program has them: mostly a few bytes, now and then vectors up to some 300 kB.
@@ -119,6 +129,6 @@ int main(int count, char **words) {
         if (mapped > most_mapped) most_mapped = mapped;
     }
     printf("%zu bytes in use, %zu taken from the system, %zu requests refused\n", most, most_mapped, refused);
-    assert(refused > 0 && most_mapped < 3 * most);
+    assert(refused > 0 && most_mapped < 3 * most && huge_pages == 1);
     return 0;
 }

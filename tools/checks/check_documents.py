@@ -1,0 +1,151 @@
+#!/usr/bin/env python3
+"""Compares the documents with the repository.
+
+    tools/checks/check_documents.py
+
+- The diagram and the list of docs/ARCHITECTURE.md name each product crate of crates.txt exactly once, under the
+  heading of its section, and no crate uses one on its own row or a higher one.
+- The version in CHANGELOG.md, the manual pages and release/MADE_FROM is the same.
+- Each relative link in a document leads to a file.
+- Documents with a limit keep to it.
+
+Each shortcoming is printed; the last line is `N passed, M failed`.
+"""
+
+from __future__ import annotations
+
+import re
+import subprocess
+import sys
+from pathlib import Path
+
+ROOT = Path(__file__).resolve().parents[2]
+ARCHITECTURE = ROOT / "docs/ARCHITECTURE.md"
+TEST_PROGRAMS = "test programs"
+LIMITS = {
+    "README.md": 6 * 1024,
+    "CONTRIBUTING.md": 6 * 1024,
+    "docs/ARCHITECTURE.md": 7 * 1024,
+    "docs/DECISIONS.md": 11 * 1024,
+    "docs/PROVED.md": 9 * 1024,
+    "docs/STYLE.md": 5 * 1024,
+}
+LINK = re.compile(r"\[[^\]]*\]\(([^)#:\s]+)(?:#[^)]*)?\)")
+
+
+def sections() -> dict[str, dict[str, list[str]]]:
+    """The crates of crates.txt by heading, each with what it uses."""
+    found: dict[str, dict[str, list[str]]] = {}
+    heading = ""
+    for line in (ROOT / "crates.txt").read_text().splitlines():
+        if line.startswith("# "):
+            heading = line[2:]
+        elif ":" in line:
+            head, uses = line.split(":", 1)
+            found.setdefault(heading, {})[head.split()[0]] = uses.split()
+    return found
+
+
+def product(found: dict[str, dict[str, list[str]]]) -> dict[str, list[str]]:
+    """The crates that are part of the product, each with the crates of the repository that it uses."""
+    parts = [crates for heading, crates in found.items() if not heading.startswith(TEST_PROGRAMS)]
+    crates = {name: uses for part in parts for name, uses in part.items()}
+    return {name: [use for use in uses if use in crates] for name, uses in crates.items()}
+
+
+def diagram_rows(text: str) -> list[tuple[str, list[str]]]:
+    """The rows of the diagram, each with its heading, the highest first."""
+    rows, heading = [], ""
+    block = re.search(r"^```\n(.*?)^```", text, re.DOTALL | re.MULTILINE)
+    for line in block.group(1).splitlines() if block else []:
+        label, names = re.fullmatch(r"(\S.*?\S(?=   )|)\s*(.*)", line).groups()
+        heading = label or heading
+        rows.append((heading, names.split()))
+    return rows
+
+
+def check_diagram(text: str) -> list[str]:
+    found = sections()
+    crates, faults = product(found), []
+    rows = diagram_rows(text)
+    row_of: dict[str, int] = {}
+    for place, (heading, names) in enumerate(rows):
+        for name in names:
+            if name not in crates:
+                faults.append(f"the diagram has {name}, which is no product crate")
+            elif name in row_of:
+                faults.append(f"the diagram has {name} twice")
+            elif name not in found.get(heading, {}):
+                faults.append(f"the diagram has {name} under '{heading}', crates.txt does not")
+            row_of[name] = place
+    faults += [f"the diagram lacks {name}" for name in crates if name not in row_of]
+    faults += [
+        f"{name} uses {use}, which is not on a lower row"
+        for name, uses in crates.items()
+        for use in uses
+        if name in row_of and row_of.get(use, len(rows)) <= row_of[name]
+    ]
+    return faults
+
+
+def check_list(text: str) -> list[str]:
+    names = re.findall(r"^- `(\w+)`: ", text, re.MULTILINE)
+    crates = product(sections())
+    faults = [f"the list of crates lacks {name}" for name in crates if name not in names]
+    return faults + [f"the list of crates has {name} where it does not belong" for name in names if names.count(name) > 1 or name not in crates]
+
+
+def version_in(path: str, pattern: str) -> str | None:
+    file = ROOT / path
+    match = re.search(pattern, file.read_text(), re.MULTILINE) if file.exists() else None
+    return match.group(1) if match else None
+
+
+def check_versions() -> list[str]:
+    version = version_in("CHANGELOG.md", r"^## \[?(\d+\.\d+\.\d+)")
+    places = {"release/MADE_FROM": r"^version (\S+)$"}
+    for page in sorted((ROOT / "share/man/man1").glob("*.1")):
+        places[str(page.relative_to(ROOT))] = r'^\.TH \S+ \S+ "?\S+?"? "?\S+ (\d+\.\d+\.\d+)"?'
+    found = {path: version_in(path, pattern) for path, pattern in places.items()}
+    found = {path: other for path, other in found.items() if other is None or other != version}
+    faults = [f"{path} has the version {other}, CHANGELOG.md has {version}" for path, other in found.items()]
+    return faults if version else ["CHANGELOG.md has no version"]
+
+
+def documents() -> list[Path]:
+    listed = subprocess.run(
+        ["git", "-C", ROOT, "ls-files", "--cached", "--others", "--exclude-standard", "*.md"],
+        stdout=subprocess.PIPE,
+        check=True,
+    )
+    files = [ROOT / name for name in listed.stdout.decode().splitlines() if not name.startswith("wip/")]
+    return [file for file in files if file.exists()]
+
+
+def check_links() -> list[str]:
+    return [
+        f"{file.relative_to(ROOT)}: {target} does not exist"
+        for file in documents()
+        for target in LINK.findall(file.read_text())
+        if not (file.parent / target).exists()
+    ]
+
+
+def check_sizes() -> list[str]:
+    sizes = {path: (ROOT / path).stat().st_size for path in LIMITS if (ROOT / path).exists()}
+    return [f"{path} has {size} bytes, more than {LIMITS[path]}" for path, size in sizes.items() if size > LIMITS[path]]
+
+
+def main() -> int:
+    text = ARCHITECTURE.read_text()
+    results = [check_diagram(text), check_list(text), check_versions(), check_links(), check_sizes()]
+    for faults in results:
+        for fault in faults:
+            print(f"check_documents: {fault}")
+    failed = sum(1 for faults in results if faults)
+    print(f"{len(results) - failed} passed, {failed} failed")
+    return 1 if failed else 0
+
+
+if __name__ == "__main__":
+    sys.exit(main())

@@ -1,0 +1,250 @@
+#!/usr/bin/env python3
+"""Checks tools/units_lsp.py: by the protocol itself, in Neovim and in Emacs's eglot, both without a screen.
+
+    tools/checks/check_lsp.py [--program UNITS_WHY]
+
+An editor that is not installed is named and counted as skipped, and so is everything if no program is given and none
+is built. The last line is `N passed, M failed, K skipped`.
+"""
+
+from __future__ import annotations
+
+import argparse
+import json
+import shutil
+import subprocess
+import sys
+import tempfile
+import time
+from dataclasses import dataclass
+from pathlib import Path
+
+sys.path.insert(0, str(Path(__file__).resolve().parents[1]))
+from built import find_program  # noqa: E402
+
+ROOT = Path(__file__).resolve().parents[2]
+SERVER = ROOT / "tools/units_lsp.py"
+NEOVIM = ROOT / "tests/editors/units.lua"
+EMACS = ROOT / "tests/editors/units-eglot.el"
+SECONDS = 60
+FILES = {
+    "all.units": "!include base.units\n!include shop.units\n",
+    "base.units": "m !\nkg !\nmilli- 1e-3\nin 25.4 millim # an inch\n",
+    "shop.units": "board 12 in\n  shelf 3 missing\nheavy 2 m + kg\nµboard 2 boards\nrod 5 m #: kg\nmilliin 3 m\n"
+    "dozen 12\n",
+}
+LONG_FILE_LINES = 20000
+
+
+@dataclass
+class Results:
+    passed: int = 0
+    failed: int = 0
+    skipped: int = 0
+
+    def check(self, holds: bool, message: str) -> None:
+        if holds:
+            self.passed += 1
+        else:
+            self.failed += 1
+            print(message)
+
+    def skip(self, message: str) -> None:
+        self.skipped += 1
+        print(f"skipped: {message}")
+
+
+class Client:
+    """A client of a server that it starts."""
+
+    def __init__(self, program: str):
+        command = [sys.executable, "-B", str(SERVER), "--program", program]
+        self.server = subprocess.Popen(command, stdin=subprocess.PIPE, stdout=subprocess.PIPE)
+        self.last = 0
+
+    def send(self, message: dict) -> None:
+        body = json.dumps({"jsonrpc": "2.0", **message}).encode()
+        self.server.stdin.write(b"Content-Length: %d\r\n\r\n" % len(body) + body)
+        self.server.stdin.flush()
+
+    def receive(self) -> dict:
+        length = 0
+        while (header := self.server.stdout.readline()) not in (b"\r\n", b""):
+            length = int(header.split(b":")[1])
+        return json.loads(self.server.stdout.read(length))
+
+    def ask(self, method: str, params: dict) -> dict:
+        """The response to a request. Notifications before it are passed over."""
+        self.last += 1
+        self.send({"id": self.last, "method": method, "params": params})
+        while (message := self.receive()).get("id") != self.last:
+            pass
+        return message
+
+    def tell(self, method: str, params: dict) -> None:
+        self.send({"method": method, "params": params})
+
+    def diagnostics(self, path: Path) -> list[dict]:
+        """The next diagnostics of a file."""
+        while (message := self.receive()).get("params", {}).get("uri") != path.as_uri():
+            pass
+        return message["params"]["diagnostics"]
+
+    def open(self, path: Path) -> list[dict]:
+        document = {"uri": path.as_uri(), "languageId": "units", "version": 1, "text": path.read_text()}
+        self.tell("textDocument/didOpen", {"textDocument": document})
+        return self.diagnostics(path)
+
+    def change(self, path: Path, text: str) -> list[dict]:
+        document = {"uri": path.as_uri(), "version": 2}
+        self.tell("textDocument/didChange", {"textDocument": document, "contentChanges": [{"text": text}]})
+        return self.diagnostics(path)
+
+    def at(self, method: str, path: Path, line: int, character: int):
+        position = {"line": line, "character": character}
+        return self.ask(method, {"textDocument": {"uri": path.as_uri()}, "position": position})["result"]
+
+    def end(self) -> int:
+        self.ask("shutdown", {})
+        self.tell("exit", {})
+        return self.server.wait(SECONDS)
+
+
+def place(diagnostic: dict) -> tuple[int, int, int]:
+    start, end = diagnostic["range"]["start"], diagnostic["range"]["end"]
+    return start["line"], start["character"], end["character"]
+
+
+def check_protocol(program: str, folder: Path, results: Results) -> None:
+    client = Client(program)
+    shop = folder / "shop.units"
+    answer = client.ask("initialize", {"rootUri": folder.as_uri()})["result"]["capabilities"]
+    results.check(answer["hoverProvider"] and answer["definitionProvider"], "capabilities are missing")
+    client.tell("initialized", {})
+    found = {place(each): (each["severity"], each["message"]) for each in client.open(shop)}
+    wanted = {
+        (1, 10, 17): (1, "shelf: unknown unit: missing in shelf"),
+        (2, 0, 5): (1, "heavy: sum of unlike units: 2 m and 1 kg"),
+        (4, 0, 3): (2, "rod: 5 m does not conform to kg"),
+        (5, 0, 7): (3, "milliin: hides milli in = 2.54e-05 m"),
+    }
+    results.check(found == wanted, f"diagnostics are {found}")
+    lines = shop.read_text().split("\n")
+    lines[1] = "shelf 3 in"
+    found = [each["message"] for each in client.change(shop, "\n".join(lines))]
+    results.check(len(found) == 3 and "shelf" not in "".join(found), f"diagnostics of a change are {found}")
+    results.check("missing" in shop.read_text(), "the file was changed on the disk")
+    where = client.at("textDocument/definition", shop, 0, 9)
+    results.check(
+        [each["uri"] for each in where] == [(folder / "base.units").as_uri()]
+        and where[0]["range"]["start"] == {"line": 3, "character": 0}
+        and where[0]["range"]["end"] == {"line": 3, "character": 2},
+        f"the definition of in is {where}",
+    )
+    where = client.at("textDocument/definition", shop, 3, 10)
+    results.check([each["range"]["start"]["line"] for each in where] == [0], f"the definition of boards is {where}")
+    hover = client.at("textDocument/hover", shop, 3, 10)
+    wanted_text = "board: plural, 12 in = 0.3048 m (shop.units:1)\nDefinition: 0.3048 m"
+    results.check(hover["contents"]["value"] == wanted_text, f"the hover is {hover}")
+    results.check(client.at("textDocument/hover", shop, 0, 6) is None, "a number has a hover")
+    symbols = client.ask("textDocument/documentSymbol", {"textDocument": {"uri": shop.as_uri()}})["result"]
+    names = [symbol["name"] for symbol in symbols]
+    results.check(names == ["board", "shelf", "heavy", "µboard", "rod", "milliin", "dozen"], f"symbols are {names}")
+    results.check("error" in client.ask("units/unknown", {}), "an unknown method has a result")
+    results.check(client.end() == 0, "the server does not end")
+    check_asked_findings(program, shop, results)
+
+
+def check_asked_findings(program: str, shop: Path, results: Results) -> None:
+    """The initialization option `findings` takes the place of `--captures`."""
+    for words, wanted in (([], 3), (["--unused"], 4)):
+        client = Client(program)
+        client.ask("initialize", {"initializationOptions": {"findings": words}})
+        found = [each["message"] for each in client.open(shop)]
+        results.check(len(found) == wanted, f"with the findings {words} the diagnostics are {found}")
+        client.end()
+
+
+def check_time(program: str, folder: Path, results: Results) -> None:
+    """Diagnostics of a long file take at most twice the time of the linter. The best of three is compared."""
+    path = folder / "long.units"
+    letters = str.maketrans("0123456789", "abcdefghij")
+    names = [f"n{str(i).translate(letters)}z" for i in range(LONG_FILE_LINES)]
+    path.write_text("m !\n" + "".join(f"{name} {i} m\n" for i, name in enumerate(names, 1)) + "last 2 gone\n")
+    client = Client(program)
+    client.ask("initialize", {})
+    client.open(path)
+    served, linted = [], []
+    for _ in range(3):
+        start = time.monotonic()
+        client.change(path, path.read_text())
+        served.append(time.monotonic() - start)
+        start = time.monotonic()
+        command = [program, "--lint", "--json", "-f", str(path)]
+        subprocess.run(command, stdin=subprocess.DEVNULL, stdout=subprocess.DEVNULL, check=False)
+        linted.append(time.monotonic() - start)
+    client.end()
+    ratio = min(served) / min(linted)
+    print(f"diagnostics of {LONG_FILE_LINES} lines: {min(served):.3f} s, the linter {min(linted):.3f} s: {ratio:.2f}")
+    results.check(ratio <= 2, "diagnostics take more than twice the time of the linter")
+
+
+def check_editor(command: list[str], name: str, results: Results) -> None:
+    """An editor runs its script, which prints a line for each thing that holds and one `failed: ..` for each other."""
+    done = subprocess.run(
+        command, stdin=subprocess.DEVNULL, stdout=subprocess.PIPE, stderr=subprocess.STDOUT,
+        timeout=SECONDS, check=False,
+    )
+    lines = [line.strip() for line in done.stdout.decode(errors="replace").splitlines()]
+    held = [line for line in lines if line.startswith("holds: ")]
+    for line in held:
+        results.check(True, line)
+    for line in lines:
+        if line.startswith("failed: "):
+            results.check(False, f"{name}: {line}")
+    results.check(len(held) == 5, f"{name}: {len(held)} of 5 things hold:\n" + "\n".join(lines[-20:]))
+
+
+def has_eglot() -> bool:
+    """Whether Emacs is installed and finds eglot, which is a package of its own before Emacs 29."""
+    if not shutil.which("emacs"):
+        return False
+    command = ["emacs", "--batch", "--eval", '(kill-emacs (if (locate-library "eglot") 0 1))']
+    return subprocess.run(command, stdin=subprocess.DEVNULL, stderr=subprocess.DEVNULL, check=False).returncode == 0
+
+
+def check_editors(program: str, folder: Path, results: Results) -> None:
+    words = [sys.executable, str(SERVER), program, str(folder / "shop.units")]
+    environment = ["env", "UNITS_LSP=" + "|".join(words)]
+    if shutil.which("nvim"):
+        command = ["nvim", "--headless", "--clean", "-c", f"luafile {NEOVIM}", "-c", "qa!"]
+        check_editor([*environment, *command], "Neovim", results)
+    else:
+        results.skip("nvim is not installed (package neovim)")
+    if has_eglot():
+        check_editor([*environment, "emacs", "--batch", "-Q", "-l", str(EMACS)], "Emacs", results)
+    else:
+        results.skip("Emacs with eglot is not installed (packages emacs-nox and elpa-eglot)")
+
+
+def main() -> int:
+    parser = argparse.ArgumentParser(description="Checks the language server.")
+    parser.add_argument("--program", help="the program units-why; otherwise the one that is built")
+    program = parser.parse_args().program or find_program("units_why")
+    results = Results()
+    if program:
+        with tempfile.TemporaryDirectory() as name:
+            folder = Path(name).resolve()
+            for file, text in FILES.items():
+                (folder / file).write_text(text)
+            check_protocol(program, folder, results)
+            check_time(program, folder, results)
+            check_editors(program, folder, results)
+    else:
+        results.skip("units-why is not built")
+    print(f"{results.passed} passed, {results.failed} failed, {results.skipped} skipped")
+    return 1 if results.failed else 0
+
+
+if __name__ == "__main__":
+    sys.exit(main())

@@ -1,0 +1,114 @@
+#!/usr/bin/env bash
+# Runs the recipes of docs/COLUMNS.md and the examples of README.md as transcripts (see tools/checks/transcripts.py).
+#
+#     tools/checks/check_recipes.sh
+#
+# A block of the page that begins with ```console NAME.. needs these programs. If one is absent, the block is left out,
+# and its cases are counted as skipped. For `ssh` a server is started on the loopback address, with keys and a
+# configuration of its own, and the names `one` and `two` lead to it. The last line is `N passed, M failed, K skipped`.
+set -u
+script=$(readlink -f "${BASH_SOURCE[0]}") || exit
+root=${script%/*/*/*}
+folder=$(mktemp -d) || exit
+server=
+# shellcheck disable=SC2317 # called by the trap
+cleanup() {
+    if [ "$server" ]; then kill "$server" 2> /dev/null; fi
+    rm -rf "$folder"
+}
+trap cleanup EXIT
+mkdir "$folder/programs" || exit
+skipped=0
+
+# free_port: prints a port of the loopback address that nothing listens on.
+free_port() { python3 -c 'import socket; s = socket.socket(); s.bind(("127.0.0.1", 0)); print(s.getsockname()[1])'; }
+
+# write_ssh_files PORT: keys and configurations of a server and its client, and a command `ssh` that uses them.
+write_ssh_files() {
+    ssh-keygen -q -t ed25519 -N '' -f "$folder/host_key" && ssh-keygen -q -t ed25519 -N '' -f "$folder/key" || return
+    cat > "$folder/server.conf" <<- END
+		ListenAddress 127.0.0.1:$1
+		HostKey $folder/host_key
+		AuthorizedKeysFile $folder/key.pub
+		PidFile none
+		StrictModes no
+		UsePAM no
+		PermitRootLogin yes
+		PasswordAuthentication no
+		MaxStartups 100
+		SetEnv PATH=$folder/programs:$PATH
+	END
+    cat > "$folder/client.conf" <<- END
+		Host one two
+		    HostName 127.0.0.1
+		    Port $1
+		    IdentityFile $folder/key
+		    StrictHostKeyChecking no
+		    UserKnownHostsFile /dev/null
+		    LogLevel ERROR
+	END
+    printf '#!/bin/sh\nexec %s -F %s "$@"\n' "$(command -v ssh)" "$folder/client.conf" > "$folder/ssh"
+    chmod 755 "$folder/ssh"
+    chmod 711 "$folder"
+}
+
+# start_server: an ssh server that answers to the names one and two, with `units` on its path.
+start_server() {
+    local daemon port program
+    daemon=$(PATH=$PATH:/usr/sbin:/sbin command -v sshd) && command -v ssh ssh-keygen python3 > /dev/null || return
+    program=$("$root/tools/built.sh" units) && ln -sf "$program" "$folder/programs/units" || return
+    port=$(free_port) && write_ssh_files "$port" || return
+    if [ "$(id -u)" = 0 ]; then mkdir -p /run/sshd; fi
+    "$daemon" -D -e -f "$folder/server.conf" < /dev/null 2> "$folder/server.log" &
+    server=$!
+    for _ in {1..50}; do
+        if "$folder/ssh" one true < /dev/null 2> /dev/null; then
+            ln -s "$folder/ssh" "$folder/programs/ssh"
+            return
+        fi
+        sleep 0.1
+    done
+    echo 'check_recipes: the ssh server does not answer:' >&2
+    tail -n 3 "$folder/server.log" >&2
+    return 1
+}
+
+# is_usable NAME: whether a program that a block needs is here.
+is_usable() {
+    if [ "$1" = ssh ]; then
+        [ -e "$folder/programs/ssh" ] || start_server
+    else
+        command -v "$1" > /dev/null
+    fi
+}
+
+# usable_part PAGE: prints the page without the blocks that need an absent program.
+usable_part() {
+    local line name left_out=
+    while IFS= read -r line; do
+        if [[ $line = '```console'* ]]; then
+            left_out=
+            for name in ${line#'```console'}; do
+                if ! is_usable "$name"; then left_out=$name; fi
+            done
+        elif [[ $line = '```' ]]; then
+            left_out=
+        elif [[ $left_out && $line = '  $ '* ]]; then
+            echo "check_recipes: skipped without $left_out: ${line#'  $ '}" >&2
+            echo skipped >> "$folder/skipped"
+        fi
+        if ! [[ $left_out && $line = '  '* ]]; then printf '%s\n' "$line"; fi
+    done < "$1"
+}
+
+pages=()
+for page in docs/COLUMNS.md README.md; do
+    usable_part "$root/$page" > "$folder/${page##*/}"
+    if grep -q '^  \$ ' "$folder/${page##*/}"; then pages+=("$folder/${page##*/}"); fi
+done
+if [ -e "$folder/skipped" ]; then skipped=$(wc -l < "$folder/skipped"); fi
+PATH=$folder/programs:$PATH "$root/tools/checks/transcripts.py" "${pages[@]}" > "$folder/log"
+sed '$d' "$folder/log"
+read -r passed _ failed _ more _ < <(tail -n 1 "$folder/log" | tr -d ,)
+echo "$passed passed, $failed failed, $((skipped + more)) skipped"
+[ "$failed" = 0 ]

@@ -1,0 +1,190 @@
+#!/usr/bin/env bash
+# Tests the released static program, which is linked from the same object as the dynamic one: the transcripts and the
+# statuses in a root folder that has musl and busybox in place of this system's libraries, or directly if there can be
+# no such folder; what it does when the system refuses memory; and what tools/release/static adds to it.
+#   tools/checks/check_static.sh [PROGRAM [OBJECT]]    tests this static program, and its object, in place of the
+#                                                      released one
+# Each allocation is refused in turn if the object is there, as bin/test leaves it unless rt kept the program of an
+# earlier run. The last line is `N passed, M failed, K skipped`.
+# shellcheck disable=SC2317 # functions are called by expect
+set -u
+script=$(readlink -f "${BASH_SOURCE[0]}") || exit
+root=${script%/*/*/*}
+static=$root/release/units-x86_64-linux-static
+object=$root/crates/units/out/units.o
+passed=0 failed=0 skipped=0
+
+# end: prints the last line.
+end() {
+    echo "$passed passed, $failed failed, $skipped skipped"
+    [ "$failed" -eq 0 ]
+    exit
+}
+
+skip() { echo "check_static: skipped: $1"; skipped=$((skipped + 1)); }
+
+# expect NAME COMMAND WORD..: one case, which passes if the command does. Shows what the command wrote if it does not.
+expect() {
+    local name=$1
+    shift
+    if "$@" > "$folder/output" 2>&1 < /dev/null; then
+        passed=$((passed + 1))
+    else
+        failed=$((failed + 1))
+        echo "check_static: $name failed:"
+        cat "$folder/output"
+    fi
+}
+
+has() { command -v "$1" > /dev/null; }
+
+# add_last_line: adds the counts that a check reports in its last line. Shows the rest if something failed.
+add_last_line() {
+    local counts ran broke left
+    counts=$(tail -n 1 "$folder/output" \
+        | sed -nE 's/^([0-9]+) passed, ([0-9]+) failed(, ([0-9]+) skipped)?$/\1 \2 \4/p')
+    read -r ran broke left <<< "${counts:-0 1}"
+    if [ "$broke" -ne 0 ]; then cat "$folder/output"; fi
+    passed=$((passed + ran)) failed=$((failed + broke)) skipped=$((skipped + ${left:-0}))
+}
+
+# check_with PROGRAM CHECK [COMMAND..]: runs a check of tools/checks over this program, by the command if one is given.
+check_with() {
+    local program=$1 check=$2
+    shift 2
+    printf '#!/bin/sh\n[ "%s" = units ] || exit 126\necho %q\n' "\$1" "$program" > "$folder/checks/tools/built.sh"
+    "$@" "$folder/checks/tools/checks/$check" > "$folder/output" 2>&1 < /dev/null
+    add_last_line
+}
+
+# A copy of the checks, in which tools/built.sh names the program that is to be tested.
+copy_checks() {
+    mkdir "$folder/checks"
+    for file in "$root"/*; do ln -s "$file" "$folder/checks/"; done
+    rm "$folder/checks/tools" "$folder/checks/tests"
+    cp -r "$root/tools" "$root/tests" "$folder/checks"
+}
+
+check_parts() {
+    if ! has gcc; then skip 'the tests of tools/release/static, which need gcc'; return; fi
+    local wrap=-Wl,--wrap=mmap,--wrap=munmap,--wrap=mremap,--wrap=madvise
+    local test=$root/tests/static parts=$root/tools/release/static
+    gcc -g -O1 -fsanitize=address,undefined "$wrap" -o "$folder/heap" "$test/heap_test.c" "$parts/heap.c" \
+        && expect 'the heap' "$folder/heap" "$RANDOM" 200000
+    gcc -O2 -fno-builtin -fno-tree-loop-distribute-patterns -Dmemcpy=static_memcpy -Dmemmove=static_memmove \
+        -Dmemset=static_memset -D__wrap_main=words_main -D__real_main=main -c "$parts/musl.c" -o "$folder/musl.o" \
+        && gcc -O1 -o "$folder/copies" "$test/copies_test.c" "$folder/musl.o" && expect 'the copies' "$folder/copies"
+}
+
+# refuse_mappings FILE TO: refuses each request for memory that a conversion over the file makes, alone and with all
+# later ones. Each such run ends with status 6 and has written nothing to standard output.
+refuse_mappings() {
+    local definitions=$1 to=$2 count at later status
+    strace -e trace=mmap,mremap,brk -o "$folder/calls" "$static" -f "$definitions" m "$to" > /dev/null 2>&1
+    count=$(grep -c '^m' "$folder/calls")
+    [ "$count" -gt 0 ] && ! grep -q '^brk' "$folder/calls" || return 1
+    for ((at = 1; at <= count; at++)); do
+        for later in '' +; do
+            strace -e trace=mmap,mremap -e inject=mmap,mremap:error=ENOMEM:when="$at$later" -o "$folder/calls" \
+                "$static" -f "$definitions" m "$to" > "$folder/out" 2> /dev/null
+            status=$?
+            if [ "$status" -ne 6 ] || [ -s "$folder/out" ]; then
+                echo "with request $at$later of $count refused: status $status, and it wrote:"
+                cat "$folder/out"
+                return 1
+            fi
+        done
+    done
+}
+
+check_refusals() {
+    if has strace; then
+        expect 'a refused mapping, the built-in definitions' refuse_mappings "$root/share/units/built_in.units" ft
+        expect 'a refused mapping, the library' refuse_mappings "$root/share/units/standard.units" ft
+    else
+        skip 'refused mappings, which need strace'
+    fi
+    if ! [ -e "$object" ]; then
+        skip 'each allocation refused in turn: there is no object here; check_memory.sh tries the dynamic program'
+    elif "$root/tools/release/static.sh" --refusing "$object" "$folder/refusing"; then
+        check_with "$folder/refusing" check_memory.sh
+    else
+        skip 'each allocation refused in turn: the program cannot be linked here'
+    fi
+}
+
+# fill_root: a root folder with another C library, a shell and the program.
+fill_root() {
+    local at=$folder/root
+    mkdir -p "$at"/{bin,lib,dev,proc,tmp} "$at$root"
+    cp /lib/ld-musl-x86_64.so.1 "$at/lib/"
+    cp /bin/busybox "$static" "$at/bin/"
+    mv "$at/bin/${static##*/}" "$at/bin/units"
+    gcc -O1 -static -DROOT="\"$at\"" -o "$folder/in_root" "$root/tests/static/other_root.c"
+}
+
+# in_other_root COMMAND..: runs it where the root folder has the folders of the tests, too.
+in_other_root() {
+    local as_root=()
+    if [ "$(id -u)" != 0 ]; then as_root=(--map-root-user); fi
+    # shellcheck disable=SC2016 # expanded by the inner shell
+    unshare "${as_root[@]}" --mount bash -c '
+        at=$1
+        shift
+        for one in /dev /proc /tmp "$1"; do mount --rbind "$one" "$at$one" || exit 125; done
+        shift
+        OTHER_ROOT=$at "$@"' bash "$folder/root" "$root" "$@"
+}
+
+# Whether there is such a root folder and programs can run in it; says why not.
+has_other_root() {
+    if ! [ -e /lib/ld-musl-x86_64.so.1 ] || ! [ -x /bin/busybox ] || ! has gcc || ! fill_root; then
+        skip 'a root folder with another C library, which needs musl, busybox-static and gcc'
+    elif ! in_other_root true 2> /dev/null; then
+        skip 'a root folder with another C library, which needs unshare and mount'
+    else
+        return 0
+    fi
+    return 1
+}
+
+# Whether the C library of the root folder is musl and no other is there.
+is_of_musl() {
+    in_other_root chroot "$folder/root" /lib/ld-musl-x86_64.so.1 2>&1 | grep -q '^musl libc' \
+        && [ -z "$(find "$folder/root/lib" -name 'libc.so*' -o -name 'ld-linux*')" ]
+}
+
+# A script of that root runs the program.
+runs_in_script() {
+    # shellcheck disable=SC2016 # expanded by the inner shell
+    in_other_root chroot "$folder/root" /bin/busybox sh -c \
+        '[ "$(/bin/units --exact "10 m" cm | /bin/busybox head -n 1)" = "	* 1000" ]'
+}
+
+check_runs() {
+    if has_other_root; then
+        expect 'musl in the root folder' is_of_musl
+        expect 'a script in the root folder' runs_in_script
+        check_with "$folder/in_root" transcripts.py in_other_root
+        check_with "$folder/in_root" check_statuses.sh in_other_root
+    else
+        check_with "$static" transcripts.py
+        check_with "$static" check_statuses.sh
+    fi
+}
+
+sum_of() { sha256sum < "$1" | cut -d ' ' -f 1; }
+
+if [ $# -gt 0 ]; then
+    static=$(readlink -f "$1") object=$(readlink -f "${2-/nonexistent}")
+elif ! [ -x "$static" ] || [ "$(sum_of "$static")" != "$(sed -n 's/^static //p' "$root/release/MADE_FROM")" ]; then
+    skip 'there is no static program of this release: run tools/release/release.sh after bin/test'
+    end
+fi
+folder=$(mktemp -d) || exit
+trap 'rm -rf "$folder"' EXIT
+copy_checks
+check_parts
+check_refusals
+check_runs
+end

@@ -1,0 +1,172 @@
+#!/usr/bin/env bash
+# Tries the built program from outside: each ending that words, files and sinks can make, by its status and by what it
+# writes to each stream. The last line is `N passed, M failed`, with `, K skipped` if some were. Want of memory is tried
+# by tools/checks/check_memory.sh.
+set -u
+script=$(readlink -f "${BASH_SOURCE[0]}") || exit
+root=${script%/*/*/*}
+if ! program=$("$root/tools/built.sh" units); then
+    echo "0 passed, 1 failed"
+    exit 1
+fi
+
+folder=$(mktemp -d)
+trap 'rm -rf "$folder"' EXIT
+cd "$folder" || exit 1
+cp "$root/examples/first.units" first.units
+truncate --size 16777217 long.units
+yes 'm !' | head -n 100001 > full.units
+printf 'm !\n!endvar\n' > notices.units
+printf 'm !\n!include .\n' > includes.units
+passed=0 failed=0 skipped=0
+
+units() { "$program" "$@"; }
+
+# expect STATUS OUT ERR COMMAND: a shell command over the program ends so and writes so.
+expect() {
+    local status=$1 out=$2 err=$3 got
+    (eval "$4") > out.txt 2> err.txt < /dev/null
+    got=$?
+    if [ "$got" = "$status" ] && [ "$(cat out.txt; echo x)" = "$out"x ] && [ "$(cat err.txt; echo x)" = "$err"x ]; then
+        passed=$((passed + 1))
+    else
+        failed=$((failed + 1))
+        echo "check_statuses: $4 ended with $got in place of $status, and wrote:"
+        cat out.txt err.txt
+    fi
+}
+
+# hear TEXT: the session writes this next.
+hear() {
+    local heard
+    if [ -z "$1" ]; then return; fi
+    IFS= read -r -t 5 -N ${#1} heard <&"${COPROC[0]}" && [ "$heard" = "$1" ]
+}
+
+# talk [-q] TEXT LINE ..: a session over a pipe that gets each line when the text before it has come.
+talk() {
+    local options=(-1 -f first.units) pid
+    if [ "$1" = -q ]; then options+=("$1"); shift; fi
+    coproc units "${options[@]}"
+    pid=$COPROC_PID
+    while [ $# != 0 ]; do
+        hear "$1" || return 99
+        printf '%s\n' "$2" >&"${COPROC[1]}"
+        shift 2
+    done
+    wait "$pid"
+}
+
+# cut_off: a session whose standard output is closed behind its first answer, while it goes on to get lines.
+cut_off() {
+    local pid answers
+    coproc units -q -f first.units
+    pid=$COPROC_PID answers=${COPROC[0]}
+    printf '2 yd\nin\n' >&"${COPROC[1]}"
+    hear $'\t* 72\n\t/ 0.013888889\n' || return 99
+    exec {answers}<&-
+    # It may have ended before it is given the last line.
+    trap '' PIPE
+    printf '2 yd\nin\nm\n' 1>&"${COPROC[1]}" 2> /dev/null
+    wait "$pid"
+}
+
+usage=$'units: usage: units [options] [FROM [TO]]\n'
+yard='units --exact -f first.units yd m'
+expect 0 $'\t* 1143|1250\n\t/ 1250|1143\n' '' "$yard"
+expect 0 $'\t* 1143|1250\n\t/ 1250|1143\n' '' 'units --exact yd m'
+expect 0 $'\tDefinition: 1 m\n' $'notices.units:2: stray end\n' 'units -f notices.units m'
+expect 0 '' '' 'units --check'
+expect 1 $'unknown unit: kg\n' '' 'units -f first.units yd kg'
+expect 1 $'notices.units:2: stray end\n' '' 'units --check -f notices.units'
+expect 2 '' "$usage" 'units -d 0 m ft'
+expect 2 '' "$usage" $'units --exact -f \xff yd m'
+expect 3 '' $'units: no file: gone.units\n' 'units --exact -f gone.units yd m'
+expect 3 '' $'units: file too long: long.units\n' 'units --exact -f long.units yd m'
+expect 3 '' $'units: deck full: full.units\n' 'units --exact -f full.units yd m'
+expect 4 '' '' 'units --exact -f . yd m'
+expect 4 '' '' 'units --exact -f first.units/m yd m'
+expect 4 '' '' 'units --exact -f includes.units yd m'
+expect 0 $'definitions 4, edits 3, reply bytes 43, settled 3 of 4, reductions 4\n' '' 'units --trial 3'
+
+# Sessions: the input that ends at each prompt, a file that fails in the middle, and lines that come one by one.
+banner=$'4 units, 0 prefixes, 0 nonlinear units\n'
+expect 0 "${banner}You have: " '' 'units -f first.units'
+expect 0 "${banner}You have: You want: " '' "printf '2 yd' | units -f first.units"
+expect 0 "${banner}You have: You want: "$'\t* 72\n\t/ 0.013888889\n'"You have: " '' "printf '2 yd\\nin' | units -f first.units"
+expect 0 $'\t* 72\n\t/ 0.013888889\n' '' "printf '2 yd\\nin\\nquit\\nm\\n' | units -q -f first.units"
+expect 4 $'\t* 72\n\t/ 0.013888889\n' '' "{ printf '2 yd\\nin\\n'; sleep 0.2; printf ':load .\\nm\\n'; } | units -q -f first.units"
+expect 5 '' '' "printf '2 yd\\nin\\n' | units -q -f first.units >&-"
+expect 5 '' '' cut_off
+have='You have: ' want='You want: '
+expect 0 '' '' "talk -q '' '2 yd' '' in \$'\t* 72\n' '2 yd' '' : \$'unknown command: :\n' ft \$'\t* 6\n' quit"
+expect 0 '' '' "talk '$banner$have' '2 yd' '$want' in \$'\t* 72\n$have' :stats \$'settled 4 of 4, reductions 4\n$have' \
+    'yd # to' '$want' ':define ft 6 in' '$want' '?' \$'\tft\t6 in\n\tin\t254|10000 m\n\tm\t!\n\tyd\t3|1 ft\n$want' '' \
+    \$'\tDefinition: 3|1 ft = 0.4572 m\n$have' nosuch \$'unknown unit: nosuch\n$have' exit"
+
+# As much input as a session takes, and a byte more, behind which the line that has not ended has no answer.
+expect 0 $'line too long\n\t* 12\n\t/ 0.083333333\n' '' \
+    "{ head -c 4294967288 /dev/zero; printf '\\n1 ft\\nin'; } | units -q"
+expect 7 $'line too long\n' '' "{ head -c 4294967289 /dev/zero; printf '\\n1 ft\\nin'; } | units -q"
+
+# Where the modes of files do not bind, as for root, a file whose read fails stands in for one that may not be read.
+cp first.units locked.units
+chmod 000 locked.units
+if [ -r locked.units ]; then locked=/proc/self/mem; else locked=locked.units; fi
+expect 4 '' '' "units --exact -f $locked yd m"
+expect 4 $'\t* 72\n\t/ 0.013888889\n' '' \
+    "{ printf '2 yd\\nin\\n'; sleep 0.2; printf ':load $locked\\nm\\n\\n'; } | units -q -f first.units"
+expect 4 '' '' "units -q -f first.units < ."
+
+# Files that cannot be saved: a folder, one that is not there, one that takes no file, and what is no file.
+for name in . gone/s.units /proc/s.units /dev/full; do
+    expect 5 $'\t* 72\n\t/ 0.013888889\n' '' "printf '2 yd\\nin\\n:save $name\\nm\\n\\n' | units -q -f first.units"
+done
+
+# A save through links writes the file behind them, and the links stay.
+printf 'm !\n' > kept.units
+ln -s kept.units near.units
+ln -s near.units nearer.units
+expect 0 $'m !\ng 3 m\n' '' "printf ':define g 3 m\\n:save nearer.units\\n' | units -q -f kept.units \
+    && [ -L nearer.units ] && [ -L near.units ] && cat kept.units"
+
+# A save keeps who may read, write and run the file, and no leave to run it as its owner or group.
+chmod 6750 kept.units
+expect 0 $'750\n' '' "echo ':save kept.units' | units -q -f kept.units && stat -c %a kept.units"
+
+# A save to what the run writes to is refused by whatever name, and what stands there is not lost.
+ln -s /dev/stdout stream
+for name in out.txt ./err.txt /proc/self/fd/1 //dev/stdout stream; do
+    expect 5 $'\t* 72\n\t/ 0.013888889\n' '' "printf '2 yd\\nin\\n:save $name\\nm\\n' | units -q -f first.units"
+done
+
+# A closed stream is no file.
+expect 0 '' '' "echo ':save kept.units' | units -q -f kept.units >&-"
+
+# Without /proc any file may be the one that the run writes to, so only a new file can be saved. If the program runs in
+# another root folder, as check_static.sh has it, OTHER_ROOT is that folder, whose proc goes too.
+if unshare -m umount -l /proc 2> /dev/null; then
+    alone="unshare -m sh -c 'umount -l ${OTHER_ROOT:+$OTHER_ROOT/proc} /proc; exec \"\$0\" -q -f kept.units' \"$program\""
+    expect 5 '' '' "echo ':save kept.units' | $alone"
+    expect 0 $'m !\ng 3 m\n' '' "echo ':save fresh.units' | $alone && cat fresh.units"
+else
+    echo 'check_statuses: skipped without the right to unmount /proc: 2 cases'
+    skipped=2
+fi
+
+# Definitions of several blocks that come by a pipe.
+expect 0 $'\t* 3\n\t/ 0.33333333\n' '' \
+    "{ echo 'm !'; seq -f 'u_%.0f 2 m' 30000; echo 'last 3 m'; } | units -f /dev/stdin last m"
+
+# Sinks that are closed, and one that is full.
+expect 5 '' '' "$yard >&-"
+expect 5 '' '' 'units -d 0 2>&-'
+expect 5 '' '' "$yard > /dev/full"
+expect 5 '' '' 'units -d 0 2> /dev/full'
+
+if [ "$skipped" = 0 ]; then
+    echo "$passed passed, $failed failed"
+else
+    echo "$passed passed, $failed failed, $skipped skipped"
+fi
+[ "$failed" = 0 ]

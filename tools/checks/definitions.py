@@ -1,0 +1,161 @@
+#!/usr/bin/env python3
+"""Keeps the reader's pages on definitions in step with the specs/ folders of the crates.
+
+    tools/checks/definitions.py            checks docs/DEFINITIONS.md and docs/INDEX.md
+    tools/checks/definitions.py --write    writes docs/INDEX.md
+    tools/checks/definitions.py --reached  prints each file that the headline reaches and that no page or mark covers
+
+docs/DEFINITIONS.md introduces the definitions that a reader of the headline meets. A row names definitions in its
+first column and their files, as `crate/File File..`, in its third. docs/definition_marks.txt marks the other files that the
+headline reaches: `library FILE` for general vocabulary, `engine FILE REASON` for computations that a law makes
+credible. The headline is what the contract of `units_main` cites. The last line is `N passed, M failed`.
+"""
+
+from __future__ import annotations
+
+import re
+import sys
+from dataclasses import dataclass
+from pathlib import Path
+
+sys.path.insert(0, str(Path(__file__).resolve().parent))
+from spec_index import ROOT, Name, all_definitions, reached_from, read_file  # noqa: E402
+
+PAGE = ROOT / "docs/DEFINITIONS.md"
+INDEX = ROOT / "docs/INDEX.md"
+MARKS = ROOT / "docs/definition_marks.txt"
+# What the contract of `units_main` cites.
+HEADLINE = [
+    Name("units_run", "Headline", "IsRun"),
+    Name("units_run", "Granted", "GrantsExactly"),
+    Name("units_run", "LeftAlone", "TakesNone"),
+    Name("units_run", "LeftAlone", "OpensNone"),
+    Name("units_run", "Openings", "IsOpened"),
+    Name("units_run", "Openings", "first_on_err"),
+    Name("units_run", "Needs", "needs_definitions"),
+    Name("session", "Hearing", "NamesNoFile"),
+]
+QUOTED = re.compile(r"`([^`]+)`")
+MOST_BYTES = 10 * 1024
+INTRODUCTION = """# Index of definitions
+
+Written by `tools/checks/definitions.py --write`; do not edit. Each row is a file `crates/CRATE/specs/FILE.antt`. A *headline* file is introduced in [DEFINITIONS.md](DEFINITIONS.md). A *library* file has general vocabulary. An *engine* file has computations and the vocabulary of proofs: what it computes is said by a law, or the headline does not reach it.
+"""
+
+
+@dataclass(frozen=True)
+class Row:
+    """A row of the page: the definitions that it names, and their files."""
+
+    names: tuple[str, ...]
+    files: tuple[str, ...]
+
+
+def files_in(cell: str) -> tuple[str, ...]:
+    """The files of a cell, in which `crate/One Other` are two files of a crate."""
+    parts = [text.split("/", 1) for text in QUOTED.findall(cell) if "/" in text]
+    return tuple(f"{crate}/{subject}" for crate, subjects in parts for subject in subjects.split())
+
+
+def rows_of_page() -> list[Row]:
+    rows = []
+    for line in PAGE.read_text().splitlines() if PAGE.exists() else []:
+        cells = [cell.strip() for cell in re.split(r"(?<!\\)\|", line)]
+        if line.startswith("| `") and len(cells) >= 5:
+            rows.append(Row(tuple(QUOTED.findall(cells[1])), files_in(cells[3])))
+    return rows
+
+
+def marks() -> dict[str, str]:
+    """The mark of each file in the list of marks."""
+    lines = MARKS.read_text().splitlines() if MARKS.exists() else []
+    words = [line.split() for line in lines if line.strip() and not line.startswith("#")]
+    return {file: mark for mark, file, *_ in words}
+
+
+def words_in(file: str) -> set[str]:
+    crate, subject = file.split("/")
+    definitions = read_file(crate, subject).definitions
+    return set(definitions) | {word for it in definitions.values() for word in it.constructors}
+
+
+def check_page(rows: list[Row]) -> list[str]:
+    """Names that are not in the files of their row, and a page that is too long."""
+    faults = []
+    for row in rows:
+        found = {word for file in row.files for word in words_in(file)}
+        faults += [f"DEFINITIONS.md: {name} is not defined in {', '.join(row.files)}" for name in row.names if name not in found]
+    if not rows:
+        faults.append("DEFINITIONS.md has no row")
+    elif PAGE.stat().st_size > MOST_BYTES:
+        faults.append(f"DEFINITIONS.md has {PAGE.stat().st_size} bytes, more than {MOST_BYTES}")
+    return faults
+
+
+def uncovered(rows: list[Row]) -> list[str]:
+    """The files that the headline reaches and that neither the page nor a mark covers, each with the words reached."""
+    covered = {file for row in rows for file in row.files} | set(marks())
+    open_files: dict[str, list[str]] = {}
+    for name in reached_from(HEADLINE):
+        if name.file not in covered:
+            open_files.setdefault(name.file, []).append(name.word)
+    return [f"{file}: {' '.join(sorted(words))}" for file, words in sorted(open_files.items())]
+
+
+def check_marks(rows: list[Row]) -> list[str]:
+    """Marks of unknown kinds or files, of files on the page, and of an engine file without a reason."""
+    page = {file for row in rows for file in row.files}
+    faults = []
+    for line in MARKS.read_text().splitlines() if MARKS.exists() else []:
+        mark, file, *reason = line.split() if line.strip() and not line.startswith("#") else ("library", "", "")
+        if not file:
+            continue
+        if mark not in ("library", "engine") or not words_in(file):
+            faults.append(f"definition_marks.txt: {line}: no such mark or file")
+        elif file in page:
+            faults.append(f"definition_marks.txt: {file} is on the page too")
+        elif mark == "engine" and not reason:
+            faults.append(f"definition_marks.txt: {file} needs the law that makes it credible")
+    return faults
+
+
+def index(rows: list[Row]) -> str:
+    """The text of the index: a table for each crate."""
+    page, marked = {file for row in rows for file in row.files}, marks()
+    words: dict[str, list[str]] = {}
+    for name in all_definitions():
+        words.setdefault(name.file, []).append(f"`{name.word}`")
+    parts, crate = [INTRODUCTION], ""
+    for file, names in words.items():
+        if not file.startswith(crate + "/") or not crate:
+            crate = file.split("/")[0]
+            parts.append(f"\n## {crate}\n\n| file | mark | about | definitions |\n|---|---|---|---|\n")
+        mark = "headline" if file in page else marked.get(file, "engine")
+        heading = read_file(*file.split("/")).heading.replace("|", "\\|")
+        parts.append(f"| {file.split('/')[1]} | {mark} | {heading} | {' '.join(names).replace('|', chr(92) + '|')} |\n")
+    return "".join(parts)
+
+
+def main() -> int:
+    rows = rows_of_page()
+    if sys.argv[1:] == ["--write"]:
+        INDEX.write_text(index(rows))
+        return 0
+    if sys.argv[1:] == ["--reached"]:
+        print("\n".join(uncovered(rows)))
+        return 0
+    if sys.argv[1:]:
+        print(__doc__.strip(), file=sys.stderr)
+        return 2
+    stale = [] if INDEX.exists() and INDEX.read_text() == index(rows) else ["INDEX.md is stale: tools/checks/definitions.py --write"]
+    open_files = [f"no page or mark covers {line}" for line in uncovered(rows)]
+    results = [check_page(rows), check_marks(rows), open_files, stale]
+    for fault in (fault for faults in results for fault in faults):
+        print(f"definitions: {fault}")
+    failed = sum(1 for faults in results if faults)
+    print(f"{len(results) - failed} passed, {failed} failed")
+    return 1 if failed else 0
+
+
+if __name__ == "__main__":
+    sys.exit(main())

@@ -1,0 +1,187 @@
+#!/usr/bin/env python3
+"""Runs the checks of the repository and adds up what passed, failed and was skipped.
+
+    bin/check [CRATE..]    the checks that need no proof; then `rt ci CRATE..`, if crates are named
+    bin/test               the gate: every proof, test and must-fail edit, then the same checks over what that built
+
+Each check is a command whose last line is `N passed, M failed` or `N passed, M failed, K skipped`. A check that ends
+with another line, or whose status disagrees with that line, counts as one failure. The last line has the sums, and
+the status is 0 exactly if nothing failed.
+"""
+
+from __future__ import annotations
+
+import os
+import re
+import shutil
+import subprocess
+import sys
+import time
+from concurrent.futures import ThreadPoolExecutor
+from dataclasses import dataclass
+from pathlib import Path
+
+sys.path.insert(0, str(Path(__file__).resolve().parent))
+from proof_progress import prove  # noqa: E402
+
+ROOT = Path(__file__).resolve().parents[2]
+WORKERS = 4  # more than two processors have work for, since the checks of terminals mostly wait
+RESULT = re.compile(r"(\d+) passed, (\d+) failed(?:, (\d+) skipped)?")
+
+
+@dataclass(frozen=True)
+class Check:
+    """A check by its name, with its command from the top of the repository."""
+
+    name: str
+    command: tuple[str, ...]
+
+    def exists(self) -> bool:
+        return (ROOT / self.command[0]).exists()
+
+
+@dataclass(frozen=True)
+class Result:
+    """How many cases passed, failed and were skipped."""
+
+    passed: int = 0
+    failed: int = 0
+    skipped: int = 0
+
+    def __add__(self, other: Result) -> Result:
+        return Result(self.passed + other.passed, self.failed + other.failed, self.skipped + other.skipped)
+
+    def __str__(self) -> str:
+        return f"{self.passed} passed, {self.failed} failed, {self.skipped} skipped"
+
+
+# The longest ones first.
+QUICK = [
+    Check("transcripts", ("tools/checks/transcripts.py",)),
+    Check("statuses", ("tools/checks/check_statuses.sh",)),
+    Check("launcher", ("tools/checks/check_launcher.sh",)),
+    Check("library", ("tools/checks/check_library.sh",)),
+    Check("install", ("tools/checks/check_install.sh",)),
+    Check("completions", ("tools/checks/check_completions.py",)),
+    Check("sessions of qunits", ("tools/checks/check_qunits_session.py",)),
+    Check("recipes", ("tools/checks/check_recipes.sh",)),
+    Check("GNU import", ("tools/checks/check_import_gnu.sh",)),
+    Check("GNU page", ("tools/checks/check_gnu_page.py",)),
+    Check("package", ("tools/checks/check_package.sh",)),
+    Check("Vim files", ("tools/checks/check_vim.sh",)),
+    Check("sources", ("tools/checks/lint_sources.py",)),
+    Check("definitions", ("tools/checks/definitions.py",)),
+    Check("documents", ("tools/checks/check_documents.py",)),
+    Check("record of tests", ("tools/checks/tested.py",)),
+    Check("record of measurements", ("bench/record.py", "--check")),
+]
+AFTER_PROOFS = [
+    Check("refusals of must-fail edits", ("tools/checks/check_refusals.py",)),
+    Check("C library", ("tools/checks/check_c_library.sh",)),
+    Check("want of memory", ("tools/checks/check_memory.sh",)),
+    Check("want of memory in edits", ("tools/checks/check_edits.py",)),
+    Check("trees of units-why", ("tools/checks/check_why.py",)),
+    Check("language server", ("tools/checks/check_lsp.py",)),
+    Check("static program", ("tools/checks/check_static.sh",)),
+    Check("web page", ("tools/checks/check_web.sh",)),
+    Check("release", ("tools/release/release.sh", "--compare")),
+]
+
+
+def last_line(output: str) -> str:
+    lines = output.splitlines()
+    return lines[-1] if lines else ""
+
+
+def result_of(output: str, status: int) -> Result:
+    """The result that a check reports in its last line; one failure more if the line and the status disagree."""
+    match = RESULT.fullmatch(last_line(output))
+    if not match:
+        return Result(failed=1)
+    reported = Result(*(int(number or 0) for number in match.groups()))
+    agrees = (status == 0) == (reported.failed == 0)
+    return reported if agrees else reported + Result(failed=1)
+
+
+def run(check: Check) -> tuple[str, Result, float]:
+    """What the check wrote, its result, and how many seconds it took."""
+    begin = time.monotonic()
+    try:
+        done = subprocess.run(
+            [ROOT / check.command[0], *check.command[1:]],
+            cwd=ROOT,
+            stdin=subprocess.DEVNULL,
+            stdout=subprocess.PIPE,
+            stderr=subprocess.STDOUT,
+            check=False,
+        )
+        output, status = done.stdout.decode(errors="replace"), done.returncode
+    except OSError as fault:
+        output, status = f"{check.command[0]}: {fault}\n", 127
+    return output, result_of(output, status), time.monotonic() - begin
+
+
+def run_all(checks: list[Check], workers: int) -> tuple[Result, list[str]]:
+    """The sum of all results, and the names of the checks that failed."""
+    total, failed = Result(), []
+    with ThreadPoolExecutor(workers) as pool:
+        for check, (output, result, seconds) in zip(checks, pool.map(run, checks)):
+            print(f"== {check.name} ({seconds:.0f} s)\n{output}", end="" if output.endswith("\n") else "\n", flush=True)
+            total += result
+            if result.failed:
+                failed.append(check.name)
+    return total, failed
+
+
+def quick_checks() -> list[Check]:
+    return [check for check in QUICK if check.exists()]
+
+
+def check_quickly(crates: list[str]) -> tuple[Result, list[str]]:
+    print("bin/check: every check that needs no proof; about a minute on two processors", flush=True)
+    total, failed = run_all(quick_checks(), WORKERS)
+    if crates:
+        print(f"bin/check: rt ci {' '.join(crates)}; minutes to an hour, by how much is below these crates", flush=True)
+        result = prove(ROOT, crates, result_of_proofs)
+        total, failed = total + result, failed + ["proofs"] * (result.failed > 0)
+    return total, failed
+
+
+def check_all() -> tuple[Result, list[str]]:
+    print("bin/test: proves every crate and its tests, tries the edits that must be refused, and runs every check.")
+    print("About 185 processor minutes from nothing (50 minutes on four processors); 5 minutes if all proofs are kept", flush=True)
+    total = prove(ROOT, [], result_of_proofs)
+    failed = ["proofs"] if total.failed else []
+    checks = quick_checks() + [check for check in AFTER_PROOFS if check.exists()]
+    result, names = run_all(checks, WORKERS)
+    return total + result, failed + names
+
+
+def result_of_proofs(last: str, status: int) -> Result:
+    """The result in the last line of `rt ci`, which for named crates ends with a remark."""
+    match = RESULT.match(last)
+    if not match:
+        return Result(failed=1)
+    reported = Result(int(match[1]), int(match[2]))
+    return reported if (status == 0) == (reported.failed == 0) else reported + Result(failed=1)
+
+
+def main() -> int:
+    mode, *crates = sys.argv[1:] or ["--help"]
+    if mode not in ("check", "test") or (mode == "test" and crates) or any(word.startswith("-") for word in crates):
+        print(__doc__.strip(), file=sys.stderr)
+        return 2
+    os.chdir(ROOT)
+    if (mode == "test" or crates) and not shutil.which("rt"):
+        print("the proofs need the toolchain, and there is no command rt: see CONTRIBUTING.md", file=sys.stderr)
+        if mode == "check":
+            return 127
+    total, failed = check_quickly(crates) if mode == "check" else check_all()
+    for name in failed:
+        print(f"failed: {name}")
+    print(total)
+    return 1 if total.failed else 0
+
+
+if __name__ == "__main__":
+    sys.exit(main())

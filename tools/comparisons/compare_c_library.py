@@ -1,0 +1,206 @@
+#!/usr/bin/env python3
+"""Asks random questions of the library from C, of the Python package over both back ends, and of the program: each has
+to give the same answer, byte for byte.
+
+    tools/comparisons/compare_c_library.py [--questions N] [--seed S] [--definitions FILE] [--units FOLDER]
+
+Without N it asks 20,000. FILE is GNU units' definition file of Debian if it is installed, or else
+examples/first.units. FOLDER is what tools/c_library.sh made; it is made anew without. The last line is
+`N passed, M failed`, where a question counts as one.
+"""
+
+from __future__ import annotations
+
+import argparse
+import os
+import random
+import subprocess
+import sys
+import tempfile
+from pathlib import Path
+from typing import Callable, List, NamedTuple, Tuple
+
+ROOT = Path(__file__).resolve().parents[2]
+GNU = Path("/usr/share/units/definitions.units")
+sys.path.insert(0, str(ROOT / "lib" / "python"))
+
+from exact_units import Units, UnitsError  # noqa: E402
+from exact_units.library import _read_with_includes  # noqa: E402
+
+
+Answers = Tuple[bytes, bytes]
+"""The reply to a question, and the value of FROM."""
+
+
+class Question(NamedTuple):
+    """FROM and TO."""
+
+    source: str
+    target: str
+
+
+def names_in(files: dict[bytes, bytes]) -> List[str]:
+    """Return the names of units, prefixes and functions that some files define."""
+    names = set()
+    for text in files.values():
+        for line in text.decode("utf-8", "replace").splitlines():
+            words = line.partition("#")[0].split()
+            if len(words) > 1 and not words[0].startswith(("!", "+")):
+                names.add(words[0].partition("(")[0].partition("[")[0].rstrip("-"))
+    return sorted(name for name in names if name and "�" not in name)
+
+
+def expression(rng: random.Random, names: List[str], depth: int = 3) -> str:
+    """Return a random expression, now and then one with a fault."""
+    kind = rng.random()
+    if depth == 0 or kind < 0.35:
+        return rng.choice(names)
+    if kind < 0.5:
+        return rng.choice(["2", "0.5", "1e-3", "7|3", "-4", "1e30", "12.75"])
+    if kind < 0.52:
+        return rng.choice(["(", "2 +", "nosuchunit", "1|", "m m m )", "sin(1)", "1 + m", "2^m", "m^1e9"])
+    left, right = expression(rng, names, depth - 1), expression(rng, names, depth - 1)
+    if kind < 0.6:
+        return f"{rng.choice(names)}({left})"
+    if kind < 0.7:
+        return f"({left})^{rng.choice(['2', '3', '-1', '1|2', '0'])}"
+    return f"({left}) {rng.choice(['*', '/', '+', '-', ' '])} ({right})"
+
+
+def questions(count: int, seed: int, names: List[str]) -> List[Question]:
+    """Return random questions, of which half ask for a multiple of what they are of."""
+    rng = random.Random(seed)
+    made = []
+    for _ in range(count):
+        source = expression(rng, names)
+        target = expression(rng, names) if rng.random() < 0.5 else f"3 ({source})"
+        made.append(Question(source, target))
+    return made
+
+
+def answers_of_c(program: Path, files: List[bytes], asked: List[Question]) -> List[Answers]:
+    """Return the reply and the value of each question, as a C program gets them."""
+    lines = "".join(f"{source}\n{target}\n" for source, target in asked).encode()
+    output = subprocess.run([program, *files], input=lines, stdout=subprocess.PIPE, check=True).stdout
+    texts, place = [], 0
+    while place < len(output):
+        end = output.index(b"\n", place)
+        length = int(output[place:end].split()[1])
+        texts.append(output[end + 1 : end + 1 + length])
+        place = end + 1 + length
+    return list(zip(texts[::2], texts[1::2]))
+
+
+def answers_of_program(program: str, definitions: str, asked: List[Question]) -> List[Answers]:
+    """Return the same, as a session of the program writes it."""
+    session = Session([program, "--compact", "--exact", "--one-line", "--strict", "--file", definitions])
+    answers = []
+    for source, target in asked:
+        reply = session.ask(source)
+        wants = session.wants_target
+        value = session.ask("").removesuffix(b"\n").rpartition(b"\n")[2] if wants else reply.removesuffix(b"\n")
+        if wants:
+            session.ask(source)
+            reply = session.ask(target)
+        answers.append((reply, value))
+    session.close()
+    return answers
+
+
+class Session:
+    """A session, which is read up to each prompt."""
+
+    def __init__(self, command: List[str]) -> None:
+        streams = {"stdin": subprocess.PIPE, "stdout": subprocess.PIPE, "stderr": subprocess.DEVNULL}
+        self._process = subprocess.Popen(command, bufsize=0, **streams)  # type: ignore[call-overload]
+        self.wants_target = False
+        self._read()
+
+    def _read(self) -> bytes:
+        written = b""
+        while not written.endswith((b"You have: ", b"You want: ")):
+            piece = os.read(self._process.stdout.fileno(), 1 << 16)
+            if not piece:
+                raise SystemExit("compare_c_library: the session ended")
+            written += piece
+        self.wants_target = written.endswith(b"You want: ")
+        return written[:-10]
+
+    def ask(self, line: str) -> bytes:
+        """Write a line, and return what is written up to the next prompt."""
+        self._process.stdin.write(line.encode() + b"\n")
+        return self._read()
+
+    def close(self) -> None:
+        """End the session."""
+        self._process.stdin.close()
+        self._process.wait()
+
+
+def shown(act: Callable[[], object]) -> str:
+    """Return an answer of the package, or its exception by name and text."""
+    try:
+        return repr(act())
+    except UnitsError as fault:
+        return f"{type(fault).__name__}: {fault}"
+
+
+def differences(units: Tuple[Units, Units], asked: Question, c: Answers, program: Answers) -> str:
+    """Return where the answers to a question differ, or nothing."""
+    if c != program:
+        return f"C {c}, the program {program}"
+    for call in (lambda u: u.convert(*asked), lambda u: u.value(asked.source)):
+        one, other = (shown(lambda u=u: call(u)) for u in units)
+        if one != other:
+            return f"Python over the library {one}, over a session {other}"
+    number = shown(lambda: str(units[0].convert(*asked)).replace("/", "|"))
+    if not number.startswith(("NotAnExpression", "ConformabilityError")):
+        reply = c[0].decode("utf-8", "surrogateescape").removesuffix("\n")
+        if number.strip("'") != reply and number.partition(": ")[2] != reply:
+            return f"Python {number}, C {reply}"
+    return ""
+
+
+def build(units: Path, folder: Path) -> Tuple[Path, Path]:
+    """Return the C program and the shared library."""
+    if not units.exists():
+        subprocess.run([ROOT / "tools" / "c_library.sh", units], check=True)
+    source, answers = ROOT / "tests" / "c" / "answers.c", folder / "answers"
+    flags = ["-O1", f"-I{units / 'include'}", "-o", answers, source, units / "lib" / "libunits.a"]
+    subprocess.run(["gcc", *flags], check=True)
+    return answers, units / "lib" / "libunits.so.1"
+
+
+def main() -> int:
+    parser = argparse.ArgumentParser(description=__doc__, formatter_class=argparse.RawDescriptionHelpFormatter)
+    parser.add_argument("--questions", type=int, default=20_000)
+    parser.add_argument("--seed", type=int, default=1)
+    parser.add_argument("--definitions", type=Path, default=GNU if GNU.exists() else ROOT / "examples" / "first.units")
+    parser.add_argument("--units", type=Path)
+    arguments = parser.parse_args()
+    definitions = str(arguments.definitions)
+    program = subprocess.run([ROOT / "tools" / "built.sh", "units"], stdout=subprocess.PIPE, text=True, check=True)
+    files = _read_with_includes(definitions.encode())
+    asked = questions(arguments.questions, arguments.seed, names_in(files))
+    wrong = 0
+    with tempfile.TemporaryDirectory() as name:
+        folder = Path(name)
+        answers, library = build(arguments.units or folder / "units", folder)
+        by_c = answers_of_c(answers, list(files), asked)
+        by_program = answers_of_program(program.stdout.strip(), definitions, asked)
+        over_library = Units(definitions, backend="library", library=str(library), variables={})
+        over_session = Units(definitions, backend="session", program=program.stdout.strip(), variables={})
+        with over_library, over_session:
+            for question, c, written in zip(asked, by_c, by_program):
+                difference = differences((over_library, over_session), question, c, written)
+                if difference:
+                    wrong += 1
+                    print(f"{question.source!r} to {question.target!r}: {difference}")
+        refused = sum(not text[:1].isdigit() and not text.startswith(b"-") for text, _ in by_c)
+    print(f"{len(asked)} questions over {definitions}, {refused} of them refused")
+    print(f"{len(asked) - wrong} passed, {wrong} failed")
+    return int(wrong > 0 or len(by_c) != len(asked))
+
+
+if __name__ == "__main__":
+    sys.exit(main())

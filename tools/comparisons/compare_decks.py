@@ -1,0 +1,95 @@
+#!/usr/bin/env python3
+"""Compares decks with a plain reading of definition files, over many random files and edits.
+
+    tools/comparisons/compare_decks.py [DECKS] [SEED]
+
+makes DECKS sets of small files (300 where none is given) from the SEED (1 where none is given),
+with includes, blocks, variables, faulty lines and continuations, has the program of
+crates/deck_calls load one, edit it and answer after each edit, and compares each answer with that
+of lists which are gone through whole. It prints the first differences and a line with the counts,
+and ends with status 1 where there is a difference.
+
+    tools/comparisons/compare_decks.py --answer < CALLS
+
+answers calls as the lists have it, over the files of the folder it stands in.
+"""
+
+import os
+import random
+import subprocess
+import sys
+import tempfile
+from collections import Counter
+from pathlib import Path
+
+sys.path[:0] = [str(Path(__file__).resolve().parents[1] / name) for name in (".", "models")]
+from built import program  # noqa: E402
+from decks_at_random import EDITS, LEAVES, NAMES, random_calls, random_file  # noqa: E402
+from plain_decks import Board, joined  # noqa: E402
+
+PROGRAM = "deck_calls"
+SHOWN = 5  # how many differences are printed
+
+
+def without_order(answer):
+    """In which order changed keys are answered is told nowhere."""
+    word, _, keys = answer.partition(": ")
+    return f"{word}: {joined(sorted(keys.split(' | ')))}" if word == "changed" else answer
+
+
+def compared(r, folder):
+    """The calls of a set of files, and where the program answers otherwise."""
+    os.chdir(folder)
+    for name in ("dir", "sub", "sub/dir"):
+        os.makedirs(name, exist_ok=True)
+    for name in NAMES + LEAVES:
+        Path(name).write_bytes(random_file(r, name).encode("latin-1"))
+    calls = list(random_calls(r, Board(), 12))
+    spelled = "".join(call + "\n" for call, _ in calls)
+    run = subprocess.run([program(PROGRAM)], input=spelled.encode("latin-1"), stdout=subprocess.PIPE, check=False)
+    answers = run.stdout.decode("latin-1").split("\n")[:-1]
+    if run.returncode != 0 or len(answers) != len(calls):
+        sys.exit(f"the program ended with status {run.returncode} after {len(answers)} answers to {calls}")
+    wrong = [
+        (at, want, got)
+        for at, ((_, want), got) in enumerate(zip(calls, answers))
+        if without_order(want) != without_order(got)
+    ]
+    return calls, wrong
+
+
+def show(calls, at, want, got):
+    """A difference, with the files and the edits before it."""
+    for name in NAMES + LEAVES:
+        print(f"    {name}: {Path(name).read_bytes()!r}")
+    edits = [call for call, answer in calls[:at] if answer == "ok" or answer.startswith("changed")]
+    print(f"    after {edits}\n    {calls[at][0]!r}: {got!r}, not {want!r}")
+
+
+def main():
+    if sys.argv[1:] == ["--answer"]:
+        board = Board()
+        for line in sys.stdin.buffer.read().decode("latin-1").split("\n")[:-1]:
+            sys.stdout.buffer.write((board.answer(line) + "\n").encode("latin-1"))
+        return
+    decks = int(sys.argv[1]) if len(sys.argv) > 1 else 300
+    r = random.Random(sys.argv[2] if len(sys.argv) > 2 else "1")
+    tally, differences = Counter(), 0
+    for _ in range(decks):
+        with tempfile.TemporaryDirectory() as folder:
+            calls, wrong = compared(r, folder)
+            for difference in wrong[: max(0, SHOWN - differences)]:
+                show(calls, *difference)
+            os.chdir("/")
+        differences += len(wrong)
+        tally.update(call.split()[0] + (" refused" if is_refused(call, answer) else "") for call, answer in calls)
+    print(f"{decks} decks, {differences} differences: " + ", ".join(f"{n} {word}" for word, n in sorted(tally.items())))
+    sys.exit(differences > 0)
+
+
+def is_refused(call, answer):
+    return call.split()[0] in EDITS and answer != "ok" and not answer.startswith("changed")
+
+
+if __name__ == "__main__":
+    main()

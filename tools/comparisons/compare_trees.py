@@ -1,0 +1,215 @@
+#!/usr/bin/env python3
+"""Compares the parser of expressions with the plain rules for tokens, over many token lists.
+
+    tools/comparisons/compare_trees.py [LONGEST] [RANDOM] [SEED]
+
+spells all token lists up to the length LONGEST (5 where none is given), and RANDOM longer ones
+(200000 where none is given) from the SEED (1 where none is given), has the program of
+crates/text_calls parse them, and compares each tree or fault with the one that the rules of
+tools/models/plain_trees.py give. It prints a line for each kind of list and the first
+differences, and ends with status 1 where there is a difference.
+"""
+
+import itertools
+import random
+import subprocess
+import sys
+from collections import Counter
+from pathlib import Path
+
+sys.path[:0] = [str(Path(__file__).resolve().parents[1] / name) for name in (".", "models")]
+from built import program  # noqa: E402
+from plain_trees import DEEPEST, MARKS, Token, first_fault, opened, sum_tree  # noqa: E402
+
+PROGRAM = "text_calls"
+SHOWN = 5  # how many differences of a kind are printed
+BATCH = 200_000  # how many lines one run of the program takes
+
+ALPHABET = [
+    Token("numeral", "2"),
+    Token("word", "m"),
+    Token("power", "m3"),
+    Token("head", "f("),
+    Token("root", "sqrt"),
+    *[Token(mark, mark) for mark in MARKS],
+]
+OTHERS = [
+    Token("numeral", "70"),
+    Token("numeral", "5e3"),
+    Token("numeral", ".5"),
+    Token("numeral", "1e39"),
+    Token("numeral", "1e40"),
+    Token("word", "x"),
+    Token("word", "sin"),
+    Token("power", "x2"),
+    Token("head", "x("),
+    Token("head", "log2("),
+    Token("root", "cuberoot"),
+    Token("/", "per"),
+    Token("^", "**"),
+    Token("long", "1e10000"),
+    Token("bad", "."),
+    Token("bad", "m1"),
+    Token("bad", "["),
+    Token("bad", ";"),
+]
+TREES = "([0123456789"  # what a tree may begin with
+
+
+# Texts
+
+
+def needs_blank(left, right):
+    """Without a blank the two would be other tokens."""
+    word_like = right.text[0].isalnum() or right.text[0] == "."
+    if left.text[-1].isalnum() and word_like:
+        return True
+    if left.text == "." and word_like:
+        return True
+    if left.text[0].isalpha() and left.text[-1].isalnum() and right.kind == "(":
+        return left.kind not in ("root", "/")
+    return left.text[-1] == "*" and right.text[0] == "*"
+
+
+def spelled(tokens, blank):
+    """A text of these tokens, and the place of each."""
+    text, places = "", []
+    for i, token in enumerate(tokens):
+        if i > 0:
+            text += blank(needs_blank(tokens[i - 1], token))
+        places.append(len(text))
+        text += token.text
+    return text, places
+
+
+def answered(tokens, text, places, binder):
+    fault = first_fault(tokens, places, len(text))
+    return fault if fault else sum_tree(tokens, binder)
+
+
+def every_list(longest):
+    for length in range(longest + 1):
+        for tokens in itertools.product(ALPHABET, repeat=length):
+            yield list(tokens), *spelled(tokens, lambda needed: " "), None
+
+
+def derived(r, budget):
+    """The tokens of a random sum."""
+    tokens = []
+    while True:
+        if r.randrange(4) == 0:
+            tokens.append(Token(*r.choice(["--", "++"])))
+        tokens += derived_power(r, budget)
+        choice = r.randrange(8)
+        if choice < 3 or budget <= 0:
+            return tokens
+        if choice < 6:
+            mark = r.choice("+-*/")
+            tokens.append(Token(mark, mark))
+        budget -= 1
+
+
+def derived_power(r, budget):
+    tokens = derived_atom(r, budget)
+    if r.randrange(4) == 0:
+        tokens.append(Token("^", r.choice(["^", "**"])))
+        if r.randrange(3) == 0:
+            tokens.append(Token(*r.choice(["--", "++"])))
+        tokens += derived_power(r, budget - 1)
+    return tokens
+
+
+def derived_atom(r, budget):
+    choice = r.randrange(9 if budget > 0 else 4)
+    if choice < 4:
+        pool = [token for token in ALPHABET + OTHERS if token.kind in ("numeral", "word", "power")]
+        token = r.choice(pool)
+        if token.kind == "numeral" and r.randrange(3) == 0:
+            return [token, Token("|", "|"), Token("numeral", "7")]
+        return [token]
+    inner = [*derived(r, budget - 2), Token(")", ")")]
+    if choice == 4:
+        return [Token("root", r.choice(["sqrt", "cuberoot"])), Token("(", "("), *inner]
+    if choice == 5:
+        return [Token("~", "~"), Token("head", r.choice(["f(", "x("])), *inner]
+    if choice == 6:
+        return [Token("head", r.choice(["f(", "x(", "log2("])), *inner]
+    return [Token("(", "("), *inner]
+
+
+def changed(r, tokens):
+    """The tokens with some replaced, taken out or put in."""
+    tokens = list(tokens)
+    for _ in range(r.choice([0, 0, 1, 1, 2])):
+        i = r.randrange(len(tokens) + 1)
+        tokens[i : i + r.randrange(2)] = r.choices(ALPHABET + OTHERS, k=r.randrange(2))
+    return tokens
+
+
+def deep(r):
+    """Tokens whose depth is about the limit."""
+    tokens, wanted = [], DEEPEST + r.randrange(-2, 3)
+    for _ in range(wanted):
+        tokens += r.choice([
+            [Token("(", "(")],
+            [Token("head", "f(")],
+            [Token("-", "-")],
+            [Token("word", "m"), Token("^", "^")],
+            [Token("root", "sqrt"), Token("(", "(")],
+        ])
+    tokens.append(Token("numeral", "2"))
+    return tokens + [Token(")", ")")] * max(0, opened(tokens) - r.choice([0, 0, 0, 1]))
+
+
+def random_lists(count, seed):
+    r = random.Random(seed)
+
+    def blank(needed):
+        return r.choice([" ", "\t", "  "] if needed or r.randrange(3) == 0 else [""])
+
+    for _ in range(count):
+        tokens = deep(r) if r.randrange(20) == 0 else changed(r, derived(r, r.randrange(8)))
+        binder = r.choice([None, "x", "m", "f"])
+        yield tokens, *spelled(tokens, blank), binder
+
+
+# Runs
+
+
+def line_of(text, binder):
+    return f"plain {text}" if binder is None else f"with {binder} {text}"
+
+
+def compared(name, lists):
+    """How many answers differ."""
+    total, differences, words = 0, [], Counter()
+    while batch := list(itertools.islice(lists, BATCH)):
+        lines = "".join(line_of(text, binder) + "\n" for _, text, _, binder in batch)
+        run = subprocess.run([program(PROGRAM)], input=lines.encode(), stdout=subprocess.PIPE, check=False)
+        answers = run.stdout.decode().split("\n")[:-1]
+        if run.returncode != 0 or len(answers) != len(batch):
+            sys.exit(f"the program ended with status {run.returncode} after {len(answers)} answers")
+        for (tokens, text, places, binder), got in zip(batch, answers):
+            want = answered(tokens, text, places, binder)
+            words["tree" if want[0] in TREES else want.split(" at ")[0]] += 1
+            if want != got:
+                differences.append((line_of(text, binder), want, got))
+        total += len(batch)
+    tally = "".join(f", {words[word]} {word}" for word in sorted(words))
+    print(f"{name}: {total} texts, {len(differences)} differences{tally}", flush=True)
+    for line, want, got in differences[:SHOWN]:
+        print(f"    {line!r}: {got!r}, not {want!r}")
+    return len(differences)
+
+
+def main():
+    longest = int(sys.argv[1]) if len(sys.argv) > 1 else 5
+    count = int(sys.argv[2]) if len(sys.argv) > 2 else 200_000
+    seed = sys.argv[3] if len(sys.argv) > 3 else "1"
+    differences = compared(f"all lists up to {longest} tokens", every_list(longest))
+    differences += compared("random lists", random_lists(count, seed))
+    sys.exit(1 if differences else 0)
+
+
+if __name__ == "__main__":
+    main()

@@ -1,0 +1,307 @@
+#!/usr/bin/env python3
+"""Finds the traps in definition files of units that the program itself accepts.
+
+    tools/lint/lint_units.py [OPTION..] FILE..
+
+Each file is read with its includes, and each finding is one line `FILE:LINE: message` on standard output:
+
+- a line that has no effect, with the program's reason;
+- a name that is defined twice, unless the two blocks exclude each other or a block replaces what is outside of it;
+- a prefix with a unit that the program reads as the plural of a symbol (`das` as the plural of `da`);
+- a list or function whose name is also a unit, a plural or a prefix with a unit;
+- a unit whose name says something else: the plural of another unit, or a prefix with one, of another value;
+- a unit or prefix that is named as an English word of queries (`to`, `as`), which would be multiplied silently;
+- `1 / 8 in`, in which the inch is below the line;
+- a definition that does not conform to the unit of its comment `#: UNIT`;
+- with --statuses a definition without a status (`#= STATUS: SOURCE`);
+- with --dimensions a unit or a prefix without `#: UNIT`.
+
+The status is 0 if nothing is found, 1 if something is, and 2 if a file cannot be read or the program does not answer.
+"""
+
+from __future__ import annotations
+
+import argparse
+import os
+import re
+import sys
+
+from unit_answers import Fault, NoAnswers, Session, Value, default_program
+from unit_files import Kind, Place, read_deck
+from unit_names import Names, Reading
+
+ENGLISH = set(
+    "and as at be by convert divided equal equals for from how if into is it many minus much of on or over plus square "
+    "than that the times to what with".split()
+)
+STATUSES = ("exact", "conventional", "measured", "rounded")
+STATUS = re.compile(rf"({'|'.join(STATUSES)})\b([^:]*):\s*(\S.*)")
+RELATIVE_ERROR = re.compile(r"[0-9](\.[0-9]+)?e-[0-9]+|[0-9]%")
+YEAR = re.compile(r"\b(1[89]|20)[0-9]{2}\b")
+BINARY_PREFIX = re.compile("([KMGTPEZYRQ]i|(kibi|mebi|gibi|tebi|pebi|exbi|zebi|yobi|robi|quebi))$")
+TOKEN = re.compile(r"(?P<number>[0-9.][0-9.|]*(?:[eE][+-]?[0-9]+)?)|(?P<word>[^\s+\-*/|^;~#()\[\]]+)|(?P<sign>\S)")
+NOTICE = re.compile(r"(.*):([0-9]+): (.*)")
+LONGEST_MISREADING = 7  # characters: a prefix and a unit of two each, and the ending of a plural
+UNITS_OPTION = re.compile(r"units=\[([^;\]]*);([^\]]*)\]")
+PROBE = "lint_probe"  # a unit of value 1, so that a prefix before it has the value of the prefix
+
+
+def is_symbol(name):
+    """Whether a name is a symbol, which has no plural in writing, and not a word."""
+    return len(name) <= 2
+
+
+class Linter:
+    """The findings for one deck under one locale."""
+
+    def __init__(self, deck, session):
+        self.session, self.files = session, deck.files
+        self.findings = list(notices_of(session, deck.files))
+        without_effect = {place for place, _ in self.findings}
+        self.definitions = [line for line in deck.definitions if line.place not in without_effect]
+        active = deck.active(session.locale, os.environ | dict(session.variables))
+        self.active = [definition for definition in active if definition.place not in without_effect]
+        self.names = Names(self.active)
+        self.values = self.known_values()
+
+    def report(self, definition, message):
+        self.findings.append((definition.place, message))
+
+    def known_values(self):
+        """The values of all units and prefixes, by kind and name."""
+        units, prefixes = list(self.names.units), list(self.names.prefixes)
+        expressions = units + [prefix + PROBE for prefix in prefixes]
+        keys = [(Kind.UNIT, name) for name in units] + [(Kind.PREFIX, name) for name in prefixes]
+        return dict(zip(keys, self.session.values(expressions, [PROBE + " !dimensionless"])))
+
+    def value_of(self, reading):
+        """The value of a reading, or None if it has none."""
+        keys = [(Kind.PREFIX, reading.prefix), (Kind.UNIT, reading.unit)]
+        values = [self.values[key] for key in keys if key[1] is not None]
+        if any(isinstance(value, Fault) for value in values):
+            return None
+        number, powers = 1, ()
+        for value in values:
+            number, powers = number * value.number, powers or value.powers
+        return Value(number, powers)
+
+    def find_repeated(self):
+        """Names that are defined again where the first definition holds too."""
+        seen = {}
+        for definition in self.definitions:
+            earlier = seen.setdefault((definition.kind, definition.name), {})
+            for blocks, first in earlier.items():
+                is_exclusive = any(one.excludes(other) for one in blocks for other in definition.blocks)
+                is_within = len(definition.blocks) > len(blocks) and definition.blocks[: len(blocks)] == blocks
+                if not is_exclusive and not is_within:
+                    self.report(definition, f"{definition.name} is defined again; the first is in {first.place}")
+                    break
+            earlier.setdefault(definition.blocks, definition)
+
+    def find_plural_readings(self):
+        """Prefixes with a unit that ends in `s`, if the program reads the word as the plural of a symbol."""
+        for unit in [name for name in self.names.units if name.endswith("s")]:
+            readings = [(prefix + unit, self.plural_reading(prefix, unit)) for prefix in self.names.prefixes]
+            misread = [(word, found) for word, found in readings if found]
+            if misread:
+                word, found = misread[0]
+                others = "".join(f", {word}" for word, _ in misread[1:])
+                message = f"{word} is read as {found}, not as a prefix with {unit}; define it"
+                message += others.replace(", ", " (also ", 1)
+                self.report(self.names.units[unit], message + ")" * bool(others))
+
+    def plural_reading(self, prefix, unit):
+        """The plural of a symbol as which a prefix with a unit is read, if its value is another one, or None."""
+        word = prefix + unit
+        if len(word) > LONGEST_MISREADING or not is_usual(prefix, unit):
+            return None
+        if word in self.names.units or word in self.names.functions:
+            return None
+        found = self.names.derived(word)
+        is_misread = is_plural_of_symbols(found) and self.value_of(found) != self.value_of(Reading(prefix, unit))
+        return found if is_misread else None
+
+    def find_shadowing_targets(self):
+        """Lists and functions that take a conversion from a unit of the same name."""
+        for kind in (Kind.FUNCTION, Kind.LIST):
+            for name, definition in self.names.by_kind[kind].items():
+                if name in self.names.units:
+                    self.report(definition, f"{name} is also a unit; a conversion to {name} takes the {kind.value}")
+                elif kind is Kind.LIST and name in self.names.functions:
+                    self.report(definition, f"{name} is also a function; a conversion to {name} takes the function")
+                elif (found := self.names.derived(name)) and not is_plural_of_symbols(found):
+                    message = f"{name} is also read as {found}; a conversion to {name} takes the {kind.value}"
+                    self.report(definition, message)
+
+    def find_misleading_units(self):
+        """Units whose name is a plural or a prefix with a unit of another value."""
+        for name, definition in self.names.units.items():
+            found = self.names.derived(name)
+            if not found or not found.unit or is_symbol(found.unit) or found.prefix and len(found.prefix) < 3:
+                continue
+            value = self.value_of(Reading(None, name))
+            if value and value != (meant := self.value_of(found)):
+                self.report(definition, f"{name} is {value}, but {found} is {meant}")
+
+    def find_english_words(self):
+        for definition in [*self.names.units.values(), *self.names.prefixes.values()]:
+            if definition.name in ENGLISH:
+                self.report(definition, f"{definition.name} is an English word that a query may contain")
+
+    def find_divided_units(self):
+        for definition in self.active:
+            for numbers, below in divided_units(definition.text):
+                advice = f"put ({numbers} / ..) or ({below}) in parentheses"
+                self.report(definition, f"{numbers} / {below} divides by all of {below}; {advice}")
+
+    def find_wrong_dimensions(self):
+        """Definitions that do not conform to the unit that their comment names."""
+        noted = [definition for definition in self.active if definition.unit]
+        units = sorted({definition.unit for definition in noted})
+        expected = dict(zip(units, self.session.values(units)))
+        results = [self.result_of(definition) for definition in noted]
+        values = dict(zip(results, self.session.values(results, [PROBE + " !dimensionless"])))
+        for definition, result in zip(noted, results):
+            found, wanted = values[result], expected[definition.unit]
+            if not result:
+                continue
+            if isinstance(wanted, Fault):
+                self.report(definition, f"the unit {definition.unit} of {definition.name} has no value: {wanted}")
+            elif isinstance(found, Fault):
+                self.report(definition, f"{definition.name} has no value: {found}")
+            elif not found.conforms(wanted):
+                message = f"{definition.name} conforms to {found.dimensions}, not to {definition.unit}"
+                self.report(definition, message)
+
+    def result_of(self, definition, passed=()):
+        """An expression that conforms to what a definition gives; the empty one if it does not say what it gives.
+
+        An alias gives what its target gives. Those that were passed on the way to it may be on a cycle.
+        """
+        if definition.kind is Kind.UNIT:
+            return definition.name
+        if definition.kind is Kind.PREFIX:
+            return definition.name + PROBE
+        if definition.kind is Kind.LIST:
+            return definition.text.split(";")[0].strip()
+        if definition.text.startswith("["):
+            return definition.text[1:].partition("]")[0].strip()
+        option = UNITS_OPTION.search(definition.text)
+        target = re.fullmatch(r"\(\s*\)\s*(\S+?)(\(\))?", definition.text)
+        if target and target[1] in self.names.functions:
+            is_cycle = definition.name in passed
+            return "" if is_cycle else self.result_of(self.names.functions[target[1]], (*passed, definition.name))
+        return option[2].strip() if option else ""
+
+    def find_missing_statuses(self):
+        for definition in self.definitions:
+            if not definition.status:
+                self.report(definition, f"{definition.name} has no status (#= STATUS: SOURCE)")
+            elif not (status := STATUS.match(definition.status)):
+                self.report(definition, f"the status of {definition.name} is not STATUS: SOURCE: {definition.status}")
+            elif status[1] == "rounded" and not RELATIVE_ERROR.search(definition.status):
+                self.report(definition, f"{definition.name} is rounded, but its relative error is missing")
+            elif status[1] == "measured" and not YEAR.search(definition.status):
+                self.report(definition, f"{definition.name} is measured, but the year of the data is missing")
+
+    def find_missing_dimensions(self):
+        for definition in self.definitions:
+            if not definition.unit and definition.kind in (Kind.UNIT, Kind.PREFIX):
+                self.report(definition, f"{definition.name} does not say what it conforms to (#: UNIT)")
+
+
+def is_usual(prefix, unit):
+    """Whether a prefix is written before a unit: a symbol before any name, a word before a word."""
+    if BINARY_PREFIX.fullmatch(prefix):
+        return unit[0] in "bBo"
+    return is_symbol(prefix) or len(unit) > 3
+
+
+def is_plural_of_symbols(reading):
+    """Whether a reading is a plural that nobody writes, such as `hms` for hectometres."""
+    if reading is None or not reading.is_plural:
+        return False
+    return all(is_symbol(name) for name in (reading.prefix, reading.unit) if name)
+
+
+def divided_units(text):
+    """Each `NUMBERS / NUMBER UNIT` in an expression, as the numbers and what is below the line."""
+    tokens = [(match.lastgroup, match.group()) for match in TOKEN.finditer(text)]
+    start = 0  # of the product
+    for at, (kind, token) in enumerate(tokens):
+        if kind == "sign" and token in "+-();[],":
+            start = at + 1
+        elif token in ("/", "per") and [kind for kind, _ in tokens[at + 1 : at + 3]] == ["number", "word"]:
+            above = tokens[start:at]
+            if above and all(kind == "number" or token in "*/" for kind, token in above):
+                yield " ".join(token for _, token in above), f"{tokens[at + 1][1]} {tokens[at + 2][1]}"
+
+
+def notices_of(session, files):
+    """The program's notices on lines that have no effect, each with its place."""
+    for line in session.check():
+        notice = NOTICE.fullmatch(line)
+        if notice and notice[1] in files:
+            yield Place(notice[1], int(notice[2])), notice[3]
+
+
+def findings_of(file, options):
+    """The findings for a file, in the order of its lines."""
+    linter = Linter(read_deck(file), Session(options.program, file, options.locale))
+    linter.find_repeated()
+    linter.find_plural_readings()
+    linter.find_shadowing_targets()
+    linter.find_misleading_units()
+    linter.find_english_words()
+    linter.find_divided_units()
+    linter.find_wrong_dimensions()
+    if options.statuses:
+        linter.find_missing_statuses()
+    if options.dimensions:
+        linter.find_missing_dimensions()
+    order = {name: at for at, name in enumerate(linter.files)}
+    return sorted(linter.findings, key=lambda finding: (order.get(finding[0].file, 0), finding[0].number))
+
+
+def parsed_options():
+    parser = argparse.ArgumentParser(
+        prog="units-lint",
+        description=__doc__.partition("\n\n")[0], epilog=__doc__.partition("FILE..\n\n")[2],
+        formatter_class=argparse.RawDescriptionHelpFormatter,
+    )  # fmt: skip
+    parser.add_argument("files", nargs="+", metavar="FILE")
+    parser.add_argument("--statuses", action="store_true", help="ask for the status of each definition")
+    parser.add_argument("--dimensions", action="store_true", help="ask for the expected unit of each unit and prefix")
+    parser.add_argument("-l", "--locale", default="en_US", help="the locale; otherwise en_US")
+    parser.add_argument("--program", default=default_program(), help="the program units; otherwise the one found first")
+    return parser.parse_args()
+
+
+def write(findings):
+    """Writes the findings with the bytes of the file. A reader that wants no more of them, such as head, ends the run."""
+    sys.stdout.reconfigure(encoding="utf-8", errors="surrogateescape")
+    try:
+        for place, message in findings:
+            print(f"{place}: {message}")
+        sys.stdout.flush()
+    except BrokenPipeError:
+        os.dup2(os.open(os.devnull, os.O_WRONLY), sys.stdout.fileno())
+        sys.exit(1)
+
+
+def main():
+    options, found = parsed_options(), 0
+    for file in options.files:
+        try:
+            findings = findings_of(file, options)
+        except OSError as fault:
+            sys.exit(print(f"lint_units: {file}: {fault.strerror}", file=sys.stderr) or 2)
+        except NoAnswers as fault:
+            sys.exit(print(f"lint_units: {fault}", file=sys.stderr) or 2)
+        write(findings)
+        found += len(findings)
+    sys.exit(1 if found else 0)
+
+
+if __name__ == "__main__":
+    main()

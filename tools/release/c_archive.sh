@@ -1,0 +1,96 @@
+#!/usr/bin/env bash
+# Compiles the proved crate units_c: tools/release/c_archive.sh prints the path of crates/units_c/out/libunits_c.a.
+#
+# It builds over the libraries crates/NAME/out/rlib/NAME.rlib that `rt ci` left, and takes one only if no source of its
+# crate is newer. `rt ci` writes a library after the proof of its crate alone. `rattle build` then checks every proof of
+# units_c over these libraries and compiles the code that it checked, in one command; if a proof fails, it writes
+# nothing. crates/units_c/out/made_from has the toolchain, the checksums of the sources, of each library and of the
+# archive, and the verdict. As long as these are the same, the archive is not made again.
+# Statuses: 1 if units_c is not proved, 3 if a library is missing or older than its sources, 127 without the toolchain.
+set -euo pipefail
+script=$(readlink -f "${BASH_SOURCE[0]}")
+root=${script%/*/*/*}
+# shellcheck source=tools/sources.sh
+. "$root/tools/sources.sh"
+crate=units_c
+out=$root/crates/$crate/out
+archive=$out/lib$crate.a
+made_from=$out/made_from
+
+if [ $# -ne 0 ]; then
+    sed -n '2,/^set/s/^# \{0,1\}//p' "$script" >&2
+    exit 2
+fi
+if ! kit=$(readlink -f "$(command -v rt)"); then
+    echo "c_archive: there is no command rt, which the proofs need" >&2
+    exit 127
+fi
+kit=${kit%/bin/rt}
+
+# sum_of_library NAME: one checksum over the lists in a library, which have the checksum of each of its parts.
+sum_of_library() (
+    cd "$root/crates/$1/out/rlib/$1.rlib" && sha256sum format toolchain/*.json | sha256sum | cut -d ' ' -f 1
+)
+
+# is_current NAME: whether there is a library of the crate, and no source of the crate is newer.
+is_current() {
+    local library=$root/crates/$1/out/rlib/$1.rlib folders=() part
+    [ -e "$library/format" ] || return
+    for part in src specs proofs; do
+        if [ -d "$root/crates/$1/$part" ]; then folders+=("$root/crates/$1/$part"); fi
+    done
+    [ -z "$(find "${folders[@]}" -newer "$library" -print -quit)" ]
+}
+
+# The libraries below, the lowest first, and those that units_c itself names: of this repository, else of the toolchain.
+below=() used=()
+while IFS=: read -r head names; do
+    if [ "${head%% *}" = "$crate" ]; then read -ra used <<< "$names"; else below+=("$head"); fi
+done < <(lines_of "$crate")
+for name in "${below[@]}"; do
+    if ! is_current "$name"; then
+        echo "c_archive: crates/$name/out/rlib/$name.rlib is missing, or a source of $name is newer: run bin/test" >&2
+        exit 3
+    fi
+done
+
+print_inputs() {
+    local name
+    echo "toolchain $(rt version)"
+    echo "sources $(sum_of_sources "$crate")"
+    for name in "${below[@]}"; do
+        echo "library $name $(sum_of_library "$name")"
+    done
+}
+
+mkdir -p "$out"
+inputs=$(print_inputs)
+if [ -e "$archive" ] && [ "$(grep -v '^verdict ' "$made_from" 2> /dev/null)" = "$inputs
+archive $(sha256sum "$archive" | cut -d ' ' -f 1)" ]; then
+    echo "$archive"
+    exit
+fi
+
+words=(--crate-name "$crate" src/lib.rt --crate-type staticlib -L "dependency=$kit/rlibs")
+words+=(--extern "std=$kit/rlibs/std.rlib")
+for name in "${used[@]}"; do
+    path=$root/crates/$name/out/rlib/$name.rlib
+    if ! [ -d "$root/crates/$name" ]; then path=$kit/rlibs/$name.rlib; fi
+    words+=(--extern "$name=$path")
+done
+for name in "${below[@]}"; do words+=(-L "dependency=$root/crates/$name/out/rlib"); done
+words+=(--antt-project "$kit/rattle/logic/antt-project.json" --logic-built "$kit/logic_built" --jobs 2)
+
+rm -f "$archive" "$made_from"
+cd "$root/crates/$crate"
+if ! "$kit/bin/rattle" build "${words[@]}" --toolchain "$kit/toolchain" --backend llvm -o "$archive" \
+    < /dev/null > "$out/build.log" 2>&1; then
+    tail -n 40 "$out/build.log" >&2
+    exit 1
+fi
+{
+    echo "$inputs"
+    echo "archive $(sha256sum "$archive" | cut -d ' ' -f 1)"
+    sed -n 's/^logic=/verdict logic=/p' "$out/build.log"
+} > "$made_from"
+echo "$archive"

@@ -1,0 +1,239 @@
+// The heap of the static program, in place of the toolchain's three functions over malloc. It is made for a program
+// that runs for milliseconds and keeps most of its blocks: a block is a freed one of its class or the next part of a
+// chunk, whose pages are mapped in one call. Freed blocks are not joined, but the sizes of a class differ by an eighth
+// at most, and a freed block above 1 KiB serves as a chunk before more memory is asked for. A block above 128 KiB is a
+// mapping of its own, which grows without a copy and is given back. The first block of 256 KiB, in which a program
+// reads a long definition file, makes a huge page the chunk: the kernel maps it faster than the small pages that the
+// definitions would fill. The next block above 128 KiB, which holds the lines of the definitions, begins in the end of
+// that page and can grow past it in place. In long sessions the program takes at most a tenth more memory than with
+// malloc, beside the rest of that page. Programs with threads cannot use this heap: tools/release/static.sh refuses
+// them.
+#define _GNU_SOURCE
+#include <stdbool.h>
+#include <stddef.h>
+#include <stdint.h>
+#include <string.h>
+#include <sys/mman.h>
+
+// What the toolchain's functions return: whether there was memory, and the block.
+struct tried {
+    bool found;
+    void *block;
+};
+
+// A block begins with its size, which includes this header. What the program gets follows, aligned to 16 bytes, the
+// widest alignment that the toolchain asks for. A freed block leads to the next one of its class.
+struct block {
+    size_t size;
+    struct block *next;
+};
+
+enum {
+    UNIT = 16,
+    HEADER = offsetof(struct block, next),
+    SMALL = 1024,       // up to this size, each multiple of a unit is a class
+    LARGE = 128 * 1024, // above this size, a block is a mapping
+    STEPS = 8,          // classes for each doubling between the two
+    CLASSES = SMALL / UNIT + 7 * STEPS + 1,
+    PAGE = 4096,
+    FIRST_CHUNK = 64 * 1024,
+    LONGEST_CHUNK = 256 * 1024,
+    LONGEST_MAPPED = 512 * 1024, // memory whose pages are mapped at once
+    LONG = 256 * 1024,           // from this size on, a block asks for the huge page
+    HUGE_PAGE = 2 * 1024 * 1024,
+    GROWING_INSIDE = 272 * 1024, // the end of the huge page that is left to the growing block
+    GROWING_ROOM = 544 * 1024,   // the room of that block, with the pages after the huge page
+    POPULATE_WRITE = 23, // an advice of Linux 5.14, which musl's headers lack
+};
+
+static struct block *freed[CLASSES];
+static char *unused, *end_of_chunk; // the rest of the chunk
+static size_t in_chunks;            // the bytes of all chunks
+static char *huge_page;             // NULL if the program has none
+static char *room_to_grow;          // the end of the huge page, NULL once it has been given to a block
+static struct block *growing;       // that block, NULL before it is made and after it is freed
+
+static size_t rounded(size_t size, size_t unit) { return (size + unit - 1) & -unit; }
+
+// An eighth of the largest power of two that is at most the size.
+static size_t step_from(size_t size) { return ((size_t)1 << (63 - __builtin_clzl(size))) / STEPS; }
+
+// The size of a block for so many bytes: that of a class, or of whole pages.
+static size_t block_size(size_t bytes) {
+    size_t size = bytes + HEADER;
+    if (size <= SMALL) return rounded(size, UNIT);
+    return size <= LARGE ? rounded(size, step_from(size - 1)) : rounded(bytes + UNIT, PAGE);
+}
+
+// The class of a size that block_size gives, up to LARGE.
+static size_t class_of(size_t size) {
+    if (size <= SMALL) return size / UNIT;
+    size_t step = step_from(size - 1), doublings = __builtin_ctzl(step) - __builtin_ctzl(SMALL / STEPS);
+    return SMALL / UNIT + doublings * STEPS + size / step - STEPS;
+}
+
+static void put(struct block *block, size_t size) {
+    size_t class = class_of(size);
+    block->size = size;
+    block->next = freed[class];
+    freed[class] = block;
+}
+
+// Frees memory of whole units, as blocks of the largest classes that fit.
+static void put_all(char *memory, size_t left) {
+    while (left > 0) {
+        size_t size = left <= SMALL ? left : left & -step_from(left);
+        if (size > LARGE) size = LARGE;
+        put((struct block *)memory, size);
+        memory += size;
+        left -= size;
+    }
+}
+
+// Frees the rest of the chunk.
+static void leave_chunk(void) {
+    put_all(unused, (size_t)(end_of_chunk - unused) & -UNIT);
+    unused = end_of_chunk;
+}
+
+// New memory from the system. This call maps all pages, in half the time that each takes when it is written first,
+// unless there are so many that the program may well leave most of them unused.
+static char *new_pages(size_t size) {
+    int at_once = size <= LONGEST_MAPPED ? MAP_POPULATE : 0;
+    return mmap(NULL, size, PROT_READ | PROT_WRITE, MAP_PRIVATE | MAP_ANONYMOUS | at_once, -1, 0);
+}
+
+static void use_as_chunk(char *memory, size_t length) {
+    in_chunks += length;
+    unused = memory + UNIT - HEADER;
+    end_of_chunk = memory + length;
+}
+
+// Begins a chunk with room for a block: a freed block, or new memory.
+static bool begin_chunk(size_t size) {
+    leave_chunk();
+    for (size_t class = CLASSES - 1; class > SMALL / UNIT && class >= class_of(size); class--) {
+        struct block *block = freed[class];
+        if (block == NULL) continue;
+        freed[class] = block->next;
+        unused = (char *)block;
+        end_of_chunk = unused + block->size;
+        return true;
+    }
+    size_t length = in_chunks / 4 & -PAGE;
+    if (length < FIRST_CHUNK) length = FIRST_CHUNK;
+    if (length > LONGEST_CHUNK) length = LONGEST_CHUNK;
+    if (length < size + UNIT) length = rounded(size + UNIT, PAGE);
+    char *chunk = new_pages(length);
+    if (chunk == MAP_FAILED) return false;
+    use_as_chunk(chunk, length);
+    return true;
+}
+
+// Makes a huge page the chunk, except its end, if the system has the memory. If it has no huge page, these are small
+// ones. The pages after it are mapped when the growing block comes to them.
+static void begin_huge_page(void) {
+    const size_t kept = HUGE_PAGE + GROWING_ROOM - GROWING_INSIDE, asked = kept + HUGE_PAGE;
+    char *memory = mmap(NULL, asked, PROT_READ | PROT_WRITE, MAP_PRIVATE | MAP_ANONYMOUS, -1, 0);
+    if (memory == MAP_FAILED) return;
+    char *page = (char *)rounded((size_t)memory, HUGE_PAGE), *end = memory + asked;
+    if (page > memory) munmap(memory, (size_t)(page - memory));
+    if (page + kept < end) munmap(page + kept, (size_t)(end - page - kept));
+    madvise(page, HUGE_PAGE, MADV_HUGEPAGE);
+    madvise(page, HUGE_PAGE, POPULATE_WRITE);
+    leave_chunk();
+    use_as_chunk(page, HUGE_PAGE - GROWING_INSIDE);
+    huge_page = page;
+    room_to_grow = page + HUGE_PAGE - GROWING_INSIDE;
+}
+
+// Whether a block above LARGE is a part of the huge page, and no mapping of its own.
+static bool is_in_huge_page(const struct block *block) {
+    return huge_page != NULL && (uintptr_t)block - (uintptr_t)huge_page < HUGE_PAGE;
+}
+
+static struct tried none(void) {
+    static char nothing;
+    return (struct tried){false, &nothing};
+}
+
+static struct tried some(struct block *block, size_t size) {
+    block->size = size;
+    return (struct tried){true, &block->next};
+}
+
+static struct tried mapping(char *memory, size_t size) {
+    return memory == MAP_FAILED ? none() : some((struct block *)(memory + UNIT - HEADER), size);
+}
+
+static struct tried next_block(size_t size) {
+    struct block *block = (struct block *)unused;
+    unused += size;
+    return some(block, size);
+}
+
+__attribute__((noinline)) static struct tried block_of_new_chunk(size_t size) {
+    return begin_chunk(size) ? next_block(size) : none();
+}
+
+static inline struct tried block_of_class(size_t class, size_t size) {
+    struct block *block = freed[class];
+    if (block != NULL) {
+        freed[class] = block->next;
+        return some(block, size);
+    }
+    return (size_t)(end_of_chunk - unused) >= size ? next_block(size) : block_of_new_chunk(size);
+}
+
+// Whether the growing block may have this size.
+static bool fits_growing(size_t size) { return size > LARGE && size <= GROWING_ROOM - UNIT; }
+
+// A block above LARGE.
+static struct tried large_block(size_t size) {
+    if (size >= LONG && huge_page == NULL) {
+        begin_huge_page();
+        if (huge_page != NULL && (size_t)(end_of_chunk - unused) >= size) return next_block(size);
+    } else if (room_to_grow != NULL && fits_growing(size)) {
+        growing = (struct block *)(room_to_grow + UNIT - HEADER);
+        room_to_grow = NULL;
+        return some(growing, size);
+    }
+    return mapping(new_pages(size), size);
+}
+
+// What rattle_alloc does for all but small blocks, which are most.
+__attribute__((noinline)) static struct tried new_block(size_t size) {
+    return size > LARGE ? large_block(size) : block_of_class(class_of(size), size);
+}
+
+struct tried rattle_alloc(size_t bytes, size_t align) {
+    (void)align; // each block is aligned to 16 bytes, also an empty one, which has 8
+    size_t size = rounded(bytes + HEADER, UNIT);
+    return size <= SMALL ? block_of_class(size / UNIT, size) : new_block(block_size(bytes));
+}
+
+void rattle_dealloc(void *old) {
+    struct block *block = (struct block *)((char *)old - HEADER);
+    if (block == growing) growing = NULL;
+    if (block->size <= LARGE) put(block, block->size);
+    else if (is_in_huge_page(block)) put_all((char *)block, block->size);
+    else munmap((char *)old - UNIT, block->size);
+}
+
+struct tried rattle_realloc(void *old, size_t kept, size_t bytes, size_t align) {
+    struct block *block = (struct block *)((char *)old - HEADER);
+    size_t size = block_size(bytes), before = block->size;
+    if (size == before) return some(block, size);
+    if (block == growing && fits_growing(size)) return some(block, size);
+    if (size > LARGE && before > LARGE && !is_in_huge_page(block))
+        return mapping(mremap((char *)old - UNIT, before, size, MREMAP_MAYMOVE), size);
+    if ((char *)block + before == unused && size <= LARGE && (size_t)(end_of_chunk - (char *)block) >= size) {
+        unused = (char *)block + size;
+        return some(block, size);
+    }
+    struct tried moved = rattle_alloc(bytes, align);
+    if (!moved.found) return moved;
+    memcpy(moved.block, old, kept < bytes ? kept : bytes);
+    rattle_dealloc(old);
+    return moved;
+}

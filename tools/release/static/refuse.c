@@ -1,0 +1,38 @@
+// Refuses allocations of the static program, as tools/checks/refuse.c does those of the dynamic one. Each allocation
+// gets a number from 1. The one of the number REFUSED is refused, and if LATER is set each later one too. A byte on
+// stream 9 tells of each. Linked with --wrap=rattle_alloc and --wrap=rattle_realloc.
+#include <stdbool.h>
+#include <stddef.h>
+#include <stdlib.h>
+#include <unistd.h>
+
+struct tried {
+    bool found;
+    void *block;
+};
+
+struct tried __real_rattle_alloc(size_t bytes, size_t align);
+struct tried __real_rattle_realloc(void *old, size_t kept, size_t bytes, size_t align);
+
+static struct tried none(void) {
+    static char nothing;
+    return (struct tried){false, &nothing};
+}
+
+static bool is_refused(void) {
+    static unsigned long number;
+    const char *first = getenv("REFUSED");
+    unsigned long at = first == NULL ? 0 : strtoul(first, NULL, 10);
+    number += 1;
+    if (at == 0 || (getenv("LATER") != NULL ? number < at : number != at)) return false;
+    if (write(9, ".", 1) != 1) abort();
+    return true;
+}
+
+struct tried __wrap_rattle_alloc(size_t bytes, size_t align) {
+    return is_refused() ? none() : __real_rattle_alloc(bytes, align);
+}
+
+struct tried __wrap_rattle_realloc(void *old, size_t kept, size_t bytes, size_t align) {
+    return is_refused() ? none() : __real_rattle_realloc(old, kept, bytes, align);
+}
