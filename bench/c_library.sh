@@ -1,9 +1,9 @@
 #!/usr/bin/env bash
-# Measures the library from C and from Python beside a session of the program, beside its --column, and beside pint
-# (Debian's python3-pint), all in one run over GNU units' definitions. Prints microseconds and seconds, each the lowest
-# of several rounds in which the measurements take turns, and the ratios. Pairs are timed by the clock, since a session
-# works in another process. For columns, ours is a call with its numbers and its answers in memory, and the program's is
-# the whole process, which reads a file of lines and writes a file.
+# Compares the library, from C and from Python, with a session of the program, with its --column, and with pint
+# (Debian's python3-pint), over GNU units' definitions. Prints microseconds and seconds, each the lowest of several
+# rounds in which the measurements take turns, and the ratios. Pairs are timed by the clock, since a session is another
+# process. For columns, `ours` is a call with the numbers and answers in memory, and `the other` is a whole process that
+# reads a file of lines and writes a file.
 #   bench/c_library.sh [ROUNDS]
 # Needs what tools/c_library.sh needs, and Debian's units and python3-pint.
 set -eu

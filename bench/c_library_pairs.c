@@ -21,7 +21,7 @@ int main(int count, char **words) {
     if (file == NULL) return 2;
     units_entry entry = {UNITS_TEXT("main"), (const uint8_t *)text, fread(text, 1, sizeof text, file)};
     fclose(file);
-    units_definitions definitions = {UNITS_TEXT("main"), &entry, 1, NULL, 0, UNITS_TEXT("en_US")};
+    units_definitions definitions = {UNITS_TEXT("main"), &entry, 1, NULL, 0, UNITS_TEXT("en_US"), NULL, 0};
     units_options options = {.exact = 1, .strict = 1, .one_line = 1, .compact = 1};
     units_table table = UNITS_TABLE;
     uint8_t buffer[256];

@@ -1,13 +1,13 @@
 #!/usr/bin/env bash
-# Times a conversion of the last name of a chain, in which each line names the line before it, for chains of several
-# lengths up to the longest that a first file may have. Prints the seconds, the lowest of five runs.
+# Times a conversion of the last name of a chain, in which each line uses the name of the line before. The longest chain
+# is as long as a first file may be. Prints the seconds, the lowest of five runs.
 set -u
 root=$(cd "$(dirname "${BASH_SOURCE[0]}")/.." && pwd)
 program=$("$root/tools/built.sh" units) || exit
 folder=$(mktemp -d)
 trap 'rm -rf "$folder"' EXIT
 
-# chain LINES: such a file. A name is a line's number in the letters a to j, behind an x.
+# chain LINES: such a file. A name is a line's number in the letters a to j, after an x.
 chain() {
     awk -v lines="$1" 'function name(i, digits) {
         digits = i ""

@@ -1,8 +1,8 @@
 #!/usr/bin/env bash
-# Times `units --column` over rows of two fields beside awk, which multiplies the same column and prints the rows.
-# Prints the seconds of the processor, the lowest of some runs.
+# Compares `units --column` over rows of two fields with awk, which multiplies the same column. Prints the seconds of
+# the processor, the lowest of some runs.
 #   bench/columns.sh [ROWS]
-# ROWS is 1,000,000 where no number is given; a run takes 16,777,216 bytes at most.
+# ROWS is 1,000,000 unless it is given; a run takes at most 16,777,216 bytes.
 set -u
 root=$(cd "$(dirname "${BASH_SOURCE[0]}")/.." && pwd)
 program=$("$root/tools/built.sh" units) || exit

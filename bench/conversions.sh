@@ -1,10 +1,10 @@
 #!/usr/bin/env bash
-# Times conversions beside GNU units, in one run: over GNU's own definitions, over the library of share/units (and GNU
-# units over its own definitions), over the example, the check of GNU's definitions, and one query of the last of a
-# chain of 60,000 names. Prints the milliseconds of a run, those of the processor and those that passed, each the lowest
-# of some rounds, and the part of GNU's time.
+# Compares conversions with GNU units in one run: over GNU's own definitions, over the library of share/units (GNU units
+# over its own definitions), over the example, the check of GNU's definitions, and one query of the last of a chain of
+# 60,000 names. Prints the milliseconds of a run by the processor and by the clock, each the lowest of some rounds, and
+# their ratio to GNU's.
 #   bench/conversions.sh [GNU [DEFINITIONS]]
-# GNU is the command of GNU units, and DEFINITIONS its file; without them the command `units` and Debian's file.
+# GNU is the command of GNU units and DEFINITIONS its file; by default the command `units` and Debian's file.
 set -u
 root=$(cd "$(dirname "${BASH_SOURCE[0]}")/.." && pwd)
 program=$("$root/tools/built.sh" units) || exit

@@ -1,11 +1,10 @@
 #!/usr/bin/env bash
-# Times the program of crates/deck_calls: on the definitions of GNU units with their includes, where they are there;
-# on decks of 25,000, 50,000 and 100,000 lines `u_i C u_j`, which are loaded, made by as many calls of `define`,
-# switched to another locale, and lose and gain lines; and on a file of 16 MiB of line feeds that includes itself.
-# Prints the lowest of a few runs, each of the whole process or of the calls alone, by the clock and by the
-# processor's time, and the memory.
+# Times the program of crates/deck_calls on three inputs: the definitions of GNU units, if installed; decks of 25,000,
+# 50,000 and 100,000 lines `u_i C u_j`, which are loaded, made by as many calls of `define`, switched to another locale,
+# and lose and gain lines; and a file of 16 MiB of line feeds that includes itself. Prints the lowest time of a few
+# runs, of the whole process or of the calls alone, by the clock and by the processor, and the memory.
 #   bench/decks.sh [DEFINITIONS]
-# DEFINITIONS are those of Debian's package units where none are given.
+# DEFINITIONS are those of Debian's package units unless they are given.
 set -u
 root=$(cd "$(dirname "${BASH_SOURCE[0]}")/.." && pwd)
 program=$("$root/tools/built.sh" deck_calls) || exit

@@ -1,8 +1,8 @@
 #!/usr/bin/env bash
-# Times the program of crates/entry_calls, which cuts a definition file into lines, reads each definition and list,
-# and writes which are refused: on 16 MiB of a few kinds, on the definitions of GNU units where they are installed,
-# and on single lines of 1 and 2 MiB. Prints the seconds, those of the processor, both the lower of two runs, the
-# greatest memory, and the last line of the report.
+# Times the program of crates/entry_calls, which splits a definition file into lines, parses each definition and list,
+# and counts those that are refused. The inputs are 16 MiB of several kinds of lines, the definitions of GNU units, if
+# installed, and single lines of 1 and 2 MiB. Prints the seconds by the clock and by the processor, the lower of two
+# runs, the peak memory, and the last line of the report.
 set -u
 root=$(cd "$(dirname "${BASH_SOURCE[0]}")/.." && pwd)
 program=$("$root/tools/built.sh" entry_calls) || exit

@@ -1,7 +1,6 @@
 #!/usr/bin/env bash
-# Times the program of crates/text_calls on long texts of a few kinds, of 4, 8 and 16 MiB: it reads the text, parses
-# it, and writes its fault or that there is a tree. Prints the seconds, the lower of two runs, the greatest memory,
-# and the answer.
+# Times the program of crates/text_calls on long texts of 4, 8 and 16 MiB. It parses a text and prints `tree` or the
+# fault. Prints the seconds, the lower of two runs, the peak memory, and the answer.
 set -u
 root=$(cd "$(dirname "${BASH_SOURCE[0]}")/.." && pwd)
 program=$("$root/tools/built.sh" text_calls) || exit

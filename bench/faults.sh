@@ -1,6 +1,6 @@
 #!/usr/bin/env bash
-# Times what has a fault: the check of chains each of whose names leads to one that nobody defines, and sessions of
-# words that nobody defines. Prints the seconds of the processor, the lowest of some runs.
+# Times input with faults: the check of chains whose last name is unknown, and sessions of unknown words. Prints the
+# seconds of the processor, the lowest of some runs.
 #   bench/faults.sh
 set -u
 root=$(cd "$(dirname "${BASH_SOURCE[0]}")/.." && pwd)

@@ -1,12 +1,11 @@
 #!/usr/bin/env bash
-# Times the program of crates/live_calls. Over a chain of 60,000 names, each of which is a multiple of the one before
-# it: the first query of the last one, later ones, queries of all names from the first on and from the last on, and
-# the memory of a settled name; where valgrind is there, the instructions and the misses of a cache of the first query,
-# which no other work changes. Over a ring of as many names: a query, which ends in a cycle of all. Over the
-# definitions of GNU units with their includes, where they are there: all names settled. Prints the lowest of a few
-# runs, less what the load takes.
+# Times the program of crates/live_calls. Over a chain of 60,000 names, each a multiple of the one before: the first
+# query of the last name, later queries, queries of all names in both orders, and the memory of a name; if valgrind is
+# installed, also the instructions and cache misses of the first query, which do not depend on the load. Over a ring of
+# as many names: a query, which ends in a cycle of all. Over the definitions of GNU units, if installed: the values of
+# all names. Prints the lowest of a few runs, less the time of the load.
 #   bench/live.sh [DEFINITIONS]
-# DEFINITIONS are those of Debian's package units where none are given.
+# DEFINITIONS are those of Debian's package units unless they are given.
 set -u
 root=$(cd "$(dirname "${BASH_SOURCE[0]}")/.." && pwd)
 program=$("$root/tools/built.sh" live_calls) || exit

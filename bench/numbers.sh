@@ -1,8 +1,8 @@
 #!/usr/bin/env bash
-# Times the program of crates/number_calls beside Python's fractions on the same 200,000 sums and as many products: of
-# small numbers, of numbers of one word, and of numbers of two words that share a factor. Both read a call a line and
-# write an answer a line. Prints the processor seconds, the lowest of three runs, with the seconds to read and compare
-# the same numbers in parentheses, and whether all answers that do not overflow are equal.
+# Compares the program of crates/number_calls with Python's fractions on the same 200,000 sums and products of small
+# numbers, of numbers of one word, and of numbers of two words that share a factor. Both read a call and write an answer
+# in each line. Prints the seconds of the processor, the lowest of three runs, in parentheses those to read and compare
+# the same numbers, and whether all answers that do not overflow are equal.
 set -u
 root=$(cd "$(dirname "${BASH_SOURCE[0]}")/.." && pwd)
 program=$("$root/tools/built.sh" number_calls) || exit

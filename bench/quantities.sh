@@ -1,8 +1,8 @@
 #!/usr/bin/env bash
-# Times the program of crates/amount_calls beside Python's fractions with a dict of exponents, on the same 100,000
-# calls of a kind: products and quotients of quantities of one, two and six names, sums, and powers. Both read a call
-# a line and write an answer a line. Prints the processor seconds, the lowest of three runs, with the seconds to
-# read and compare the same quantities in parentheses, and whether the answers are equal.
+# Compares the program of crates/amount_calls with Python's fractions and a dict of exponents on the same 100,000 calls
+# of each kind: products and quotients of quantities of one, two and six names, sums, and powers. Both read a call and
+# write an answer in each line. Prints the seconds of the processor, the lowest of three runs, in parentheses those to
+# read and compare the same quantities, and whether the answers are equal.
 set -u
 root=$(cd "$(dirname "${BASH_SOURCE[0]}")/.." && pwd)
 program=$("$root/tools/built.sh" amount_calls) || exit

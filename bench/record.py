@@ -1,13 +1,13 @@
 #!/usr/bin/env python3
-"""Runs measurements and writes their output into bench/README.md.
+"""Runs measurements and writes their results into bench/README.md.
 
-    bench/record.py [SCRIPT..]   runs bench/SCRIPT.sh (all of them by default), keeps each output in bench/results, and
-                                 writes the page
-    bench/record.py --write      writes the page from the outputs that are kept
-    bench/record.py --check      compares the page with the outputs that are kept; the last line is `N passed, M failed`
+    bench/record.py [SCRIPT..]   runs bench/SCRIPT.sh (by default all), keeps each output in bench/results, and writes
+                                 the page
+    bench/record.py --write      writes the page from the kept outputs
+    bench/record.py --check      compares the page with the kept outputs; the last line is `N passed, M failed`
 
-Run it with nothing else at work: each output names the processor and the load of the machine at its start. The output
-of a script that fails is not kept; status 1 with an output says that a bound is missed, and is kept.
+Run it on an idle machine; each output begins with the processor and the load at its start. The output of a script that
+fails is not kept. Status 1 with an output means that a bound is exceeded; that output is kept.
 """
 
 from __future__ import annotations
@@ -19,13 +19,18 @@ import sys
 from datetime import date
 from pathlib import Path
 
+sys.path.insert(0, str(Path(__file__).resolve().parent))
+from tables import shown  # noqa: E402
+
 FOLDER = Path(__file__).resolve().parent
 RESULTS = FOLDER / "results"
 PAGE = FOLDER / "README.md"
 HEAD = """# Measurements
 
-Written by `bench/record.py` from the last output of each script; do not edit. Times vary by a third from run to run and \
-by more between machines, so compare the columns of one run: each script that has a peer runs it in turns with `units`.
+`bench/record.py` writes this page from the last output of each script; do not edit it. The tables have the time by \
+the processor if a script measures it, else by the clock, and the largest size of `scaling.sh`; `bench/results` has the \
+full outputs. Times vary by a third from run to run and by more between machines, so compare the columns of one run: a \
+script that compares programs runs them in turns.
 """
 
 
@@ -34,7 +39,7 @@ def scripts() -> list[str]:
 
 
 def purpose_of(name: str) -> str:
-    """The comment at the head of a script, without its usage."""
+    """The comment at the head of a script, without the usage."""
     lines = (FOLDER / f"{name}.sh").read_text().splitlines()[1:]
     comment = []
     for line in lines:
@@ -51,11 +56,11 @@ def machine() -> str:
 
 
 def record(name: str) -> bool:
-    """Runs a script and keeps its output. False if it fails."""
+    """Runs a script and keeps its output. Returns False if it fails."""
     head = machine()
     run = subprocess.run([FOLDER / f"{name}.sh"], stdout=subprocess.PIPE, check=False)
     if run.returncode > 1 or run.returncode < 0 or not run.stdout:
-        print(f"{name}.sh ended with status {run.returncode}; its last output stays", file=sys.stderr)
+        print(f"{name}.sh ended with status {run.returncode}; its last output is kept", file=sys.stderr)
         return False
     RESULTS.mkdir(exist_ok=True)
     output = run.stdout.decode().replace(f"{FOLDER.parent}/", "")
@@ -71,7 +76,7 @@ def page() -> str:
         parts.append(f"## {name}.sh\n\n{purpose_of(name)}\n")
         if result.exists():
             head, _, output = result.read_text().partition("\n")
-            parts.append(f"{head}:\n\n```\n{output.rstrip()}\n```\n")
+            parts.append(f"{head}:\n\n{shown(name, output.rstrip())}\n")
         else:
             parts.append("No output is recorded.\n")
     return "\n".join(parts)

@@ -1,10 +1,10 @@
 #!/usr/bin/env bash
-# Times reports by the program of crates/answer_calls, over 20,000 names of which each is a multiple of the one at
-# half its number: checks, searches and lists of what conforms, the first one and later ones, and a check where each
-# name leads to an unknown one. Over the definitions of GNU units with their includes, where they are there: a check.
-# Prints the lowest of a few runs, less what the load takes.
+# Times reports of the program of crates/answer_calls over 20,000 names, each a multiple of the one at half its number:
+# checks, searches and lists of conforming units, the first and later ones, and a check in which each name depends on an
+# unknown one; also a check of the definitions of GNU units, if installed. Prints the lowest of a few runs, less the
+# time of the load.
 #   bench/reports.sh [DEFINITIONS]
-# DEFINITIONS are those of Debian's package units where none are given.
+# DEFINITIONS are those of Debian's package units unless they are given.
 set -u
 root=$(cd "$(dirname "${BASH_SOURCE[0]}")/.." && pwd)
 program=$("$root/tools/built.sh" answer_calls) || exit
@@ -42,8 +42,8 @@ def many():
         ("a check", "check"),
         ("what conforms to each of them", "conformable u_0"),
         ("what conforms to none of them", "conformable 1"),
-        ("a search for a text that stands nowhere", "search nosuch"),
-        ("a search for one that stands in each", "search u"),
+        ("a search for a text that is in no name", "search nosuch"),
+        ("a search for one that is in each name", "search u"),
     ]:
         first = timed(["load sound", call, "options"], "ok")
         say(what, first.less(loading), f", {first.memory - loading.memory >> 10} KiB")

@@ -1,7 +1,7 @@
 #!/usr/bin/env bash
-# Times `:save` in a session over decks of 25,000, 50,000 and 100,000 lines `u_i C u_j`, each time to a new file, with
-# the write to the disk; and a load of what was saved. Prints the milliseconds of a save, those of the processor and
-# those that passed, each from the lowest of five sessions of 20 saves, less the lowest of five of none.
+# Times `:save` in a session to a new file, with the write to the disk, over decks of 25,000, 50,000 and 100,000 lines
+# `u_i C u_j`, and a load of the saved file. Prints the milliseconds of a save by the processor and by the clock: the
+# lowest of five sessions of 20 saves, less the lowest of five without saves.
 #   bench/saves.sh
 set -u
 root=$(cd "$(dirname "${BASH_SOURCE[0]}")/.." && pwd)

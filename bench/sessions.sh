@@ -1,9 +1,9 @@
 #!/usr/bin/env bash
-# Times sessions: 50,000 pairs of lines over GNU's own definitions beside GNU units, in one run; and by itself a chain
-# of 60,000 names with 30,000 rounds of an edit and two queries, a chain and a ring of 20,000 names, and 1,000,000
-# blank lines. Prints the seconds of a run, those of the processor and those that passed, each the lowest of three.
+# Times sessions: 50,000 pairs of lines over GNU's definitions, compared with GNU units; and alone a chain of 60,000
+# names with 30,000 rounds of an edit and two queries, a chain and a ring of 20,000 names, and 1,000,000 blank lines.
+# Prints the seconds by the processor and by the clock, each the lowest of three runs.
 #   bench/sessions.sh [GNU [DEFINITIONS]]
-# GNU is the command of GNU units, and DEFINITIONS its file; without them the command `units` and Debian's file.
+# GNU is the command of GNU units and DEFINITIONS its file; by default the command `units` and Debian's file.
 set -u
 root=$(cd "$(dirname "${BASH_SOURCE[0]}")/.." && pwd)
 program=$("$root/tools/built.sh" units) || exit

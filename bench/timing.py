@@ -1,4 +1,4 @@
-"""Times runs of a program that answers calls, one a line."""
+"""Times runs of a program that answers one call in each line."""
 
 import re
 import shutil
@@ -7,8 +7,8 @@ import sys
 import tempfile
 from typing import NamedTuple
 
-# Runs a program in a process of its own, small enough to hide none of its memory, and tells its status, its seconds
-# by the clock and by the processor, and its greatest memory in KiB.
+# Runs a program from a small process, whose memory does not hide the program's, and prints its status, its seconds by
+# the clock and by the processor, and its peak memory in KiB.
 TIMER = """
 import os, sys, time
 start = time.perf_counter()
@@ -28,7 +28,7 @@ class Cost(NamedTuple):
 
 
 def timed(program, calls, wanted, runs=5):
-    """The lowest times of some runs, and the greatest memory in bytes. The last answer has to be the one wanted."""
+    """The lowest times of some runs, and the peak memory in bytes. The last answer has to contain `wanted`."""
     costs = []
     for _ in range(runs):
         with tempfile.TemporaryFile() as given:
@@ -38,19 +38,19 @@ def timed(program, calls, wanted, runs=5):
         status, clock, processor, memory = run.stderr.split()
         last = run.stdout.decode().splitlines()[-1]
         if status != b"0" or wanted not in last:
-            sys.exit(f"{calls[-1]}: status {status}, {last!r} in the place of {wanted!r}")
+            sys.exit(f"{calls[-1]}: status {status}, {last!r} instead of {wanted!r}")
         costs.append(Cost(float(clock), float(processor), int(memory) << 10))
     return Cost(*(min(times) for times in list(zip(*costs))[:2]), max(cost.memory for cost in costs))
 
 
-# Caches of one size on every machine: what lies beyond 1 MB is a miss.
+# The same caches on every machine; the largest has 1 MB.
 CACHES = ["--cache-sim=yes", "--I1=32768,8,64", "--D1=32768,8,64", "--LL=1048576,16,64"]
 COUNTER = ["valgrind", "--tool=cachegrind", *CACHES, "--cachegrind-out-file=/dev/null"]
 
 
 def counted(program, calls):
-    """The instructions of a run and its misses of a cache of 1 MB, which no other work changes, or none of them where
-    valgrind is not there."""
+    """The instructions of a run and its misses of a cache of 1 MB, which do not depend on the load of the machine.
+    None if valgrind is not installed."""
     if shutil.which("valgrind") is None:
         return None
     with tempfile.TemporaryFile() as given:

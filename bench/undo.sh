@@ -1,7 +1,7 @@
 #!/usr/bin/env bash
-# Times the program of crates/history_calls over decks of 100,000 lines `u_i C u_j`: 30,000 lines that are defined,
-# undone one by one and defined again one by one; a line dropped, another locale and a file of a line appended, each
-# undone and made again. Prints the lowest of a few runs, less what the load takes.
+# Times the program of crates/history_calls over decks of 100,000 lines `u_i C u_j`: 30,000 lines are defined, undone
+# one by one and redone one by one; a dropped line, another locale and an appended file of one line are each undone and
+# redone. Prints the lowest of a few runs, less the time of the load.
 #   bench/undo.sh
 set -u
 root=$(cd "$(dirname "${BASH_SOURCE[0]}")/.." && pwd)

@@ -1,7 +1,7 @@
 #!/usr/bin/env bash
-# Times expressions of 9,000 numerals and names in a session of units: products and sums of plain numbers, of a name
-# with one dimension, and of one with three. Prints the milliseconds of one evaluation: the time of 50 lines, less the
-# time of the same lines with an unknown last word, which are parsed and looked up but not evaluated.
+# Times the evaluation of expressions of 9,000 numerals and names in a session: products and sums of plain numbers, of a
+# name with one dimension, and of a name with three. Prints the milliseconds of one evaluation: the time of 50 lines,
+# less the time of the same lines with an unknown last word, which are parsed and looked up but not evaluated.
 set -u
 root=$(cd "$(dirname "${BASH_SOURCE[0]}")/.." && pwd)
 program=$("$root/tools/built.sh" units) || exit

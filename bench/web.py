@@ -1,4 +1,4 @@
-"""web.py PAGE ROUNDS: the times of web.sh."""
+"""web.py PAGE ROUNDS: the measurements of web.sh."""
 
 from __future__ import annotations
 

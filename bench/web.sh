@@ -1,7 +1,7 @@
 #!/usr/bin/env bash
-# Times the page in headless Chromium from opening to the first answer, beside an empty page that compiles the same
-# module, in turns. Prints the lowest and the middle of ROUNDS rounds (10, or the first argument) and their ratio; then
-# the time from typing to the answer over 200 conversions, and the sizes.
+# Times the page in headless Chromium from opening to the first answer, in turns with an empty page that compiles the
+# same module. Prints the lowest and the median of ROUNDS rounds (10, or the first argument) and their ratio, then the
+# time from typing to the answer over 200 conversions, and the sizes.
 set -u
 root=$(cd "$(dirname "${BASH_SOURCE[0]}")/.." && pwd)
 page=$root/release/units.html

@@ -1,4 +1,4 @@
-"""Times units-why beside units, as bench/why.sh says."""
+"""The measurements of bench/why.sh."""
 
 from __future__ import annotations
 
@@ -19,7 +19,7 @@ def name(number: int) -> str:
 
 
 def seconds(command: list[str]) -> float:
-    """The processor's time of a run."""
+    """The processor time of a run."""
     before = resource.getrusage(resource.RUSAGE_CHILDREN)
     subprocess.run(command, stdin=subprocess.DEVNULL, stdout=subprocess.DEVNULL, stderr=subprocess.DEVNULL, check=False)
     after = resource.getrusage(resource.RUSAGE_CHILDREN)

@@ -1,7 +1,7 @@
 #!/usr/bin/env bash
-# Times units-why on the last name of a chain of 60,000 definitions beside the conversion by units, and its --lint beside
-# --check of units over the definitions of GNU units, in turns. Each time is the lowest of ROUNDS rounds (10, or the
-# first argument) by the processor. UNITS_WHY and UNITS name other programs.
+# Compares units-why on the last name of a chain of 60,000 definitions with the conversion by units, and its --lint with
+# --check of units over the definitions of GNU units, in turns. Prints the seconds of the processor, the lowest of
+# ROUNDS rounds (10, or the first argument). UNITS_WHY and UNITS name other programs.
 set -u
 root=$(cd "$(dirname "${BASH_SOURCE[0]}")/.." && pwd)
 program=${UNITS:-$("$root/tools/built.sh" units)} || exit
