@@ -134,6 +134,10 @@ const program = (() => {
             length: (fd, at) => BigInt(contentOf(found(fd, at)).length),
             rename: (from, to) => BigInt(files.rename(nameAt(from), nameAt(to))),
             remove: at => BigInt(files.byName.delete(nameAt(at)) ? 0 : NO_SUCH_FILE),
+            random(at, count) {
+                store(crypto.getRandomValues(new Uint8Array(Number(count))), at);
+                return 0n;
+            },
         };
     }
 

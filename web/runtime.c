@@ -21,6 +21,7 @@ HOST(find) i64 host_find(int fd, const byte *name);
 HOST(length) i64 host_length(int fd, const byte *name);
 HOST(rename) i64 host_rename(const byte *from, const byte *to);
 HOST(remove) i64 host_remove(const byte *name);
+HOST(random) i64 host_random(byte *at, u64 count);
 
 enum { NOT_SEEKABLE = 29, NOT_SUPPORTED = 38 };
 
@@ -45,6 +46,7 @@ i64 write(int fd, const byte *at, u64 count) { return returned(host_write(fd, at
 i64 __write(int fd, const byte *at, u64 count) { return write(fd, at, count); }
 int rename(const byte *from, const byte *to) { return (int)returned(host_rename(from, to)); }
 int unlink(const byte *name) { return (int)returned(host_remove(name)); }
+int getentropy(byte *at, u64 count) { return (int)returned(host_random(at, count)); }
 
 // No stream is seekable and no file is a link. A file in memory needs no synchronization.
 i64 lseek(int fd, i64 at, int how) { return returned(-NOT_SEEKABLE); }

@@ -1,4 +1,4 @@
-# Completions of units, qunits and units-lint for bash.
+# Completions of units, qunits, units-why and units-lint for bash.
 
 # _units_names COMMAND FILE LOCALE: the names that the command converts. An empty file is the built-in definitions.
 _units_names() {
@@ -46,6 +46,7 @@ _units_words() {
         --column --header --trial'
     case ${1##*/} in
         qunits) options+=' --why --names --new --help --version' ;;
+        units-why) options='--digits --exact --json --file --locale --lint --captures --unused' ;;
         units-lint) options='--help --statuses --dimensions --locale --program' ;;
     esac
     case ${1##*/}:$before in
@@ -60,4 +61,4 @@ _units_words() {
             esac ;;
     esac
 }
-complete -F _units_words units qunits units-lint
+complete -F _units_words units qunits units-why units-lint

@@ -1,4 +1,4 @@
-# Completions of units, qunits and units-lint for fish.
+# Completions of units, qunits, units-why and units-lint for fish.
 
 # The names that the command converts, after the part of the word before the last name.
 function __units_expression
@@ -53,6 +53,16 @@ complete -c qunits -l names -d 'All units, functions and lists'
 complete -c qunits -l new -d 'Write a first file of your own definitions'
 complete -c qunits -l help -d Usage
 complete -c qunits -l version -d Version
+
+complete -c units-why -f -a '(__units_expression)'
+complete -c units-why -s d -l digits -x -d 'Significant digits, 1 to 36'
+complete -c units-why -l exact -d 'Numbers as n or n|d'
+complete -c units-why -l json -d 'One JSON object a line'
+complete -c units-why -s f -l file -r -F -d 'Definition file'
+complete -c units-why -s l -l locale -x -a 'en_US en_GB' -d Locale
+complete -c units-why -l lint -d 'What is found in all definitions'
+complete -c units-why -l captures -d 'With --lint also names that hide other readings'
+complete -c units-why -l unused -d 'With --lint also definitions that nothing uses'
 
 complete -c units-lint -F
 complete -c units-lint -l help -d 'What is reported'
