@@ -26,11 +26,11 @@ use Rattle.deck.proofs.Listing.{among_filter, once_filter}
 use Rattle.deck.proofs.Numbered.{all_filter, all_keys, among_all, once_all}
 use Rattle.deck.proofs.Placing.{entry_found}
 
--- the entries of a key differ, by their texts
+-- the entries of a key in two tables have different texts
 abbrev pub differ : Table → Table → Key → Bool
 differ t u k = not (is_same_entry (entry_at t k) (entry_at u k))
 
--- those that differ among keys beside which none differs
+-- if the entries of all keys outside a list agree, the changed keys are those of the list whose entries differ
 pub changed_among : (t u : Table) (keys : List Key) → AreOnce keys
     → ((k : Key) → is_among keys k ≡ false → entry_at t k ≡ entry_at u k) →
     ((k : Key) → is_same_entry (entry_at t k) (entry_at u k) ≡ true → entry_at t k ≡ entry_at u k)
@@ -56,7 +56,7 @@ changed_among t u keys once beside same = record {
         ∙ ap (λ o. not (is_same_entry (entry_at t k) o) && is_among keys k) (sym equal)
         ∙ ap (λ s. not s && is_among keys k) (entry_itself (entry_at t k)))
 
--- where no other key than one differs
+-- if the entries of all other keys agree, the list of changed keys is that one key or empty
 pub changed_at : (t u : Table) (k : Key) → ((j : Key) → is_same j k ≡ false → entry_at t j ≡ entry_at u j)
     → ((j : Key) → is_same_entry (entry_at t j) (entry_at u j) ≡ true → entry_at t j ≡ entry_at u j)
     → IsTableChange t u (key_if (differ t u k) (Some k))
@@ -74,7 +74,7 @@ changed_at t u k others same =
     beside : (j : Key) → is_among (k ∷ []) j ≡ false → entry_at t j ≡ entry_at u j
     beside j h = others j (not_first (is_same j k) h)
 
--- an entry of a table of lines is one that a line defines
+-- an entry of the table is defined by the line at some place
 pub from_place : (lines : List DeckLine) (ds : Definitions) → AreInPlace lines ds → (k : Key) (e : Entry)
     → entry_at (table_of ds) k ≡ Some e → (place : ℕ) × (definition_at lines place ≡ Some (k, e))
 from_place lines ds placed k e h = by (lookup (is_same k) ds) refl (sym (entry_found ds k) ∙ h)
@@ -84,14 +84,14 @@ from_place lines ds placed k e h = by (lookup (is_same k) ds) refl (sym (entry_f
     by None g f = cc
     by (Some v) g f = (v.0, placed k v g ∙ ap (λ o. option_map (λ x. (k, x)) o) f)
 
--- and that it gives
+-- an entry of the table is read from some text
 pub from_line : (lines : List DeckLine) (ds : Definitions) → AreInPlace lines ds → (k : Key) (e : Entry)
     → entry_at (table_of ds) k ≡ Some e → (text : List ℕ) × (entry_of text ≡ Ok (k, e))
 from_line lines ds placed k e h =
     let at = from_place lines ds placed k e h in
     read_at lines at.0 (k, e) at.1
 
--- so the test by texts is right
+-- entries of a key with the same text are equal
 pub same_by_text : SameTextLaw → (lines others : List DeckLine) (ds es : Definitions) → AreInPlace lines ds
     → AreInPlace others es → (k : Key) →
     is_same_entry (entry_at (table_of ds) k) (entry_at (table_of es) k) ≡ true
@@ -100,7 +100,7 @@ same_by_text law lines others ds es placed put k =
     same_entry law k (entry_at (table_of ds) k) (entry_at (table_of es) k) (from_line lines ds placed k)
     (from_line others es put k)
 
--- the entry at the place of a key is its own
+-- the entry at the place of a key is its entry in the table
 pub entry_placed : (lines : List DeckLine) (ds : Definitions) → AreInPlace lines ds → (k : Key)
     → entry_there lines (place_of ds k) ≡ entry_at (table_of ds) k
 entry_placed lines ds placed k = by (lookup (is_same k) ds) refl ∙ sym (entry_found ds k)
@@ -110,7 +110,7 @@ entry_placed lines ds placed k = by (lookup (is_same k) ds) refl ∙ sym (entry_
     by None g = refl
     by (Some v) g = ap (option_map (λ d. d.1)) (placed k v g)
 
--- where an edit leaves all keys but one, the texts at the places of this one tell whether it changes
+-- if an edit changes the entry of no other key, the texts at the two places of the key decide whether it changes
 pub changed_at_places : SameTextLaw → (lines : List DeckLine) (ds es : Definitions) → AreInPlace lines ds
     → AreInPlace lines es → (k : Key) (o : Option Key) (before after : Option ℕ) → o ≡ Some k
     → before ≡ place_of ds k → after ≡ place_of es k
@@ -139,14 +139,14 @@ module _ (store : Store) (numbering : IsNumbering store) (ds : Definitions) (pla
       by None g = g
       by (Some v) g = absurd (true≢false (sym (numbering.each v.0 (k, v.1) (placed k v g)) ∙ e))
 
-  -- the entry at the place of a number is that of its key
+  -- the entry at the place of a number is the entry of its key
   pub entry_numbered : (last : LastPlaces) → AreLast store.names ds last → (n : KeyNumber) (k : Key)
       → key_at store.names n ≡ Some k → entry_there store.lines (place_at last n) ≡ entry_at (table_of ds) k
   entry_numbered last is_last n k e =
       ap (entry_there store.lines) (is_last.place n ∙ ap (option_and_then (place_of ds)) e)
       ∙ entry_placed store.lines ds placed k
 
--- the keys whose entries differ between last places before an edit and last places after it
+-- the changed keys are those whose numbers have different entries at the last places before and after an edit
 pub changed_numbers : SameTextLaw → (edited : Edited) → IsNumbering (store_before edited)
     → IsNumbering (store_after edited) → (before after : LastPlaces) (ds es : Definitions) →
     AreInPlace edited.before ds → AreInPlace edited.after es → AreLast edited.names ds before

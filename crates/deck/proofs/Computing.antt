@@ -1,4 +1,4 @@
--- The keys that an edit changes, as they are computed.
+-- The computed list of the keys that an edit changes.
 use Rattle.std.proofs.Common.{◌≡◌, ◌++◌, ◌||◌, false, refl, sym, ap, ◌∙◌, Option, Some, None}
 use Rattle.std.specs.Option.{is_some}
 use Rattle.def_entry.specs.declared.key.Key.{Key}

@@ -1,4 +1,4 @@
--- How many keys a table has.
+-- The number of keys in a table.
 use Rattle.std.proofs.Common.{◌≡◌, ◌∷◌, ◌+◌, ◌||◌, [], ℕ, suc, Bool, true, false, cond, length, refl, ap, ◌∙◌, arith}
 use Rattle.std.proofs.Common.{Some}
 use Rattle.std.specs.Option.{is_some}
@@ -10,7 +10,7 @@ use Rattle.deck.specs.Changes.{each_once}
 use Rattle.deck.specs.KeyLists.{key_count, of_kind}
 use Rattle.deck.specs.Tables.{Table, entry_at, is_present, keys_of}
 
--- a key is among those of a table where it has an entry
+-- a key is among the keys of a table exactly if it has an entry there
 pub among : (t : Table) (k : Key) → is_among (keys_of t) k ≡ is_present t k
 among [] k = refl
 among (e ∷ t) k = by (is_same k e.0) (among t k)
@@ -20,7 +20,7 @@ among (e ∷ t) k = by (is_same k e.0) (among t k)
     by true ih = refl
     by false ih = ih
 
--- one more key in front
+-- an entry added in front increases the count of its kind exactly if its key had no entry
 pub count_push : (t : Table) (k : Key) (e : Entry) (kind : Kind) → key_count ((k, e) ∷ t) kind ≡
     cond (is_same_kind kind k.kind) (cond (is_present t k) (key_count t kind) (key_count t kind + 1)) (key_count t kind)
 count_push t k e kind =

@@ -1,4 +1,4 @@
--- A line that defines a key, put at the end.
+-- Appending a line that defines a key.
 use Rattle.std.proofs.Common.{◌≡◌, ◌≢◌, ◌++◌, ◌∷◌, ◌<◌, ◌||◌, ◌↔◌, [], ℕ, List, Bool, true, false, true≢false, cond}
 use Rattle.std.proofs.Common.{length, set, refl, sym, ap, subst, ◌∙◌, arith, Some, None, option_map}
 use Rattle.std.proofs.lemmas.Option.{same_Some}
@@ -30,7 +30,7 @@ use Rattle.deck.proofs.Placing.{at_length, in_place}
 use Rattle.deck.proofs.Pushing.{closed_push, placed_push}
 use Rattle.deck.proofs.Sameness.{same_key}
 
--- the key that the number of a line tells that was put at the end
+-- the number of the appended line is the number of its key
 key_put : (store : Store) (x : DeckLine) (k : Key) (e : Entry) (n : KeyNumber) → entry_in x ≡ Some (k, e) →
     Some (key_at (stored_with store x).names n)
     ≡ option_map (λ d. Some d.0) (definition_at (stored_with store x).lines (length store.lines)) →
@@ -40,7 +40,7 @@ key_put store x k e n defines at =
     ap (option_and_then entry_in) (at_length store.lines x []) ∙ defines in
     same_Some _ _ (at ∙ ap (option_map (λ d. Some d.0)) there)
 
--- there is room at the number where there was room for one more key
+-- if there was room for one more key, there is room at the number of the key
 number_put : (store : Store) (x : DeckLine) (k : Key) (e : Entry) (last : LastPlaces) (n : KeyNumber)
     → entry_in x ≡ Some (k, e) →
     length (names_of store.names k.kind) < length (places_of last k.kind)
@@ -55,7 +55,7 @@ number_put store x k e last n defines room key_is =
     subst (λ a. length (names_of store.names a) < length (places_of last a)) own room in
     omega (arith, inside, enough, names_len store.names k n.kind)
 
--- the places of a deck with a line more
+-- after a line is appended, the last places with its place are those of the new store
 indexed_push : (settings : Settings) (store : Store) (x : DeckLine) (k : Key) (e : Entry) (last now : LastPlaces)
     (n : KeyNumber) →
     entry_in x ≡ Some (k, e) → IsNumbering store → IsIndexed store settings last →
@@ -90,7 +90,7 @@ indexed_push settings store x k e last now n defines numbering before room numbe
             ap (place_of ds) p.1
             ∙ ap (option_map (λ d. d.0)) (not_defined store numbering ds (in_place settings store.lines) k p.0)
 
--- what the number of a line tells, in a store that is told
+-- the key with the number of the line is the key that the appended line defines
 told : (store new : Store) (x : DeckLine) (n : KeyNumber) (place : ℕ) → new ≡ stored_with store x
     → place ≡ length store.lines →
     Some (key_at new.names n) ≡ option_map (λ d. Some d.0) (definition_at new.lines place) →
@@ -101,7 +101,7 @@ told store new x n place is at number =
     ≡ option_map (λ d. Some d.0) (definition_at s.lines (length store.lines))) is
     (subst (λ p. Some (key_at new.names n) ≡ option_map (λ d. Some d.0) (definition_at new.lines p)) at number)
 
--- the same two of a store that is told
+-- if there was room for one more key, there is room at the number of the key in the new store
 pub number_pushed : (store new : Store) (x : DeckLine) (k : Key) (e : Entry) (last : LastPlaces) (n : KeyNumber)
     (place : ℕ) →
     new ≡ stored_with store x → place ≡ length store.lines →
@@ -111,7 +111,7 @@ pub number_pushed : (store new : Store) (x : DeckLine) (k : Key) (e : Entry) (la
 number_pushed store new x k e last n place is at defines room number =
     number_put store x k e last n defines room (key_put store x k e n defines (told store new x n place is at number))
 
--- where a line that defines a key is put at the end, the last places with its place are those of the longer store
+-- if a line that defines a key is appended, the last places with its place are those of the new store
 pub indexed_pushed : (settings : Settings) (store new : Store) (x : DeckLine) (k : Key) (e : Entry)
     (last now : LastPlaces) (n : KeyNumber) (place : ℕ) →
     new ≡ stored_with store x → place ≡ length store.lines →
@@ -128,7 +128,7 @@ indexed_pushed settings store new x k e last now n place is at defines numbering
     (λ a. put a ∙ ap (λ p. cond (is_same_kind a n.kind) (set (places_of last a) n.number (Some p)) (places_of last a))
     at))
 
--- other last places that tell the same
+-- other last places with the same places are also those of the store
 pub indexed_same : (store : Store) (settings : Settings) (old now : LastPlaces)
     → ((a : Kind) → HasSamePlaces (places_of old a) (places_of now a)) →
     IsIndexed store settings old → IsIndexed store settings now
@@ -141,7 +141,7 @@ indexed_same store settings old now same before =
 
 module _ (d : Contents) (closed : IsClosed d.lines) (text : List ℕ) (k : Key) (e : Entry)
     (defines : entry_in (plain_line 0 text) ≡ Some (k, e)) where
-  -- the table with the line at its front
+  -- the new table is the old one with the entry of the line in front
   table_push : table (with_line text d) ≡ (k, e) ∷ table d
   table_push = ap table_of (placed_push d.settings d.lines closed (plain_line 0 text) (k, e) defines)
 
@@ -154,7 +154,7 @@ module _ (d : Contents) (closed : IsClosed d.lines) (text : List ℕ) (k : Key) 
   at_key : (j : Key) → is_same j k ≡ true → entry_at (table (with_line text d)) j ≡ Some e
   at_key j h = after j ∙ ap (λ b. cond b (Some e) (entry_at (table d) j)) h
 
-  -- the entry is other than before
+  -- if the key had another entry or none, the change is this key
   pub changed_one : entry_at (table d) k ≢ Some e → IsChange d (with_line text d) (k ∷ [])
   changed_one differs = record { changed = λ j. by j (is_same j k) refl; once = (refl, tt) }
     where
@@ -166,7 +166,7 @@ module _ (d : Contents) (closed : IsClosed d.lines) (text : List ℕ) (k : Key) 
       )
       by j false h = (λ _. apart j h, λ _ m. true≢false (sym m ∙ ap (λ b. b || false) h))
 
-  -- the entry is as before
+  -- if the key had the same entry, no key changes
   pub changed_none : entry_at (table d) k ≡ Some e → IsChange d (with_line text d) []
   changed_none same = record { changed = λ j. (λ _. by j (is_same j k) refl, λ _ m. true≢false (sym m)); once = tt }
     where

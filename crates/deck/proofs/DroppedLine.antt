@@ -1,4 +1,4 @@
--- The line at the last place of a key, taken out of a deck.
+-- Removing the last active line of a key from a deck.
 use Rattle.std.proofs.Common.{◌≡◌, ◌<◌, ℕ, List, false, not, cond, length, map, set, refl, sym, ap, subst, ◌∙◌}
 use Rattle.std.proofs.Common.{Option, Some, None, Ok, option_map}
 use Rattle.std.proofs.lemmas.Option.{same_Some}
@@ -40,18 +40,18 @@ module _ (settings : Settings) (store : Store) (notices : List (List ℕ)) (d : 
   defines : (e : Entry) × DefinesAt store.lines place (k, e)
   defines = defined_last settings store.lines k place was
 
-  -- it is one of the lines
+  -- the place is within the lines
   pub line_inside : place < length store.lines
   line_inside = within settings store.lines place (k, defines.0) defines.1
 
-  -- it defines a key
+  -- the line at the place defines a key
   pub line_defines : None ≡ option_map (λ e. Some e.0) (definition_at store.lines place) → ⊥
   line_defines h = never (h ∙ ap (option_map (λ e. Some e.0)) defines.1)
     where
       never : None ≡ Some (Some k) → ⊥
       never g = cc
 
-  -- the edit takes it out
+  -- the edit removes this line
   pub line_dropped : (left : List DeckLine) → left ≡ dropped place store.lines
       → after_drop k d ≡ Ok (record { lines = left; settings = settings; notices = notices })
   line_dropped left given =
@@ -61,17 +61,17 @@ module _ (settings : Settings) (store : Store) (notices : List (List ℕ)) (d : 
 
   module _ (n : KeyNumber)
       (told : Some (key_at store.names n) ≡ option_map (λ e. Some e.0) (definition_at store.lines place)) where
-    -- the number that it tells is that of the key
+    -- the number of the line is the number of the key
     numbered : key_at store.names n ≡ Some k
     numbered = same_Some (key_at store.names n) (Some k) (told ∙ ap (option_map (λ e. Some e.0)) defines.1)
 
-    -- and has a place
+    -- the number is within the places
     pub room_drop : (old : LastPlaces) → IsIndexed store settings old → n.number < length (places_of old n.kind)
     room_drop old indexed =
         place_within (places_of old n.kind) n.number place
         (indexed.places.place n ∙ ap (option_and_then (place_of (definitions settings store.lines))) numbered ∙ was)
 
-    -- no other key has it
+    -- the place is the last place of each key with this number
     pub last_drop : (j : Key) → key_at store.names n ≡ Some j → last_place settings store.lines j ≡ Some place
     last_drop j at =
         ap (last_place settings store.lines) (same_Some j k (sym at ∙ numbered)) ∙ was
@@ -80,7 +80,7 @@ module _ (settings : Settings) (store : Store) (notices : List (List ℕ)) (d : 
         (covers : (j : Key) → key_at store.names n ≡ Some j
         → uncovered ≡ place_of (definitions_by (set (active_lines settings store.lines) place false) store.lines) j)
       where
-        -- the last places, of which that of the key is the one that it uncovers
+        -- after the uncovered place replaces that of the key, the last places are those of the remaining definitions
         last_left : IsNumbering store → (old put : LastPlaces) → IsIndexed store settings old →
             ((kind : Kind) → places_of put kind ≡ cond (is_same_kind kind n.kind)
             (set (places_of old kind) n.number uncovered) (places_of old kind)) →
@@ -89,7 +89,7 @@ module _ (settings : Settings) (store : Store) (notices : List (List ℕ)) (d : 
             last_uncovered settings store n k defines.0 place (set (active_lines settings store.lines) place false)
             uncovered numbered was defines.1 refl (covers k numbered) numbering old put indexed.places one
 
-        -- each is that of a line
+        -- each of these places is that of a line which defines the key
         pub defined_left : IsNumbering store → (old put : LastPlaces) → IsIndexed store settings old →
             ((kind : Kind) → places_of put kind ≡ cond (is_same_kind kind n.kind)
             (set (places_of old kind) n.number uncovered) (places_of old kind)) →
@@ -99,7 +99,7 @@ module _ (settings : Settings) (store : Store) (notices : List (List ℕ)) (d : 
             (in_place_by (set (active_lines settings store.lines) place false) store.lines)
             (last_left numbering old put indexed one)
 
-        -- the deck without it
+        -- after the places after the gap are decremented, the last places are those of the deck without the line
         pub indexed_drop : IsNumbering store → (old put now : LastPlaces) → IsIndexed store settings old →
             ((kind : Kind) → places_of put kind ≡ cond (is_same_kind kind n.kind)
             (set (places_of old kind) n.number uncovered) (places_of old kind)) →
@@ -111,7 +111,7 @@ module _ (settings : Settings) (store : Store) (notices : List (List ℕ)) (d : 
             store.lines) put) (sym names) (last_left numbering old put indexed one))
             gap
 
-        -- its table is that of the lines whose flags are left
+        -- the table without the line is that of the definitions whose flag for the line is false
         table_left : (left : List DeckLine) → left ≡ dropped place store.lines
             → table_of (definitions settings left) ≡ table_of
             (definitions_by (set (active_lines settings store.lines) place false) store.lines)
@@ -120,7 +120,7 @@ module _ (settings : Settings) (store : Store) (notices : List (List ℕ)) (d : 
             ∙ ap table_of (definitions_dropped settings store.lines place (k, defines.0) defines.1)
             ∙ table_moved place (definitions_by (set (active_lines settings store.lines) place false) store.lines)
 
-        -- the keys that this changes
+        -- the keys that the removal changes
         pub changed_drop : SameTextLaw → (left : List DeckLine) (keys : List Key) → left ≡ dropped place store.lines
             → keys ≡ key_if (not (is_same_entry (entry_there store.lines (Some place))
             (entry_there store.lines uncovered))) (key_at store.names n) →

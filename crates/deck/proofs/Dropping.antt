@@ -1,4 +1,4 @@
--- A line that defines a key, taken out.
+-- Removing a line that defines a key.
 use Rattle.std.proofs.Common.{◌≡◌, ◌++◌, ◌∷◌, ◌+◌, ◌<◌, ◌≤◌, [], ℕ, zero, suc, List, Bool, true, false, cond, length}
 use Rattle.std.proofs.Common.{map, set, take, drop, reverse, refl, sym, ap, subst, ◌∙◌, arith, Option, Some, None}
 use Rattle.std.proofs.Common.{option_map, slice_get}
@@ -33,7 +33,7 @@ use Rattle.deck.proofs.Marking.{length-activity}
 use Rattle.deck.proofs.Placing.{in_place}
 use Rattle.deck.proofs.Pushing.{inside, plain_by}
 
--- images may be reversed first
+-- mapping a reversed list gives the reversed image
 map_reverse : {A B : Type 0} (f : A → B) (xs : List A) → map f (reverse xs) ≡ reverse (map f xs)
 map_reverse f [] = refl
 map_reverse f (x ∷ xs) =
@@ -41,15 +41,15 @@ map_reverse f (x ∷ xs) =
     ∙ ap (λ ys. ys ++ f x ∷ []) (map_reverse f xs)
     ∙ sym (reverse-append (f x ∷ []) (map f xs))
 
--- a list without the item at a place
+-- the list without the item at a place
 abbrev pub dropped : {A : Type 0} → ℕ → List A → List A
 dropped place xs = take place xs ++ drop (place + 1) xs
 
--- a definition whose place is one less behind the gap
+-- the definitions, with each place after the gap decremented
 abbrev pub moved : ℕ → Definitions → Definitions
 moved gap ds = map (λ d. (d.0, (without_gap gap d.1.0, d.1.1))) ds
 
--- a line that defines a key leaves what is around it
+-- a line of this kind that defines a key does not change the state
 kind_stays : (text : List ℕ) (e : Key × Entry) (locale : List ℕ) (around : Surroundings) (kind : Kind)
     → defined_by (reading_by text kind) ≡ Some e → behind_kind locale around kind ≡ around
 kind_stays text e locale around line.Definition h = refl
@@ -69,7 +69,7 @@ kind_stays text e locale around (line.Set v x) h = cc
 kind_stays text e locale around (line.Message t) h = refl
 kind_stays text e locale around line.Prompt h = refl
 
--- a line that defines a key leaves what is around it
+-- a line that defines a key does not change the state
 stays : (locale : List ℕ) (around : Surroundings) (x : DeckLine) (e : Key × Entry) → entry_in x ≡ Some e
     → behind_line locale around x ≡ around
 unfolding entry_in reading_of behind_line
@@ -80,7 +80,7 @@ stays locale around x e h = by x.mark h
     by true g = refl
     by false g = kind_stays x.text e locale around (kind_of x.text) g
 
--- and the blocks that are open
+-- a line that defines a key does not change the open blocks
 pub blocks_stay : (blocks : List Ending) (x : DeckLine) (e : Key × Entry) → entry_in x ≡ Some e
     → blocks_past blocks x ≡ Some blocks
 unfolding blocks_past
@@ -92,7 +92,7 @@ blocks_stay blocks x e h =
 abbrev pub DefinesAt : List DeckLine → ℕ → Key × Entry → Type 0
 DefinesAt lines place e = definition_at lines place ≡ Some e
 
--- the flags of the other lines are the same
+-- removing the line does not change the flags of the other lines
 pub activity_dropped : (lines : List DeckLine) (place : ℕ) (e : Key × Entry) (locale : List ℕ) (around : Surroundings)
     → DefinesAt lines place e →
     activity locale around (dropped place lines) ≡ dropped place (activity locale around lines)
@@ -106,7 +106,7 @@ activity_dropped (x ∷ lines) (suc place) e locale around h =
     ∙ sym (ap (λ n. is_active around x ∷ take place (activity locale (behind_line locale around x) lines)
     ++ drop n (activity locale around (x ∷ lines))) next)
 
--- so without it the same blocks are open
+-- the blocks that are open after the lines are the same without the line
 blocks_dropped : (lines : List DeckLine) (place : ℕ) (e : Key × Entry) (blocks : List Ending) → DefinesAt lines place e
     → blocks_after blocks (dropped place lines) ≡ blocks_after blocks lines
 blocks_dropped [] place e blocks h = cc
@@ -124,7 +124,7 @@ blocks_dropped (x ∷ lines) (suc place) e blocks h =
     by None f = refl
     by (Some now) f = f now
 
--- definitions behind the gap
+-- the places of definitions after the gap are decremented
 from_behind : (fs : List Bool) (lines : List DeckLine) (n gap : ℕ) → gap ≤ n
     → moved gap (definitions_from (n + 1) fs lines) ≡ definitions_from n fs lines
 from_behind [] lines n gap h = refl
@@ -143,7 +143,7 @@ from_behind (f ∷ fs) (x ∷ lines) n gap h =
     by true (Some e) = ap (λ m. (e.0, (m, e.1)) ∷ []) less
     by false (Some e) = refl
 
--- definitions of which the line at the gap is none
+-- without the line at the gap, its definition is missing and the later places are decremented
 from_dropped : (fs : List Bool) (lines : List DeckLine) (n place : ℕ) → place < length lines → length fs ≡ length lines
     →
     moved (n + place) (definitions_from n (set fs place false) lines)
@@ -178,7 +178,7 @@ from_dropped (f ∷ fs) (x ∷ lines) n (suc place) h e =
     by true (Some d) = ap (λ m. (d.0, (m, d.1)) ∷ []) same
     by false (Some d) = refl
 
--- what a key finds is moved
+-- the place of a key moves with its definition
 place_moved : (gap : ℕ) (ds : Definitions) (k : Key)
     → place_of (moved gap ds) k ≡ option_map (without_gap gap) (place_of ds k)
 place_moved gap [] k = refl
@@ -190,12 +190,12 @@ place_moved gap (d ∷ ds) k = by (is_same k d.0) (place_moved gap ds k)
     by true ih = refl
     by false ih = ih
 
--- definitions whose places move have the same table
+-- moving the places does not change the table
 pub table_moved : (gap : ℕ) (ds : Definitions) → table_of (moved gap ds) ≡ table_of ds
 table_moved gap [] = refl
 table_moved gap (d ∷ ds) = ap (λ t. (d.0, d.1.1) ∷ t) (table_moved gap ds)
 
--- and the last places move alike
+-- if the definitions move, the last places move in the same way
 last_moved : (names : Names) (gap : ℕ) (ds : Definitions) (old now : LastPlaces) → AreLast names ds old →
     ((kind : KeyKind) → places_of now kind ≡ map (option_map (without_gap gap)) (places_of old kind))
     → AreLast names (moved gap ds) now
@@ -222,7 +222,7 @@ module _ (settings : Settings) (lines : List DeckLine) (place : ℕ) (e : Key ×
       by None h g = cc
       by (Some x) h g = slice_get_within lines place x h
 
-  -- the definitions without the line are those that its flag leaves out
+  -- the definitions without the line are those whose flag for the line is false, with the later places decremented
   pub definitions_dropped : definitions settings (dropped place lines)
       ≡ moved place (definitions_by (set (active_lines settings lines) place false) lines)
   unfolding definitions
@@ -239,7 +239,7 @@ module _ (settings : Settings) (lines : List DeckLine) (place : ℕ) (e : Key ×
       zero_plus : (m : ℕ) → 0 + m ≡ m
       zero_plus m = omega arith
 
-  -- a deck without the line
+  -- after the removal the moved last places are those of the store
   pub indexed_dropped : (store : Store) (old now : LastPlaces) → store.lines ≡ dropped place lines → IsClosed lines →
       AreLast store.names (definitions_by (set (active_lines settings lines) place false) lines) old →
       ((kind : KeyKind) → places_of now kind ≡ map (option_map (without_gap place)) (places_of old kind))

@@ -1,4 +1,4 @@
--- The line that a last line uncovers is one before it.
+-- The uncovered line is one before the removed line.
 use Rattle.std.proofs.Common.{◌≡◌, ◌++◌, ◌∷◌, ◌+◌, ◌≤◌, [], ℕ, zero, suc, List, Bool, true, false, cond, set, take}
 use Rattle.std.proofs.Common.{reverse, refl, sym, ap, ◌∙◌, arith, Option, Some, None, option_map, length, ◌<◌, get_or}
 use Rattle.std.proofs.lemmas.List.{reverse-append, take_more}
@@ -22,7 +22,7 @@ use Rattle.deck.proofs.Lasting.{by_step}
 use Rattle.deck.proofs.Marking.{length-activity}
 use Rattle.deck.proofs.Uncovering.{found-append, found_first}
 
--- of what two lists of definitions give from behind, the second counts first
+-- the last place of a key in two lists of definitions is that in the second list, or else that in the first
 split : (first second : Definitions) (k : Key) → place_of (reverse (first ++ second)) k
     ≡ found_first (place_of (reverse second) k) (place_of (reverse first) k)
 split first second k =
@@ -35,7 +35,7 @@ split first second k =
     by None p = refl
     by (Some d) p = refl
 
--- what a line defines has the place of the line
+-- the definition of a line has the place of the line
 own : (n : ℕ) (f : Bool) (o : Option (Key × Entry)) (k : Key) (p : ℕ)
     → place_of (reverse (definition_by n f o)) k ≡ Some p → n ≡ p
 own n f None k p h = cc
@@ -46,12 +46,12 @@ own n true (Some d) k p h = by (is_same k d.0) h
     by true g = same_Some n p g
     by false g = cc
 
--- what is not active defines nothing
+-- a line that is not active defines nothing
 off : (n : ℕ) (o : Option (Key × Entry)) (k : Key) → place_of (reverse (definition_by n false o)) k ≡ None
 off n None k = refl
 off n (Some d) k = refl
 
--- what lines from a place on define is not before it
+-- no definition of the lines from a place on has an earlier place
 not_before : (fs : List Bool) (lines : List DeckLine) (n : ℕ) (k : Key) (p : ℕ)
     → place_of (reverse (definitions_from n fs lines)) k ≡ Some p → n ≤ p
 not_before [] lines n k p h = cc
@@ -70,7 +70,7 @@ not_before (f ∷ fs) (x ∷ lines) n k p h =
         let same : n ≡ p = own n f (entry_in x) k p g in
         omega (arith, same)
 
--- without the last line of a key that key has the place that the lines before it give
+-- without the last line of a key, the last place of that key is the one among the lines before it
 before_last : (fs : List Bool) (lines : List DeckLine) (n place : ℕ) (k : Key)
     → place_of (reverse (definitions_from n fs lines)) k ≡ Some (n + place)
     → place_of (reverse (definitions_from n (set fs place false) lines)) k
@@ -112,7 +112,7 @@ before_last (f ∷ fs) (x ∷ lines) n (suc place) k h =
         let same : n ≡ n + suc place = own n f (entry_in x) k (n + suc place) g in
         absurd (omega (arith, same))
 
--- the place that the last line of a key uncovers
+-- the uncovered place is the last one among the lines before the removed line
 pub uncovered_before : (settings : Settings) (lines : List DeckLine) (k : Key) (place : ℕ)
     → last_place settings lines k ≡ Some place
     → place_of (definitions_by (take place (active_lines settings lines)) (take place lines)) k
@@ -122,7 +122,7 @@ uncovered_before settings lines k place h =
     let from_zero : place ≡ 0 + place = omega arith in
     sym (before_last (active_lines settings lines) lines 0 place k (h ∙ ap Some from_zero))
 
--- the same by the last line of the key that is found before it
+-- the same place is found by going back to the last line of the key before the removed line
 module _ (settings : Settings) (store : Store) (n : KeyNumber) (place end : ℕ)
     (last : (k : Key) → key_at store.names n ≡ Some k → last_place settings store.lines k ≡ Some place)
     (same : (k : Key) (flags : List Bool) → key_at store.names n ≡ Some k → length flags ≡ length store.lines
@@ -146,7 +146,7 @@ module _ (settings : Settings) (store : Store) (n : KeyNumber) (place end : ℕ)
 
 module _ (lines : List DeckLine) (fs : List Bool) (i : ℕ) (k : Key) (same : length fs ≡ length lines)
     (within : i < length lines) where
-  -- a line that does not define the key gives it no place
+  -- a line that does not define the key does not change its last place
   pub line_skipped : ((active : Bool) (ds : Definitions)
       → place_of ds k ≡ place_of (definition_by i active (definition_at lines i) ++ ds) k) →
       place_of (definitions_by (take (i + 1) fs) (take (i + 1) lines)) k

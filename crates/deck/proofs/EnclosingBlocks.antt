@@ -1,4 +1,4 @@
--- The walk over the lines keeps the blocks that enclose the next line and the variables before it.
+-- The pass over the lines computes the blocks that enclose the next line and the variables before it.
 use Rattle.std.proofs.Common.{◌≡◌, ◌&&◌, ℕ, zero, suc, List, [], ◌∷◌, ◌++◌, Bool, true, false, not, cond, Option, Some}
 use Rattle.std.proofs.Common.{None}
 use Rattle.std.proofs.Common.{drop, is_some, length, reverse, refl, sym, ◌∙◌, ap, subst, append_assoc, append-nil}
@@ -30,7 +30,7 @@ value_append (x ∷ xs) ys name =
     ap (λ o. cond (bytes_eq name x.0) (Some x.1) o) (value_append xs ys name)
     ∙ sym (or_cond (bytes_eq name x.0) x.1 (value_of xs name) (value_of ys name))
 
--- a pair behind others that have its name changes no value
+-- a pair appended after another value of the same variable changes no value
 covered : (xs : Pairs) (name value other : List ℕ) → is_some (value_of xs name) ≡ true
     → value_of (xs ++ (name, value) ∷ []) other ≡ value_of xs other
 covered xs name value other some =
@@ -52,19 +52,19 @@ drop_outer [] zero = refl
 drop_outer [] (suc k) = refl
 drop_outer (b ∷ holds) k = refl
 
--- what is kept, and what stands around: the blocks that enclose, from the innermost, and the values of the variables
+-- the state has these enclosing blocks, innermost first, and these values of the variables
 record Fits (kept : Surroundings) (blocks : ℕ → List Bool) (vars : Pairs) : Type 0 where
   holds : (k : ℕ) → blocks k ≡ drop k kept.holds
   values : (name : List ℕ) → value_of vars name ≡ value_of kept.vars name
 
 module _ (locale : List ℕ) (kept : Surroundings) (blocks : ℕ → List Bool) (vars : Pairs) (h : Fits kept blocks vars)
   where
-    -- a beginning
+    -- a line that begins a block
     opened : (b c ends : Bool) → b ≡ c → (k : ℕ) → blocks_with (Some b) ends blocks k ≡ drop k (c ∷ kept.holds)
     opened b c ends e zero = λ i. e i ∷ h.holds zero i
     opened b c ends e (suc k) = h.holds k
 
-    -- no setting
+    -- a line that sets nothing
     as_before : (b : Bool) (name : List ℕ) → value_of (cond b (vars ++ []) vars) name ≡ value_of kept.vars name
     as_before true name = ap (λ (x : Pairs). value_of x name) (append-nil vars) ∙ h.values name
     as_before false name = h.values name
@@ -73,7 +73,7 @@ module _ (locale : List ℕ) (kept : Surroundings) (blocks : ℕ → List Bool) 
     Behind k = Fits (behind_kind locale kept k) (blocks_with (block_begun locale vars k) (ends_block k) blocks)
         (cond (list_all (λ holds. holds) (blocks 0)) (vars ++ pair_set k) vars)
 
-    -- a setting
+    -- a line that sets a variable
     set_holds : (b : Bool) (more : Surroundings) → more.holds ≡ kept.holds → (cond b more kept).holds ≡ kept.holds
     set_holds true more e = e
     set_holds false more e = refl
@@ -99,7 +99,7 @@ module _ (locale : List ℕ) (kept : Surroundings) (blocks : ℕ → List Bool) 
         (h.holds 0)
         ∙ put name value other (all_hold kept) (is_some (value_of kept.vars name)) refl
 
-    -- behind a line without a mark
+    -- the state after a line without a mark fits
     behind : (k : Kind) → Behind k
     behind (line.Locale l) = record {
       holds = opened (bytes_eq l locale) (bytes_eq l locale) false refl;
@@ -146,7 +146,7 @@ module _ (locale : List ℕ) (kept : Surroundings) (blocks : ℕ → List Bool) 
     behind line.UnknownDirective = record { holds = h.holds; values = as_before (list_all (λ holds. holds) (blocks 0)) }
     behind line.BadDirective = record { holds = h.holds; values = as_before (list_all (λ holds. holds) (blocks 0)) }
 
-    -- behind a line, with a mark or without one
+    -- the state after a line, with a mark or without, fits
     behind_marked : (mark : Bool) (k : Kind)
         → Fits (cond mark kept (behind_kind locale kept k))
         (λ passed. cond mark (blocks passed) (blocks_with (block_begun locale vars k) (ends_block k) blocks passed))
@@ -156,7 +156,7 @@ module _ (locale : List ℕ) (kept : Surroundings) (blocks : ℕ → List Bool) 
 
 -- ---- lines
 module _ (settings : Settings) where
-  -- what is kept behind lines, the last of them first
+  -- the state after lines, of which the last comes first
   abbrev kept_behind : List DeckLine → Surroundings
   kept_behind [] = start settings
   kept_behind (x ∷ earlier) = behind_line settings.locale (kept_behind earlier) x
@@ -188,7 +188,7 @@ module _ (settings : Settings) where
       (sym (ap (λ (ls : List DeckLine). ls ++ earlier) (reverse-append (b ∷ []) before)
       ∙ append_assoc (reverse before) (b ∷ []) earlier))
 
--- a line of a deck, by the lines before it
+-- a line of a deck is active exactly if it is active after the lines before it
 pub active_at : (settings : Settings) (before : List DeckLine) (x : DeckLine) (later : List DeckLine)
     → slice_get (active_lines settings (before ++ x ∷ later)) (length before)
     ≡ Some (is_active_after settings (reverse before) x)

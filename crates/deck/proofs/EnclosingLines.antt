@@ -1,4 +1,4 @@
--- The blocks that enclose a line are those of the lines that enclose it.
+-- The blocks found by going back from a line are those of the lines that enclose it.
 use Rattle.std.proofs.Common.{◌≡◌, ◌&&◌, ℕ, zero, suc, List, [], ◌∷◌, ◌++◌, Bool, true, false, not, cond, Option, Some}
 use Rattle.std.proofs.Common.{None}
 use Rattle.std.proofs.Common.{is_some, refl, sym, ap, subst}
@@ -12,7 +12,7 @@ use Rattle.deck.specs.Enclosing.{EnclosingLaw, Encloses, block_begun, enclosing_
 use Rattle.deck.specs.Enclosing.{blocks_with, begins_block, skip_before, skip_before_all, vars_after}
 use Rattle.deck.proofs.EnclosingBlocks.{active_at}
 
--- ---- truths of pairs
+-- ---- conjunctions
 and_first : (a b : Bool) → (a && b) ≡ true → a ≡ true
 and_first true b e = refl
 and_first false b e = cc
@@ -38,7 +38,7 @@ AllHold blocks = list_all (λ holds. holds) blocks ≡ true
 
 -- ---- one line back
 module _ (blocks : ℕ → List Bool) where
-  -- what holds with it holds before it
+  -- if all blocks found with this line hold, so do those found before it
   hold_before : (mark : Bool) (o : Option Bool) (ends : Bool) (k : ℕ)
       → AllHold (cond mark (blocks k) (blocks_with o ends blocks k))
       → AllHold (blocks (cond mark k (skip_before (is_some o) ends k)))
@@ -48,7 +48,7 @@ module _ (blocks : ℕ → List Bool) where
   hold_before false None true k h = h
   hold_before false None false k h = h
 
-  -- what holds before it holds with it, if its own block does
+  -- if all blocks found before this line hold, and its own block holds or is skipped, so do those found with it
   hold_with : (mark : Bool) (o : Option Bool) (ends : Bool) (k : ℕ)
       → AllHold (blocks (cond mark k (skip_before (is_some o) ends k)))
       → (mark ≡ false → (b : Bool) → o ≡ Some b → k ≡ 0 → b ≡ true)
@@ -60,7 +60,7 @@ module _ (blocks : ℕ → List Bool) where
   hold_with false None true k h own = h
   hold_with false None false k h own = h
 
-  -- its own block
+  -- if all blocks found with this line hold, so does the block that it begins
   own_holds : (o : Option Bool) (ends b mark : Bool) → mark ≡ false → o ≡ Some b
       → AllHold (cond mark (blocks 0) (blocks_with o ends blocks 0)) → b ≡ true
   own_holds (Some c) ends b false u e h =
@@ -72,7 +72,7 @@ module _ (blocks : ℕ → List Bool) where
   own_holds (Some c) ends b true u e h = cc
   own_holds None ends b mark u e h = cc
 
--- a kind opens a block whatever the locale and the variables are
+-- whether a kind begins a block does not depend on the locale and the variables
 begins_same : (locale : List ℕ) (vars : Pairs) (k : Kind) → is_some (block_begun locale vars k) ≡ begins_block k
 begins_same locale vars (line.Locale l) = refl
 begins_same locale vars (line.Var name values) = refl
@@ -92,7 +92,7 @@ begins_same locale vars line.UnknownDirective = refl
 begins_same locale vars line.BadDirective = refl
 
 module _ (settings : Settings) where
-  -- one line back, how many are to be passed over
+  -- the number of beginnings to skip before a line
   abbrev next : DeckLine → ℕ → ℕ
   next x k = cond x.mark k (skip_before (begins_block (kind_of x.text)) (ends_block (kind_of x.text)) k)
 
@@ -147,7 +147,7 @@ module _ (settings : Settings) where
       (all_hold earlier 0 (λ inner y outer holds e u b z.
       h.1 holds (record { inner = inner; line = y; outer = outer; is = e; unmarked = u; begins = b; closed = z })))
 
--- the law of what encloses lines
+-- the law of enclosing blocks
 pub enclosing_law : EnclosingLaw
 enclosing_law = record {
   active = active_at;

@@ -1,4 +1,4 @@
--- Numbers of keys, with those of more lines.
+-- The numbers of keys after more lines are appended.
 use Rattle.std.proofs.Common.{◌≡◌, ◌++◌, ◌∷◌, ◌||◌, [], ℕ, zero, suc, List, Bool, true, false, true≢false, cond, length}
 use Rattle.std.proofs.Common.{take, refl, sym, ap, subst, ◌∙◌, Option, Some, None, option_map, slice_get}
 use Rattle.std.proofs.lemmas.Option.{same_Some}
@@ -28,13 +28,13 @@ use Rattle.deck.specs.declared.settings.Settings.{Settings}
 use Rattle.deck.proofs.Lasting.{last_extended}
 use Rattle.deck.proofs.Placing.{in_place}
 
--- what stands in a list stands there with more behind it
+-- an item keeps its place when a list is extended
 pub get_more : {A : Type 0} (xs ys : List A) (i : ℕ) (x : A) → slice_get xs i ≡ Some x → slice_get (xs ++ ys) i ≡ Some x
 get_more [] ys i x h = cc
 get_more (y ∷ xs) ys zero x h = h
 get_more (y ∷ xs) ys (suc i) x h = get_more xs ys i x h
 
--- what one of some passes one of more passes
+-- if some item of a list passes a test, so does some item of an extension of the list
 any_more : (p : List ℕ → Bool) (xs ys : List (List ℕ)) → list_any p xs ≡ true → list_any p (xs ++ ys) ≡ true
 any_more p [] ys h = cc
 any_more p (x ∷ xs) ys h = by (any_more p xs ys) (p x) h
@@ -44,7 +44,7 @@ any_more p (x ∷ xs) ys h = by (any_more p xs ys) (p x) h
     by ih true g = refl
     by ih false g = ih g
 
--- what stands behind a list, and not in it, is the one that was put there
+-- an item that is new in a list with one item appended is the appended item
 get_last : {A : Type 0} (xs : List A) (y : A) (i : ℕ) (x : A) → slice_get xs i ≡ None
     → slice_get (xs ++ y ∷ []) i ≡ Some x → y ≡ x
 get_last [] y zero x h g = same_Some y x g
@@ -76,7 +76,7 @@ module _ (new : List ℕ) (names : List (List ℕ)) where
       by true e f = cc
       by false e f = ap (λ n. list_any (bytes_eq n) names) (sym (get_last names new i name h f)) ∙ e
 
--- the names of a kind, with a number for a key
+-- only the names of the kind of the key change when the key gets a number
 names_by : (names : Names) (k : Key) (a : Kind)
     → names_of (with_key names k) a
     ≡ cond (is_same_kind a k.kind) (with_name k.name (names_of names a)) (names_of names a)
@@ -101,22 +101,22 @@ names_by names k a = by k.kind a
     by kind.List kind.Func = refl
     by kind.List kind.List = refl
 
--- a number stays with its name, of which no other is new
+-- each name keeps its number, and a name that gets a new number was not in the list before
 pub record IsMore (old new : List (List ℕ)) : Type 0 where
   pub stays : (i : ℕ) (name : List ℕ) → slice_get old i ≡ Some name → slice_get new i ≡ Some name
   pub among : (p : List ℕ → Bool) → list_any p old ≡ true → list_any p new ≡ true
   pub fresh : (i : ℕ) (name : List ℕ) → slice_get old i ≡ None → slice_get new i ≡ Some name
       → list_any (bytes_eq name) old ≡ false
 
--- names are extended by themselves
+-- a list of names extends itself
 more_same : (names : List (List ℕ)) → IsMore names names
 more_same names = record { stays = λ i name h. h; among = λ p h. h; fresh = λ i name h g. cc }
 
--- and by one more
+-- a list with one more name extends the list
 more_one : (new : List ℕ) (names : List (List ℕ)) → IsMore names (with_name new names)
 more_one new names = record { stays = name_stays new names; among = name_among new names; fresh = name_new new names }
 
--- extended twice they are extended
+-- extension is transitive
 more_then : (a b c : List (List ℕ)) → IsMore a b → IsMore b c → IsMore a c
 more_then a b c f g = record {
   stays = λ i name h. g.stays i name (f.stays i name h);
@@ -139,7 +139,7 @@ more_then a b c f g = record {
         let same : other ≡ name = same_Some other name (sym (g.stays i other q) ∙ e) in
         f.fresh i name h (q ∙ ap Some same)
 
--- a key more extends the names of each kind
+-- a number for one more key extends the names of each kind
 more_key : (names : Names) (k : Key) (a : Kind) → IsMore (names_of names a) (names_of (with_key names k) a)
 more_key names k a = subst (IsMore (names_of names a)) (sym (names_by names k a)) (by (is_same_kind a k.kind))
   where
@@ -147,13 +147,13 @@ more_key names k a = subst (IsMore (names_of names a)) (sym (names_by names k a)
     by true = more_one k.name (names_of names a)
     by false = more_same (names_of names a)
 
--- so does what a line defines
+-- the definition of a line extends the names of each kind
 more_definition : (names : Names) (o : Option (Key × Entry)) (a : Kind)
     → IsMore (names_of names a) (names_of (with_definition names o) a)
 more_definition names None a = more_same (names_of names a)
 more_definition names (Some d) a = more_key names d.0 a
 
--- the names of a kind, with those of more lines
+-- the definitions of more lines extend the names of each kind
 pub more_lines : (lines : List DeckLine) (names : Names) (a : Kind)
     → IsMore (names_of names a) (names_of (with_definitions names lines) a)
 more_lines [] names a = more_same (names_of names a)
@@ -162,7 +162,7 @@ more_lines (line ∷ lines) names a =
     (names_of (with_definitions names (line ∷ lines)) a)
     (more_definition names (entry_in line) a) (more_lines lines (with_definition names (entry_in line)) a)
 
--- what a line defines it defines with more lines behind it
+-- the definition at a place stays the same when lines are appended
 definition_more : (xs ys : List DeckLine) (place : ℕ) (e : Key × Entry) → definition_at xs place ≡ Some e
     → definition_at (xs ++ ys) place ≡ Some e
 definition_more xs ys place e h = by (slice_get xs place) refl h
@@ -172,11 +172,11 @@ definition_more xs ys place e h = by (slice_get xs place) refl h
     by None q g = cc
     by (Some x) q g = ap (option_and_then entry_in) (get_more xs ys place x q) ∙ g
 
--- definitions stay in place where lines come behind
+-- definitions stay in place when lines are appended
 pub in_place_more : (xs ys : List DeckLine) (ds : Definitions) → AreInPlace xs ds → AreInPlace (xs ++ ys) ds
 in_place_more xs ys ds h = λ k d e. definition_more xs ys d.0 (k, d.1) (h k d e)
 
--- what is in place stays so with an excerpt behind
+-- definitions stay in place when the store is extended
 pub in_place_behind : (old new : Store) (ds : Definitions) → AreInPlace old.lines ds → Extends old new
     → AreInPlace new.lines ds
 in_place_behind old new ds h e =
@@ -204,7 +204,7 @@ module _ (old new : Names) (each : (a : Kind) → IsMore (names_of old a) (names
           subst (λ j. is_numbered old j ≡ false) (same_Some (key n.kind name) k f)
           ((each n.kind).fresh n.number name q r)
 
--- a key without a number has no place
+-- a key without a number has no last place
 pub unplaced : (store : Store) (settings : Settings) (k : Key) → IsNumbering store → is_numbered store.names k ≡ false
     → place_of (definitions settings store.lines) k ≡ None
 unplaced store settings k numbering h = by (lookup (is_same k) (definitions settings store.lines)) refl
@@ -217,7 +217,7 @@ unplaced store settings k numbering h = by (lookup (is_same k) (definitions sett
         numbering.each d.0 (k, d.1) (in_place settings store.lines k d q) in
         absurd (true≢false (sym numbered ∙ h))
 
--- last places stay with lines behind, whose keys have more numbers
+-- the last places stay valid when lines are appended and their keys get numbers
 pub last_behind : (old new : Store) (settings : Settings) (last : LastPlaces) → IsNumbering old
     → AreLast old.names (definitions settings old.lines) last → Extends old new
     → AreLast new.names (definitions settings old.lines) last
@@ -228,17 +228,17 @@ last_behind old new settings last numbering h e =
     last_extended old.names new.names (definitions settings old.lines) last h (key_stays old.names new.names each)
     (λ n k none some. unplaced old settings k numbering (key_fresh old.names new.names each n k none some))
 
--- the front of two lists is the first
+-- the front of an appended list is the first list
 pub take_front : {A : Type 0} (xs ys : List A) → take (length xs) (xs ++ ys) ≡ xs
 take_front [] ys = refl
 take_front (x ∷ xs) ys = ap (λ t. x ∷ t) (take_front xs ys)
 
--- the lines before stand in front
+-- the old lines are the front of the extended store
 pub front_kept : (old new : Store) (n : ℕ) → n ≡ length old.lines → Extends old new → take n new.lines ≡ old.lines
 front_kept old new n same e = ap (λ m. take m new.lines) same
     ∙ ap (λ (s : Store). take (length old.lines) s.lines) e.put ∙ take_front old.lines e.lines
 
--- what was indexed is so after a refusal, when the lines behind are gone
+-- after a refusal removes the appended lines, the last places are still those of the store
 pub indexed_again : (old new store : Store) (settings : Settings) (last : LastPlaces) → IsNumbering old
     → IsIndexed old settings last → Extends old new → store.lines ≡ old.lines → store.names ≡ new.names
     → IsIndexed store settings last

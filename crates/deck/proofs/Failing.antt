@@ -1,10 +1,10 @@
--- Blocks that hold and do not.
+-- Blocks that hold and blocks that fail.
 use Rattle.std.proofs.Common.{◌≡◌, ◌==◌, ◌∷◌, ◌+◌, ◌≤◌, [], ℕ, List, length, Bool, true, false, refl, arith}
 use Rattle.std.proofs.lemmas.Bool.Decides.{nat_tests}
 use Rattle.std.specs.List.{list_all}
 use Rattle.deck.specs.Failing.{failing_count}
 
--- all hold where none fails
+-- all blocks hold exactly if the number of failing ones is 0
 pub all_hold_by : (holds : List Bool) → (failing_count holds == 0) ≡ list_all (λ h. h) holds
 all_hold_by [] = refl
 all_hold_by (true ∷ holds) = all_hold_by holds
@@ -13,7 +13,7 @@ all_hold_by (false ∷ holds) = one_more (failing_count holds)
     one_more : (n : ℕ) → (n + 1 == 0) ≡ false
     one_more n = grind (arith, nat_tests)
 
--- no more fail than there are
+-- at most as many blocks fail as there are
 pub failing_len : (holds : List Bool) → failing_count holds ≤ length holds
 failing_len [] = omega arith
 failing_len (true ∷ holds) = omega (arith, failing_len holds)

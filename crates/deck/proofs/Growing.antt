@@ -1,4 +1,4 @@
--- Names with one more.
+-- Names extended by one.
 use Rattle.std.proofs.Common.{◌≡◌, ◌++◌, ◌∷◌, ◌+◌, ◌≤◌, [], ℕ, zero, suc, List, Bool, true, false, cond, length}
 use Rattle.std.proofs.Common.{length-append, refl, sym, ap, ◌∙◌, arith, Option, Some, None, option_map, slice_get}
 use Rattle.std.proofs.lemmas.Option.{same_Some}
@@ -14,7 +14,7 @@ use Rattle.deck_lines.specs.declared.key_number.KeyNumber.{KeyNumber}
 use Rattle.deck.proofs.Extending.{get_more}
 use Rattle.deck.proofs.Sameness.{same_kind}
 
--- the names of a kind, where those of one kind are replaced
+-- if the names of one kind are replaced, those of the other kinds stay
 names_with : (names : Names) (a b : Kind) (these : List (List ℕ))
     → names_of (with_names names a these) b ≡ cond (is_same_kind b a) these (names_of names b)
 names_with names kind.Unit kind.Unit these = refl
@@ -34,7 +34,7 @@ names_with names kind.List kind.Prefix these = refl
 names_with names kind.List kind.Func these = refl
 names_with names kind.List kind.List these = refl
 
--- what stands past the end of a list stands last in the longer one
+-- an item that is new in a list with one item appended is the appended item
 last_is : {A : Type 0} (xs : List A) (x y : A) (i : ℕ) → slice_get xs i ≡ None → slice_get (xs ++ x ∷ []) i ≡ Some y
     → y ≡ x
 last_is [] x y zero e f = sym (same_Some x y f)
@@ -42,12 +42,12 @@ last_is [] x y (suc i) e f = cc
 last_is (z ∷ xs) x y zero e f = cc
 last_is (z ∷ xs) x y (suc i) e f = last_is xs x y i e f
 
--- nothing is not something
+-- an option is not both empty and full
 none_some : {A : Type 0} {P : Type 0} (o : Option A) (y : A) → o ≡ None → o ≡ Some y → P
 none_some o y e f = cc
 
 module _ (names : Names) (k : Key) where
-  -- the names of the kind of the key, and those of another one
+  -- the names of the kind of the key, and the names of another kind
   own_names : (a : Kind) → is_same_kind a k.kind ≡ true
       → names_of (with_key names k) a ≡ with_name k.name (names_of names a)
   own_names a h =
@@ -79,7 +79,7 @@ module _ (names : Names) (k : Key) where
           (slice_get (names_of names n.kind) n.number) refl e
       by false h = ap (λ ns. option_map (key n.kind) (slice_get ns n.number)) (other_names n.kind h) ∙ e
 
-  -- a number that is new is that of the key, which had none
+  -- a new number is that of the key, which had no number before
   pub key_new : (n : KeyNumber) (j : Key) → key_at names n ≡ None → key_at (with_key names k) n ≡ Some j
       → (is_numbered names k ≡ false) × (j ≡ k)
   key_new n j e f = by (is_same_kind n.kind k.kind) refl
@@ -112,7 +112,7 @@ module _ (names : Names) (k : Key) where
       by false h = none_some (key_at names n) j e
           (sym (ap (λ ns. option_map (key n.kind) (slice_get ns n.number)) (other_names n.kind h)) ∙ f)
 
-  -- one more number at most
+  -- each kind gets at most one more number
   pub names_len : (a : Kind) → length (names_of (with_key names k) a) ≤ length (names_of names a) + 1
   names_len a = by (is_same_kind a k.kind) refl
     where

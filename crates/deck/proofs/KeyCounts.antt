@@ -1,4 +1,4 @@
--- Lists of the same keys have one length.
+-- Two lists with the same keys, each once, have the same length.
 use Rattle.std.proofs.Common.{◌≡◌, ◌∷◌, ◌&&◌, ◌||◌, [], suc, List, Bool, true, false, true≢false, not, cond, length}
 use Rattle.std.proofs.Common.{refl, sym, ap, ◌∙◌}
 use Rattle.std.specs.Cmp.{both_ways}
@@ -13,14 +13,14 @@ use Rattle.deck.proofs.Counting.{among}
 use Rattle.deck.proofs.Listing.{among_each, among_filter, once_each, once_filter}
 use Rattle.deck.proofs.Sameness.{key_itself, same_key}
 
--- whether two keys are the same may be turned
+-- the comparison of two keys is symmetric
 pub flips : (x y : Key) → is_same x y ≡ is_same y x
 flips x y = both_ways (is_same x y) (is_same y x) (turned x y) (turned y x)
   where
     turned : (a b : Key) → is_same a b ≡ true → is_same b a ≡ true
     turned a b e = ap (is_same b) (same_key a b e) ∙ key_itself b
 
--- a key that is not among others is none of them
+-- a key that is not among others differs from each of them
 none_of : (k : Key) (ks : List Key) → is_among ks k ≡ false → AllByRecursion (λ y. is_same k y ≡ false) ks
 none_of k [] h = tt
 none_of k (x ∷ ks) h = by (none_of k ks) (is_same k x) refl h
@@ -30,28 +30,28 @@ none_of k (x ∷ ks) h = by (none_of k ks) (is_same k x) refl h
     by ih true e g = absurd (true≢false g)
     by ih false e g = (e, ih g)
 
--- keys of which each stands once are different
+-- keys that occur once each are distinct
 pub distinct : (ks : List Key) → AreOnce ks → IsDistinct is_same ks
 unfolding IsDistinct
 distinct [] h = tt
 distinct (k ∷ ks) h = (none_of k ks h.0, distinct ks h.1)
 
--- a key that is none of some is not among them
+-- a key that differs from each of the others is not among them
 not_among : (k : Key) (ks : List Key) → AllByRecursion (λ y. is_same k y ≡ false) ks → is_among ks k ≡ false
 not_among k [] h = refl
 not_among k (x ∷ ks) h = ap (λ b. b || is_among ks k) h.0 ∙ not_among k ks h.1
 
--- different keys stand once each
+-- distinct keys occur once each
 pub once_distinct : (ks : List Key) → IsDistinct is_same ks → AreOnce ks
 unfolding IsDistinct
 once_distinct [] h = tt
 once_distinct (k ∷ ks) h = (not_among k ks h.0, once_distinct ks h.1)
 
--- some keys without one
+-- the keys other than a given one
 abbrev others : Key → List Key → List Key
 others x ks = filter (λ k. not (is_same x k)) ks
 
--- without a key that is not there they are the same
+-- if the given key is absent, the others are all of the keys
 all_others : (x : Key) (ks : List Key) → is_among ks x ≡ false → others x ks ≡ ks
 all_others x [] h = refl
 all_others x (k ∷ ks) h = by (all_others x ks) (is_same x k) refl h
@@ -61,7 +61,7 @@ all_others x (k ∷ ks) h = by (all_others x ks) (is_same x k) refl h
     by ih true e g = absurd (true≢false g)
     by ih false e g = ap (λ b. cond (not b) (k ∷ others x ks) (others x ks)) e ∙ ap (λ t. k ∷ t) (ih g)
 
--- without one that is there they are one less
+-- if the given key is present, there is one key more than the others
 one_less : (x : Key) (ks : List Key) → AreOnce ks → is_among ks x ≡ true → length ks ≡ suc (length (others x ks))
 one_less x [] once h = absurd (true≢false (sym h))
 one_less x (k ∷ ks) once h = by (one_less x ks once.1) (is_same x k) refl h
@@ -74,7 +74,7 @@ one_less x (k ∷ ks) once h = by (one_less x ks once.1) (is_same x k) refl h
         ∙ sym (ap (λ b. suc (length (cond (not b) (k ∷ others x ks) (others x ks)))) e)
     by ih false e g = ap suc (ih g) ∙ sym (ap (λ b. suc (length (cond (not b) (k ∷ others x ks) (others x ks)))) e)
 
--- two lists of the same keys, each once, are equally long
+-- two lists with the same keys, each once, have the same length
 same_length : (xs ys : List Key) → AreOnce xs → AreOnce ys → ((k : Key) → is_among xs k ≡ is_among ys k)
     → length xs ≡ length ys
 same_length [] [] h g e = refl
@@ -92,7 +92,7 @@ same_length (x ∷ xs) ys h g e =
             sym (ap (λ b. b || is_among xs k) (flips k x ∙ s)) ∙ e k
             ∙ sym (ap (λ b. not b && is_among ys k) s)
 
--- a list of all keys of a table, each once, has as many of each kind as the table
+-- a list with all keys of a table, each once, has as many keys of each kind as the table
 pub counted : (t : Table) (keys : List Key) → ((k : Key) → is_among keys k ≡ is_present t k) → AreOnce keys
     → (kind : Kind) → length (of_kind kind keys) ≡ key_count t kind
 counted t keys each once kind =
@@ -104,7 +104,7 @@ counted t keys each once kind =
     own : Key → Bool
     own key = is_same_kind kind key.kind
 
--- tables with the same keys have as many of each kind
+-- tables with the same keys have as many keys of each kind
 pub count_same : (t u : Table) → ((k : Key) → is_present t k ≡ is_present u k) → (kind : Kind)
     → key_count t kind ≡ key_count u kind
 count_same t u same kind =

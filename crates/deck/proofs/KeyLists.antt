@@ -32,7 +32,7 @@ use Rattle.deck.proofs.Placing.{place_present}
 use Rattle.deck.proofs.Sameness.{key_itself}
 
 module _ (law : KeyOrderLaw) where
-  -- of keys that differ, one that is not above the other is below it
+  -- if a key is not above a different key, it is below it
   below : (y z : Key) → is_lt (key_cmp z y) ≡ false → is_same y z ≡ false → key_cmp y z ≡ Less
   below y z up apart = law.total.antisymm y z ∙ by (key_cmp z y) refl up
     where
@@ -56,15 +56,15 @@ module _ (law : KeyOrderLaw) where
     strict ys (λ i j e before inside. up (suc i) (suc j) e (omega arith) (omega arith)) apart.1,
   )
 
-  -- keys in order, of which no two are the same
+  -- sorted distinct keys are strictly sorted
   pub in_strict_order : (ys : List Key) → IsSorted key_cmp ys → IsDistinct is_same ys → IsStrictlySortedBy key_cmp ys
   in_strict_order ys sorted =
       strict ys (λ i j e before inside. sorted_far _ (ranks_by law.total (λ k. k)) ys sorted i j e (omega arith) inside)
 
--- the numbered keys that have a last place, in order
+-- the keys that have a number and a last place, in order
 module _ (store : Store) (numbering : IsNumbering store) (ds : Definitions) (placed : AreInPlace store.lines ds)
     (last : LastPlaces) (are_last : AreLast store.names ds last) where
-  -- the key of a number is found where it has an entry and its name holds the text
+  -- a number is found exactly if its key has an entry and the name of the key contains the text
   by_number : (text : List ℕ) (n : KeyNumber) (k : Key) → key_at store.names n ≡ Some k
       → is_found store.names last text n ≡ (is_present (table_of ds) k && holds k.name text)
   by_number text n k e =
@@ -72,7 +72,7 @@ module _ (store : Store) (numbering : IsNumbering store) (ds : Definitions) (pla
       (ap is_some (are_last.place n ∙ ap (option_and_then (place_of ds)) e) ∙ place_present ds k)
       ∙ ap (λ o. is_present (table_of ds) k && is_holding text o) e
 
-  -- a key that has an entry has a number
+  -- each key that has an entry has a number
   present_numbered : (k : Key) → (is_present (table_of ds) k && is_among (all_keys store.names) k)
       ≡ is_present (table_of ds) k
   present_numbered k = by (is_present (table_of ds) k) refl (is_numbered store.names k) refl
@@ -86,7 +86,7 @@ module _ (store : Store) (numbering : IsNumbering store) (ds : Definitions) (pla
           ∙ ap (λ o. is_some (option_map (λ p. p.0) o)) (not_defined store numbering ds placed k h)))
       by false e n h = ap (λ b. b && is_among (all_keys store.names) k) e ∙ sym e
 
-  -- they are in strict order, and the keys that have an entry and whose names hold the text are among them
+  -- the found keys are strictly sorted, and they are those that have an entry and whose names contain the text
   pub keys_found : KeyOrderLaw → (text : List ℕ) (found sorted : List Key) →
       found ≡ keys_where (is_found store.names last text) kind.Unit 0 store.names.units
       ++ (keys_where (is_found store.names last text) kind.Prefix 0 store.names.prefixes

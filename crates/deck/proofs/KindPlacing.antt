@@ -1,17 +1,17 @@
--- Places that are put, added and changed.
+-- Storing, adding and changing places.
 use Rattle.std.proofs.Common.{◌≡◌, ◌++◌, ◌∷◌, ◌+◌, ◌<◌, ◌≤◌, [], ℕ, zero, suc, List, Bool, true, false, cond, length}
 use Rattle.std.proofs.Common.{get_or, take, drop, map, set, refl, sym, ap, ◌∙◌, arith, Option, Some, None, option_map}
 use Rattle.std.specs.Option.{is_some}
 use Rattle.deck.specs.KindPlaces.{HasSamePlaces, place_count, place_in}
 
--- the place that is put, or none, and the others
+-- after a place, or `None`, is stored at a number, the number has it
 pub in_set_same : (ps : List (Option ℕ)) (n : ℕ) (place : Option ℕ) → n < length ps
     → place_in (set ps n place) n ≡ place
 in_set_same [] n place h = absurd (omega arith)
 in_set_same (x ∷ ps) zero place h = refl
 in_set_same (x ∷ ps) (suc n) place h = in_set_same ps n place (omega arith)
 
--- it leaves all others
+-- storing at one number does not change the place of another
 pub in_set_other : (ps : List (Option ℕ)) (n : ℕ) (place : Option ℕ) (m : ℕ) → (m ≡ n → ⊥)
     → place_in (set ps n place) m ≡ place_in ps m
 in_set_other [] n place m h = refl
@@ -20,7 +20,7 @@ in_set_other (x ∷ ps) zero place (suc m) h = refl
 in_set_other (x ∷ ps) (suc n) place zero h = refl
 in_set_other (x ∷ ps) (suc n) place (suc m) h = in_set_other ps n place m (λ e. h (ap suc e))
 
--- it is counted where there was none before
+-- storing a place increases the count exactly if the number had none
 pub count_set : (ps : List (Option ℕ)) (n p : ℕ) → n < length ps →
     place_count (set ps n (Some p)) ≡ cond (is_some (place_in ps n)) (place_count ps) (place_count ps + 1)
 count_set [] n p h = absurd (omega arith)
@@ -34,12 +34,12 @@ count_set (Some q ∷ ps) (suc n) p h = ap (λ c. c + 1) (count_set ps n p (omeg
     more true c = refl
     more false c = refl
 
--- one more in both
+-- adding 1 to each branch of a conditional adds 1 to its value
 more : (b : Bool) (c : ℕ) → cond b (c + 1) c + 1 ≡ cond b ((c + 1) + 1) (c + 1)
 more true c = refl
 more false c = refl
 
--- as many places, and one less where one is taken away
+-- removing a place decreases the count exactly if the number had one
 pub count_none : (ps : List (Option ℕ)) (n : ℕ) → n < length ps →
     place_count ps ≡ cond (is_some (place_in ps n)) (place_count (set ps n None) + 1) (place_count (set ps n None))
 count_none [] n h = absurd (omega arith)
@@ -49,7 +49,7 @@ count_none (None ∷ ps) (suc n) h = count_none ps n (omega arith)
 count_none (Some q ∷ ps) (suc n) h =
     ap (λ c. c + 1) (count_none ps n (omega arith)) ∙ more (is_some (place_in ps n)) (place_count (set ps n None))
 
--- it is counted no more, unless another comes in its stead
+-- overwriting a place decreases the count if the new value is `None`, and otherwise leaves it as it is
 pub count_other : (ps : List (Option ℕ)) (n : ℕ) (x : Option ℕ) → is_some (place_in ps n) ≡ true →
     place_count (set ps n x) + 1 ≡ cond (is_some x) (place_count ps + 1) (place_count ps)
 count_other [] zero x h = cc
@@ -60,34 +60,34 @@ count_other (Some q ∷ ps) zero (Some p) h = refl
 count_other (None ∷ ps) (suc n) x h = count_other ps n x h
 count_other (Some q ∷ ps) (suc n) x h = ap (λ c. c + 1) (count_other ps n x h) ∙ more (is_some x) (place_count ps)
 
--- room for one more number changes no place
+-- room for one more number does not change any place
 pub in_longer : (ps : List (Option ℕ)) (m : ℕ) → place_in (ps ++ None ∷ []) m ≡ place_in ps m
 in_longer [] zero = refl
 in_longer [] (suc m) = refl
 in_longer (x ∷ ps) zero = refl
 in_longer (x ∷ ps) (suc m) = in_longer ps m
 
--- nor their count
+-- room for one more number does not change the count
 pub count_longer : (ps : List (Option ℕ)) → place_count (ps ++ None ∷ []) ≡ place_count ps
 count_longer [] = refl
 count_longer (None ∷ ps) = count_longer ps
 count_longer (Some p ∷ ps) = ap (λ c. c + 1) (count_longer ps)
 
--- a number without a place more
+-- a list with room for one more number has the same places as before
 pub longer : (old ps qs : List (Option ℕ)) → HasSamePlaces old ps → qs ≡ ps ++ None ∷ [] → HasSamePlaces old qs
 longer old ps qs h e = record {
   place = λ m. ap (λ t. place_in t m) e ∙ in_longer ps m ∙ h.place m;
   count = ap place_count e ∙ count_longer ps ∙ h.count;
 }
 
--- places that move stand at their numbers
+-- mapping the places maps the place of each number
 pub in_mapped : (f : ℕ → ℕ) (ps : List (Option ℕ)) (m : ℕ)
     → place_in (map (option_map f) ps) m ≡ option_map f (place_in ps m)
 in_mapped f [] m = refl
 in_mapped f (x ∷ ps) zero = refl
 in_mapped f (x ∷ ps) (suc m) = in_mapped f ps m
 
--- and are as many
+-- mapping the places does not change their count
 pub count_mapped : (f : ℕ → ℕ) (ps : List (Option ℕ)) → place_count (map (option_map f) ps) ≡ place_count ps
 count_mapped f [] = refl
 count_mapped f (None ∷ ps) = count_mapped f ps
@@ -99,13 +99,13 @@ count_within [] = omega arith
 count_within (None ∷ ps) = omega (arith, count_within ps)
 count_within (Some p ∷ ps) = omega (arith, count_within ps)
 
--- a place that is read
+-- reading a number within the list gives its place
 pub in_index : (ps : List (Option ℕ)) (n : ℕ) (x : Option ℕ) → n < length ps → x ≡ get_or ps n x → place_in ps n ≡ x
 in_index [] n x h e = absurd (omega arith)
 in_index (y ∷ ps) zero x h e = sym e
 in_index (y ∷ ps) (suc n) x h e = in_index ps n x (omega arith) e
 
--- the front of a list mapped
+-- if the first `i` members are mapped, mapping the next one maps the first `i + 1`
 pub mapped_step : {A : Type 0} (f : A → A) (xs : List A) (i : ℕ) (x : A) → i < length xs →
     x ≡ get_or (map f (take i xs) ++ drop i xs) i x →
     set (map f (take i xs) ++ drop i xs) i (f x) ≡ map f (take (i + 1) xs) ++ drop (i + 1) xs
@@ -115,7 +115,7 @@ mapped_step f (y ∷ xs) (suc i) x h e =
     let next : suc (i + 1) ≡ suc i + 1 = omega arith in
     ap (λ t. f y ∷ t) (mapped_step f xs i x (omega arith) e) ∙ ap (λ j. map f (take j (y ∷ xs)) ++ drop j (y ∷ xs)) next
 
--- where the first i members are images and no others are left, all are
+-- if the first `i` members are mapped and no other member follows, all are mapped
 pub mapped_all : {A : Type 0} (f : A → A) (xs : List A) (i : ℕ) → length xs ≤ i
     → map f (take i xs) ++ drop i xs ≡ map f xs
 mapped_all f [] zero h = refl
@@ -123,13 +123,13 @@ mapped_all f [] (suc i) h = refl
 mapped_all f (x ∷ xs) zero h = absurd (omega arith)
 mapped_all f (x ∷ xs) (suc i) h = ap (λ t. f x ∷ t) (mapped_all f xs i (omega arith))
 
--- an element is the same whatever stands for one that is not there
+-- reading within a list does not depend on the default
 pub read_same : {A : Type 0} (xs : List A) (i : ℕ) (d : A) → i < length xs → get_or xs i d ≡ get_or xs i (get_or xs i d)
 read_same [] i d h = absurd (omega arith)
 read_same (x ∷ xs) zero d h = refl
 read_same (x ∷ xs) (suc i) d h = read_same xs i d (omega arith)
 
--- a list that took the place of another one
+-- replacing all members of a list by as many others gives the list of the others
 pub in_place : {A : Type 0} (n : ℕ) (xs ys : List A) → length xs ≡ length ys → n ≡ length ys
     → take n (xs ++ drop (length xs) ys) ≡ xs
 in_place zero [] ys h e = refl
@@ -139,6 +139,6 @@ in_place (suc n) [] (y ∷ ys) h e = absurd (omega arith)
 in_place (suc n) (x ∷ xs) [] h e = absurd (omega arith)
 in_place (suc n) (x ∷ xs) (y ∷ ys) h e = ap (λ t. x ∷ t) (in_place n xs ys (omega arith) (omega arith))
 
--- places that are twice the same are the same
+-- having the same places is transitive
 pub same_then : (a b c : List (Option ℕ)) → HasSamePlaces a b → HasSamePlaces b c → HasSamePlaces a c
 same_then a b c h g = record { place = λ m. g.place m ∙ h.place m; count = g.count ∙ h.count }

@@ -1,4 +1,4 @@
--- The last line of a deck, where it can be taken out.
+-- Removing the last line of a deck.
 use Rattle.std.proofs.Common.{◌≡◌, ◌++◌, ◌∷◌, ◌-◌, ◌<◌, [], ℕ, List, not, cond, length, set, take, sym, ap, subst, ◌∙◌}
 use Rattle.std.proofs.Common.{Option, Some, option_map}
 use Rattle.std.proofs.lemmas.Option.{same_Some}
@@ -39,7 +39,7 @@ module _ (settings : Settings) (store : Store) (notices : List (List ℕ)) (d : 
   left_is : take (len - 1) store.lines ≡ can.front
   left_is = front_taken store.lines can.front can.line len split count
 
-  -- the number that it tells is that of its key
+  -- the number of the last line is the number of its key
   numbered : key_at store.names n ≡ Some can.key
   numbered =
       same_Some (key_at store.names n) (Some can.key)
@@ -47,13 +47,13 @@ module _ (settings : Settings) (store : Store) (notices : List (List ℕ)) (d : 
       ∙ ap (option_map (λ e. Some e.0))
       (defined_there settings store can.front can.line can.key can.entry split can.defines numbering last indexed))
 
-  -- the number has a place
+  -- the number is within the places
   pub room_undefined : n.number < length (places_of last n.kind)
   room_undefined =
       room_there settings store can.front can.line can.key can.entry split can.defines numbering last indexed n
       uncovered numbered covers
 
-  -- the deck without it
+  -- with the uncovered place at the number, the last places are those of the deck without the line
   pub indexed_undefined : (now : LastPlaces) (new : Store) → new.lines ≡ take (len - 1) store.lines
       → new.names ≡ store.names → ((kind : Kind) → places_of now kind ≡ cond (is_same_kind kind n.kind)
       (set (places_of last kind) n.number uncovered) (places_of last kind)) →
@@ -62,7 +62,7 @@ module _ (settings : Settings) (store : Store) (notices : List (List ℕ)) (d : 
       indexed_less settings store can.front can.line can.key can.entry split can.defines numbering last indexed n
       uncovered numbered covers now new (left ∙ left_is) names put
 
-  -- the keys that this changes
+  -- the keys that the removal changes
   pub changed_undefined : SameTextLaw → (left : List DeckLine) (keys : List Key) → left ≡ take (len - 1) store.lines
       → keys ≡ key_if (not (is_same_entry (entry_there store.lines (Some (len - 1)))
       (entry_there store.lines uncovered))) (key_at store.names n) →

@@ -1,4 +1,4 @@
--- Last places, with a definition more.
+-- Last places after one more definition.
 use Rattle.std.proofs.Common.{◌≡◌, ◌++◌, ◌∷◌, ◌+◌, ◌<◌, [], ℕ, suc, List, Bool, true, false, cond, length}
 use Rattle.std.proofs.Common.{set, take, reverse, length-take, append_assoc, add-zero, refl, sym, ap, subst, ◌∙◌, arith}
 use Rattle.std.proofs.Common.{Option, Some, None, option_map, slice_get}
@@ -91,7 +91,7 @@ module _ (names : Names) (unique : IsOneToOne names) (ds : Definitions) (n : Key
   pub last_more : AreLast names ((k, (at, e)) ∷ ds) now
   last_more = record { place = places_more; count = counts_more }
 
--- the number of a key is one of a name
+-- the number of a key is within the names of its kind
 pub number_within : (names : Names) (n : KeyNumber) (k : Key) → key_at names n ≡ Some k
     → n.number < length (names_of names n.kind)
 number_within names n k e = by (slice_get (names_of names n.kind) n.number) refl e
@@ -101,7 +101,7 @@ number_within names n k e = by (slice_get (names_of names n.kind) n.number) refl
     by None h g = cc
     by (Some name) h g = slice_get_within (names_of names n.kind) n.number name h
 
--- the places with that of a line that is active
+-- storing the place of an active line at its number gives the last places with its definition
 pub last_noted : (names : Names) → IsOneToOne names → (ds : Definitions) (n : KeyNumber) (place : ℕ) (active : Bool)
     (o : Option (Key × Entry)) (old now : LastPlaces) →
     active ≡ true → HasRoom names old → AreLast names ds old → Some (key_at names n) ≡ option_map (λ d. Some d.0) o →
@@ -115,14 +115,14 @@ last_noted names unique ds n place active (Some d) old now a room before e put =
     subst (λ b. AreLast names (cond b ((d.0, (place, d.1)) ∷ []) [] ++ ds) now) (sym a)
     (last_more names unique ds n d.0 place d.1 old now numbered (omega (arith, within, room n.kind)) before put)
 
--- one definition is the same from behind
+-- reversing the definitions of one line changes nothing
 one_back : (place : ℕ) (active : Bool) (o : Option (Key × Entry))
     → reverse (definition_by place active o) ≡ definition_by place active o
 one_back place active None = refl
 one_back place true (Some e) = refl
 one_back place false (Some e) = refl
 
--- the definitions of two lists of lines are those of the first and then of the second, as much farther
+-- the definitions of concatenated lines are those of both parts, with the places of the second part shifted
 pub from-append : (at : ℕ) (fs gs : List Bool) (xs ys : List DeckLine) → length fs ≡ length xs →
     definitions_from at (fs ++ gs) (xs ++ ys) ≡ definitions_from at fs xs ++ definitions_from (at + length xs) gs ys
 from-append at [] gs [] ys h = ap (λ n. definitions_from n gs ys) (sym (add-zero at))
@@ -136,7 +136,7 @@ from-append at (f ∷ fs) gs (x ∷ xs) ys h =
     ∙ sym (append_assoc (definition_by at f (entry_in x)) (definitions_from (at + 1) fs xs)
     (definitions_from (at + suc (length xs)) gs ys))
 
--- the definitions with those of one more line
+-- the definitions of a front that is one line longer are those of the front and of that line
 pub by_step : (flags : List Bool) (lines : List DeckLine) (i : ℕ) (f : Bool) (x : DeckLine)
     → length flags ≡ length lines → i < length lines →
     take (i + 1) flags ≡ take i flags ++ f ∷ [] → take (i + 1) lines ≡ take i lines ++ x ∷ [] →
@@ -154,7 +154,7 @@ by_step flags lines i f x same h p q =
     ∙ ap (λ ds. ds ++ definitions_by (take i flags) (take i lines))
     (reverse-append (definition_by i f (entry_in x)) [] ∙ one_back i f (entry_in x))
 
--- the same places
+-- last places with the same places stay valid
 pub last_same : (names : Names) (ds : Definitions) (old now : LastPlaces) → AreLast names ds old
     → ((kind : Kind) → HasSamePlaces (places_of old kind) (places_of now kind)) → AreLast names ds now
 last_same names ds old now before same = record {
@@ -162,7 +162,7 @@ last_same names ds old now before same = record {
   count = λ kind. (same kind).count ∙ before.count kind;
 }
 
--- other definitions in which each key has the same place
+-- last places stay valid for definitions that give each key the same place
 pub last_alike : (names : Names) (ds es : Definitions) (last : LastPlaces)
     → ((k : Key) → place_of ds k ≡ place_of es k) → AreLast names ds last → AreLast names es last
 last_alike names ds es last same before = record {
@@ -175,7 +175,7 @@ last_alike names ds es last same before = record {
     by None = refl
     by (Some k) = same k
 
--- more numbers, of keys that are not defined
+-- last places stay valid when keys that are not defined get numbers
 pub last_extended : (names more : Names) (ds : Definitions) (last : LastPlaces) → AreLast names ds last →
     ((n : KeyNumber) (k : Key) → key_at names n ≡ Some k → key_at more n ≡ Some k) →
     ((n : KeyNumber) (k : Key) → key_at names n ≡ None → key_at more n ≡ Some k → place_of ds k ≡ None)
@@ -190,7 +190,7 @@ last_extended names more ds last before kept new =
     by n None h (Some k) g = ap (option_and_then (place_of ds)) h
         ∙ sym (ap (option_and_then (place_of ds)) g ∙ new n k h g)
 
--- no key has a place where no number has
+-- if no number has a place, the last places are those of no definitions
 pub none_last : (names : Names) (last : LastPlaces) → ((kind : Kind) → HasSamePlaces [] (places_of last kind))
     → AreLast names [] last
 none_last names last same = record {

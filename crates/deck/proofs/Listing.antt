@@ -1,4 +1,4 @@
--- Keys among lists, and lists in which each key stands once.
+-- Keys in lists, and lists in which each key occurs once.
 use Rattle.std.proofs.Common.{◌≡◌, ◌++◌, ◌∷◌, ◌&&◌, ◌||◌, [], List, Bool, true, false, cond, refl, sym, ap, ◌∙◌}
 use Rattle.std.proofs.Common.{append_assoc}
 use Rattle.std.specs.List.{filter}
@@ -7,7 +7,7 @@ use Rattle.def_entry.specs.SameKeys.{is_among, is_same}
 use Rattle.deck.specs.Changes.{AreOnce, each_once}
 use Rattle.deck.proofs.Sameness.{key_itself, same_key}
 
--- a key is among two lists where it is among one of them
+-- a key is in two concatenated lists exactly if it is in one of them
 pub among-append : (ks ls : List Key) (k : Key) → is_among (ks ++ ls) k ≡ (is_among ks k || is_among ls k)
 among-append [] ls k = refl
 among-append (x ∷ ks) ls k = ap (λ b. is_same k x || b) (among-append ks ls k)
@@ -17,12 +17,12 @@ among-append (x ∷ ks) ls k = ap (λ b. is_same k x || b) (among-append ks ls k
     or_assoc true b c = refl
     or_assoc false b c = refl
 
--- nothing holds beside what does not
+-- a conjunction with `false` is `false`
 pub and_false : (b : Bool) → (b && false) ≡ false
 and_false true = refl
 and_false false = refl
 
--- a key among those that pass a test
+-- a key is in a filtered list exactly if it passes the test and is in the list
 pub among_filter : (p : Key → Bool) (ks : List Key) (k : Key) → is_among (filter p ks) k ≡ (p k && is_among ks k)
 among_filter p [] k = sym (and_false (p k))
 among_filter p (x ∷ ks) k = by (among_filter p ks k) (p x) refl (is_same k x) refl
@@ -36,7 +36,7 @@ among_filter p (x ∷ ks) k = by (among_filter p ks k) (p x) refl (is_same k x) 
         ∙ sym (ap (λ b. b && true) (ap p (same_key k x e) ∙ h))
     by ih false h false e = ih
 
--- keys that stand once do so where some are left out
+-- filtering preserves that keys occur once
 pub once_filter : (p : Key → Bool) (ks : List Key) → AreOnce ks → AreOnce (filter p ks)
 once_filter p [] h = tt
 once_filter p (x ∷ ks) h = by (p x) (once_filter p ks h.1)
@@ -45,7 +45,7 @@ once_filter p (x ∷ ks) h = by (p x) (once_filter p ks h.1)
     by true ih = (among_filter p ks x ∙ ap (λ b. p x && b) h.0 ∙ and_false (p x), ih)
     by false ih = ih
 
--- two lists that share no key
+-- if two lists share no key, and keys occur once in each, they do so in the concatenation
 pub once-append : (ks ls : List Key) → AreOnce ks → AreOnce ls
     → ((k : Key) → is_among ks k ≡ true → is_among ls k ≡ false) → AreOnce (ks ++ ls)
 once-append [] ls h g apart = g
@@ -58,7 +58,7 @@ once-append (x ∷ ks) ls h g apart = (
     later true b e = refl
     later false b e = e
 
--- each key of a list once
+-- `each_once` keeps the keys of a list
 pub among_each : (ks : List Key) (k : Key) → is_among (each_once ks) k ≡ is_among ks k
 among_each [] k = refl
 among_each (x ∷ ks) k = by (among_each ks k) (is_among ks x) refl
@@ -72,7 +72,7 @@ among_each (x ∷ ks) k = by (among_each ks k) (is_among ks x) refl
     by ih true h = ih ∙ absorbed (is_same k x) refl h
     by ih false h = ap (λ b. is_same k x || b) ih
 
--- each of these keys stands once
+-- in the result of `each_once` each key occurs once
 pub once_each : (ks : List Key) → AreOnce (each_once ks)
 once_each [] = tt
 once_each (x ∷ ks) = by (is_among ks x) refl (once_each ks)
@@ -81,6 +81,6 @@ once_each (x ∷ ks) = by (is_among ks x) refl (once_each ks)
     by true h ih = ih
     by false h ih = (among_each ks x ∙ h, ih)
 
--- four lists in a row
+-- concatenation of four lists is associative
 pub four_lists : {A : Type 0} (a b c d : List A) → ((a ++ b) ++ c) ++ d ≡ a ++ (b ++ (c ++ d))
 four_lists a b c d = append_assoc (a ++ b) c d ∙ append_assoc a b (c ++ d)

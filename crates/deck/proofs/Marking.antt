@@ -8,7 +8,7 @@ use Rattle.deck_lines.proofs.Finding.{drop_found}
 use Rattle.deck_lines.proofs.Keeping.{marks_get}
 use Rattle.deck.specs.Active.{Surroundings, activity, behind_line, is_active}
 
--- one more line
+-- the flags of the lines, extended by the flag of the next line
 pub activity_step : (locale : List ℕ) (around : Surroundings) (xs rest : List DeckLine) (flags whole : List Bool)
     (x : DeckLine) →
     xs ≡ x ∷ rest → flags ++ activity locale around xs ≡ whole →
@@ -17,13 +17,13 @@ activity_step locale around xs rest flags whole x e h =
     append_assoc flags (is_active around x ∷ []) (activity locale (behind_line locale around x) rest)
     ∙ sym (ap (λ t. flags ++ activity locale around t) e) ∙ h
 
--- the line at a place, with its mark
+-- from a place on, the marked lines begin with the line there and its mark
 pub marks_at : (ls : List Line) (ms : List Bool) (i : ℕ) (l : Line) (m : Bool) → length ms ≡ length ls → i < length ls →
     l ≡ get_or ls i l → m ≡ get_or ms i false
     → drop i (with_marks ls ms) ≡ with_mark m l ∷ drop (i + 1) (with_marks ls ms)
 marks_at ls ms i l m h g e f = drop_found (with_marks ls ms) i (with_mark m l) (marks_get ls ms i l m h g e f)
 
--- as many flags as lines
+-- there are as many flags as lines
 pub length-activity : (locale : List ℕ) (around : Surroundings) (xs : List DeckLine)
     → length (activity locale around xs) ≡ length xs
 length-activity locale around [] = refl

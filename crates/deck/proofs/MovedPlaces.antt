@@ -1,4 +1,4 @@
--- Places that are moved one back, line after line, behind a line that is taken out.
+-- Decrementing the places of the lines after a removed line, one line after another.
 use Rattle.std.proofs.Common.{◌≡◌, ◌==◌, ◌∷◌, ◌+◌, ◌-◌, ◌<◌, ◌≤◌, [], ℕ, suc, List, Bool, true, false, cond, length}
 use Rattle.std.proofs.Common.{map}
 use Rattle.std.proofs.Common.{set, refl, sym, ap, ◌∙◌, arith, Option, Some, None, option_map, slice_get}
@@ -21,7 +21,7 @@ use Rattle.deck.specs.declared.places.last_places.LastPlaces.{LastPlaces}
 use Rattle.deck.proofs.KindPlacing.{in_mapped}
 use Rattle.deck.proofs.Searching.{is_same_number, number_itself, one_number}
 
--- lists of places that are as long and have the same place at each number are the same
+-- lists of places with the same length and the same place at each number are equal
 alike : (xs ys : List (Option ℕ)) → length xs ≡ length ys → ((m : ℕ) → place_in xs m ≡ place_in ys m) → xs ≡ ys
 alike [] [] e h = refl
 alike [] (y ∷ ys) e h = absurd (omega (arith, e))
@@ -31,7 +31,7 @@ alike (x ∷ xs) (y ∷ ys) e h =
     let rest : xs ≡ ys = alike xs ys (omega (arith, e)) (λ m. h (suc m)) in
     λ i. first i ∷ rest i
 
--- a place that is read is one of a line
+-- a place that has a definition is the place of a line
 inside : (lines : List DeckLine) (place : ℕ) (d : Key × Entry) → definition_at lines place ≡ Some d
     → place < length lines
 inside lines place d h = by (slice_get lines place) refl h
@@ -41,7 +41,7 @@ inside lines place d h = by (slice_get lines place) refl h
     by None e g = cc
     by (Some x) e g = slice_get_within lines place x e
 
--- at first none has moved
+-- before the first step, no place has moved
 pub none_moved : (gap : ℕ) (old : LastPlaces) → IsMovedTo gap (gap + 1) old old
 none_moved gap old = record { place = λ n. by (place_at old n); room = λ kind. refl }
   where
@@ -56,7 +56,7 @@ never : {A : Type 0} → (x : A) → None ≡ Some x → ⊥
 never x h = cc
 
 module _ (gap i : ℕ) where
-  -- a place that is not that of the next line
+  -- a place other than that of the next line does not change in this step
   stays : (o : Option ℕ) → (o ≡ Some i → ⊥)
       → option_map (moved_to gap i) o ≡ option_map (moved_to gap (i + 1)) o
   stays None differs = refl
@@ -69,7 +69,7 @@ module _ (gap i : ℕ) where
       by true e = absurd (differs (ap Some (is e)))
       by false e = grind (arith, nat_tests, e)
 
-  -- any place, if that of the next line is moved
+  -- after the place of the next line is decremented, the places up to it have moved
   moves : gap < i → (o : Option ℕ)
       → option_map (moved_back i) (option_map (moved_to gap i) o) ≡ option_map (moved_to gap (i + 1)) o
   moves after None = refl
@@ -87,7 +87,7 @@ module _ (store : Store) (unique : IsOneToOne store.names) (old : LastPlaces) (d
       let d = defined m i h in
       never (Some d.0.0) (none ∙ ap (option_map (λ e. Some e.0)) d.1)
 
-  -- that of another line is the place of one number at most
+  -- at most one number has the place of a line that defines a key
   only : (n : KeyNumber) → Some (key_at store.names n) ≡ option_map (λ e. Some e.0) (definition_at store.lines i)
       → (m : KeyNumber) → place_at old m ≡ Some i → m ≡ n
   only n told m h =
@@ -96,7 +96,7 @@ module _ (store : Store) (unique : IsOneToOne store.names) (old : LastPlaces) (d
       same_Some (key_at store.names n) (Some d.0.0) (told ∙ ap (option_map (λ e. Some e.0)) d.1) in
       unique m n d.0.0 d.2 key
 
-  -- past a line that defines nothing
+  -- the step past a line that defines nothing
   pub moved_past : (now : LastPlaces) → None ≡ option_map (λ e. Some e.0) (definition_at store.lines i)
       → IsMovedTo gap i old now → IsMovedTo gap (i + 1) old now
   moved_past now none moved = record {
@@ -104,7 +104,7 @@ module _ (store : Store) (unique : IsOneToOne store.names) (old : LastPlaces) (d
     room = moved.room;
   }
 
-  -- past another line
+  -- the step past a line that defines a key
   pub moved_one : gap < i → (n : KeyNumber)
       → Some (key_at store.names n) ≡ option_map (λ e. Some e.0) (definition_at store.lines i) →
       (now new : LastPlaces) → place_at new n ≡ option_map (moved_back i) (place_at now n) →
@@ -131,7 +131,7 @@ module _ (store : Store) (unique : IsOneToOne store.names) (old : LastPlaces) (d
           λ s. no (sym (number_itself n) ∙ ap (λ j. is_same_number j n) (sym s) ∙ e) in
           others m differs ∙ moved.place m ∙ stays gap i (place_at old m) (λ h. differs (only n told m h))
 
-  -- behind the last line all have moved
+  -- after the last line all places have moved
   pub all_moved : (now : LastPlaces) → length store.lines ≤ i → IsMovedTo gap i old now
       → (kind : Kind) → places_of now kind ≡ map (option_map (without_gap gap)) (places_of old kind)
   all_moved now end moved kind =
@@ -152,20 +152,20 @@ module _ (store : Store) (unique : IsOneToOne store.names) (old : LastPlaces) (d
           let within : p < length store.lines = inside store.lines p d.0 d.1 in
           ap Some (before p (omega (arith, within, end)))
 
--- room for places stays if one of them is put
+-- storing a place does not change the room
 pub room_put : (b : Bool) (ps : List (Option ℕ)) (n : ℕ) (place : Option ℕ)
     → length (cond b (set ps n place) ps) ≡ length ps
 room_put true ps n place = length-set ps n place
 room_put false ps n place = refl
 
--- a place that is moved
+-- the place of the moved line is decremented
 pub back_there : (place : ℕ) → Some (place - 1) ≡ option_map (moved_back place) (Some place)
 back_there place = ap Some moved
   where
     moved : place - 1 ≡ moved_back place place
     moved = grind (arith, nat_tests)
 
--- and one that is not
+-- any other place stays
 pub back_elsewhere : (place : ℕ) (o : Option ℕ) → (o ≡ Some place → ⊥) → o ≡ option_map (moved_back place) o
 back_elsewhere place None differs = refl
 back_elsewhere place (Some p) differs = ap Some (by (p == place) refl)

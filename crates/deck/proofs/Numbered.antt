@@ -18,7 +18,7 @@ use Rattle.deck.specs.Numbers.{key_if, keys_where}
 use Rattle.deck.proofs.Listing.{among-append, and_false, once-append}
 use Rattle.deck.proofs.Sameness.{same_kind}
 
--- the number of a key by its kind
+-- the key number of a kind and an index
 abbrev pub number : Kind → ℕ → KeyNumber
 number k n = record { kind = k; number = n }
 
@@ -29,7 +29,7 @@ all_keys names =
     ++ (map (key kind.Prefix) names.prefixes
     ++ (map (key kind.Func) names.functions ++ map (key kind.List) names.lists))
 
--- the keys of a kind whose numbers pass a test are those that pass one of their own
+-- the keys of a kind whose numbers pass a test are those that pass an equivalent test of the keys
 where_filter : (test : KeyNumber → Bool) (own : Key → Bool) (k : Kind) (ns : List (List ℕ)) (i : ℕ) →
     ((j : ℕ) (name : List ℕ) → slice_get ns j ≡ Some name → test (number k (i + j)) ≡ own (key k name)) →
     keys_where test k i ns ≡ filter own (map (key k) ns)
@@ -52,7 +52,7 @@ where_filter test own k (n ∷ ns) i h =
     by false e = ap (λ b. key_if b (Some (key k n)) ++ keys_where test k (i + 1) ns) e
 
 module _ (names : Names) where
-  -- the same for all names of a kind
+  -- for all names of a kind, the keys whose numbers pass a test are those that pass an equivalent test of the keys
   pub kind_filter : (test : KeyNumber → Bool) (own : Key → Bool)
       → ((n : KeyNumber) (k : Key) → key_at names n ≡ Some k → test n ≡ own k) → (k : Kind) →
       keys_where test k 0 (names_of names k) ≡ filter own (map (key k) (names_of names k))
@@ -63,7 +63,7 @@ module _ (names : Names) where
       zero_plus : (m : ℕ) → 0 + m ≡ m
       zero_plus m = omega arith
 
-  -- and of all kinds
+  -- for the names of all kinds, the keys whose numbers pass a test are those that pass an equivalent test of the keys
   pub all_filter : (test : KeyNumber → Bool) (own : Key → Bool)
       → ((n : KeyNumber) (k : Key) → key_at names n ≡ Some k → test n ≡ own k) →
       keys_where test kind.Unit 0 names.units
@@ -88,7 +88,7 @@ module _ (names : Names) where
       ∙ ap (λ ks. filter own us ++ ks) (sym (filter-append own ps (fs ++ ls)))
       ∙ sym (filter-append own us (ps ++ (fs ++ ls)))
 
--- a key among those of a kind
+-- a key is among those of a kind exactly if it has this kind and one of its names
 pub among_kind : (a : Kind) (ns : List (List ℕ)) (k : Key)
     → is_among (map (key a) ns) k ≡ (is_same_kind k.kind a && list_any (bytes_eq k.name) ns)
 among_kind a [] k = sym (and_false (is_same_kind k.kind a))
@@ -100,7 +100,7 @@ among_kind a (n ∷ ns) k = by (is_same_kind k.kind a) (among_kind a ns k)
     by true ih = ap (λ t. bytes_eq k.name n || t) ih
     by false ih = ih
 
--- a key is among all of them where it has a number
+-- a key is among all of them exactly if it has a number
 pub among_all : (names : Names) (k : Key) → is_among (all_keys names) k ≡ is_numbered names k
 among_all names k =
     among-append us (ps ++ (fs ++ ls)) k
@@ -145,7 +145,7 @@ among_all names k =
     by kind.Func = or_false (has names.functions)
     by kind.List = refl
 
--- a name that is among others has a place
+-- a name in a list has an index
 pub position : (ns : List (List ℕ)) (name : List ℕ) → list_any (bytes_eq name) ns ≡ true
     → (j : ℕ) × (slice_get ns j ≡ Some name)
 position [] name e = cc
@@ -156,7 +156,7 @@ position (n ∷ ns) name e = by (λ h. position ns name h) (bytes_eq name n) ref
     by ih true h g = (0, ap Some (sym ((bytes_eq-Decides name n).0 h)))
     by ih false h g = let p = ih g in (suc p.0, p.1)
 
--- names that differ are different keys
+-- if no name has two indices, each key of the kind occurs once
 once_kind : (a : Kind) (ns : List (List ℕ))
     → ((i j : ℕ) (name : List ℕ) → slice_get ns i ≡ Some name → slice_get ns j ≡ Some name → i ≡ j)
     → AreOnce (map (key a) ns)
@@ -183,7 +183,7 @@ module _ (names : Names) (unique : IsOneToOne names) where
       (λ i j name e f. ap (λ (n : KeyNumber). n.number)
       (unique (number a i) (number a j) (key a name) (ap (option_map (key a)) e) (ap (option_map (key a)) f)))
 
-  -- keys of different kinds differ
+  -- no key is among those of two different kinds
   kinds_apart : (a b : Kind) (ns ms : List (List ℕ)) → is_same_kind a b ≡ false → (k : Key)
       → is_among (map (key a) ns) k ≡ true → is_among (map (key b) ms) k ≡ false
   kinds_apart a b ns ms apart k e =
@@ -196,7 +196,7 @@ module _ (names : Names) (unique : IsOneToOne names) where
       → is_among (ks ++ ls) k ≡ false
   both_absent ks ls k e f = among-append ks ls k ∙ ap (λ b. b || is_among ls k) e ∙ f
 
-  -- no key has two numbers
+  -- each key occurs once among all keys
   pub once_all : AreOnce (all_keys names)
   once_all =
       let us = names.units in

@@ -1,4 +1,4 @@
--- Keys by their numbers.
+-- Collecting keys, one number after another.
 use Rattle.std.proofs.Common.{◌≡◌, ◌++◌, ◌∷◌, ◌+◌, ◌<◌, [], ℕ, zero, suc, List, Bool, length, drop, append_assoc, refl}
 use Rattle.std.proofs.Common.{sym, ap, ◌∙◌, arith, Some, option_map, slice_get}
 use Rattle.def_entry.specs.declared.key.Key.{Key}
@@ -8,7 +8,7 @@ use Rattle.deck_lines.specs.Names.{Names, key_at, names_of}
 use Rattle.deck_lines.specs.declared.key_number.KeyNumber.{KeyNumber}
 use Rattle.deck.specs.Numbers.{key_if, keys_where}
 
--- the name at a place, and those behind it
+-- from an index on, the names begin with the name there
 pub drop_at : (ns : List (List ℕ)) (i : ℕ) → i < length ns → (name : List ℕ) × (slice_get ns i ≡ Some name)
     × (drop i ns ≡ name ∷ drop (i + 1) ns)
 drop_at [] i h = absurd (omega arith)
@@ -18,7 +18,7 @@ drop_at (n ∷ ns) (suc i) h =
     let p = drop_at ns i (omega arith) in
     (p.0, p.1, p.2 ∙ ap (λ j. p.0 ∷ drop j (n ∷ ns)) next)
 
--- one more number
+-- the keys that pass a test, extended by the key with the next number
 pub where_step : (test : KeyNumber → Bool) (names : Names) (kind : Kind) (i : ℕ) (keys now whole : List Key)
     → i < length (names_of names kind) →
     keys ++ keys_where test kind i (drop i (names_of names kind)) ≡ whole →

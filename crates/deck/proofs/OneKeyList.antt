@@ -1,4 +1,4 @@
--- A table has one list of its keys.
+-- A table has exactly one list of its keys in order.
 use Rattle.std.proofs.Common.{◌≡◌, ◌∷◌, [], ◌&&◌, ◌||◌, ℕ, List, Bool, true, false, T, cond, map, is_some, Option, Some}
 use Rattle.std.proofs.Common.{refl}
 use Rattle.std.proofs.Common.{sym, ap, subst, ◌∙◌, inl, inr}
@@ -26,18 +26,18 @@ use Rattle.deck.proofs.KeyCounts.{counted}
 use Rattle.deck.proofs.Listing.{among_filter}
 use Rattle.deck.proofs.TextPlaces.{holds_nothing}
 
--- a test that holds is true
+-- a proof of `T b` shows that `b` is true
 told : (b : Bool) → T b → b ≡ true
 told true h = refl
 told false h = absurd h
 
--- an order that is found to be less is
+-- an ordering for which `is_lt` is true is `Less`
 less : (o : Ordering) → is_lt o ≡ true → o ≡ Less
 less Less e = refl
 less Equal e = cc
 less Greater e = cc
 
--- a key below all entries is less than each of their keys
+-- a key that is below all entries is less than the key of each
 all_below :
     (k : Key) (es : List (Key × Entry)) → below_all key_cmp k es ≡ true
     → AllByRecursion (λ y. key_cmp k y ≡ Less) (map (λ (e : Key × Entry). e.0) es)
@@ -56,17 +56,17 @@ sorted (e ∷ es) order =
     let parts = and_parts (below_all key_cmp e.0 es) (map_of.is_sorted key_cmp es) order in
     (all_below e.0 es parts.0, sorted es parts.1)
 
--- the entries of a table by key
+-- the finite map of a table
 abbrev map_of_table : Table → map_of.FinMap key_cmp Entry
 map_of_table table = map_of.from_entries table
 
--- the keys of a table are in order
+-- the keys of a table are strictly sorted
 in_order : (table : Table) → IsStrictlySortedBy key_cmp (table_keys table)
 in_order table =
     let m = map_of_table table in
     sorted (map_of.entries m) (told (map_of.is_sorted key_cmp (map_of.entries m)) (map_of.entries_sorted m))
 
--- keys are told to be equal by their order as by themselves
+-- comparing keys by `key_cmp` and by `is_same` gives the same result
 tells : (k l : Key) → eq_by_cmp key_cmp k l ≡ is_same k l
 tells k l = elim (cases_Bool (is_same k l)) [
   | inl e ↦ ap is_eq (subst (λ (x : Key). key_cmp k x ≡ Equal) ((same_keys k l).0 e) (tied_itself key_order.total k))
@@ -77,16 +77,16 @@ tells k l = elim (cases_Bool (is_same k l)) [
     exact : eq_by_cmp key_cmp k l ≡ true → k ≡ l
     exact t = key_order.exact k l ((Equal-is (key_cmp k l)).0 t)
 
--- a key is among some where one of them is equal by the order
+-- finding a key in a list by `key_cmp` and by `is_same` gives the same result
 any_alike : (k : Key) (ks : List Key) → list_any (eq_by_cmp key_cmp k) ks ≡ is_among ks k
 any_alike k ks = ap (λ (t : Key → Bool). list_any t ks) (λ i l. tells k l i)
 
--- with one entry more there is one where its key is asked for, or where there was one
+-- after one more entry is added, an entry is found if its key is the requested one or if an entry was found before
 with_one : (a b : Bool) → a ≡ b → (v : Entry) (o : Option Entry) → is_some (cond a (Some v) o) ≡ (b || is_some o)
 with_one true b same v o = ap (λ c. c || is_some o) same
 with_one false b same v o = ap (λ c. c || is_some o) same
 
--- a key is in the map where it is among the keys
+-- a key is in the finite map exactly if it is among the keys of the table
 contained : (table : Table) (k : Key) → map_of.contains_key (map_of_table table) k ≡ is_among (keys_of table) k
 contained [] k = ap is_some (map_of.get-empty key_cmp k)
 contained (e ∷ es) k =
@@ -94,14 +94,14 @@ contained (e ∷ es) k =
     ∙ with_one (eq_by_cmp key_cmp k e.0) (is_same k e.0) (tells k e.0) e.1 (map_of.get (map_of_table es) k)
     ∙ ap (λ b. is_same k e.0 || b) (contained es k)
 
--- two lists of the same keys in strict order are one
+-- two strictly sorted lists with the same keys are equal
 pub one_order : (ks ls : List Key) → IsStrictlySortedBy key_cmp ks → IsStrictlySortedBy key_cmp ls
     → ((k : Key) → is_among ks k ≡ is_among ls k) → ks ≡ ls
 one_order ks ls order too same =
     btree_set_from_contains key_order.total (record { keys = ks }) (record { keys = ls }) order too
     (λ k. any_alike k ks ∙ same k ∙ sym (any_alike k ls)) key_order.exact
 
--- the keys of the table are all of them
+-- `table_keys` are all keys of the table
 are_keys : (table : Table) → AreKeys table (table_keys table)
 are_keys table = record { each = each; order = in_order table }
   where
@@ -110,13 +110,13 @@ are_keys table = record { each = each; order = in_order table }
         sym (any_alike k (table_keys table))
         ∙ (sym (map_of.contains_key-keys (map_of_table table) k) ∙ (contained table k ∙ among table k))
 
--- the law of the one list of keys
+-- the law that the list of keys is unique
 pub one_key_list : KeyListLaw
 one_key_list table keys are =
     one_order keys (table_keys table) are.order (in_order table)
     (λ k. are.each k ∙ sym ((are_keys table).each k))
 
--- keys that are less than one are so where some are left out
+-- if all keys of a list are greater than a key, so are those of a filtered list
 less_filter : (p : Key → Bool) (k : Key) (ks : List Key) → AllByRecursion (λ y. key_cmp k y ≡ Less) ks
     → AllByRecursion (λ y. key_cmp k y ≡ Less) (filter p ks)
 less_filter p k [] h = tt
@@ -127,7 +127,7 @@ less_filter p k (y ∷ ks) h = by (less_filter p k ks h.1) (p y)
     by ih true = (h.0, ih)
     by ih false = ih
 
--- so keys in strict order stay in it
+-- a filtered list of strictly sorted keys is strictly sorted
 order_filter : (p : Key → Bool) (ks : List Key) → IsStrictlySortedBy key_cmp ks
     → IsStrictlySortedBy key_cmp (filter p ks)
 unfolding IsStrictlySortedBy
@@ -139,7 +139,7 @@ order_filter p (k ∷ ks) h = by (order_filter p ks h.1) (p k)
     by ih true = (less_filter p k ks h.0, ih)
     by ih false = ih
 
--- keys in strict order are those of the table whose names hold a text where these are among them
+-- strictly sorted keys are those of `keys_holding` if they are the present keys whose names contain the text
 pub holding_found : (text : List ℕ) (table : Table) (ks : List Key) → IsStrictlySortedBy key_cmp ks
     → ((k : Key) → is_among ks k ≡ (is_present table k && holds k.name text)) → ks ≡ keys_holding text table
 holding_found text table ks order each =
@@ -155,13 +155,13 @@ holding_found text table ks order each =
     turned false true = refl
     turned false false = refl
 
--- a key that is less than all of some is not among them
+-- a key that is less than all keys of a list is not in the list
 none_below : (k : Key) (ks : List Key) → AllByRecursion (λ y. key_cmp k y ≡ Less) ks → is_among ks k ≡ false
 none_below k [] h = refl
 none_below k (y ∷ ks) h =
     ap (λ b. b || is_among ks k) (sym (tells k y) ∙ ap is_eq h.0) ∙ none_below k ks h.1
 
--- keys in strict order stand once each
+-- strictly sorted keys occur once each
 once : (ks : List Key) → IsStrictlySortedBy key_cmp ks → AreOnce ks
 unfolding IsStrictlySortedBy
 once [] order = tt
@@ -173,12 +173,12 @@ all_whole table =
     let are = are_keys table in
     record { all = are; count = counted table (table_keys table) are.each (once (table_keys table) are.order) }
 
--- where each key passes a test, none is left out
+-- filtering by a test that all keys pass removes none
 all_pass : (p : Key → Bool) (ks : List Key) → ((k : Key) → p k ≡ true) → filter p ks ≡ ks
 all_pass p [] h = refl
 all_pass p (k ∷ ks) h = ap (λ b. cond b (k ∷ filter p ks) (filter p ks)) (h k) ∙ ap (λ t. k ∷ t) (all_pass p ks h)
 
--- all names hold the empty text
+-- every name contains the empty text, so `keys_holding []` is a whole list
 pub whole_holding : (table : Table) (ks : List Key) → ks ≡ keys_holding [] table → IsWhole table ks
 whole_holding table ks is =
     subst (IsWhole table)

@@ -1,4 +1,4 @@
--- Last places, of which that of one number is changed.
+-- Changing the last place of one number.
 use Rattle.std.proofs.Common.{◌≡◌, ◌<◌, ℕ, Bool, true, false, true≢false, cond, length, set, sym, ap, ◌∙◌, Option}
 use Rattle.std.proofs.Common.{Some, refl}
 use Rattle.std.proofs.lemmas.Option.{same_Some}
@@ -17,7 +17,7 @@ module _ (n : KeyNumber) (place : Option ℕ) (old now : LastPlaces)
     (put : (kind : Kind)
     → places_of now kind ≡ cond (is_same_kind kind n.kind) (set (places_of old kind) n.number place)
     (places_of old kind)) where
-  -- the number has the place
+  -- the number has the new place
   pub own_place : n.number < length (places_of old n.kind) → place_at now n ≡ place
   own_place room =
       ap (λ ps. place_in ps n.number)
@@ -25,7 +25,7 @@ module _ (n : KeyNumber) (place : Option ℕ) (old now : LastPlaces)
       (kind_itself n.kind))
       ∙ in_set_same (places_of old n.kind) n.number place room
 
-  -- each other number has the one that it had
+  -- each other number keeps its place
   pub other_place : (m : KeyNumber) → (m ≡ n → ⊥) → place_at now m ≡ place_at old m
   other_place m differs = by (is_same_kind m.kind n.kind) refl
     where
@@ -41,7 +41,7 @@ module _ (n : KeyNumber) (place : Option ℕ) (old now : LastPlaces)
           ap (λ ps. place_in ps m.number)
           (put m.kind ∙ ap (λ b. cond b (set (places_of old m.kind) n.number place) (places_of old m.kind)) h)
 
--- another key has another number
+-- different keys have different numbers
 pub numbers_differ : (names : Names) (n m : KeyNumber) (k j : Key) → key_at names n ≡ Some k → key_at names m ≡ Some j
     → is_same j k ≡ false → m ≡ n → ⊥
 numbers_differ names n m k j numbered h apart same =

@@ -35,14 +35,14 @@ module _ (lines : List DeckLine) (ds : Definitions) (placed : AreInPlace lines d
   there_if None place h = cc
   there_if (Some k) place h = there k place h
 
--- where definitions are in place and the last places are theirs, all keys are placed
+-- if the definitions are in place and the last places are theirs, the line at each last place defines its key
 pub all_placed :
     (store : Store) (last : LastPlaces) (ds : Definitions) → AreInPlace store.lines ds → AreLast store.names ds last
     → ArePlaced store last
 all_placed store last ds placed are n place e =
     there_if store.lines ds placed (key_at store.names n) place (sym (are.place n) ∙ e)
 
--- and each place is that of a line which defines the key of the number
+-- the line at the last place of a number defines the key with this number
 pub all_defined : (store : Store) (last : LastPlaces) (ds : Definitions) → AreInPlace store.lines ds
     → AreLast store.names ds last → AreDefined store last
 all_defined store last ds placed are n place e = by (key_at store.names n) refl (sym (are.place n) ∙ e)
@@ -59,7 +59,7 @@ all_defined store last ds placed are n place e = by (key_at store.names n) refl 
     by None is h = cc
     by (Some k) is h = at k is (lookup (is_same k) ds) refl h
 
--- the keys at the places of keys are these keys
+-- the keys at the places of placed keys are these keys
 pub keys_at_places : (lines : List DeckLine) (ks : List PlacedKey) → All (IsInPlace lines) ks
     → keys_there lines (map (λ k. k.place) ks) ≡ map placed_key ks
 keys_at_places lines [] h = refl
@@ -67,7 +67,7 @@ keys_at_places lines (k ∷ ks) h =
     ap (λ o. cons_option o (keys_there lines (map (λ k. k.place) ks))) (All-head (IsInPlace lines) k ks h)
     ∙ ap (λ rest. placed_key k ∷ rest) (keys_at_places lines ks (All-tail (IsInPlace lines) k ks h))
 
--- what is sorted by a key has sorted keys
+-- the keys of a list that is sorted by key are sorted
 pub sorted_map : {X Y : Type 0} (cmp : Y → Y → Ordering) (f : X → Y) (xs : List X) → IsSortedByKey f cmp xs
     → IsSorted cmp (map f xs)
 sorted_map cmp f [] sorted k d low high = absurd (omega arith)

@@ -1,4 +1,4 @@
--- What the lines of a deck define, each at its place.
+-- The definitions of a deck are those of the lines at their places.
 use Rattle.std.proofs.Common.{◌≡◌, ◌++◌, ◌∷◌, ◌+◌, [], ℕ, List, Bool, true, false, cond, length, refl, sym, ap, subst}
 use Rattle.std.proofs.Common.{◌∙◌, arith, append_assoc, Option, Some, None, length-append, option_map, slice_get}
 use Rattle.std.proofs.Common.{reverse}
@@ -20,37 +20,37 @@ use Rattle.deck.specs.Tables.{is_present, place_of, table_of}
 use Rattle.deck.specs.declared.settings.Settings.{Settings}
 use Rattle.deck.proofs.Sameness.{same_key}
 
--- each stands at its place
+-- each definition is that of the line at its place
 abbrev pub EachInPlace : List DeckLine → Definitions → Type 0
 EachInPlace lines [] = ⊤
 EachInPlace lines (d ∷ ds) = (definition_at lines d.1.0 ≡ Some (d.0, d.1.1)) × EachInPlace lines ds
 
--- definitions of two lists that are in place are so together
+-- if two lists of definitions are in place, so is their concatenation
 each-append : (lines : List DeckLine) (ds es : Definitions) → EachInPlace lines ds → EachInPlace lines es
     → EachInPlace lines (ds ++ es)
 each-append lines [] es h g = g
 each-append lines (d ∷ ds) es h g = (h.0, each-append lines ds es h.1 g)
 
--- and in the other order
+-- if definitions are in place, so are they in reverse order
 each-reverse : (lines : List DeckLine) (ds : Definitions) → EachInPlace lines ds → EachInPlace lines (reverse ds)
 each-reverse lines [] h = tt
 each-reverse lines (d ∷ ds) h =
     subst (EachInPlace lines) (sym (reverse-append (d ∷ []) ds))
     (each-append lines (reverse ds) (d ∷ []) (each-reverse lines ds h.1) (h.0, tt))
 
--- behind a list stands what comes next
+-- the item at the length of the first part of a list is the first item of the second part
 pub at_length : {A : Type 0} (xs : List A) (y : A) (ys : List A) → slice_get (xs ++ y ∷ ys) (length xs) ≡ Some y
 at_length [] y ys = refl
 at_length (x ∷ xs) y ys = at_length xs y ys
 
--- what a line defines is in its place
+-- the definition of a line is in place
 one_in_place : (lines : List DeckLine) (place : ℕ) (active : Bool) (o : Option (Key × Entry))
     → definition_at lines place ≡ o → EachInPlace lines (definition_by place active o)
 one_in_place lines place active None h = tt
 one_in_place lines place true (Some e) h = (h, tt)
 one_in_place lines place false (Some e) h = tt
 
--- so is what lines define from a place on
+-- the definitions of the lines from a place on are in place
 from_in_place : (fs : List Bool) (xs before lines : List DeckLine) → lines ≡ before ++ xs
     → EachInPlace lines (definitions_from (length before) fs xs)
 from_in_place [] xs before lines e = tt
@@ -63,7 +63,7 @@ from_in_place (f ∷ fs) (x ∷ xs) before lines e =
     (subst (λ n. EachInPlace lines (definitions_from n fs xs)) next
     (from_in_place fs xs (before ++ x ∷ []) lines (e ∙ sym (append_assoc before (x ∷ []) xs))))
 
--- what is found by a key stands at its place
+-- the definition that is found by a key is in place
 found : (lines : List DeckLine) (ds : Definitions) → EachInPlace lines ds → AreInPlace lines ds
 found lines [] h k v e = cc
 found lines (d ∷ ds) h k v e = by (λ g. found lines ds h.1 k v g) (is_same k d.0) refl e
@@ -76,18 +76,18 @@ found lines (d ∷ ds) h k v e = by (λ g. found lines ds h.1 k v g) (is_same k 
         (h.0 ∙ ap (λ j. Some (j, d.1.1)) (sym (same_key k d.0 t)))
     by ih false t g = ih g
 
--- so are the definitions of the lines with these flags
+-- the definitions of the lines with these flags are in place
 pub in_place_by : (flags : List Bool) (lines : List DeckLine) → AreInPlace lines (definitions_by flags lines)
 in_place_by flags lines =
     found lines (definitions_by flags lines)
     (each-reverse lines (definitions_from 0 flags lines) (from_in_place flags lines [] lines refl))
 
--- and those of the active lines
+-- the definitions of the active lines are in place
 pub in_place : (settings : Settings) (lines : List DeckLine) → AreInPlace lines (definitions settings lines)
 unfolding definitions
 in_place settings lines = in_place_by (active_lines settings lines) lines
 
--- an entry is that of the definition that is found
+-- the entry of a key is that of the definition that is found
 pub entry_found : (ds : Definitions) (k : Key)
     → entry_at (table_of ds) k ≡ option_map (λ v. v.1) (lookup (is_same k) ds)
 entry_found [] k = refl
@@ -98,7 +98,7 @@ entry_found (d ∷ ds) k = ap (cond (is_same k d.0) (Some d.1.1)) (entry_found d
     by true = refl
     by false = refl
 
--- a key has a place where it has an entry
+-- a key has a place exactly if it has an entry
 pub place_present : (ds : Definitions) (k : Key) → is_some (place_of ds k) ≡ is_present (table_of ds) k
 place_present ds k = by (lookup (is_same k) ds) ∙ ap is_some (sym (entry_found ds k))
   where

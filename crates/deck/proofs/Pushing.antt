@@ -1,4 +1,4 @@
--- A line that is put at the end of a deck.
+-- Appending a line to a deck.
 use Rattle.std.proofs.Common.{◌≡◌, ◌++◌, ◌∷◌, ◌+◌, ◌&&◌, [], ℕ, suc, List, Bool, true, false, not, cond, length, refl}
 use Rattle.std.proofs.Common.{ap, ◌∙◌, arith, Some, None, reverse}
 use Rattle.std.proofs.lemmas.List.{reverse-append}
@@ -24,25 +24,26 @@ use Rattle.deck_lines.specs.declared.line.Ending.TheVariants.{ByLocale, ByVar, B
 use Rattle.deck_lines.specs.declared.line.Role.TheVariants.{Inside}
 use Rattle.deck.specs.declared.settings.Settings.{Settings}
 
--- which of two lists of lines are in force: the second is behind the first
+-- the flags of concatenated lines are those of the first part and then those of the second part in the state after the
+-- first
 activity-append : (locale : List ℕ) (place : Surroundings) (xs ys : List DeckLine)
     → activity locale place (xs ++ ys) ≡ activity locale place xs ++ activity locale (behind_lines locale place xs) ys
 activity-append locale place [] ys = refl
 activity-append locale place (x ∷ xs) ys =
     ap (λ t. is_active place x ∷ t) (activity-append locale (behind_line locale place x) xs ys)
 
--- all blocks but the innermost are one less
+-- without the innermost block, there is one block fewer
 outer_len : (hs : List Bool) (n : ℕ) → length hs ≡ suc n → length (outer_blocks hs) ≡ n
 outer_len [] n h = absurd (omega arith)
 outer_len (b ∷ hs) n h = omega arith
 
--- a variable that is set leaves which blocks hold
+-- setting a variable does not change which blocks hold
 set_holds : (c : Bool) (place : Surroundings) (vars : Pairs)
     → (cond c (record place { vars = vars }) place).holds ≡ place.holds
 set_holds true place vars = refl
 set_holds false place vars = refl
 
--- where a block is closed, one less holds or not
+-- closing a block leaves an entry for each block that is still open
 closed_len : (ending : Ending) (bs cs : List Ending) (hs : List Bool) → blocks_without ending bs ≡ Some cs
     → length hs ≡ length bs → length (outer_blocks hs) ≡ length cs
 closed_len ending [] cs hs e h = cc
@@ -52,7 +53,7 @@ closed_len ending (b ∷ bs) cs hs e h = by (same_ending ending b) e
     by true g = outer_len hs (length bs) h ∙ ap length (same_Some bs cs g)
     by false g = cc
 
--- as many blocks hold or do not as are open
+-- after a line of this kind, the state has an entry for each open block
 holds_by : (locale : List ℕ) (place : Surroundings) (bs cs : List Ending) (kind : Kind)
     → blocks_past_role bs (role_of kind) ≡ Some cs → length place.holds ≡ length bs
     → length (behind_kind locale place kind).holds ≡ length cs
@@ -73,7 +74,7 @@ holds_by locale place bs cs line.UnitList e h = h ∙ ap length (same_Some bs cs
 holds_by locale place bs cs line.UnknownDirective e h = h ∙ ap length (same_Some bs cs e)
 holds_by locale place bs cs line.BadDirective e h = h ∙ ap length (same_Some bs cs e)
 
--- behind a line it is told of each open block whether it holds
+-- after a line, the state has an entry for each open block
 holds_past : (locale : List ℕ) (place : Surroundings) (bs cs : List Ending) (x : DeckLine) → blocks_past bs x ≡ Some cs
     → length place.holds ≡ length bs → length (behind_line locale place x).holds ≡ length cs
 unfolding blocks_past behind_line
@@ -84,7 +85,7 @@ holds_past locale place bs cs x e h = by x.mark e
     by true g = h ∙ ap length (same_Some bs cs g)
     by false g = holds_by locale place bs cs (kind_of x.text) g h
 
--- so it is behind lines
+-- after some lines, the state has an entry for each open block
 holds_after : (locale : List ℕ) (lines : List DeckLine) (place : Surroundings) (bs cs : List Ending)
     → blocks_after bs lines ≡ Some cs → length place.holds ≡ length bs
     → length (behind_lines locale place lines).holds ≡ length cs
@@ -98,12 +99,12 @@ no_length : {A : Type 0} (xs : List A) → length xs ≡ 0 → xs ≡ []
 no_length [] h = refl
 no_length (x ∷ xs) h = absurd (omega arith)
 
--- no block is around what stands behind a closed deck
+-- after a closed deck no block is open
 none_around : (settings : Settings) (lines : List DeckLine) → IsClosed lines
     → (behind_lines settings.locale (start settings) lines).holds ≡ []
 none_around settings lines closed = no_length _ (holds_after settings.locale lines (start settings) [] [] closed refl)
 
--- a line that defines a key has no mark, and opens and closes nothing
+-- a line that defines a key has no mark
 pub plain_by : (x : DeckLine) (e : Key × Entry) → entry_in x ≡ Some e → x.mark ≡ false
 unfolding entry_in
 plain_by x e h = by x.mark h
@@ -112,7 +113,7 @@ plain_by x e h = by x.mark h
     by true g = cc
     by false g = refl
 
--- a reading that defines a key opens and closes no block
+-- a line of a kind that defines a key opens and closes no block
 inside_by : (text : List ℕ) (e : Key × Entry) (kind : Kind) → defined_by (reading_by text kind) ≡ Some e
     → role_of kind ≡ Inside
 inside_by text e line.Definition h = refl
@@ -132,7 +133,7 @@ inside_by text e (line.Set v x) h = refl
 inside_by text e (line.Message t) h = refl
 inside_by text e line.Prompt h = refl
 
--- nor does a line that defines one
+-- a line that defines a key opens and closes no block
 pub inside : (x : DeckLine) (e : Key × Entry) → entry_in x ≡ Some e → role_of (kind_of x.text) ≡ Inside
 unfolding entry_in reading_of
 inside x e h = by x.mark h
@@ -160,7 +161,7 @@ module _ (settings : Settings) (lines : List DeckLine) (closed : IsClosed lines)
   last_one n active h = ap (λ a. definition_by n a (entry_in x) ++ []) h
       ∙ ap (λ o. definition_by n true o ++ []) defines
 
-  -- it comes before all that were definitions
+  -- the definition of the appended line comes before all others
   pub placed_push : definitions settings (lines ++ x ∷ []) ≡ (e.0, (length lines, e.1)) ∷ definitions settings lines
   unfolding definitions
   placed_push =

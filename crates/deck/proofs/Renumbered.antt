@@ -1,4 +1,4 @@
--- Last places by new numbers of keys.
+-- Last places under new numbers of the keys.
 use Rattle.std.proofs.Common.{◌≡◌, [], Bool, List, ap, length, subst, sym, ◌∙◌}
 use Rattle.deck_lines.specs.Closed.{IsClosed}
 use Rattle.deck_lines.specs.Edited.{Edited, unedited}
@@ -21,20 +21,20 @@ module _ (store new : Store) (names : Names) (edited : Edited)
   lines_are : edited.after ≡ store.lines
   lines_are = ap (λ (e : Edited). e.after) view ∙ ap (λ (s : Store). s.lines) put
 
-  -- the room for the new numbers
+  -- there is room for the new numbers
   pub room_there : (last : LastPlaces) → HasRoom names last → HasRoom edited.names last
   room_there last room = subst (λ n. HasRoom n last) (sym names_are) room
 
-  -- where no key has a place yet
+  -- before the first line no key has a place
   pub none_there : (last : LastPlaces) → AreLast names [] last → AreLast edited.names [] last
   none_there last none = subst (λ n. AreLast n [] last) (sym names_are) none
 
   module _ (settings : Settings) (flags : List Bool) (active : flags ≡ active_lines settings store.lines) where
-    -- a flag for each line
+    -- there is a flag for each line
     pub flags_long : length flags ≡ length edited.after
     flags_long = ap length active ∙ length-activity _ _ store.lines ∙ sym (ap length lines_are)
 
-    -- the last places of the keys by the new numbers
+    -- the last places under the new numbers are those of the store
     pub indexed_again : (last : LastPlaces) → IsClosed store.lines
         → AreLast edited.names (definitions_by flags edited.after) last → IsIndexed new settings last
     unfolding definitions

@@ -1,4 +1,4 @@
--- The last line of one key, searched for among lines.
+-- Searching the lines for the last line of a key.
 use Rattle.std.proofs.Common.{◌≡◌, ◌==◌, ◌&&◌, ◌++◌, ◌∷◌, [], ℕ, Bool, true, false, cond, refl, sym, ap, ◌∙◌, arith}
 use Rattle.std.proofs.Common.{Option, Some, None, option_map}
 use Rattle.std.proofs.lemmas.Bool.{and_from, and_parts}
@@ -13,7 +13,7 @@ use Rattle.deck_lines.specs.declared.key_number.KeyNumber.{KeyNumber}
 use Rattle.deck.specs.Tables.{Definitions, definition_by, place_of}
 use Rattle.deck.proofs.Sameness.{key_itself, kind_itself, same_key, same_kind}
 
--- numbers that are found to be one are one
+-- two key numbers are equal
 abbrev pub is_same_number : KeyNumber → KeyNumber → Bool
 is_same_number m n = is_same_kind m.kind n.kind && (m.number == n.number)
 
@@ -29,14 +29,14 @@ number_itself n =
     let same : (n.number == n.number) ≡ true = grind (arith, nat_tests) in
     and_from (is_same_kind n.kind n.kind) (n.number == n.number) (kind_itself n.kind) same
 
--- a line that is not active defines nothing
+-- a line that is not active does not change the place of a key
 pub later_off : (place : ℕ) (active : Bool) (o : Option (Key × Entry)) (ds : Definitions) (k : Key) → active ≡ false
     → place_of ds k ≡ place_of (definition_by place active o ++ ds) k
 later_off place active None ds k off = refl
 later_off place active (Some d) ds k off =
     sym (ap (λ b. place_of (cond b ((d.0, (place, d.1)) ∷ []) [] ++ ds) k) off)
 
--- nor does one without a key
+-- a line that defines no key does not change the place of a key
 pub later_none : (place : ℕ) (active : Bool) (o : Option (Key × Entry)) (ds : Definitions) (k : Key)
     → None ≡ option_map (λ e. Some e.0) o → place_of ds k ≡ place_of (definition_by place active o ++ ds) k
 later_none place active None ds k none = refl
@@ -59,7 +59,7 @@ module _ (names : Names) (unique : IsOneToOne names) (n own : KeyNumber) (k : Ke
       by true h = absurd (differs (unique own n k (told ∙ ap Some (sym (same_key k d.0 h))) at))
       by false h = ap (λ b. option_map (λ p. p.0) (cond b (Some (place, d.1)) (lookup (is_same k) ds))) h
 
-  -- an active line of the key is the last
+  -- an active line of the key gives its last place
   pub later_here : (active : Bool) (o : Option (Key × Entry)) → active ≡ true
       → Some (key_at names own) ≡ option_map (λ e. Some e.0) o → is_same_number own n ≡ true
       → Some place ≡ place_of (definition_by place active o ++ ds) k
@@ -68,7 +68,7 @@ module _ (names : Names) (unique : IsOneToOne names) (n own : KeyNumber) (k : Ke
       sym (ap (λ b. place_of (cond b ((d.0, (place, d.1)) ∷ []) [] ++ ds) k) on
       ∙ found_here d (same_Some (key_at names own) (Some d.0) told) (one_number own n same))
 
-  -- one of another key is not
+  -- an active line of another key does not change the place of the key
   pub later_other : (active : Bool) (o : Option (Key × Entry)) → active ≡ true
       → Some (key_at names own) ≡ option_map (λ e. Some e.0) o → is_same_number own n ≡ false
       → place_of ds k ≡ place_of (definition_by place active o ++ ds) k

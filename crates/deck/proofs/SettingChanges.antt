@@ -1,4 +1,4 @@
--- Settings that are changed, and changed back.
+-- Changing settings, and undoing the change.
 use Rattle.std.proofs.Common.{◌≡◌, ◌++◌, ◌∷◌, ◌+◌, ◌-◌, [], ℕ, zero, suc, List, Bool, true, false, cond, length, take}
 use Rattle.std.proofs.Common.{drop, true≢false, refl, sym, ap, subst, ◌∙◌, arith, length-append, slice_get, Some, None}
 use Rattle.std.proofs.Math.Seq.{take-append_seam}
@@ -14,7 +14,7 @@ use Rattle.deck.specs.SettingChanges.{with_variable, without_last_variable}
 use Rattle.deck.specs.Tables.{Table}
 use Rattle.deck.specs.declared.settings.Settings.{Settings}
 
--- the value that a name has
+-- setting a variable to the value that it has changes nothing
 same_value : (vars : Pairs) (name value : List ℕ) → value_of vars name ≡ Some value → with_value vars name value ≡ vars
 same_value [] name value e = cc
 same_value (p ∷ vars) name value e = by (bytes_eq name p.0) (same_value vars name value) e
@@ -25,7 +25,7 @@ same_value (p ∷ vars) name value e = by (bytes_eq name p.0) (same_value vars n
     by true ih h = ap (λ v. (p.0, v) ∷ vars) (sym (same_Some p.1 value h))
     by false ih h = ap (λ (ps : Pairs). p ∷ ps) (ih h)
 
--- the value that a name had, put back
+-- setting a variable to its previous value restores the variables
 value_back : (vars : Pairs) (name value before : List ℕ) → value_of vars name ≡ Some before
     → with_value (with_value vars name value) name before ≡ vars
 value_back [] name value before e = cc
@@ -43,13 +43,13 @@ value_back (p ∷ vars) name value before e = by (bytes_eq name p.0) refl (value
         (p ∷ with_value (with_value vars name value) name before)) is
         ∙ ap (λ (ps : Pairs). p ∷ ps) (ih h)
 
--- all pairs but one at the end
+-- all pairs but the last are the front
 front_left : (front : Pairs) (p : List ℕ × List ℕ) → take (length (front ++ p ∷ []) - 1) (front ++ p ∷ []) ≡ front
 front_left front p =
     let one_less : length (front ++ p ∷ []) - 1 ≡ length front = omega (arith, length-append front (p ∷ [])) in
     ap (λ n. take n (front ++ p ∷ [])) one_less ∙ take-append_seam front (p ∷ [])
 
--- pairs by the last of them
+-- a list of pairs consists of all but the last and the last
 by_last : (vars : Pairs) (p : List ℕ × List ℕ) → slice_get vars (length vars - 1) ≡ Some p
     → vars ≡ take (length vars - 1) vars ++ p ∷ []
 by_last [] p e = cc
@@ -86,7 +86,7 @@ last_variable s name value e distinct =
     front : Pairs
     front = take (length s.vars - 1) s.vars
 
--- pairs by the one at a place
+-- a list of pairs consists of those before a place, the one there and those after it
 pub by_place : (vars : Pairs) (i : ℕ) (p : List ℕ × List ℕ) → slice_get vars i ≡ Some p
     → vars ≡ take i vars ++ p ∷ drop (i + 1) vars
 by_place [] i p e = absurd (cc)
@@ -96,16 +96,16 @@ by_place (q ∷ vars) (suc i) p e =
     ap (λ (ps : Pairs). q ∷ ps) (by_place vars i p e)
     ∙ ap (λ j. q ∷ (take i vars ++ p ∷ drop j (q ∷ vars))) (sym next)
 
--- no key is changed where the table stays
+-- no key changes if the table is the same
 pub none_changed : (t : Table) (keys : List Key) → keys ≡ [] → IsTableChange t t keys
 none_changed t keys none =
     subst (IsTableChange t t) (sym none)
     (record { changed = λ k. (λ never. refl, λ equal m. true≢false (sym m)); once = tt })
 
--- settings of these parts
+-- settings with this locale and these variables
 abbrev pub settings_of : List ℕ → Pairs → Settings
 settings_of locale vars = record { locale = locale; vars = vars }
 
--- a deck of these parts
+-- a deck with these lines, notices and settings
 abbrev pub deck_of : List DeckLine → List (List ℕ) → Settings → Contents
 deck_of lines notices settings = record { lines = lines; settings = settings; notices = notices }

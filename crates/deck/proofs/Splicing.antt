@@ -1,4 +1,4 @@
--- What a splice leaves, and its inverse.
+-- The result of a splice, and its inverse.
 use Rattle.std.proofs.Common.{◌≡◌, ◌++◌, ◌∷◌, ◌+◌, ◌≤◌, [], ℕ, zero, suc, List, Bool, true, false, length, take, drop}
 use Rattle.std.proofs.Common.{refl, sym, ap, subst, ◌∙◌, arith, Some, None, Ok, option_map}
 use Rattle.def_entry.specs.declared.key.Key.{Key}
@@ -23,18 +23,18 @@ use Rattle.deck.proofs.Extending.{unplaced}
 use Rattle.deck.proofs.Lasting.{last_extended}
 use Rattle.deck.proofs.Numbered.{position}
 
--- up to a place, and as many as were put there
+-- the first `at` items of a spliced list are those of the old list
 front_of : {A : Type 0} (at : ℕ) (xs ys : List A) → at ≤ length xs → take at (take at xs ++ ys) ≡ take at xs
 front_of zero xs ys h = refl
 front_of (suc at) [] ys h = absurd (omega arith)
 front_of (suc at) (x ∷ xs) ys h = ap (λ t. x ∷ t) (front_of at xs ys (omega arith))
 
--- behind the first of two lists stands the second
+-- what follows the first of two lists is the second
 past : {A : Type 0} (ys zs : List A) → drop (length ys) (ys ++ zs) ≡ zs
 past [] zs = refl
 past (y ∷ ys) zs = past ys zs
 
--- behind what was put stands what stood behind
+-- what follows the inserted items is what followed the place
 rest_of : {A : Type 0} (at : ℕ) (xs ys zs : List A) → at ≤ length xs
     → drop (at + length ys) (take at xs ++ (ys ++ zs)) ≡ zs
 rest_of zero xs ys zs h = ap (λ n. drop n (ys ++ zs)) (zero_plus (length ys)) ∙ past ys zs
@@ -58,17 +58,17 @@ undone s d h =
     ∙ ap (λ t. take s.at xs ++ (take s.cut (drop s.at xs) ++ t)) rest
     ∙ parts_of s.at s.cut xs h)
 
--- a splice of the lines of a store
+-- a splice of the lines of a store, as an edit
 abbrev pub as_edited : Splice → List DeckLine → Names → Edited
 as_edited s lines names = record { before = lines; after = spliced_lines s lines; names = names }
 
--- a key that has a number has one in particular
+-- a key that is numbered has some number
 number_of : (names : Names) (k : Key) → is_numbered names k ≡ true → (n : KeyNumber) × (key_at names n ≡ Some k)
 number_of names k e =
     let p = position (names_of names k.kind) k.name e in
     (record { kind = k.kind; number = p.0 }, ap (option_map (key k.kind)) p.1)
 
--- last places stay where more keys have numbers
+-- the last places stay valid when more keys get numbers
 pub indexed_read : (old new : Store) (settings : Settings) (last : LastPlaces) → IsNumbering old → IsNumbering new
     → new.lines ≡ old.lines → IsExtended old.names new.names →
     IsIndexed old settings last → IsIndexed new settings last
@@ -89,7 +89,7 @@ indexed_read old new settings last numbering more lines wider before = record {
         never : None ≡ Some k → ⊥
         never q = cc
 
--- last places of the lines that a splice leaves
+-- the last places after a splice are those of the spliced lines
 pub indexed_spliced : (s : Splice) (d : Contents) (store now : Store) (last : LastPlaces) → store.lines ≡ d.lines
     → now.lines ≡ spliced_lines s store.lines → now.names ≡ store.names →
     IsClosed (spliced_lines s d.lines) → AreLast store.names (definitions s.settings (spliced_lines s d.lines)) last
@@ -103,7 +103,7 @@ indexed_spliced s d store now last same put names closed places =
           (sym names) places);
     }
 
--- what a splice answers: the deck, the keys that it changes, and its inverse
+-- the result of a splice: the deck, the keys that it changes, and its inverse
 pub spliced : (s : Splice) (d : Contents) (settings : Settings) (notices : List (List ℕ))
     (lines before now gone : List DeckLine) (count : ℕ) (keys : List Key) →
     record { lines = lines; settings = settings; notices = notices } ≡ d → before ≡ lines → now ≡ spliced_lines s before

@@ -1,4 +1,4 @@
--- The table of a deck and its lines.
+-- The sizes of the table of a deck and its lines.
 use Rattle.std.proofs.Common.{◌≡◌, ◌≤◌, ◌+◌, ◌∷◌, [], ℕ, List, Bool, true, false, length, arith, Option, Some}
 use Rattle.std.proofs.Common.{None, length-append}
 use Rattle.std.proofs.lemmas.List.{length-map, length-reverse}
@@ -12,13 +12,13 @@ use Rattle.deck.specs.Tables.{TableLaw, definition_by, definitions, definitions_
 use Rattle.deck.proofs.Changing.{from_place}
 use Rattle.deck.proofs.Placing.{in_place}
 
--- no line defines more than one key
+-- a line defines at most one key
 one_at_most : (place : ℕ) (active : Bool) (o : Option (Key × Entry)) → length (definition_by place active o) ≤ 1
 one_at_most place active None = omega arith
 one_at_most place true (Some p) = omega arith
 one_at_most place false (Some p) = omega arith
 
--- lines define no more keys than there are lines
+-- lines define at most as many keys as there are lines
 from_short : (place : ℕ) (flags : List Bool) (lines : List DeckLine)
     → length (definitions_from place flags lines) ≤ length lines
 from_short place [] lines = omega arith
@@ -31,7 +31,7 @@ from_short place (f ∷ flags) (x ∷ lines) =
       length-append (definition_by place f (entry_in x)) (definitions_from (place + 1) flags lines),
     )
 
--- so a table has no more entries than there are lines
+-- a table has at most as many entries as there are lines
 short : (d : Contents) → length (table d) ≤ length d.lines
 unfolding definitions
 short d =

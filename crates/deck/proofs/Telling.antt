@@ -1,11 +1,11 @@
--- What lines say, one line after another.
+-- Collecting texts from lines, one line after another.
 use Rattle.std.proofs.Common.{◌≡◌, ◌++◌, ◌∷◌, ◌+◌, ◌<◌, ◌≤◌, [], ℕ, zero, suc, List, Bool, true, false, cond, length}
 use Rattle.std.proofs.Common.{drop, get_or, append_assoc, refl, sym, ap, ◌∙◌, arith}
 use Rattle.std.proofs.lemmas.List.{drop_all}
 use Rattle.deck_lines.specs.declared.line.DeckLine.{DeckLine}
 use Rattle.deck.specs.Messages.{in_turn, where_true}
 
--- from a place on stands the flag there, and then those behind it
+-- from an index on, the flags begin with the flag there
 flag_at : (fs : List Bool) (i : ℕ) → i < length fs → drop i fs ≡ get_or fs i false ∷ drop (i + 1) fs
 flag_at [] i h = absurd (omega arith)
 flag_at (f ∷ fs) zero h = refl
@@ -13,7 +13,7 @@ flag_at (f ∷ fs) (suc i) h =
     let next : suc (i + 1) ≡ suc i + 1 = omega arith in
     flag_at fs i (omega arith) ∙ ap (λ j. get_or fs i false ∷ drop j (f ∷ fs)) next
 
--- one more line
+-- the texts of the lines, extended by those of the next line
 pub told_step : (say : DeckLine → List (List ℕ)) (fs : List Bool) (lines : List DeckLine) (i : ℕ) (x : DeckLine)
     (texts now whole : List (List ℕ)) → i < length fs →
     drop i lines ≡ x ∷ drop (i + 1) lines → texts ++ in_turn say (where_true (drop i fs) (drop i lines)) ≡ whole
@@ -31,7 +31,7 @@ told_step say fs lines i x texts now whole h at e f =
     by true rest = refl
     by false rest = refl
 
--- nothing is left
+-- after the last line no text is left
 pub told_all : (say : DeckLine → List (List ℕ)) (fs : List Bool) (lines : List DeckLine) (i : ℕ) → length lines ≤ i
     → in_turn say (where_true (drop i fs) (drop i lines)) ≡ []
 told_all say fs lines i h = ap (λ ls. in_turn say (where_true (drop i fs) ls)) (drop_all i lines h) ∙ none (drop i fs)
@@ -40,7 +40,7 @@ told_all say fs lines i h = ap (λ ls. in_turn say (where_true (drop i fs) ls)) 
     none [] = refl
     none (g ∷ gs) = refl
 
--- a flag that is read
+-- reading a flag within the list does not depend on the default
 pub flag_read : (fs : List Bool) (i : ℕ) (f : Bool) → i < length fs → f ≡ get_or fs i f → f ≡ get_or fs i false
 flag_read [] i f h e = absurd (omega arith)
 flag_read (g ∷ fs) zero f h e = e

@@ -1,4 +1,4 @@
--- A search for a text finds it exactly if the bytes hold it.
+-- A search for a text succeeds exactly if the bytes contain the text.
 use Rattle.std.proofs.Common.{◌≡◌, ◌∙◌, ◌+◌, ◌<◌, ◌||◌, ℕ, zero, suc, List, [], ◌∷◌, Bool, true, false}
 use Rattle.std.proofs.Common.{Option, Some, None, arith, get_or, is_some, length, length-take, nat_eq, refl, sym, ap}
 use Rattle.std.proofs.Common.{take}
@@ -10,12 +10,12 @@ use Rattle.std.specs.List.{starts_with}
 use Rattle.memchr.specs.Find.{FindsNeedle, OccursAt}
 use Rattle.deck.specs.Holding.{holds}
 
--- the empty text is everywhere
+-- all bytes contain the empty text
 pub holds_nothing : (bytes : List ℕ) → holds bytes [] ≡ true
 holds_nothing [] = refl
 holds_nothing (b ∷ bytes) = refl
 
--- what bytes start with occurs at their first place
+-- a text at the front of the bytes occurs at place 0
 occurs_first : (bytes text : List ℕ) → starts_with nat_eq bytes text ≡ true → OccursAt bytes text 0
 occurs_first bytes text h =
     let same : text ≡ take (length text) bytes = (bytes_eq-Decides text (take (length text) bytes)).0 h in
@@ -30,7 +30,7 @@ occurs_first bytes text h =
         ap (λ i. get_or bytes i 0) at ∙ sym (get_or-take (length text) bytes j 0 l)
         ∙ sym (ap (λ xs. get_or xs j 0) same)
 
--- and the other way round
+-- a text that occurs at place 0 is at the front of the bytes
 starts_first : (bytes text : List ℕ) → OccursAt bytes text 0 → starts_with nat_eq bytes text ≡ true
 starts_first [] [] o = refl
 starts_first (b ∷ bytes) [] o = refl
@@ -50,7 +50,7 @@ starts_first (b ∷ bytes) (t ∷ text) o =
         let at : 0 + suc j ≡ suc (0 + j) = omega arith in
         ap (λ i. get_or (b ∷ bytes) i 0) (sym at) ∙ e
 
--- a place behind one more byte
+-- with one byte more in front, the text occurs one place later
 one_on : (b : ℕ) (bytes text : List ℕ) (k : ℕ) → OccursAt bytes text k → OccursAt (b ∷ bytes) text (suc k)
 one_on b bytes text k o = record { fits = omega (arith, o.fits); reads = λ j l. at j ∙ o.reads j l }
   where
@@ -59,7 +59,7 @@ one_on b bytes text k o = record { fits = omega (arith, o.fits); reads = λ j l.
         let next : suc k + j ≡ suc (k + j) = omega arith in
         ap (λ i. get_or (b ∷ bytes) i 0) next
 
--- and before it
+-- with the first byte removed, the text occurs one place earlier
 one_back : (b : ℕ) (bytes text : List ℕ) (k : ℕ) → OccursAt (b ∷ bytes) text (suc k) → OccursAt bytes text k
 one_back b bytes text k o = record { fits = omega (arith, o.fits); reads = λ j l. at j ∙ o.reads j l }
   where
@@ -68,7 +68,7 @@ one_back b bytes text k o = record { fits = omega (arith, o.fits); reads = λ j 
         let next : suc k + j ≡ suc (k + j) = omega arith in
         sym (ap (λ i. get_or (b ∷ bytes) i 0) next)
 
--- bytes that hold a text have a place at which it occurs
+-- a text that the bytes contain occurs at some place
 place_held : (bytes text : List ℕ) → holds bytes text ≡ true → (k : ℕ) × OccursAt bytes text k
 place_held [] text h = (0, occurs_first [] text h)
 place_held (b ∷ bytes) text h =
@@ -90,7 +90,7 @@ or_second : (a b : Bool) → b ≡ true → (a || b) ≡ true
 or_second true b h = refl
 or_second false b h = h
 
--- and the other way round
+-- the bytes contain a text that occurs at some place
 held_at : (bytes text : List ℕ) (k : ℕ) → OccursAt bytes text k → holds bytes text ≡ true
 held_at [] text zero o = starts_first [] text o
 held_at [] text (suc k) o = absurd (omega (arith, o.fits))
@@ -100,7 +100,7 @@ held_at (b ∷ bytes) text (suc k) o =
     or_second (starts_with nat_eq (b ∷ bytes) text) (holds bytes text)
     (held_at bytes text k (one_back b bytes text k o))
 
--- so a search finds a text exactly if the bytes hold it
+-- a search finds a text exactly if the bytes contain it
 pub held_if_found : (bytes text : List ℕ) (place : Option ℕ) → FindsNeedle bytes text 0 place
     → is_some place ≡ holds bytes text
 held_if_found bytes text None none = by (holds bytes text) refl

@@ -1,4 +1,4 @@
--- The key that a line taken out changes.
+-- The keys that the removal of a line changes.
 use Rattle.std.proofs.Common.{◌≡◌, ◌++◌, ◌∷◌, ◌+◌, [], ℕ, zero, suc, List, Bool, true, false, not, cond, set}
 use Rattle.std.proofs.Common.{reverse, refl, sym, ap, ◌∙◌, Option, Some, None, option_map}
 use Rattle.std.proofs.lemmas.List.{reverse-append}
@@ -29,7 +29,7 @@ use Rattle.deck.proofs.Placing.{entry_found, in_place, in_place_by}
 use Rattle.deck.proofs.Sameness.{same_key}
 use Rattle.deck.proofs.Undefining.{last_less}
 
--- what two lists of definitions give for a key is what the first gives, or else the second
+-- the result of the first search, or that of the second if the first found nothing
 abbrev pub found_first : {A : Type 0} → Option A → Option A → Option A
 found_first (Some x) o = Some x
 found_first None o = o
@@ -45,13 +45,13 @@ found-append test (d ∷ ds) es = by (found-append test ds es) (test d.0)
     by ih true = refl
     by ih false = ih
 
--- the definition of a key is not one of another
+-- the definition of one key is not found by another key
 found_none : (n : ℕ) (f : Bool) (k j : Key) (e : Entry) → is_same j k ≡ false
     → lookup (is_same j) (reverse (definition_by n f (Some (k, e)))) ≡ None
 found_none n true k j e apart = ap (λ b. cond b (Some (n, e)) None) apart
 found_none n false k j e apart = refl
 
--- so without it the others find what they found
+-- without the definition, other keys find the same definitions
 found_others : (fs : List Bool) (lines : List DeckLine) (n place : ℕ) (k j : Key) (e : Entry)
     → DefinesAt lines place (k, e) → is_same j k ≡ false →
     lookup (is_same j) (reverse (definitions_from n (set fs place false) lines))
@@ -78,7 +78,7 @@ found_others (f ∷ fs) (x ∷ lines) n (suc place) k j e defines apart =
     (found_others fs lines (n + 1) place k j e defines apart)
     ∙ sym (apart_by (definitions_from (n + 1) fs lines))
 
--- the entries of other keys stay
+-- the entries of other keys stay the same
 others_stay : (settings : Settings) (lines : List DeckLine) (place : ℕ) (k j : Key) (e : Entry)
     → DefinesAt lines place (k, e) → is_same j k ≡ false → entry_at (table_of (definitions settings lines)) j
     ≡ entry_at (table_of (definitions_by (set (active_lines settings lines) place false) lines)) j
@@ -88,7 +88,7 @@ others_stay settings lines place k j e defines apart =
     ∙ ap (option_map (λ v. v.1)) (sym (found_others (active_lines settings lines) lines 0 place k j e defines apart))
     ∙ sym (entry_found (definitions_by (set (active_lines settings lines) place false) lines) j)
 
--- without the line, and with what it defines in front of the rest, each key has the place that it had
+-- if the definition of the line is put in front of the definitions without it, each key has the place that it had
 places_stay : (settings : Settings) (lines : List DeckLine) (place : ℕ) (k : Key) (e : Entry)
     → DefinesAt lines place (k, e) → place_of (definitions settings lines) k ≡ Some place → (j : Key)
     → place_of (definitions settings lines) j
@@ -113,7 +113,7 @@ module _ (settings : Settings) (store : Store) (n : KeyNumber) (k : Key) (e : En
     (was : place_of (definitions settings store.lines) k ≡ Some place) (defines : DefinesAt store.lines place (k, e))
     (flags_are : flags ≡ set (active_lines settings store.lines) place false)
     (covers : uncovered ≡ place_of (definitions_by flags store.lines) k) where
-  -- the last places, of which that of its key is the one that it uncovers
+  -- with the uncovered place stored at the number of the key, the last places are those of the remaining definitions
   pub last_uncovered : IsNumbering store → (old now : LastPlaces)
       → AreLast store.names (definitions settings store.lines) old →
       ((kind : Kind) → places_of now kind ≡ cond (is_same_kind kind n.kind)
@@ -131,7 +131,8 @@ module _ (settings : Settings) (store : Store) (n : KeyNumber) (k : Key) (e : En
           places_stay settings store.lines place k e defines was j
           ∙ ap (λ (fs : List Bool). place_of ((k, (place, e)) ∷ definitions_by fs store.lines) j) (sym flags_are)
 
-  -- the keys that this changes: its own, by the texts of its entry and of the one that it uncovers
+  -- the removal changes at most the key of the line; whether it does is decided by comparing the texts of its entry and
+  -- of the uncovered one
   pub changed_dropped : SameTextLaw
       → IsTableChange (table_of (definitions settings store.lines)) (table_of (definitions_by flags store.lines))
       (key_if (not (is_same_entry (entry_there store.lines (Some place)) (entry_there store.lines uncovered)))

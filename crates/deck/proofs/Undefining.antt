@@ -1,4 +1,4 @@
--- A line that defines a key, taken out at the end.
+-- Removing a last line that defines a key.
 use Rattle.std.proofs.Common.{◌≡◌, ◌++◌, ◌∷◌, ◌+◌, ◌-◌, ◌<◌, [], ℕ, List, Bool, true, false}
 use Rattle.std.proofs.Common.{not, cond, length, set, take, refl, sym, ap, subst, ◌∙◌, arith, length-append}
 use Rattle.std.proofs.Common.{Option, Some, None, option_map, slice_get}
@@ -37,7 +37,7 @@ use Rattle.deck.proofs.Placing.{at_length, in_place, place_present}
 use Rattle.deck.proofs.Pushing.{placed_push}
 use Rattle.deck.proofs.Sameness.{key_itself, same_key, same_kind}
 
--- a number with a place is within
+-- a number that has a place is within the list
 pub place_within : (ps : List (Option ℕ)) (n p : ℕ) → place_in ps n ≡ Some p → n < length ps
 place_within ps n p h = by (slice_get ps n) refl h
   where
@@ -45,7 +45,7 @@ place_within ps n p h = by (slice_get ps n) refl h
     by None e g = cc
     by (Some x) e g = slice_get_within ps n x e
 
--- the places without the newest definition
+-- the last places after the newest definition is removed
 module _ (names : Names) (unique : IsOneToOne names) (ds : Definitions) (n : KeyNumber) (k : Key) (at : ℕ) (e : Entry)
     (place : Option ℕ)
     (old now : LastPlaces) (numbered : key_at names n ≡ Some k) (before : AreLast names ((k, (at, e)) ∷ ds) old)
@@ -119,7 +119,7 @@ module _ (names : Names) (unique : IsOneToOne names) (ds : Definitions) (n : Key
   pub last_less : AreLast names ds now
   last_less = record { place = places_less; count = counts_less }
 
--- a line that defines a key closes nothing
+-- removing a last line that defines a key does not change the open blocks
 closed_less : (lines : List DeckLine) (x : DeckLine) (d : Key × Entry) (blocks : List Ending) → entry_in x ≡ Some d →
     blocks_after blocks lines ≡ blocks_after blocks (lines ++ x ∷ [])
 closed_less [] x d blocks h = sym (ap (option_and_then (λ now. blocks_after now [])) (blocks_stay blocks x d h))
@@ -152,14 +152,14 @@ module _ (settings : Settings) (store : Store) (front : List DeckLine) (x : Deck
 
   module _ (n : KeyNumber) (place : Option ℕ) (at : key_at store.names n ≡ Some k)
       (is : place ≡ place_of (definitions settings front) k) where
-    -- the place of its number
+    -- the number of the key is within the places
     pub room_there : n.number < length (places_of old n.kind)
     room_there = place_within (places_of old n.kind) n.number (length front)
         (last_places.place n ∙ ap (option_and_then (place_of ((k, (length front, e)) ∷ definitions settings front))) at
         ∙ ap (λ b. option_map (λ p. p.0)
         (cond b (Some (length front, e)) (lookup (is_same k) (definitions settings front)))) (key_itself k))
 
-    -- the deck without it
+    -- with the previous place stored at the number, the last places are those of the deck without the line
     pub indexed_less : (now : LastPlaces) (new : Store) → new.lines ≡ front → new.names ≡ store.names →
         ((kind : Kind) → places_of now kind ≡ cond (is_same_kind kind n.kind) (set (places_of old kind) n.number place)
         (places_of old kind)) →
@@ -172,7 +172,7 @@ module _ (settings : Settings) (store : Store) (front : List DeckLine) (x : Deck
           last_places is put));
     }
 
--- the keys that it changes, by the texts of the two entries
+-- the keys that the removal changes, by comparing the texts of the two entries
 pub changed_less : SameTextLaw → (settings : Settings) (lines front : List DeckLine) (x : DeckLine) (k : Key)
     (e : Entry) (o : Option Key) (place : ℕ) (uncovered : Option ℕ)
     → lines ≡ front ++ x ∷ [] → definitions settings lines ≡ (k, (length front, e)) ∷ definitions settings front
@@ -200,7 +200,7 @@ changed_less law settings lines front x k e o place uncovered is ds at last cove
         ap (λ (now : Definitions). entry_at (table_of now) j) ds
         ∙ ap (λ b. cond b (Some e) (entry_at (table_of (definitions settings front)) j)) apart
 
--- the last line stands in front of no other
+-- the place of the last line is the length of the front
 pub last_at : (lines front : List DeckLine) (x : DeckLine) (n : ℕ) → lines ≡ front ++ x ∷ [] → n ≡ length lines
     → n - 1 ≡ length front
 last_at lines front x n is count = omega (arith, ap length is, count, length-append front (x ∷ []))
@@ -211,7 +211,7 @@ pub front_taken : (lines front : List DeckLine) (x : DeckLine) (n : ℕ) → lin
 front_taken lines front x n is count =
     ap (λ m. take m lines) (last_at lines front x n is count) ∙ ap (take (length front)) is ∙ take_front front (x ∷ [])
 
--- its text
+-- the text that is returned is the text of the last line
 pub last_text : (lines stored : List DeckLine) (n : ℕ) (y : DeckLine) (text : List ℕ) → stored ≡ lines
     → n ≡ length lines → slice_get stored (n - 1) ≡ Some y → text ≡ y.text →
     (front : List DeckLine) (x : DeckLine) → lines ≡ front ++ x ∷ [] → text ≡ x.text

@@ -31,7 +31,7 @@ use Rattle.deck_lines.specs.declared.line.Ending.TheVariants.{ByLocale, ByVar, B
 use Rattle.deck_lines.specs.declared.line.Role.{Role}
 use Rattle.deck_lines.specs.declared.line.Role.TheVariants.{Opens, Closes, Inside}
 
--- if `option_and_then` has a value, its option has one
+-- if `option_and_then` has a value, so does its option
 pub and_then_pair : {A B : Type 0} (f : A → Option B) (o : Option A) (y : B) → option_and_then f o ≡ Some y
     → (x : A) × (o ≡ Some x) × (f x ≡ Some y)
 and_then_pair f None y e = cc
@@ -47,7 +47,7 @@ closed_more e (b ∷ bs) cs ds h = by (same_ending e b) h
     by true g = ap (λ x. Some (x ++ ds)) (same_Some bs cs g)
     by false g = cc
 
--- a role has the same effect if more blocks are open around
+-- a line of this role has the same effect if more blocks are open around it
 by_more : (bs cs ds : List Ending) (role : Role) → blocks_past_role bs role ≡ Some cs
     → blocks_past_role (bs ++ ds) role ≡ Some (cs ++ ds)
 by_more bs cs ds (Opens e) h = ap (λ x. Some (x ++ ds)) (same_Some (e ∷ bs) cs h)
@@ -81,19 +81,19 @@ after-append (x ∷ xs) ys bs cs e =
     let p = and_then_pair (λ now. blocks_after now xs) (blocks_past bs x) cs e in
     ap (option_and_then (λ now. blocks_after now (xs ++ ys))) p.1 ∙ after-append xs ys p.0 cs p.2
 
--- one line with the mark leaves the open blocks unchanged
+-- a line with the mark leaves the open blocks unchanged
 pub marked_one : (bs : List Ending) (x : Line) → blocks_after bs (marked_line x.number x.text ∷ []) ≡ Some bs
 unfolding blocks_past
 marked_one bs x = refl
 
--- one line without a mark has the effect of its role
+-- a line without a mark has the effect of its role
 pub plain_one : (bs : List Ending) (x : Line) (kind : Kind) → kind_of x.text ≡ kind
     → blocks_after bs (plain_line x.number x.text ∷ [])
     ≡ option_and_then (λ now. Some now) (blocks_past_role bs (role_of kind))
 unfolding blocks_past
 plain_one bs x kind e = ap (λ k. option_and_then (λ now. Some now) (blocks_past_role bs (role_of k))) e
 
--- an include whose lines close every block that they open
+-- an include whose lines close every block that they open, and no other
 abbrev pub IsClosedInclude : Included → Type 0
 IsClosedInclude (Read w) = IsClosed w.lines
 IsClosedInclude (NotRead text) = ⊤
@@ -106,7 +106,7 @@ include_closed bs file n x (Read w) e h =
     ∙ after_more w.lines [] [] bs h
 include_closed bs file n x (NotRead text) e h = marked_one bs x
 
--- the excerpt of one line leads to the blocks that are open after the line
+-- the lines of the excerpt of a line lead to the blocks that are open after the line
 abbrev pub Leaves : (List ℕ → Included) → List ℕ → List Block → Line → Reading → Type 0
 Leaves inc file blocks x reading = blocks_after (endings blocks) (line_excerpt inc file blocks x reading).lines
     ≡ Some (endings (blocks_behind_line blocks x reading))

@@ -31,7 +31,7 @@ module _ (names more : Names) (extended : IsExtended names more) where
       ap (λ k. Some (k, what_view d.what)) (extended d.key said.0 at)
       ∙ ap (λ (p : Option Key × What). Some (Some said.0, p.1)) same
 
-  -- the definitions of lines are the same if more keys have numbers
+  -- definitions stay those of the lines if more keys have numbers
   pub grown : (ds : List (Option Definition)) (said : List (Option (Key × Entry))) → IsDefined names ds said
       → IsDefined more ds said
   grown [] [] e = refl
@@ -43,7 +43,7 @@ module _ (names more : Names) (extended : IsExtended names more) where
       ap (λ t. t ∷ map (option_map (seen_definition more)) ds) (grown_one d s head)
       ∙ ap (λ t. option_map keyed_definition s ∷ t) (grown ds said tail)
 
-  -- appending the definition of one more line
+  -- appending a definition to the definitions of lines
   pub defined_put : (ds : List (Option Definition)) (said : List (Option (Key × Entry))) (d : Option Definition)
       (s : Option (Key × Entry)) →
       option_map (seen_definition more) d ≡ option_map keyed_definition s → IsDefined names ds said
@@ -54,7 +54,7 @@ module _ (names more : Names) (extended : IsExtended names more) where
       ∙ ap (λ o. map (option_map keyed_definition) said ++ o ∷ []) e
       ∙ sym (map-append (option_map keyed_definition) said (s ∷ []))
 
--- a definition by the number of its key
+-- appending the definition of a key with its number
 pub key_put : (names more : Names) (k : Key) (what : MadeWhat) (n : KeyNumber) (made : Option (Key × MadeWhat))
     (line : List ℕ) (ds after : List (Option Definition)) (said : List (Option (Key × Entry))) →
     made ≡ Some (k, what) → more ≡ with_key names k → key_at more n ≡ Some k
@@ -68,21 +68,21 @@ key_put names more k what n made line ds after said is grows at put are =
     (ap (λ key. Some (key, what_view what)) at) are
     ∙ ap (λ o. map (option_map keyed_definition) (said ++ option_map (seen_entry line) o ∷ [])) (sym is)
 
--- the definitions of the first lines
+-- the first definitions are those of the first lines
 pub defined_take : (names : Names) (ds : List (Option Definition)) (said : List (Option (Key × Entry))) (n : ℕ)
     → IsDefined names ds said → IsDefined names (take n ds) (take n said)
 defined_take names ds said n are =
     sym (take-map (option_map (seen_definition names)) n ds) ∙ ap (take n) are
     ∙ take-map (option_map keyed_definition) n said
 
--- the definitions of the lines after the first lines
+-- the definitions after the first ones are those of the lines after the first ones
 pub defined_drop : (names : Names) (ds : List (Option Definition)) (said : List (Option (Key × Entry))) (n : ℕ)
     → IsDefined names ds said → IsDefined names (drop n ds) (drop n said)
 defined_drop names ds said n are =
     sym (drop-map (option_map (seen_definition names)) n ds) ∙ ap (drop n) are
     ∙ drop-map (option_map keyed_definition) n said
 
--- the definitions of two lists of lines, one after the other
+-- two lists of definitions, one after the other, are those of two lists of lines, one after the other
 pub defined_append : (names : Names) (ds more : List (Option Definition)) (said behind : List (Option (Key × Entry)))
     → IsDefined names ds said → IsDefined names more behind → IsDefined names (ds ++ more) (said ++ behind)
 defined_append names ds more said behind are too =
@@ -91,7 +91,7 @@ defined_append names ds more said behind are too =
     ∙ ap (λ t. map (option_map keyed_definition) said ++ t) too
     ∙ sym (map-append (option_map keyed_definition) said behind)
 
--- the definitions of lines of which some are replaced by others
+-- if definitions are replaced like their lines, they are the definitions of the resulting lines
 pub defined_exchange : (names : Names) (ds put : List (Option Definition)) (said by : List (Option (Key × Entry)))
     (at cut : ℕ) → IsDefined names ds said → IsDefined names put by →
     IsDefined names (take at ds ++ (put ++ drop (at + cut) ds)) (take at said ++ (by ++ drop (at + cut) said))
@@ -111,7 +111,7 @@ module _ (names : Names) (ds : List (Option Definition)) (lines : List DeckLine)
       ∙ slice_get-map (option_map keyed_definition) (map entry_in lines) place
       ∙ ap (option_map (option_map keyed_definition)) (slice_get-map entry_in lines place)
 
-  -- the definition of the line at a place
+  -- the stored definition at a place is the definition of the line there
   pub defined_at : (d : Option Definition) → slice_get ds place ≡ Some d
       → option_map (seen_definition names) d ≡ option_map keyed_definition (definition_at lines place)
   defined_at d at = by (slice_get lines place) (sym (ap (option_map (option_map (seen_definition names))) at) ∙ there)
@@ -132,13 +132,13 @@ module _ (names : Names) (ds : List (Option Definition)) (lines : List DeckLine)
       by None e = refl
       by (Some line) e = absurd (cc)
 
--- the key of a definition
+-- the key of a definition is the key of its entry
 pub keyed_key : (d : Option (Key × Entry)) → option_map (λ (p : Option Key × What). p.0) (option_map keyed_definition d)
     ≡ option_map (λ (p : Key × Entry). Some p.0) d
 keyed_key None = refl
 keyed_key (Some d) = refl
 
--- the definitions of the first lines, with one more line
+-- the definitions of the first lines, extended by that of the next line
 pub defined_more : (names more : Names) → IsExtended names more → (ds after : List (Option Definition))
     (d : Option Definition) (lines : List DeckLine) (i : ℕ) (line : DeckLine) →
     i < length lines → line ≡ get_or lines i line → after ≡ ds ++ d ∷ []

@@ -28,7 +28,7 @@ pub with_definitions-append : (xs ys : List DeckLine) (names : Names)
 with_definitions-append [] ys names = refl
 with_definitions-append (x ∷ xs) ys names = with_definitions-append xs ys (with_definition names (entry_in x))
 
--- lines behind lines
+-- appending two lists of lines in turn is appending both together
 pub with_lines-append : (store : Store) (xs ys : List DeckLine)
     → with_lines (with_lines store xs) ys ≡ with_lines store (xs ++ ys)
 with_lines-append store xs ys =
@@ -40,7 +40,7 @@ with_lines-append store xs ys =
 pub with_lines-nil : (store : Store) → with_lines store [] ≡ store
 with_lines-nil store = ap (λ lines. record { lines = lines; names = store.names }) (append_nil store.lines)
 
--- appending two excerpts in turn
+-- appending two excerpts in turn is appending both together
 pub with_excerpt-in_turn : (draft : Draft) (a b : Excerpt)
     → with_excerpt (with_excerpt draft a) b ≡ with_excerpt draft (in_turn a b)
 with_excerpt-in_turn draft a b =
@@ -48,7 +48,7 @@ with_excerpt-in_turn draft a b =
     ap (λ store. made store ((draft.notices ++ a.notices) ++ b.notices)) (with_lines-append draft.store a.lines b.lines)
     ∙ ap (made (with_lines draft.store (a.lines ++ b.lines))) (append_assoc draft.notices a.notices b.notices)
 
--- lines that pass a limit still pass it with more lines appended
+-- lines that pass a limit still pass it after more lines are appended
 pub passes_more : (xs ys : List DeckLine) → pass_limit xs ≡ true → pass_limit (xs ++ ys) ≡ true
 unfolding pass_limit
 passes_more xs ys h =
@@ -62,7 +62,7 @@ failed mid part more whole DeckFull h e = sym (ap pass_limit (append_assoc mid p
 failed mid part more whole ReadFailed h e = tt
 failed mid part more whole OutOfMemory h e = tt
 
--- two parts one after the other
+-- a load of the second part, after the first part was appended, is a load of both parts
 pub then_load : (before mid after : Draft) (first second : Excerpt) (r : Result (Unit {0}) LoadFault)
     → mid ≡ with_excerpt before first → IsLoad mid second r after → IsLoad before (in_turn first second) r after
 then_load before mid after first second (Ok u) e h =
@@ -76,7 +76,7 @@ then_load before mid after first second (Err fault) e h =
 pub same_extends : (before after : Store) → after ≡ before → Extends before after
 same_extends before after e = record { lines = []; put = e ∙ sym (with_lines-nil before) }
 
--- lines behind lines
+-- extension of stores is transitive
 pub then_extends : (before mid after : Store) → Extends before mid → Extends mid after → Extends before after
 then_extends before mid after first second = record {
   lines = first.lines ++ second.lines;
@@ -84,7 +84,7 @@ then_extends before mid after first second = record {
       ∙ with_lines-append before first.lines second.lines;
 }
 
--- a load that was put, or after which lines stand behind those before
+-- a load leads from the blocks before its excerpt to those after it if it extends the store
 pub load_leads : (from to : List Ending) (before after : Draft) (excerpt : Excerpt) (r : Result (Unit {0}) LoadFault)
     → blocks_after from excerpt.lines ≡ Some to →
     IsLoad before excerpt r after → Extends before.store after.store → Leads from to before.store after.store r
@@ -92,7 +92,7 @@ load_leads from to before after excerpt (Ok u) b told e =
     record { lines = excerpt.lines; put = ap (λ (d : Draft). d.store) told; leads = b }
 load_leads from to before after excerpt (Err fault) b told e = record { lines = e.lines; put = e.put; leads = tt }
 
--- a load that was put, or after which the store stayed
+-- a load leads from the blocks before its excerpt to those after it if a failure leaves the store unchanged
 pub one_leads : (from to : List Ending) (before after : Draft) (excerpt : Excerpt) (r : Result (Unit {0}) LoadFault)
     → blocks_after from excerpt.lines ≡ Some to →
     IsLoad before excerpt r after → OnErr r (after.store ≡ before.store) → Leads from to before.store after.store r
@@ -102,14 +102,14 @@ one_leads from to before after excerpt (Err fault) b told e =
     let stayed = same_extends before.store after.store e in
     record { lines = stayed.lines; put = stayed.put; leads = tt }
 
--- nothing was put
+-- a failure that leaves the store unchanged leads from any blocks to any others
 pub none_leads : (from to : List Ending) (before after : Store) (fault : LoadFault) → after ≡ before
     → Leads from to before after (Err fault)
 none_leads from to before after fault e =
     let stayed = same_extends before after e in
     record { lines = stayed.lines; put = stayed.put; leads = tt }
 
--- lines lead on
+-- lines that lead to some blocks, followed by lines that lead on from there, lead to the last blocks
 pub then_leads : (from mid to : List Ending) (before between after : Store) (u : Unit {0})
     (r : Result (Unit {0}) LoadFault) → Leads from mid before between (Ok u) → Leads mid to between after r
     → Leads from to before after r
@@ -126,26 +126,26 @@ then_leads from mid to before between after u (Err fault) first second = record 
   leads = tt;
 }
 
--- what is closed leads from any blocks to the same
+-- closed lines lead from any open blocks to the same blocks
 pub leads_inside : (blocks : List Ending) (before after : Store) (r : Result (Unit {0}) LoadFault)
     → Leads [] [] before after r → Leads blocks blocks before after r
 leads_inside blocks before after (Ok u) h =
     record { lines = h.lines; put = h.put; leads = after_more h.lines [] [] blocks h.leads }
 leads_inside blocks before after (Err fault) h = record { lines = h.lines; put = h.put; leads = tt }
 
--- closed lines with closed lines appended are closed
+-- closed lines are still closed after closed lines are appended
 pub closed_behind : (before after : Store) (r : Result (Unit {0}) LoadFault) → Leads [] [] before after r
     → OnOk r (IsClosed before.lines → IsClosed after.lines)
 closed_behind before after (Ok u) h = λ closed.
     ap (λ (s : Store). blocks_after [] s.lines) h.put ∙ after-append before.lines h.lines [] [] closed ∙ h.leads
 closed_behind before after (Err fault) h = tt
 
--- an excerpt that was put
+-- appending an excerpt extends the store
 pub extended : (before after : Draft) (excerpt : Excerpt) → after ≡ with_excerpt before excerpt
     → Extends before.store after.store
 extended before after excerpt e = record { lines = excerpt.lines; put = ap (λ (d : Draft). d.store) e }
 
--- what was put leads or fails: lines stand behind those before
+-- a load that leads from some blocks to others extends the store
 pub leads_extends : (from to : List Ending) (before after : Store) (r : Result (Unit {0}) LoadFault)
     → Leads from to before after r → Extends before after
 leads_extends from to before after r h = record { lines = h.lines; put = h.put }

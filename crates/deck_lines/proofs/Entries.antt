@@ -1,4 +1,4 @@
--- The entries of lines, by what is stored about them in addition to their texts.
+-- The entries of lines, computed from their texts and from what is stored about them.
 use Rattle.std.proofs.Common.{◌≡◌, ◌<◌, ℕ, List, Bool, true, false, cond, length, refl, sym, ap, ◌∙◌, Option, Some}
 use Rattle.std.proofs.Common.{None, option_map, slice_get, Result, Ok, Err}
 use Rattle.std.specs.Option.{option_and_then}
@@ -57,7 +57,7 @@ reads x e h = by x.mark h
 pub text_in : (x : DeckLine) (e : Key × Entry) → entry_in x ≡ Some e → e.1.text ≡ entry_text x.text
 text_in x e h = entry_text_is x.text e.0 e.1 (reads x e h)
 
--- the entry of a line, by what is stored about it
+-- the entry of a line is computed from its text and from what is stored about it
 said_in : (x : DeckLine) (names : Names) (kept : Definition) (o : Option (Key × Entry)) → entry_in x ≡ o
     → Some (seen_definition names kept) ≡ option_map keyed_definition o →
     Some (said_by x.text kept.what) ≡ option_map (λ (d : Key × Entry). d.1) o

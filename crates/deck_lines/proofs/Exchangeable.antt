@@ -1,4 +1,4 @@
--- Lines that may replace others.
+-- Lines that may be exchanged for others.
 use Rattle.std.proofs.Common.{◌≡◌, ◌∷◌, ◌+◌, ◌-◌, ◌<◌, ◌≤◌, ◌↔◌, [], ℕ, Bool, true, false, List, length, reverse, eqb}
 use Rattle.std.proofs.Common.{eq-eqb, refl, sym, ap, ◌∙◌, arith, Some, None, Result, Ok, Err}
 use Rattle.std.specs.Prelude.{IfOk}
@@ -21,17 +21,17 @@ module _ (all xs rest : List DeckLine) (x : DeckLine) (e : xs ≡ x ∷ rest) wh
   texts : text_len xs ≡ length x.text + text_len rest
   texts = ap text_len e ∙ sum_by-cons (λ (l : DeckLine). length l.text) x rest
 
-  -- the texts of lines as far as one, and there is no room for it
+  -- if the room left by the lines before a line is too small for it, the lines pass the limit on bytes
   pub too_long : (len room : ℕ) → len ≡ length x.text → text_len xs + most_bytes ≡ text_len all + room → room < len
       → text_len all ≤ most_bytes → ⊥
   too_long len room f h l m = omega (arith, f, h, l, m, texts)
 
-  -- and there is
+  -- otherwise the line reduces the room by the length of its text
   pub texts_more : (len room : ℕ) → len ≡ length x.text → text_len xs + most_bytes ≡ text_len all + room → len ≤ room
       → text_len rest + most_bytes ≡ text_len all + (room - len)
   texts_more len room f h l = omega (arith, f, h, l, texts)
 
-  -- the blocks of lines as far as one, behind which none are told
+  -- if `blocks_past` gives `None` for a line, the lines are not closed
   pub not_closed : (blocks : List Ending) → blocks_after blocks xs ≡ blocks_after [] all → blocks_past blocks x ≡ None
       → IsClosed all → ⊥
   not_closed blocks h f closed =
@@ -39,13 +39,13 @@ module _ (all xs rest : List DeckLine) (x : DeckLine) (e : xs ≡ x ∷ rest) wh
       sym (ap (blocks_after blocks) e ∙ ap (option_and_then (λ now. blocks_after now rest)) f) ∙ h ∙ closed in
       cc
 
-  -- and behind which some are
+  -- otherwise the blocks after all lines are computed from those after this line
   pub blocks_more : (blocks now : List Ending) → blocks_after blocks xs ≡ blocks_after [] all
       → blocks_past blocks x ≡ Some now → blocks_after now rest ≡ blocks_after [] all
   blocks_more blocks now h f = sym (ap (blocks_after blocks) e ∙ ap (option_and_then (λ bs. blocks_after bs rest)) f)
       ∙ h
 
--- no block is open
+-- if the reversed list of open blocks is empty, so is the list
 pub none_open : (items : List Ending) → Some (reverse items) ≡ Some [] → items ≡ []
 none_open [] e = refl
 none_open (i ∷ items) e =
@@ -56,7 +56,7 @@ no_items : (items : List Ending) → length items ≡ 0 → items ≡ []
 no_items [] e = refl
 no_items (i ∷ items) e = absurd (omega (arith, e))
 
--- the state after all lines
+-- at the end, no block is open exactly if the lines are closed and within the limit on bytes
 pub at_end : (all : List DeckLine) (items : List Ending) (count room : ℕ) (empty : Bool) → empty ≡ eqb count 0
     → count ≡ length items →
     blocks_after (reverse items) [] ≡ blocks_after [] all → text_len [] + most_bytes ≡ text_len all + room →
@@ -86,11 +86,11 @@ module _ (at cut : ℕ) (put lines : List DeckLine) where
     λ c. is.1 (c.closed, few_bytes (exchanged_lines at cut put lines) c.within),
   )
 
-  -- no place behind the lines
+  -- if the lines to be replaced do not all exist, the lines cannot be exchanged
   pub not_there : (length lines < at + cut) → (false ≡ true) ↔ CanExchange at cut put lines
   not_there past = (λ t. absurd (false≢true t), λ c. absurd (omega (arith, past, c.places)))
 
-  -- and not too many lines
+  -- if the result has too many lines, the lines cannot be exchanged
   pub too_many : at + cut ≤ length lines → most_lines < length lines - cut + length put
       → (false ≡ true) ↔ CanExchange at cut put lines
   too_many places many = (
@@ -103,7 +103,7 @@ module _ (at cut : ℕ) (put lines : List DeckLine) where
     )),
   )
 
--- what follows from a property holds of an answer that has it
+-- if a property of a successful result implies another, the result has that one as well
 pub if_ok : {A E : Type 0} (r : Result A E) {P Q : A → Type 0} → IfOk r P → ((x : A) → P x → Q x) → IfOk r Q
 if_ok (Ok x) h f = f x h
 if_ok (Err e) h f = tt

@@ -8,7 +8,7 @@ use Rattle.deck_lines.specs.Marks.{with_marks}
 use Rattle.deck_lines.specs.Within.{IsWithin}
 use Rattle.deck_lines.proofs.Keeping.{marks_append, marks_bytes, marks_drop, marks_take}
 
--- a list in three parts
+-- a list consists of the items before a range, those in the range and those after it
 pub parts_of : {A : Type 0} (at cut : ℕ) (xs : List A) → at + cut ≤ length xs
     → take at xs ++ (take cut (drop at xs) ++ drop (at + cut) xs) ≡ xs
 parts_of zero cut xs h = ap (λ n. take cut xs ++ drop n xs) (zero_plus cut) ∙ two cut xs
@@ -26,7 +26,7 @@ parts_of (suc at) cut (x ∷ xs) h =
     ap (λ n. x ∷ (take at xs ++ (take cut (drop at xs) ++ drop n (x ∷ xs)))) next
     ∙ ap (λ t. x ∷ t) (parts_of at cut xs (omega arith))
 
--- the list of the item at a place
+-- the range of length 1 at a place has only the item there
 pub one_at : {A : Type 0} (place : ℕ) (xs : List A) (x : A) → slice_get xs place ≡ Some x
     → take 1 (drop place xs) ≡ x ∷ []
 one_at place [] x e = absurd (cc)
@@ -44,7 +44,7 @@ all_of (suc n) (x ∷ xs) h = ap (λ t. x ∷ t) (all_of n xs (omega arith))
 
 module _ (ls put : List Line) (ms more : List Bool) (at cut : ℕ) (each : length ms ≡ length ls)
     (with : length more ≡ length put) where
-  -- lines with their marks, of which some are replaced by others
+  -- marking lines after a replacement is the same as replacing marked lines
   pub marks_exchange : with_marks (take at ls ++ (put ++ drop (at + cut) ls))
       (take at ms ++ (more ++ drop (at + cut) ms))
       ≡ take at (with_marks ls ms) ++ (with_marks put more ++ drop (at + cut) (with_marks ls ms))
@@ -84,7 +84,7 @@ module _ (ls put : List Line) (ms more : List Bool) (at cut : ℕ) (each : lengt
         sum_by-append (λ (l : Line). length l.text) (take cut (drop at ls)) (drop (at + cut) ls),
       )
 
-  -- lines after a replacement are within the limits if these are not passed
+  -- the lines after a replacement are within the limits if their number and their bytes are
   pub within_exchange : (bytes less : ℕ) → IsWithin ls ms bytes → at + cut ≤ length ls
       → less + bytes_in (take cut (drop at ls)) ≡ bytes + bytes_in put →
       length (take at ls ++ (put ++ drop (at + cut) ls)) ≤ most_lines → less ≤ most_bytes →
@@ -103,7 +103,7 @@ module _ (ls put : List Line) (ms more : List Bool) (at cut : ℕ) (each : lengt
     small = small;
   }
 
--- without the line at a place
+-- removing the line at a place
 module _ (ls : List Line) (ms : List Bool) (bytes place : ℕ) (kept : IsWithin ls ms bytes) (line : Line)
     (at : slice_get ls place ≡ Some line) (within : place < length ls) where
   one_byte : bytes_in (take 1 (drop place ls)) ≡ length line.text
@@ -135,7 +135,7 @@ module _ (ls : List Line) (ms : List Bool) (bytes place : ℕ) (kept : IsWithin 
         length-drop (place + 1) ls,
       )) (omega (arith, e, kept.small))
 
-  -- the same, where each list is told
+  -- the lines without the line at a place are within the limits, given both lists and the length of the text
   pub within_removed : (n : ℕ) (ls' : List Line) (ms' : List Bool) → n ≡ length line.text
       → ls' ≡ take place ls ++ drop (place + 1) ls → ms' ≡ take place ms ++ drop (place + 1) ms
       → IsWithin ls' ms' (bytes - n)

@@ -1,4 +1,4 @@
--- Items of lists in which a part is replaced.
+-- Items of lists after a part is replaced.
 use Rattle.std.proofs.Common.{◌≡◌, ◌++◌, ◌∷◌, ◌+◌, ◌-◌, ◌<◌, ◌≤◌, ◌⊎◌, [], ℕ, zero, suc, List, length, take, drop, inl}
 use Rattle.std.proofs.Common.{inr, refl, sym, ap, ◌∙◌, arith, length-append, length-drop, length-take, Some, None}
 use Rattle.std.proofs.Common.{slice_get}
@@ -21,13 +21,13 @@ get_take (suc n) [] i x e = cc
 get_take (suc n) (y ∷ xs) zero x e = e
 get_take (suc n) (y ∷ xs) (suc i) x e = get_take n xs i x e
 
--- an item has a place within its list
+-- the place of an item is within its list
 pub inside_got : {A : Type 0} (xs : List A) (i : ℕ) (x : A) → slice_get xs i ≡ Some x → i < length xs
 inside_got [] i x e = absurd (cc)
 inside_got (y ∷ xs) zero x e = omega arith
 inside_got (y ∷ xs) (suc i) x e = omega (arith, inside_got xs i x e)
 
--- of two lists with one item, a place in the first, and a place in the second
+-- if two lists have the same item at two places, and the place in the first is within it, so is that in the second
 pub found_inside : {A : Type 0} (xs ys : List A) (i j : ℕ) → i < length xs → slice_get xs i ≡ slice_get ys j
     → j < length ys
 found_inside [] ys i j h e = absurd (omega arith)
@@ -40,7 +40,7 @@ never_none [] i h e = omega arith
 never_none (x ∷ xs) zero h e = cc
 never_none (x ∷ xs) (suc i) h e = never_none xs i (omega arith) e
 
--- an item behind others
+-- the item at a place of the rest of a list is that many places further in the list
 pub at_drop : {A : Type 0} (n : ℕ) (xs : List A) (i : ℕ) → slice_get (drop n xs) i ≡ slice_get xs (n + i)
 at_drop zero xs i = ap (slice_get xs) (zero_plus i)
   where
@@ -52,12 +52,12 @@ at_drop (suc n) (y ∷ xs) i = at_drop n xs i ∙ ap (slice_get (y ∷ xs)) (nex
     next : (m j : ℕ) → suc (m + j) ≡ suc m + j
     next m j = omega arith
 
--- the item at a place of the rest of a list is the item that many places further in the list
+-- an item of the rest of a list is an item of the list, that many places further
 pub get_drop : {A : Type 0} (n : ℕ) (xs : List A) (i : ℕ) (x : A) → slice_get (drop n xs) i ≡ Some x
     → slice_get xs (n + i) ≡ Some x
 get_drop n xs i x e = sym (at_drop n xs i) ∙ e
 
--- an item of the first of two lists, and one of the second
+-- the items of the first of two joined lists keep their places
 pub at_first : {A : Type 0} (xs ys : List A) (i : ℕ) → i < length xs → slice_get (xs ++ ys) i ≡ slice_get xs i
 at_first [] ys i h = absurd (omega arith)
 at_first (x ∷ xs) ys zero h = refl
@@ -81,7 +81,7 @@ at_front (suc n) [] i h = refl
 at_front (suc n) (x ∷ xs) zero h = refl
 at_front (suc n) (x ∷ xs) (suc i) h = at_front n xs i (omega arith)
 
--- a list, other items in the place of some: those in front, those put, and those behind
+-- the items of a list after a part is replaced: those before it, the new ones, and those after it
 module _ {A : Type 0} (xs ys : List A) (at cut : ℕ) (h : at + cut ≤ length xs) where
   front_len : length (take at xs) ≡ at
   front_len = omega (arith, h, length-take at xs)

@@ -12,7 +12,7 @@ use Rattle.deck_lines.specs.Marks.{mark_of, unmarked, with_mark, with_marks}
 use Rattle.deck_lines.specs.declared.line.DeckLine.{DeckLine}
 use Rattle.deck_lines.specs.Within.{IsWithin}
 
--- one more line with its mark
+-- appending a line and its mark appends the marked line
 pub marks_push : (ls : List Line) (ms : List Bool) (l : Line) (m : Bool) → length ms ≡ length ls
     → with_marks (ls ++ l ∷ []) (ms ++ m ∷ []) ≡ with_marks ls ms ++ with_mark m l ∷ []
 marks_push [] [] l m h = refl
@@ -41,7 +41,7 @@ marks_bytes (k ∷ ls) (n ∷ ms) h =
     ∙ ap (λ t. length k.text + t) (marks_bytes ls ms (omega arith))
     ∙ sym (sum_by-cons (λ (x : Line). length x.text) k ls)
 
--- the first of them
+-- the first marked lines are the first lines with their marks
 pub marks_take : (n : ℕ) (ls : List Line) (ms : List Bool)
     → with_marks (take n ls) (take n ms) ≡ take n (with_marks ls ms)
 marks_take zero ls ms = refl
@@ -49,7 +49,7 @@ marks_take (suc n) [] ms = refl
 marks_take (suc n) (k ∷ ls) [] = refl
 marks_take (suc n) (k ∷ ls) (m ∷ ms) = ap (λ t. with_mark m k ∷ t) (marks_take n ls ms)
 
--- and the others
+-- the marked lines after the first ones are the other lines with their marks
 pub marks_drop : (n : ℕ) (ls : List Line) (ms : List Bool) → length ms ≡ length ls
     → with_marks (drop n ls) (drop n ms) ≡ drop n (with_marks ls ms)
 marks_drop zero ls ms h = refl
@@ -58,7 +58,7 @@ marks_drop (suc n) [] (m ∷ ms) h = absurd (omega arith)
 marks_drop (suc n) (k ∷ ls) [] h = absurd (omega arith)
 marks_drop (suc n) (k ∷ ls) (m ∷ ms) h = marks_drop n ls ms (omega arith)
 
--- the lines with marks of two lists, one after the other
+-- the marked lines of two joined lists are those of the first followed by those of the second
 pub marks_append : (ls rest : List Line) (ms more : List Bool) → length ms ≡ length ls
     → with_marks (ls ++ rest) (ms ++ more) ≡ with_marks ls ms ++ with_marks rest more
 marks_append [] rest [] more h = refl
@@ -72,7 +72,7 @@ module _ (ls : List Line) (ms : List Bool) (bytes : ℕ) (kept : IsWithin ls ms 
   unfolding pass_limit
   kept_within = grind (arith, nat_tests, kept.few, kept.small, kept.total, marks_len ls ms kept.marked)
 
-  -- whether one line more is
+  -- with fewer than 100,000 lines, one more is within the limits exactly if its text fits the bytes that are left
   pub room_test : (line : DeckLine) (n : ℕ) → length line.text ≡ n → length ls < 100000
       → pass_limit (with_marks ls ms ++ line ∷ []) ≡ not (nat_le n (67108864 - bytes))
   unfolding pass_limit
@@ -94,7 +94,7 @@ module _ (ls : List Line) (ms : List Bool) (bytes : ℕ) (kept : IsWithin ls ms 
   full_lines line many =
       grind (arith, nat_tests, many, marks_len ls ms kept.marked, length-append (with_marks ls ms) (line ∷ []))
 
-  -- where one line more is within the limits
+  -- if one more line is within the limits, there are fewer than 100,000 lines
   pub room_lines : (line : DeckLine) → pass_limit (with_marks ls ms ++ line ∷ []) ≡ false → length ls < 100000
   unfolding pass_limit
   room_lines line e =
@@ -113,7 +113,7 @@ module _ (ls : List Line) (ms : List Bool) (bytes : ℕ) (kept : IsWithin ls ms 
         sum_by-append (λ (x : DeckLine). length x.text) (with_marks ls ms) (line ∷ []),
       )
 
-  -- one line more
+  -- after one more line within the limits is appended, the lines are within the limits
   pub within_push : (l : Line) (m : Bool) (n : ℕ) (ls' : List Line) (ms' : List Bool)
       → pass_limit (with_marks ls ms ++ with_mark m l ∷ []) ≡ false →
       n ≡ length l.text → ls' ≡ ls ++ l ∷ [] → ms' ≡ ms ++ m ∷ [] → IsWithin ls' ms' (bytes + n)
@@ -129,7 +129,7 @@ module _ (ls : List Line) (ms : List Bool) (bytes : ℕ) (kept : IsWithin ls ms 
     small = omega (arith, room_bytes (with_mark m l) within, kept.small);
   })
 
-  -- the first lines alone
+  -- the first lines are within the limits
   pub within_take : (n less : ℕ) → less + bytes_in (drop n ls) ≡ bytes → IsWithin (take n ls) (take n ms) less
   within_take n less e = record {
     marked = long;
@@ -148,17 +148,17 @@ module _ (ls : List Line) (ms : List Bool) (bytes : ℕ) (kept : IsWithin ls ms 
       long : length (take n ms) ≡ length (take n ls)
       long = omega (arith, kept.marked, length-take n ms, length-take n ls)
 
-  -- the bytes of some of the lines
+  -- the lines after the first ones have at most as many bytes as all lines
   pub bytes_behind : (n : ℕ) → bytes_in (drop n ls) ≤ bytes
   bytes_behind n =
       omega (arith, kept.total, marks_bytes ls ms kept.marked, sum_by-take-drop (λ (x : Line). length x.text) ls n)
 
-  -- the same, where each list is told
+  -- the first lines are within the limits, given both lists and the number of removed bytes
   pub within_took : (n some : ℕ) (ls' : List Line) (ms' : List Bool) → some ≡ bytes_in (drop n ls) → ls' ≡ take n ls
       → ms' ≡ take n ms → IsWithin ls' ms' (bytes - some)
   within_took n some ls' ms' e p q = rw (p, q) (within_take n (bytes - some) (omega (arith, e, bytes_behind n)))
 
--- lines with their marks, where the last goes to the end of others that are turned
+-- moving the last marked line to the end of a reversed list leaves all lines in order
 pub marks_pop : (ls ls' : List Line) (ms ms' : List Bool) (l : Line) (m : Bool) (into into' all : List DeckLine)
     → ls ≡ ls' ++ l ∷ [] → ms ≡ ms' ++ m ∷ [] → length ms ≡ length ls →
     into' ≡ into ++ with_mark m l ∷ [] → with_marks ls ms ++ reverse into ≡ all
@@ -174,19 +174,19 @@ marks_pop ls ls' ms ms' l m into into' all p q h e is =
     ∙ ap (λ t. with_marks ls t ++ reverse into) (sym q)
     ∙ is
 
--- deck lines with their marks taken off and put on again
+-- removing the marks of deck lines and adding them again gives the same lines
 pub marks_on : (put : List DeckLine) → with_marks (map unmarked put) (map mark_of put) ≡ put
 marks_on [] = refl
 marks_on (l ∷ put) = ap (λ t. l ∷ t) (marks_on put)
 
--- the bytes of lines are those of their texts
+-- lines without their marks have as many bytes as with them
 pub bytes_on : (put : List DeckLine) → bytes_in (map unmarked put) ≡ text_len put
 bytes_on put =
     let each : length (map mark_of put) ≡ length (map unmarked put) = length-map put mark_of
     ∙ sym (length-map put unmarked) in
     sym (marks_bytes (map unmarked put) (map mark_of put) each) ∙ ap text_len (marks_on put)
 
--- the line at a place, with its mark
+-- the marked line at a place is the line there with its mark
 pub marks_get : (ls : List Line) (ms : List Bool) (i : ℕ) (l : Line) (m : Bool) → length ms ≡ length ls → i < length ls
     →
     l ≡ get_or ls i l → m ≡ get_or ms i false → slice_get (with_marks ls ms) i ≡ Some (with_mark m l)

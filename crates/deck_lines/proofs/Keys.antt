@@ -11,7 +11,7 @@ use Rattle.deck_lines.specs.Stores.{with_definition}
 use Rattle.deck_lines.specs.declared.key_number.KeyNumber.{KeyNumber}
 use Rattle.deck_lines.proofs.Numbering.{IsDistinct, distinct_put, kept_at}
 
--- the names of a kind after those of one kind are replaced
+-- replacing the names of one kind does not change those of the others
 kinds : (names : Names) (a b : Kind) (these : List (List ℕ))
     → ((a ≡ b) × (names_of (with_names names a these) b ≡ these))
     ⊎ (names_of (with_names names a these) b ≡ names_of names b)
@@ -32,7 +32,7 @@ kinds names kind.List kind.Prefix these = inr refl
 kinds names kind.List kind.Func these = inr refl
 kinds names kind.List kind.List these = inl (refl, refl)
 
--- a key that was found among names
+-- a key that is made from a kind and an optional name has this kind and this name
 pub found_key : (a : Kind) (o : Option (List ℕ)) (k : Key) → option_map (key a) o ≡ Some k
     → (a ≡ k.kind) × (o ≡ Some k.name)
 found_key a None k e = absurd (cc)
@@ -98,7 +98,7 @@ key_extended names room more k p q n l e =
     ap (λ (t : Names). key_at t n) q
     ∙ extended room (Some (k, record { text = []; what = Primitive })) n l (ap (λ (t : Names). key_at t n) p ∙ e)
 
--- after one more key is numbered, still no key has two numbers
+-- no key has two numbers after a number is given to one key
 pub key_one_to_one : (names room more : Names) (k : Key) → room ≡ names → more ≡ with_key room k → IsOneToOne names
     → IsOneToOne more
 key_one_to_one names room more k p q one =

@@ -35,7 +35,7 @@ use Rattle.deck_lines.proofs.Drafting.{with_excerpt-in_turn}
 pub told_of : (o : Option FileMap) (P : FileMap → Type 0) (m : FileMap) → o ≡ Some m → IfSome o P → P m
 told_of o P m e h = rw e at h
 
--- an include that is too deep
+-- an include that is nested too deep is not read
 pub too_deep : (m : FileMap) (depth : ℕ) (file : List ℕ) → depth ≡ 0
     → included_below m depth file ≡ NotRead (codes "include too deep: " ++ file)
 unfolding included_below
@@ -57,14 +57,14 @@ by_answer m depth file answer nonzero a =
     subst (λ n. included_below m n file ≡ of_answer (included_by m (depth - 1) file) file answer) deeper
     (below_answer m (depth - 1) file answer a)
 
--- an include that is not read
+-- the load of an include line with its notice is that of an include that is not read
 pub told_not_read : (draft after : Draft) (r : Result (Unit {0}) LoadFault) (name : List ℕ) (line : Line)
     (text : List ℕ) (inc : Included) → inc ≡ NotRead text →
     IsLoad draft (line_with_notice name line text) r after → IsLoad draft (include_excerpt name line inc) r after
 told_not_read draft after r name line text inc e h =
     subst (λ i. IsLoad draft (include_excerpt name line i) r after) (sym e) h
 
--- an include whose file was not fetched
+-- the load of an include line with its notice is that of an include whose file was not fetched
 pub told_missing : (m : FileMap) (draft after : Draft) (r : Result (Unit {0}) LoadFault) (depth : ℕ)
     (name file : List ℕ) (line : Line) (text : List ℕ) (fault : FetchFault) →
     (depth ≡ 0 → ⊥) → answer_of (file_of m file) ≡ Err fault → not_read file fault ≡ NotRead text →
@@ -76,7 +76,7 @@ told_missing m draft after r depth name file line text fault nonzero a e h =
 
 module _ (m : FileMap) (draft : Draft) (depth : ℕ) (name file : List ℕ) (line : Line) (text : List ℕ)
     (nonzero : depth ≡ 0 → ⊥) (a : answer_of (file_of m file) ≡ Ok text) where
-  -- an include line that failed, whose file was fetched
+  -- a fault that may end the load at the include line may end the load of the whole include
   pub told_failed : (fault : LoadFault) → MayEnd (draft.store.lines ++ plain_line line.number line.text ∷ []) fault
       → MayEnd (draft.store.lines ++ (include_excerpt name line (included_below m depth file)).lines) fault
   told_failed fault h =
@@ -85,7 +85,7 @@ module _ (m : FileMap) (draft : Draft) (depth : ℕ) (name file : List ℕ) (lin
       (ap (λ i. draft.store.lines ++ (include_excerpt name line i).lines)
       (sym (by_answer m depth file (Ok text) nonzero a)))
 
-  -- an include whose file was fetched
+  -- the load of an include line, followed by that of the fetched file, is the load of the include
   pub told_fetched : (mid after : Draft) (r : Result (Unit {0}) LoadFault) (bytes : List ℕ) → bytes ≡ text
       → mid ≡ with_excerpt draft (line_without_notice line) →
       IsLoad mid (deck_above m (depth - 1) file bytes) r after
@@ -95,7 +95,7 @@ module _ (m : FileMap) (draft : Draft) (depth : ℕ) (name file : List ℕ) (lin
       (then_load draft mid after (line_without_notice line) (deck_above m (depth - 1) file text) r e
       (subst (λ b. IsLoad mid (deck_above m (depth - 1) file b) r after) same h))
 
--- an include line with no room ends the load
+-- if there is no room for an include line, the whole include passes a limit
 pub no_room : (lines : List DeckLine) (name : List ℕ) (line : Line) (inc : Included) (n : ℕ) (room : Bool) →
     ((l : DeckLine) → length l.text ≡ n → pass_limit (lines ++ l ∷ []) ≡ not room) → n ≡ length line.text → room ≡ false
     → pass_limit (lines ++ (include_excerpt name line inc).lines) ≡ true
@@ -116,12 +116,12 @@ inside_by text word line.EndVar e = cc
 inside_by text word line.EndUtf8 e = cc
 inside_by text word _ e = refl
 
--- an include line opens and closes no block
+-- a line whose meaning is an include opens and closes no block
 pub include_inside : (text word : List ℕ) → Includes word ≡ reading_of text → role_of (kind_of text) ≡ Inside
 unfolding reading_of
 include_inside text word e = inside_by text word (kind_of text) (sym e)
 
--- a line that was put, or after which the store is unchanged
+-- the load of a line leads from the open blocks before it to those after it
 pub line_leads : (file : List ℕ) (blocks : List Block) (x : Line) (reading : Reading) (before after : Draft)
     (r : Result (Unit {0}) LoadFault) → reading ≡ reading_of x.text →
     IsLoad before (line_excerpt (λ word. NotRead []) file blocks x reading) r after
@@ -134,7 +134,7 @@ line_leads file blocks x reading before after r e told err =
     (line_closed (λ word. NotRead []) (λ word. tt) file blocks x (kind_of x.text) refl)
     (subst (λ t. IsLoad before (line_excerpt (λ word. NotRead []) file blocks x t) r after) e told) err
 
--- an include line, whose blocks are closed
+-- if the lines of an include line are closed, they lead from the open blocks before the line to those after it
 pub include_leads : (blocks : List Block) (x : Line) (word : List ℕ) (before after : Store)
     (r : Result (Unit {0}) LoadFault) → Includes word ≡ reading_of x.text →
     Leads [] [] before after r
@@ -143,7 +143,7 @@ include_leads blocks x word before after r e h =
     subst (λ t. Leads (endings blocks) (endings (blocks_behind_line blocks x t)) before after r) e
     (leads_inside (endings blocks) before after r h)
 
--- an include line that is put, and lines after it
+-- an include line followed by closed lines is closed
 pub plain_leads : (x : Line) (before mid : Draft) (after : Store) (r : Result (Unit {0}) LoadFault)
     → role_of (kind_of x.text) ≡ Inside → mid ≡ with_excerpt before (line_without_notice x) →
     Leads [] [] mid.store after r → Leads [] [] before.store after r
@@ -153,14 +153,14 @@ plain_leads x before mid after r role e h =
     (plain_one [] x (kind_of x.text) refl ∙ ap (λ r. option_and_then (λ now. Some now) (blocks_past_role [] r)) role) e
     tt) h
 
--- an include line that is refused
+-- the load of an include line with a notice appends closed lines
 pub refused_leads : (file : List ℕ) (x : Line) (text : List ℕ) (before after : Draft) (r : Result (Unit {0}) LoadFault)
     → IsLoad before (line_with_notice file x text) r after → OnErr r (after.store ≡ before.store) →
     Leads [] [] before.store after.store r
 refused_leads file x text before after r told err =
     one_leads [] [] before after (line_with_notice file x text) r (marked_one [] x) told err
 
--- the next line of a file
+-- the excerpt of the rest of a file is that of its next line followed by that of the lines after it
 rest_step : (inc : List ℕ → Included) (name : List ℕ) (blocks : List Block) (ys zs : List Line) (x : Line) → ys ≡ x ∷ zs
     →
     rest_excerpt inc name blocks ys
@@ -172,7 +172,7 @@ rest_step inc name blocks ys zs x h = ap (rest_excerpt inc name blocks) h
 module _ (inc : List ℕ → Included) (name : List ℕ) (blocks : List Block) (ys zs : List Line) (x : Line)
     (h : ys ≡ x ∷ zs) (mid before : Draft) (whole : Excerpt)
     (so_far : with_excerpt mid (rest_excerpt inc name blocks ys) ≡ with_excerpt before whole) where
-  -- a line that failed
+  -- a fault that may end the load at a line may end the whole load
   pub line_failed : (fault : LoadFault)
       → MayEnd (mid.store.lines ++ (line_excerpt inc name blocks x (reading_of x.text)).lines) fault
       → MayEnd (before.store.lines ++ whole.lines) fault
@@ -182,7 +182,7 @@ module _ (inc : List ℕ → Included) (name : List ℕ) (blocks : List Block) (
       (ap (λ (w : Excerpt). mid.store.lines ++ w.lines) (sym (rest_step inc name blocks ys zs x h))
       ∙ ap (λ (d : Draft). d.store.lines) so_far)
 
-  -- a line that was put
+  -- after a line is loaded, the excerpt of the remaining lines completes the whole
   pub line_put : (now : Draft) (blocks_now : List Block)
       → now ≡ with_excerpt mid (line_excerpt inc name blocks x (reading_of x.text))
       → blocks_now ≡ blocks_behind_line blocks x (reading_of x.text) →
@@ -195,7 +195,7 @@ module _ (inc : List ℕ → Included) (name : List ℕ) (blocks : List Block) (
       (rest_excerpt inc name (blocks_behind_line blocks x (reading_of x.text)) zs)
       ∙ ap (with_excerpt mid) (sym (rest_step inc name blocks ys zs x h)) ∙ so_far
 
--- the end of a file
+-- the load of the end of a file completes the load of the file
 pub file_put : (inc : List ℕ → Included) (name : List ℕ) (blocks : List Block) (xs : List Line)
     (draft mid after : Draft) (whole : Excerpt) (r : Result (Unit {0}) LoadFault) → xs ≡ [] →
     with_excerpt mid (rest_excerpt inc name blocks xs) ≡ with_excerpt draft whole
@@ -217,7 +217,7 @@ end_leads name blocks from before after r so_far told e =
     then_leads [] (endings blocks) [] from before.store after.store tt r so_far
     (load_leads (endings blocks) [] before after (file_end name blocks) r (ends_closed blocks) told e)
 
--- lines that were put before a failure
+-- a load that failed leads to any open blocks
 pub leads_on : (a b to : List Ending) (before after : Store) (fault : LoadFault) → Leads a b before after (Err fault)
     → Leads a to before after (Err fault)
 leads_on a b to before after fault h = record { lines = h.lines; put = h.put; leads = tt }

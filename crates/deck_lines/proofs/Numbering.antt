@@ -18,18 +18,18 @@ pub same_name : (a b : List ℕ) → bytes_eq a b ≡ true → a ≡ b
 same_name a b h = (bytes_decides a b).0 h
 
 module _ {K : Type 0} (items : K → List ℕ) (name : List ℕ) where
-  -- a name is among the names of keys exactly if a key has it
+  -- a name is among the names of keys exactly if a key has this name
   pub any_seen : (ks : List K) → list_any (bytes_eq name) (map items ks) ≡ list_any (λ k. bytes_eq name (items k)) ks
   any_seen [] = refl
   any_seen (k ∷ ks) = ap (λ b. bytes_eq name (items k) || b) (any_seen ks)
 
-  -- and where
+  -- the place of a name among the names of keys is the place of the first key with this name
   pub place_seen : (ks : List K)
       → position_or_len (bytes_eq name) (map items ks) ≡ position_or_len (λ k. bytes_eq name (items k)) ks
   place_seen [] = refl
   place_seen (k ∷ ks) = ap (λ n. cond (not (bytes_eq name (items k))) (1 + n) 0) (place_seen ks)
 
--- the names of keys after one more key was put
+-- inserting a key inserts its name
 pub put_seen : {K : Type 0} (items : K → List ℕ) (k : K) (ks : List K) →
     map items (insert_key (λ a b. bytes_eq (items a) (items b)) ks k) ≡ with_name (items k) (map items ks)
 put_seen items k ks =
@@ -40,7 +40,7 @@ put_seen items k ks =
     by true = refl
     by false = map-append items ks (k ∷ [])
 
--- the name at a place that was found
+-- a name that is found is at its place among the names
 pub name_found : {K : Type 0} (items : K → List ℕ) (name : List ℕ) (ks : List K) (i : ℕ) →
     position (λ k. bytes_eq name (items k)) ks ≡ Some i → slice_get (map items ks) i ≡ Some name
 name_found items name [] i e = absurd (cc)
@@ -59,7 +59,7 @@ number_seen items name ks None names e at found = ap (list_any (bytes_eq name)) 
 number_seen items name ks (Some n) names e at found = ap (λ l. slice_get l n) (sym e)
     ∙ name_found items name ks n (sym at)
 
--- a name that is longer than all names of a list is not among them
+-- a name that is longer than the limit of all names in a list is not among them
 pub longer_is_absent : (name : List ℕ) (most : ℕ) (names : List (List ℕ)) → AreUpTo most names → most < length name
     → list_any (bytes_eq name) names ≡ false
 longer_is_absent name most [] short longer = refl
@@ -77,7 +77,7 @@ pub AreUpTo-more : (most more : ℕ) (names : List (List ℕ)) → most ≤ more
 AreUpTo-more most more [] fits short = tt
 AreUpTo-more most more (x ∷ xs) fits short = (omega arith, AreUpTo-more most more xs fits short.1)
 
--- names up to a length, with one more name up to that length
+-- names up to a length stay so after one more name up to that length is added
 pub AreUpTo-with_name : (most : ℕ) (name : List ℕ) (names : List (List ℕ)) → length name ≤ most → AreUpTo most names
     → AreUpTo most (with_name name names)
 AreUpTo-with_name most name names fits short = by (list_any (bytes_eq name) names)
@@ -90,13 +90,13 @@ AreUpTo-with_name most name names fits short = by (list_any (bytes_eq name) name
     by true = short
     by false = more names short
 
--- a name is at its place where it was absent, and else where it was
+-- an added name is at its place: its old place if it was present, or else the end
 abbrev At : List ℕ → List ℕ → List (List ℕ) → Bool → Type 0
 At name x xs b =
     slice_get (cond (b || list_any (bytes_eq name) xs) (x ∷ xs) (x ∷ xs ++ name ∷ []))
     (cond (not b) (1 + position_or_len (bytes_eq name) xs) 0) ≡ Some name
 
--- a name has the number at which it is put
+-- an added name is at the place of its number
 pub put_at : (name : List ℕ) (names : List (List ℕ))
     → slice_get (with_name name names) (position_or_len (bytes_eq name) names) ≡ Some name
 put_at name [] = refl
@@ -134,7 +134,7 @@ found_is_any name (x ∷ xs) (suc i) e = ap (λ b. bytes_eq name x || b) (found_
     either true = refl
     either false = refl
 
--- names keep their numbers when one more name is put
+-- names keep their numbers when one more name is added
 pub kept_at : (name : List ℕ) (names : List (List ℕ)) (i : ℕ) (x : List ℕ) → slice_get names i ≡ Some x
     → slice_get (with_name name names) i ≡ Some x
 kept_at name names i x e = by (list_any (bytes_eq name) names)
@@ -152,7 +152,7 @@ kept_at name names i x e = by (list_any (bytes_eq name) names)
 abbrev pub IsDistinct : List (List ℕ) → Type 0
 IsDistinct names = (i j : ℕ) (x : List ℕ) → slice_get names i ≡ Some x → slice_get names j ≡ Some x → i ≡ j
 
--- the name at a place of names with one more appended is one of the others, or the new name
+-- an item of names with one more appended is one of the others, or it is the new name at the end
 behind_all : (xs : List (List ℕ)) (y : List ℕ) (i : ℕ) (x : List ℕ) → slice_get (xs ++ y ∷ []) i ≡ Some x
     → (slice_get xs i ≡ Some x) ⊎ ((i ≡ length xs) × (y ≡ x))
 behind_all [] y zero x e = inr (refl, same_Some y x e)
@@ -160,7 +160,7 @@ behind_all [] y (suc i) x e = absurd (cc)
 behind_all (z ∷ xs) y zero x e = inl e
 behind_all (z ∷ xs) y (suc i) x e = elim (behind_all xs y i x e) [ inl h ↦ inl h | inr h ↦ inr (ap suc h.0, h.1) ]
 
--- no name is at two places after one more name is put
+-- no name is at two places after one more name is added
 pub distinct_put : (name : List ℕ) (names : List (List ℕ)) → IsDistinct names → IsDistinct (with_name name names)
 distinct_put name names once = by (list_any (bytes_eq name) names) refl
   where

@@ -52,7 +52,7 @@ module _ (names more : Names) (wider : IsExtended names more) where
 
 module _ (names more : Names) (lines : List DeckLine) (i : ℕ) (inside : i < length lines)
     (put : more ≡ with_definition names (definition_at lines i)) where
-  -- the line there
+  -- the line at this place
   abbrev line : DeckLine
   line = get_or lines i (plain_line 0 [])
 
@@ -62,7 +62,7 @@ module _ (names more : Names) (lines : List DeckLine) (i : ℕ) (inside : i < le
   first : take (i + 1) lines ≡ take i lines ++ line ∷ []
   first = take_more lines i (plain_line 0 []) inside
 
-  -- the names of the first lines, with one more line
+  -- the names of the keys of the first lines, extended by that of the next line
   pub names_more : names ≡ with_definitions no_names (take i lines)
       → more ≡ with_definitions no_names (take (i + 1) lines)
   names_more is =
@@ -73,7 +73,7 @@ module _ (names more : Names) (lines : List DeckLine) (i : ℕ) (inside : i < le
   wider : IsExtended names more
   wider = subst (IsExtended names) (sym put) (extended names (definition_at lines i))
 
-  -- the numbers of their keys
+  -- the numbers of the keys of the first lines, extended by that of the next line
   pub numbers_more : (ns after : List (Option KeyNumber)) (n : Option KeyNumber) → after ≡ ns ++ n ∷ []
       → option_map (key_at more) n ≡ option_map keyed (definition_at lines i)
       → AreNumbers names ns (map entry_in (take i lines)) → AreNumbers more after (map entry_in (take (i + 1) lines))
@@ -87,11 +87,11 @@ module _ (names more : Names) (lines : List DeckLine) (i : ℕ) (inside : i < le
       ∙ ap (map (option_map keyed)) (sym (map-append entry_in (take i lines) (line ∷ []))
       ∙ ap (map entry_in) (sym first))
 
-  -- no key has two numbers
+  -- no key has two numbers after one more key is numbered
   pub unique_more : IsOneToOne names → IsOneToOne more
   unique_more one = subst IsOneToOne (sym put) (one_to_one names (definition_at lines i) one)
 
--- the key that a line defines, by its number
+-- the key that a line defines, given the name at its number
 pub key_named : (names : Names) (n : KeyNumber) (o : Option (Key × Entry)) (name : List ℕ)
     → Some (key_at names n) ≡ option_map keyed o → Some name ≡ slice_get (names_of names n.kind) n.number
     → option_map (λ (d : Key × Entry). d.0) o ≡ Some (key n.kind name)
@@ -99,7 +99,7 @@ key_named names n None name e at = absurd (cc)
 key_named names n (Some d) name e at =
     sym (same_Some (key_at names n) (Some d.0) e) ∙ ap (option_map (key n.kind)) (sym at)
 
--- the key that a line defines has a name
+-- the number of the key that a line defines has a name
 pub is_named : (names : Names) (n : KeyNumber) (o : Option (Key × Entry))
     → Some (key_at names n) ≡ option_map keyed o → None ≡ slice_get (names_of names n.kind) n.number → ⊥
 is_named names n None e at = cc
@@ -107,7 +107,7 @@ is_named names n (Some d) e at =
     let none : option_map (key n.kind) None ≡ Some d.0 =
     ap (option_map (key n.kind)) at ∙ same_Some (key_at names n) (Some d.0) e in cc
 
--- a number for that key
+-- a number for the key of a line is a number for its definition
 pub definition_put : (names : Names) (o : Option (Key × Entry)) (k : Key)
     → option_map (λ (d : Key × Entry). d.0) o ≡ Some k → with_key names k ≡ with_definition names o
 definition_put names None k e = absurd (cc)
@@ -158,7 +158,7 @@ length-numbered [] ds = refl
 length-numbered (n ∷ ns) [] = refl
 length-numbered (n ∷ ns) (d ∷ ds) = ap suc (length-numbered ns ds)
 
--- which are written back as they are
+-- writing back all definitions replaces all of them
 pub written_back : (len : ℕ) (ds written : List (Option Definition)) → length written ≡ length ds → length ds ≡ len
     → take len (written ++ drop (length written) ds) ≡ written
 written_back len ds written same all =
@@ -173,7 +173,7 @@ numbers_long lines d r kept are =
     ∙ length-map (map entry_in lines) (option_map keyed) ∙ length-map lines entry_in
     ∙ sym (defined_long (names_in d.keys) d.of_lines.items lines kept.defined)
 
--- the same lines with other numbers
+-- the definitions with other numbers are still those of the lines
 pub kept_renumbered : (lines : List DeckLine) (d new : Definitions) (r : Renumbering) → IsKept lines d
     → IsRenumbering lines r
     → ((said : List (Option (Key × Entry))) → AreDefined d said → AreNumbers (names_after r) r.of_lines.items said

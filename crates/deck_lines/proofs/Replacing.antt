@@ -1,4 +1,4 @@
--- Replacement of lines with their marks, within the limits.
+-- Replacing lines with their marks, within the limits.
 use Rattle.std.proofs.Common.{◌≡◌, ◌++◌, ◌+◌, ◌-◌, ◌≤◌, ℕ, List, Bool, false, length, map, take, drop, sym, ap, ◌∙◌}
 use Rattle.std.proofs.Common.{arith, subst}
 use Rattle.std.proofs.lemmas.Bool.Decides.{nat_tests}
@@ -12,17 +12,17 @@ use Rattle.deck_lines.specs.declared.line.DeckLine.{DeckLine}
 use Rattle.deck_lines.proofs.Exchanging.{long, marks_exchange, parts_of}
 use Rattle.deck_lines.proofs.Keeping.{marks_drop, marks_len, marks_on, marks_take}
 
--- lines within the limits are at most 100,000
+-- lines within the limits are at most 100,000 lines
 pub few_lines : (lines : List DeckLine) → pass_limit lines ≡ false → length lines ≤ 100000
 unfolding pass_limit
 few_lines lines e = grind (arith, nat_tests, e)
 
--- lines within the limits have at most 67,108,864 bytes
+-- lines within the limits have at most 67,108,864 bytes in their texts
 pub few_bytes : (lines : List DeckLine) → pass_limit lines ≡ false → text_len lines ≤ 67108864
 unfolding pass_limit
 few_bytes lines e = grind (arith, nat_tests, e)
 
--- the number of bytes of lines of which some are replaced by others
+-- the bytes after a replacement plus the removed ones are the bytes before plus the new ones
 bytes_exchange : (lines put : List DeckLine) (at cut : ℕ) → at + cut ≤ length lines →
     text_len (take at lines ++ (put ++ drop (at + cut) lines)) + text_len (take cut (drop at lines))
     ≡ text_len lines + text_len put
@@ -37,7 +37,7 @@ bytes_exchange lines put at cut h =
       sum_by-append (λ (l : DeckLine). length l.text) (take cut (drop at lines)) (drop (at + cut) lines),
     )
 
--- a part of lines has at most as many bytes as all lines
+-- the new lines have at most as many bytes as the lines after the replacement
 bytes_of_part : (lines put : List DeckLine) (at cut : ℕ)
     → text_len put ≤ text_len (take at lines ++ (put ++ drop (at + cut) lines))
 bytes_of_part lines put at cut =
@@ -47,7 +47,7 @@ bytes_of_part lines put at cut =
       sum_by-append (λ (l : DeckLine). length l.text) put (drop (at + cut) lines),
     )
 
--- lines that are put among others are within the limits if the result is
+-- the bytes of the new lines are within the limit if the lines after the replacement are
 pub put_fits : (lines put : List DeckLine) (at cut : ℕ) → pass_limit (take at lines ++ (put ++ drop (at + cut) lines))
     ≡ false → text_len put ≤ 67108864
 put_fits lines put at cut within =
@@ -117,7 +117,7 @@ module _ (ls : List Line) (ms : List Bool) (bytes : ℕ) (kept : IsWithin ls ms 
       each : length ms' ≡ length ls'
       each = ap length q ∙ long ls (map unmarked put) ms (map mark_of put) at cut kept.marked same ∙ sym (ap length p)
 
--- the same of lines that are told
+-- a replacement in lines that are given with their marks
 module _ (ls : List Line) (ms : List Bool) (bytes : ℕ) (kept : IsWithin ls ms bytes) (lines put : List DeckLine)
     (at cut : ℕ) (are : with_marks ls ms ≡ lines) (h : at + cut ≤ length lines)
     (within : pass_limit (take at lines ++ (put ++ drop (at + cut) lines)) ≡ false) where
@@ -139,7 +139,7 @@ module _ (ls : List Line) (ms : List Bool) (bytes : ℕ) (kept : IsWithin ls ms 
       subst (λ (t : List DeckLine). text_len (take cut (drop at t)) ≤ bytes) are
       (gone_small ls ms bytes kept put at cut told_places told_within)
 
-  -- the lines after the replacement
+  -- the marked lines after the replacement are the lines after the replacement
   pub told_exchanged : (ls' : List Line) (ms' : List Bool)
       → ls' ≡ take at ls ++ (map unmarked put ++ drop (at + cut) ls)
       → ms' ≡ take at ms ++ (map mark_of put ++ drop (at + cut) ms) →

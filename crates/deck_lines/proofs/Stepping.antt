@@ -21,7 +21,7 @@ use Rattle.deck_lines.specs.declared.draft.LoadFault.TheVariants.{DeckFull, Read
 use Rattle.deck_lines.specs.declared.line.Block.{Block}
 use Rattle.deck_lines.specs.declared.line.DeckLine.{DeckLine}
 
--- the outcome of steps followed by other steps
+-- the outcome of some steps followed by others
 pub then_outcome : (first rest : List Step) (before : Excerpt)
     → outcome_of before (first ++ rest) ≡ (outcome_of before first >>= λ now. outcome_of now rest)
 unfolding outcome_of
@@ -42,7 +42,7 @@ then_outcome (Fails line ∷ first) rest before = by (pass_limit (before.lines +
     by true = refl
     by false = refl
 
--- the other steps begin with the result of the first steps
+-- if the first steps succeed, the other steps continue from their result
 put_first : (first rest : List Step) (before now : Excerpt) → outcome_of before first ≡ Ok now
     → outcome_of before (first ++ rest) ≡ outcome_of now rest
 put_first first rest before now e = then_outcome first rest before ∙ ap (λ r. r >>= λ now. outcome_of now rest) e
@@ -52,12 +52,12 @@ fail_first : (first rest : List Step) (before : Excerpt) (fault : LoadFault) →
     → outcome_of before (first ++ rest) ≡ Err fault
 fail_first first rest before fault e = then_outcome first rest before ∙ ap (λ r. r >>= λ now. outcome_of now rest) e
 
--- steps to which others lead, where both end alike
+-- each list of steps in `left` from `now` can be completed to one in `reads` from `before` with the same outcome
 abbrev pub LeadTo : (List Step → Type 0) → Draft → (List Step → Type 0) → Draft → Type 0
 LeadTo reads before left now = (rest : List Step) → left rest
     → (steps : List Step) × reads steps × (outcome_of (excerpt_in before) steps ≡ outcome_of (excerpt_in now) rest)
 
--- a load that failed in some steps fails in those that lead to them
+-- if each failure by steps in `left` is one by steps in `reads`, a load that fails by the former fails by the latter
 pub ends_on : (reads left : List Step → Type 0) (before now after : Draft) (fault : LoadFault)
     → ((rest : List Step) → left rest → outcome_of (excerpt_in now) rest ≡ Err fault
     → (steps : List Step) × reads steps × (outcome_of (excerpt_in before) steps ≡ Err fault))
@@ -66,7 +66,7 @@ ends_on reads left before now after DeckFull on h = on h.0 h.1 h.2
 ends_on reads left before now after ReadFailed on h = on h.0 h.1 h.2
 ends_on reads left before now after OutOfMemory on h = tt
 
--- a load that was led somewhere ends where it ends from there
+-- a load that ends with steps in `left` ends with steps in `reads` if the former can be completed to the latter
 pub led_ends : (reads left : List Step → Type 0) (before now after : Draft) (r : Result (Unit {0}) LoadFault)
     → LeadTo reads before left now → EndsBy left now r after → EndsBy reads before r after
 led_ends reads left before now after (Ok u) so_far h =
@@ -75,17 +75,17 @@ led_ends reads left before now after (Ok u) so_far h =
 led_ends reads left before now after (Err fault) so_far h =
     ends_on reads left before now after fault (λ rest l e. let all = so_far rest l in (all.0, all.1, all.2 ∙ e)) h
 
--- one step
+-- the outcome of one step that gives an excerpt, by whether its lines pass a limit
 abbrev outcome_by : Bool → Excerpt → Result Excerpt LoadFault
 outcome_by b now = cond b (Err DeckFull) (Ok now)
 
--- one excerpt puts its lines, unless they pass a limit
+-- a step that gives an excerpt appends it, unless the lines pass a limit
 one_outcome : (before e : Excerpt) → outcome_of before (Gives e ∷ []) ≡ outcome_by
     (pass_limit (before.lines ++ e.lines)) (in_turn before e)
 unfolding outcome_of
 one_outcome before e = refl
 
--- a load of one excerpt ends by that step
+-- a load of one excerpt ends with the step that gives it
 pub one_step : (reads : List Step → Type 0) (before after : Draft) (e : Excerpt) (r : Result (Unit {0}) LoadFault)
     → reads (Gives e ∷ []) → IsLoad before e r after → ReadsNone r
     → OnOk r (pass_limit after.store.lines ≡ false) → EndsBy reads before r after
@@ -102,26 +102,26 @@ one_step reads before after e (Err DeckFull) h told none within =
 one_step reads before after e (Err ReadFailed) h told none within = absurd (none refl)
 one_step reads before after e (Err OutOfMemory) h told none within = tt
 
--- the fault of an include line without room, or of its fetch
+-- the fault of an include line whose fetch fails: `DeckFull` if the line has no room, or else `ReadFailed`
 abbrev full_or_failed : Bool → Result Excerpt LoadFault
 full_or_failed b = cond b (Err DeckFull) (Err ReadFailed)
 
--- an include line whose fetch fails ends so
+-- an include line whose fetch fails ends the load with this fault
 failing : (before : Excerpt) (line : DeckLine) → outcome_of before (Fails line ∷ []) ≡ full_or_failed
     (pass_limit (before.lines ++ line ∷ []))
 unfolding outcome_of
 failing before line = refl
 
--- nothing failed
+-- a load that succeeded did not end with `ReadFailed`
 not_failed : ReadsNone (Ok tt)
 not_failed e = cc
 
--- each fetch may fail, so that each file has steps
+-- a fetch may always fail, so each file has steps
 may_fail : (files : Option FileMap) (name : List ℕ) → MayAnswer files name (Err fetch.Failed)
 may_fail None name = tt
 may_fail (Some m) name = tt
 
--- an include line has some steps
+-- an include line has at least one list of steps
 pub some_below : (files : Option FileMap) (depth : ℕ) (includer name : List ℕ) (line : Line)
     → (steps : List Step) × AreStepsBelow files depth includer name line steps
 unfolding AreStepsBelow
@@ -149,12 +149,12 @@ module _ (includes : List ℕ → Line → List Step → Type 0)
       let more = some_rest lines (blocks_behind_line blocks line (reading_of line.text)) in
       (one.0 ++ more.0, (one.0, more.0, one.1, more.1, refl))
 
--- a line that includes no file
+-- the meaning of a line that includes no file
 abbrev IsAlone : Reading → Type 0
 IsAlone (Includes word) = ⊥
 IsAlone reading = ⊤
 
--- a line that includes nothing ends by its own excerpt
+-- a line that includes no file ends with the step of its own excerpt
 pub alone_ends : (includes : List ℕ → Line → List Step → Type 0) (file : List ℕ) (blocks : List Block) (x : Line)
     (reading : Reading) (before after : Draft) (r : Result (Unit {0}) LoadFault) → IsAlone reading
     → reading ≡ reading_of x.text → IsLoad before (line_excerpt (λ word. NotRead []) file blocks x reading) r after
@@ -171,7 +171,7 @@ alone_ends includes file blocks x (Faulty text) before after r alone e told none
     subst (λ t. EndsBy (AreStepsOfLine includes file blocks x t) before r after) e
     (one_step (AreStepsOfLine includes file blocks x (Faulty text)) before after _ r refl told none within)
 
--- the steps of a file, line after line
+-- the steps of a file, one line after another
 module _ (includes : List ℕ → Line → List Step → Type 0) (file : List ℕ) (blocks : List Block)
     (reads : List Step → Type 0) (before mid : Draft) (ys zs : List Line) (x : Line) (taken : ys ≡ x ∷ zs)
     (so_far : LeadTo reads before (AreStepsOfRest includes file blocks ys) mid) where
@@ -182,7 +182,7 @@ module _ (includes : List ℕ → Line → List Step → Type 0) (file : List �
   line_first first rest h g = subst (λ lines. AreStepsOfRest includes file blocks lines (first ++ rest)) (sym taken)
       (first, rest, h, g, refl)
 
-  -- a line that was put
+  -- after a line is loaded, the steps of the remaining lines complete those of the file
   pub line_leads_on : (now : Draft) (blocks_now : List Block) → blocks_now ≡ blocks_behind_line blocks x
       (reading_of x.text)
       → EndsBy (AreStepsOfLine includes file blocks x (reading_of x.text)) mid (Ok tt) now
@@ -192,7 +192,7 @@ module _ (includes : List ℕ → Line → List Step → Type 0) (file : List �
       (line_first h.0 rest h.1 (subst (λ bs. AreStepsOfRest includes file bs zs rest) behind left)) in
       (all.0, all.1, all.2 ∙ put_first h.0 rest (excerpt_in mid) (excerpt_in now) h.2)
 
-  -- a line that failed
+  -- a fault at a line ends the load of the file
   pub line_ends : (after : Draft) (fault : LoadFault)
       → ((word : List ℕ) (line : Line) → (steps : List Step) × includes word line steps)
       → EndsBy (AreStepsOfLine includes file blocks x (reading_of x.text)) mid (Err fault) after
@@ -204,7 +204,7 @@ module _ (includes : List ℕ → Line → List Step → Type 0) (file : List �
       let all = so_far (first ++ rest.0) (line_first first rest.0 part rest.1) in
       (all.0, all.1, all.2 ∙ fail_first first rest.0 (excerpt_in mid) fault e)) h
 
--- the end of a file
+-- the load of the end of a file ends with the last of its steps
 pub file_ends : (includes : List ℕ → Line → List Step → Type 0) (file : List ℕ) (blocks : List Block)
     (reads : List Step → Type 0) (before mid after : Draft) (ys : List Line) (r : Result (Unit {0}) LoadFault) → ys ≡ []
     → LeadTo reads before (AreStepsOfRest includes file blocks ys) mid → IsLoad mid (file_end file blocks) r after
@@ -215,7 +215,7 @@ file_ends includes file blocks reads before mid after ys r e so_far told none wi
     (subst (λ lines. EndsBy (AreStepsOfRest includes file blocks lines) mid r after) (sym e)
     (one_step (AreStepsOfRest includes file blocks []) mid after (file_end file blocks) r refl told none within))
 
--- an include that is too deep
+-- an include that is nested too deep ends with the step of its notice
 pub deep_ends : (files : Option FileMap) (depth : ℕ) (includer name : List ℕ) (line : Line) (before after : Draft)
     (r : Result (Unit {0}) LoadFault) → depth ≡ 0
     → IsLoad before (line_with_notice includer line (codes "include too deep: " ++ name)) r after → ReadsNone r
@@ -227,7 +227,7 @@ deep_ends files depth includer name line before after r e told none within =
     (one_step (AreStepsBelow files 0 includer name line) before after
     (line_with_notice includer line (codes "include too deep: " ++ name)) r refl told none within)
 
--- an include line by what is answered of its file
+-- the steps of an answer to a fetch are steps of the include line
 answered : (files : Option FileMap) (depth : ℕ) (includer name : List ℕ) (line : Line)
     (answer : Result (List ℕ) FetchFault) (steps : List Step) → (depth ≡ 0 → ⊥) → MayAnswer files name answer
     → AreStepsOfAnswer (AreStepsAbove files (depth - 1) name) includer name line answer steps
@@ -239,7 +239,7 @@ answered files depth includer name line answer steps nonzero may h =
 
 module _ (files : Option FileMap) (depth : ℕ) (includer name : List ℕ) (line : Line) (nonzero : depth ≡ 0 → ⊥)
     (before after : Draft) where
-  -- an include line that has no room, and one whose file cannot be read
+  -- an include line without room, or whose fetch fails, ends the load
   fails_at : (fault : LoadFault)
       → full_or_failed (pass_limit (before.store.lines ++ plain_line line.number line.text ∷ [])) ≡ Err fault
       → (steps : List Step) × AreStepsBelow files depth includer name line steps
@@ -259,14 +259,14 @@ module _ (files : Option FileMap) (depth : ℕ) (includer name : List ℕ) (line
       → EndsBy (AreStepsBelow files depth includer name line) before (Err ReadFailed) after
   read_ends e = fails_at ReadFailed (ap full_or_failed e)
 
-  -- an include line that is not put
+  -- a failure to append the include line ends the load
   pub plain_ends : (fault : LoadFault) → IsLoad before (line_without_notice line) (Err fault) after
       → ReadsNone (Err fault) → EndsBy (AreStepsBelow files depth includer name line) before (Err fault) after
   plain_ends DeckFull told none = full_ends told
   plain_ends ReadFailed told none = absurd (none refl)
   plain_ends OutOfMemory told none = tt
 
-  -- an include of no file
+  -- an include of an absent file ends with the step of its notice
   pub absent_ends : (r : Result (Unit {0}) LoadFault) → MayAnswer files name (Err fetch.Absent)
       → IsLoad before (line_with_notice includer line (codes "no file: " ++ name)) r after → ReadsNone r
       → OnOk r (pass_limit after.store.lines ≡ false) → EndsBy (AreStepsBelow files depth includer name line) before r
@@ -276,7 +276,7 @@ module _ (files : Option FileMap) (depth : ℕ) (includer name : List ℕ) (line
       (line_with_notice includer line (codes "no file: " ++ name)) r
       (answered files depth includer name line (Err fetch.Absent) _ nonzero may refl) told none within
 
-  -- an include of a file that is too long
+  -- an include of a file that is too long ends with the step of its notice
   pub long_ends : (r : Result (Unit {0}) LoadFault) → MayAnswer files name (Err fetch.TooLong)
       → IsLoad before (line_with_notice includer line (codes "file too long: " ++ name)) r after → ReadsNone r
       → OnOk r (pass_limit after.store.lines ≡ false) → EndsBy (AreStepsBelow files depth includer name line) before r
@@ -286,7 +286,7 @@ module _ (files : Option FileMap) (depth : ℕ) (includer name : List ℕ) (line
       (line_with_notice includer line (codes "file too long: " ++ name)) r
       (answered files depth includer name line (Err fetch.TooLong) _ nonzero may refl) told none within
 
-  -- an include of a file that is read
+  -- an include of a file that is read ends with the steps of the file
   pub file_read : (mid : Draft) (bytes : List ℕ) (r : Result (Unit {0}) LoadFault) → MayAnswer files name (Ok bytes)
       → mid ≡ with_excerpt before (line_without_notice line)
       → pass_limit mid.store.lines ≡ false → EndsBy (AreStepsAbove files (depth - 1) name bytes) mid r after

@@ -1,4 +1,4 @@
--- Lines with what they define.
+-- Lines with their definitions.
 use Rattle.std.proofs.Common.{◌≡◌, ◌++◌, ◌∷◌, ◌+◌, [], ℕ, List, map, take, drop, true, refl, inl, inr, sym, ap, subst}
 use Rattle.std.proofs.Common.{◌∙◌, Option, Some, None, option_map, slice_get, length}
 use Rattle.std.proofs.lemmas.Option.{same_Some}
@@ -24,7 +24,7 @@ use Rattle.deck_lines.proofs.Finding.{get_append, get_drop, get_take}
 use Rattle.deck_lines.proofs.Keys.{found_key, one_to_one}
 use Rattle.deck_lines.proofs.Numbering.{found_is_any}
 
--- what was defined is defined where room was made
+-- making room does not change the definitions
 pub defined_same : (d room : Definitions) (said : List (Option (Key × Entry))) → room.of_lines.items ≡ d.of_lines.items
     → names_in room.keys ≡ names_in d.keys → AreDefined d said → AreDefined room said
 defined_same d room said items names are =
@@ -32,7 +32,7 @@ defined_same d room said items names are =
     (subst (λ ds. IsDefined (names_in d.keys) ds said) (sym items) are)
 
 module _ (lines : List DeckLine) (d : Definitions) (kept : IsKept lines d) where
-  -- one line more
+  -- the definitions after one more line is appended
   pub kept_push : (line : DeckLine) (room new : Definitions) (made : Option (Key × MadeWhat)) (after : List DeckLine) →
       room.of_lines.items ≡ d.of_lines.items → names_in room.keys ≡ names_in d.keys
       → option_map (seen_entry line.text) made ≡ entry_in line → after ≡ lines ++ line ∷ [] →
@@ -51,7 +51,7 @@ module _ (lines : List DeckLine) (d : Definitions) (kept : IsKept lines d) where
         (subst IsOneToOne (sym names) kept.unique));
   }
 
-  -- the first lines alone
+  -- the definitions of the first lines
   pub kept_take : (n : ℕ) (new : Definitions) (after : List DeckLine) → after ≡ take n lines →
       ((said : List (Option (Key × Entry))) → AreDefined d said → AreDefined new (take n said))
       → names_in new.keys ≡ names_in d.keys → IsKept after new
@@ -61,7 +61,7 @@ module _ (lines : List DeckLine) (d : Definitions) (kept : IsKept lines d) where
     unique = subst IsOneToOne (sym same) kept.unique;
   }
 
-  -- without the line at a place
+  -- the definitions of the lines without the line at a place
   pub kept_without : (place : ℕ) (new : Definitions) (after : List DeckLine)
       → after ≡ take place lines ++ drop (place + 1) lines →
       ((said : List (Option (Key × Entry))) → AreDefined d said
@@ -78,14 +78,14 @@ module _ (lines : List DeckLine) (d : Definitions) (kept : IsKept lines d) where
     unique = subst IsOneToOne (sym same) kept.unique;
   }
 
--- as many definitions as lines
+-- there are as many definitions as lines
 pub defined_long : (names : Names) (ds : List (Option Definition)) (lines : List DeckLine)
     → IsDefined names ds (map entry_in lines) → length ds ≡ length lines
 defined_long names ds lines are =
     sym (length-map ds (option_map (seen_definition names))) ∙ ap length are
     ∙ length-map (map entry_in lines) (option_map keyed_definition) ∙ length-map lines entry_in
 
--- other lines in the place of some
+-- the definitions of lines of which some are replaced by others
 pub kept_exchange : (lines put : List DeckLine) (d room new : Definitions) (kept : IsKept lines d)
     (ds : List (Option Definition)) (at cut : ℕ) (after : List DeckLine) →
     room.of_lines.items ≡ d.of_lines.items → names_in room.keys ≡ names_in d.keys
@@ -113,7 +113,7 @@ numbered names n k e =
     found_is_any k.name (names_of names k.kind) n.number
     (subst (λ a. slice_get (names_of names a) n.number ≡ Some k.name) at.0 at.1)
 
--- the key that a line defines is
+-- the key that a line defines is numbered
 numbered_at : (names : Names) (o : Option (Option Definition)) (l : Option DeckLine) (d : Key × Entry) →
     option_map (option_map (seen_definition names)) o ≡ option_map (option_map keyed_definition) (option_map entry_in l)
     → option_and_then entry_in l ≡ Some d → is_numbered names d.0 ≡ true
@@ -129,7 +129,7 @@ numbered_at names (Some x) (Some line) d e is =
     by (Some y) p = numbered names y.key d.0
         (ap (λ (q : Option Key × What). q.0) (same_Some (seen_definition names y) (keyed_definition d) p))
 
--- the numbers of keys beside lines
+-- the numbers of the keys of stored lines are a numbering
 pub numbering_of : (lines : List DeckLine) (d : Definitions) (s : Store) → IsKept lines d
     → record { lines = lines; names = names_in d.keys } ≡ s → IsNumbering s
 numbering_of lines d s kept e = subst IsNumbering e (record {
@@ -138,7 +138,7 @@ numbering_of lines d s kept e = subst IsNumbering e (record {
   unique = kept.unique;
 })
 
--- more keys with numbers beside the same lines
+-- the definitions stay those of the lines when more keys get numbers
 pub kept_read : (lines : List DeckLine) (d new : Definitions) → IsKept lines d → new.of_lines.items ≡ d.of_lines.items
     → IsExtended (names_in d.keys) (names_in new.keys) →
     (IsOneToOne (names_in d.keys) → IsOneToOne (names_in new.keys)) → IsKept lines new
@@ -149,7 +149,7 @@ kept_read lines d new kept items wider unique = record {
   unique = unique kept.unique;
 }
 
--- where some lines are replaced by others whose keys have numbers
+-- the numbers are still a numbering after some lines are replaced by others whose keys have numbers
 pub numbering_edited : (store : Store) (put : List DeckLine) (ds : List (Option Definition)) (at cut : ℕ)
     → IsNumbering store → IsDefined store.names ds (map entry_in put) →
     IsNumbering (record store { lines = take at store.lines ++ (put ++ drop (at + cut) store.lines) })
@@ -188,12 +188,12 @@ numbering_edited store put ds at cut numbering are = record {
           | inr f ↦ behind x made is f
         ]
 
--- what a line defines after an edit, by where it comes from
+-- the stored definition is that of the line at a place after an edit
 abbrev pub IsSeenAt : Edited → ℕ → Option Definition → Type 0
 IsSeenAt edited place o = option_map (seen_definition edited.names) o
     ≡ option_map keyed_definition (definition_at edited.after place)
 
--- what a line defines is seen at its place behind the edit
+-- if a line comes from a place of other lines, its stored definition is the one from there
 pub seen_edited : (o : Option Definition) (from : List DeckLine) (i j : ℕ) (e f : Edited) → e ≡ f
     → slice_get e.after j ≡ slice_get from i →
     option_map (seen_definition e.names) o ≡ option_map keyed_definition (definition_at from i) → IsSeenAt f j o
@@ -201,7 +201,7 @@ seen_edited o from i j e f view same is =
     subst (λ (v : Edited). IsSeenAt v j o) view
     (is ∙ ap (λ x. option_map keyed_definition (option_and_then entry_in x)) (sym same))
 
--- past the end nothing is seen
+-- there is no definition at a place after the last line
 pub unseen_edited : (j : ℕ) (e f : Edited) → e ≡ f → slice_get e.after j ≡ None → IsSeenAt f j None
 unseen_edited j e f view none =
     subst (λ (v : Edited). IsSeenAt v j None) view

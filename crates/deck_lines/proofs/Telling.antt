@@ -1,4 +1,4 @@
--- The steps of files that are told.
+-- The steps of files whose contents are known.
 use Rattle.std.proofs.Common.{◌≡◌, ◌++◌, ◌∷◌, [], ℕ, zero, suc, List, Bool, true, false, cond, refl, sym, ap, subst}
 use Rattle.std.proofs.Common.{◌∙◌, append_assoc, Result, Ok, Err, Some, codes}
 use Rattle.std.proofs.lemmas.List.{append-nil}
@@ -24,17 +24,17 @@ use Rattle.deck_lines.specs.declared.line.DeckLine.{DeckLine}
 use Rattle.deck_lines.proofs.Drafting.{passes_more}
 use Rattle.deck_lines.proofs.Stepping.{then_outcome}
 
--- an excerpt of these lines and notices
+-- an excerpt with these lines and notices
 abbrev made : List DeckLine → List (List ℕ) → Excerpt
 made lines notices = record { lines = lines; notices = notices }
 
--- what steps give in turn
+-- the excerpts of all steps in turn
 given : List Step → Excerpt
 given [] = made [] []
 given (Gives excerpt ∷ steps) = in_turn excerpt (given steps)
 given (Fails line ∷ steps) = given steps
 
--- of three excerpts the first two or the last two may be put together first
+-- appending excerpts in turn is associative
 in_turn-in_turn : (a b c : Excerpt) → in_turn (in_turn a b) c ≡ in_turn a (in_turn b c)
 in_turn-in_turn a b c =
     ap (λ lines. made lines ((a.notices ++ b.notices) ++ c.notices)) (append_assoc a.lines b.lines c.lines)
@@ -45,12 +45,12 @@ in_turn-none : (a : Excerpt) → in_turn a (made [] []) ≡ a
 in_turn-none a = ap (λ lines. made lines (a.notices ++ [])) (append-nil a.lines)
     ∙ ap (made a.lines) (append-nil a.notices)
 
--- one step
+-- the excerpt of one step is that of the step
 given-one : (a : Excerpt) → given (Gives a ∷ []) ≡ a
 unfolding given
 given-one a = in_turn-none a
 
--- what two lists of steps give is what they give in turn
+-- the excerpt of two lists of steps is that of the first followed by that of the second
 given-append : (first rest : List Step) → given (first ++ rest) ≡ in_turn (given first) (given rest)
 unfolding given
 given-append [] rest = refl
@@ -58,13 +58,13 @@ given-append (Gives a ∷ first) rest = ap (in_turn a) (given-append first rest)
     ∙ sym (in_turn-in_turn a (given first) (given rest))
 given-append (Fails line ∷ first) rest = given-append first rest
 
--- what holds of all steps holds of both parts
+-- if no step is a failed fetch, none is in either part
 both_parts : (first rest : List Step) → AreAllGiven (first ++ rest) → AreAllGiven first × AreAllGiven rest
 both_parts [] rest h = (tt, h)
 both_parts (Gives a ∷ first) rest h = both_parts first rest h
 both_parts (Fails line ∷ first) rest h = absurd h
 
--- steps that all give are put, or pass a limit
+-- if no step is a failed fetch, the outcome is all excerpts in turn, or `DeckFull` if they pass a limit
 all_put : (steps : List Step) (before : Excerpt) → AreAllGiven steps → pass_limit before.lines ≡ false
     → outcome_of before steps ≡ within (in_turn before (given steps))
 unfolding outcome_of given
@@ -110,7 +110,7 @@ module _ (includes : List ℕ → Line → List Step → Type 0) (inc : List ℕ
       ∙ ap (in_turn (line_excerpt inc file blocks line (reading_of line.text)))
       (rest_given lines (blocks_behind_line blocks line (reading_of line.text)) h.1 h.3 parts.1)
 
--- an include line, by what is answered of its file
+-- if no fetch fails, the steps of the answer to an include line give the excerpt of the include
 answer_given : (m : FileMap) (depth : ℕ) (includer name : List ℕ) (line : Line) (answer : Result (List ℕ) FetchFault)
     (steps : List Step)
     → ((word : List ℕ) (x : Line) (part : List Step) → AreStepsBelow (Some m) depth name (beside name word) x part
@@ -136,7 +136,7 @@ answer_given m depth includer name line (Err fetch.TooLong) steps each may h all
 answer_given m depth includer name line (Err fetch.Failed) steps each may h all = absurd (subst AreAllGiven h all)
 answer_given m depth includer name line (Err fetch.OutOfMemory) steps each may h all = absurd h
 
--- where no fetch fails, the steps of an include give its excerpt
+-- if no fetch fails, the steps of an include line give the excerpt of the include
 below_given : (m : FileMap) (depth : ℕ) (includer name : List ℕ) (line : Line) (steps : List Step)
     → AreStepsBelow (Some m) depth includer name line steps → AreAllGiven steps
     → given steps ≡ include_excerpt includer line (included_below m depth name)
@@ -147,7 +147,7 @@ below_given m (suc depth) includer name line steps h all =
     answer_given m depth includer name line h.0 steps
     (λ word x part. below_given m depth name (beside name word) x part) h.1 h.2 all
 
--- the law of told files
+-- the law of files whose contents are known
 pub told_law : ToldLaw
 unfolding deck_of
 told_law files name bytes steps before h all fits =

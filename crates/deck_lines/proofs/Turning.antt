@@ -1,4 +1,4 @@
--- Lists turned, and parts of them exchanged.
+-- Exchanging a part of a list by rotating the list.
 use Rattle.std.proofs.Common.{◌≡◌, ◌++◌, ◌+◌, ◌≤◌, ℕ, List, length, take, drop, sym, ap, ◌∙◌, arith, append_assoc}
 use Rattle.std.proofs.Common.{length-append, length-take, length-drop}
 use Rattle.std.proofs.Math.Seq.{take-add}
@@ -18,7 +18,7 @@ module _ {A : Type 0} (xs : List A) (at cut : ℕ) (h : at + cut ≤ length xs) 
     length-take at xs,
   )
 
-  -- what is left, and what goes, once the list was turned
+  -- after the first rotation, the removed items are at the end
   pub left_is : (ys : List A) (n : ℕ) → ys ≡ drop (at + cut) xs ++ take (at + cut) xs → n + cut ≡ length xs
       → take n ys ≡ drop (at + cut) xs ++ take at xs
   left_is ys n e f = ap (take n) (e ∙ turned)
@@ -29,7 +29,7 @@ module _ {A : Type 0} (xs : List A) (at cut : ℕ) (h : at + cut ≤ length xs) 
   gone_is ys n e f = ap (drop n) (e ∙ turned)
       ∙ drop_at (drop (at + cut) xs ++ take at xs) (take cut (drop at xs)) n (size n f)
 
-  -- and turned back, with others in between
+  -- rotating the list back puts the items after the new ones in their places
   pub back_is : (ys put : List A) (n : ℕ) → ys ≡ (drop (at + cut) xs ++ take at xs) ++ put → n + (at + cut) ≡ length xs
       → drop n ys ++ take n ys ≡ take at xs ++ (put ++ drop (at + cut) xs)
   back_is ys put n e f =

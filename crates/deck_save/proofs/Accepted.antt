@@ -1,4 +1,4 @@
--- Lines that define a key hold no byte that ends a line.
+-- Lines that define a key contain no line feed, carriage return or `#`.
 use Rattle.std.proofs.Common.{◌≡◌, ◌&&◌, ◌++◌, ◌∷◌, ℕ, List, true, not, codes, Ok, refl, ap, subst, ◌∙◌}
 use Rattle.std.specs.List.{list_all}
 use Rattle.std.proofs.lemmas.Bool.{and_parts}
@@ -25,7 +25,7 @@ lead_stays NoLead rest is clear = clear
 lead_stays (PlusLead blanks) rest is clear = all_both stays blanks rest
     (blanks_stay blanks (and_parts (list_all is_blank blanks) (is_begun rest) is).0) clear
 
--- a heading by its name and the text behind it
+-- a heading contains none of these bytes if the text after its name does not
 heading_stays : (w : WrittenHeading) → is_heading w ≡ true → is_name (heading_of w).name ≡ true
     → list_all stays (heading_of w).text ≡ true
     → list_all stays (bytes w) ≡ true
@@ -69,7 +69,7 @@ entry_stays line k e is =
     ∙ heading_stays is.headed.written is.headed.whole (subst (λ (h : Heading). is_name h.name ≡ true) same is.names.own)
     (subst (λ (h : Heading). list_all stays h.text ≡ true) same clear)
 
--- a line that defines a key holds no line feed, no carriage return and no `#`
+-- a line that defines a key contains no line feed, no carriage return and no `#`
 pub accepted_lines_hold_no_comment : EntryLaw → (line : List ℕ) (k : Key) (e : Entry) → has_entry (kind_of line) ≡ true
     → entry_of line ≡ Ok (k, e)
     → list_all stays line ≡ true

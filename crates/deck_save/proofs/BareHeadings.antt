@@ -1,4 +1,4 @@
--- A line that defines a key defines it without the blanks at its ends too.
+-- A line that defines a key defines it also without the blanks at its ends.
 use Rattle.std.proofs.Common.{◌≡◌, ◌==◌, ◌&&◌, ◌||◌, ◌++◌, ◌∷◌, [], ℕ, List, Bool, true, false, not, codes, cond}
 use Rattle.std.proofs.Common.{reverse, refl, sym, ap, subst, ◌∙◌}
 use Rattle.std.specs.List.{list_all}
@@ -27,7 +27,7 @@ use Rattle.def_entry.proofs.WrittenHeadings.{opened_not_apart}
 use Rattle.def_entry.proofs.WrittenOptions.{after_blanks-front}
 use Rattle.deck_save.proofs.Names.{name_some, name_unblank}
 
--- without the blanks at its end a text is another, which has a byte
+-- `bare` is the text without the blanks at its end, and is not empty
 record EndsAs (text bare : List ℕ) : Type 0 where
   pub is : before_blanks text ≡ bare
   pub some : is_empty bare ≡ false
@@ -53,7 +53,7 @@ turned_some : (text : List ℕ) → is_empty (reverse text) ≡ false → is_emp
 turned_some [] some = some
 turned_some (b ∷ text) some = refl
 
--- whatever is in front of it
+-- the same holds with more bytes in front
 in_front : (front text bare : List ℕ) → EndsAs text bare → EndsAs (front ++ text) (front ++ bare)
 in_front front text bare ends = record {
   is =
@@ -69,7 +69,7 @@ in_front front text bare ends = record {
     longer [] = ends.some
     longer (b ∷ xs) = refl
 
--- a name and the text behind it
+-- a name and the text after it, without the blanks at the end
 named : (name behind : List ℕ) → is_name name ≡ true → EndsAs (name ++ behind) (name ++ before_blanks behind)
 named name behind is =
     record { is = before_blanks-front name behind (name_unblank name is); some = longer name (name_some name is) }
@@ -82,7 +82,7 @@ led : (l : Lead) (text bare : List ℕ) → EndsAs text bare → EndsAs (lead l 
 led NoLead text bare ends = ends
 led (PlusLead blanks) text bare ends = in_front (43 ∷ blanks) text bare ends
 
--- a heading without the blanks at the end
+-- a heading without the blanks at its end
 abbrev pub bare_heading : WrittenHeading → WrittenHeading
 bare_heading (UnitHeading l name behind) = UnitHeading l name (before_blanks behind)
 bare_heading (PrefixHeading l name behind) = PrefixHeading l name (before_blanks behind)
@@ -102,7 +102,7 @@ bare_ends (ListHeading before between name behind) is =
     (in_front (codes "unitlist") (between ++ (name ++ behind)) (between ++ bare)
     (in_front between (name ++ behind) bare (named name behind is)))
 
--- it says the same
+-- without these blanks the heading has the same kind, name and text
 bare_same : (w : WrittenHeading) → heading_of (bare_heading w) ≡ heading_of w
 bare_same (UnitHeading l name behind) = ap (λ (t : List ℕ). record { kind = UnitKind; name = name; text = t })
     (trimmed-before_blanks behind)
@@ -113,7 +113,7 @@ bare_same (FuncHeading l name behind) = ap (λ (t : List ℕ). record { kind = F
 bare_same (ListHeading before between name behind) =
     ap (λ (t : List ℕ). record { kind = ListKind; name = name; text = t }) (trimmed-before_blanks behind)
 
--- and is a heading
+-- without these blanks it is still a heading
 
 bare_lead : (l : Lead) (name x y : List ℕ) → is_name name ≡ true → is_lead l (name ++ x) ≡ true
     → is_lead l (name ++ y) ≡ true
@@ -168,20 +168,20 @@ bare_whole (ListHeading before between name behind) whole is =
     (λ i. e.0 i && e.1 i && bare_between between name behind (before_blanks behind) is d.1 i && bare_begun name behind
     (before_blanks behind) is c.1 i && b.1 i && apart-before_blanks behind a.1 i)
 
--- a line with such a heading, without the blanks at its end
+-- the line without the blanks at its end defines the key
 pub record IsBare (line : List ℕ) (k : Key) (e : Entry) : Type 0 where
   pub entry : IsEntry (before_blanks line) k e
   pub some : is_empty (before_blanks line) ≡ false
   pub begun : is_begun line ≡ true
   pub has : has_entry (kind_of (before_blanks line)) ≡ true
 
--- a name begins with no blank
+-- a name does not begin with a blank
 begins_named : (name behind : List ℕ) → is_name name ≡ true → is_begun (name ++ behind) ≡ true
 begins_named [] behind is = absurd (true≢false (sym is))
 begins_named (b ∷ name) behind is =
     (and_parts (not (is_blank b)) (list_all (λ c. not (is_blank c)) name) (name_unblank (b ∷ name) is)).0
 
--- nor does a line with a heading
+-- a line with a heading does not begin with a blank
 begins : (w : WrittenHeading) → is_name (heading_of w).name ≡ true → is_begun (bytes w) ≡ true
 begins (UnitHeading NoLead name behind) is = begins_named name behind is
 begins (UnitHeading (PlusLead blanks) name behind) is = refl
@@ -191,7 +191,7 @@ begins (FuncHeading NoLead name behind) is = begins_named name behind is
 begins (FuncHeading (PlusLead blanks) name behind) is = refl
 begins (ListHeading before between name behind) is = refl
 
--- it is a definition or a list of units
+-- the line is a definition or a unit list
 
 other_mark : (b : ℕ) (line : List ℕ) → (b == 33) ≡ false → has_entry (kind_of (b ∷ line)) ≡ true
 unfolding kind_of

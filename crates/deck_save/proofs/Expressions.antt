@@ -1,4 +1,4 @@
--- Expressions that are parsed hold no byte that ends a line.
+-- Expressions that parse contain no line feed, carriage return or `#`.
 use Rattle.std.proofs.Common.{◌≡◌, ◌==◌, ◌<◌, ◌+◌, ◌-◌, ◌&&◌, ◌||◌, ◌++◌, ◌∷◌, [], ℕ, zero, suc, List, Bool, true}
 use Rattle.std.proofs.Common.{false, cond, length, drop, take, refl, sym, ap, subst, ◌∙◌, arith, Option, Some, None}
 use Rattle.std.proofs.Common.{Ok}
@@ -26,31 +26,31 @@ use Rattle.deck_save.specs.SavedLines.{stays}
 use Rattle.deck_save.proofs.PlainBytes.{all_both, all_stay, stays_by}
 use Rattle.deck_save.proofs.Numerals.{longest_stays}
 
--- a lexeme that may stand in an expression
+-- a lexeme that may occur in an expression
 abbrev is_sound : Lexeme → Bool
 is_sound Malformed = false
 is_sound TooLong = false
 is_sound _ = true
 
--- how many of the first bytes a lexeme has, which is one at least, and that they stay
+-- the lexeme has this many bytes of the front of the text, at least one, and all of them stay
 record IsCovered (text : List ℕ) (len : ℕ) : Type 0 where
   pub some : 0 < len
   pub clear : list_all stays (take len text) ≡ true
 
--- one byte
+-- one byte that stays is covered
 one : (b : ℕ) (bytes : List ℕ) → stays b ≡ true → IsCovered (b ∷ bytes) 1
 one b bytes clear = record { some = omega arith; clear = and_from _ _ clear refl }
 
 -- words
 
--- the front of a text that is a word
+-- the number of word bytes at the front of a text
 abbrev word_len : List ℕ → ℕ
 word_len text = prefix_len is_word_byte text
 
 word_stays : (text : List ℕ) → list_all stays (take (word_len text) text) ≡ true
 word_stays text = all_stay is_word_byte refl refl refl (take (word_len text) text) (front-clear is_word_byte text)
 
--- a word and the `(` behind it
+-- a word and the `(` after it stay
 opened_stays : (text : List ℕ) (n : ℕ) → list_all stays (take n text) ≡ true → is_opened (drop n text) ≡ true
     → list_all stays (take (n + 1) text) ≡ true
 opened_stays text n clear opened = ap (list_all stays) (take-add n 1 text)
@@ -128,7 +128,7 @@ mark_covers b bytes sound = go (b == 42 && slice_index (b ∷ bytes) 1 == 42) re
         }
     go false e sound = one b bytes (stays_by (λ c. is_sound (mark c)) refl refl refl b sound)
 
--- any lexeme that may stand
+-- any lexeme that may occur covers its bytes
 lexeme_covers : (after_numeral : Bool) (b : ℕ) (bytes : List ℕ)
     → is_sound (front after_numeral (b ∷ bytes)).lexeme ≡ true
     → IsCovered (b ∷ bytes) (front after_numeral (b ∷ bytes)).len
@@ -150,7 +150,7 @@ lexeme_covers after_numeral b bytes sound =
     go false e false false true f sound = word_covers b bytes f
     go false e false false false f sound = mark_covers b bytes sound
 
--- lexemes that may stand cover their text
+-- if all lexemes of a text may occur, the text stays
 lexemes_cover : (covered : ℕ) (after_numeral : Bool) (place : ℕ) (text : List ℕ)
     → list_all (λ x. is_sound x.lexeme) (lexemes_from covered after_numeral place text) ≡ true
     → list_all stays (take covered text) ≡ true → list_all stays text ≡ true
@@ -177,7 +177,7 @@ lexemes_cover zero after_numeral place (b ∷ bytes) sound clear =
     and_from (stays b) (list_all stays bytes) both.0
     (lexemes_cover (first.len - 1) (is_numeral first.lexeme) (suc place) bytes parts.1 both.1)
 
--- in a text without a fault each lexeme may stand
+-- in a text without a fault each lexeme may occur
 
 neither : (a b : Option ParseFault) → or_later a b ≡ None → (a ≡ None) × (b ≡ None)
 neither (Some x) b e = cc

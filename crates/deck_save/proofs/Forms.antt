@@ -1,4 +1,4 @@
--- What lines say of their keys holds no byte that ends a line.
+-- The texts after the names of keys contain no line feed, carriage return or `#`.
 use Rattle.std.proofs.Common.{◌≡◌, inl, inr, ◌++◌, ◌∷◌, [], ℕ, List, true, codes, map, subst, Option, Some, None}
 use Rattle.std.proofs.Common.{refl, ap, ◌∙◌}
 use Rattle.std.specs.List.{join_with_byte, list_all}
@@ -23,7 +23,7 @@ use Rattle.deck_save.proofs.Names.{name_stays, trimmed_to, untrimmed_stays}
 use Rattle.deck_save.proofs.Options.{options_stay, said_units_stay}
 use Rattle.deck_save.proofs.Points.{points_stay}
 
--- a bracket, and what is behind it
+-- a text in brackets stays if what is inside them and what follows them stay
 bracket_stays : (open_byte close_byte : ℕ) (text inside behind : List ℕ)
     → IsBracketed open_byte close_byte text inside behind
     → stays open_byte ≡ true → stays close_byte ≡ true → list_all stays inside ≡ true → list_all stays behind ≡ true
@@ -92,7 +92,7 @@ list_stays : (text : List ℕ) (parts : List (List ℕ)) (es : List Syntax) → 
 list_stays text parts es are trees =
     ap (list_all stays) are.joined ∙ part_stays are.pieces es (subst (λ ps. AreTreesOf ps es) are.parts_are trees)
 
--- any of them
+-- forms of any kind
 
 body_stays : (name text body : List ℕ) (what : What) → text ≡ body → Says name (BodyForm body) what
     → list_all stays text ≡ true

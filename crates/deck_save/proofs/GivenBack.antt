@@ -1,4 +1,4 @@
--- A deck that is loaded from the text of another has its definitions.
+-- A deck that is loaded from the saved text of another has its definitions.
 use Rattle.std.proofs.Common.{◌≡◌, ◌≤◌, [], ℕ, List, false, cond, length, reverse, refl, sym, ap, subst, ◌∙◌}
 use Rattle.std.proofs.Common.{arith, Option, Some, Result, Ok, Err}
 use Rattle.std.specs.Prelude.{nat_lt}
@@ -38,7 +38,7 @@ saved_is : (d : Contents) → saved d ≡ saved_lines (saved_texts d)
 unfolding saved
 saved_is d = refl
 
--- what the lines in force of a deck define
+-- the definitions of the active lines of a deck
 abbrev defined : Contents → List (Key × Entry)
 defined d = entries (active_lines d.settings d.lines) d.lines
 
@@ -46,7 +46,7 @@ module _ (law : EntryLaw) (d : Contents) where
   give : AreGiving (saved_texts d) (defined d)
   give = kept_give law (active_lines d.settings d.lines) d.lines
 
-  -- the deck of the text under any settings
+  -- the deck that is loaded from the saved text, with any settings
   abbrev given : Settings → Contents
   given settings = record { lines = plain_lines 1 (saved_texts d); settings = settings; notices = [] }
 
@@ -75,7 +75,7 @@ module _ (law : EntryLaw) (d : Contents) where
         (omega (arith, few, kept_count (active_lines d.settings d.lines) d.lines, length-map (defining d) trimmed))
         (omega (arith, can.short, ap length (saved_is d)))
 
-    -- put behind no lines
+    -- the excerpt is appended to the empty deck
     put : (settings : Settings) (excerpt : Excerpt) → excerpt ≡ plain_excerpt 1 (saved_texts d)
         → within (with_excerpt excerpt (empty_deck settings)) ≡ Ok (given settings)
     put settings excerpt is =
@@ -102,7 +102,7 @@ module _ (law : EntryLaw) (d : Contents) where
     from_text name settings = is_back settings (after_text (saved d) name settings)
         (put settings (lone_deck_of name (saved d)) (deck_is no_files name))
 
-    -- the steps of a load, whatever the files tell
+    -- the steps of a load, whatever the contents of the files are
     stepped : (includes : List ℕ → Line → List Step → Type 0) (name : List ℕ) (steps : List Step)
         → AreStepsBy includes name (saved d) steps
         → outcome_of (lines_alone []) steps ≡ Ok (plain_excerpt 1 (saved_texts d))

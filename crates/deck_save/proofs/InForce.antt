@@ -1,4 +1,4 @@
--- The definitions of a deck, and those of a deck that is made of their texts.
+-- The definitions of a deck, and those of a deck made of their texts.
 use Rattle.std.proofs.Common.{◌≡◌, ◌+◌, ◌++◌, ◌∷◌, [], ◌≤◌, ℕ, suc, List, Bool, true, false, if◌then◌else◌, cond}
 use Rattle.std.proofs.Common.{length, map, reverse, Option, Some, None, refl, sym, ap, ◌∙◌, arith, true≢false}
 use Rattle.std.specs.Option.{is_some}
@@ -21,7 +21,7 @@ use Rattle.deck_save.proofs.LoadedLines.{plain_lines}
 use Rattle.deck_save.proofs.ReadLines.{number_behind}
 use Rattle.deck_save.proofs.SavedTexts.{AreGiving, plain_entry, saved_gives}
 
--- what the lines whose flag is true define, in order
+-- the definitions of the lines whose flag is true, in order
 
 abbrev pub entry_by : Bool → Option (Key × Entry) → List (Key × Entry)
 entry_by active None = []
@@ -31,7 +31,7 @@ abbrev pub entries : List Bool → List DeckLine → List (Key × Entry)
 entries (active ∷ flags) (x ∷ lines) = entry_by active (entry_in x) ++ entries flags lines
 entries _ _ = []
 
--- a table has them, the last one first
+-- a table has these definitions, the last one first
 
 one_stripped : (place : ℕ) (active : Bool) (d : Option (Key × Entry))
     → table_of (definition_by place active d) ≡ entry_by active d
@@ -63,7 +63,7 @@ table_entries settings lines =
     map-reverse (λ (p : Key × (ℕ × Entry)). (p.0, p.1.1)) (definitions_from 0 (active_lines settings lines) lines)
     ∙ ap reverse (stripped 0 (active_lines settings lines) lines)
 
--- the texts of these lines define them, without the blanks at their ends
+-- the texts of these lines, without the blanks at their ends, give the same definitions
 
 module _ (law : EntryLaw) (x : DeckLine) (texts : List (List ℕ)) (ds : List (Key × Entry))
     (rest : AreGiving (map trimmed texts) ds) where
@@ -90,7 +90,7 @@ kept_give law (active ∷ flags) (x ∷ lines) = go active (kept_give law flags 
     go false rest = passive_gives law x (in_turn definition_in (where_true flags lines)) (entries flags lines) rest
         (entry_in x)
 
--- there are no more texts than lines
+-- there are at most as many texts as lines
 
 one_more : (x : DeckLine) (texts : List (List ℕ)) → length (definition_in x ++ texts) ≤ suc (length texts)
 one_more x texts = go (is_some (entry_in x))
@@ -111,7 +111,7 @@ kept_count (active ∷ flags) (x ∷ lines) = go active (kept_count flags lines)
     go true rest = omega (arith, rest, one_more x (in_turn definition_in (where_true flags lines)))
     go false rest = omega (arith, rest)
 
--- a deck of such texts
+-- a deck made of such texts
 
 kind_stays : (locale : List ℕ) (around : Surroundings) (kind : LineKind) → has_entry kind ≡ true
     → behind_kind locale around kind ≡ around
@@ -135,7 +135,7 @@ all_active locale around n (text ∷ texts) (d ∷ ds) holds give =
     (line_stays locale around n text give.0.has)
     ∙ (λ i. holds i ∷ all_active locale around (number_behind n text) texts ds holds give.1 i)
 
--- and defines its key
+-- each of its lines defines its key
 all_defined : (n : ℕ) (texts : List (List ℕ)) (ds : List (Key × Entry)) → AreGiving texts ds
     → entries (map (λ t. true) texts) (plain_lines n texts) ≡ ds
 all_defined n [] [] give = refl

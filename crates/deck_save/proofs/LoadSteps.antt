@@ -1,4 +1,4 @@
--- The steps of a load of a saved text, whatever the files tell.
+-- The steps of a load of a saved text, whatever the contents of the files are.
 use Rattle.std.proofs.Common.{◌≡◌, ◌≤◌, ◌++◌, ◌∷◌, [], ℕ, List, false, cond, length, refl, ap}
 use Rattle.std.proofs.Common.{subst, ◌∙◌, arith, append_assoc, length-append, Ok, Err}
 use Rattle.std.specs.Prelude.{nat_lt}
@@ -19,7 +19,7 @@ use Rattle.deck_save.proofs.LoadedLines.{plain_excerpt, plain_lines}
 use Rattle.deck_save.proofs.ReadLines.{number_behind, read_lines}
 use Rattle.deck_save.proofs.SavedTexts.{AreGiving}
 
--- lines pass no limit where more of them pass none
+-- if lines and more lines together are within the limits, so are the lines alone
 fewer_within : (lines more : List DeckLine) → pass_limit (lines ++ more) ≡ false → pass_limit lines ≡ false
 unfolding pass_limit
 fewer_within lines more within =
@@ -31,14 +31,14 @@ fewer_within lines more within =
     (le-ltb most_lines (length lines) (omega (arith, length-append lines more)))
     (le-ltb most_bytes (text_len lines) (omega (arith, sum_by-append (λ (l : DeckLine). length l.text) lines more)))
 
--- a line that defines a key is put
+-- the step of a line that defines a key appends the line
 line_step : (includes : List ℕ → Line → List Step → Type 0) (file : List ℕ) (line : Line) (reading : Reading)
     (d : Key × Entry) (steps : List Step)
     → reading ≡ Defines d → AreStepsOfLine includes file [] line reading steps
     → steps ≡ Gives (line_without_notice line) ∷ []
 line_step includes file line reading d steps e are = subst (λ r. AreStepsOfLine includes file [] line r steps) e are
 
--- and one that has room
+-- a step within the limits is followed by the other steps
 put : (before e : Excerpt) (steps : List Step) → pass_limit (before.lines ++ e.lines) ≡ false
     → outcome_of before (Gives e ∷ steps) ≡ outcome_of (in_turn before e) steps
 unfolding outcome_of
@@ -48,7 +48,7 @@ ended : (before : Excerpt) → outcome_of before [] ≡ Ok before
 unfolding outcome_of
 ended before = refl
 
--- two parts in turn
+-- the excerpt of the texts is that of the first text followed by that of the others
 joined_parts : (before : Excerpt) (n : ℕ) (text : List ℕ) (texts : List (List ℕ)) →
     in_turn (in_turn before (line_without_notice (record { number = n; text = text })))
     (plain_excerpt (number_behind n text) texts) ≡ in_turn before (plain_excerpt n (text ∷ texts))

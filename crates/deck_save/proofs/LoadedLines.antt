@@ -40,7 +40,7 @@ rest_loaded included file n (text ∷ texts) (d ∷ ds) give =
     (rest_excerpt included file (blocks_behind_line [] line r) rest)) give.0.reading
     ∙ ap (in_turn (line_without_notice line)) (rest_loaded included file (number_behind n text) texts ds give.1)
 
--- the deck of saved texts has these texts as its lines, and no notice
+-- the deck of saved texts has these texts as its lines, and no notices
 pub saved_texts_are_loaded : (files : FileMap) (name : List ℕ) (texts : List (List ℕ)) (ds : List (Key × Entry))
     → AreGiving texts ds
     → deck_of files name (saved_lines texts) ≡ plain_excerpt 1 texts
@@ -50,7 +50,7 @@ saved_texts_are_loaded files name texts ds give =
     (saved_lines_are_read_back texts (are_plain texts ds give))
     ∙ rest_loaded (included_by files most_depth name) name 1 texts ds give
 
--- they are within the limits
+-- the lines are within the limits
 
 pub plain_count : (n : ℕ) (texts : List (List ℕ)) → length (plain_lines n texts) ≡ length texts
 plain_count n [] = refl

@@ -1,4 +1,4 @@
--- Names, and texts with blanks at their ends, hold no byte that ends a line.
+-- Names, and texts with blanks at their ends, contain no line feed, carriage return or `#`.
 use Rattle.std.proofs.Common.{◌≡◌, ◌&&◌, ◌||◌, ◌∷◌, [], ℕ, List, Bool, true, false, not, cond, codes, length, reverse}
 use Rattle.std.proofs.Common.{refl, sym, ap, ◌∙◌}
 use Rattle.std.specs.List.{list_all}
@@ -30,7 +30,7 @@ after_stays (b ∷ text) clear = go (after_stays text) (is_blank b) refl clear
 turned_back : (text : List ℕ) → list_all stays (reverse text) ≡ true → list_all stays text ≡ true
 turned_back text clear = ap (list_all stays) (sym (reverse-reverse text)) ∙ all_reversed stays (reverse text) clear
 
--- a text stays where it does without the blanks at its ends
+-- a text stays if it stays without the blanks at its ends
 pub untrimmed_stays : (text : List ℕ) → list_all stays (trimmed text) ≡ true → list_all stays text ≡ true
 untrimmed_stays text clear =
     turned_back text (after_stays (reverse text)
@@ -56,7 +56,7 @@ name_words w name =
 pub name_stays : (w : List ℕ) → is_name w ≡ true → list_all stays w ≡ true
 name_stays w name = all_stay is_word_byte refl refl refl w (name_words w name)
 
--- a byte of a word is no blank
+-- a byte of a word is not a blank
 word_byte : (b : ℕ) → is_word_byte b ≡ true → not (is_blank b) ≡ true
 word_byte b word = go (is_blank b) refl
   where

@@ -1,4 +1,4 @@
--- Numbers of intervals and of tables hold no byte that ends a line.
+-- Numbers of intervals and of tables contain no line feed, carriage return or `#`.
 use Rattle.std.proofs.Common.{◌≡◌, ◌==◌, ◌++◌, ◌∷◌, [], ℕ, List, Bool, true, false, cond, Option, Some, None}
 use Rattle.std.proofs.Common.{option_map, Ok, Err, refl, ap, ◌∙◌}
 use Rattle.std.specs.List.{list_all}
@@ -76,7 +76,7 @@ some_number_stays text some = go (number_of text) refl some
     go None e some = cc
     go (Some x) e some = number_stays text x e
 
--- the place of a bound
+-- the text of a bound stays
 pub bound_stays : (closed : Bool) (text : List ℕ) (found : Option Bound) → bound_in closed text ≡ Some found
     → list_all stays text ≡ true
 bound_stays closed [] found is = refl

@@ -1,4 +1,4 @@
--- Numerals hold no byte that ends a line.
+-- Numerals contain no line feed, carriage return or `#`.
 use Rattle.std.proofs.Common.{◌≡◌, ◌<◌, ◌∷◌, [], ℕ, List, Bool, true, false, cond, drop, take}
 use Rattle.std.proofs.Common.{refl}
 use Rattle.std.specs.List.{list_all, list_any}
@@ -12,7 +12,7 @@ use Rattle.deck_save.proofs.PlainBytes.{all_stay, stays_by}
 digits_stay : (text : List ℕ) → list_all is_digit text ≡ true → list_all stays text ≡ true
 digits_stay = all_stay is_digit refl refl refl
 
--- a text before the first byte that passes, that byte, and the text behind it
+-- a text stays if the parts before and after the first byte that passes stay
 parted_stays : (test : ℕ → Bool) → ((b : ℕ) → test b ≡ true → stays b ≡ true) → (text : List ℕ)
     → list_all stays (before test text) ≡ true → list_all stays (drop 1 (from test text)) ≡ true
     → list_all stays text ≡ true
@@ -56,6 +56,6 @@ numeral_stays text is =
     parted_stays is_mark_byte (stays_by is_mark_byte refl refl refl) text
     (mantissa_stays (before is_mark_byte text) parts.0) (exponent_stays (from is_mark_byte text) parts.1)
 
--- the longest numeral at the front of a text
+-- the longest numeral at the front of a text stays
 pub longest_stays : (text : List ℕ) → 0 < numeral_len_of text → list_all stays (take (numeral_len_of text) text) ≡ true
 longest_stays text some = numeral_stays (take (numeral_len_of text) text) (longest-numeral text some)

@@ -1,4 +1,4 @@
--- The options of a function hold no byte that ends a line.
+-- The options of a function contain no line feed, carriage return or `#`.
 use Rattle.std.proofs.Common.{◌≡◌, ◌&&◌, ◌++◌, ◌∷◌, [], ℕ, List, Bool, true, false, not, codes, Option, Some, None}
 use Rattle.std.proofs.Common.{refl, sym, ap, subst, ◌∙◌}
 use Rattle.std.specs.List.{filter_map, list_all}
@@ -36,7 +36,7 @@ closing_stays : (closed : Bool) → stays (closing closed) ≡ true
 closing_stays true = refl
 closing_stays false = refl
 
--- what stands in the places of the bounds of an interval
+-- the texts of the two bounds of an interval stay
 record Bounds (i : WrittenInterval) : Type 0 where
   pub low : list_all stays i.low ≡ true
   pub high : list_all stays i.high ≡ true
@@ -75,12 +75,12 @@ interval_stays i rest is clear =
 
 -- units
 
--- the texts of some units
+-- the texts of some units stay
 abbrev pub UnitsStay : List Units → Type 0
 UnitsStay [] = Unit {0}
 UnitsStay (u ∷ us) = ((list_all stays u.in_unit ≡ true) × (list_all stays u.out_unit ≡ true)) × UnitsStay us
 
--- a text that has a tree where it is not empty
+-- a text that is empty or has a tree stays
 unit_stays : (text : List ℕ) (tree : Option Syntax) → IsTreeOf None (some_text text) tree → list_all stays text ≡ true
 unit_stays [] tree is = refl
 unit_stays (b ∷ text) tree is = expressions_stay None (b ∷ text) is.0 is.1
@@ -128,7 +128,7 @@ written_stays (NextOption blanks o os) rest whole units clear =
     (option_stays o (in_order os) (options os rest) inner.1 units
     (written_stays os rest outer.1 (other_units o (in_order os) units) clear))
 
--- the options of a function, and what is behind them
+-- a text that begins with the options of a function stays if its units and the rest stay
 pub options_stay : (text rest : List ℕ) (o : Options) → AreOptions text rest o → UnitsStay (at_most o.units)
     → list_all stays rest ≡ true
     → list_all stays text ≡ true

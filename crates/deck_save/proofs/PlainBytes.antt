@@ -1,4 +1,4 @@
--- Bytes that stay in their line.
+-- Bytes that stay unchanged in their line.
 use Rattle.std.proofs.Common.{◌≡◌, ◌==◌, ◌||◌, ◌++◌, ◌∷◌, [], ℕ, List, Bool, true, false, reverse}
 use Rattle.std.proofs.Common.{refl, sym, ap, ◌∙◌, ⊎_elim}
 use Rattle.std.specs.List.{list_all}
@@ -8,7 +8,7 @@ use Rattle.std.proofs.lemmas.List.{reverse-append}
 use Rattle.std.proofs.lemmas.List.Folds.{list_all-append}
 use Rattle.deck_save.specs.SavedLines.{stays}
 
--- a test that each byte passes which passes another
+-- if each byte that passes one test passes another, so do all bytes of a text
 pub all_pass : (p q : ℕ → Bool) → ((b : ℕ) → p b ≡ true → q b ≡ true) → (text : List ℕ) → list_all p text ≡ true
     → list_all q text ≡ true
 all_pass p q passes [] clear = refl
@@ -16,7 +16,7 @@ all_pass p q passes (b ∷ text) clear =
     let parts : (p b ≡ true) × (list_all p text ≡ true) = and_parts _ _ clear in
     and_from _ _ (passes b parts.0) (all_pass p q passes text parts.1)
 
--- two texts in a row
+-- if all bytes of two texts pass a test, so do all bytes of both together
 pub all_both : (p : ℕ → Bool) (front behind : List ℕ) → list_all p front ≡ true → list_all p behind ≡ true
     → list_all p (front ++ behind) ≡ true
 all_both p front behind first second = list_all-append p front behind ∙ and_from _ _ first second
@@ -32,7 +32,7 @@ all_reversed p (b ∷ text) clear =
     ap (list_all p) (reverse-append (b ∷ []) text) ∙ all_both p (reverse text) (b ∷ []) (all_reversed p text parts.1)
     (and_from _ _ parts.0 refl)
 
--- a byte that stays is none of the three
+-- a byte that stays is not a line feed, a carriage return or `#`
 pub record IsNone (b : ℕ) : Type 0 where
   pub feed : (b == 10) ≡ false
   pub return : (b == 13) ≡ false
@@ -44,7 +44,7 @@ none_of b clear =
     let inner : ((b == 10) ≡ false) × ((b == 13) ≡ false) = or_parts _ _ outer.0 in
     record { feed = inner.0; return = inner.1; mark = outer.1 }
 
--- a test that none of the three passes is one of bytes that stay
+-- if a test fails for these three bytes, each byte that passes it stays
 pub stays_by : (p : ℕ → Bool) → p 10 ≡ false → p 13 ≡ false → p 35 ≡ false → (b : ℕ) → p b ≡ true → stays b ≡ true
 stays_by p feed return mark b passes = true_from_ne_false (stays b) never
   where
@@ -57,7 +57,7 @@ stays_by p feed return mark b passes = true_from_ne_false (stays b) never
         (apart 35 mark)
         (or_cases (b == 10 || b == 13) (b == 35) (not-false _ fails))
 
--- texts of such bytes
+-- if a test fails for these three bytes, a text whose bytes pass it stays
 pub all_stay : (p : ℕ → Bool) → p 10 ≡ false → p 13 ≡ false → p 35 ≡ false → (text : List ℕ) → list_all p text ≡ true
     → list_all stays text ≡ true
 all_stay p feed return mark text all = all_pass p stays (stays_by p feed return mark) text all

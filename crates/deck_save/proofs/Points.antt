@@ -1,4 +1,4 @@
--- The points of a table hold no byte that ends a line.
+-- The points of a table contain no line feed, carriage return or `#`.
 use Rattle.std.proofs.Common.{◌≡◌, ◌&&◌, inl, inr, ◌++◌, ◌∷◌, ℕ, List, true, not, codes, ap, ◌∙◌}
 use Rattle.std.proofs.Common.{refl}
 use Rattle.std.specs.List.{list_all}

@@ -1,4 +1,4 @@
--- Lines that are saved of a deck one behind another.
+-- Saving the lines of a deck one after another.
 use Rattle.std.proofs.Common.{◌≡◌, ◌<◌, ◌+◌, ◌-◌, ◌++◌, ◌∷◌, [], ℕ, List, Bool, true, false, drop}
 use Rattle.std.proofs.Common.{get_or, length, map, refl, sym, ap, ◌∙◌, arith, append_assoc}
 use Rattle.std.proofs.Common.{length-append, Some, slice_get}
@@ -13,7 +13,7 @@ use Rattle.deck.specs.Messages.{definition_in, in_turn, where_true}
 use Rattle.deck_save.specs.LineTexts.{texts_of, texts_where}
 use Rattle.deck_save.specs.SavedLines.{saved_line, saved_lines}
 
--- the lines that are saved from a place on, and of the line there
+-- the saved lines from a place on, and those of the line at the place
 abbrev pub from_place : List Bool → List DeckLine → ℕ → List ℕ
 from_place flags lines i = saved_lines (texts_where (drop i flags) (drop i lines))
 
@@ -49,7 +49,7 @@ module _ (flags : List Bool) (lines : List DeckLine) (i : ℕ) (same : length fl
       (from_place flags lines (i + 1))
   next_len = ap length next ∙ length-append (at_place flags lines i) (from_place flags lines (i + 1))
 
-  -- one more line was put
+  -- the bytes after one more line is saved
   pub line_put : (old now all : List ℕ) → now ≡ old ++ at_place flags lines i → old ++ from_place flags lines i ≡ all
       → now ++ from_place flags lines (i + 1) ≡ all
   line_put old now all put so_far =
@@ -58,13 +58,13 @@ module _ (flags : List Bool) (lines : List DeckLine) (i : ℕ) (same : length fl
       ∙ ap (λ t. old ++ t) (sym next)
       ∙ so_far
 
-  -- one more line was counted
+  -- the number of bytes after one more line is counted
   pub line_counted : (old more all : ℕ) → more ≡ length (at_place flags lines i)
       → old + length (from_place flags lines i) ≡ all
       → (old + more) + length (from_place flags lines (i + 1)) ≡ all
   line_counted old more all is so_far = omega (arith, next_len)
 
-  -- or had no room
+  -- the number of bytes if the next line has no room
   pub line_over : (old more all : ℕ) → more ≡ length (at_place flags lines i)
       → old + length (from_place flags lines i) ≡ all
       → longest_file - old < more → longest_file < all

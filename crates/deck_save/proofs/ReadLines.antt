@@ -1,4 +1,4 @@
--- Saved lines are read back as they were.
+-- Saved lines are read back unchanged.
 use Rattle.std.proofs.Common.{◌≡◌, ◌==◌, ◌+◌, ◌&&◌, ◌++◌, ◌∷◌, [], ℕ, suc, List, Bool, true, false, not, cond, length}
 use Rattle.std.proofs.Common.{map, reverse, take, refl, sym, ap, ◌∙◌, append_assoc, one-add, if◌then◌else◌}
 use Rattle.std.specs.List.{list_all, position_or_len}
@@ -16,7 +16,7 @@ use Rattle.def_lines.proofs.Trimming.{trimmed-begun}
 use Rattle.deck_save.specs.SavedLines.{saved_line, saved_lines, stays}
 use Rattle.deck_save.proofs.PlainBytes.{IsNone, all_reversed, none_of}
 
--- a text that says the same as a line of a file
+-- a text that is read back unchanged as a line of a file
 pub record IsPlain (text : List ℕ) : Type 0 where
   pub some : is_empty text ≡ false
   pub begun : is_begun text ≡ true
@@ -27,11 +27,11 @@ abbrev pub ArePlain : List (List ℕ) → Type 0
 ArePlain [] = Unit {0}
 ArePlain (text ∷ texts) = IsPlain text × ArePlain texts
 
--- the number of the physical line behind a saved line
+-- the number of the physical line after a saved line
 abbrev pub number_behind : ℕ → List ℕ → ℕ
 number_behind n text = if ends_with 92 text then n + 1 + 1 else n + 1
 
--- the saved lines, the first of which has this number
+-- the lines that are read back, the first of which has this number
 abbrev pub read_lines : ℕ → List (List ℕ) → List Line
 read_lines n [] = []
 read_lines n (text ∷ texts) = record { number = n; text = text } ∷ read_lines (number_behind n text) texts
@@ -47,7 +47,7 @@ physical (b ∷ text) rest clear =
     none.feed
     ∙ ap (onto_line b) (physical text rest parts.1)
 
--- it has no carriage return at its end, and no comment
+-- the line has no carriage return at its end, and no comment
 
 no_return : (text : List ℕ) → list_all stays text ≡ true → begins_with 13 text ≡ false
 no_return [] clear = refl
@@ -70,7 +70,7 @@ cleaned_plain text clear bare =
     ∙ ap before_blanks (take-length text)
     ∙ bare
 
--- a text and one `\` more
+-- a text with one more `\`
 
 marked_last : (text : List ℕ) → reverse (text ++ 92 ∷ []) ≡ 92 ∷ reverse text
 marked_last text = reverse-append text (92 ∷ [])
@@ -90,11 +90,11 @@ marked_clear (b ∷ text) clear =
     let parts : (stays b ≡ true) × (list_all stays text ≡ true) = and_parts _ _ clear in
     (λ i. parts.0 i && marked_clear text parts.1 i)
 
--- a space behind a text does not count
+-- trimming removes a space after a text
 spaced : (text : List ℕ) → trimmed (text ++ 32 ∷ []) ≡ trimmed text
 spaced text = ap (λ t. after_blanks (reverse (after_blanks t))) (reverse-append text (32 ∷ []))
 
--- a saved line, and what is read behind it
+-- a saved line, followed by the lines that are read after it
 
 line_ended : (n : ℕ) (text rest : List ℕ) → IsPlain text → ends_with 92 text ≡ false →
     lines_from n (physical_lines ((text ++ 10 ∷ []) ++ rest)) ≡ record { number = n; text = text } ∷ lines_from (n + 1)
@@ -156,7 +156,7 @@ lines_read n (text ∷ texts) plain =
     line_read n text (saved_lines texts) plain.0
     ∙ ap (λ ls. record { number = n; text = text } ∷ ls) (lines_read (number_behind n text) texts plain.1)
 
--- none of them is blank
+-- none of the lines is blank
 all_shown : (n : ℕ) (texts : List (List ℕ)) → ArePlain texts → shown (read_lines n texts) ≡ read_lines n texts
 all_shown n [] plain = refl
 all_shown n (text ∷ texts) plain =

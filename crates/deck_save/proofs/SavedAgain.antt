@@ -1,4 +1,4 @@
--- A deck that was given back has the same text.
+-- A deck that was given back has the same saved text.
 use Rattle.std.proofs.Common.{◌≡◌, ◌∷◌, [], ℕ, List, map, refl, sym, ap, ◌∙◌}
 use Rattle.std.proofs.lemmas.List.{append-nil}
 use Rattle.def_lines.specs.Blanks.{after_blanks, before_blanks, trimmed}

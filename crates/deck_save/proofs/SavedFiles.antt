@@ -1,4 +1,4 @@
--- The saved text, and one that is too long.
+-- The saved text, which may be too long for a file.
 use Rattle.std.proofs.Common.{◌≡◌, ◌<◌, ◌≤◌, ◌∷◌, [], ℕ, suc, List, Bool, cond, length, refl, subst, sym, ap, ◌∙◌, Ok}
 use Rattle.std.proofs.Common.{Err}
 use Rattle.std.proofs.lemmas.Bool.{le-ltb, lt-ltb}

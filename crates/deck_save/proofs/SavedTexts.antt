@@ -1,4 +1,4 @@
--- Texts that define keys where they stand as lines.
+-- Texts that define keys as lines of a file.
 use Rattle.std.proofs.Common.{◌≡◌, ◌∷◌, [], ℕ, List, Bool, true, false, cond, Some, None, Ok, refl}
 use Rattle.std.proofs.Common.{sym, ap, subst, ◌∙◌, true≢false}
 use Rattle.def_lines.specs.Blanks.{before_blanks, trimmed}
@@ -18,13 +18,13 @@ use Rattle.deck_save.proofs.Accepted.{entry_stays}
 use Rattle.deck_save.proofs.BareHeadings.{IsBare, bare_entry}
 use Rattle.deck_save.proofs.ReadLines.{ArePlain, IsPlain}
 
--- a text that is read back, and defines this
+-- a text that is read back and has this definition
 pub record Gives (text : List ℕ) (d : Key × Entry) : Type 0 where
   pub plain : IsPlain text
   pub has : has_entry (kind_of text) ≡ true
   pub reading : reading_of text ≡ Defines d
 
--- texts that define these, one each
+-- texts with these definitions, one each
 abbrev pub AreGiving : List (List ℕ) → List (Key × Entry) → Type 0
 AreGiving [] [] = Unit {0}
 AreGiving (text ∷ texts) (d ∷ ds) = Gives text d × AreGiving texts ds
@@ -35,7 +35,7 @@ are_plain [] ds give = tt
 are_plain (text ∷ texts) [] give = absurd give
 are_plain (text ∷ texts) (d ∷ ds) give = (give.0.plain, are_plain texts ds give.1)
 
--- a line that defines a key is a definition or a list
+-- the kind of a line that defines a key is a definition or a unit list
 kind_has : (text : List ℕ) (d : Key × Entry) (kind : LineKind) → defined_by (reading_by text kind) ≡ Some d
     → has_entry kind ≡ true
 kind_has text d line.Definition e = refl
@@ -64,7 +64,7 @@ line_has x d e = go x.mark e
     go true f = cc
     go false f = kind_has x.text d (kind_of x.text) f
 
--- and the other way round
+-- the meaning of a line of these kinds is its entry
 kind_reads : (text : List ℕ) (kind : LineKind) → has_entry kind ≡ true → reading_by text kind ≡ of_entry (entry_of text)
 kind_reads text line.Definition has = refl
 kind_reads text line.UnitList has = refl
@@ -80,7 +80,7 @@ pub plain_entry : (n : ℕ) (text : List ℕ) (d : Key × Entry) → reading_of 
 unfolding entry_in
 plain_entry n text d e = ap defined_by e
 
--- a line that defines a key, without the blanks at its ends
+-- a line that defines a key defines it also without the blanks at its ends
 pub saved_gives : EntryLaw → (x : DeckLine) (d : Key × Entry) → entry_in x ≡ Some d → Gives (trimmed x.text) d
 saved_gives law x d e = subst (λ t. Gives t d) (sym same) (record {
   plain = record {

@@ -1,4 +1,4 @@
--- What tokens leave to the next one, token by token.
+-- The state after a list of tokens, computed token by token.
 use Rattle.std.proofs.Common.{◌≡◌, ◌<◌, ◌≤◌, ◌+◌, ℕ, zero, suc, Bool, true, false, ◌&&◌, List, [], ◌∷◌, ◌++◌, refl, ap}
 use Rattle.std.proofs.Common.{sym, ◌∙◌, append_assoc, arith}
 use Rattle.expr_tree.specs.Rules.{After, WantsOperand, EndsNumeral, EndsOperand}
@@ -7,34 +7,34 @@ use Rattle.expr_tree.specs.Rules.{depth_after, fits, left_by, may, opened_after,
 use Rattle.expr_tree.specs.Tokens.{Token, Numeral, Word, WordWithPower, Head, Root}
 use Rattle.expr_tree.specs.Tokens.{Plus, Minus, Open, Close}
 
--- two counts made in either order
+-- two counts may be made in either order
 counts-swap : (a b : Bool) (n : ℕ) → counted a false (counted b false n) ≡ counted b false (counted a false n)
 counts-swap true true n = refl
 counts-swap true false n = refl
 counts-swap false true n = refl
 counts-swap false false n = refl
 
--- what tokens with one more leave
+-- the state after a list of tokens with one more appended
 pub left_by-push : (last : After) (ts : List Token) (t : Token)
     → left_by last (ts ++ t ∷ []) ≡ after t (left_by last ts)
 left_by-push last [] t = refl
 left_by-push last (u ∷ ts) t = left_by-push (after u last) ts t
 
--- how many of them open a parenthesis
+-- the number of tokens that open a parenthesis, with one more token appended
 pub count_opens-push : (ts : List Token) (t : Token)
     → count_opens (ts ++ t ∷ []) ≡ counted (opens t) false (count_opens ts)
 count_opens-push [] t = refl
 count_opens-push (u ∷ ts) t = ap (counted (opens u) false) (count_opens-push ts t)
     ∙ counts-swap (opens u) (opens t) (count_opens ts)
 
--- how many close one
+-- the number of tokens that close a parenthesis, with one more token appended
 pub count_closes-push : (ts : List Token) (t : Token)
     → count_closes (ts ++ t ∷ []) ≡ counted (closes t) false (count_closes ts)
 count_closes-push [] t = refl
 count_closes-push (u ∷ ts) t = ap (counted (closes u) false) (count_closes-push ts t)
     ∙ counts-swap (closes u) (closes t) (count_closes ts)
 
--- how many nest deeper
+-- the number of tokens that deepen, with one more token appended
 pub count_deepens-push : (last : After) (ts : List Token) (t : Token)
     → count_deepens last (ts ++ t ∷ []) ≡ counted (deepens t (left_by last ts)) false (count_deepens last ts)
 count_deepens-push last [] t = refl
@@ -42,7 +42,7 @@ count_deepens-push last (u ∷ ts) t =
     ap (counted (deepens u last) false) (count_deepens-push (after u last) ts t)
     ∙ counts-swap (deepens u last) (deepens t (left_by (after u last) ts)) (count_deepens (after u last) ts)
 
--- a count of ups and one of downs keep their difference
+-- a step up or down preserves that the total is the current count plus the closed ones
 count-step : (up down : Bool) (total now closed : ℕ) → (up && down) ≡ false → (down ≡ true → 0 < now)
     → total ≡ now + closed
     → counted up false total ≡ counted up down now + counted down false closed
@@ -51,13 +51,13 @@ count-step true false total now closed apart some is = omega arith
 count-step false true total now closed apart some is = let h : 0 < now = some refl in omega arith
 count-step false false total now closed apart some is = is
 
--- no token opens and closes
+-- no token both opens and closes a parenthesis
 opens-or-closes : (t : Token) → (opens t && closes t) ≡ false
 opens-or-closes (Head w) = refl
 opens-or-closes Open = refl
 opens-or-closes t = refl
 
--- none nests deeper and closes
+-- no token both deepens and closes
 deepens-or-closes : (t : Token) (last : After) → (deepens t last && closes t) ≡ false
 deepens-or-closes (Numeral n) last = refl
 deepens-or-closes (Word w) last = refl
@@ -72,13 +72,13 @@ deepens-or-closes Minus EndsOperand = refl
 deepens-or-closes Minus last = refl
 deepens-or-closes t last = refl
 
--- what opens a parenthesis nests deeper
+-- a token that opens a parenthesis deepens
 opens-deepens : (t : Token) (last : After) → opens t ≡ true → deepens t last ≡ true
 opens-deepens (Head w) last h = refl
 opens-deepens Open last h = refl
 opens-deepens t last h = cc
 
--- a `)` stands only where a parenthesis is open
+-- a `)` is allowed only if a parenthesis is open
 some-open : (last : After) (opened : ℕ) (t : Token) → may last opened t ≡ true → closes t ≡ true → 0 < opened
 some-open EndsNumeral zero Close h k = cc
 some-open EndsNumeral (suc n) Close h k = omega arith
@@ -87,7 +87,7 @@ some-open EndsOperand (suc n) Close h k = omega arith
 some-open last opened Close h k = cc
 some-open last opened t h k = cc
 
--- so the depth is no less than the open parentheses
+-- if each step that opens also deepens, the depth is at least the number of open parentheses
 counted-le : (up deeper down : Bool) (m n : ℕ) → (up ≡ true → deeper ≡ true) → m ≤ n
     → counted up down m ≤ counted deeper down n
 counted-le true true down m n h le = omega arith
@@ -97,7 +97,7 @@ counted-le false true false m n h le = omega arith
 counted-le false false true m n h le = omega arith
 counted-le false false false m n h le = le
 
--- the tokens before leave this, with so many parentheses open, and the next token is this deep
+-- after the tokens `before`, the state is `last`, `opened` parentheses are open, and the next token has this depth
 pub record Leaves (before : List Token) (last : After) (opened depth : ℕ) : Type 0 where
   pub last_is : left_by WantsOperand before ≡ last
   pub opened_is : count_opens before ≡ opened + count_closes before
@@ -105,16 +105,16 @@ pub record Leaves (before : List Token) (last : After) (opened depth : ℕ) : Ty
   pub less : opened ≤ depth
   pub fit : (rest : List Token) → fits WantsOperand 0 (before ++ rest) ≡ fits last opened rest
 
--- before the first token an operand is wanted, and nothing is open
+-- before the first token an operand is wanted, and no parenthesis is open
 pub nothing-leaves : Leaves [] WantsOperand 0 0
 nothing-leaves = record { last_is = refl; opened_is = refl; depth_is = refl; less = omega arith; fit = λ rest. refl }
 
--- a token that may stand fits where the others do behind it
+-- an allowed token fits in front of others if they fit in the state after it
 fits-cons : (last : After) (opened : ℕ) (t : Token) (rest : List Token) → may last opened t ≡ true
     → fits last opened (t ∷ rest) ≡ fits (after t last) (opened_after t opened) rest
 fits-cons last opened t rest h = ap (λ b. b && fits (after t last) (opened_after t opened) rest) h
 
--- one more token
+-- the state after an allowed token is appended
 pub leaves-push : (before : List Token) (last : After) (opened depth : ℕ) (t : Token) → Leaves before last opened depth
     → may last opened t ≡ true
     → Leaves (before ++ t ∷ []) (after t last) (opened_after t opened) (depth_after t last depth)

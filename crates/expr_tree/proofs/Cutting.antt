@@ -23,7 +23,7 @@ use Rattle.expr_tree.specs.Seen.{seen, seen_lexeme, seen_piece}
 use Rattle.expr_tree.specs.Tokens.{Token}
 use Rattle.expr_tree.proofs.Before.{Leaves, leaves-push, nothing-leaves}
 
--- what a lexeme covers is passed over
+-- the bytes that a lexeme covers are skipped
 pub past-covered : (covered : ℕ) (after_numeral : Bool) (place : ℕ) (text : List ℕ)
     → lexemes_from covered after_numeral place text
     ≡ lexemes_from zero after_numeral (place + covered) (drop covered text)
@@ -34,7 +34,7 @@ past-covered (suc n) after_numeral place (b ∷ bs) =
     let e : suc place + n ≡ place + suc n = omega arith in
     past-covered n after_numeral (suc place) bs ∙ ap (λ p. lexemes_from zero after_numeral p (drop n bs)) e
 
--- the lexemes behind one of this length
+-- the lexemes after a lexeme of this length
 rest-of : (len : ℕ) (after_numeral : Bool) (place b : ℕ) (bs : List ℕ) → 0 < len
     → lexemes_from (len - 1) after_numeral (suc place) bs
     ≡ lexemes_from zero after_numeral (place + len) (drop len (b ∷ bs))
@@ -50,7 +50,7 @@ rest-of (suc n) after_numeral place b bs h =
 abbrev at : ℕ → Piece → Placed
 at place p = record { place = place; lexeme = p.lexeme }
 
--- the lexeme at the front, and those of the rest
+-- the lexemes of a text are the one at the front and those of the rest
 front-first : (after_numeral : Bool) (place : ℕ) (text : List ℕ) → 0 < length text → 0 < (front after_numeral text).len
     → lexemes_from zero after_numeral place text
     ≡ at place (front after_numeral text)
@@ -62,11 +62,11 @@ front-first after_numeral place (b ∷ bs) some moves =
     ap (λ rest. at place (front after_numeral (b ∷ bs)) ∷ rest)
     (rest-of (front after_numeral (b ∷ bs)).len (is_numeral (front after_numeral (b ∷ bs)).lexeme) place b bs moves)
 
--- a place in a text, and what it is to be read on from there
+-- the lexemes of a text from a place on
 abbrev pub ahead : List ℕ → Bool → ℕ → List Placed
 ahead text after_numeral place = lexemes_from zero after_numeral place (drop place text)
 
--- the piece at the front is the first lexeme ahead
+-- the piece at the front is the first of these lexemes
 pub ahead-first : (text : List ℕ) (after_numeral : Bool) (place : ℕ) (p : Piece) → place < length text
     → p ≡ front after_numeral (drop place text) → 0 < p.len
     → ahead text after_numeral place ≡ at place p ∷ ahead text (is_numeral p.lexeme) (place + p.len)
@@ -81,13 +81,13 @@ ahead-first text after_numeral place p inside is moves =
     (drop-drop (front after_numeral (drop place text)).len place text))
     moves
 
--- at the end none is
+-- at the end of the text there are no lexemes
 pub ahead-end : (text : List ℕ) (after_numeral : Bool) (place : ℕ) → length text ≤ place
     → ahead text after_numeral place ≡ []
 unfolding lexemes_from
 ahead-end text after_numeral place h = ap (lexemes_from zero after_numeral place) (drop_of_length-le text h)
 
--- the lexemes before a place in a text are read: they are these tokens, and have no fault
+-- the lexemes before a place in the text have been read: their tokens are `before`, and they have no fault
 pub record IsRead (text : List ℕ) (before : List Token) (last : After) (opened depth : ℕ) (after_numeral : Bool)
     (place : ℕ) : Type 0 where
   pub leaves : Leaves before last opened depth
@@ -96,16 +96,16 @@ pub record IsRead (text : List ℕ) (before : List Token) (last : After) (opened
   pub tokens_are : tokens text ≡ before ++ tokens_in (ahead text after_numeral place)
   pub fault_is : first_fault text ≡ fault_from before (length text) (ahead text after_numeral place)
 
--- at the start nothing is read
+-- at the start nothing has been read
 pub nothing-read : (text : List ℕ) → IsRead text [] WantsOperand 0 0 false 0
 nothing-read text =
     record { leaves = nothing-leaves; within = omega arith; shallow = omega arith; tokens_are = refl; fault_is = refl }
 
--- the fault of a lexeme, by the tokens before it
+-- the fault of a lexeme, given the tokens before it
 pub fault_here : List Token → ℕ → Lexeme → Option ParseFault
 fault_here before place x = fault_at (left_by WantsOperand before) (opened before) (depth_behind before) place x
 
--- and by what they leave
+-- the fault of a lexeme, given the state after the tokens before it
 pub fault-left : (before : List Token) (last : After) (opened depth place : ℕ) (x : Lexeme)
     → Leaves before last opened depth
     → fault_here before place x ≡ fault_at last opened depth place x
@@ -115,14 +115,14 @@ fault-left before last opened depth place x l =
     let f : count_deepens WantsOperand before - count_closes before ≡ depth = omega (arith, l.depth_is) in
     rw (l.last_is, e, f)
 
--- the fault of lexemes is that of the first, or else of the others behind it
+-- the fault of lexemes is that of the first one, or else that of the others
 pub fault_from-cons : (before : List Token) (len place : ℕ) (x : Lexeme) (xs : List Placed)
     → fault_from before len (record { place = place; lexeme = x } ∷ xs)
     ≡ or_later (fault_here before place x) (fault_from (before ++ token_in x) len xs)
 unfolding fault_from fault_here
 fault_from-cons before len place x xs = refl
 
--- a fault that is met is the first one
+-- if the piece at the front has a fault, this is the first fault of the text
 pub fault-met : (text : List ℕ) (before : List Token) (last : After) (opened depth : ℕ) (after_numeral : Bool)
     (place : ℕ) (p : Piece) (fault : ParseFault)
     → IsRead text before last opened depth after_numeral place → place < length text
@@ -136,7 +136,7 @@ fault-met text before last opened depth after_numeral place p fault r inside is 
     (fault_from (before ++ token_in p.lexeme) (length text) (ahead text (is_numeral p.lexeme) (place + p.len))))
     (fault-left before last opened depth place p.lexeme r.leaves ∙ has)
 
--- where the piece at the front has no fault, the fault of all is that of what is behind it
+-- if the piece at the front has no fault, the first fault of the text is that of the lexemes after it
 no-fault : (text : List ℕ) (before : List Token) (last : After) (opened depth : ℕ) (after_numeral : Bool) (place : ℕ)
     (p : Piece)
     → IsRead text before last opened depth after_numeral place → place < length text
@@ -152,7 +152,7 @@ no-fault text before last opened depth after_numeral place p r inside is moves h
     (fault_from (before ++ token_in p.lexeme) (length text) (ahead text (is_numeral p.lexeme) (place + p.len))))
     (fault-left before last opened depth place p.lexeme r.leaves ∙ has)
 
--- and its token goes behind those that were read
+-- the token of the piece at the front is appended to those that have been read
 more-tokens : (text : List ℕ) (before : List Token) (last : After) (opened depth : ℕ) (after_numeral : Bool) (place : ℕ)
     (p : Piece)
     → IsRead text before last opened depth after_numeral place → place < length text
@@ -164,7 +164,7 @@ more-tokens text before last opened depth after_numeral place p r inside is move
     ∙ ap (λ xs. before ++ tokens_in xs) (ahead-first text after_numeral place p inside is moves)
     ∙ sym (append_assoc before (token_in p.lexeme) (tokens_in (ahead text (is_numeral p.lexeme) (place + p.len))))
 
--- a token without a fault may stand, at most 64 deep
+-- a token without a fault is allowed, and its depth is at most 64
 pub may-stand : (last : After) (opened depth place : ℕ) (t : Token) → fault_at last opened depth place (Whole t) ≡ None
     → (may last opened t ≡ true) × (depth ≤ 64)
 may-stand last opened depth place t h = go (may last opened t) (nat_lt deepest depth) refl refl h
@@ -176,7 +176,7 @@ may-stand last opened depth place t h = go (may last opened t) (nat_lt deepest d
     go true false e f h = (e, ltb-false deepest depth f)
     go false b e f h = cc
 
--- so the next one is at most 65 deep
+-- the depth of the next token is then at most 65
 depth-step : (t : Token) (last : After) (depth : ℕ) → depth ≤ 64 → depth_after t last depth ≤ 65
 depth-step t last depth h = go (deepens t last) (closes t)
   where
@@ -185,7 +185,7 @@ depth-step t last depth h = go (deepens t last) (closes t)
     go false true = omega arith
     go false false = omega arith
 
--- one more token is read
+-- reading one more token
 pub token-read : (text : List ℕ) (before : List Token) (last : After) (opened depth : ℕ) (after_numeral : Bool)
     (place : ℕ) (p : Piece) (t : Token)
     → IsRead text before last opened depth after_numeral place → place < length text
@@ -209,7 +209,7 @@ token-read text before last opened depth after_numeral place p t r inside is who
           ∙ ap (λ ts. fault_from (before ++ ts) (length text) (ahead text (is_numeral p.lexeme) (place + p.len))) one;
     }
 
--- a lexeme without a fault that is no token is a blank
+-- a lexeme that is not a token and has no fault is a blank
 none-in : (last : After) (opened depth place : ℕ) (x : Lexeme) → fault_at last opened depth place x ≡ None
     → ((t : Token) → x ≡ Whole t → ⊥) → token_in x ≡ []
 none-in last opened depth place Blank has other = refl
@@ -217,7 +217,7 @@ none-in last opened depth place (Whole t) has other = absurd (other t refl)
 none-in last opened depth place TooLong has other = refl
 none-in last opened depth place Malformed has other = refl
 
--- one more blank is read
+-- reading one more blank
 pub blank-read : (text : List ℕ) (before : List Token) (last : After) (opened depth : ℕ) (after_numeral : Bool)
     (place : ℕ) (p : Piece)
     → IsRead text before last opened depth after_numeral place → place < length text
@@ -240,7 +240,7 @@ blank-read text before last opened depth after_numeral place p r inside is other
           ∙ ap (λ ts. fault_from ts (length text) (ahead text (is_numeral p.lexeme) (place + p.len))) none;
     }
 
--- at the end the fault is that of the end
+-- at the end, the fault is `Syntax` at the end if the tokens may not end
 end-fault : (text : List ℕ) (before : List Token) (last : After) (opened depth : ℕ) (after_numeral : Bool) (place : ℕ)
     → IsRead text before last opened depth after_numeral place → length text ≤ place
     → first_fault text ≡ (if may_end last opened then None else Some (Syntax (length text)))
@@ -251,7 +251,7 @@ end-fault text before last opened depth after_numeral place r over =
     ∙ ap (fault_from before (length text)) (ahead-end text after_numeral place over)
     ∙ rw (r.leaves.last_is, e)
 
--- the text ends and may not
+-- if the text ends where the tokens may not end, its first fault is at the end
 pub fault-at-end : (text : List ℕ) (before : List Token) (last : After) (opened depth : ℕ) (after_numeral : Bool)
     (place : ℕ)
     → IsRead text before last opened depth after_numeral place → length text ≤ place → may_end last opened ≡ false
@@ -260,13 +260,13 @@ fault-at-end text before last opened depth after_numeral place r over ends =
     end-fault text before last opened depth after_numeral place r over
     ∙ ap (λ b. if b then None else Some (Syntax (length text))) ends
 
--- the text ends and may
+-- the text has these tokens, which fit, and no fault
 pub record IsWhole (text : List ℕ) (before : List Token) : Type 0 where
   pub tokens_are : before ≡ tokens text
   pub faultless : first_fault text ≡ None
   pub fit : fits WantsOperand 0 before ≡ true
 
--- and all tokens are read
+-- if the text ends where the tokens may end, all tokens have been read
 pub whole-read : (text : List ℕ) (before : List Token) (last : After) (opened depth : ℕ) (after_numeral : Bool)
     (place : ℕ)
     → IsRead text before last opened depth after_numeral place → length text ≤ place → may_end last opened ≡ true
@@ -280,44 +280,44 @@ whole-read text before last opened depth after_numeral place r over ends = recor
   fit = ap (fits WantsOperand 0) (sym (append-nil before)) ∙ r.leaves.fit [] ∙ ends;
 }
 
--- the rest of a text from a place on
+-- taking as many bytes as follow a place gives the rest of the text
 pub rest-is : (text : List ℕ) (place : ℕ) → take (length text - place) (drop place text) ≡ drop place text
 rest-is text place = ap (λ n. take n (drop place text)) (sym (length-drop place text)) ∙ take-length (drop place text)
 
--- and what is at its front
+-- the piece at the front of these bytes is that at the front of the rest
 pub rest-front : (text : List ℕ) (place : ℕ) (after_numeral : Bool) (p : Piece)
     → p ≡ front after_numeral (take (length text - place) (drop place text))
     → p ≡ front after_numeral (drop place text)
 rest-front text place after_numeral p is = is ∙ ap (front after_numeral) (rest-is text place)
 
--- a length within what is left of the text is within its rest
+-- a length that is within these bytes is within the rest
 pub rest-within : (text : List ℕ) (place n : ℕ) → n ≤ length (take (length text - place) (drop place text))
     → n ≤ length (drop place text)
 rest-within text place n h = subst (λ (bs : List ℕ). n ≤ length bs) (rest-is text place) h
 
--- what a push leaves where it makes no error
+-- the value after a push that does not fail
 pub kept : {X E A : Type 0} (r : Result X E) (now pushed before : A) → now ≡ (if is_ok r then pushed else before)
     → is_err r ≡ false → now ≡ pushed
 kept (Ok x) now pushed before is e = is
 kept (Err x) now pushed before is e = cc
 
--- the tokens with one more, which the program has as a copy
+-- the tokens after a push, of which the program appends a copy
 pub pushed-token : (xs now : List Made) (t u : Made) → now ≡ xs ++ t ∷ [] → t ≡ u
     → map seen now ≡ map seen xs ++ seen u ∷ []
 pushed-token xs now t u is same =
     ap (map seen) is ∙ map-append seen xs (t ∷ []) ∙ ap (λ x. map seen xs ++ seen x ∷ []) same
 
--- what stands behind a token
+-- the state after a token
 abbrev pub stood : After → ℕ → ℕ → Token → Standing
 stood last opened depth t =
     record { last = after t last; opened = opened_after t opened; depth = depth_after t last depth }
 
--- it is the same by equal tokens
+-- equal tokens lead to the same state
 pub stood-same : (s : Standing) (last : After) (opened depth : ℕ) (t u : Made) → s ≡ stood last opened depth (seen t)
     → t ≡ u → s ≡ stood last opened depth (seen u)
 stood-same s last opened depth t u is same = is ∙ ap (λ x. stood last opened depth (seen x)) same
 
--- what a token and a blank read, as the program has it
+-- reading one more token, in terms of the program's values
 pub token-read-as : (text : List ℕ) (before : List Token) (last : After) (opened depth : ℕ) (after_numeral : Bool)
     (place : ℕ) (p : Piece) (t : Token)
     → (now : List Token) (s : Standing) (numeral : Bool)
@@ -332,14 +332,14 @@ token-read-as text before last opened depth after_numeral place p t now s numera
     rw (e, f, g) (token-read text before last opened depth after_numeral place p t r inside is whole moves
     (omega (arith, length-drop place text)) has)
 
--- a lexeme that is no token is not seen as one
+-- a lexeme that is not a token is not one in the view either
 not-whole : (x : MadeLexeme) → ((t : Made) → x ≡ made.Whole t → ⊥) → (t : Token) → seen_lexeme x ≡ Whole t → ⊥
 not-whole made.Blank h t e = cc
 not-whole (made.Whole u) h t e = h u refl
 not-whole made.TooLong h t e = cc
 not-whole made.Malformed h t e = cc
 
--- a blank that is read leaves what was read
+-- reading one more blank, in terms of the program's values
 pub blank-read-as : (text : List ℕ) (before : List Token) (last : After) (opened depth : ℕ) (after_numeral : Bool)
     (place : ℕ) (p : MadePiece) (numeral : Bool)
     → IsRead text before last opened depth after_numeral place → place < length text

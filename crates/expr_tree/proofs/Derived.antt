@@ -1,4 +1,4 @@
--- Where each token may stand and they may end, there is a derivation.
+-- If each token is allowed at its place and the tokens may end, they have a derivation.
 use Rattle.std.proofs.Common.{◌≡◌, ℕ, zero, suc, ◌+◌, ◌*◌, ◌≤◌, true, List, [], ◌∷◌, length, Option, refl}
 use Rattle.std.proofs.Common.{arith}
 use Rattle.expr_tree.specs.Grammar.{NoTerm, NoFactor}
@@ -141,7 +141,7 @@ mutual
   atom_at (suc n) k (Open ∷ ts) l h b = group_from k ts (sum_at n (suc k) ts (omega arith) h)
   atom_at (suc n) k (t ∷ ts) l h b = cc
 
--- where tokens fit, they give a tree
+-- tokens that fit give a tree
 pub given : (binder : Option (List ℕ)) (ts : List Token) → fits WantsOperand 0 ts ≡ true
     → (e : Syntax) × Gives binder ts e
 given binder ts h = go (sum_at (6 * length ts + 5) 0 ts (omega arith) h)

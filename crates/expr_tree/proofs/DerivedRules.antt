@@ -1,4 +1,4 @@
--- Derivations of each rule, from those of its parts.
+-- The derivation of each rule, made from those of its parts.
 use Rattle.std.proofs.Common.{◌≡◌, ℕ, suc, ◌<◌, ◌≤◌, Bool, true, List, [], ◌∷◌, length, refl}
 use Rattle.std.proofs.Common.{◌∙◌, ap, arith}
 use Rattle.frac128.specs.Decimals.{Decimal}
@@ -18,7 +18,7 @@ use Rattle.expr_tree.specs.Front.{stops, after_sum, after_product, after_juxtapo
 use Rattle.expr_tree.proofs.Fits.{closing, ended_stops}
 use Rattle.expr_tree.specs.declared.operator.RootKind.{RootKind}
 
--- A derivation stands at the front of the tokens.
+-- a derivation at the front of the tokens, followed by tokens that may follow it and fit
 pub record At {X : Type 0} (spell : X → List Token → List Token) (follow : Token → Bool) (k : ℕ)
     (ts : List Token) : Type 0 where
   pub made : X
@@ -28,7 +28,7 @@ pub record At {X : Type 0} (spell : X → List Token → List Token) (follow : T
   pub fit : fits EndsOperand k rest ≡ true
   pub less : length rest ≤ length ts
 
--- the same, and at least one token less
+-- such a derivation that has at least one token
 pub record Front {X : Type 0} (spell : X → List Token → List Token) (follow : Token → Bool) (k : ℕ)
     (ts : List Token) : Type 0 where
   pub made : X
@@ -38,9 +38,9 @@ pub record Front {X : Type 0} (spell : X → List Token → List Token) (follow 
   pub fit : fits EndsOperand k rest ≡ true
   pub less : length rest < length ts
 
--- ---- one rule of the grammar each, from the derivations of its parts
+-- ---- each rule of the grammar, made from the derivations of its parts
 
--- a sum, from a product and the terms behind it
+-- a sum, made from a product and the terms after it
 pub sum_from : (k : ℕ) (ts : List Token) → Front product after_product k ts
     → ((r : List Token) → length r < length ts → stops after_product r ≡ true → fits EndsOperand k r ≡ true
     → At sum_rest after_sum k r) → Front sum after_sum k ts
@@ -56,7 +56,7 @@ sum_from k ts p f = go p (f p.rest p.less p.stop p.fit)
       less = omega arith;
     }
 
--- one more term, from its sign, a product and the terms behind it
+-- one more term, made from its sign, a product and the terms after it
 pub next_term_from : (s : Sign) (k : ℕ) (ts : List Token) → Front product after_product k ts
     → ((r : List Token) → length r < length ts → stops after_product r ≡ true → fits EndsOperand k r ≡ true
     → At sum_rest after_sum k r) → At sum_rest after_sum k (sign s ∷ ts)
@@ -73,7 +73,7 @@ next_term_from s k ts p f = go p (f p.rest p.less p.stop p.fit)
       less = omega arith;
     }
 
--- a product, from a juxtaposition and the factors behind it
+-- a product, made from a juxtaposition and the factors after it
 pub product_from : (k : ℕ) (ts : List Token) → Front juxtaposition after_juxtaposition k ts
     → ((r : List Token) → length r < length ts → stops after_juxtaposition r ≡ true → fits EndsOperand k r ≡ true
     → At product_rest after_product k r) → Front product after_product k ts
@@ -91,7 +91,7 @@ product_from k ts p f = go p (f p.rest p.less p.stop p.fit)
       less = omega arith;
     }
 
--- one more factor
+-- one more factor, made from its operator, a juxtaposition and the factors after it
 pub next_factor_from : (s : Scale) (k : ℕ) (ts : List Token) → Front juxtaposition after_juxtaposition k ts
     → ((r : List Token) → length r < length ts → stops after_juxtaposition r ≡ true → fits EndsOperand k r ≡ true
     → At product_rest after_product k r) → At product_rest after_product k (scale s ∷ ts)
@@ -109,7 +109,7 @@ next_factor_from s k ts p f = go p (f p.rest p.less p.stop p.fit)
       less = omega arith;
     }
 
--- a juxtaposition with a sign
+-- a juxtaposition with a sign in front
 pub signed_from : (s : Sign) (k : ℕ) (ts : List Token) → Front juxtaposition after_juxtaposition k ts
     → Front juxtaposition after_juxtaposition k (sign s ∷ ts)
 signed_from s k ts p =
@@ -123,7 +123,7 @@ signed_from s k ts p =
           omega arith;
     }
 
--- a juxtaposition, from a power and those behind it
+-- a juxtaposition, made from a power and the powers after it
 pub juxtaposition_from : (k : ℕ) (ts : List Token) → Front power after_power k ts
     → ((r : List Token) → length r < length ts → stops after_power r ≡ true → fits EndsOperand k r ≡ true
     → At juxtaposition_rest after_juxtaposition k r) → Front juxtaposition after_juxtaposition k ts
@@ -141,7 +141,7 @@ juxtaposition_from k ts p f = go p (f p.rest p.less p.stop p.fit)
       less = omega arith;
     }
 
--- one more power
+-- one more power, made from the power and the powers after it
 pub next_power_from : (k : ℕ) (ts : List Token) → Front power after_power k ts
     → ((r : List Token) → length r < length ts → stops after_power r ≡ true → fits EndsOperand k r ≡ true
     → At juxtaposition_rest after_juxtaposition k r) → At juxtaposition_rest after_juxtaposition k ts
@@ -158,7 +158,7 @@ next_power_from k ts p f = go p (f p.rest p.less p.stop p.fit)
       less = omega arith;
     }
 
--- an atom, with its exponent where `^` follows
+-- an atom, with its exponent if a `^` follows
 pub power_from : (k : ℕ) (ts : List Token) → Front atom after_atom k ts
     → ((r : List Token) → suc (length r) < length ts → fits WantsOperand k r ≡ true → Front exponent after_power k r)
     → Front power after_power k ts
@@ -183,7 +183,7 @@ power_from k ts p f = go p.rest p.is p.fit p.less
     go (Bar ∷ r) is fit less = cc
     go (t ∷ r) is fit less = record { made = Bare p.made; rest = t ∷ r; is = is; stop = refl; fit = fit; less = less }
 
--- an exponent with a sign
+-- an exponent with a sign in front
 pub signed_exponent_from : (s : Sign) (k : ℕ) (ts : List Token) → Front exponent after_power k ts
     → Front exponent after_power k (sign s ∷ ts)
 signed_exponent_from s k ts p =
@@ -201,7 +201,7 @@ pub exponent_from : (k : ℕ) (ts : List Token) → Front power after_power k ts
 exponent_from k ts p =
     record { made = ExponentOf p.made; rest = p.rest; is = p.is; stop = p.stop; fit = p.fit; less = p.less }
 
--- a call, from a sum and its closing parenthesis
+-- a call, made from a sum and its `)`
 pub call_from : (w : List ℕ) (k : ℕ) (ts : List Token) → Front sum after_sum (suc k) ts
     → Front atom after_atom k (Head w ∷ ts)
 call_from w k ts p = go (closing k p.rest p.stop p.fit)
@@ -220,7 +220,7 @@ call_from w k ts p = go (closing k p.rest p.stop p.fit)
           less = omega arith;
         }
 
--- an inverse
+-- an inverse, made from a sum and its `)`
 pub inverse_from : (w : List ℕ) (k : ℕ) (ts : List Token) → Front sum after_sum (suc k) ts
     → Front atom after_atom k (Tilde ∷ Head w ∷ ts)
 inverse_from w k ts p = go (closing k p.rest p.stop p.fit)
@@ -240,7 +240,7 @@ inverse_from w k ts p = go (closing k p.rest p.stop p.fit)
               omega arith;
         }
 
--- a root
+-- a root, made from a sum and its `)`
 pub root_from : (n : RootKind) (k : ℕ) (ts : List Token) → Front sum after_sum (suc k) ts
     → Front atom after_atom k (Root n ∷ Open ∷ ts)
 root_from n k ts p = go (closing k p.rest p.stop p.fit)
@@ -258,7 +258,7 @@ root_from n k ts p = go (closing k p.rest p.stop p.fit)
           less = omega arith;
         }
 
--- a numeral, with the one after `|` where that follows
+-- a numeral, with its denominator if a `|` follows
 pub numeral_from : (m : Decimal) (k : ℕ) (ts : List Token) → fits EndsNumeral k ts ≡ true
     → Front atom after_atom k (Numeral m ∷ ts)
 numeral_from m k [] h = record { made = NumeralAtom m; rest = []; is = refl; stop = refl; fit = h; less = omega arith }
@@ -269,7 +269,7 @@ numeral_from m k (Bar ∷ t ∷ ts) h = cc
 numeral_from m k (t ∷ ts) h =
     record { made = NumeralAtom m; rest = t ∷ ts; is = refl; stop = refl; fit = h; less = omega arith }
 
--- a group
+-- a group, made from a sum and its `)`
 pub group_from : (k : ℕ) (ts : List Token) → Front sum after_sum (suc k) ts → Front atom after_atom k (Open ∷ ts)
 group_from k ts p = go (closing k p.rest p.stop p.fit)
   where
@@ -286,4 +286,4 @@ group_from k ts p = go (closing k p.rest p.stop p.fit)
           less = omega arith;
         }
 
--- ---- all of them
+-- ---- all rules

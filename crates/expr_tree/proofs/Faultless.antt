@@ -15,22 +15,22 @@ use Rattle.expr_tree.proofs.Before.{Leaves, leaves-push, nothing-leaves}
 use Rattle.expr_tree.proofs.Cutting.{fault_here, fault-left, fault_from-cons, may-stand}
 use Rattle.expr_tree.proofs.Fits.{both_hold}
 
--- where neither of two is a fault, both are none
+-- if `or_later` of two faults is `None`, both are `None`
 neither : (a b : Option ParseFault) → or_later a b ≡ None → (a ≡ None) × (b ≡ None)
 neither (Some x) b h = cc
 neither None b h = (refl, h)
 
--- where the end has no fault, the tokens may end
+-- if the end has no fault, the tokens may end
 ends : (b : Bool) (len : ℕ) → (if b then None else Some (Syntax len)) ≡ None → b ≡ true
 ends true len h = refl
 ends false len h = cc
 
--- a numeral that is too long has a fault
+-- a numeral that is too long always has a fault
 too_long : (b : Bool) (place : ℕ) → (if b then Some NumeralTooLong else Some (Syntax place)) ≡ None → ⊥
 too_long true place h = cc
 too_long false place h = cc
 
--- so at the end they fit
+-- at an end without a fault the tokens fit
 end_fits : (before : List Token) (last : After) (k depth len : ℕ) → Leaves before last k depth
     → fault_from before len [] ≡ None → fits last k [] ≡ true
 unfolding fault_from
@@ -39,7 +39,7 @@ end_fits before last k depth len l h =
     (λ i. may_end (sym l.last_is i) (sym opened_is i))
     ∙ ends (may_end (left_by WantsOperand before) (opened before)) len h
 
--- one lexeme, and what follows it
+-- if a lexeme and those after it have no fault, their tokens fit
 fits_next : (before : List Token) (last : After) (k depth place len : ℕ) (y : Lexeme) (xs : List Placed)
     → Leaves before last k depth
     → fault_at last k depth place y ≡ None → fault_from (before ++ token_in y) len xs ≡ None
@@ -56,7 +56,7 @@ fits_next before last k depth place len (Whole t) xs l f r next =
 fits_next before last k depth place len TooLong xs l f r next = absurd (too_long (takes_numeral last) place f)
 fits_next before last k depth place len Malformed xs l f r next = cc
 
--- lexemes without a fault have tokens that fit
+-- the tokens of lexemes without a fault fit
 fits_rest : (before : List Token) (last : After) (k depth len : ℕ) (xs : List Placed) → Leaves before last k depth
     → fault_from before len xs ≡ None → fits last k (tokens_in xs) ≡ true
 unfolding tokens_in
@@ -68,6 +68,6 @@ fits_rest before last k depth len (x ∷ xs) l h =
     (sym (fault-left before last k depth x.place x.lexeme l) ∙ split.0) split.1
     (λ before' last' k' depth' l' h'. fits_rest before' last' k' depth' len xs l' h')
 
--- so has a text without one
+-- the tokens of a text without a fault fit
 pub faultless_fits : (text : List ℕ) → first_fault text ≡ None → fits WantsOperand 0 (tokens text) ≡ true
 faultless_fits text h = fits_rest [] WantsOperand 0 0 (length text) (lexemes text) nothing-leaves h

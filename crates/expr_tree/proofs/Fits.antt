@@ -1,20 +1,20 @@
--- What the tokens after a derivation are like where all tokens fit.
+-- The tokens after a derivation, if all tokens fit.
 use Rattle.std.proofs.Common.{◌≡◌, ℕ, suc, ◌-◌, Bool, true, false, ◌&&◌, List, [], ◌∷◌, refl, subst, arith, eqb-true}
 use Rattle.expr_tree.specs.Rules.{WantsOperand, EndsOperand, EndsNumeral, fits}
 use Rattle.expr_tree.specs.Tokens.{Token, Numeral, Word, WordWithPower, Head, Root, Bar, Tilde, Open, Close}
 use Rattle.expr_tree.specs.Front.{stops, begins, after_sum, after_atom}
 
--- where two tests hold together, each does
+-- if the conjunction of two tests holds, both tests hold
 pub both : (a b : Bool) → (a && b) ≡ true → (a ≡ true) × (b ≡ true)
 both true b e = (refl, e)
 both false b e = cc
 
--- and the other way round
+-- if two tests hold, so does their conjunction
 pub both_hold : (a b : Bool) → a ≡ true → b ≡ true → (a && b) ≡ true
 both_hold true b e f = f
 both_hold false b e f = cc
 
--- what begins an operand may stand before one
+-- tokens that begin an operand and fit after an operand also fit where an operand is wanted
 pub begins_wanted : (k : ℕ) (ts : List Token) → begins ts ≡ true → fits EndsOperand k ts ≡ true
     → fits WantsOperand k ts ≡ true
 begins_wanted k [] b h = cc
@@ -27,7 +27,7 @@ begins_wanted k (Tilde ∷ ts) b h = h
 begins_wanted k (Open ∷ ts) b h = h
 begins_wanted k (t ∷ ts) b h = cc
 
--- and after one
+-- tokens that begin an operand and fit where one is wanted also fit after an operand
 pub begins_ended : (k : ℕ) (ts : List Token) → begins ts ≡ true → fits WantsOperand k ts ≡ true
     → fits EndsOperand k ts ≡ true
 begins_ended k [] b h = cc
@@ -40,19 +40,19 @@ begins_ended k (Tilde ∷ ts) b h = h
 begins_ended k (Open ∷ ts) b h = h
 begins_ended k (t ∷ ts) b h = cc
 
--- what may stand after any operand may stand after a numeral
+-- tokens that fit after any operand fit after a numeral
 pub numeral_ended : (k : ℕ) (ts : List Token) → fits EndsOperand k ts ≡ true → fits EndsNumeral k ts ≡ true
 numeral_ended k [] h = h
 numeral_ended k (Bar ∷ ts) h = cc
 numeral_ended k (t ∷ ts) h = h
 
--- `|` stands after no other operand
+-- after an operand that is not a numeral no `|` follows
 pub ended_stops : (k : ℕ) (ts : List Token) → fits EndsOperand k ts ≡ true → stops after_atom ts ≡ true
 ended_stops k [] h = refl
 ended_stops k (Bar ∷ ts) h = cc
 ended_stops k (t ∷ ts) h = refl
 
--- the parenthesis that closes a sum
+-- a sum inside parentheses is followed by its `)`
 pub closing : (k : ℕ) (r : List Token) → stops after_sum r ≡ true → fits EndsOperand (suc k) r ≡ true
     → (s : List Token) × (r ≡ Close ∷ s) × (fits EndsOperand k s ≡ true)
 closing k [] h f = let none_open : suc k ≡ 0 = eqb-true (suc k) 0 f in absurd (omega arith)

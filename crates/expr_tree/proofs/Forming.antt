@@ -1,4 +1,4 @@
--- Tokens give trees that are well formed.
+-- Tokens give well-formed trees.
 use Rattle.std.proofs.Common.{◌≡◌, ◌∙◌, ap, refl, Bool, true, false, ◌&&◌, if◌then◌else◌, List, Option, ℕ}
 use Rattle.expr_tree.specs.declared.operator.Sign.{Sign}
 use Rattle.expr_tree.specs.declared.operator.Sign.TheVariants as signs
@@ -16,7 +16,7 @@ use Rattle.expr_tree.specs.Syntax.{Syntax}
 use Rattle.expr_tree.specs.Syntax as tree
 use Rattle.expr_tree.specs.Tokens.{Token}
 
--- two tests that hold hold together
+-- if two tests hold, so does their conjunction
 both : (a b : Bool) → a ≡ true → b ≡ true → (a && b) ≡ true
 both a b g h = ap (λ x. x && b) g ∙ h
 
@@ -26,7 +26,7 @@ formed-word binder w =
     elim (is_binder binder w) as (λ b. is_formed (if b then tree.Argument else tree.Word w) ≡ true)
     [ true ↦ refl | false ↦ refl ]
 
--- so is a call of what is
+-- a call of a well-formed operand is well formed
 formed-call : (binder : Option (List ℕ)) (w : List ℕ) (e : Syntax) → is_formed e ≡ true
     → is_formed (call binder w e) ≡ true
 formed-call binder w e h =
@@ -35,7 +35,7 @@ formed-call binder w e h =
       | false ↦ h
     ]
 
--- so is what has a sign
+-- a well-formed tree with a sign is well formed
 formed-signed : (s : Sign) (e : Syntax) → is_formed e ≡ true → is_formed (signed s e) ≡ true
 formed-signed signs.Plus e h = h
 formed-signed signs.Minus e h = h
@@ -87,6 +87,6 @@ mutual
   formed-atom binder (RootAtom kind d) = formed-sum binder d
   formed-atom binder (GroupAtom d) = formed-sum binder d
 
--- the tree that tokens give
+-- the tree that tokens give is well formed
 pub formed : (binder : Option (List ℕ)) (ts : List Token) (e : Syntax) → Gives binder ts e → is_formed e ≡ true
 formed binder ts e g = ap is_formed g.2 ∙ formed-sum binder g.0

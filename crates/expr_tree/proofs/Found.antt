@@ -25,7 +25,7 @@ use Rattle.expr_tree.specs.Front.{stops, begins, after_sum, after_product, after
 use Rattle.expr_tree.proofs.Stops.{power_atom, sum_rest_stops, product_rest_stops, juxtaposition_rest_stops}
 use Rattle.expr_tree.proofs.Stops.{power_begins}
 
--- each derivation is longer than what follows it
+-- the tokens of each derivation are longer than those that follow it
 mutual
   sum_long : (d : Sum) (r : List Token) → length r < length (sum d r)
   sum_long (SumOf p ts) r = omega (arith, product_long p (sum_rest ts r), sum_rest_long ts r)
@@ -70,13 +70,13 @@ mutual
   atom_long (RootAtom n d) r = omega (arith, sum_long d (Close ∷ r))
   atom_long (GroupAtom d) r = omega (arith, sum_long d (Close ∷ r))
 
--- what stands where a part of a list of parts ends
+-- after the end of a sum no term is read
 no_more_terms : (n : ℕ) (r : List Token) → stops after_sum r ≡ true → read_sum_rest (suc n) r ≡ Some (NoTerm, r)
 no_more_terms n [] h = refl
 no_more_terms n (Close ∷ r) h = refl
 no_more_terms n (t ∷ r) h = cc
 
--- where a product ends no factor is read
+-- after the end of a product no factor is read
 no_more_factors : (n : ℕ) (r : List Token) → stops after_product r ≡ true
     → read_product_rest (suc n) r ≡ Some (NoFactor, r)
 no_more_factors n [] h = refl
@@ -85,7 +85,7 @@ no_more_factors n (Plus ∷ r) h = refl
 no_more_factors n (Minus ∷ r) h = refl
 no_more_factors n (t ∷ r) h = cc
 
--- where a juxtaposition ends no power is
+-- after the end of a juxtaposition no power is read
 no_more_powers : (n : ℕ) (r : List Token) → stops after_juxtaposition r ≡ true
     → read_juxtaposition_rest (suc n) r ≡ Some (NoPower, r)
 no_more_powers n [] h = refl
@@ -96,14 +96,14 @@ no_more_powers n (Star ∷ r) h = refl
 no_more_powers n (Slash ∷ r) h = refl
 no_more_powers n (t ∷ r) h = cc
 
--- where a power ends no exponent is
+-- after the end of a power no exponent is read
 not_raised : (n : ℕ) (a : Atom) (r : List Token) → stops after_power r ≡ true
     → read_raised (suc n) a r ≡ Some (Bare a, r)
 not_raised n a [] h = refl
 not_raised n a (Caret ∷ r) h = cc
 not_raised n a (t ∷ r) h = refl
 
--- where one begins it is read, and then those behind it
+-- if an operand begins, a power is read, and then the powers after it
 one_more_power : (n : ℕ) (ts : List Token) → begins ts ≡ true
     → read_juxtaposition_rest (suc n) ts
     ≡ (read_power n ts >>= (λ p. read_juxtaposition_rest n p.1 >>= (λ q. Some (NextPower p.0 q.0, q.1))))
@@ -117,7 +117,7 @@ one_more_power n (Head m ∷ ts) b = refl
 one_more_power n (Open ∷ ts) b = refl
 one_more_power n (t ∷ ts) b = cc
 
--- a juxtaposition that begins with an operand has no sign
+-- a juxtaposition that begins with an operand has no sign in front
 juxtaposition_of_power : (n : ℕ) (ts : List Token) → begins ts ≡ true
     → read_juxtaposition (suc n) ts
     ≡ (read_power n ts >>= (λ p. read_juxtaposition_rest n p.1 >>= (λ q. Some (JuxtapositionOf p.0 q.0, q.1))))
@@ -126,7 +126,7 @@ juxtaposition_of_power n (Plus ∷ ts) b = cc
 juxtaposition_of_power n (Minus ∷ ts) b = cc
 juxtaposition_of_power n (t ∷ ts) b = refl
 
--- nor has such an exponent
+-- an exponent that begins with an operand has no sign in front
 exponent_of_power : (n : ℕ) (ts : List Token) → begins ts ≡ true
     → read_exponent (suc n) ts ≡ (read_power n ts >>= (λ p. Some (ExponentOf p.0, p.1)))
 exponent_of_power n [] b = cc
@@ -134,7 +134,7 @@ exponent_of_power n (Plus ∷ ts) b = cc
 exponent_of_power n (Minus ∷ ts) b = cc
 exponent_of_power n (t ∷ ts) b = refl
 
--- a numeral is read where no `|` follows
+-- a numeral is read alone if no `|` follows
 numeral_read : (m : Decimal) (n : ℕ) (r : List Token) → stops after_atom r ≡ true
     → read_atom (suc n) (Numeral m ∷ r) ≡ Some (NumeralAtom m, r)
 numeral_read m n [] h = refl
@@ -251,12 +251,12 @@ mutual
   atom_read (RootAtom m d) (suc n) r l h = rw (sum_read d n (Close ∷ r) (omega arith) refl)
   atom_read (GroupAtom d) (suc n) r l h = rw (sum_read d n (Close ∷ r) (omega arith) refl)
 
--- a choice that gives something was of the first part
+-- a conditional whose alternative is `None` has a value only if its test is true
 chosen : {A : Type 0} (b : Bool) (x : A) (o : Option A) → cond b o None ≡ Some x → b ≡ true
 chosen true x o e = refl
 chosen false x o e = cc
 
--- a tree that tokens give is read from them
+-- the function reads the tree that the tokens give
 tree_found : (binder : Option (List ℕ)) (ts : List Token) (e : Syntax) → Gives binder ts e → tree_of binder ts ≡ Some e
 unfolding tree_of
 tree_found binder ts e g =
@@ -273,7 +273,7 @@ tree_fits : (binder : Option (List ℕ)) (ts : List Token) (e : Syntax) → tree
 unfolding tree_of
 tree_fits binder ts e p = chosen _ e _ p
 
--- the function and the relation are one
+-- the function and the relation agree
 pub tree_of_law : TreeOfLaw
 tree_of_law binder ts e = (
   λ p.

@@ -1,4 +1,4 @@
--- Without a binder no argument stands in a tree.
+-- Without a binder a tree contains no argument.
 use Rattle.std.proofs.Common.{◌≡◌, ◌∙◌, refl, ap, Bool, false, ◌||◌, None, List}
 use Rattle.expr_tree.specs.declared.operator.Sign.{Sign}
 use Rattle.expr_tree.specs.declared.operator.Sign.TheVariants as signs
@@ -14,11 +14,11 @@ use Rattle.expr_tree.specs.Syntax.{Syntax}
 use Rattle.expr_tree.specs.Tokens.{Token}
 use Rattle.expr_tree.specs.Arguments.{holds_argument, members_hold, factors_hold, terms_hold}
 
--- two tests of which none holds do not hold together
+-- if two tests fail, so does their disjunction
 neither : (a b : Bool) → a ≡ false → b ≡ false → a || b ≡ false
 neither a b h k = ap (λ x. x || b) h ∙ k
 
--- a sign brings no argument
+-- a sign adds no argument
 free-signed : (s : Sign) (e : Syntax) → holds_argument e ≡ false → holds_argument (signed s e) ≡ false
 free-signed signs.Plus e h = h
 free-signed signs.Minus e h = h
@@ -69,6 +69,6 @@ mutual
   free-atom (RootAtom kind d) = free-sum d
   free-atom (GroupAtom d) = free-sum d
 
--- the tree that tokens give
+-- the tree that tokens give without a binder contains no argument
 pub free : (ts : List Token) (e : Syntax) → Gives None ts e → holds_argument e ≡ false
 free ts e g = ap holds_argument g.2 ∙ free-sum g.0

@@ -1,4 +1,4 @@
--- Each rule of the grammar, from what stands at the front of the tokens.
+-- Each rule of the grammar, given the tokens at the front.
 use Rattle.std.proofs.Common.{◌≡◌, ℕ, suc, true, false, List, [], ◌∷◌, Option, None, refl, ◌∙◌, ap, subst}
 use Rattle.frac128.specs.Decimals.{Decimal}
 use Rattle.expr_tree.specs.declared.operator.Sign.{Sign}
@@ -16,18 +16,18 @@ use Rattle.expr_tree.specs.Tokens.{Caret, Tilde, Open, Close}
 use Rattle.expr_tree.proofs.Fits.{ended_stops}
 use Rattle.expr_tree.specs.declared.operator.RootKind.{RootKind}
 
--- tokens that fit, and what they are
+-- tokens that are equal to tokens that fit, fit
 fit_as : (k : ℕ) (x y : List Token) → x ≡ y → fits WantsOperand k x ≡ true → fits WantsOperand k y ≡ true
 fit_as k x y e h = subst (λ z. fits WantsOperand k z ≡ true) e h
 
--- a word in front is an atom
+-- a word at the front is an atom
 pub word_front : (b : Option (List ℕ)) (k : ℕ) (w : List ℕ) (x y : List Token) (e : Syntax) → x ≡ Word w ∷ y
     → fits WantsOperand k x ≡ true → e ≡ word b w → AtomAt b k x e y
 word_front b k w x y e is h says =
     let f : fits EndsOperand k y ≡ true = fit_as k x _ is h in
     record { made = WordAtom w; is = is; says = says; stop = ended_stops k y f; fit = f }
 
--- so is a word with a power
+-- a word with a power at the front is an atom
 pub word_power_front : (b : Option (List ℕ)) (k : ℕ) (w : List ℕ) (n : Decimal) (x y : List Token) (c e : Syntax)
     → x ≡ WordWithPower w n ∷ y → fits WantsOperand k x ≡ true → c ≡ word b w → e ≡ tree.Power c (tree.Number n)
     → AtomAt b k x e y
@@ -42,14 +42,14 @@ word_power_front b k w n x y c e is h base says =
       fit = f;
     }
 
--- so are two numerals with a bar
+-- two numerals with a bar at the front are an atom
 pub bar_front : (b : Option (List ℕ)) (k : ℕ) (n d : Decimal) (x y : List Token) (e : Syntax)
     → x ≡ Numeral n ∷ Bar ∷ Numeral d ∷ y → fits WantsOperand k x ≡ true → e ≡ tree.Bar n d → AtomAt b k x e y
 bar_front b k n d x y e is h says =
     let f : fits EndsOperand k y ≡ true = fit_as k x _ is h in
     record { made = BarAtom n d; is = is; says = says; stop = ended_stops k y f; fit = f }
 
--- no numeral after a `|`, so no `|`
+-- if no numeral follows after a `|`, no `|` follows
 no_denominator : (k : ℕ) (y : List Token) → first_denominator y ≡ None → fits EndsNumeral k y ≡ true
     → (stops after_atom y ≡ true) × (fits EndsOperand k y ≡ true)
 no_denominator k [] n h = (refl, h)
@@ -58,7 +58,7 @@ no_denominator k (Bar ∷ []) n h = cc
 no_denominator k (Bar ∷ t ∷ y) n h = cc
 no_denominator k (t ∷ y) n h = (refl, h)
 
--- so is one alone
+-- a numeral alone at the front is an atom
 pub numeral_front : (b : Option (List ℕ)) (k : ℕ) (n : Decimal) (x y : List Token) (e : Syntax) → x ≡ Numeral n ∷ y
     → first_denominator y ≡ None → fits WantsOperand k x ≡ true → e ≡ tree.Number n → AtomAt b k x e y
 numeral_front b k n x y e is alone h says =
@@ -66,7 +66,7 @@ numeral_front b k n x y e is alone h says =
     no_denominator k y alone (fit_as k x _ is h) in
     record { made = NumeralAtom n; is = is; says = says; stop = f.0; fit = f.1 }
 
--- so is a call, up to its closing parenthesis
+-- a call at the front, up to its `)`, is an atom
 pub call_front : (b : Option (List ℕ)) (k : ℕ) (w : List ℕ) (x y z : List Token) (a e : Syntax) → x ≡ Head w ∷ y
     → IsClosed b k y a z → e ≡ call b w a → AtomAt b k x e z
 call_front b k w x y z a e is c says =
@@ -79,7 +79,7 @@ call_front b k w x y z a e is c says =
       fit = c.fit;
     }
 
--- so is an inverse
+-- an inverse at the front, up to its `)`, is an atom
 pub inverse_front : (b : Option (List ℕ)) (k : ℕ) (w : List ℕ) (x y z : List Token) (a e : Syntax)
     → x ≡ Tilde ∷ Head w ∷ y → IsClosed b k y a z → e ≡ tree.Inverse w a → AtomAt b k x e z
 inverse_front b k w x y z a e is c says =
@@ -92,7 +92,7 @@ inverse_front b k w x y z a e is c says =
       fit = c.fit;
     }
 
--- so is a root
+-- a root at the front, up to its `)`, is an atom
 pub root_front : (b : Option (List ℕ)) (k : ℕ) (n : RootKind) (x y z : List Token) (a e : Syntax)
     → x ≡ Root n ∷ Open ∷ y → IsClosed b k y a z → e ≡ tree.Root n a → AtomAt b k x e z
 root_front b k n x y z a e is c says =
@@ -105,7 +105,7 @@ root_front b k n x y z a e is c says =
       fit = c.fit;
     }
 
--- so is a group
+-- a group at the front, up to its `)`, is an atom
 pub group_front : (b : Option (List ℕ)) (k : ℕ) (x y z : List Token) (a e : Syntax) → x ≡ Open ∷ y → IsClosed b k y a z
     → e ≡ tree.Group a → AtomAt b k x e z
 group_front b k x y z a e is c says =
@@ -118,20 +118,20 @@ group_front b k x y z a e is c says =
       fit = c.fit;
     }
 
--- after an atom, no `^`
+-- after an atom without a `^`, the next token may follow a power
 no_caret : (y : List Token) → stops after_atom y ≡ true → first_caret y ≡ false → stops after_power y ≡ true
 no_caret [] s c = refl
 no_caret (Caret ∷ y) s c = cc
 no_caret (Bar ∷ y) s c = cc
 no_caret (t ∷ y) s c = refl
 
--- an atom without `^` behind it is a power
+-- an atom that no `^` follows is a power
 pub bare_front : (b : Option (List ℕ)) (k : ℕ) (x y : List Token) (e : Syntax) → AtomAt b k x e y
     → first_caret y ≡ false → PowerAt b k x e y
 bare_front b k x y e a c =
     record { made = Bare a.made; is = a.is; says = a.says; stop = no_caret y a.stop c; fit = a.fit }
 
--- so is one with its exponent
+-- an atom with its exponent is a power
 pub raised_front : (b : Option (List ℕ)) (k : ℕ) (x y y' z : List Token) (a c e : Syntax) → AtomAt b k x a y
     → y ≡ Caret ∷ y' → ExponentAt b k y' c z → e ≡ tree.Power a c → PowerAt b k x e z
 raised_front b k x y y' z a c e p is q says =
@@ -148,7 +148,7 @@ pub exponent_front : (b : Option (List ℕ)) (k : ℕ) (x y : List Token) (e : S
     → ExponentAt b k x e y
 exponent_front b k x y e p = record { made = ExponentOf p.made; is = p.is; says = p.says; stop = p.stop; fit = p.fit }
 
--- so is one with a sign
+-- an exponent with a sign in front is an exponent
 pub signed_exponent_front : (b : Option (List ℕ)) (k : ℕ) (s : Sign) (x y z : List Token) (a e : Syntax)
     → x ≡ sign s ∷ y → ExponentAt b k y a z → e ≡ signed s a → ExponentAt b k x e z
 signed_exponent_front b k s x y z a e is q says =
@@ -160,7 +160,7 @@ signed_exponent_front b k s x y z a e is q says =
       fit = q.fit;
     }
 
--- a juxtaposition with a sign is one
+-- a juxtaposition with a sign in front is a juxtaposition
 pub signed_front : (b : Option (List ℕ)) (k : ℕ) (s : Sign) (x y z : List Token) (a e : Syntax) → x ≡ sign s ∷ y
     → JuxtapositionAt b k y a z → e ≡ signed s a → JuxtapositionAt b k x e z
 signed_front b k s x y z a e is q says =
@@ -173,9 +173,9 @@ signed_front b k s x y z a e is q says =
       fit = q.fit;
     }
 
--- what each first token leaves to the tokens after it
+-- the state after each first token
 
--- behind a sign an operand is wanted
+-- after a sign an operand is wanted
 pub sign_wants : (k : ℕ) (s : Sign) (x y : List Token) → x ≡ sign s ∷ y → fits WantsOperand k x ≡ true
     → fits WantsOperand k y ≡ true
 sign_wants k s x y is h = go s (fit_as k x _ is h)
@@ -184,12 +184,12 @@ sign_wants k s x y is h = go s (fit_as k x _ is h)
     go signs.Plus f = f
     go signs.Minus f = f
 
--- so it is behind `^`
+-- after a `^` an operand is wanted
 pub caret_wants : (k : ℕ) (x y : List Token) → x ≡ Caret ∷ y → fits EndsOperand k x ≡ true
     → fits WantsOperand k y ≡ true
 caret_wants k x y is h = subst (λ z. fits EndsOperand k z ≡ true) is h
 
--- where an operand is wanted and no sign stands, a token that begins an operand does
+-- if an operand is wanted and the first token is not a sign, that token begins an operand
 pub no_sign_begins : (k : ℕ) (x : List Token) → fits WantsOperand k x ≡ true → first_sign x ≡ None → begins x ≡ true
 no_sign_begins k [] h n = cc
 no_sign_begins k (Plus ∷ x) h n = cc
@@ -201,7 +201,7 @@ no_sign_begins k (Caret ∷ x) h n = cc
 no_sign_begins k (Close ∷ x) h n = cc
 no_sign_begins k (t ∷ x) h n = refl
 
--- what is closed
+-- a sum followed by its `)` is closed
 pub closed_front : (b : Option (List ℕ)) (k : ℕ) (x y z : List Token) (e : Syntax)
     → IsFront sum (sum_tree b) after_sum (suc k) x e y → y ≡ Close ∷ z → fits EndsOperand k z ≡ true
     → IsClosed b k x e z

@@ -1,4 +1,4 @@
--- What stands at the front of a text is no longer than the text.
+-- The front of a text is at most as long as the text.
 use Rattle.std.proofs.lemmas.List.{length-take-le}
 use Rattle.std.proofs.lemmas.List.Sums.{prefix_len-le-length}
 

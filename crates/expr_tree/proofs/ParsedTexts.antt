@@ -1,4 +1,4 @@
--- What a text is parsed to, and what its tokens give.
+-- The result of parsing a text, and the tree that its tokens give.
 use Rattle.std.proofs.Common.{◌≡◌, ◌↔◌, ℕ, List, length, Option, Some, None, Ok, Err, refl, sym, ◌∙◌, ap}
 use Rattle.expr_tree.specs.declared.fault.ParseFault.{ParseFault}
 use Rattle.expr_tree.specs.Faults.{first_fault}
@@ -11,7 +11,7 @@ use Rattle.expr_tree.proofs.Derived.{given}
 use Rattle.expr_tree.proofs.Faultless.{faultless_fits}
 use Rattle.expr_tree.proofs.Found.{tree_of_law}
 
--- a tree is given exactly where there is no fault and a tree is read
+-- the result is a tree exactly if there is no fault and the tree is read
 tree_of_parts : (len : ℕ) (o : Option ParseFault) (t : Option Syntax) (e : Syntax)
     → (fault_or_tree len o t ≡ Ok e) ↔ ((o ≡ None) × (t ≡ Some e))
 tree_of_parts len (Some x) t e = (λ h. cc, λ h. let no : Some x ≡ None = h.0 in cc)
@@ -22,7 +22,7 @@ tree_of_parts len None (Some f) e = (
 )
 tree_of_parts len None None e = (λ h. cc, λ h. let no : None ≡ Some e = h.1 in cc)
 
--- a fault exactly where there is one
+-- the result is a fault exactly if there is that fault
 fault_of_parts : (len : ℕ) (o : Option ParseFault) (t : Option Syntax) (x : ParseFault) → (o ≡ None → t ≡ None → ⊥)
     → (fault_or_tree len o t ≡ Err x) ↔ (o ≡ Some x)
 fault_of_parts len (Some y) t x some =
@@ -38,7 +38,7 @@ has_tree binder text h none =
     let some : tree_of binder (tokens text) ≡ Some x.0 = (tree_of_law binder (tokens text) x.0).1 x.1 in
     let no : None ≡ Some x.0 = sym none ∙ some in cc
 
--- a text is parsed to a tree exactly where it has no fault and its tokens give the tree
+-- a text is parsed to a tree exactly if it has no fault and its tokens give the tree
 parsed_tree : (binder : Option (List ℕ)) (text : List ℕ) (e : Syntax)
     → (parsed binder text ≡ Ok e) ↔ ((first_fault text ≡ None) × Gives binder (tokens text) e)
 unfolding parsed
@@ -49,7 +49,7 @@ parsed_tree binder text e =
       λ h. p.1 (h.0, (tree_of_law binder (tokens text) e).1 h.1),
     )
 
--- and to a fault exactly where that is its first one
+-- a text is parsed to a fault exactly if that is its first one
 parsed_fault : (binder : Option (List ℕ)) (text : List ℕ) (x : ParseFault)
     → (parsed binder text ≡ Err x) ↔ (first_fault text ≡ Some x)
 unfolding parsed
@@ -60,12 +60,12 @@ parsed_fault binder text x =
 pub parsed_law : ParsedLaw
 parsed_law binder text = (parsed_tree binder text, parsed_fault binder text)
 
--- tokens without a fault and their tree
+-- a text without a fault is parsed to the tree of its tokens
 pub parsed_to : (binder : Option (List ℕ)) (text : List ℕ) (e : Syntax) → first_fault text ≡ None
     → tree_of binder (tokens text) ≡ Some e → parsed binder text ≡ Ok e
 parsed_to binder text e h t = (parsed_tree binder text e).1 (h, (tree_of_law binder (tokens text) e).0 t)
 
--- a text with a first fault is refused by it
+-- a text with a fault is parsed to its first fault
 pub refused_by : (binder : Option (List ℕ)) (text : List ℕ) (x : ParseFault) → first_fault text ≡ Some x
     → parsed binder text ≡ Err x
 refused_by binder text x h = (parsed_fault binder text x).1 h

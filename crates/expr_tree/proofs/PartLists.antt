@@ -1,12 +1,12 @@
--- A rule of the grammar that reads one part after another: what was read stands before the others.
+-- Rules of the grammar that read one part after another: the parts that were read come before those that follow.
 use Rattle.std.proofs.Common.{◌≡◌, ℕ, Bool, true, false, List, [], ◌∷◌, ◌++◌, refl, sym, ◌∙◌, ap}
 use Rattle.expr_tree.specs.Front.{IsFront, stops}
 use Rattle.expr_tree.specs.Rules.{EndsOperand, fits}
 use Rattle.expr_tree.specs.Syntax.{Syntax}
 use Rattle.expr_tree.specs.Tokens.{Token}
 
--- a part spells tokens and says a tree, and so do the rests behind it, which say a list of members;
--- `head` makes the first tree a member, and the list ends where `ends` says so
+-- `part` and `rest` give the tokens of a part and of the parts after it, `says` the tree of a part, and `list` the
+-- members of the parts after it; `head` makes a member of the first tree, and `ends` tests whether the list ends
 pub record PartRule (P R A L : Type 0) : Type 0 where
   pub part : P → List Token → List Token
   pub says : P → Syntax
@@ -17,28 +17,28 @@ pub record PartRule (P R A L : Type 0) : Type 0 where
   pub head : Syntax → A
   pub ends : List Token → Bool
 
--- there are some
+-- the list is not empty
 abbrev some : {A : Type 0} → List A → Bool
 some [] = false
 some (a ∷ cs) = true
 
--- with one more there are
+-- a list with one more member is not empty
 some_more : {A : Type 0} (cs : List A) (a : A) → some (cs ++ a ∷ []) ≡ true
 some_more [] a = refl
 some_more (c ∷ cs) a = refl
 
--- members before others
+-- members put in front of others
 abbrev before : {A L : Type 0} → (A → L → L) → List A → L → L
 before cons [] others = others
 before cons (a ∷ cs) others = cons a (before cons cs others)
 
--- one more stands before the others
+-- one more member comes directly before the others
 before_more : {A L : Type 0} (cons : A → L → L) (cs : List A) (a : A) (others : L)
     → before cons (cs ++ a ∷ []) others ≡ before cons cs (cons a others)
 before_more cons [] a others = refl
 before_more cons (c ∷ cs) a others = ap (cons c) (before_more cons cs a others)
 
--- the parts that were read stand before the others, whatever rests these go on with
+-- the parts read so far, together with any parts that follow, are parts from the front on
 pub record AreRead {P R A L : Type 0} (rule : PartRule P R A L) (k : ℕ) (x y : List Token)
     (read : List A) : Type 0 where
   pub first : P
@@ -63,7 +63,7 @@ module _ {P R A L : Type 0} (rule : PartRule P R A L) (k : ℕ) where
     so_far = λ q others h. (q, p.is ∙ ap (rule.part p.made) h, refl);
   }
 
-  -- one more member, by the rests that begin with its part
+  -- reading one more member, given the parts that begin with it
   pub gone_on : (x y y' z : List Token) (e : Syntax) (a : A) (read read' : List A) → AreRead rule k x y read
       → (p : IsFront rule.part rule.says rule.follow k y' e z)
       → (step : R → R)
@@ -84,7 +84,7 @@ module _ {P R A L : Type 0} (rule : PartRule P R A L) (k : ℕ) where
         (d.0, d.1, before_more rule.cons r.more a (rule.list q) ∙ ap (before rule.cons r.more) (listed q) ∙ d.2);
   }
 
--- the members are listed, and two or more are said as a whole
+-- the list of the members, of which two or more make one tree
 module _ {P R A L : Type 0} (rule : PartRule P R A L) (listed : List A → L) (whole : L → Syntax)
     (joined : Syntax → L → Syntax) where
   before_none : ((a : A) (cs : List A) → listed (a ∷ cs) ≡ rule.cons a (listed cs)) → (cs : List A)

@@ -1,4 +1,4 @@
--- Tokens fit exactly where each of them may stand and they may end.
+-- Tokens fit exactly if each of them is allowed at its place and they may end.
 use Rattle.std.proofs.Common.{◌≡◌, ◌↔◌, ℕ, zero, suc, ◌+◌, ◌-◌, ◌<◌, true, List, [], ◌∷◌, take, Some, refl, sym, subst}
 use Rattle.std.proofs.Common.{arith, ltb-true}
 use Rattle.std.specs.Prelude.{slice_get}
@@ -8,11 +8,11 @@ use Rattle.expr_tree.specs.Rules.{left_by, count_opens, count_closes, opened, Ma
 use Rattle.expr_tree.specs.Tokens.{Token, Close}
 use Rattle.expr_tree.proofs.Fits.{both, both_hold}
 
--- how many parentheses are open after tokens, where so many were open before them
+-- the number of open parentheses after tokens, if `k` were open before them
 abbrev still_open : ℕ → List Token → ℕ
 still_open k ts = k + count_opens ts - count_closes ts
 
--- a `)` that may stand closes one
+-- a `)` is allowed only if a parenthesis is open
 closes_one : (last : After) (k : ℕ) → may last k Close ≡ true → 0 < k
 closes_one WantsOperand k h = cc
 closes_one WantsHead k h = cc
@@ -21,26 +21,26 @@ closes_one WantsNumeral k h = cc
 closes_one EndsNumeral k h = ltb-true 0 k h
 closes_one EndsOperand k h = ltb-true 0 k h
 
--- the count goes on after a token that may stand
+-- after an allowed token the count continues with the other tokens
 one_more : (last : After) (k : ℕ) (t : Token) (ts : List Token) → may last k t ≡ true
     → still_open (opened_after t k) ts ≡ still_open k (t ∷ ts)
 one_more last k Close ts h = let some : 0 < k = closes_one last k h in omega arith
 one_more last k t ts h = omega arith
 
--- each token may stand behind those before it
+-- each token is allowed after those before it
 abbrev Stands : After → ℕ → List Token → Type 0
 Stands last k ts = (i : ℕ) (t : Token) → slice_get ts i ≡ Some t
     → may (left_by last (take i ts)) (still_open k (take i ts)) t ≡ true
 
--- and they may end
+-- the tokens may end
 abbrev Ends : After → ℕ → List Token → Type 0
 Ends last k ts = may_end (left_by last ts) (still_open k ts) ≡ true
 
--- no token leaves what is open
+-- an empty list of tokens does not change the count
 none_more : (k : ℕ) → still_open k [] ≡ k
 none_more k = omega arith
 
--- tokens that fit may stand and end
+-- tokens that fit are allowed at their places and may end
 stands : (last : After) (k : ℕ) (ts : List Token) → fits last k ts ≡ true → Stands last k ts × Ends last k ts
 stands last k [] h = (λ i t g. cc, subst (λ n. may_end last n ≡ true) (sym (none_more k)) h)
 stands last k (u ∷ ts) h =
@@ -56,7 +56,7 @@ stands last k (u ∷ ts) h =
     at m s (suc i) t g =
         subst (λ n. may (left_by (after u last) (take i ts)) n t ≡ true) (one_more last k u (take i ts) m) (s i t g)
 
--- and those that may, fit
+-- tokens that are allowed at their places and may end, fit
 fits_from : (last : After) (k : ℕ) (ts : List Token) → Stands last k ts → Ends last k ts → fits last k ts ≡ true
 fits_from last k [] s e = subst (λ n. may_end last n ≡ true) (none_more k) e
 fits_from last k (u ∷ ts) s e =
@@ -67,11 +67,11 @@ fits_from last k (u ∷ ts) s e =
     (s (suc i) t g))
     (subst (λ n. may_end (left_by (after u last) ts) n ≡ true) (sym (one_more last k u ts m)) e))
 
--- what is open behind tokens, with nothing open before them
+-- the number of open parentheses after tokens, if none was open before them
 none_before : (ts : List Token) → still_open 0 ts ≡ opened ts
 none_before ts = omega arith
 
--- so tokens fit exactly by the plain rules
+-- tokens fit exactly if they satisfy the plain rules
 pub fits_exactly : (ts : List Token) → (fits WantsOperand 0 ts ≡ true) ↔ (((i : ℕ) → MayStand ts i) × MayEnd ts)
 fits_exactly ts = (
   λ h. let r : Stands WantsOperand 0 ts × Ends WantsOperand 0 ts = stands WantsOperand 0 ts h in (

@@ -2,7 +2,7 @@
 use Rattle.std.proofs.Common.{◌≡◌, ◌<◌, ℕ, Bool, true, false, ◌&&◌, List, [], ◌∷◌, length, refl, arith}
 use Rattle.expr_tree.specs.Names.{base, has_power, is_name, is_power_byte, last_byte}
 
--- both tests pass
+-- if the conjunction of two tests holds, both tests hold
 both : (a b : Bool) → (a && b) ≡ true → (a ≡ true) × (b ≡ true)
 both true b h = (refl, h)
 both false b h = cc
@@ -11,7 +11,7 @@ both false b h = cc
 pub power-digit : (word : List ℕ) → has_power word ≡ true → is_power_byte (last_byte word) ≡ true
 power-digit word h = (both (is_power_byte (last_byte word)) (is_name (base word)) h).0
 
--- and has bytes
+-- a word with a power is not empty
 pub power-some : (word : List ℕ) → has_power word ≡ true → 0 < length word
 power-some [] h = cc
 power-some (b ∷ bs) h = omega arith

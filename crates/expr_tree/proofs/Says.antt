@@ -1,4 +1,4 @@
--- What lists of trees say, member by member.
+-- The meanings and the words of lists of trees, member by member.
 use Rattle.std.proofs.Common.{◌≡◌, ◌<◌, ◌+◌, ℕ, List, [], ◌∷◌, ◌++◌, map, take, drop, length, get_or, ap, append_assoc}
 use Rattle.std.proofs.lemmas.List.{append-nil, drop_more, map-append, take_all, take_more}
 use Rattle.expr_tree.specs.declared.operator.Scale.{Scale}
@@ -10,19 +10,19 @@ use Rattle.expr_tree.proofs.Views.{views}
 
 pub ruleset says = (views, append-nil, append_assoc)
 
--- the words of the member at a place, and of the members behind it
+-- the words of the members from a place on are those of the one there and of those after it
 pub member_words_at : (ts : List Tree) (i : ℕ) (d : Tree) → i < length ts
     → words_in_members (members (map syntax (drop i ts))) ≡ words_in (syntax (get_or ts i d))
     ++ words_in_members (members (map syntax (drop (i + 1) ts)))
 member_words_at ts i d h = ap (λ xs. words_in_members (members (map syntax xs))) (drop_more ts i d h)
 
--- the words of factors from a place on are those of the one there and of those behind it
+-- the words of the factors from a place on are those of the one there and of those after it
 pub factor_words_at : (fs : List (Scale × Tree)) (i : ℕ) (d : Scale × Tree) → i < length fs
     → words_in_factors (factors (map factor (drop i fs))) ≡ words_in (syntax (get_or fs i d).1)
     ++ words_in_factors (factors (map factor (drop (i + 1) fs)))
 factor_words_at fs i d h = ap (λ xs. words_in_factors (factors (map factor xs))) (drop_more fs i d h)
 
--- so are those of terms
+-- the words of the terms from a place on are those of the one there and of those after it
 pub term_words_at : (ts : List (Sign × Tree)) (i : ℕ) (d : Sign × Tree) → i < length ts
     → words_in_terms (terms (map term (drop i ts))) ≡ words_in (syntax (get_or ts i d).1)
     ++ words_in_terms (terms (map term (drop (i + 1) ts)))
@@ -34,21 +34,21 @@ pub ruleset factor_words = (factor_words_at, append_assoc, append-nil)
 
 pub ruleset term_words = (term_words_at, append_assoc, append-nil)
 
--- one more copy
+-- the copies of the members before a place, extended by a copy of the member there
 pub trees-push : (ts : List Tree) (i : ℕ) (d c : Tree) (cs : List Tree) → i < length ts
     → map syntax cs ≡ map syntax (take i ts) → syntax c ≡ syntax (get_or ts i d)
     → map syntax (cs ++ c ∷ []) ≡ map syntax (take (i + 1) ts)
 trees-push ts i d c cs h e f =
     rw (map-append syntax cs (c ∷ []), e, f, take_more ts i d h, map-append syntax (take i ts) (get_or ts i d ∷ []))
 
--- copies of the factors before a place, with one of the factor there
+-- the copies of the factors before a place, extended by a copy of the factor there
 pub factors-push : (fs : List (Scale × Tree)) (i : ℕ) (d c : Scale × Tree) (cs : List (Scale × Tree)) → i < length fs
     → map factor cs ≡ map factor (take i fs) → factor c ≡ factor (get_or fs i d)
     → map factor (cs ++ c ∷ []) ≡ map factor (take (i + 1) fs)
 factors-push fs i d c cs h e f =
     rw (map-append factor cs (c ∷ []), e, f, take_more fs i d h, map-append factor (take i fs) (get_or fs i d ∷ []))
 
--- the same of terms
+-- the copies of the terms before a place, extended by a copy of the term there
 pub terms-push : (ts : List (Sign × Tree)) (i : ℕ) (d c : Sign × Tree) (cs : List (Sign × Tree)) → i < length ts
     → map term cs ≡ map term (take i ts) → term c ≡ term (get_or ts i d)
     → map term (cs ++ c ∷ []) ≡ map term (take (i + 1) ts)

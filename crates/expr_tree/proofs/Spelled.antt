@@ -18,25 +18,25 @@ use Rattle.expr_tree.specs.declared.operator.Sign.TheVariants as signs
 use Rattle.expr_tree.proofs.Fits.{begins_ended, numeral_ended, both_hold}
 use Rattle.expr_tree.proofs.Stops.{power_begins}
 
--- a sign fits where an operand is wanted
+-- a sign fits if an operand is wanted
 sign_wanted : (s : Sign) (k : ℕ) (ts : List Token) → fits WantsOperand k ts ≡ true
     → fits WantsOperand k (sign s ∷ ts) ≡ true
 sign_wanted signs.Plus k ts h = h
 sign_wanted signs.Minus k ts h = h
 
--- and behind an operand
+-- a sign fits after an operand
 sign_ended : (s : Sign) (k : ℕ) (ts : List Token) → fits WantsOperand k ts ≡ true
     → fits EndsOperand k (sign s ∷ ts) ≡ true
 sign_ended signs.Plus k ts h = h
 sign_ended signs.Minus k ts h = h
 
--- a `*` or `/` fits behind an operand
+-- a `*` or `/` fits after an operand
 scale_ended : (s : Scale) (k : ℕ) (ts : List Token) → fits WantsOperand k ts ≡ true
     → fits EndsOperand k (scale s ∷ ts) ≡ true
 scale_ended Multiply k ts h = h
 scale_ended Divide k ts h = h
 
--- so does a `)` where one is open
+-- a `)` fits after an operand if a parenthesis is open
 close_ended : (k : ℕ) (ts : List Token) → fits EndsOperand k ts ≡ true → fits EndsOperand (suc k) (Close ∷ ts) ≡ true
 close_ended k ts h =
     let one_less : k ≡ suc k - 1 = omega arith in

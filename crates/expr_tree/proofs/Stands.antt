@@ -24,16 +24,16 @@ pub here : (ts : List Made) (at : ℕ) (d : Made) → at < length ts
     → tokens_from ts at ≡ seen (get_or ts at d) ∷ tokens_from ts (at + 1)
 here ts at d l = ap (map seen) (drop_more ts at d l)
 
--- past the end there are none
+-- past the last token there are none
 pub past : (ts : List Made) (at : ℕ) → length ts ≤ at → tokens_from ts at ≡ []
 past ts at h = ap (map seen) (drop_of_length-le ts h)
 
--- no token stands at the place, or one does
+-- there is no token at the place, or there is one
 data Ahead (ts : List Made) (at : ℕ) : Type 0 where
   nothing : tokens_from ts at ≡ [] → Ahead ts at
   something : at < length ts → (t : Token) → tokens_from ts at ≡ t ∷ tokens_from ts (at + 1) → Ahead ts at
 
--- what is ahead at each place
+-- one of the two cases holds at each place
 ahead : (ts : List Made) (at : ℕ) → Ahead ts at
 ahead ts at = go (nat_lt at (length ts)) refl
   where
@@ -42,12 +42,12 @@ ahead ts at = go (nat_lt at (length ts)) refl
         ltb-true at (length ts) e in something l (seen (get_or ts at made.Plus)) (here ts at made.Plus l)
     go false e = nothing (past ts at (ltb-false at (length ts) e))
 
--- what stands where a test of the first token holds
+-- this token is at the place
 pub record Standing (ts : List Made) (at : ℕ) (t : Token) : Type 0 where
   pub within : at < length ts
   pub is : tokens_from ts at ≡ t ∷ tokens_from ts (at + 1)
 
--- where an operand is wanted, a token is there
+-- if an operand is wanted, there is a token
 pub wanted : (ts : List Made) (at k : ℕ) → fits WantsOperand k (tokens_from ts at) ≡ true → at < length ts
 wanted ts at k h = go (ahead ts at)
   where
@@ -55,7 +55,7 @@ wanted ts at k h = go (ahead ts at)
     go (nothing e) = let f : fits WantsOperand k [] ≡ true = subst (λ y. fits WantsOperand k y ≡ true) e h in cc
     go (something l t e) = l
 
--- a first sign stands there
+-- a sign that is the first token is at the place
 pub sign_stands : (ts : List Made) (at : ℕ) (s : Sign) → first_sign (tokens_from ts at) ≡ Some s
     → Standing ts at (sign s)
 sign_stands ts at s h = go (ahead ts at)
@@ -74,7 +74,7 @@ sign_stands ts at s h = go (ahead ts at)
               e ∙ ap (λ (x : Token). x ∷ tokens_from ts (at + 1)) (one t _ (sym (ap first_sign e) ∙ h));
         }
 
--- so does a first `*` or `/`
+-- a `*` or `/` that is the first token is at the place
 pub scale_stands : (ts : List Made) (at : ℕ) (s : Scale) → first_scale (tokens_from ts at) ≡ Some s
     → Standing ts at (scale s)
 scale_stands ts at s h = go (ahead ts at)
@@ -93,7 +93,7 @@ scale_stands ts at s h = go (ahead ts at)
               e ∙ ap (λ (x : Token). x ∷ tokens_from ts (at + 1)) (one t _ (sym (ap first_scale e) ∙ h));
         }
 
--- so does a first `^`
+-- a `^` that is the first token is at the place
 pub caret_stands : (ts : List Made) (at : ℕ) → first_caret (tokens_from ts at) ≡ true → Standing ts at Caret
 caret_stands ts at h = go (ahead ts at)
   where
@@ -110,7 +110,7 @@ caret_stands ts at h = go (ahead ts at)
               e ∙ ap (λ (x : Token). x ∷ tokens_from ts (at + 1)) (one t _ (sym (ap first_caret e) ∙ h));
         }
 
--- where a sum ends inside a parenthesis, its `)` stands there
+-- after a sum inside parentheses, its `)` is at the place
 pub close_stands : (ts : List Made) (at k : ℕ) → stops after_sum (tokens_from ts at) ≡ true
     → fits EndsOperand (suc k) (tokens_from ts at) ≡ true
     → Standing ts at Close × (fits EndsOperand k (tokens_from ts (at + 1)) ≡ true)
@@ -127,12 +127,12 @@ close_stands ts at k s f = go (ahead ts at) (closing k (tokens_from ts at) s f)
           subst (λ y. fits EndsOperand k y ≡ true) others c.2,
         )
 
--- the token that the program reads
+-- the token that the program reads is at the place
 pub stands_as : (ts : List Made) (at : ℕ) (d m : Made) → at < length ts → get_or ts at d ≡ m
     → tokens_from ts at ≡ seen m ∷ tokens_from ts (at + 1)
 stands_as ts at d m l is = here ts at d l ∙ ap (λ (t : Made). seen t ∷ tokens_from ts (at + 1)) is
 
--- where an operand begins, a token is there
+-- if an operand begins, there is a token
 pub begun : (ts : List Made) (at : ℕ) → begins (tokens_from ts at) ≡ true → at < length ts
 begun ts at h = go (ahead ts at)
   where
@@ -140,7 +140,7 @@ begun ts at h = go (ahead ts at)
     go (nothing e) = let f : begins [] ≡ true = sym (ap begins e) ∙ h in cc
     go (something l t e) = l
 
--- so it is where a head is wanted
+-- if a head is wanted, there is a token
 pub head_wanted : (ts : List Made) (at k : ℕ) → fits WantsHead k (tokens_from ts at) ≡ true → at < length ts
 head_wanted ts at k h = go (ahead ts at)
   where
@@ -148,7 +148,7 @@ head_wanted ts at k h = go (ahead ts at)
     go (nothing e) = let f : fits WantsHead k [] ≡ true = subst (λ y. fits WantsHead k y ≡ true) e h in cc
     go (something l t e) = l
 
--- where a `(` is wanted, it stands there
+-- if a `(` is wanted, it is at the place
 pub open_stands : (ts : List Made) (at k : ℕ) → fits WantsOpen k (tokens_from ts at) ≡ true
     → Standing ts at Open × (fits WantsOperand (suc k) (tokens_from ts (at + 1)) ≡ true)
 open_stands ts at k h = go (ahead ts at)
@@ -163,7 +163,7 @@ open_stands ts at k h = go (ahead ts at)
     go (nothing e) = let f : fits WantsOpen k [] ≡ true = subst (λ y. fits WantsOpen k y ≡ true) e h in cc
     go (something l t e) = one t e l (subst (λ y. fits WantsOpen k y ≡ true) e h)
 
--- a numeral behind a bar stands at its place
+-- if a numeral follows after a `|`, both are at their places
 pub denominator_stands : (ts : List Made) (at : ℕ) (n : Decimal) → first_denominator (tokens_from ts at) ≡ Some n
     → (at + 2 ≤ length ts) × (tokens_from ts at ≡ Bar ∷ Numeral n ∷ tokens_from ts (at + 2))
 denominator_stands ts at n h = first (ahead ts at)
@@ -196,13 +196,13 @@ denominator_stands ts at n h = first (ahead ts at)
         second (e ∙ ap (λ (x : Token). x ∷ tokens_from ts (at + 1)) (bar t _ (sym (ap first_denominator e) ∙ h)))
         (ahead ts (at + 1))
 
--- a root and its `(`
+-- a root and its `(` are at the place, and an operand is wanted after them
 pub record Rooted (ts : List Made) (at k : ℕ) (n : RootKind) : Type 0 where
   pub within : at + 2 ≤ length ts
   pub is : tokens_from ts at ≡ Root n ∷ Open ∷ tokens_from ts (at + 2)
   pub fit : fits WantsOperand (k + 1) (tokens_from ts (at + 2)) ≡ true
 
--- the word of a root stands before its `(`
+-- the keyword of a root is followed by its `(`
 pub rooted : (ts : List Made) (at k : ℕ) (n : RootKind) (d : Made) → at < length ts → get_or ts at d ≡ made.Root n
     → fits WantsOperand k (tokens_from ts at) ≡ true → Rooted ts at k n
 rooted ts at k n d l is h = go (open_stands ts (at + 1) k (subst (λ y. fits WantsOperand k y ≡ true) root h))
@@ -221,12 +221,12 @@ rooted ts at k n d l is h = go (open_stands ts (at + 1) k (subst (λ y. fits Wan
               (subst (λ i. fits WantsOperand (suc k) (tokens_from ts i) ≡ true) next o.1);
         }
 
--- two numerals and the `|` between them
+-- two numerals with a `|` between them are at the place
 pub record Barred (ts : List Made) (at : ℕ) (n d : Decimal) : Type 0 where
   pub within : at + 3 ≤ length ts
   pub is : tokens_from ts at ≡ Numeral n ∷ Bar ∷ Numeral d ∷ tokens_from ts (at + 3)
 
--- two numerals stand with a bar between
+-- a numeral, the `|` after it and its denominator are at their places
 pub barred : (ts : List Made) (at : ℕ) (n d : Decimal) → at < length ts
     → tokens_from ts at ≡ Numeral n ∷ tokens_from ts (at + 1) → Some d ≡ first_denominator (tokens_from ts (at + 1))
     → Barred ts at n d

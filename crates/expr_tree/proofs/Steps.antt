@@ -1,4 +1,4 @@
--- Sums, products and juxtapositions, which are read part by part.
+-- Sums, products and juxtapositions, which are read one part after another.
 use Rattle.std.proofs.Common.{◌≡◌, ℕ, true, false, not, List, [], ◌∷◌, ◌++◌, Option, Some, None, is_none, refl, sym}
 use Rattle.std.proofs.Common.{◌∙◌, ap, subst}
 use Rattle.expr_tree.specs.declared.operator.Scale.{Scale}
@@ -21,14 +21,14 @@ use Rattle.expr_tree.specs.Tokens.{Token, Plus, Minus, Star, Slash, Close}
 use Rattle.expr_tree.specs.Trees.{factors, members, terms}
 use Rattle.expr_tree.proofs.PartLists.{AreRead, PartRule, all_read, begun, gone_on}
 
--- what is found to be none is none
+-- an option that passes `is_none` is `None`
 no_some : {A : Type 0} (o : Option A) → is_none o ≡ true → o ≡ None
 no_some None h = refl
 no_some (Some x) h = cc
 
 -- sums
 
--- how terms make a sum
+-- the rule by which terms make a sum
 abbrev sums : Option (List ℕ) → PartRule Product SumRest (Sign × Syntax) Terms
 sums b = record {
   part = product;
@@ -45,7 +45,7 @@ sums b = record {
 abbrev pub TermsRead : Option (List ℕ) → ℕ → List Token → List Token → List (Sign × Syntax) → Type 0
 TermsRead b = AreRead (sums b)
 
--- where a product ends and no sign follows, the sum ends
+-- if a product ends and no sign follows, the sum ends
 no_term : (y : List Token) → stops after_product y ≡ true → first_sign y ≡ None → stops after_sum y ≡ true
 no_term [] s n = refl
 no_term (Close ∷ y) s n = refl
@@ -53,19 +53,19 @@ no_term (Plus ∷ y) s n = cc
 no_term (Minus ∷ y) s n = cc
 no_term (t ∷ y) s n = cc
 
--- so a product alone is a sum
+-- a product that no sign follows is a sum
 pub one_term : (b : Option (List ℕ)) (k : ℕ) (x y : List Token) (e : Syntax) → ProductAt b k x e y → first_sign y ≡ None
     → SumAt b k x e y
 one_term b k x y e p n =
     record { made = SumOf p.made NoTerm; is = p.is; says = p.says; stop = no_term y p.stop n; fit = p.fit }
 
--- else it is the first term
+-- a product that a sign follows is the first term
 pub terms_begun : (b : Option (List ℕ)) (k : ℕ) (x y : List Token) (e : Syntax) (read : List (Sign × Syntax))
     → ProductAt b k x e y
     → (first_sign y ≡ None → ⊥) → read ≡ (signs.Plus, e) ∷ [] → TermsRead b k x y read
 terms_begun b k x y e read p n are = begun (sums b) k x y e read p (λ h. n (no_some (first_sign y) h)) are
 
--- a product behind a sign is the next one
+-- a product after a sign is the next term
 pub next_term : (b : Option (List ℕ)) (k : ℕ) (x y y' z : List Token) (s : Sign) (e : Syntax)
     (read read' : List (Sign × Syntax)) → TermsRead b k x y read
     → y ≡ sign s ∷ y' → ProductAt b k y' e z → read' ≡ read ++ (s, e) ∷ [] → TermsRead b k x z read'
@@ -73,7 +73,7 @@ next_term b k x y y' z s e read read' r is p are =
     gone_on (sums b) k x y y' z e (s, e) read read' r p (NextTerm s p.made) (λ q others h. is ∙ ap (λ v. sign s ∷ v) h)
     (λ q. ap (λ v. tree.Term s v (terms_of_rest b q)) p.says) are
 
--- where no sign follows, the terms are a sum
+-- if no sign follows, the terms make a sum
 pub all_terms : (b : Option (List ℕ)) (k : ℕ) (x y : List Token) (e : Syntax) (read : List (Sign × Syntax))
     → TermsRead b k x y read
     → first_sign y ≡ None → e ≡ tree.Sum (terms read) → SumAt b k x e y
@@ -93,7 +93,7 @@ term_wants k s x y is h = go s (subst (λ z. fits EndsOperand k z ≡ true) is h
 
 -- products
 
--- how factors make a product
+-- the rule by which factors make a product
 abbrev products : Option (List ℕ) → PartRule Juxtaposition ProductRest (Scale × Syntax) Factors
 products b = record {
   part = juxtaposition;
@@ -110,7 +110,7 @@ products b = record {
 abbrev pub FactorsRead : Option (List ℕ) → ℕ → List Token → List Token → List (Scale × Syntax) → Type 0
 FactorsRead b = AreRead (products b)
 
--- where a juxtaposition ends and no `*` or `/` follows, the product ends
+-- if a juxtaposition ends and no `*` or `/` follows, the product ends
 no_factor : (y : List Token) → stops after_juxtaposition y ≡ true → first_scale y ≡ None → stops after_product y ≡ true
 no_factor [] s n = refl
 no_factor (Close ∷ y) s n = refl
@@ -120,19 +120,19 @@ no_factor (Star ∷ y) s n = cc
 no_factor (Slash ∷ y) s n = cc
 no_factor (t ∷ y) s n = cc
 
--- so a juxtaposition alone is a product
+-- a juxtaposition that no `*` or `/` follows is a product
 pub one_factor : (b : Option (List ℕ)) (k : ℕ) (x y : List Token) (e : Syntax) → JuxtapositionAt b k x e y
     → first_scale y ≡ None → ProductAt b k x e y
 one_factor b k x y e p n =
     record { made = ProductOf p.made NoFactor; is = p.is; says = p.says; stop = no_factor y p.stop n; fit = p.fit }
 
--- else it is the first factor
+-- a juxtaposition that a `*` or `/` follows is the first factor
 pub factors_begun : (b : Option (List ℕ)) (k : ℕ) (x y : List Token) (e : Syntax) (read : List (Scale × Syntax))
     → JuxtapositionAt b k x e y
     → (first_scale y ≡ None → ⊥) → read ≡ (Multiply, e) ∷ [] → FactorsRead b k x y read
 factors_begun b k x y e read p n are = begun (products b) k x y e read p (λ h. n (no_some (first_scale y) h)) are
 
--- a juxtaposition behind a `*` or `/` is the next one
+-- a juxtaposition after a `*` or `/` is the next factor
 pub next_factor : (b : Option (List ℕ)) (k : ℕ) (x y y' z : List Token) (s : Scale) (e : Syntax)
     (read read' : List (Scale × Syntax)) → FactorsRead b k x y read
     → y ≡ scale s ∷ y' → JuxtapositionAt b k y' e z → read' ≡ read ++ (s, e) ∷ [] → FactorsRead b k x z read'
@@ -141,7 +141,7 @@ next_factor b k x y y' z s e read read' r is p are =
     (λ q others h. is ∙ ap (λ v. scale s ∷ v) h)
     (λ q. ap (λ v. tree.Factor s v (factors_of_rest b q)) p.says) are
 
--- where none follows, the factors are a product
+-- if no `*` or `/` follows, the factors make a product
 pub all_factors : (b : Option (List ℕ)) (k : ℕ) (x y : List Token) (e : Syntax) (read : List (Scale × Syntax))
     → FactorsRead b k x y read
     → first_scale y ≡ None → e ≡ tree.Product (factors read) → ProductAt b k x e y
@@ -150,7 +150,7 @@ all_factors b k x y e read r n says =
     (λ f fs. refl) (λ e f fs. refl) says in
     record { made = ProductOf r.first all.0; is = all.1; says = all.2; stop = no_factor y r.stop n; fit = r.fit }
 
--- an operand is wanted after the scale of a factor
+-- an operand is wanted after the `*` or `/` of a factor
 pub factor_wants : (k : ℕ) (s : Scale) (x y : List Token) → x ≡ scale s ∷ y → fits EndsOperand k x ≡ true
     → fits WantsOperand k y ≡ true
 factor_wants k s x y is h = go s (subst (λ z. fits EndsOperand k z ≡ true) is h)
@@ -161,7 +161,7 @@ factor_wants k s x y is h = go s (subst (λ z. fits EndsOperand k z ≡ true) is
 
 -- juxtapositions
 
--- how powers make a juxtaposition
+-- the rule by which powers make a juxtaposition
 abbrev juxtapositions : Option (List ℕ) → PartRule Power JuxtapositionRest Syntax Members
 juxtapositions b = record {
   part = power;
@@ -178,7 +178,7 @@ juxtapositions b = record {
 abbrev pub MembersRead : Option (List ℕ) → ℕ → List Token → List Token → List Syntax → Type 0
 MembersRead b = AreRead (juxtapositions b)
 
--- where a power ends and no operand begins, the juxtaposition ends
+-- if a power ends and no operand begins, the juxtaposition ends
 no_member : (y : List Token) → stops after_power y ≡ true → begins y ≡ false → stops after_juxtaposition y ≡ true
 no_member [] s n = refl
 no_member (Plus ∷ y) s n = refl
@@ -188,20 +188,20 @@ no_member (Slash ∷ y) s n = refl
 no_member (Close ∷ y) s n = refl
 no_member (t ∷ y) s n = cc
 
--- so a power alone is a juxtaposition
+-- a power that no operand follows is a juxtaposition
 pub one_member : (b : Option (List ℕ)) (k : ℕ) (x y : List Token) (e : Syntax) → PowerAt b k x e y → begins y ≡ false
     → JuxtapositionAt b k x e y
 one_member b k x y e p n =
     record { made = JuxtapositionOf p.made NoPower; is = p.is; says = p.says; stop = no_member y p.stop n; fit = p.fit }
 
--- else it is the first member
+-- a power that an operand follows is the first member
 pub members_begun : (b : Option (List ℕ)) (k : ℕ) (x y : List Token) (e : Syntax) (read : List Syntax)
     → PowerAt b k x e y
     → begins y ≡ true → read ≡ e ∷ [] → MembersRead b k x y read
 members_begun b k x y e read p n are =
     begun (juxtapositions b) k x y e read p (λ h. let no : false ≡ true = sym (ap not n) ∙ h in cc) are
 
--- a power behind it is the next one
+-- a power after another is the next member
 pub next_member : (b : Option (List ℕ)) (k : ℕ) (x y z : List Token) (e : Syntax) (read read' : List Syntax)
     → MembersRead b k x y read
     → PowerAt b k y e z → read' ≡ read ++ e ∷ [] → MembersRead b k x z read'
@@ -209,7 +209,7 @@ next_member b k x y z e read read' r p are =
     gone_on (juxtapositions b) k x y y z e e read read' r p (NextPower p.made) (λ q others h. h)
     (λ q. ap (λ v. tree.Member v (members_of_rest b q)) p.says) are
 
--- where no operand begins, the members are a juxtaposition
+-- if no operand begins, the members make a juxtaposition
 pub all_members : (b : Option (List ℕ)) (k : ℕ) (x y : List Token) (e : Syntax) (read : List Syntax)
     → MembersRead b k x y read
     → begins y ≡ false → e ≡ tree.Juxtaposed (members read) → JuxtapositionAt b k x e y

@@ -1,4 +1,4 @@
--- What the first token after a derivation may be.
+-- Which token may follow a derivation.
 use Rattle.std.proofs.Common.{◌≡◌, true, List, [], ◌∷◌, refl}
 use Rattle.expr_tree.specs.Grammar.{SumRest, NoTerm, NextTerm, ProductRest, NoFactor, NextFactor, JuxtapositionRest}
 use Rattle.expr_tree.specs.Grammar.{NoPower, NextPower}
@@ -45,7 +45,7 @@ begins_power (Caret ∷ r) h = cc
 begins_power (Bar ∷ r) h = cc
 begins_power (t ∷ r) h = refl
 
--- and may not follow a juxtaposition
+-- what begins an operand may not follow a juxtaposition
 pub begins_juxtaposition : (r : List Token) → begins r ≡ true → stops after_juxtaposition r ≡ true → ⊥
 begins_juxtaposition [] b h = cc
 begins_juxtaposition (Numeral n ∷ r) b h = cc
@@ -82,7 +82,7 @@ atom_begins (InverseAtom w d) r = refl
 atom_begins (RootAtom n d) r = refl
 atom_begins (GroupAtom d) r = refl
 
--- so does a power
+-- a power begins an operand
 pub power_begins : (p : Power) (r : List Token) → begins (power p r) ≡ true
 power_begins (Bare a) r = atom_begins a r
 power_begins (Raised a e) r = atom_begins a (Caret ∷ exponent e r)

@@ -1,4 +1,4 @@
--- The faults of texts are never want of memory.
+-- The fault of a text is never a lack of memory.
 use Rattle.std.proofs.Common.{◌≡◌, ◌++◌, ℕ, Bool, true, false, if◌then◌else◌, List, [], ◌∷◌, length, Option, Some, None}
 use Rattle.std.proofs.Common.{refl, sym, ap, ◌∙◌, true≢false}
 use Rattle.std.specs.Prelude.{nat_lt}
@@ -11,23 +11,23 @@ use Rattle.expr_tree.specs.Rules.{After, WantsOperand, left_by, may, may_end, op
 use Rattle.expr_tree.specs.Tokens.{Token}
 use Rattle.expr_tree.proofs.ParsedTexts.{parsed_law}
 
--- no fault, or one of the text
+-- there is no fault, or it is not a lack of memory
 abbrev of_text : Option ParseFault → Bool
 of_text (Some OutOfMemory) = false
 of_text _ = true
 
--- where both are faults of a text, the one that is taken is
+-- if neither of two faults is a lack of memory, the chosen one is not
 either : (t : Bool) (x y : Option ParseFault) → of_text x ≡ true → of_text y ≡ true
     → of_text (if t then x else y) ≡ true
 either true x y e f = e
 either false x y e f = f
 
--- so is the first of two
+-- if neither of two faults is a lack of memory, the first one is not
 later : (x y : Option ParseFault) → of_text x ≡ true → of_text y ≡ true → of_text (or_later x y) ≡ true
 later (Some fault) y e f = e
 later None y e f = f
 
--- the fault of a lexeme is one of the text
+-- the fault of a lexeme is never a lack of memory
 at_lexeme : (last : After) (opens depth place : ℕ) (x : Lexeme) → of_text (fault_at last opens depth place x) ≡ true
 at_lexeme last opens depth place Blank = refl
 at_lexeme last opens depth place Malformed = refl
@@ -37,7 +37,7 @@ at_lexeme last opens depth place (Whole t) =
     either (may last opens t) (if nat_lt deepest depth then Some NestedTooDeep else None) (Some (Syntax place))
     (either (nat_lt deepest depth) (Some NestedTooDeep) None refl refl) refl
 
--- so is that of lexemes
+-- the fault of lexemes is never a lack of memory
 from_lexemes : (before : List Token) (len : ℕ) (xs : List Placed) → of_text (fault_from before len xs) ≡ true
 unfolding fault_from
 from_lexemes before len [] =
@@ -48,7 +48,7 @@ from_lexemes before len (x ∷ xs) =
     (at_lexeme (left_by WantsOperand before) (opened before) (depth_behind before) x.place x.lexeme)
     (from_lexemes (before ++ token_in x.lexeme) len xs)
 
--- the law that want of memory is no fault of a text
+-- the law that the specified fault of a text is never a lack of memory
 pub told : ToldLaw
 told binder text said =
     true≢false (sym (from_lexemes [] (length text) (lexemes text))

@@ -10,37 +10,37 @@ use Rattle.expr_tree.specs.Syntax as tree
 use Rattle.expr_tree.specs.Tokens.{Token, Numeral, Word, Bar}
 use Rattle.expr_tree.specs.declared.token.Token.{Token as Made}
 
--- a word is its own tree
+-- the tree of a word alone is the word
 word_alone : (b : Option (List ℕ)) (w : List ℕ) → tree_of b (Word w ∷ []) ≡ Some (word b w)
 unfolding tree_of
 word_alone b w = refl
 
--- so is a numeral
+-- the tree of a numeral alone is the number
 numeral_alone : (b : Option (List ℕ)) (n : Decimal) → tree_of b (Numeral n ∷ []) ≡ Some (tree.Number n)
 unfolding tree_of
 numeral_alone b n = refl
 
--- a numeral before a word is side by side with it
+-- the tree of a numeral before a word is their juxtaposition
 scaled_word : (b : Option (List ℕ)) (n : Decimal) (w : List ℕ)
     → tree_of b (Numeral n ∷ Word w ∷ []) ≡ Some (juxtaposed (tree.Number n) (tree.Member (word b w) tree.NoMember))
 unfolding tree_of
 scaled_word b n w = refl
 
--- so is a fraction
+-- the tree of a fraction before a word is their juxtaposition
 fraction_word : (b : Option (List ℕ)) (n d : Decimal) (w : List ℕ)
     → tree_of b (Numeral n ∷ Bar ∷ Numeral d ∷ Word w ∷ [])
     ≡ Some (juxtaposed (tree.Bar n d) (tree.Member (word b w) tree.NoMember))
 unfolding tree_of
 fraction_word b n d w = refl
 
--- a list of one token is its element
+-- a list of one token consists of that token
 one : (ts : List Made) (x : Made) (t : Token) → 1 ≤ length ts → length ts < 2
     → x ≡ get_or ts 0 x → seen x ≡ t → map seen ts ≡ t ∷ []
 one [] x t l m a e = absurd (omega (arith, l))
 one (y ∷ []) x t l m a e = ap (λ z. z ∷ []) (ap seen (sym a) ∙ e)
 one (y ∷ z ∷ ts) x t l m a e = absurd (omega (arith, m))
 
--- a list of two tokens is its elements
+-- a list of two tokens consists of these tokens
 two : (ts : List Made) (x y : Made) (t u : Token) → 2 ≤ length ts → length ts < 3
     → x ≡ get_or ts 0 x → y ≡ get_or ts 1 y → seen x ≡ t → seen y ≡ u → map seen ts ≡ t ∷ u ∷ []
 two [] x y t u l m a b e f = absurd (omega (arith, l))
@@ -49,7 +49,7 @@ two (p ∷ q ∷ []) x y t u l m a b e f =
     ap (λ z. z ∷ seen q ∷ []) (ap seen (sym a) ∙ e) ∙ ap (λ z. t ∷ z ∷ []) (ap seen (sym b) ∙ f)
 two (p ∷ q ∷ r ∷ ts) x y t u l m a b e f = absurd (omega (arith, m))
 
--- a list of four tokens is its elements
+-- a list of four tokens consists of these tokens
 four : (ts : List Made) (x y z o : Made) (t u v w : Token) → 4 ≤ length ts → length ts < 5
     → x ≡ get_or ts 0 x → y ≡ get_or ts 1 y → z ≡ get_or ts 2 z → o ≡ get_or ts 3 o
     → seen x ≡ t → seen y ≡ u → seen z ≡ v → seen o ≡ w → map seen ts ≡ t ∷ u ∷ v ∷ w ∷ []

@@ -1,4 +1,4 @@
--- What each kind of tree says.
+-- The meaning of each kind of tree.
 use Rattle.std.proofs.Common.{◌≡◌, ℕ, List, sym, ap, ◌∙◌, Global, Box}
 use Rattle.frac128.specs.Decimals.{Decimal}
 use Rattle.expr_tree.specs.declared.operator.RootKind.{RootKind}
@@ -16,69 +16,69 @@ use Rattle.expr_tree.specs.Syntax as tree
 use Rattle.expr_tree.specs.Views.{ViewLaw}
 use Rattle.expr_tree.specs.Trees.{syntax, level, members, factors, terms, trees_of, factors_of, terms_of}
 
--- what a numeral says
+-- the meaning of a number
 pub of_number : (n : Decimal) → syntax (made.Number n) ≡ tree.Number n
 of_number n = ap syntax (sym (made.rolls-Number n))
     ∙ fold-roll-Tree Syntax Factors Terms Members level (λ fs. factors fs.items.items) (λ ts. terms ts.items.items)
     (λ es. members es.items.items) (one.Number n)
 
--- what a numeral over another says
+-- the meaning of a fraction
 pub of_bar : (q : Box Quotient Global) → syntax (made.Bar q) ≡ tree.Bar q.value.top q.value.bottom
 of_bar q = ap syntax (sym (made.rolls-Bar q))
     ∙ fold-roll-Tree Syntax Factors Terms Members level (λ fs. factors fs.items.items) (λ ts. terms ts.items.items)
     (λ es. members es.items.items) (one.Bar q)
 
--- what a word says
+-- the meaning of a word
 pub of_word : (w : List ℕ) → syntax (made.Word w) ≡ tree.Word w
 of_word w = ap syntax (sym (made.rolls-Word w))
     ∙ fold-roll-Tree Syntax Factors Terms Members level (λ fs. factors fs.items.items) (λ ts. terms ts.items.items)
     (λ es. members es.items.items) (one.Word w)
 
--- what the argument says
+-- the meaning of the argument
 pub of_argument : syntax made.Argument ≡ tree.Argument
 of_argument = ap syntax (sym made.rolls-Argument)
     ∙ fold-roll-Tree Syntax Factors Terms Members level (λ fs. factors fs.items.items) (λ ts. terms ts.items.items)
     (λ es. members es.items.items) one.Argument
 
--- what a call says
+-- the meaning of a call
 pub of_call : (w : Box (List ℕ) Global) (e : Box Tree Global)
     → syntax (made.Call w e) ≡ tree.Call w.value (syntax e.value)
 of_call w e = ap syntax (sym (made.rolls-Call w e))
     ∙ fold-roll-Tree Syntax Factors Terms Members level (λ fs. factors fs.items.items) (λ ts. terms ts.items.items)
     (λ es. members es.items.items) (one.Call w e)
 
--- what an inverse says
+-- the meaning of an inverse
 pub of_inverse : (w : Box (List ℕ) Global) (e : Box Tree Global)
     → syntax (made.Inverse w e) ≡ tree.Inverse w.value (syntax e.value)
 of_inverse w e = ap syntax (sym (made.rolls-Inverse w e))
     ∙ fold-roll-Tree Syntax Factors Terms Members level (λ fs. factors fs.items.items) (λ ts. terms ts.items.items)
     (λ es. members es.items.items) (one.Inverse w e)
 
--- what a root says
+-- the meaning of a root
 pub of_root : (n : RootKind) (e : Box Tree Global) → syntax (made.Root n e) ≡ tree.Root n (syntax e.value)
 of_root n e = ap syntax (sym (made.rolls-Root n e))
     ∙ fold-roll-Tree Syntax Factors Terms Members level (λ fs. factors fs.items.items) (λ ts. terms ts.items.items)
     (λ es. members es.items.items) (one.Root n e)
 
--- what a group says
+-- the meaning of a group
 pub of_group : (e : Box Tree Global) → syntax (made.Group e) ≡ tree.Group (syntax e.value)
 of_group e = ap syntax (sym (made.rolls-Group e))
     ∙ fold-roll-Tree Syntax Factors Terms Members level (λ fs. factors fs.items.items) (λ ts. terms ts.items.items)
     (λ es. members es.items.items) (one.Group e)
 
--- what a negated operand says
+-- the meaning of a negated operand
 pub of_negate : (e : Box Tree Global) → syntax (made.Negate e) ≡ tree.Negate (syntax e.value)
 of_negate e = ap syntax (sym (made.rolls-Negate e))
     ∙ fold-roll-Tree Syntax Factors Terms Members level (λ fs. factors fs.items.items) (λ ts. terms ts.items.items)
     (λ es. members es.items.items) (one.Negate e)
 
--- what a power says
+-- the meaning of a power
 pub of_power : (e f : Box Tree Global) → syntax (made.Power e f) ≡ tree.Power (syntax e.value) (syntax f.value)
 of_power e f = ap syntax (sym (made.rolls-Power e f))
     ∙ fold-roll-Tree Syntax Factors Terms Members level (λ fs. factors fs.items.items) (λ ts. terms ts.items.items)
     (λ es. members es.items.items) (one.Power e f)
 
--- what operands side by side say
+-- the meaning of operands side by side
 pub of_juxtaposed : (es : Trees) → syntax (made.Juxtaposed es) ≡ tree.Juxtaposed (members (trees_of es))
 of_juxtaposed es = ap syntax (sym (made.rolls-Juxtaposed es))
     ∙ (fold-roll-Tree Syntax Factors Terms Members level (λ fs. factors fs.items.items) (λ ts. terms ts.items.items)
@@ -87,7 +87,7 @@ of_juxtaposed es = ap syntax (sym (made.rolls-Juxtaposed es))
     (fold_out-Trees Syntax Factors Terms Members level (λ fs. factors fs.items.items) (λ ts. terms ts.items.items)
     (λ es. members es.items.items) es))
 
--- what a product says
+-- the meaning of a product
 pub of_product : (fs : FactorList) → syntax (made.Product fs) ≡ tree.Product (factors (factors_of fs))
 of_product fs = ap syntax (sym (made.rolls-Product fs))
     ∙ (fold-roll-Tree Syntax Factors Terms Members level (λ fs. factors fs.items.items) (λ ts. terms ts.items.items)
@@ -96,7 +96,7 @@ of_product fs = ap syntax (sym (made.rolls-Product fs))
     (fold_out-Factors Syntax Factors Terms Members level (λ fs. factors fs.items.items) (λ ts. terms ts.items.items)
     (λ es. members es.items.items) fs))
 
--- what a sum says
+-- the meaning of a sum
 pub of_sum : (ts : TermList) → syntax (made.Sum ts) ≡ tree.Sum (terms (terms_of ts))
 of_sum ts = ap syntax (sym (made.rolls-Sum ts))
     ∙ (fold-roll-Tree Syntax Factors Terms Members level (λ fs. factors fs.items.items) (λ ts. terms ts.items.items)
@@ -104,7 +104,7 @@ of_sum ts = ap syntax (sym (made.rolls-Sum ts))
     ∙ ap tree.Sum (fold_out-Terms Syntax Factors Terms Members level (λ fs. factors fs.items.items)
     (λ ts. terms ts.items.items) (λ es. members es.items.items) ts))
 
--- the law of all of them
+-- the law of the meanings of all kinds
 pub view_law : ViewLaw
 view_law = record {
   number = of_number;
@@ -122,7 +122,7 @@ view_law = record {
   sum = of_sum;
 }
 
--- the equations of all kinds, for walks over trees
+-- the equations of all kinds, for recursion over trees
 pub ruleset views = (
   of_number,
   of_bar,

@@ -1,4 +1,4 @@
--- A sum that ends where the tokens end is all of them.
+-- A sum that ends at the last token has all tokens.
 use Rattle.std.proofs.Common.{◌≡◌, ℕ, List, [], ◌∷◌, map, Option, Some, refl, ◌∙◌, ap, true}
 use Rattle.expr_tree.specs.declared.token.Token.{Token as Made}
 use Rattle.expr_tree.specs.Front.{SumAt, tokens_from, stops, after_sum}
@@ -10,13 +10,13 @@ use Rattle.expr_tree.specs.Syntax.{Syntax}
 use Rattle.expr_tree.specs.Tokens.{Token, Close}
 use Rattle.expr_tree.proofs.Found.{tree_of_law}
 
--- no `)` is left where no parenthesis is open
+-- if no parenthesis is open after a sum, no token is left
 nothing_left : (y : List Token) → stops after_sum y ≡ true → fits EndsOperand 0 y ≡ true → y ≡ []
 nothing_left [] s f = refl
 nothing_left (Close ∷ y) s f = cc
 nothing_left (t ∷ y) s f = cc
 
--- a sum up to the end is the tree of the tokens
+-- a sum up to the last token is the tree of the tokens
 pub whole : (b : Option (List ℕ)) (ts : List Made) (e : Syntax) (end : ℕ)
     → SumAt b 0 (tokens_from ts 0) e (tokens_from ts end) → tree_of b (map seen ts) ≡ Some e
 whole b ts e end p =

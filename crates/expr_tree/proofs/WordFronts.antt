@@ -1,10 +1,10 @@
--- The words of expressions, whose bytes a word may hold.
+-- Words of expressions, and the bytes that a word may have.
 use Rattle.std.specs.List.{list_all, prefix_len}
 use Rattle.std.proofs.Common.{◌≡◌, ◌+◌, ◌&&◌, ℕ, zero, suc, Bool, true, false, cond, List, [], ◌∷◌, take, refl, ap, ◌∙◌}
 use Rattle.std.proofs.Common.{one-add}
 use Rattle.expr_tree.specs.Names.{is_word_byte}
 
--- the front of a word is one
+-- the front of a word consists of bytes of words
 pub take-words : (n : ℕ) (word : List ℕ) → list_all is_word_byte word ≡ true
     → list_all is_word_byte (take n word) ≡ true
 take-words zero [] h = refl
@@ -18,7 +18,7 @@ take-words (suc n) (b ∷ word) h = go (is_word_byte b) h (take-words n word)
     go true h rest = rest h
     go false h rest = cc
 
--- the bytes at the front of a text that words may hold are a word
+-- the longest front of bytes of words consists of such bytes
 pub prefix_len-words : (text : List ℕ) → list_all is_word_byte (take (prefix_len is_word_byte text) text) ≡ true
 prefix_len-words [] = refl
 prefix_len-words (b ∷ text) = go (is_word_byte b) refl (prefix_len-words text)

@@ -1,4 +1,4 @@
--- The greatest common divisor by differences and factors of two.
+-- The greatest common divisor, computed from differences and factors of two.
 use Rattle.std.proofs.Common.{inl, inr, ◌≡◌, ◌+◌, ◌-◌, ◌*◌, ◌/◌, ◌%◌, ◌^◌, ◌<◌, ◌≤◌, ℕ, suc, zero, min, mod-eq_of_lt}
 use Rattle.std.proofs.Common.{arith, sym, ap, ◌∙◌}
 use Rattle.std.proofs.Common.{lit<}
@@ -17,19 +17,19 @@ use Rattle.frac128.proofs.Coprime.{IsCoprime, euclid_lemma}
 use Rattle.frac128.proofs.Euclid.{gcd-mul, gcd_is, gcd_step, gcd_zero}
 use Rattle.frac128.proofs.Powers.{coprime-pow_right}
 
--- the greatest common divisor in either order
+-- the greatest common divisor is symmetric
 pub gcd_swap : (a b : ℕ) → gcd a b ≡ gcd b a
 gcd_swap a b = same_from_IsGcd a b _ _ (gcd_is a b) (IsGcd-swap b a _ (gcd_is b a))
 
--- beside 0
+-- the greatest common divisor of 0 and `b` is `b`
 pub gcd_none : (b : ℕ) → gcd 0 b ≡ b
 gcd_none b = gcd_swap 0 b ∙ gcd_zero b
 
--- beside 1
+-- the greatest common divisor of `a` and 1 is 1
 pub gcd_one : (a : ℕ) → gcd a 1 ≡ 1
 gcd_one a = same_from_IsGcd a 1 _ _ (gcd_is a 1) (one-dvd a, one-dvd 1, λ d p q. q)
 
--- a factor that is coprime to the one number does not count in the other
+-- a factor of one number that is coprime to the other does not change the greatest common divisor
 pub gcd-coprime : (z u g : ℕ) → IsCoprime z u → gcd z (u * g) ≡ gcd z g
 gcd-coprime z u g h =
     let is = gcd_is z g in
@@ -41,16 +41,16 @@ gcd-coprime z u g h =
     )
     is
 
--- an odd number is coprime to two
+-- an odd number is coprime to 2
 odd_two : (x : ℕ) → x % 2 ≡ 1 → IsCoprime x 2
 unfolding gcd gcd_within
 odd_two x odd = record { one = sym (gcd_step x 2 (lit< tt)) ∙ ap (gcd 2) odd }
 
--- factors of two do not count beside an odd number
+-- factors of two do not change the greatest common divisor with an odd number
 gcd-odd : (x t m : ℕ) → x % 2 ≡ 1 → gcd x (2 ^ t * m) ≡ gcd x m
 gcd-odd x t m odd = gcd-coprime x (2 ^ t) m (coprime-pow_right x 2 t (odd_two x odd))
 
--- the difference of two numbers in the place of the greater
+-- replacing the greater number by the difference does not change the greatest common divisor
 gcd_less : (x y : ℕ) → x ≤ y → gcd x (y - x) ≡ gcd x y
 gcd_less x y low =
     let rest = gcd_is x (y - x) in
@@ -58,12 +58,12 @@ gcd_less x y low =
     (rest.0, (dvd-sub_iff_left _ low rest.0).0 rest.1, λ d p q. rest.2 d p (dvd-sub d q p))
     (gcd_is x y)
 
--- a number by its factors of two and its odd part
+-- `n` is `2 ^ t` times its odd part `m`
 pub record IsOddPart (n t m : ℕ) : Type 0 where
   pub whole : 2 ^ t * m ≡ n
   pub odd : m % 2 ≡ 1
 
--- lowest bits that are 0 are factors of two
+-- if the lowest `t` bits are 0, `2 ^ t` divides the number
 twos_out : (t n : ℕ) → ((i : ℕ) → i < t → bit_at n i ≡ 0) → 2 ^ t * (n / 2 ^ t) ≡ n
 twos_out zero n none = rw (pow-zero 2, div-one n) (one-mul n)
 twos_out (suc t) n none =
@@ -85,13 +85,13 @@ odd_part w n some fits =
     let is = bit_at-trailing_zeros w n some fits in
     record { whole = twos_out (trailing_zeros w n) n is.2; odd = is.1 }
 
--- two odd numbers with the greatest common divisor of two others
+-- two odd numbers with the same greatest common divisor as two others
 pub record IsOddPair (a b x y : ℕ) : Type 0 where
   pub odd_x : x % 2 ≡ 1
   pub odd_y : y % 2 ≡ 1
   pub same : gcd x y ≡ gcd a b
 
--- the less of two such numbers, and the odd part of their difference
+-- the lesser of two such numbers and the odd part of their difference are again such numbers
 pub pair_more : (w : Width) (a b x y m d : ℕ) → IsOddPair a b x y → (x ≡ y → ⊥) → m ≡ min x y → d ≡ abs_diff x y
     → d < 2 ^ bits w
     → IsOddPair a b m (d / 2 ^ trailing_zeros w d)
@@ -114,12 +114,12 @@ pair_more w a b x y m d is other m_is d_is fits =
       same = sym (gcd-odd m (trailing_zeros w d) _ odd) ∙ ap (gcd m) part.whole ∙ steps ∙ is.same;
     }
 
--- two such numbers that are equal
+-- if two such numbers are equal, they are the greatest common divisor
 pub pair_end : (a b x y : ℕ) → IsOddPair a b x y → x ≡ y → x ≡ gcd a b
 pair_end a b x y is e =
     same_from_IsGcd x x _ _ (dvd_refl x, dvd_refl x, λ d p q. p) (gcd_is x x) ∙ ap (gcd x) e ∙ is.same
 
--- the less power of two is a factor of both numbers
+-- the lesser of the two powers of two is a factor of the greatest common divisor
 twos_shared : (i j x y : ℕ) → x % 2 ≡ 1 → i ≤ j → gcd (2 ^ i * x) (2 ^ j * y) ≡ gcd x y * 2 ^ i
 twos_shared i j x y odd low =
     let parts : j ≡ i + (j - i) = omega arith in
@@ -128,7 +128,7 @@ twos_shared i j x y odd low =
     ap (gcd (2 ^ i * x)) power ∙ gcd-mul (2 ^ i) x (2 ^ (j - i) * y) ∙ ap (λ k. 2 ^ i * k) (gcd-odd x (j - i) y odd)
     ∙ mul_comm (2 ^ i) (gcd x y)
 
--- two numbers above 0 by their odd parts
+-- the greatest common divisor of two numbers above 0, computed from their odd parts
 pub odd_parts : (w : Width) (a b k g : ℕ) → 0 < a → 0 < b → a < 2 ^ bits w → b < 2 ^ bits w
     → k ≡ min (trailing_zeros w a) (trailing_zeros w b)
     → g ≡ gcd (a / 2 ^ trailing_zeros w a) (b / 2 ^ trailing_zeros w b) → g * 2 ^ k % 2 ^ bits w ≡ gcd a b

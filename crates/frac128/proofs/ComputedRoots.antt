@@ -1,4 +1,4 @@
--- Roots that are computed by a search among whole numbers.
+-- Roots computed by a search among whole numbers.
 use Rattle.std.proofs.Common.{inl, inr, ◌≡◌, ◌<◌, ◌≤◌, ◌^◌, ◌%◌, refl, sym, ap, subst, ◌∙◌, arith, Bool, true, false}
 use Rattle.std.proofs.Common.{cond, ℕ, ℤ, pos}
 use Rattle.std.proofs.Common.{negsuc, suc, zero, unsigned_abs, int_lt, List, [], ◌∷◌, Option, None, Some, Result, Ok}
@@ -17,7 +17,7 @@ use Rattle.frac128.proofs.Powers.{IsMade}
 use Rattle.frac128.proofs.Roots.{abs-pow, le-pow, root_by, root_law}
 use Rattle.frac128.proofs.Signs.{not_below}
 
--- what is found passes the test
+-- a number that `find` gives passes the test
 found_passes : (test : ℕ → Bool) (xs : List ℕ) (x : ℕ) → find test xs ≡ Some x → test x ≡ true
 found_passes test [] x is = absurd (cc)
 found_passes test (y ∷ ys) x is = go (test y) refl is (λ rest. found_passes test ys x rest)
@@ -27,12 +27,12 @@ found_passes test (y ∷ ys) x is = go (test y) refl is (λ rest. found_passes t
     go true passes is rest = let same : y ≡ x = cc in ap test (sym same) ∙ passes
     go false fails is rest = rest is
 
--- what is not found first fails, and so does the rest
+-- if `find` gives `None`, the first number fails and the search in the rest gives `None`
 failed : (b : Bool) (x : ℕ) (rest : Option ℕ) → cond b (Some x) rest ≡ None → (b ≡ false) × (rest ≡ None)
 failed true x rest none = absurd (cc)
 failed false x rest none = (refl, none)
 
--- where none is found, no number up to n passes
+-- if the search from `n` down gives `None`, no number up to `n` passes
 none_passes : (test : ℕ → Bool) (n m : ℕ) → m ≤ n → find test (down_from n) ≡ None → test m ≡ false
 none_passes test zero m low none = let same : m ≡ 0 = omega arith in ap test same ∙ (failed (test 0) 0 None none).0
 none_passes test (suc n) m low none = elim (cases_eq m (suc n)) [
@@ -50,7 +50,7 @@ found_root n q r is = same (r ^ q) n (found_passes (λ r. r ^ q == n) (down_from
     same : (a b : ℕ) → (a == b) ≡ true → a ≡ b
     same a b h = grind (arith, nat_tests)
 
--- where none is found, there is none
+-- if the search gives `None`, there is no whole root
 no_root : (n q m : ℕ) → 0 < q → whole_root n q ≡ None → m ^ q ≡ n → ⊥
 no_root n q m some none power =
     clash (m ^ q) n power (none_passes (λ r. r ^ q == n) n m (subst (λ k. m ≤ k) power (le-pow m q some)) none)
@@ -66,7 +66,7 @@ no_even x r q negative even root = by_num r.num (ap (λ f. f.num) root.power) (r
     by_num (pos m) power plain = false≢true (sym (not_below (m ^ q)) ∙ ap (λ z. int_lt z (pos 0)) power ∙ negative)
     by_num (negsuc m) power plain = false≢true (sym plain)
 
--- the computed answer is the root, or says that there is none
+-- `root_of` gives the root, or the fault that there is none
 pub root_of_law : RootOfLaw
 unfolding root_of
 root_of_law x q is some = by_sign (is_negative x) (q % 2 == 0) refl refl
@@ -101,7 +101,7 @@ root_of_law x q is some = by_sign (is_negative x) (q % 2 == 0) refl refl
     by_sign true false s_is e_is = by_parts true _ _ s_is (λ _. odd (q % 2) e_is) refl refl
     by_sign false e s_is e_is = by_parts false _ _ s_is (λ h _. false≢true h) refl refl
 
--- an answer is the one that is computed
+-- each answer is the one that `root_of` computes
 pub root_is : (x : Fraction) (q : ℕ) (answer : Result Fraction FracFault) → IsReduced x → 0 < q
     → IsRootAnswer x q answer
     → answer ≡ root_of x q

@@ -1,4 +1,4 @@
--- Numbers without a common divisor.
+-- Numbers without a common divisor other than 1.
 use Rattle.std.proofs.Common.{◌≡◌, ◌*◌, ◌/◌, ◌<◌, ℕ, sym, ap, subst, ◌∙◌}
 use Rattle.std.specs.Int.{IsGcd}
 use Rattle.std.proofs.lemmas.Nat.Gcd.{same_from_IsGcd, dvd_trans, IsGcd-swap}
@@ -7,19 +7,19 @@ use Prim.Native.Nat.{◌∣◌}
 use Rattle.frac128.specs.Divisors.{gcd}
 use Rattle.frac128.proofs.Euclid.{gcd_is, gcd-mul}
 
--- numbers that no number but 1 divides both
+-- the greatest common divisor of two numbers is 1
 pub record IsCoprime (a b : ℕ) : Type 0 where
   pub one : gcd a b ≡ 1
 
--- coprime numbers by what divides both
+-- numbers that have only 1 as a common divisor are coprime
 pub coprime_is : (a b : ℕ) → IsGcd a b 1 → IsCoprime a b
 coprime_is a b h = record { one = same_from_IsGcd a b _ _ (gcd_is a b) h }
 
--- what divides both of two coprime numbers
+-- coprime numbers have only 1 as a common divisor
 pub is_coprime : (a b : ℕ) → IsCoprime a b → IsGcd a b 1
 is_coprime a b h = subst (λ g. IsGcd a b g) h.one (gcd_is a b)
 
--- what divides one of two coprime numbers and the other's product with a third divides the third
+-- if `d` divides the products of `c` with two coprime numbers, it divides `c`
 pub euclid_lemma : (a b c d : ℕ) → IsCoprime a b → d ∣ a * c → d ∣ b * c → d ∣ c
 euclid_lemma a b c d h p q =
     let whole : gcd (c * a) (c * b) ≡ c = gcd-mul c a b ∙ ap (λ g. c * g) h.one ∙ mul-one c in
@@ -27,7 +27,7 @@ euclid_lemma a b c d h p q =
     let q' = subst (λ n. d ∣ n) (mul_comm b c) q in
     subst (λ n. d ∣ n) whole ((gcd_is (c * a) (c * b)).2 d p' q')
 
--- coprime to two numbers, so to their product
+-- a number that is coprime to two numbers is coprime to their product
 pub coprime-mul : (a b c : ℕ) → IsCoprime a b → IsCoprime a c → IsCoprime a (b * c)
 coprime-mul a b c h k = coprime_is a (b * c) (
   one-dvd a,
@@ -36,11 +36,11 @@ coprime-mul a b c h k = coprime_is a (b * c) (
       (is_coprime a c k).2 d p (euclid_lemma a b c d h (dvd-mul_right_of_dvd d p c) q),
 )
 
--- the order of two coprime numbers is free
+-- being coprime is symmetric
 pub coprime-swap : (a b : ℕ) → IsCoprime a b → IsCoprime b a
 coprime-swap a b h = coprime_is b a (IsGcd-swap a b 1 (is_coprime a b h))
 
--- divisors of coprime numbers
+-- divisors of coprime numbers are coprime
 pub coprime-dvd : (a b x y : ℕ) → IsCoprime a b → x ∣ a → y ∣ b → IsCoprime x y
 coprime-dvd a b x y h p q = coprime_is x y (
   one-dvd x,
@@ -49,7 +49,7 @@ coprime-dvd a b x y h p q = coprime_is x y (
       (is_coprime a b h).2 d (dvd_trans d s p) (dvd_trans d t q),
 )
 
--- what is left once the greatest common divisor is divided out
+-- two numbers divided by their greatest common divisor are coprime
 pub coprime-quotients : (a b : ℕ) → 0 < gcd a b → IsCoprime (a / gcd a b) (b / gcd a b)
 coprime-quotients a b some =
     let g = gcd a b in

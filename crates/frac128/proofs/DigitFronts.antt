@@ -1,4 +1,4 @@
--- Runs of digits at the front of a numeral.
+-- Digits at the front of a numeral.
 use Rattle.std.proofs.Common.{◌≡◌, ◌+◌, ◌-◌, ◌<◌, ◌+ℤ◌, ◌-ℤ◌, ℕ, suc, zero, pos, Bool, true, false, List, [], ◌∷◌}
 use Rattle.std.proofs.Common.{take, length, get_or, add-one, subst, Some, None, arith, refl, sym, ap, ◌∙◌}
 use Rattle.std.specs.Prelude.{◌||◌, if◌then◌else◌}
@@ -15,12 +15,12 @@ use Rattle.frac128.proofs.Readings.{IsSplit}
 use Rattle.frac128.proofs.StageRuns.{IsReadTo, digit_no_mark, digit_no_point, read_end, read_more, read_start}
 use Rattle.frac128.proofs.WholeNumerals.{before_digits, both, digits_numeral, from_digits}
 
--- the stage after so many digits
+-- the stage after `i` digits
 abbrev pub digits_stage : ℕ → Stage
 digits_stage zero = Start
 digits_stage (suc n) = Whole
 
--- the first i bytes are digits
+-- the first `i` bytes are digits
 pub record IsDigitsTo (bytes : List ℕ) (i : ℕ) : Type 0 where
   pub read : IsReadTo bytes i (digits_stage i) i
   pub digits : list_all is_digit (take i bytes) ≡ true
@@ -29,7 +29,7 @@ pub record IsDigitsTo (bytes : List ℕ) (i : ℕ) : Type 0 where
 pub digits_start : (bytes : List ℕ) → IsDigitsTo bytes 0
 digits_start bytes = record { read = read_start bytes; digits = refl }
 
--- one digit more among the first bytes
+-- if the first `i` bytes and the next one are digits, the first `i + 1` bytes are digits
 all_more : (bytes : List ℕ) (i : ℕ) → list_all is_digit (take i bytes) ≡ true → i < length bytes
     → is_digit (get_or bytes i 0) ≡ true → list_all is_digit (take (suc i) bytes) ≡ true
 all_more [] i h low digit = absurd (omega arith)
@@ -38,7 +38,7 @@ all_more (b ∷ bs) (suc i) h low digit =
     let parts = both (is_digit b) (list_all is_digit (take i bs)) h in
     rw parts.0 (all_more bs i parts.1 (omega arith) digit)
 
--- one digit more
+-- reading one more digit
 pub digits_more : (bytes : List ℕ) (i : ℕ) → IsDigitsTo bytes i → i < length bytes
     → is_digit (get_or bytes i 0) ≡ true → IsDigitsTo bytes (i + 1)
 digits_more bytes i is low digit = record {
@@ -57,7 +57,7 @@ digits_more bytes i is low digit = record {
     later : (i : ℕ) → Whole ≡ digits_stage (i + 1)
     later i = ap digits_stage (sym (add-one i))
 
--- the digits end at a byte with which no numeral continues
+-- if the next byte cannot continue a numeral, the longest numeral ends before it
 pub digits_end : (bytes : List ℕ) (i : ℕ) → IsDigitsTo bytes i → i < length bytes
     → is_digit (get_or bytes i 0) ≡ false
     → (is_point_byte (get_or bytes i 0) || is_mark_byte (get_or bytes i 0)) ≡ false
@@ -77,12 +77,12 @@ digits_end bytes (suc i) is low other stops some =
     none false false false true d_is h = refl
     none false false false false d_is h = refl
 
--- all bytes are digits
+-- if all bytes are digits, the longest numeral has all of them
 pub digits_all : (bytes : List ℕ) (i : ℕ) → IsDigitsTo bytes i → i ≡ length bytes → i ≡ numeral_len_of bytes
 digits_all bytes i is all =
     is.read.longest ∙ ap (λ n. greatest (λ n. is_numeral (take n bytes)) n) all
 
--- a digit more, at a stage at which a numeral may end
+-- after one more digit at a stage at which a numeral may end, the stage is the same and the longest numeral ends there
 pub ended_more : (bytes : List ℕ) (i : ℕ) (s : Stage) (len : ℕ) → IsReadTo bytes i s len → i < length bytes
     → is_digit (get_or bytes i 0) ≡ true → may_end s ≡ true → IsReadTo bytes (i + 1) s (i + 1)
 ended_more bytes i s len is low digit ends =
@@ -100,7 +100,7 @@ ended_more bytes i s len is low digit ends =
     stays Signed h = absurd (cc)
     stays Exponent h = refl
 
--- digits alone have no exponent
+-- digits alone are a mantissa without an exponent
 pub digits_split : (bytes : List ℕ) → 0 < length bytes → list_all is_digit bytes ≡ true → IsSplit bytes bytes []
 digits_split bytes some h = record {
   numeral = digits_numeral bytes some h;
@@ -108,10 +108,10 @@ digits_split bytes some h = record {
   t_is = sym (from_digits is_mark_byte bytes digit_no_mark h);
 }
 
--- and no places
+-- digits alone have no digits after a point
 pub digits_places : (bytes : List ℕ) → list_all is_digit bytes ≡ true → 0 ≡ places bytes
 digits_places bytes h = sym (ap (λ xs. length xs - 1) (from_digits is_point_byte bytes digit_no_point h))
 
--- the scale of digits
+-- the scale of digits alone is the number of zeros at their end
 pub digits_scale : (z : ℕ) → pos z ≡ pos 0 -ℤ pos 0 +ℤ pos z
 digits_scale z = omega (arith, ints)

@@ -1,4 +1,4 @@
--- Digits that are read one by one.
+-- Digits that are read one after another.
 use Rattle.std.proofs.Common.{add-one, zero-add, ◌≡◌, ◌+◌, ◌-◌, ◌*◌, ◌^◌, ◌<◌, ◌≤◌, ℕ, suc, zero, Bool, true, false}
 use Rattle.std.proofs.Common.{List, [], ◌∷◌}
 use Rattle.std.proofs.Common.{length, drop, get_or, Some, None, arith, refl, sym, ap, subst, ◌∙◌, lit<}
@@ -15,56 +15,56 @@ use Rattle.frac128.specs.Numerals.{is_digit}
 use Rattle.frac128.proofs.Powers.{pow_some}
 use Rattle.frac128.proofs.Comparisons.{le-false, le-true}
 
--- one digit more
+-- a number extended by one digit
 abbrev extend : ℕ → ℕ → ℕ
 extend n d = n * 10 + d
 
--- the number and the zeros at its end, after some digits more
+-- the number without its end zeros, and the number of these zeros, after more digits
 abbrev pub collect : ℕ → ℕ → List ℕ → ℕ × ℕ
 collect n z [] = (n, z)
 collect n z (d ∷ ds) = if is_zero_digit d then collect n (z + 1) ds else collect (n * 10 ^ (z + 1) + d) 0 ds
 
--- zeros alone
+-- all digits are 0
 abbrev all_zero : List ℕ → Bool
 all_zero ds = list_all is_zero_digit ds
 
--- nothing is left of zeros alone
+-- if all digits are 0, none is left without the end zeros
 without-all_zero : (ds : List ℕ) → all_zero ds ≡ true → without_end_zeros ds ≡ []
 without-all_zero [] h = refl
 without-all_zero (d ∷ ds) h = rw h refl
 
--- a digit stays where another one than 0 follows or it is one
+-- a digit is left if it or a later digit is not 0
 without-other : (d : ℕ) (ds : List ℕ) → all_zero (d ∷ ds) ≡ false
     → without_end_zeros (d ∷ ds) ≡ d ∷ without_end_zeros ds
 without-other d ds h = rw h refl
 
--- zeros alone
+-- digits that are all 0 add to the zeros
 collect-zeros : (n z : ℕ) (ds : List ℕ) → all_zero ds ≡ true → collect n z ds ≡ (n, z + length ds)
 collect-zeros n z [] h = ap (λ k. (n, k)) (omega arith)
 collect-zeros n z (zero ∷ ds) h = collect-zeros n (z + 1) ds h ∙ ap (λ k. (n, k)) (omega arith)
 collect-zeros n z (suc d ∷ ds) h = absurd (cc)
 
--- one zero more
+-- one more zero multiplies by ten
 power_more : (n z : ℕ) → n * 10 ^ (z + 1) ≡ n * 10 ^ z * 10
 power_more n z = ap (λ k. n * 10 ^ k) (add-one z) ∙ ap (λ m. n * m) (pow-suc 10 z) ∙ sym (mul_assoc n (10 ^ z) 10)
 
--- a zero more as a digit
+-- one more zero extends the number by the digit 0
 shifted : (n z : ℕ) → n * 10 ^ (z + 1) ≡ n * 10 ^ z * 10 + 0
 shifted n z = power_more n z ∙ omega arith
 
--- no zeros
+-- no zeros leave the number as it is
 once : (n : ℕ) → n * 10 ^ 0 ≡ n
 once n = mul-one n
 
--- what is taken from both
+-- incrementing both numbers does not change their difference
 taken : (a b : ℕ) → a - b ≡ suc a - suc b
 taken a b = omega arith
 
--- what is taken from one
+-- a number is its successor less 1
 one_less : (a : ℕ) → 0 + a ≡ suc a - 1
 one_less a = omega arith
 
--- digits with one other than 0 among them
+-- if some digit is not 0, the number gets the pending zeros and all digits but the end zeros
 collect-others : (n z : ℕ) (ds : List ℕ) → all_zero ds ≡ false
     → collect n z ds ≡ (fold extend (n * 10 ^ z) (without_end_zeros ds), length ds - length (without_end_zeros ds))
 collect-others n z [] h = absurd (cc)
@@ -97,7 +97,7 @@ collect-others n z (suc d ∷ ds) h =
         ∙ ap (λ k. (fold extend (n * 10 ^ z * 10 + suc d) (without_end_zeros ds), k))
         (taken (length ds) (length (without_end_zeros ds)))
 
--- the digits of a whole text
+-- the number and the end zeros of all digits
 collect-all : (ds : List ℕ)
     → collect 0 0 ds ≡ (number (without_end_zeros ds), length ds - length (without_end_zeros ds))
 collect-all ds = by_test (all_zero ds) refl
@@ -107,7 +107,7 @@ collect-all ds = by_test (all_zero ds) refl
     by_test true h = rw (without-all_zero ds h) (collect-zeros 0 0 ds h ∙ ap (λ k. (0, k)) (omega arith))
     by_test false h = collect-others 0 0 ds h
 
--- a number is that without its end zeros, times ten for each of these
+-- digits that are all 0 multiply the number by a power of ten
 fold-zeros : (n : ℕ) (ds : List ℕ) → all_zero ds ≡ true → fold extend n ds ≡ n * 10 ^ length ds
 fold-zeros n [] h = sym (once n)
 fold-zeros n (zero ∷ ds) h = fold-zeros (n * 10 + 0) ds h ∙ moved n (length ds)
@@ -119,7 +119,7 @@ fold-zeros n (zero ∷ ds) h = fold-zeros (n * 10 + 0) ds h ∙ moved n (length 
     moved n k = turned n (10 ^ k) ∙ ap (λ m. n * m) (sym (pow-suc 10 k))
 fold-zeros n (suc d ∷ ds) h = absurd (cc)
 
--- where one of the digits is not 0
+-- if some digit is not 0, the end zeros multiply the number by a power of ten
 fold-without : (n : ℕ) (ds : List ℕ) → all_zero ds ≡ false
     → fold extend n ds ≡ fold extend n (without_end_zeros ds) * 10 ^ (length ds - length (without_end_zeros ds))
 fold-without n [] h = absurd (cc)
@@ -141,7 +141,7 @@ fold-without n (d ∷ ds) h =
         ∙ ap (λ k. fold extend (n * 10 + d) (without_end_zeros ds) * 10 ^ k)
         (taken (length ds) (length (without_end_zeros ds)))
 
--- both cases
+-- a number is the number without its end zeros, times ten for each of them
 pub number-without : (ds : List ℕ)
     → number ds ≡ number (without_end_zeros ds) * 10 ^ (length ds - length (without_end_zeros ds))
 number-without ds = by_test (all_zero ds) refl
@@ -153,7 +153,7 @@ number-without ds = by_test (all_zero ds) refl
         (fold-zeros 0 ds e ∙ zero-mul (10 ^ length ds) ∙ sym (zero-mul (10 ^ (length ds - 0))))
     by_test false e = fold-without 0 ds e
 
--- the number only grows
+-- more digits do not make the number smaller
 collect_grows : (n z : ℕ) (ds : List ℕ) → n ≤ (collect n z ds).0
 collect_grows n z [] = omega arith
 collect_grows n z (zero ∷ ds) = collect_grows n (z + 1) ds
@@ -161,13 +161,13 @@ collect_grows n z (suc d ∷ ds) =
     let times : n ≤ n * 10 ^ (z + 1) = le-mul_of_pos_right n (pow_some 10 (z + 1) (lit< tt)) in
     omega (arith, collect_grows (n * 10 ^ (z + 1) + suc d) 0 ds)
 
--- the first i bytes have been read
+-- `n` and `z` are the number and the end zeros of the first `i` bytes
 pub record IsCollected (bytes : List ℕ) (i n z : ℕ) : Type 0 where
   pub bound : z ≤ i
   pub fits : n ≤ most
   pub rest : collect n z (digits_of (drop i bytes)) ≡ collect 0 0 (digits_of bytes)
 
--- the next byte is a digit other than 0
+-- reading a digit other than 0
 digit_next : (n z b : ℕ) (bs : List ℕ) → (b ≡ 48 → ⊥) → is_digit b ≡ true
     → collect n z (digits_of (b ∷ bs)) ≡ collect (n * 10 ^ (z + 1) + (b - 48)) 0 (digits_of bs)
 digit_next n z b bs other h = rw h (by_digit (b - 48) some)
@@ -181,7 +181,7 @@ digit_next n z b bs other h = rw h (by_digit (b - 48) some)
     by_digit zero h = absurd (omega arith)
     by_digit (suc d) h = refl
 
--- what the rest gives after such a digit
+-- after such a digit, the rest of the bytes completes the number
 digit_rest : (bytes : List ℕ) (i n z : ℕ) → IsCollected bytes i n z → i < length bytes → (get_or bytes i 0 ≡ 48 → ⊥)
     → is_digit (get_or bytes i 0) ≡ true
     → collect (n * 10 ^ (z + 1) + (get_or bytes i 0 - 48)) 0 (digits_of (drop (i + 1) bytes))
@@ -190,15 +190,15 @@ digit_rest bytes i n z is h other b =
     sym (digit_next n z (get_or bytes i 0) (drop (i + 1) bytes) other b)
     ∙ sym (at_drop_more (λ xs. collect n z (digits_of xs)) bytes i 0 h) ∙ is.rest
 
--- a number that is too large
+-- a coefficient that is too large gives `None`
 past : (c : ℕ) (p : ℕ × ℕ) → most < c → (if nat_le c most then Some p else None) ≡ None
 past c p h = rw (le-false c most h) refl
 
--- a number that is not too large
+-- a coefficient that is not too large is the result
 pub kept : (c : ℕ) (p : ℕ × ℕ) → c ≤ most → (if nat_le c most then Some p else None) ≡ Some p
 kept c p h = rw (le-true c most h) refl
 
--- the number with one digit more is too large
+-- if the number with one more digit is too large, so is the coefficient
 pub collected_wide : (bytes : List ℕ) (i n z : ℕ) → IsCollected bytes i n z → i < length bytes
     → (get_or bytes i 0 ≡ 48 → ⊥)
     → is_digit (get_or bytes i 0) ≡ true
@@ -214,7 +214,7 @@ collected_wide bytes i n z is h other b wide =
     high : (m c : ℕ) → (m ≤ most → ⊥) → m ≤ c → most < c
     high m c wide low = omega (arith, wide)
 
--- all bytes have been read
+-- after all bytes, the number and the end zeros are the result
 pub collected_all : (bytes : List ℕ) (i n z : ℕ) → IsCollected bytes i n z → length bytes ≤ i
     → short_coefficient bytes ≡ Some (n, z)
 collected_all bytes i n z is h =
@@ -223,17 +223,17 @@ collected_all bytes i n z is h =
     kept (coefficient_of bytes) (coefficient_of bytes, end_zeros bytes)
     (subst (λ c. c ≤ most) (ap (λ x. x.0) whole) is.fits) ∙ ap Some (sym whole)
 
--- the exponent's digits
+-- more digits do not make the exponent smaller
 fold_grows : (n : ℕ) (ds : List ℕ) → n ≤ fold extend n ds
 fold_grows n [] = omega arith
 fold_grows n (d ∷ ds) = omega (arith, fold_grows (n * 10 + d) ds)
 
--- the first i bytes have been read
+-- `n` is the exponent of the first `i` bytes
 pub record IsCounted (bytes : List ℕ) (i n : ℕ) : Type 0 where
   pub fits : n ≤ most_exponent
   pub rest : fold extend n (digits_of (drop i bytes)) ≡ exponent_size bytes
 
--- what the rest gives after one digit more
+-- after one more digit, the rest of the bytes completes the exponent
 counted_rest : (bytes : List ℕ) (i n : ℕ) → IsCounted bytes i n → i < length bytes → is_digit (get_or bytes i 0) ≡ true
     → fold extend (n * 10 + (get_or bytes i 0 - 48)) (digits_of (drop (i + 1) bytes)) ≡ exponent_size bytes
 counted_rest bytes i n is h b = step (get_or bytes i 0) b
@@ -244,7 +244,7 @@ counted_rest bytes i n is h b = step (get_or bytes i 0) b
         ≡ fold extend n (digits_of (b ∷ drop (i + 1) bytes))
     step b h = rw h refl
 
--- the exponent is too large where its first digits are
+-- if the first digits of the exponent are too large, so is the exponent
 pub counted_wide : (bytes : List ℕ) (i n : ℕ) → IsCounted bytes i n → i < length bytes
     → is_digit (get_or bytes i 0) ≡ true
     → most_exponent < n * 10 + (get_or bytes i 0 - 48) → most_exponent < exponent_size bytes

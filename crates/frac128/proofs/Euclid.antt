@@ -1,4 +1,4 @@
--- Euclid's steps.
+-- Euclid's algorithm.
 use Rattle.std.proofs.Common.{◌≡◌, ◌*◌, ◌/◌, ◌%◌, ◌<◌, ◌-◌, ℕ, suc, zero, arith, refl, sym, ap, subst, ◌∙◌}
 use Rattle.std.specs.Int.{IsGcd}
 use Rattle.std.proofs.lemmas.Nat.Gcd.{IsGcd-from_zero, IsGcd-from_mod, same_from_IsGcd, dvd_antisymm, dvd-zero}
@@ -6,7 +6,7 @@ use Rattle.std.proofs.Math.Nat.{mod-lt, mul_assoc, mod-eq-sub-mul-div, mul-div-m
 use Prim.Native.Nat.{◌∣◌}
 use Rattle.frac128.specs.Divisors.{gcd, gcd_within, GcdLaw}
 
--- within enough steps the greatest common divisor is found
+-- enough steps give the greatest common divisor
 gcd_within_is : (steps a b : ℕ) → b < suc steps → IsGcd a b (gcd_within steps a b)
 unfolding gcd_within
 gcd_within_is steps a zero h = IsGcd-from_zero a zero refl
@@ -15,7 +15,7 @@ gcd_within_is (suc steps) a (suc b) h =
     let least : a % suc b < suc b = mod-lt a (omega arith) in
     IsGcd-from_mod a (suc b) _ (gcd_within_is steps (suc b) (a % suc b) (omega arith))
 
--- it divides both, and each number that divides both divides it
+-- the greatest common divisor divides both numbers, and each common divisor divides it
 pub gcd_is : GcdLaw
 unfolding gcd
 gcd_is a b = gcd_within_is b a b (omega arith)
@@ -24,11 +24,11 @@ gcd_is a b = gcd_within_is b a b (omega arith)
 pub gcd_step : (a b : ℕ) → 0 < b → gcd b (a % b) ≡ gcd a b
 gcd_step a b h = same_from_IsGcd a b _ _ (IsGcd-from_mod a b _ (gcd_is b (a % b))) (gcd_is a b)
 
--- and its end
+-- the end of Euclid's steps
 pub gcd_zero : (a : ℕ) → gcd a 0 ≡ a
 gcd_zero a = same_from_IsGcd a 0 _ _ (gcd_is a 0) (IsGcd-from_zero a 0 refl)
 
--- the remainder of multiples
+-- the remainder of multiples is the multiple of the remainder
 mul-mod-mul : (m a b : ℕ) → (m * a) % (m * b) ≡ m * (a % b)
 mul-mod-mul zero a b = rw (zero-mul a, zero-mul b, zero-mul (a % b)) refl
 mul-mod-mul (suc m) a b =
@@ -48,12 +48,12 @@ multiples (suc steps) m a (suc b) h =
     let rest = multiples steps m (suc b) (a % suc b) (omega arith) in
     IsGcd-from_mod (m * a) (m * suc b) _ (rw (mul-mod-mul m a (suc b)) rest)
 
--- the greatest common divisor of multiples
+-- the greatest common divisor of multiples is the multiple of the greatest common divisor
 pub gcd-mul : (m a b : ℕ) → gcd (m * a) (m * b) ≡ m * gcd a b
 unfolding gcd
 gcd-mul m a b = same_from_IsGcd (m * a) (m * b) _ _ (gcd_is (m * a) (m * b)) (multiples b m a b (omega arith))
 
--- a greatest common divisor with a number above 0 is above 0
+-- the greatest common divisor with a number above 0 is above 0
 pub gcd_some : (a b : ℕ) → 0 < b → 0 < gcd a b
 gcd_some a b h = above (gcd a b) refl
   where
@@ -63,5 +63,5 @@ gcd_some a b h = above (gcd a b) refl
         absurd (omega arith)
     above (suc g) e = omega arith
 
--- for the loop that takes Euclid's steps
+-- the facts for the loop that makes Euclid's steps
 pub ruleset euclid = (gcd_step, gcd_zero, gcd_some)

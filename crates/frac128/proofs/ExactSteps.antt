@@ -1,4 +1,4 @@
--- Steps on fractions have the values of the exact sums and products.
+-- Steps on fractions have the values of the exact sums, differences and products.
 use Rattle.std.proofs.Common.{◌≡◌, ◌*◌, ◌/◌, ◌<◌, ◌+ℤ◌, ◌-ℤ◌, ◌*ℤ◌, ℕ, ℤ, pos, negsuc, neg_ℤ, suc, zero, Bool, true}
 use Rattle.std.proofs.Common.{false, arith, refl}
 use Rattle.std.proofs.Common.{sym, ap, ◌∙◌}
@@ -20,7 +20,7 @@ use Rattle.frac128.proofs.Reduced.{reduced-value}
 use Rattle.frac128.proofs.Signs.{mul-signed, neg-times, signed_is}
 use Rattle.frac128.proofs.Sums.{lcm-div, minus-negated}
 
--- a sum of numerators over a multiple, where it has an answer
+-- if a step over a multiple has a result, this is the reduced quotient
 joined_ok : (step : ℤ → ℤ → ℤ) (m : ℕ) (l r : ℤ) (y : Fraction) → step_over step m l r ≡ Ok y → y ≡ reduced (step l r) m
 joined_ok step m l r y h = by_tests (in_range (pos m)) (in_range l) (in_range r) (in_range (step l r)) h
   where
@@ -33,7 +33,7 @@ joined_ok step m l r y h = by_tests (in_range (pos m)) (in_range l) (in_range r)
     by_tests true false c d e = absurd (cc)
     by_tests false b c d e = absurd (cc)
 
--- a fraction that fits is itself
+-- a result of `fitting` is the fraction itself
 fitting_ok : (x y : Fraction) → fitting x ≡ Ok y → y ≡ x
 fitting_ok x y h = by_test (fits x) h
   where
@@ -41,7 +41,7 @@ fitting_ok x y h = by_test (fits x) h
     by_test true e = cc
     by_test false e = absurd (cc)
 
--- two factors above 0 in one
+-- multiplying by two numbers is multiplying by their product
 mul-twice : (z : ℤ) (a b : ℕ) → z *ℤ pos a *ℤ pos b ≡ z *ℤ pos (a * b)
 mul-twice z a b =
     let s = int_lt z (pos 0) in
@@ -55,7 +55,7 @@ mul-twice z a b =
     plain true k = refl
     plain false k = refl
 
--- a factor of a sum
+-- multiplication distributes over a sum
 mul-sum : (y z : ℤ) (g : ℕ) → (y +ℤ z) *ℤ pos g ≡ (y *ℤ pos g) +ℤ (z *ℤ pos g)
 mul-sum y z zero = rw (*ℤ-zero y, *ℤ-zero z, *ℤ-zero (y +ℤ z)) refl
 mul-sum y z (suc g) =
@@ -68,14 +68,14 @@ mul-sum y z (suc g) =
     exchanged : (a b y z : ℤ) → (a +ℤ b) +ℤ (y +ℤ z) ≡ (a +ℤ y) +ℤ (b +ℤ z)
     exchanged a b y z = omega (arith, ints)
 
--- a common factor of a numerator and a denominator
+-- a common factor of numerator and denominator does not change the value
 scaled : (z : Fraction) (n : ℤ) (m g : ℕ) → SameValue z (record { num = n; den = m })
     → SameValue z (record { num = n *ℤ pos g; den = m * g })
 scaled z n m g same =
     sym (mul-twice z.num m g) ∙ ap (λ k. k *ℤ pos g) same ∙ mul-twice n z.den g
     ∙ ap (λ k. n *ℤ pos k) (mul_comm z.den g) ∙ sym (mul-twice n g z.den)
 
--- a sum
+-- the value of a sum
 plus_value : (x y z : Fraction) → 0 < x.den → 0 < y.den → plus x y ≡ Ok z → SameValue z (sum x y)
 plus_value x y z some_x some_y h =
     let g = gcd x.den y.den in
@@ -97,7 +97,7 @@ plus_value x y z some_x some_y h =
     over_divisor n k d g e divides = mul-twice n k g
         ∙ ap (λ k. n *ℤ pos k) (ap (λ k. k * g) e ∙ mul_comm (d / g) g ∙ mul-div_cancel' g divides)
 
--- a difference
+-- the value of a difference
 minus_value : (x y z : Fraction) → 0 < x.den → 0 < y.den → minus x y ≡ Ok z → SameValue z (difference x y)
 minus_value x y z some_x some_y h =
     plus_value x (negated y) z some_x some_y (sym (minus-negated x y) ∙ h)
@@ -107,13 +107,13 @@ minus_value x y z some_x some_y h =
     less : (a b : ℤ) → a +ℤ neg_ℤ b ≡ a -ℤ b
     less a b = omega (arith, ints)
 
--- a quotient over a number above 0
+-- the value of a quotient by a number above 0
 ratio_value : (n : ℤ) (d : ℕ) (z : Fraction) → 0 < d → ratio n (pos d) ≡ Ok z
     → SameValue z (record { num = n; den = d })
 ratio_value n zero z some h = absurd (omega arith)
 ratio_value n (suc d) z some h = rw (fitting_ok (reduced n (suc d)) z h) (reduced-value n (suc d))
 
--- the product of a quotient and its divisor
+-- the product of a quotient and its divisor has the value of the dividend
 over_value : (n m : ℤ) (b d : ℕ) (z : Fraction) → 0 < b → ratio (n *ℤ pos d) (pos b *ℤ m) ≡ Ok z
     → z.num *ℤ m *ℤ pos b ≡ n *ℤ pos (z.den * d)
 over_value n (pos zero) b d z some h = absurd (none (b * 0) (mul-zero b) h)
@@ -138,7 +138,7 @@ over_value n (negsuc k) b d z some h =
     below (suc j) some h =
         rw (fitting_ok (reduced (neg_ℤ (n *ℤ pos d)) (suc j)) z h) (reduced-value (neg_ℤ (n *ℤ pos d)) (suc j))
 
--- all four
+-- the law of the steps
 pub steps_law : StepsLaw
 steps_law x y z some_x some_y = (
   plus_value x y z some_x some_y,

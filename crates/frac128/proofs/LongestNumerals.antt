@@ -3,7 +3,7 @@ use Rattle.std.proofs.Common.{◌≡◌, ◌<◌, ◌≤◌, ℕ, zero, suc, Boo
 use Rattle.std.proofs.Common.{arith}
 use Rattle.frac128.specs.Numerals.{greatest, is_numeral, numeral_len_of}
 
--- the greatest number up to n that passes a test is at most n
+-- the greatest number up to `n` that passes a test is at most `n`
 greatest-le : (test : ℕ → Bool) (n : ℕ) → greatest test n ≤ n
 unfolding greatest
 greatest-le test zero = omega arith
@@ -12,7 +12,7 @@ greatest-le test (suc n) = elim (test (suc n)) as (λ b. (if b then suc n else g
   | false ↦ omega (arith, greatest-le test n)
 ]
 
--- where it is above 0, it passes the test
+-- if the greatest number is above 0, it passes the test
 greatest-passes : (test : ℕ → Bool) (n : ℕ) → 0 < greatest test n → test (greatest test n) ≡ true
 unfolding greatest
 greatest-passes test zero h = absurd (omega arith)
@@ -23,11 +23,11 @@ greatest-passes test (suc n) h = go (greatest-passes test n) (test (suc n)) refl
     go below true e some = e
     go below false e some = below some
 
--- a numeral at the front is no longer than the bytes
+-- the longest numeral at the front is at most as long as the bytes
 pub longest-within : (bytes : List ℕ) → numeral_len_of bytes ≤ length bytes
 longest-within bytes = greatest-le (λ n. is_numeral (take n bytes)) (length bytes)
 
--- where its length is above 0, so many bytes are a numeral
+-- if the length of the longest numeral is above 0, so many bytes are a numeral
 pub longest-numeral : (bytes : List ℕ) → 0 < numeral_len_of bytes
     → is_numeral (take (numeral_len_of bytes) bytes) ≡ true
 longest-numeral bytes some = greatest-passes (λ n. is_numeral (take n bytes)) (length bytes) some

@@ -9,7 +9,7 @@ use Rattle.frac128.proofs.Euclid.{gcd_is, gcd-mul, gcd_some}
 use Rattle.frac128.proofs.Coprime.{IsCoprime, coprime_is, is_coprime, coprime-mul, coprime-swap, coprime-dvd}
 use Rattle.frac128.proofs.Coprime.{coprime-quotients}
 
--- coprime numbers, each times the same number
+-- coprime numbers multiplied by the same number have these coprime numbers as their lowest terms
 lowest-mul : (a b m top bottom : ℕ) → m * top ≡ a → m * bottom ≡ b → 0 < m → IsCoprime top bottom
     → IsLowest a b top bottom
 lowest-mul a b m top bottom p q some h =
@@ -57,18 +57,18 @@ lowest-crosswise a b c d some_b some_d ab cd =
     product_some : (m n : ℕ) → 0 < m → 0 < n → 0 < m * n
     product_some m n p q = mul-pos p q
 
--- the same, by what the divisors are
+-- a product that is reduced crosswise by the two divisors is in lowest terms
 pub lowest_by : (a b c d g h : ℕ) → g ≡ gcd a d → h ≡ gcd c b → 0 < b → 0 < d → IsGcd a b 1 → IsGcd c d 1
     → IsLowest (a * c) (b * d) (a / g * (c / h)) (b / h * (d / g))
 lowest_by a b c d g h p q some_b some_d ab cd =
     rw (p, q) (lowest-crosswise a b c d some_b some_d (coprime_is a b ab) (coprime_is c d cd))
 
--- a ratio in lowest terms has no common divisor, and its denominator is above 0
+-- a ratio in lowest terms has no common divisor but 1
 pub lowest_gcd : (a b top bottom : ℕ) → 0 < b → IsLowest a b top bottom → IsGcd top bottom 1
 lowest_gcd a b top bottom some low =
     rw (← low.top_is, ← low.bottom_is) (is_coprime _ _ (coprime-quotients a b (gcd_some a b some)))
 
--- a denominator in lowest terms is above 0
+-- the denominator of a ratio in lowest terms is above 0
 pub lowest_some : (a b top bottom : ℕ) → 0 < b → IsLowest a b top bottom → 0 < bottom
 lowest_some a b top zero some low =
     let none : gcd a b * 0 ≡ b = ap (λ n. gcd a b * n) (sym low.bottom_is) ∙ mul-div_cancel' (gcd a b) (gcd_is a b).1 in
@@ -91,7 +91,7 @@ lowest-cross a d p q some some_q coprime cross =
     ∙ mul-div_cancel_left (g * p) some_q in
     record { top_is = ap (λ n. n / g) top_times ∙ mul-div_cancel_left p some_g; bottom_is = bottom }
 
--- what is in lowest terms has the cross product of the ratio
+-- a ratio in lowest terms has the value of the ratio
 pub cross-lowest : (a d p q : ℕ) → IsLowest a d p q → p * d ≡ a * q
 cross-lowest a d p q low =
     let g = gcd a d in
@@ -99,6 +99,6 @@ cross-lowest a d p q low =
     let d_is : g * q ≡ d = ap (λ n. g * n) (sym low.bottom_is) ∙ mul-div_cancel' g (gcd_is a d).1 in
     ap (λ n. p * n) (sym d_is) ∙ sym (mul_assoc p g q) ∙ ap (λ n. n * q) (mul_comm p g ∙ a_is)
 
--- coprime numbers are in lowest terms
+-- a ratio of coprime numbers is in lowest terms
 pub lowest_self : (a b : ℕ) → 0 < b → IsCoprime a b → IsLowest a b a b
 lowest_self a b some h = lowest-cross a b a b some some h refl

@@ -7,12 +7,12 @@ use Rattle.std.proofs.Math.Nat.{mul_comm}
 use Rattle.frac128.specs.Divisors.{LcmLaw, gcd, lcm}
 use Rattle.frac128.proofs.Euclid.{gcd_is, gcd-mul, gcd_some}
 
--- the multiple by either quotient
+-- the least common multiple, with the quotient of the first number
 pub lcm-left : (a b : ℕ) → lcm a b ≡ a / gcd a b * b
 unfolding lcm
 lcm-left a b = refl
 
--- by the other quotient
+-- the least common multiple, with the quotient of the second number
 pub lcm-right : (a b : ℕ) → lcm a b ≡ a * (b / gcd a b)
 unfolding lcm
 lcm-right a b =
@@ -22,14 +22,14 @@ lcm-right a b =
     ap (λ n. a / g * n) (sym b_is) ∙ sym (mul_assoc (a / g) g (b / g))
     ∙ ap (λ n. n * (b / g)) (mul_comm (a / g) g ∙ a_is)
 
--- the multiple times the divisor is the product
+-- the least common multiple times the greatest common divisor is the product
 pub lcm-times : (a b : ℕ) → lcm a b * gcd a b ≡ a * b
 lcm-times a b =
     let g = gcd a b in
     let b_is : g * (b / g) ≡ b = mul-div_cancel' g (gcd_is a b).1 in
     ap (λ n. n * g) (lcm-right a b) ∙ mul_assoc a (b / g) g ∙ ap (λ n. a * n) (mul_comm (b / g) g ∙ b_is)
 
--- what both numbers divide, their product times it divides twice
+-- the least common multiple divides each common multiple
 lcm_least : (a b n : ℕ) → 0 < b → a ∣ n → b ∣ n → lcm a b ∣ n
 lcm_least a b n some p q =
     let left : a * b ∣ n * a = subst (λ m. a * b ∣ m) (mul_comm a n) (mul-dvd-mul_left b a q) in
@@ -39,7 +39,7 @@ lcm_least a b n some p q =
     subst (λ m. a * b ∣ m) (gcd-mul n a b) ((gcd_is (n * a) (n * b)).2 (a * b) left right) in
     dvd_of_mul-dvd-mul_right (lcm a b) (gcd_some a b some) (subst (λ m. m ∣ n * gcd a b) (sym (lcm-times a b)) both)
 
--- it is the least common multiple
+-- the law of the least common multiple
 pub lcm_is : LcmLaw
 lcm_is a b some = record {
   first = subst (λ m. a ∣ m) (sym (lcm-right a b)) (dvd-mul_right a (b / gcd a b));

@@ -1,4 +1,4 @@
--- The whole number that is nearest to a ratio.
+-- The whole number nearest to a ratio.
 use Rattle.std.proofs.Common.{◌≡◌, ◌<◌, ◌≤◌, ◌+◌, ◌-◌, ◌*◌, ◌/◌, ◌%◌, ℕ, suc, zero, arith, refl, sym, ap, ◌∙◌, inl, inr}
 use Rattle.std.specs.Prelude.{◌⊎◌}
 use Rattle.std.specs.Int.{abs_diff}
@@ -10,12 +10,13 @@ use Rattle.std.proofs.lemmas.Cmp.{ranked}
 use Rattle.std.proofs.Math.Nat.{div-add-mod}
 use Rattle.frac128.specs.Nearest.{IsNearestWhole, NearestWholeLaw, by_half, distance, nearest_whole}
 
--- a whole number e is j steps below the whole part q, or j steps above the next number, and g away from q and r more
+-- `g` is `b` times the distance of `e` from the ratio, whose whole part is `q` and whose remainder is `r`: `e` is `j`
+-- steps below `q`, or `j` steps above `q + 1`
 data IsAway (b q r e g : ℕ) : Type 0 where
   low : (j : ℕ) → q ≡ e + j → g ≡ j * b + r → IsAway b q r e g
   high : (j : ℕ) → e ≡ q + 1 + j → g + r ≡ j * b + b → IsAway b q r e g
 
--- each whole number is
+-- each whole number has such a distance
 away : (a b q r e : ℕ) → b * q + r ≡ a → r < b → IsAway b q r e (distance a b e)
 away a b q r e whole part = elim (cases_lt q e) [
   | inl h ↦ above (e - q - 1) (omega arith)
@@ -45,41 +46,41 @@ away a b q r e whole part = elim (cases_lt q e) [
         spread : (j : ℕ) → (q + 1 + j) * b ≡ b * q + (j * b + b)
         spread j = omega arith
 
--- the distance of the whole part, and of the next number
+-- the distance of the whole part is the remainder
 away_whole : (b q r g : ℕ) → IsAway b q r q g → g ≡ r
 away_whole b q r g (low zero is gap) = omega arith
 away_whole b q r g (low (suc j) is gap) = absurd (omega arith)
 away_whole b q r g (high j is gap) = absurd (omega arith)
 
--- the quotient and the next whole number are together a divisor away
+-- the distance of the next number and the remainder add up to the divisor
 away_next : (b q r g : ℕ) → IsAway b q r (q + 1) g → g + r ≡ b
 away_next b q r g (low j is gap) = absurd (omega arith)
 away_next b q r g (high zero is gap) = omega arith
 away_next b q r g (high (suc j) is gap) = absurd (omega arith)
 
--- no number is nearer than the whole part where what follows is at most a half
+-- if the remainder is at most half of the divisor, no number is nearer than the whole part
 whole_near : (b q r e g f : ℕ) → g ≡ r → 2 * r ≤ b → IsAway b q r e f → g ≤ f
 whole_near b q r e g f own half (low j is gap) = omega arith
 whole_near b q r e g f own half (high j is gap) = omega arith
 
--- nor than the next number where it is a half or more
+-- if the remainder is at least half of the divisor, no number is nearer than the next number
 next_near : (b q r e g f : ℕ) → g + r ≡ b → b ≤ 2 * r → IsAway b q r e f → g ≤ f
 next_near b q r e g f own half (low j is gap) = omega arith
 next_near b q r e g f own half (high j is gap) = omega arith
 
--- and only that number is as near where it is no half
+-- if the remainder is less than half of the divisor, no other number is as near as the whole part
 whole_only : (b q r e g f : ℕ) → 0 < b → g ≡ r → 2 * r < b → f ≡ g → IsAway b q r e f → e ≡ q
 whole_only b q r e g f some own half same (low zero is gap) = omega arith
 whole_only b q r e g f some own half same (low (suc j) is gap) = absurd (omega arith)
 whole_only b q r e g f some own half same (high j is gap) = absurd (omega arith)
 
--- where the rest is more than half of the divisor, no other whole number is as near as the next one
+-- if the remainder is more than half of the divisor, no other number is as near as the next number
 next_only : (b q r e g f : ℕ) → 0 < b → g + r ≡ b → b < 2 * r → f ≡ g → IsAway b q r e f → e ≡ q + 1
 next_only b q r e g f some own half same (low j is gap) = absurd (omega arith)
 next_only b q r e g f some own half same (high zero is gap) = omega arith
 next_only b q r e g f some own half same (high (suc j) is gap) = absurd (omega arith)
 
--- rounding by the remainder gives the nearest number
+-- `nearest_whole` gives a nearest number
 nearest_is : (a b : ℕ) → 0 < b → IsNearestWhole a b (nearest_whole a b)
 nearest_is a b some =
     let whole : b * (a / b) + a % b ≡ a = div-add-mod a b in
@@ -146,7 +147,7 @@ near_whole a b n some is =
     by_place g to_whole to_next (high zero is gap) whole_is next_is = inr (omega arith)
     by_place g to_whole to_next (high (suc j) is gap) whole_is next_is = absurd (omega arith)
 
--- two nearest numbers are one
+-- two nearest numbers are equal
 nearest_same : (a b m n : ℕ) → 0 < b → IsNearestWhole a b m → IsNearestWhole a b n → m ≡ n
 nearest_same a b m n some is_m is_n =
     let same : distance a b m ≡ distance a b n =
@@ -168,7 +169,7 @@ nearest_same a b m n some is_m is_n =
     of_two q (inr p) (inl h) even_m even_n = absurd (omega arith)
     of_two q (inr p) (inr h) even_m even_n = omega arith
 
--- the nearest number, and the only one
+-- the law of the nearest number
 pub nearest_whole_law : NearestWholeLaw
 nearest_whole_law a b some =
     (nearest_is a b some, λ n is. nearest_same a b n (nearest_whole a b) some is (nearest_is a b some))

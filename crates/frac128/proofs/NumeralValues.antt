@@ -1,4 +1,4 @@
--- The value of a numeral by all its digits.
+-- The value of a numeral, computed from all its digits.
 use Rattle.std.proofs.Common.{◌≡◌, ◌*◌, ◌+◌, ◌-◌, ◌^◌, ◌<◌, ◌+ℤ◌, ◌-ℤ◌, ◌/◌, ℕ, ℤ, pos, negsuc, suc, zero, List, false}
 use Rattle.std.proofs.Common.{arith, refl, sym}
 use Rattle.std.proofs.Common.{ap, ◌∙◌, lit<, inl, inr}
@@ -20,7 +20,7 @@ use Rattle.frac128.proofs.Powers.{pow_some}
 use Rattle.frac128.proofs.Signs.{ratio-signed}
 use Rattle.frac128.proofs.TenPowers.{zero_power}
 
--- a common factor cancels
+-- a common factor of numerator and denominator cancels
 ratio-mul : (a b m : ℕ) → 0 < b → 0 < m → ratio (pos (a * m)) (pos (b * m)) ≡ ratio (pos a) (pos b)
 ratio-mul a b m some some_m =
     let p = a / gcd a b in
@@ -37,7 +37,7 @@ ratio-mul a b m some some_m =
     back : (a m q : ℕ) → a * q * m ≡ a * m * q
     back a m q = omega arith
 
--- zeros at the end and the power of ten
+-- zeros at the end may be part of the coefficient or of the power of ten
 zeros-out : (c z : ℕ) (s : ℤ) → times_power c (s +ℤ pos z) ≡ times_power (c * 10 ^ z) s
 zeros-out c z (pos k) = ap (times_power c) (sum k z)
     ∙ ap (λ n. ratio (pos n) (pos 1)) (ap (λ p. c * p) (pow-add 10 z k) ∙ spread c (10 ^ z) (10 ^ k))
@@ -82,7 +82,7 @@ zeros-out c z (negsuc k) = elim (cases_lt k z) [
         more : (j : ℕ) → k ≡ j + z → suc j + z ≡ suc k
         more j is = omega arith
 
--- the value of a mantissa and a power
+-- the value of a mantissa times a power of ten
 decimal_value : (bytes : List ℕ) (power : ℤ)
     → value_of (decimal bytes power) ≡ times_power (number (digits_of bytes)) (power -ℤ pos (places bytes))
 decimal_value bytes power = by_coefficient (coefficient_of bytes) (number-without (digits_of bytes))

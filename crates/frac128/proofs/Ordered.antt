@@ -1,4 +1,4 @@
--- The laws of the order.
+-- The laws of the order of fractions.
 use Rattle.std.proofs.Common.{◌≡◌, ◌*◌, ◌<◌, ◌*ℤ◌, ◌<ℤ◌, ◌≤ℤ◌, ℕ, ℤ, pos, negsuc, suc, false, true, unsigned_abs}
 use Rattle.std.proofs.Common.{int_lt, arith, refl}
 use Rattle.std.proofs.Common.{sym, ap, ◌∙◌}
@@ -19,7 +19,7 @@ use Rattle.frac128.proofs.Signs.{mul-signed, signed_is}
 use Rattle.std.specs.Int.Signed.{≤ℤ_refl}
 use Rattle.frac128.proofs.Quotients.{scaled}
 
--- a factor above 0 keeps the order
+-- multiplying by a number above 0 preserves "less"
 mul_less : (a b : ℤ) (d : ℕ) → 0 < d → a <ℤ b → (a *ℤ pos d) <ℤ (b *ℤ pos d)
 mul_less (pos a) (pos b) d some h = let low : a * d < b * d =
     scaled a b d (omega (arith, ints)) some in omega (arith, ints)
@@ -30,7 +30,7 @@ mul_less (negsuc a) (negsuc b) d some h =
     let low : suc b * d < suc a * d = scaled (suc b) (suc a) d (omega (arith, ints)) some in
     rw (negsuc-*ℤ-pos a d, negsuc-*ℤ-pos b d) (omega (arith, ints))
 
--- also where the numbers may be equal
+-- multiplying by a number above 0 preserves "at most"
 mul_at_most : (a b : ℤ) (d : ℕ) → 0 < d → a ≤ℤ b → (a *ℤ pos d) ≤ℤ (b *ℤ pos d)
 mul_at_most a b d some h =
     by_lt_z a b (λ low. weaker (a *ℤ pos d) (b *ℤ pos d) (mul_less a b d some low)) (λ high. same a b h high)
@@ -41,7 +41,7 @@ mul_at_most a b d some h =
     same : (a b : ℤ) → a ≤ℤ b → b ≤ℤ a → (a *ℤ pos d) ≤ℤ (b *ℤ pos d)
     same a b h k = let e : a ≡ b = omega (arith, ints) in rw e (≤ℤ_refl (b *ℤ pos d))
 
--- and is taken away
+-- a common factor above 0 may be removed from "less"
 less_of_mul : (a b : ℤ) (d : ℕ) → 0 < d → (a *ℤ pos d) <ℤ (b *ℤ pos d) → a <ℤ b
 less_of_mul a b d some h =
     by_lt_z a b (λ k. k) (λ k. absurd (clash (a *ℤ pos d) (b *ℤ pos d) h (mul_at_most b a d some k)))
@@ -49,7 +49,7 @@ less_of_mul a b d some h =
     clash : (x y : ℤ) → x <ℤ y → y ≤ℤ x → ⊥
     clash x y h k = omega (arith, ints)
 
--- two factors in turn
+-- two factors may be exchanged
 exchanged : (z : ℤ) (a b : ℕ) → z *ℤ pos a *ℤ pos b ≡ z *ℤ pos b *ℤ pos a
 exchanged z a b = twice z a b
     ∙ ap (signed (differ (differ (int_lt z (pos 0)) false) false)) (turned (unsigned_abs z) a b) ∙ sym (twice z b a)
@@ -64,7 +64,7 @@ exchanged z a b = twice z a b
     turned : (m a b : ℕ) → m * a * b ≡ m * b * a
     turned m a b = omega arith
 
--- less is transitive
+-- "less" is transitive
 less_trans : (x y z : Fraction) → 0 < x.den → 0 < y.den → 0 < z.den → compared x y ≡ Less → compared y z ≡ Less
     → compared x z ≡ Less
 less_trans x y z some_x some_y some_z h k =
@@ -80,13 +80,13 @@ less_trans x y z some_x some_y some_z h k =
     chained : (a b c d : ℤ) → a <ℤ b → b ≡ c → c <ℤ d → a <ℤ d
     chained a b c d h e k = let k' : b <ℤ d = rw e k in omega (arith, ints)
 
--- equal cross products are of one reduced fraction
+-- reduced fractions that compare as equal are equal
 equal_same : (x y : Fraction) → IsReduced x → IsReduced y → compared x y ≡ Equal → x ≡ y
 equal_same x y is_x is_y h =
     let same : x.num *ℤ pos y.den ≡ y.num *ℤ pos x.den = int_ranked _ _ Equal (sym h) in
     reduced_only y.num y.den x is_y.positive is_x same ∙ sym (reduced_only y.num y.den y is_y.positive is_y refl)
 
--- all three
+-- the law of the order
 pub order_law : OrderLaw
 order_law = (
   λ x y. int_cmp_total.antisymm (x.num *ℤ pos y.den) (y.num *ℤ pos x.den),
@@ -94,7 +94,7 @@ order_law = (
   equal_same,
 )
 
--- less, and at most, by the answer
+-- the law that `compared` decides "less" and "at most"
 pub compared_law : ComparedLaw
 compared_law x y =
     let a = x.num *ℤ pos y.den in

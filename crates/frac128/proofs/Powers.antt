@@ -16,16 +16,16 @@ use Rattle.frac128.proofs.Coprime.{IsCoprime, coprime_is, coprime-mul, coprime-s
 use Rattle.frac128.proofs.Lowest.{lowest_self}
 use Rattle.frac128.proofs.Signs.{ratio-signed, signed_is}
 
--- powers of a number above 0
+-- powers of a number above 0 are above 0
 pub pow_some : (a n : ℕ) → 0 < a → 0 < a ^ n
 pow_some a n h = one-le-pow n a h
 
--- a number coprime to another, and to its powers
+-- a number that is coprime to another is coprime to its powers
 pub coprime-pow_right : (a b n : ℕ) → IsCoprime a b → IsCoprime a (b ^ n)
 coprime-pow_right a b zero h = rw (pow-zero b) (coprime_is a 1 (one-dvd a, one-dvd 1, λ d p q. q))
 coprime-pow_right a b (suc n) h = rw (pow-suc b n) (coprime-mul a (b ^ n) b (coprime-pow_right a b n h) h)
 
--- powers of coprime numbers
+-- powers of coprime numbers are coprime
 pub coprime-pow : (a b n : ℕ) → IsCoprime a b → IsCoprime (a ^ n) (b ^ n)
 coprime-pow a b n h = coprime-pow_right (a ^ n) b n (coprime-swap _ _ (coprime-pow_right b a n (coprime-swap _ _ h)))
 
@@ -34,7 +34,7 @@ signed-zero : (s : Bool) → signed s 0 ≡ pos 0
 signed-zero false = refl
 signed-zero true = refl
 
--- a power by its sign and magnitude
+-- a power, computed from sign and magnitude
 pub pow-signed : (s : Bool) (a n : ℕ) → int_pow (signed s a) n ≡ signed (s && (n % 2 == 1)) (a ^ n)
 pow-signed false a n = refl
 pow-signed true zero zero = refl
@@ -46,7 +46,7 @@ pow-signed true (suc a) n = by_rest (n % 2) (suc a ^ n) (omega arith)
     by_rest (suc zero) m h = refl
     by_rest (suc (suc r)) m h = absurd (omega arith)
 
--- the power of a fraction in lowest terms
+-- a power of a fraction in lowest terms, with an exponent of at least 0
 pub power_up : (x : Fraction) (n : ℕ) → 0 < x.den → IsGcd (unsigned_abs x.num) x.den 1
     → power x (pos n) ≡ fitting (raised x n)
 power_up x n some lowest =
@@ -58,7 +58,7 @@ power_up x n some lowest =
     let low = lowest_self (a ^ n) (x.den ^ n) some_n (coprime-pow a x.den n (coprime_is _ _ lowest)) in
     rw is (ratio-signed _ (a ^ n) (x.den ^ n) _ _ some_n low)
 
--- and turned upside down
+-- a power with an exponent below 0 is a power of the inverted fraction
 pub power_down : (x : Fraction) (n : ℕ) → 0 < unsigned_abs x.num → IsGcd (unsigned_abs x.num) x.den 1
     → power x (negsuc n)
     ≡ fitting (raised (record { num = signed (int_lt x.num (pos 0)) x.den; den = unsigned_abs x.num }) (suc n))
@@ -79,7 +79,7 @@ power_down x n some lowest =
     ratio_over_signed true top zero some low = absurd (omega arith)
     ratio_over_signed true top (suc bottom) some low = ratio-signed true top (suc bottom) top (suc bottom) some low
 
--- the parts that the code takes
+-- `s`, `a` and `b` are the sign, the magnitude of the numerator, and the denominator of `x`
 pub record IsMade (x : Fraction) (s : Bool) (a b : ℕ) : Type 0 where
   pub s_is : s ≡ int_lt x.num (pos 0)
   pub a_is : a ≡ unsigned_abs x.num
@@ -87,7 +87,7 @@ pub record IsMade (x : Fraction) (s : Bool) (a b : ℕ) : Type 0 where
   pub some : 0 < b
   pub lowest : IsGcd a x.den 1
 
--- a power that is not below 0
+-- a power with an exponent of at least 0, computed from these parts
 pub power_at : (x : Fraction) (k : ℤ) (s : Bool) (a b m : ℕ) → IsMade x s a b → m ≡ unsigned_abs k
     → le_z (pos 0) k ≡ true
     → fitting (raised (record { num = signed s a; den = b }) m) ≡ power x k
@@ -96,7 +96,7 @@ power_at x (pos n) s a b m is m_is h =
     (sym (power_up x n (rw (← is.b_is) is.some) (rw (← is.a_is) is.lowest)))
 power_at x (negsuc n) s a b m is m_is h = absurd (cc)
 
--- a power below 0 of a fraction other than 0
+-- a power of a fraction other than 0 with an exponent below 0, computed from these parts
 pub power_below : (x : Fraction) (k : ℤ) (s : Bool) (a b m : ℕ) → IsMade x s a b → m ≡ unsigned_abs k
     → le_z (pos 0) k ≡ false → 0 < a
     → fitting (raised (record { num = signed s b; den = a }) m) ≡ power x k

@@ -1,21 +1,21 @@
--- The order of two ratios by their quotients and remainders.
+-- Comparing two ratios by their quotients and remainders.
 use Rattle.std.proofs.Common.{inl, inr, ◌⊎◌, ◌≡◌, ◌+◌, ◌*◌, ◌/◌, ◌%◌, ◌<◌, ◌≤◌, ℕ, suc, zero, arith, refl, sym, ap, ◌∙◌}
 use Rattle.std.specs.Ordering.{nat_cmp}
 use Rattle.std.proofs.lemmas.Bool.Decides.{nat_tests}
 use Rattle.std.proofs.lemmas.Bool.{cases_order}
 use Rattle.std.proofs.Math.Nat.{add-mul, div-add-mod, mul-pos}
 
--- two ratios of numbers above 0 stand to each other as x does to y
+-- two ratios of numbers with denominators above 0 compare as `x` and `y` do
 pub record IsAlike (a b c d x y : ℕ) : Type 0 where
   pub some_b : 0 < b
   pub some_d : 0 < d
   pub alike : nat_cmp (a * d) (c * b) ≡ nat_cmp x y
 
--- a factor above 0 keeps less
+-- multiplying by a number above 0 preserves "less"
 pub scaled : (m n d : ℕ) → m < n → 0 < d → m * d < n * d
 scaled m n d h some = grind arith
 
--- a greater quotient is of a greater ratio
+-- if the quotient of one ratio is less than that of another, so is the ratio
 quotient_below : (a b c d : ℕ) → 0 < b → 0 < d → a / b < c / d → a * d < c * b
 quotient_below a b c d some_b some_d h =
     below a b c d (a / b) (c / d) (a % b) (c % d) h (omega arith) (omega arith) (omega arith) some_b some_d
@@ -33,19 +33,19 @@ quotient_below a b c d some_b some_d h =
         spread : (b q d s : ℕ) → b * q * d ≤ (d * q + s) * b
         spread b q d s = grind arith
 
--- two pairs of numbers: both less
+-- two pairs of numbers that are both less compare alike
 both_less : (m n x y : ℕ) → m < n → x < y → nat_cmp m n ≡ nat_cmp x y
 both_less m n x y h k = grind (arith, nat_tests)
 
--- both greater
+-- two pairs of numbers that are both greater compare alike
 both_greater : (m n x y : ℕ) → n < m → y < x → nat_cmp m n ≡ nat_cmp x y
 both_greater m n x y h k = grind (arith, nat_tests)
 
--- both equal
+-- two pairs of numbers that are both equal compare alike
 both_equal : (m n x y : ℕ) → m ≡ n → x ≡ y → nat_cmp m n ≡ nat_cmp x y
 both_equal m n x y h k = grind (arith, nat_tests)
 
--- different quotients decide
+-- ratios with different quotients compare as the quotients do
 pub quotients_decide : (a b c d : ℕ) → 0 < b → 0 < d → (a / b ≡ c / d → ⊥)
     → nat_cmp (a / b) (c / d) ≡ nat_cmp (a * d) (c * b)
 quotients_decide a b c d some_b some_d other =
@@ -55,7 +55,7 @@ quotients_decide a b c d some_b some_d other =
       | inr (inr h) ↦ both_greater _ _ _ _ h (quotient_below c d a b some_d some_b h)
     ]
 
--- at equal quotients the remainders decide
+-- ratios with equal quotients compare as the ratios of their remainders do
 pub quotient_same : (a b c d : ℕ) → 0 < b → 0 < d → a / b ≡ c / d
     → nat_cmp (a * d) (c * b) ≡ nat_cmp (a % b * d) (c % d * b)
 quotient_same a b c d some_b some_d h =
@@ -72,7 +72,7 @@ quotient_same a b c d some_b some_d h =
     turned : (d q b : ℕ) → d * q * b ≡ b * q * d
     turned d q b = omega arith
 
--- a remainder of 0 decides
+-- if one remainder is 0, the ratios compare as the remainders do
 pub rest_decides : (r s b d : ℕ) → 0 < b → 0 < d → (r ≡ 0) ⊎ (s ≡ 0) → nat_cmp r s ≡ nat_cmp (r * d) (s * b)
 rest_decides zero zero b d some_b some_d h = both_equal 0 0 (0 * d) (0 * b) refl (omega arith)
 rest_decides zero (suc s) b d some_b some_d h =

@@ -1,4 +1,4 @@
--- What the parts of a numeral give.
+-- Reading a numeral from its parts.
 use Rattle.std.proofs.Common.{◌≡◌, ◌≤◌, ◌-◌, ◌+ℤ◌, ◌-ℤ◌, ℕ, ℤ, suc, pos, Bool, true, false, List, [], ◌∷◌, length, take}
 use Rattle.std.proofs.Common.{drop, Some, None}
 use Rattle.std.proofs.Common.{arith, refl, sym, ap, ◌∙◌}
@@ -12,7 +12,7 @@ use Rattle.frac128.specs.Fraction.{most}
 use Rattle.frac128.specs.Numerals.{before, from, is_digit, is_mark_byte, is_numeral}
 use Rattle.frac128.proofs.Comparisons.{le-false, le-true}
 
--- a front is no longer than the list
+-- the front of a list before a member that passes a test is at most as long as the list
 pub before-le : (p : ℕ → Bool) (xs : List ℕ) → length (before p xs) ≤ length xs
 before-le p [] = omega arith
 before-le p (x ∷ xs) = by_test (p x) (before-le p xs)
@@ -22,7 +22,7 @@ before-le p (x ∷ xs) = by_test (p x) (before-le p xs)
     by_test true h = omega arith
     by_test false h = omega arith
 
--- the digits are no more than the bytes
+-- there are at most as many digits as bytes
 digits-le : (bytes : List ℕ) → length (digits_of bytes) ≤ length bytes
 digits-le [] = omega arith
 digits-le (b ∷ bs) = by_test (is_digit b) (digits-le bs)
@@ -32,7 +32,7 @@ digits-le (b ∷ bs) = by_test (is_digit b) (digits-le bs)
     by_test true h = omega arith
     by_test false h = omega arith
 
--- the front by its length
+-- taking as many members as the front has gives the front
 take-before : (p : ℕ → Bool) (xs : List ℕ) → take (length (before p xs)) xs ≡ before p xs
 take-before p [] = refl
 take-before p (x ∷ xs) = by_test (p x) (take-before p xs)
@@ -43,7 +43,7 @@ take-before p (x ∷ xs) = by_test (p x) (take-before p xs)
     by_test true h = refl
     by_test false h = ap (λ ys. x ∷ ys) h
 
--- the rest by the length of the front
+-- dropping as many members as the front has gives the rest
 drop-before : (p : ℕ → Bool) (xs : List ℕ) → drop (length (before p xs)) xs ≡ from p xs
 drop-before p [] = refl
 drop-before p (x ∷ xs) = by_test (p x) (drop-before p xs)
@@ -54,13 +54,13 @@ drop-before p (x ∷ xs) = by_test (p x) (drop-before p xs)
     by_test true h = refl
     by_test false h = h
 
--- a numeral and its two parts
+-- a numeral, its mantissa and the text of its exponent
 pub record IsSplit (bytes m t : List ℕ) : Type 0 where
   pub numeral : is_numeral bytes ≡ true
   pub m_is : m ≡ mantissa bytes
   pub t_is : t ≡ exponent_text bytes
 
--- the parts by the place of the mark
+-- the parts, given the place of the mark
 pub split_by : (bytes m t : List ℕ) (n : ℕ) → n ≡ length (before is_mark_byte bytes) → m ≡ take n bytes
     → t ≡ drop n bytes
     → is_numeral bytes ≡ true → IsSplit bytes m t
@@ -70,31 +70,31 @@ split_by bytes m t n n_is m_is t_is h = record {
   t_is = t_is ∙ ap (λ k. drop k bytes) n_is ∙ drop-before is_mark_byte bytes;
 }
 
--- the number is too large
+-- if the result is `None`, the test is false
 no_short : (b : Bool) (p : ℕ × ℕ) → None ≡ (if b then Some p else None) → b ≡ false
 no_short true p h = absurd (cc)
 no_short false p h = refl
 
--- the number is not too large
+-- if the result is `Some`, it has the given value and the test is true
 is_shortened : (b : Bool) (p q : ℕ × ℕ) → Some p ≡ (if b then Some q else None) → (b ≡ true) × (p ≡ q)
 is_shortened true p q h = (refl, cc)
 is_shortened false p q h = absurd (cc)
 
--- the zeros at the end are no more than the bytes
+-- there are at most as many zeros at the end as bytes
 pub zeros-le : (bytes : List ℕ) (c z : ℕ) → Some (c, z) ≡ short_coefficient bytes → z ≤ length bytes
 zeros-le bytes c z some =
     let short = is_shortened (nat_le (coefficient_of bytes) most) (c, z) (coefficient_of bytes, end_zeros bytes) some in
     let z_is : z ≡ end_zeros bytes = ap (λ p. p.1) short.1 in
     omega (arith, digits-le bytes)
 
--- the coefficient is too large
+-- if the coefficient is too large, the result is `TooLong`
 pub read_wide : (bytes m t : List ℕ) → IsSplit bytes m t → None ≡ short_coefficient m → Err TooLong ≡ read bytes
 read_wide bytes m t is none =
     let wide : nat_le (coefficient_of (mantissa bytes)) most ≡ false =
     rw (← is.m_is) (no_short (nat_le (coefficient_of m) most) (coefficient_of m, end_zeros m) none) in
     rw (is.numeral, wide) refl
 
--- the exponent is too large
+-- if the exponent is too large, the result is `TooLong`
 pub read_long : (bytes m t : List ℕ) (c z : ℕ) → IsSplit bytes m t → Some (c, z) ≡ short_coefficient m
     → (exponent_size t ≤ most_exponent → ⊥) → Err TooLong ≡ read bytes
 read_long bytes m t c z is some wide =
@@ -104,7 +104,7 @@ read_long bytes m t c z is some wide =
     rw (← is.t_is) (le-false (exponent_size t) most_exponent (omega (arith, wide))) in
     rw (is.numeral, fits, long) refl
 
--- the numeral by its parts
+-- if neither is too large, the result is computed from the parts
 pub read_short : (bytes m t : List ℕ) (c z : ℕ) → IsSplit bytes m t → Some (c, z) ≡ short_coefficient m
     → exponent_size t ≤ most_exponent
     → read bytes ≡ Ok (if c == 0 then record { coefficient = 0; scale = pos 0 }
@@ -118,14 +118,14 @@ read_short bytes m t c z is some low =
     let z_is : z ≡ end_zeros m = ap (λ p. p.1) short.1 in
     rw (is.numeral, fits, near, c_is, z_is, is.m_is, is.t_is) refl
 
--- the coefficient is 0
+-- if the coefficient is 0, the result is 0
 pub read_zero : (bytes m t : List ℕ) (c z : ℕ) → IsSplit bytes m t → Some (c, z) ≡ short_coefficient m
     → exponent_size t ≤ most_exponent
     → c ≡ 0
     → Ok (record { coefficient = 0; scale = pos 0 }) ≡ read bytes
 read_zero bytes m t c z is some low c_is = sym (read_short bytes m t c z is some low ∙ rw c_is refl)
 
--- the coefficient is above 0
+-- if the coefficient is above 0, the result has the scale of the parts
 pub read_some : (bytes m t : List ℕ) (c z k : ℕ) (power : ℤ) → IsSplit bytes m t → Some (c, z) ≡ short_coefficient m
     → exponent_size t ≤ most_exponent → (c ≡ 0 → ⊥)
     → power ≡ exponent_of t → k ≡ places m → Ok (record { coefficient = c; scale = power -ℤ pos k +ℤ pos z })

@@ -10,7 +10,7 @@ use Rattle.frac128.proofs.Coprime.{coprime_is}
 use Rattle.frac128.proofs.Lowest.{cross-lowest, lowest-cross, lowest_gcd, lowest_some}
 use Rattle.frac128.proofs.Signs.{abs-signed, mul-signed, reduced-signed, sign_kept, signed_is}
 
--- the sign and the magnitude of the numerator, and the denominator
+-- the reduced fraction, computed from the sign and the magnitude of the numerator and from the denominator
 pub reduced_is : (n : ℤ) (d : ℕ)
     → reduced n d ≡ record {
       num = signed (int_lt n (pos 0)) (unsigned_abs n / gcd (unsigned_abs n) d);
@@ -20,7 +20,7 @@ pub reduced_is : (n : ℤ) (d : ℕ)
 reduced_is n d = ap (λ z. reduced z d) (signed_is n)
     ∙ reduced-signed _ _ d _ _ (record { top_is = refl; bottom_is = refl })
 
--- it is reduced
+-- the result of `reduced` is reduced
 reduced_reduced : (n : ℤ) (d : ℕ) → 0 < d → IsReduced (reduced n d)
 reduced_reduced n d some =
     let low : IsLowest (unsigned_abs n) d _ _ = record { top_is = refl; bottom_is = refl } in
@@ -30,7 +30,7 @@ reduced_reduced n d some =
           (lowest_gcd _ _ _ _ some low);
     })
 
--- it has the value of the quotient
+-- the result of `reduced` has the value of the quotient
 pub reduced-value : (n : ℤ) (d : ℕ) → SameValue (reduced n d) (record { num = n; den = d })
 reduced-value n d =
     let s = int_lt n (pos 0) in
@@ -42,7 +42,7 @@ reduced-value n d =
     ∙ sym (mul-signed s false a (d / g)) ∙ ap (λ z. z *ℤ pos (d / g)) (sym (signed_is n))
     )
 
--- no other reduced fraction has the value
+-- no other reduced fraction has this value
 pub reduced_only : (n : ℤ) (d : ℕ) (x : Fraction) → 0 < d → IsReduced x → SameValue x (record { num = n; den = d })
     → x ≡ reduced n d
 reduced_only n d x some is same =
@@ -57,6 +57,6 @@ reduced_only n d x some is same =
     ap (λ z. record { num = z; den = x.den }) num
     ∙ sym (reduced-signed (int_lt n (pos 0)) (unsigned_abs n) d _ _ low) ∙ ap (λ z. reduced z d) (sym (signed_is n))
 
--- all three
+-- the law of reduced fractions
 pub reduced_law : ReducedLaw
 reduced_law n d some = (reduced_reduced n d some, reduced-value n d, λ x is same. reduced_only n d x some is same)

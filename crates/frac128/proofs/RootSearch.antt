@@ -1,4 +1,4 @@
--- Whole roots between two numbers.
+-- Searching for a whole root between two numbers.
 use Rattle.std.proofs.Common.{◌≡◌, ◌+◌, ◌-◌, ◌*◌, ◌/◌, ◌%◌, ◌^◌, ◌<◌, ◌≤◌, ◌⊎◌, inl, inr, ℕ, suc, zero, arith, refl}
 use Rattle.std.proofs.Common.{sym, ap, ◌∙◌, lit<}
 use Rattle.std.proofs.lemmas.Bool.{cases_lt}
@@ -6,13 +6,13 @@ use Rattle.std.proofs.lemmas.Nat.{one_shl, pow-add}
 use Rattle.std.proofs.Math.Nat.{mul_comm, mul-zero, one-le-pow, one-mul, pow-le-pow_left, pow-le-pow_right, pow-suc}
 use Rattle.std.proofs.Math.Nat.{pow-zero}
 
--- the powers of the two numbers are below and above n
+-- the power of `low` is below `n`, and that of `high` is above it
 pub record IsBetween (low high q n : ℕ) : Type 0 where
   pub order : low < high
   pub below : low ^ q < n
   pub above : n < high ^ q
 
--- the power of a power
+-- a power of a power is the power to the product
 pow-pow : (a m n : ℕ) → (a ^ m) ^ n ≡ a ^ (m * n)
 pow-pow a m zero = pow-zero (a ^ m) ∙ sym (ap (λ k. a ^ k) (mul-zero m) ∙ pow-zero a)
 pow-pow a m (suc n) =
@@ -21,28 +21,28 @@ pow-pow a m (suc n) =
     one_more : (m n : ℕ) → m * n + m ≡ m * suc n
     one_more m n = omega arith
 
--- a power of 1
+-- powers of 1 are 1
 one-pow : (n : ℕ) → 1 ^ n ≡ 1
 one-pow zero = refl
 one-pow (suc n) = pow-suc 1 n ∙ ap (λ k. k * 1) (one-pow n)
 
--- a power of 0
+-- powers of 0 are 0
 pub zero-pow : (n : ℕ) → 0 < n → 0 ^ n ≡ 0
 zero-pow zero h = absurd (omega arith)
 zero-pow (suc n) h = pow-suc 0 n ∙ omega arith
 
--- the first power
+-- a number to the power 1 is the number
 pub pow-one : (a : ℕ) → a ^ 1 ≡ a
 pow-one a = pow-suc a 0 ∙ ap (λ k. k * a) (pow-zero a) ∙ one-mul a
 
--- roots that are seen at once
+-- for the degree 1, and for 0 and 1, the root is the number
 pub root_small : (n q : ℕ) → 0 < q → (q ≡ 1) ⊎ (n < 2) → n ^ q ≡ n
 root_small n q some (inl h) = ap (λ k. n ^ k) h ∙ pow-one n
 root_small zero q some (inr h) = zero-pow q some
 root_small (suc zero) q some (inr h) = one-pow q
 root_small (suc (suc n)) q some (inr h) = absurd (omega arith)
 
--- between 1 and a power of two
+-- the search begins between 1 and a power of two
 pub search_start : (n q k : ℕ) → 0 < q → (q ≡ 1 → ⊥) → (n < 2 → ⊥) → n < 2 * 2 ^ k → k < 128
     → IsBetween 1 (1 * 2 ^ (k / q + 1) % 2 ^ 128) q n
 search_start n q k some other big next bound =
@@ -72,7 +72,7 @@ search_start n q k some other big next bound =
     reached : (k q : ℕ) → 0 < q → k + 1 ≤ (k / q + 1) * q
     reached k q some = omega (arith, mul_comm (k / q) q)
 
--- two numbers in turn: no root is between them
+-- if the two numbers are consecutive, there is no root
 pub no_root : (low high q n : ℕ) → IsBetween low high q n → high - low ≤ 1 → (m : ℕ) → m ^ q ≡ n → ⊥
 no_root low high q n is h m e = elim (cases_lt low m) [
   | inl above ↦ (let reached : high ^ q ≤ m ^ q =

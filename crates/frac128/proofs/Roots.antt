@@ -1,4 +1,4 @@
--- Roots of fractions by the roots of their parts.
+-- Roots of fractions, computed from the roots of their parts.
 use Rattle.std.proofs.Common.{inl, inr, ◌≡◌, ◌%◌, ◌^◌, ◌<◌, ◌≤◌, ℕ, ℤ, pos, negsuc, suc, zero, Bool, true, false}
 use Rattle.std.proofs.Common.{unsigned_abs, arith}
 use Rattle.std.proofs.Common.{refl, sym, ap, subst, ◌∙◌}
@@ -18,7 +18,7 @@ use Rattle.frac128.proofs.RootSearch.{pow-one, zero-pow}
 use Rattle.frac128.proofs.Signs.{abs-signed, signed_is}
 use Rattle.frac128.proofs.Comparisons.{and-true, le-true}
 
--- a root is above 0 where its power is
+-- the root of a number above 0 is above 0
 pub root_some : (m q b : ℕ) → 0 < q → m ^ q ≡ b → 0 < b → 0 < m
 root_some zero q b some e h = let none : b ≡ 0 = sym e ∙ zero-pow q some in absurd (omega arith)
 root_some (suc m) q b some e h = omega arith
@@ -40,12 +40,12 @@ root_lowest m n q a b some first second h =
     is_coprime m n (coprime-dvd a b m n (coprime_is a b h) (subst (λ k. m ∣ k) first (dvd-pow m q some))
     (subst (λ k. n ∣ k) second (dvd-pow n q some)))
 
--- what fits is no overflow
+-- a fraction whose parts are in range fits
 fitting_ok : (s : Bool) (top bottom : ℕ) → top ≤ most → bottom ≤ most
     → fitting (record { num = signed s top; den = bottom }) ≡ Ok (record { num = signed s top; den = bottom })
 fitting_ok s top bottom low high = rw (abs-signed s top, le-true top most low, le-true bottom most high) refl
 
--- a number below 0 has roots of odd degree alone
+-- if a number below 0 has only roots of odd degree, the sign of the power is that of the root
 odd_sign : (s : Bool) (q : ℕ) → (s ≡ true → q % 2 ≡ 0 → ⊥) → (s && (q % 2 == 1)) ≡ s
 odd_sign false q odd = refl
 odd_sign true q odd = is_one (q % 2) (omega arith) (odd refl)
@@ -60,7 +60,7 @@ plain_sign : (s : Bool) (top q : ℕ) → (s ≡ true → q % 2 ≡ 0 → ⊥) �
 plain_sign false top q odd even = grind (arith, ints)
 plain_sign true top q odd even = absurd (odd refl even)
 
--- the root by the roots of numerator and denominator
+-- the root of a fraction, made from the roots of numerator and denominator
 pub root_by : (x : Fraction) (q : ℕ) (s : Bool) (a b top bottom : ℕ) → IsMade x s a b → 0 < q → top ^ q ≡ a
     → bottom ^ q ≡ b
     → (s ≡ true → q % 2 ≡ 0 → ⊥) → IsRoot x q (record { num = signed s top; den = bottom })
@@ -78,7 +78,7 @@ root_by x q s a b top bottom is some first second odd =
       plain = plain_sign s top q odd;
     }
 
--- it fits where they do
+-- the root of a fraction that fits, fits
 pub root_made : (x : Fraction) (q : ℕ) (s : Bool) (a b top bottom : ℕ) → IsMade x s a b → 0 < q → top ^ q ≡ a
     → bottom ^ q ≡ b → a ≤ most
     → b ≤ most
@@ -92,7 +92,7 @@ root_made x q s a b top bottom is some first second a_fits b_fits odd =
     under : (m n : ℕ) → m ≤ n → n ≤ most → m ≤ most
     under m n h k = omega arith
 
--- powers of different numbers differ
+-- numbers with the same power are equal
 same_of_pow : (m n q : ℕ) → 0 < q → m ^ q ≡ n ^ q → m ≡ n
 same_of_pow m n q some e = elim (cases_order m n) [
   | inl h ↦ h
@@ -103,13 +103,13 @@ same_of_pow m n q some e = elim (cases_order m n) [
     other : (q : ℕ) → 0 < q → q ≡ 0 → ⊥
     other q some e = omega arith
 
--- the magnitude and the sign of a power
+-- the magnitude of a power is the power of the magnitude
 pub abs-pow : (z : ℤ) (q : ℕ) → unsigned_abs (int_pow z q) ≡ unsigned_abs z ^ q
 abs-pow z q =
     ap (λ n. unsigned_abs (int_pow n q)) (signed_is z)
     ∙ ap unsigned_abs (pow-signed (int_lt z (pos 0)) (unsigned_abs z) q) ∙ abs-signed _ (unsigned_abs z ^ q)
 
--- the sign of a number other than 0
+-- a number other than 0 has its sign
 sign_of : (s : Bool) (m : ℕ) → 0 < m → int_lt (signed s m) (pos 0) ≡ s
 sign_of false m some = grind (arith, ints)
 sign_of true zero some = absurd (omega arith)
@@ -128,7 +128,7 @@ odd_pow z q some odd =
     one_is : (r : ℕ) → r ≡ 1 → (r == 1) ≡ true
     one_is r e = rw e refl
 
--- two roots have one numerator
+-- two roots have the same numerator
 same_num : (m n : ℤ) (q : ℕ) → 0 < q → int_pow m q ≡ int_pow n q → (q % 2 ≡ 0 → IsFalse (int_lt m (pos 0)))
     → (q % 2 ≡ 0 → IsFalse (int_lt n (pos 0))) → m ≡ n
 same_num m n q some e plain_m plain_n =
@@ -156,7 +156,7 @@ same_num m n q some e plain_m plain_n =
         signed_is m ∙ ap (λ s. signed s (unsigned_abs m)) (sign (q % 2) refl below some_m some_n)
         ∙ ap (signed (int_lt n (pos 0))) size ∙ sym (signed_is n)
 
--- two roots are one
+-- two roots of a fraction are equal
 pub root_law : RootLaw
 root_law x q r s some is_r is_s =
     let same : raised r q ≡ raised s q = is_r.power ∙ sym is_s.power in

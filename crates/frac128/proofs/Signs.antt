@@ -1,4 +1,4 @@
--- Ratios of numbers that are given by sign and magnitude.
+-- Ratios of numbers that are given by their signs and magnitudes.
 use Rattle.std.proofs.Common.{◌≡◌, ◌*◌, ◌/◌, ◌<◌, ◌≤◌, ℕ, suc, zero, ℤ, pos, negsuc, neg_ℤ, ◌*ℤ◌, Bool, true, false}
 use Rattle.std.proofs.Common.{not, arith, refl}
 use Rattle.std.proofs.Common.{sym, ap, ◌∙◌, unsigned_abs}
@@ -15,31 +15,31 @@ use Rattle.frac128.specs.Sign.{signed, differ, signs_differ}
 use Rattle.frac128.specs.Steps.{fitting, ratio, reduced, times, over}
 use Rattle.frac128.proofs.Comparisons.{and-false, le-false}
 
--- the magnitude of a number with a sign
+-- the magnitude of a signed number
 pub abs-signed : (s : Bool) (a : ℕ) → unsigned_abs (signed s a) ≡ a
 abs-signed false a = refl
 abs-signed true zero = refl
 abs-signed true (suc a) = refl
 
--- a quotient keeps the sign
+-- dividing by a number above 0 keeps the sign
 div-signed : (s : Bool) (a g : ℕ) → int_div (signed s a) (pos g) ≡ signed s (a / g)
 div-signed false a g = refl
 div-signed true zero g = ap pos (zero-div g) ∙ ap (λ n. neg_ℤ (pos n)) (sym (zero-div g))
 div-signed true (suc a) g = refl
 
--- a number with a sign over one above 0, in lowest terms
+-- a signed number over a number above 0, in lowest terms
 pub reduced-signed : (s : Bool) (a b top bottom : ℕ) → IsLowest a b top bottom
     → reduced (signed s a) b ≡ record { num = signed s top; den = bottom }
 unfolding reduced
 reduced-signed s a b top bottom low =
     rw (abs-signed s a, div-signed s a (gcd a b), low.top_is, low.bottom_is) refl
 
--- each number is its magnitude with its sign
+-- each number has its sign and its magnitude
 pub signed_is : (n : ℤ) → n ≡ signed (int_lt n (pos 0)) (unsigned_abs n)
 signed_is (pos n) = let plus : int_lt (pos n) (pos 0) ≡ false = grind (arith, ints) in rw plus refl
 signed_is (negsuc n) = refl
 
--- a product is minus where the signs differ
+-- a product is negative if the signs differ
 pub mul-signed : (s t : Bool) (a c : ℕ) → signed s a *ℤ signed t c ≡ signed (differ s t) (a * c)
 mul-signed false false a c = refl
 mul-signed false true a zero = rw (mul-zero a) refl
@@ -53,41 +53,41 @@ mul-signed true true zero c = zero_times (neg_ℤ (pos c)) ∙ ap pos (sym (zero
 mul-signed true true (suc a) zero = rw (mul-zero (suc a)) refl
 mul-signed true true (suc a) (suc c) = refl
 
--- the number with the other sign
+-- negation flips the sign
 pub neg-signed : (s : Bool) (a : ℕ) → neg_ℤ (signed s a) ≡ signed (not s) a
 neg-signed false a = refl
 neg-signed true zero = refl
 neg-signed true (suc a) = refl
 
--- the other sign keeps the magnitude
+-- negation keeps the magnitude
 pub abs-neg : (z : ℤ) → unsigned_abs (neg_ℤ z) ≡ unsigned_abs z
 abs-neg (pos zero) = refl
 abs-neg (pos (suc n)) = refl
 abs-neg (negsuc n) = refl
 
--- the other sign before or behind a factor
+-- negating a product is negating its first factor
 pub neg-times : (z : ℤ) (k : ℕ) → neg_ℤ (z *ℤ pos k) ≡ neg_ℤ z *ℤ pos k
 neg-times (pos zero) k = rw (zero-mul k) refl
 neg-times (pos (suc n)) k = refl
 neg-times (negsuc n) k = neg_ℤ-neg_ℤ (pos (suc n * k))
 
--- the ratio of a number with a sign and one above zero
+-- the ratio of a signed number and a number above 0
 pub ratio-signed : (s : Bool) (a b top bottom : ℕ) → 0 < b → IsLowest a b top bottom
     → ratio (signed s a) (pos b) ≡ fitting (record { num = signed s top; den = bottom })
 ratio-signed s a zero top bottom some low = absurd (omega arith)
 ratio-signed s a (suc b) top bottom some low = ap fitting (reduced-signed s a (suc b) top bottom low)
 
--- a sign against plus
+-- a sign differs from plus if it is minus
 pub differ-false : (s : Bool) → differ s false ≡ s
 differ-false true = refl
 differ-false false = refl
 
--- a sign against minus
+-- a sign differs from minus if it is plus
 differ-true : (s : Bool) → differ s true ≡ not s
 differ-true true = refl
 differ-true false = refl
 
--- the ratio of two numbers
+-- the ratio of two numbers, computed from their signs and magnitudes
 pub ratio_is : (n d : ℤ) (top bottom : ℕ) → 0 < unsigned_abs d → IsLowest (unsigned_abs n) (unsigned_abs d) top bottom
     → ratio n d ≡ fitting (record { num = signed (signs_differ n d) top; den = bottom })
 ratio_is n (pos zero) top bottom some low = absurd (omega arith)
@@ -101,7 +101,7 @@ ratio_is n (negsuc d) top bottom some low =
     ∙ ap fitting (reduced-signed _ _ (suc d) top bottom low)
     ∙ ap (λ s. fitting (record { num = signed s top; den = bottom })) (sym (differ-true _))
 
--- the product of two fractions
+-- the product of two fractions, computed from their signs and magnitudes
 pub times_is : (x y : Fraction) (top bottom : ℕ) → 0 < x.den → 0 < y.den
     → IsLowest (unsigned_abs x.num * unsigned_abs y.num) (x.den * y.den) top bottom
     → times x y ≡ fitting (record { num = signed (signs_differ x.num y.num) top; den = bottom })
@@ -120,19 +120,19 @@ wide_over s top bottom (inl h) = rw (abs-signed s top, le-false top most (omega 
 wide_over s top bottom (inr h) =
     rw (le-false bottom most (omega arith), and-false (nat_le (unsigned_abs (signed s top)) most)) refl
 
--- a product that is too wide
+-- if the product of two fractions is too wide, it overflows
 pub times_wide : (x y : Fraction) → 0 < x.den → 0 < y.den
     → IsWide (unsigned_abs x.num * unsigned_abs y.num) (x.den * y.den)
     → times x y ≡ Err Overflow
 times_wide x y some_x some_y wide = times_is x y _ _ some_x some_y (record { top_is = refl; bottom_is = refl })
     ∙ wide_over _ _ _ wide
 
--- a numerator that is too large
+-- a fraction whose numerator is too large does not fit
 pub top_over : (s : Bool) (top bottom : ℕ) → most < top
     → fitting (record { num = signed s top; den = bottom }) ≡ Err Overflow
 top_over s top bottom h = rw (abs-signed s top, le-false top most h) refl
 
--- a denominator that is too large
+-- a fraction whose denominator is too large does not fit
 pub bottom_over : (s : Bool) (top bottom : ℕ) → most < bottom
     → fitting (record { num = signed s top; den = bottom }) ≡ Err Overflow
 bottom_over s top bottom h = rw (le-false bottom most h, and-false (nat_le (unsigned_abs (signed s top)) most)) refl
@@ -141,7 +141,7 @@ bottom_over s top bottom h = rw (le-false bottom most h, and-false (nat_le (unsi
 pub not_below : (n : ℕ) → int_lt (pos n) (pos 0) ≡ false
 not_below n = grind (arith, ints)
 
--- a factor above 0 keeps the sign
+-- a factor above 0 on the right keeps the sign
 pub sign_kept : (z : ℤ) (d : ℕ) → 0 < d → int_lt (z *ℤ pos d) (pos 0) ≡ int_lt z (pos 0)
 sign_kept (pos n) d some = not_below (n * d) ∙ sym (not_below n)
 sign_kept (negsuc n) zero some = absurd (omega arith)
@@ -151,11 +151,11 @@ sign_kept (negsuc n) (suc d) some = below (suc n * suc d) (mul-pos {m = suc n} {
     below zero h = absurd (omega arith)
     below (suc m) h = refl
 
--- also on the left
+-- a factor above 0 on the left keeps the sign
 sign_kept_left : (z : ℤ) (d : ℕ) → 0 < d → int_lt (pos d *ℤ z) (pos 0) ≡ int_lt z (pos 0)
 sign_kept_left z d some = ap (λ m. int_lt m (pos 0)) (*ℤ_comm (pos d) z) ∙ sign_kept z d some
 
--- the quotient of two fractions
+-- the quotient of two fractions, computed from their signs and magnitudes
 pub over_is : (x y : Fraction) (top bottom : ℕ) → 0 < x.den → 0 < y.den → 0 < unsigned_abs y.num
     → IsLowest (unsigned_abs x.num * y.den) (x.den * unsigned_abs y.num) top bottom
     → over x y ≡ fitting (record { num = signed (signs_differ x.num y.num) top; den = bottom })
@@ -167,13 +167,13 @@ over_is x y top bottom some_x some_y some low =
     (ap (λ s. differ s (int_lt (pos x.den *ℤ y.num) (pos 0))) (sign_kept x.num y.den some_y)
     ∙ ap (differ (int_lt x.num (pos 0))) (sign_kept_left y.num x.den some_x))
 
--- a quotient that is too wide
+-- if the quotient of two fractions is too wide, it overflows
 pub over_wide : (x y : Fraction) → 0 < x.den → 0 < y.den → 0 < unsigned_abs y.num
     → IsWide (unsigned_abs x.num * y.den) (x.den * unsigned_abs y.num) → over x y ≡ Err Overflow
 over_wide x y some_x some_y some wide = over_is x y _ _ some_x some_y some (record { top_is = refl; bottom_is = refl })
     ∙ wide_over _ _ _ wide
 
--- the magnitude of a number other than 0
+-- the magnitude of a number other than 0 is above 0
 pub some_abs : (d : ℤ) → (d ≡ pos 0 → ⊥) → 0 < unsigned_abs d
 some_abs (pos zero) other = absurd (other refl)
 some_abs (pos (suc d)) other = omega arith

@@ -16,7 +16,7 @@ use Rattle.frac128.specs.Numerals.{is_pointed, is_sign_byte, is_whole, numeral_l
 use Rattle.frac128.specs.Stages.{kind_of, may_end, stage_after}
 use Rattle.frac128.proofs.Comparisons.{and-false}
 
--- what the bytes after a stage must be for a numeral
+-- whether the bytes after a stage complete a numeral
 abbrev rest_of : Stage → List ℕ → Bool
 rest_of Start bs = is_numeral bs
 rest_of Whole bs = is_pointed (before is_mark_byte bs) && is_exponent (from is_mark_byte bs)
@@ -26,19 +26,19 @@ rest_of Marked bs = is_whole (behind_sign bs)
 rest_of Signed bs = is_whole bs
 rest_of Exponent bs = list_all is_digit bs
 
--- the same where there may be no stage
+-- whether the bytes after an optional stage complete a numeral; no bytes do if there is no stage
 abbrev rest_of_some : Option Stage → List ℕ → Bool
 rest_of_some None bs = false
 rest_of_some (Some s) bs = rest_of s bs
 
--- what the tests say of a byte
+-- the results of the four tests of a byte
 record AreTests (b : ℕ) (digit point mark sign : Bool) : Type 0 where
   digit_is : is_digit b ≡ digit
   point_is : is_point_byte b ≡ point
   mark_is : is_mark_byte b ≡ mark
   sign_is : is_sign_byte b ≡ sign
 
--- the tests exclude each other
+-- at most one of the tests of a byte passes
 data IsTested (b : ℕ) : Type 0 where
   IsDigit : AreTests b true false false false → IsTested b
   IsPoint : AreTests b false true false false → IsTested b
@@ -46,31 +46,31 @@ data IsTested (b : ℕ) : Type 0 where
   IsSign : AreTests b false false false true → IsTested b
   IsOther : AreTests b false false false false → IsTested b
 
--- a digit is no point
+-- a digit is not a point
 pub digit_no_point : (b : ℕ) → is_digit b ≡ true → is_point_byte b ≡ false
 digit_no_point b h = grind (arith, nat_tests)
 
--- nor a mark
+-- a digit is not a mark
 pub digit_no_mark : (b : ℕ) → is_digit b ≡ true → is_mark_byte b ≡ false
 digit_no_mark b h = grind (arith, nat_tests)
 
--- nor a sign
+-- a digit is not a sign
 digit_no_sign : (b : ℕ) → is_digit b ≡ true → is_sign_byte b ≡ false
 digit_no_sign b h = grind (arith, nat_tests)
 
--- a point is no mark
+-- a point is not a mark
 point_no_mark : (b : ℕ) → is_point_byte b ≡ true → is_mark_byte b ≡ false
 point_no_mark b h = grind (arith, nat_tests)
 
--- nor a sign
+-- a point is not a sign
 point_no_sign : (b : ℕ) → is_point_byte b ≡ true → is_sign_byte b ≡ false
 point_no_sign b h = grind (arith, nat_tests)
 
--- a mark is no sign
+-- a mark is not a sign
 mark_no_sign : (b : ℕ) → is_mark_byte b ≡ true → is_sign_byte b ≡ false
 mark_no_sign b h = grind (arith, nat_tests)
 
--- each byte is of one of the kinds that the stages test
+-- at most one of the tests of each byte passes
 tested : (b : ℕ) → IsTested b
 tested b = by_tests (is_digit b) (is_point_byte b) (is_mark_byte b) (is_sign_byte b) refl refl refl refl
   where
@@ -99,7 +99,7 @@ tested b = by_tests (is_digit b) (is_point_byte b) (is_mark_byte b) (is_sign_byt
     by_tests false false false false d_is p_is m_is s_is =
         IsOther (record { digit_is = d_is; point_is = p_is; mark_is = m_is; sign_is = s_is })
 
--- one more byte
+-- one more byte leads to the stage after it
 rest_step : (s : Stage) (b : ℕ) (bs : List ℕ) → rest_of s (b ∷ bs) ≡ rest_of_some (stage_after s (kind_of b)) bs
 rest_step s b bs = by_tests s (tested b)
   where
@@ -140,7 +140,7 @@ rest_step s b bs = by_tests s (tested b)
     by_tests Exponent (IsSign t) = simp (t.digit_is, t.point_is, t.mark_is, t.sign_is)
     by_tests Exponent (IsOther t) = simp (t.digit_is, t.point_is, t.mark_is, t.sign_is)
 
--- no byte more
+-- without more bytes, a numeral is complete if it may end at the stage
 rest_end : (s : Stage) → rest_of s [] ≡ may_end s
 rest_end Start = refl
 rest_end Whole = refl
@@ -150,13 +150,14 @@ rest_end Marked = refl
 rest_end Signed = refl
 rest_end Exponent = refl
 
--- the first i bytes have been read: what the rest must be for a numeral, and the longest one among them
+-- after the first `i` bytes: the stage, which decides whether more bytes complete a numeral, and the length of the
+-- longest numeral so far
 pub record IsReadTo (bytes : List ℕ) (i : ℕ) (stage : Stage) (len : ℕ) : Type 0 where
   pub within : i ≤ length bytes
   pub rest : (n : ℕ) → is_numeral (take (i + n) bytes) ≡ rest_of stage (take n (drop i bytes))
   pub longest : len ≡ greatest (λ n. is_numeral (take n bytes)) i
 
--- no byte has been read
+-- before the first byte
 pub read_start : (bytes : List ℕ) → IsReadTo bytes 0 Start 0
 unfolding greatest
 read_start bytes = record {
@@ -168,7 +169,7 @@ read_start bytes = record {
     plain : (n : ℕ) → 0 + n ≡ n
     plain n = omega arith
 
--- what the rest must be, one byte on
+-- the stage after one more byte decides whether more bytes complete a numeral
 rest_on : (bytes : List ℕ) (i len : ℕ) (s : Stage) (k : Kind) → IsReadTo bytes i s len → i < length bytes
     → k ≡ kind_of (get_or bytes i 0)
     → (n : ℕ) → is_numeral (take (i + 1 + n) bytes) ≡ rest_of_some (stage_after s k) (take n (drop (i + 1) bytes))
@@ -182,7 +183,7 @@ rest_on bytes i len s k is h k_is n =
     moved : (i n : ℕ) → i + 1 + n ≡ i + suc n
     moved i n = omega arith
 
--- one number more
+-- the greatest number up to `i + 1` that passes
 greatest_more : (test : ℕ → Bool) (i : ℕ) (b : Bool) → test (i + 1) ≡ b
     → greatest test (i + 1) ≡ (if b then i + 1 else greatest test i)
 unfolding greatest
@@ -193,7 +194,7 @@ greatest_more test i b e =
     step : (n : ℕ) → n ≡ suc i → test (suc i) ≡ b → greatest test (suc i) ≡ (if b then suc i else greatest test i)
     step n e h = rw h refl
 
--- one byte more
+-- reading one more byte
 pub read_more : (bytes : List ℕ) (i : ℕ) (s next : Stage) (k : Kind) (len more : ℕ) → IsReadTo bytes i s len
     → i < length bytes
     → k ≡ kind_of (get_or bytes i 0)
@@ -213,7 +214,7 @@ read_more bytes i s next k len more is h k_is next_is more_is =
     plain : (n : ℕ) → n ≡ n + 0
     plain n = omega arith
 
--- where no number above i passes the test
+-- if no number above `i` passes the test, the greatest one up to `n` is that up to `i`
 greatest-stays : (test : ℕ → Bool) (i n : ℕ) → i ≤ n → ((m : ℕ) → i < m → m ≤ n → test m ≡ false)
     → greatest test n ≡ greatest test i
 unfolding greatest
@@ -224,7 +225,7 @@ greatest-stays test i (suc n) h none = elim (cases_lt i (suc n)) [
   | inr high ↦ (let same : suc n ≡ i = omega arith in ap (greatest test) same)
 ]
 
--- no numeral goes on by the byte
+-- if no numeral continues with the next byte, the longest numeral is found
 pub read_end : (bytes : List ℕ) (i : ℕ) (s : Stage) (k : Kind) (len : ℕ) → IsReadTo bytes i s len → i < length bytes
     → k ≡ kind_of (get_or bytes i 0)
     → None ≡ stage_after s k → len ≡ numeral_len_of bytes
@@ -240,7 +241,7 @@ read_end bytes i s k len is h k_is none =
         parts : (m : ℕ) → i < m → m ≡ i + 1 + (m - (i + 1))
         parts m p = omega arith
 
--- the greatest number that passes is at most the last
+-- the greatest number that passes is at most the last number
 greatest-le : (test : ℕ → Bool) (n : ℕ) → greatest test n ≤ n
 unfolding greatest
 greatest-le test zero = omega arith
@@ -250,7 +251,7 @@ greatest-le test (suc n) = by_test (test (suc n)) (greatest-le test n)
     by_test true h = omega arith
     by_test false h = omega arith
 
--- the last number is the greatest that passes exactly where it passes
+-- the last number is the greatest one that passes exactly if it passes
 greatest-whole : (test : ℕ → Bool) (n : ℕ) → 0 < n → nat_eq (greatest test n) n ≡ test n
 unfolding greatest
 greatest-whole test zero h = absurd (omega arith)
@@ -260,7 +261,7 @@ greatest-whole test (suc n) h = by_test (test (suc n)) (greatest-le test n)
     by_test true h = grind (arith, nat_tests)
     by_test false h = grind (arith, nat_tests)
 
--- all bytes are a numeral where the longest one is as long
+-- all bytes are a numeral exactly if the longest numeral has all of them
 pub numeral_len-whole : (bytes : List ℕ) → 0 < length bytes
     → nat_eq (numeral_len_of bytes) (length bytes) ≡ is_numeral bytes
 numeral_len-whole bytes some = greatest-whole (λ n. is_numeral (take n bytes)) (length bytes) some

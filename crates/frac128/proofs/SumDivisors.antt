@@ -1,4 +1,4 @@
--- What a sum over a common multiple shares with it.
+-- The common divisors of a sum over a common multiple and this multiple.
 use Rattle.std.proofs.Common.{inl, inr, ◌≡◌, ◌+◌, ◌-◌, ◌*◌, ◌/◌, ◌<◌, ◌+ℤ◌, ℕ, pos, neg_ℤ, unsigned_abs, Bool, true}
 use Rattle.std.proofs.Common.{false, arith, sym}
 use Rattle.std.proofs.Common.{ap, subst, ◌∙◌}
@@ -16,11 +16,11 @@ use Rattle.frac128.proofs.Coprime.{IsCoprime, coprime-dvd, coprime-mul, coprime-
 use Rattle.frac128.proofs.Coprime.{is_coprime}
 use Rattle.frac128.proofs.Euclid.{gcd_is, gcd_some}
 
--- a difference by magnitudes
+-- the magnitude of a difference of natural numbers
 abs-difference : (x y : ℕ) → unsigned_abs (pos x +ℤ neg_ℤ (pos y)) ≡ (x - y) + (y - x)
 abs-difference x y = omega (arith, ints)
 
--- what divides a difference and one of two numbers divides the other
+-- a divisor of a difference and of its second number divides the first number
 dvd-difference : (x y k : ℕ) → k ∣ (x - y) + (y - x) → k ∣ y → k ∣ x
 dvd-difference x y k both h = elim (cases_lt x y) [
   | inl low ↦ (let less : (x - y) + (y - x) ≡ y - x = omega arith in let rest : y - (y - x) ≡ x =
@@ -29,7 +29,7 @@ dvd-difference x y k both h = elim (cases_lt x y) [
       omega arith in subst (λ n. k ∣ n) whole (dvd-add k (subst (λ n. k ∣ n) less both) h))
 ]
 
--- the same with signs
+-- a divisor of a signed sum and of its second number divides the first number
 dvd-signed : (s t : Bool) (x y k : ℕ) → k ∣ unsigned_abs (signed s x +ℤ signed t y) → k ∣ y → k ∣ x
 dvd-signed false false x y k both h = (dvd-add_iff_left k h).1 both
 dvd-signed false true x y k both h = dvd-difference x y k (subst (λ n. k ∣ n) (abs-difference x y) both) h
@@ -42,7 +42,7 @@ dvd-signed true true x y k both h = (dvd-add_iff_left k h).1 (subst (λ n. k ∣
     joined : (x y : ℕ) → unsigned_abs (neg_ℤ (pos x) +ℤ neg_ℤ (pos y)) ≡ x + y
     joined x y = omega (arith, ints)
 
--- a sum whose second part the number divides, and whose first part is coprime to it
+-- a sum of a number that is coprime to `n` and a multiple of `n` is coprime to `n`
 coprime-sum : (s t : Bool) (x y n : ℕ) → IsCoprime n x → n ∣ y → IsCoprime (unsigned_abs (signed s x +ℤ signed t y)) n
 coprime-sum s t x y n h divides = coprime_is _ n (
   one-dvd _,
@@ -50,7 +50,8 @@ coprime-sum s t x y n h divides = coprime_is _ n (
   λ d p q. (is_coprime n x h).2 d q (dvd-signed s t x y d p (dvd_trans d q divides)),
 )
 
--- a sum over b'd shares a factor with the divisor of the denominators alone
+-- the numerator of a sum over the least common multiple shares only factors of the greatest common divisor of the
+-- denominators
 pub sum_shares : (s t : Bool) (a b c d : ℕ) → 0 < b → 0 < d → IsGcd a b 1 → IsGcd c d 1
     → gcd (unsigned_abs (signed s (a * (d / gcd b d)) +ℤ signed t (c * (b / gcd b d)))) (b / gcd b d * d)
     ≡ gcd (unsigned_abs (signed s (a * (d / gcd b d)) +ℤ signed t (c * (b / gcd b d)))) (gcd b d)

@@ -1,4 +1,4 @@
--- Sums over a common multiple.
+-- Sums over a common multiple of the denominators.
 use Rattle.std.proofs.Common.{◌≡◌, ◌*◌, ◌/◌, ◌<◌, ◌≤◌, ◌+ℤ◌, ◌-ℤ◌, ◌*ℤ◌, ℕ, ℤ, pos, neg_ℤ, suc, zero, Bool, true, false}
 use Rattle.std.proofs.Common.{unsigned_abs}
 use Rattle.std.proofs.Common.{arith, refl, sym, ap, ◌∙◌}
@@ -19,14 +19,15 @@ use Rattle.frac128.proofs.SumDivisors.{sum_shares}
 use Rattle.frac128.proofs.Signs.{abs-neg, abs-signed, differ-false, mul-signed, neg-times, signed_is}
 use Rattle.frac128.proofs.Comparisons.{le-true}
 
--- the multiple over one denominator is what is left of the other
+-- the least common multiple divided by one denominator is the other one divided by the greatest common divisor
 pub lcm-div : (b d : ℕ) → 0 < b → 0 < d → (lcm b d / b ≡ d / gcd b d) × (lcm b d / d ≡ b / gcd b d)
 lcm-div b d some_b some_d = (
   ap (λ n. n / b) (lcm-right b d) ∙ mul-div_cancel_left (d / gcd b d) some_b,
   ap (λ n. n / d) (lcm-left b d ∙ mul_comm (b / gcd b d) d) ∙ mul-div_cancel_left (b / gcd b d) some_d,
 )
 
--- the magnitudes of two fractions, and their denominators over the divisor of these
+-- the magnitudes of the numerators of two fractions, their denominators, and these divided by their greatest common
+-- divisor
 pub record IsParts (x y : Fraction) (b d g p q top other : ℕ) : Type 0 where
   pub b_is : b ≡ x.den
   pub d_is : d ≡ y.den
@@ -38,7 +39,7 @@ pub record IsParts (x y : Fraction) (b d g p q top other : ℕ) : Type 0 where
   pub top_is : top ≡ unsigned_abs x.num
   pub other_is : other ≡ unsigned_abs y.num
 
--- the parts, by what each of them is
+-- the parts, given the value of each of them
 pub are_parts : (x y : Fraction) {b d g p q top other : ℕ} → b ≡ x.den → d ≡ y.den → g ≡ gcd b d → p ≡ b / g → q ≡ d / g
     → 0 < b → 0 < d → top ≡ unsigned_abs x.num → other ≡ unsigned_abs y.num → IsParts x y b d g p q top other
 are_parts x y b_is d_is g_is p_is q_is some_b some_d top_is other_is = record {
@@ -53,31 +54,31 @@ are_parts x y b_is d_is g_is p_is q_is some_b some_d top_is other_is = record {
   other_is = other_is;
 }
 
--- a numerator times a factor, by sign and magnitude
+-- a numerator times a factor, with its sign and magnitude
 numerator-signed : (n : ℤ) (s : Bool) (a k : ℕ) → s ≡ int_lt n (pos 0) → a ≡ unsigned_abs n
     → n *ℤ pos k ≡ signed s (a * k)
 numerator-signed n s a k p q = ap (λ z. z *ℤ pos k) (signed_is n)
     ∙ rw (← p, ← q) (mul-signed s false a k ∙ ap (λ t. signed t (a * k)) (differ-false s))
 
--- a test that fails, or passes
+-- if the result is a fault, it is `Overflow` and the test is false
 if_err : (b : Bool) (z : ℤ) (e : FracFault) → Err e ≡ (if b then Ok z else Err Overflow) → (b ≡ false) × (e ≡ Overflow)
 if_err true z e h = absurd (cc)
 if_err false z e h = (refl, cc)
 
--- a test that passes
+-- if the result is a number, it is the given one and the test is true
 if_ok : (b : Bool) (n z : ℤ) → Ok n ≡ (if b then Ok z else Err Overflow) → (b ≡ true) × (n ≡ z)
 if_ok true n z h = (refl, cc)
 if_ok false n z h = absurd (cc)
 
--- a number out of range
+-- a fault of `within` is `Overflow`, and the number is out of range
 within_err : (z : ℤ) (e : FracFault) → Err e ≡ within z → (in_range z ≡ false) × (e ≡ Overflow)
 within_err z e h = if_err (in_range z) z e h
 
--- a number in range
+-- a result of `within` is the number itself, which is in range
 pub within_ok : (n z : ℤ) → Ok n ≡ within z → (in_range z ≡ true) × (n ≡ z)
 within_ok n z h = if_ok (in_range z) n z h
 
--- a quotient of numbers in range fits in lowest terms
+-- a reduced quotient of numbers in range fits
 fits_reduced : (z : ℤ) (m : ℕ) → unsigned_abs z ≤ most → m ≤ most → fits (reduced z m) ≡ true
 fits_reduced z m top bottom =
     let g = gcd (unsigned_abs z) m in
@@ -90,29 +91,29 @@ fits_reduced z m top bottom =
       le-true (m / g) most high,
     ) refl
 
--- a sum in range is the ratio
+-- a sum in range over a denominator in range is their ratio
 pub sum_over-ratio : (m : ℕ) (z : ℤ) → 0 < m → m ≤ most → unsigned_abs z ≤ most → ratio z (pos m) ≡ sum_over m z
 sum_over-ratio zero z some low h = absurd (omega arith)
 sum_over-ratio (suc m) z some low h = rw (fits_reduced z (suc m) h low, le-true (unsigned_abs z) most h) refl
 
--- the first part that is out of range
+-- if the multiple is out of range, the step fails
 joined-multiple : (step : ℤ → ℤ → ℤ) (m : ℕ) (l r : ℤ) (e : FracFault) → Err e ≡ within (pos m)
     → step_over step m l r ≡ Err e
 joined-multiple step m l r e h = let no = within_err (pos m) e h in rw (no.0, no.1) refl
 
--- also the first numerator
+-- if the first numerator is out of range, the step fails
 joined-left : (step : ℤ → ℤ → ℤ) (m : ℕ) (l r n : ℤ) (e : FracFault) → Ok n ≡ within (pos m) → Err e ≡ within l
     → step_over step m l r ≡ Err e
 joined-left step m l r n e p h = let no = within_err l e h in rw ((within_ok n (pos m) p).0, no.0, no.1) refl
 
--- also the second
+-- if the second numerator is out of range, the step fails
 joined-right : (step : ℤ → ℤ → ℤ) (m : ℕ) (l r n k : ℤ) (e : FracFault) → Ok n ≡ within (pos m) → Ok k ≡ within l
     → Err e ≡ within r
     → step_over step m l r ≡ Err e
 joined-right step m l r n k e p q h = let no =
     within_err r e h in rw ((within_ok n (pos m) p).0, (within_ok k l q).0, no.0, no.1) refl
 
--- all parts in range
+-- if all parts are in range, the step gives the sum over the multiple
 joined-sum : (step : ℤ → ℤ → ℤ) (m : ℕ) (l r n k j : ℤ) → Ok n ≡ within (pos m) → Ok k ≡ within l → Ok j ≡ within r
     → step_over step m l r ≡ sum_over (unsigned_abs n) (step k j)
 joined-sum step m l r n k j p q h =
@@ -121,7 +122,7 @@ joined-sum step m l r n k j p q h =
     let j_is = within_ok j r h in
     rw (n_is.0, k_is.0, j_is.0, n_is.1, k_is.1, j_is.1) refl
 
--- the sum by the parts that the code makes
+-- the sum, computed from the parts that the code makes
 plus_by : (x y : Fraction) (b d g p q top other : ℕ) (s t : Bool) → IsParts x y b d g p q top other
     → s ≡ int_lt x.num (pos 0)
     → t ≡ int_lt y.num (pos 0)
@@ -159,7 +160,7 @@ multiple_some x y b d g p q top other is = mul-pos (above p refl) is.some_d
         absurd (omega (arith, mul-zero g))
     above (suc n) e = omega arith
 
--- the sum where the multiple is out of range
+-- if the multiple is out of range, the sum fails
 pub plus-multiple : (x y : Fraction) (b d g p q top other : ℕ) (e : FracFault) → IsParts x y b d g p q top other
     → Err e ≡ within (pos (p * d)) → plus x y ≡ Err e
 plus-multiple x y b d g p q top other e is h =
@@ -167,7 +168,7 @@ plus-multiple x y b d g p q top other e is h =
     ∙ joined-multiple ◌+ℤ◌ (p * d) (signed (int_lt x.num (pos 0)) (top * q))
     (signed (int_lt y.num (pos 0)) (other * p)) e h
 
--- the sum where the first numerator is
+-- if the first numerator is out of range, the sum fails
 pub plus-left : (x y : Fraction) (b d g p q top other : ℕ) (s : Bool) (n : ℤ) (e : FracFault)
     → IsParts x y b d g p q top other
     → s ≡ int_lt x.num (pos 0)
@@ -176,7 +177,7 @@ plus-left x y b d g p q top other s n e is s_is m h =
     plus_by x y b d g p q top other s _ is s_is refl
     ∙ joined-left ◌+ℤ◌ (p * d) (signed s (top * q)) (signed (int_lt y.num (pos 0)) (other * p)) n e m h
 
--- the sum where the second numerator is
+-- if the second numerator is out of range, the sum fails
 pub plus-right : (x y : Fraction) (b d g p q top other : ℕ) (s t : Bool) (n k : ℤ) (e : FracFault)
     → IsParts x y b d g p q top other
     → s ≡ int_lt x.num (pos 0) → t ≡ int_lt y.num (pos 0)
@@ -186,7 +187,7 @@ plus-right x y b d g p q top other s t n k e is s_is t_is m l h =
     plus_by x y b d g p q top other s t is s_is t_is
     ∙ joined-right ◌+ℤ◌ (p * d) (signed s (top * q)) (signed t (other * p)) n k e m l h
 
--- the sum where all parts are in range
+-- if all parts are in range, the sum is that of the numerators over the multiple
 pub plus-sum : (x y : Fraction) (b d g p q top other : ℕ) (s t : Bool) (n k j : ℤ) → IsParts x y b d g p q top other
     → s ≡ int_lt x.num (pos 0) → t ≡ int_lt y.num (pos 0)
     → Ok n ≡ within (pos (p * d)) → Ok k ≡ within (signed s (top * q)) → Ok j ≡ within (signed t (other * p))
@@ -195,7 +196,8 @@ plus-sum x y b d g p q top other s t n k j is s_is t_is m l h =
     plus_by x y b d g p q top other s t is s_is t_is
     ∙ joined-sum ◌+ℤ◌ (p * d) (signed s (top * q)) (signed t (other * p)) n k j m l h
 
--- what the sum shares with the multiple, it shares with the divisor
+-- the common divisors of the sum and the multiple are those of the sum and the greatest common divisor of the
+-- denominators
 pub sum-shared : (x y : Fraction) (b d g p q top other : ℕ) (s t : Bool) (n k j : ℤ) → IsParts x y b d g p q top other
     → IsGcd top b 1
     → IsGcd other d 1
@@ -212,7 +214,7 @@ sum-shared x y b d g p q top other s t n k j is first second m l h =
     )
     (sym (sum_shares s t top b other d is.some_b is.some_d first second))
 
--- a difference is the sum with the other sign
+-- a difference is the sum with the negated second fraction
 pub minus-negated : (x y : Fraction) → minus x y ≡ plus x (negated y)
 minus-negated x y =
     let m = lcm x.den y.den in

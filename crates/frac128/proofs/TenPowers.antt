@@ -1,4 +1,4 @@
--- Numbers times and over powers of ten.
+-- Numbers multiplied and divided by powers of ten.
 use Rattle.std.proofs.Common.{◌≡◌, ◌*◌, ◌/◌, ◌^◌, ◌+◌, ◌<◌, ◌≤◌, ℕ, ℤ, suc, pos, negsuc, Bool, true, false, arith, refl}
 use Rattle.std.proofs.Common.{sym, ap, subst}
 use Rattle.std.proofs.Common.{◌∙◌, lit<, lit≤}
@@ -23,11 +23,11 @@ use Rattle.frac128.proofs.Powers.{pow_some}
 use Rattle.frac128.proofs.Signs.{bottom_over, ratio-signed, top_over}
 use Rattle.frac128.proofs.Comparisons.{le-true}
 
--- a power of ten in range
+-- powers of ten up to the exponent 38 are at most `10 ^ 38`
 pub ten_power : (k : ℕ) → k ≤ 38 → 10 ^ k ≤ 10 ^ 38
 ten_power k h = pow-le-pow_right {n = 10} (lit< tt) h
 
--- a number above 0 with too many zeros after it
+-- a number above 0 with too many zeros after it is out of range
 pub digit_wide : (n z d : ℕ) → (n ≡ 0 → ⊥) → 37 < z → n * 10 ^ (z + 1) + d ≤ most → ⊥
 digit_wide n z d other h low =
     let more : 39 ≤ z + 1 = omega arith in
@@ -38,12 +38,12 @@ digit_wide n z d other h low =
     let big : most < 10 ^ 39 = lit< tt in
     omega arith
 
--- the ratio of two numbers
+-- the ratio of two numbers, given their lowest terms
 ratio_low : (a b top bottom : ℕ) → 0 < b → IsLowest a b top bottom
     → ratio (pos a) (pos b) ≡ fitting (record { num = pos top; den = bottom })
 ratio_low a b top bottom some low = ratio-signed false a b top bottom some low
 
--- the ratio by its quotients
+-- the ratio of two numbers, computed with their greatest common divisor
 ratio_quotients : (a b : ℕ) → 0 < b
     → ratio (pos a) (pos b) ≡ fitting (record { num = pos (a / gcd a b); den = b / gcd a b })
 ratio_quotients a b some = ratio_low a b (a / gcd a b) (b / gcd a b) some (record { top_is = refl; bottom_is = refl })
@@ -52,11 +52,11 @@ ratio_quotients a b some = ratio_low a b (a / gcd a b) (b / gcd a b) some (recor
 pub coprime_one : (a : ℕ) → IsCoprime a 1
 coprime_one a = coprime_is a 1 (one-dvd a, one-dvd 1, λ d p q. q)
 
--- a whole number in range
+-- a whole number in range is its ratio to 1
 pub whole_ratio : (n : ℕ) → n ≤ most → ratio (pos n) (pos 1) ≡ Ok (whole (pos n))
 whole_ratio n h = ratio_low n 1 n 1 (lit< tt) (lowest_self n 1 (lit< tt) (coprime_one n)) ∙ rw (le-true n most h) refl
 
--- too large a product
+-- a product with too large a power of ten overflows
 pub wide_up : (n k : ℕ) → 0 < n → (k ≤ 38 → ⊥) → ratio (pos (n * 10 ^ k)) (pos 1) ≡ Err Overflow
 wide_up n k some none =
     let more : 39 ≤ k = omega (arith, none) in
@@ -67,7 +67,7 @@ wide_up n k some none =
     ratio_low (n * 10 ^ k) 1 (n * 10 ^ k) 1 (lit< tt) (lowest_self (n * 10 ^ k) 1 (lit< tt) (coprime_one (n * 10 ^ k)))
     ∙ top_over false (n * 10 ^ k) 1 (omega arith)
 
--- too large a divisor
+-- a quotient by too large a power of ten overflows
 pub wide_down : (n k : ℕ) → 0 < n → n ≤ most → (k ≤ 38 → ⊥) → ratio (pos n) (pos (10 ^ (38 + k))) ≡ Err Overflow
 wide_down n k some fits none =
     let more : 77 ≤ 38 + k = omega (arith, none) in
@@ -85,7 +85,7 @@ wide_down n k some fits none =
         let quotient : 2 ^ 127 ≤ d / gcd n d = le-div (2 ^ 127) d (gcd n d) (gcd_some n d some_d) (omega arith) in
         omega arith
 
--- the denominator of a quotient grows with the divisor
+-- if a divisor is multiplied, the denominator of the quotient does not decrease
 bottom_grows : (n a b : ℕ) → 0 < a → 0 < b → a / gcd n a ≤ a * b / gcd n (a * b)
 bottom_grows n a b some_a some_b =
     let g = gcd n a in
@@ -103,7 +103,7 @@ bottom_grows n a b some_a some_b =
     turned : (q b g : ℕ) → q * (b * g) ≡ g * q * b
     turned q b g = omega arith
 
--- a quotient of a quotient in lowest terms
+-- dividing by two numbers in turn gives the lowest terms of dividing by their product
 lowest_twice : (n a b p q u v : ℕ) → 0 < a → 0 < b → IsLowest n a p q → IsLowest p (q * b) u v → IsLowest n (a * b) u v
 lowest_twice n a b p q u v some_a some_b first second =
     let some_q = lowest_some n a p q some_a first in
@@ -127,18 +127,18 @@ lowest_twice n a b p q u v some_a some_b first second =
     cancelled : (q x y : ℕ) → 0 < q → q * x ≡ q * y → x ≡ y
     cancelled q x y some e = sym (mul-div_cancel_left x some) ∙ ap (λ m. m / q) e ∙ mul-div_cancel_left y some
 
--- a fraction that does not fit
+-- if the result is a fault, the test is false and the fault is `Overflow`
 fit_err : (b : Bool) (x : Fraction) (e : FracFault) → Err e ≡ (if b then Ok x else Err Overflow)
     → (b ≡ false) × (e ≡ Overflow)
 fit_err true x e h = absurd (cc)
 fit_err false x e h = (refl, cc)
 
--- a fraction that fits
+-- if the result is a fraction, it is the one that was tested
 fit_ok : (b : Bool) (x y : Fraction) → Ok x ≡ (if b then Ok y else Err Overflow) → x ≡ y
 fit_ok true x y h = cc
 fit_ok false x y h = absurd (cc)
 
--- where the first of two divisions does not fit, both do not
+-- if the first of two divisions fails, so does the division by the product
 twice_err : (n a b : ℕ) (e : FracFault) → n ≤ most → 0 < a → 0 < b → Err e ≡ ratio (pos n) (pos a)
     → ratio (pos n) (pos (a * b)) ≡ Err e
 twice_err n a b e low some_a some_b h =
@@ -152,7 +152,7 @@ twice_err n a b e low some_a some_b h =
     high : (p q : ℕ) → p ≤ most → (nat_le p most && nat_le q most) ≡ false → most < q
     high p q h e = grind (arith, nat_tests)
 
--- two divisions are one
+-- two divisions in turn are a division by the product
 twice_ok : (n a b : ℕ) (x : Fraction) → 0 < a → 0 < b → Ok x ≡ ratio (pos n) (pos a)
     → over x (whole (pos b)) ≡ ratio (pos n) (pos (a * b))
 twice_ok n a b x some_a some_b h =
@@ -168,19 +168,19 @@ twice_ok n a b x some_a some_b h =
     ∙ ratio_low p (q * b) _ _ some_qb second
     ∙ sym (ratio_low n (a * b) _ _ (mul-pos some_a some_b) (lowest_twice n a b p q _ _ some_a some_b first second))
 
--- where the first of the code's two divisions does not fit
+-- if the first of the two divisions that the code makes fails, so does the whole
 pub down_err : (n k : ℕ) (e : FracFault) → n ≤ most → Err e ≡ ratio (pos n) (pos (10 ^ 38))
     → ratio (pos n) (pos (10 ^ (38 + k))) ≡ Err e
 down_err n k e low h = ap (λ d. ratio (pos n) (pos d)) (pow-add 10 38 k)
     ∙ twice_err n (10 ^ 38) (10 ^ k) e low (lit< tt) (pow_some 10 k (lit< tt)) h
 
--- both are one division
+-- the two divisions that the code makes are one division
 pub down_ok : (n k : ℕ) (x : Fraction) → Ok x ≡ ratio (pos n) (pos (10 ^ 38))
     → over x (whole (pos (10 ^ k))) ≡ ratio (pos n) (pos (10 ^ (38 + k)))
 down_ok n k x h = twice_ok n (10 ^ 38) (10 ^ k) x (lit< tt) (pow_some 10 k (lit< tt)) h
     ∙ ap (λ d. ratio (pos n) (pos d)) (sym (pow-add 10 38 k))
 
--- nothing times ten to any power
+-- 0 times any power of ten is 0
 pub zero_power : (s : ℤ) → times_power 0 s ≡ Ok (whole (pos 0))
 zero_power (pos k) = ap (λ m. ratio (pos m) (pos 1)) (zero-mul (10 ^ k))
     ∙ ratio_low 0 1 0 1 (lit< tt) (lowest_self 0 1 (lit< tt) (coprime_one 0))

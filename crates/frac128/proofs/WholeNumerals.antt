@@ -17,16 +17,16 @@ use Rattle.frac128.proofs.Readings.{IsSplit, read_short}
 use Rattle.frac128.proofs.StageRuns.{digit_no_mark, digit_no_point}
 use Rattle.frac128.proofs.TenPowers.{whole_ratio, zero_power}
 
--- two tests that pass
+-- if the conjunction of two tests holds, both tests hold
 pub both : (x y : Bool) → (x && y) ≡ true → (x ≡ true) × (y ≡ true)
 both true y h = (refl, h)
 both false y h = absurd (cc)
 
--- nothing but digits
+-- all bytes are digits
 abbrev pub all : List ℕ → Type 0
 all bs = list_all is_digit bs ≡ true
 
--- no mark and no point stands among digits
+-- if no digit passes a test, the front of digits before the first byte that passes is all of them
 pub before_digits : (test : ℕ → Bool) (bs : List ℕ) → ((b : ℕ) → is_digit b ≡ true → test b ≡ false) → all bs
     → before test bs ≡ bs
 before_digits test [] none h = refl
@@ -34,7 +34,7 @@ before_digits test (b ∷ bs) none h =
     let parts = both (is_digit b) (list_all is_digit bs) h in
     rw (none b parts.0) (ap (λ xs. b ∷ xs) (before_digits test bs none parts.1))
 
--- nothing follows digits
+-- if no digit passes a test, the rest of digits from the first byte that passes on is empty
 pub from_digits : (test : ℕ → Bool) (bs : List ℕ) → ((b : ℕ) → is_digit b ≡ true → test b ≡ false) → all bs
     → from test bs ≡ []
 from_digits test [] none h = refl
@@ -42,7 +42,7 @@ from_digits test (b ∷ bs) none h =
     let parts = both (is_digit b) (list_all is_digit bs) h in
     rw (none b parts.0) (from_digits test bs none parts.1)
 
--- digits are a numeral
+-- digits alone are a numeral
 pub digits_numeral : (bs : List ℕ) → 0 < length bs → all bs → is_numeral bs ≡ true
 digits_numeral [] some h = absurd (omega arith)
 digits_numeral (b ∷ bs) some h =
@@ -57,7 +57,7 @@ digits_numeral (b ∷ bs) some h =
     ∙ ap (λ t. (list_any is_digit ds && (t && true)) && true) h
     ∙ ap (λ t. ((t || list_any is_digit bs) && true) && true) parts.0
 
--- the value of a coefficient and the zeros at its end
+-- the value of a coefficient with the zeros at its end
 value_zeros : (c z n : ℕ) → n ≡ c * 10 ^ z → n ≤ most
     → (x : Decimal) ×
     ((if c == 0 then record { coefficient = 0; scale = pos 0 } else record { coefficient = c; scale = pos z }) ≡ x)
@@ -74,7 +74,7 @@ value_zeros (suc c) z n e fits =
     other : (c : ℕ) → (suc c == 0) ≡ false
     other c = grind (arith, nat_tests)
 
--- the value of digits
+-- the law of the value of digits alone
 pub digits_law : DigitsLaw
 digits_law bytes some h fits =
     let ds = digits_of bytes in

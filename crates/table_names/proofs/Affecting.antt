@@ -18,7 +18,7 @@ use Rattle.table_names.proofs.Members.{member_later}
 use Rattle.table_names.proofs.Paths.{key_words_closed}
 use Rattle.table_names.proofs.Reaching.{onward, reach_law}
 
--- each reached key was looked at by the words, or by a key that they reach
+-- each reached key is looked at by one of the words, or by a key that they reach
 reached_looked :
     {table : Table} {words : List WordUse} {m : Key} → WordsReach table words m
     → ((u : WordUse) × Contains words u × Contains (looked_keys table u) m)

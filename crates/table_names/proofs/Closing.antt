@@ -49,7 +49,7 @@ module _ (table : Table) where
       (λ m r. off_longer path n m (off m (λ i. onward r (leads m i)))
       (λ q. no_cycle n e (subst (λ (x : Key). Reaches table n x) q r)))
     where
-      -- a key is not on the path if this would mean that n reaches itself
+      -- a key is not on the path if `n` would then reach itself
       off : (m : Key) → (Contains path m → Reaches table n n) → is_among path m ≡ false
       off m back = false_from_ne_true (is_among path m) (λ on. no_cycle n e (back (member_among path m on)))
 

@@ -1,4 +1,4 @@
--- Words and keys from which every way down ends.
+-- Words and keys from which every descent ends.
 use Rattle.std.proofs.Common.{◌≡◌, ◌≢◌, ℕ, zero, suc, Bool, true, false, cond, List, [], ◌∷◌, ◌++◌}
 use Rattle.std.proofs.Common.{Contains, Option, Some, None, refl}
 use Rattle.expr_tree.specs.declared.word_list.WordUse.{WordUse}
@@ -12,18 +12,18 @@ use Rattle.table_names.specs.Leads.{Reaches, WordsLeadTo, WordsReach, at_once, f
 use Rattle.table_names.specs.Words.{key_words}
 use Rattle.table_names.proofs.Members.{first_none}
 
--- a choice is `None` only if the test is false and the alternative is `None`
+-- a conditional is `None` only if the test is false and the alternative is `None`
 not_chosen : {A : Type 0} (b : Bool) (x : A) (o : Option A) → cond b (Some x) o ≡ None → (b ≡ false) × (o ≡ None)
 not_chosen true x o e = cc
 not_chosen false x o e = (refl, e)
 
 module _ (table : Table) where
-  -- every way down from the key ends within this many keys
+  -- every descent from the key ends within this many keys
   abbrev pub EndsWithin : ℕ → Key → Type 0
   EndsWithin zero n = ⊥
   EndsWithin (suc k) n = (u : WordUse) → Contains (key_words table n) u → LeadsInto table (EndsWithin k) u
 
-  -- every way down from words ends within this many keys
+  -- every descent from the words ends within this many keys
   abbrev pub AreEnding : ℕ → List WordUse → Type 0
   AreEnding k words = (u : WordUse) → Contains words u → LeadsInto table (EndsWithin k) u
 
@@ -49,12 +49,12 @@ module _ (table : Table) where
   ends_reached (further l r) zero h = absurd (ends_below 0 _ _ h l)
   ends_reached (further l r) (suc k) h = ends_more k _ (ends_reached r k (ends_below (suc k) _ _ h l))
 
-  -- a key from which every way ends does not reach itself
+  -- a key from which every descent ends does not reach itself
   pub no_loop : (k : ℕ) (n : Key) → EndsWithin k n → Reaches table n n → ⊥
   no_loop zero n h r = h
   no_loop (suc k) n h r = no_loop k n (ends_reached r k h) r
 
-  -- if no fault is met, each way down ends
+  -- if no fault is met, every descent ends
   word_ends :
       (k : ℕ) (path : List Key)
       → ((longer : List Key) (n : Key) → fault_within table k longer n ≡ None → EndsWithin k n)

@@ -41,7 +41,7 @@ module _ (before after : Table) (keys : List Key) (changed : AreChanged before a
       → (m : Key) → Contains (targets before u) m → IsUnaffected m
   target_unaffected n free u i m t a = free (users before keys n m (at_once (u, i, t)) a)
 
-  -- an unaffected key from which every way ended still has this property
+  -- every descent from an unaffected key still ends
   ends_kept : (k : ℕ) (n : Key) → EndsWithin before k n → IsUnaffected n → EndsWithin after k n
   ends_kept zero n e free = e
   ends_kept (suc k) n e free =
@@ -69,7 +69,7 @@ module _ (before after : Table) (keys : List Key) (changed : AreChanged before a
       ∙ ap (λ (f : Found). map (meaning_within after k) f.targets) (lookup_kept n free u i)))
       ∙ ap (entry_meaning (word_meaning_by after (meaning_within after k)) n.name) (entry_kept n free)
 
-  -- words are unaffected: they are looked up as before, and lead to no affected key
+  -- words are unaffected if they are looked up as before and lead to no affected key
   abbrev AreUnaffected : List WordUse → Type 0
   AreUnaffected words =
       (u : WordUse) → Contains words u

@@ -28,15 +28,15 @@ same_laws = record {
   congr = λ a b c e. ap (λ (k : Key). is_same k c) (one_key a b e);
 }
 
--- the membership test is true for a key that a list contains
+-- a key that a list contains passes the membership test
 pub among_member : (keys : List Key) (k : Key) → Contains keys k → is_among keys k ≡ true
 among_member keys k i = list_any-from_Contains same_laws k keys i
 
--- a list contains each key for which the membership test is true
+-- a list contains each key that passes the membership test
 pub member_among : (keys : List Key) (k : Key) → is_among keys k ≡ true → Contains keys k
 member_among keys k e = Contains-from_any one_key k keys e
 
--- a key on a path with one more key was on the path before, or is that key
+-- a key on an extended path is on the path or is the added key
 pub on_longer : (path : List Key) (n k : Key) → is_among (path ++ n ∷ []) k ≡ true → (is_among path k ≡ true) ⊎ (k ≡ n)
 on_longer path n k e =
     elim (or_cases _ _ (sym (list_any-append (is_same k) path (n ∷ [])) ∙ e)) [
@@ -44,7 +44,7 @@ on_longer path n k e =
       | inr q ↦ elim (or_cases (is_same k n) false q) [ inl r ↦ inr (one_key k n r) | inr r ↦ absurd (cc r) ]
     ]
 
--- a key that is not on a path, and differs from an appended key, is not on the longer path
+-- a key that is not on a path and differs from the added key is not on the extended path
 pub off_longer : (path : List Key) (n k : Key) → is_among path k ≡ false → (k ≡ n → ⊥)
     → is_among (path ++ n ∷ []) k ≡ false
 off_longer path n k off other =

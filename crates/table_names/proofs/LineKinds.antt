@@ -20,7 +20,7 @@ use Rattle.def_entry.specs.Reading as read
 use Rattle.def_entry.specs.Reading.{entry_of, what_in, what_of}
 use Rattle.table_names.specs.Kinds.{may_say}
 
--- a result, if there is one, is a definition that a key of this kind may have
+-- a result, if it is `Ok`, is a definition that a key of this kind may have
 abbrev Says : Kind → Result What EntryFault → Type 0
 Says k r = (w : What) → r ≡ Ok w → may_say k w ≡ true
 
@@ -105,7 +105,7 @@ heading_says h = then_says h.kind (read.name_in h.kind h.name) _ (λ name. text_
 abbrev entry_for : Heading → What → Key × Entry
 entry_for h w = (key h.kind h.name, record { text = h.text; what = w })
 
--- an entry by a heading has a definition that its key may have
+-- an entry that is read after a heading has a definition that its key may have
 entry_says :
     (h : Heading) (r : Result What EntryFault) → Says h.kind r
     → (k : Key) (e : Entry) → (r >>= (λ w. Ok (entry_for h w))) ≡ Ok (k, e) → may_say k.kind e.what ≡ true

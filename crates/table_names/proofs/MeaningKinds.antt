@@ -56,7 +56,7 @@ alias_means k name (One x) e h = cc
 alias_means k name (Two x y) e h = cc
 alias_means k name (Callee f) e h = e
 
--- what may be said of a key of a kind means what one may, where the target of an alias is a function
+-- an entry that a key of a kind may have means what such a key may mean, if the target of an alias means a function
 says_means :
     (means : WordUse → Meaning) (k : Kind) (name : List ℕ) (w : What) → may_say k w ≡ true
     → ((target : List ℕ) → w ≡ what.Alias target → may_mean kind.Func (means (inverted_word target)) ≡ true)
@@ -69,7 +69,7 @@ says_means means k name (what.Alias target) e h = alias_means k name (means (inv
 says_means means k name (what.Table d) e h = e
 says_means means k name (what.ListOf parts) e h = list_no_function k e
 
--- a key that is not a function stands for an expression
+-- a key that is not a function means an expression
 one_expression : (k : Kind) (m : Meaning) → is_same_kind k kind.Func ≡ false → may_mean k m ≡ true
     → (x : Expanded) × (m ≡ One x)
 one_expression k (One x) e h = (x, refl)
@@ -77,7 +77,7 @@ one_expression k (Two x y) e h = cc
 one_expression k (Callee f) e h = cc
 
 module _ (table : Table) (fits : FitsKinds table) where
-  -- a word behind a `~` stands for a function, where its targets mean what they may
+  -- a word after a `~` means a function if its targets mean what their kinds may mean
   inverse_means :
       (mean : Key → Meaning) (w : List ℕ) → LeadsInto table (λ m. may_mean m.kind (mean m) ≡ true) (inverted_word w)
       → may_mean kind.Func (word_meaning_by table mean (inverted_word w)) ≡ true
@@ -88,7 +88,7 @@ module _ (table : Table) (fits : FitsKinds table) where
       subst (λ ks. Contains ks f) (sym is) (member_first f f [] refl) in
       subst (λ ks. may_mean kind.Func (targets_meaning (map mean ks)) ≡ true) (sym is) (h.into f t)
 
-  -- where the targets of its words mean what they may, so does a key
+  -- a key means what its kind may mean if the targets of its words do
   entry_means :
       (mean : Key → Meaning) (n : Key) → is_present table n ≡ true
       → ((u : WordUse) → Contains (key_words table n) u → LeadsInto table (λ m. may_mean m.kind (mean m) ≡ true) u)

@@ -44,7 +44,7 @@ module _ (d : FunctionDef) (u : WordUse) where
   function_word part.TableUnit i = absurd (no_member u i)
   function_word part.Body i = absurd (no_member u i)
 
--- a word of one of the trees of what a key stands for is one of its words
+-- a word of one of the trees of an entry is a word of the entry
 part_word : (w : What) (p : Part) (u : WordUse) → Contains (part_words w p) u → Contains (what_words w) u
 part_word what.Primitive p u i = absurd (no_member u i)
 part_word what.Dimensionless p u i = absurd (no_member u i)
@@ -79,7 +79,7 @@ entry_same means other name (Some e) h =
     meaning_same means other name e.what
     (λ p k u at. h u (part_word e.what p u (member_at (part_words e.what p) k u at)))
 
--- a key without an entry stands for nothing
+-- a key without an entry means 1
 absent_meaning : (means : WordUse → Meaning) (name : List ℕ) (o : Option Entry) → is_some o ≡ false
     → entry_meaning means name o ≡ nothing
 absent_meaning means name None e = refl

@@ -37,7 +37,7 @@ none_left None p e = refl
 none_left (Some z) p e = cc
 
 module _ (table : Table) where
-  -- in the entry of a target, the fault of its words
+  -- the fault of the words in the entry of a target
   abbrev deep : Deeper
   deep path n = fault table path (key_words table n)
 
@@ -57,7 +57,7 @@ module _ (table : Table) where
       → here path u ≡ o → fault table path (u ∷ us) ≡ option_or o (fault table path us)
   of_word path u us o p e = in_order path u us p ∙ ap (λ x. option_or x (fault table path us)) e
 
-  -- a word that is not refused meets the fault that its targets meet
+  -- a word that is not refused meets the fault of its targets
   at_targets : (path : List Key) (u : WordUse) (o : Option NameFault) → is_refused u.text ≡ false
       → targets_fault table deep path u (targets table u) ≡ o → here path u ≡ o
   at_targets path u o r e = cond-false (is_refused u.text) _ _ r ∙ e
@@ -75,7 +75,7 @@ module _ (table : Table) where
   abbrev ArePresent : List Key → Type 0
   ArePresent ns = (n : Key) → Contains ns n → is_present table n ≡ true
 
-  -- ---- each derived fault is computed
+  -- ---- each fault by the rules is the computed fault
   mutual
     clean : {path : List Key} {words : List WordUse} → AreClean table path words → IsPath table path
         → fault table path words ≡ None
@@ -128,7 +128,7 @@ module _ (table : Table) where
         alone m k ks i =
             elim (member_cases m k [] i) [ inl e ↦ member_first m k ks e | inr j ↦ absurd (no_member m j) ]
 
-  -- ---- each computed fault is derived
+  -- ---- each computed fault follows from the rules
   abbrev Told : List Key → List WordUse → Option NameFault → Type 0
   Told path words None = AreClean table path words
   Told path words (Some f) = Meets table path words f
@@ -137,7 +137,7 @@ module _ (table : Table) where
   ToldKeys path ns None = AreCleanKeys table path ns
   ToldKeys path ns (Some f) = MeetKeys table path ns f
 
-  -- the faults deeper down after a path are derived
+  -- the faults in the entries of further targets follow from the rules
   abbrev Goes : Deeper → List Key → Type 0
   Goes F path = (n : Key) → is_among path n ≡ false → is_present table n ≡ true
       → Told (path ++ n ∷ []) (key_words table n) (F (path ++ n ∷ []) n)
@@ -207,7 +207,7 @@ module _ (table : Table) where
       told_key (length table - length path) (path ++ m ∷ []) m (longer table path m p off there)
       (omega (arith, length-append path (m ∷ []))))
 
-  -- ---- the derived and the computed faults agree
+  -- ---- the faults by the rules and the computed faults agree
   met_is : (path : List Key) (words : List WordUse) (f : NameFault) → IsPath table path
       → fault table path words ≡ Some f → Meets table path words f
   met_is path words f p e = subst (Told path words) e (told path words p)

@@ -28,7 +28,7 @@ module _ {A : Type 0} where
   pub member_at : (xs : List A) (i : ℕ) (x : A) → slice_get xs i ≡ Some x → Contains xs x
   member_at xs i x e = (i, slice_get_within xs i x e, get_or_from_slice_get xs i x x e)
 
-  -- a test that holds of a member, and a member of which a test holds
+  -- a list with a member that passes a test passes `list_any`, and the other way round
   pub any_member : (p : A → Bool) (xs : List A) (x : A) → Contains xs x → p x ≡ true → list_any p xs ≡ true
   any_member p [] x i e = absurd (no_member x i)
   any_member p (y ∷ ys) x i e =
@@ -71,7 +71,7 @@ module _ {A B : Type 0} where
         | inr j ↦ let r = flat_cases f ys b j in (r.0, member_later r.0 y ys r.1, r.2)
       ]
 
-  -- the first that is given is none exactly where nothing is given at any member
+  -- `first` gives `None` exactly if it does for each member
   pub first_none : (f : A → Option B) (xs : List A) → first f xs ≡ None → (x : A) → Contains xs x → f x ≡ None
   first_none f [] e x i = absurd (no_member x i)
   first_none f (y ∷ ys) e x i =

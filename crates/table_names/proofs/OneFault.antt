@@ -1,4 +1,4 @@
--- The name fault is the only one that satisfies the recursion of its definition.
+-- The computed name fault is the only one that satisfies the recursion.
 use Rattle.std.proofs.Common.{◌≡◌, ℕ, zero, suc, ◌+◌, ◌-◌, ◌≤◌, Bool, true, false, cond, List, [], ◌∷◌, ◌++◌, length}
 use Rattle.std.proofs.Common.{Contains, Option, Some, refl, sym, ◌∙◌, ap, arith, length-append}
 use Rattle.expr_tree.specs.declared.word_list.WordUse.{WordUse}
@@ -16,11 +16,11 @@ use Rattle.table_names.proofs.Lookups.{target_present}
 use Rattle.table_names.proofs.Members.{first_same}
 use Rattle.table_names.proofs.Paths.{longer, short}
 
--- the fault of the words of an entry after a path
+-- the fault of the words in the entry of the last key of a path
 abbrev by_words : Table → (List Key → List WordUse → Option NameFault) → Deeper
 by_words table f path n = f path (key_words table n)
 
--- two choices are equal if their second parts are equal whenever these are chosen
+-- two conditionals are equal if their second branches are equal whenever they are chosen
 unless : {A : Type 0} (b : Bool) (x y z : A) → (b ≡ false → y ≡ z) → cond b x y ≡ cond b x z
 unless true x y z h = refl
 unless false x y z h = h refl
@@ -45,7 +45,7 @@ module _ (table : Table) where
           (λ m i. unless (is_among path m) (Some (Cycle (chain m path))) (f (path ++ m ∷ []) m) (g (path ++ m ∷ []) m)
           (e m i))
 
-  -- room for the keys that are not on the path is room for all that follows
+  -- the bound on depth is large enough for the keys that are not on the path
   room_left :
       (path : List Key) (n : Key) → IsPath table (path ++ n ∷ [])
       → fault_within table (length table - length path) (path ++ n ∷ []) n
@@ -63,7 +63,7 @@ module _ (table : Table) where
       (λ u i. word_same (fault_within table (length table - length path)) (by_words table (fault table)) path u
       (λ n t off. room_left path n (longer table path n is off (target_present table u n t))))
 
-  -- two such faults agree after a path, by induction over the number of keys that are not on it
+  -- two functions that satisfy the recursion agree, by induction over the number of keys that are not on the path
   one_by :
       (f : List Key → List WordUse → Option NameFault) → IsFault table f
       → (k : ℕ) (path : List Key) (words : List WordUse) → IsPath table path → length path + k ≡ length table + 1
@@ -87,6 +87,6 @@ module _ (table : Table) where
       let e : length path + (length table + 1 - length path) ≡ length table + 1 = omega arith in
       one_by f is (length table + 1 - length path) path words p e
 
--- the law of the fault of names
+-- the law of the name fault
 pub fault_law : FaultLaw
 fault_law = record { is = fault_is; one = one_is }

@@ -1,4 +1,4 @@
--- Paths, and words that are closed after them.
+-- Paths, and closed words after a path.
 use Rattle.std.proofs.Common.{◌≡◌, ◌≢◌, ℕ, zero, suc, ◌+◌, ◌-◌, ◌≤◌, true, false}
 use Rattle.std.proofs.Common.{List, [], ◌∷◌, ◌++◌, length, Contains, Option, Some, None, is_some}
 use Rattle.std.proofs.Common.{refl, sym, ◌∙◌, subst, inl, inr, arith, length-append}
@@ -27,7 +27,7 @@ nothing_twice : IsDistinct is_same []
 unfolding IsDistinct
 nothing_twice = tt
 
--- if there is no entry, there are no words
+-- a key without an entry has no words
 no_words : (o : Option Entry) → is_some o ≡ false → entry_words o ≡ []
 no_words None e = refl
 no_words (Some x) e = cc
@@ -62,7 +62,7 @@ module _ (table : Table) where
       off_longer path m q (clear q (further l r))
       (λ e. no_loop table j m ends (subst (λ (x : Key). Reaches table m x) e r))
 
-  -- no fault at words whose ways end off the path, where none is met in the entries of their targets
+  -- words whose descents end and reach no key on the path have no fault if none is met in the entries of their targets
   words_pass :
       (j k : ℕ) (path : List Key) (words : List WordUse)
       → AreEnding table j words → IsPath table path → IsClear path words
@@ -97,7 +97,7 @@ module _ (table : Table) where
       words_pass j k path (key_words table n) ends is clear (λ m e p c.
       key_passes j k (path ++ m ∷ []) m e p c (omega (arith, length-append path (m ∷ []))))
 
-  -- words whose ways end off a path have no fault after it
+  -- words whose descents end and reach no key on a path have no fault after it
   pub no_fault :
       (j : ℕ) (path : List Key) (words : List WordUse)
       → AreEnding table j words → IsPath table path → ((m : Key) → WordsReach table words m → is_among path m ≡ false)
@@ -107,7 +107,7 @@ module _ (table : Table) where
       words_pass j (length table - length path) path words ends is clear (λ m e p c.
       key_passes j (length table - length path) (path ++ m ∷ []) m e p c (omega (arith, length-append path (m ∷ []))))
 
-  -- the ways of closed words end; the number of keys of the table is a sufficient depth
+  -- every descent from closed words ends within the number of keys of the table
   pub closed_ending : (words : List WordUse) → AreClosed table words → AreEnding table (length table) words
   closed_ending words e =
       let z : length table - 0 ≡ length table = omega arith in
@@ -141,7 +141,7 @@ module _ (table : Table) where
   pub closed_key_ending : (n : Key) → IsClosed table n → EndsWithin table (suc (length table)) n
   closed_key_ending n e = closed_ending (key_words table n) (key_words_closed n e)
 
-  -- a key that has an entry ends within the number of keys
+  -- every descent from a closed key that has an entry ends within the number of keys
   pub present_key_ending : (n : Key) → is_present table n ≡ true → IsClosed table n → EndsWithin table (length table) n
   present_key_ending n there e =
       let l : 1 ≤ length table = short (n ∷ []) (longer [] n empty refl there) in

@@ -26,7 +26,7 @@ reached_present {table} (at_once l) = target_present table l.0 _ l.2
 reached_present (further l r) = reached_present r
 
 module _ (table : Table) where
-  -- a target, and the keys that its words reach
+  -- a target, followed by the keys that its words reach
   abbrev target_list : ℕ → Key → List Key
   target_list k n = n ∷ reach_within table k (key_words table n)
 

@@ -44,7 +44,7 @@ two_same n m k l e = (cc, cc)
 value_same : (x y : Expanded) → One x ≡ One y → x ≡ y
 value_same x y e = cc
 
--- ---- the meaning of an entry is the computed one
+-- ---- the meaning of an entry by the rules is the computed one
 meaning_is : (means : WordUse → Meaning) (name : List ℕ) (w : What) (m : Meaning) → IsMeaning means name w m
     → m ≡ meaning_of means name w
 meaning_is means name what.Primitive m s = s
@@ -74,14 +74,14 @@ is_meaning means name k (what.ListOf parts) m e free may h = let z : true ≡ fa
     true_false : true ≡ false → ⊥
     true_false q = cc
 
--- a meaning that a function may have is a function
+-- a meaning that a function may have is a callable
 callee : (m : Meaning) → may_mean kind.Func m ≡ true → (f : Callable) × (m ≡ Callee f)
 callee (One x) e = cc
 callee (Two x y) e = cc
 callee (Callee f) e = (f, refl)
 
 module _ (table : Table) where
-  -- ---- at most one meaning
+  -- ---- a key or a word has at most one meaning
   mutual
     same : {n : Key} {m k : Meaning} → StandsFor table n m → StandsFor table n k → m ≡ k
     same {n} {m} {k} (ByEntry e means q stands says) (ByEntry f other r stand says_too) =
@@ -105,7 +105,7 @@ module _ (table : Table) where
         value_same y l (same v (subst (λ (n : Key). StandsFor table n (One l)) keys.1 o)) in
         e ∙ ((λ i. Two (first i) (second i)) ∙ sym f)
 
-  -- ---- a meaning only without a name fault
+  -- ---- what has a meaning has no name fault
   only_one : (ks : List Key) (k n : Key) → ks ≡ n ∷ [] → Contains ks k → k ≡ n
   only_one ks k n e i =
       elim (member_cases k n [] (subst (λ (x : List Key). Contains x k) e i))
@@ -143,7 +143,7 @@ module _ (table : Table) where
       into = into_two (IsClosed table) (targets table u) n k t (closes s) (closes v);
     }
 
-  -- ---- if a table fits kinds, each closed name stands for its computed meaning
+  -- ---- in a table that fits kinds, each closed name stands for its computed meaning
   module _ (fits : FitsKinds table) where
     name : (u : WordUse) (n : Key) → Contains (targets table u) n → IsName table n
     name u n i = record { present = target_present table u n i; no_list = target_no_list table u n i }

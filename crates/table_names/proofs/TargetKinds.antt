@@ -21,19 +21,19 @@ use Rattle.table_names.proofs.Members.{member_cases, no_member}
 abbrev pub IsNoList : Key → Type 0
 IsNoList k = is_same_kind k.kind kind.List ≡ false
 
--- the keys are no key, one key that is not a list, or a prefix and a unit
+-- there are no keys, there is one key that is not a list, or there are a prefix and a unit
 abbrev pub AreTargets : List Key → Type 0
 AreTargets [] = Unit {0}
 AreTargets (n ∷ []) = IsNoList n
 AreTargets (n ∷ m ∷ []) = (n.kind ≡ kind.Prefix) × (m.kind ≡ kind.Unit)
 AreTargets (n ∷ m ∷ o ∷ ks) = ⊥
 
--- all candidates are such keys
+-- each candidate has this form
 abbrev AreCandidates : List (List Key) → Type 0
 AreCandidates [] = Unit {0}
 AreCandidates (c ∷ cs) = AreTargets c × AreCandidates cs
 
--- the first present candidate consists of such keys
+-- the first present candidate has this form
 first_is : (has : Key → Bool) (cs : List (List Key)) → AreCandidates cs → AreTargets (first_present has cs)
 first_is has [] h = tt
 first_is has (c ∷ cs) h = either (list_all has c) c (first_present has cs) h.0 (first_is has cs h.1)
@@ -46,7 +46,7 @@ joined : (cs ds : List (List Key)) → AreCandidates cs → AreCandidates ds →
 joined [] ds g h = h
 joined (c ∷ cs) ds g h = (g.0, joined cs ds g.1 h)
 
--- the candidate of a prefix, or of a prefix and a unit, consists of such keys
+-- the candidate of a prefix, or of a prefix and a unit, has this form
 with_prefix : (front rest : List ℕ) → AreTargets (prefix_candidate front rest)
 with_prefix front [] = refl
 with_prefix front (b ∷ bs) = (refl, refl)
@@ -66,17 +66,17 @@ of_parts word =
     joined (flat_map singular_candidates (singulars word)) (prefix_candidates word) (of_singulars (singulars word))
     (with_prefixes (length word) word)
 
--- all candidates of a word consist of such keys
+-- all candidates of a word have this form
 are_candidates : (at : WordKind) (word : List ℕ) → AreCandidates (candidates at word)
 are_candidates place.Plain word = (refl, (refl, of_parts word))
 are_candidates place.Call word = (refl, (refl, of_parts word))
 are_candidates place.Inverse word = (refl, tt)
 
--- the targets of each word are no key, one key that is not a list, or a prefix and a unit
+-- the targets of each word have this form
 pub are_targets : (table : Table) (u : WordUse) → AreTargets (targets table u)
 are_targets table u = first_is (is_present table) (candidates u.kind u.text) (are_candidates u.kind u.text)
 
--- none of such keys is a list
+-- keys of this form are not lists
 member_no_list : (ks : List Key) → AreTargets ks → (n : Key) → Contains ks n → IsNoList n
 member_no_list [] h n i = absurd (no_member n i)
 member_no_list (k ∷ []) h n i =

@@ -20,7 +20,7 @@ use Rattle.deck_lines.specs.Includes.{deck_of, included_below, included_by, of_a
 use Rattle.deck_lines.specs.Readings.{reading_of}
 use Rattle.deck_lines.proofs.laws.examples_law.Goals as goal
 
--- an include line of the first file, where this is found of the other
+-- the excerpt of an include line of the first file, given what is found for the other file
 abbrev included_as : FileMap → ℕ → Option (List ℕ) → Excerpt
 included_as files number found =
     include_excerpt (codes "sub/a.units") (record { number = number; text = codes "!include b.units" })
@@ -29,7 +29,7 @@ included_as files number found =
 abbrev nothing : Excerpt
 nothing = record { lines = []; notices = [] }
 
--- the first file with what stands around that line
+-- the excerpt of the first file, with the lines around the include line
 abbrev around : FileMap → Option (List ℕ) → Excerpt
 around files found =
     in_turn (line_without_notice (record { number = 1; text = codes "m !" }))

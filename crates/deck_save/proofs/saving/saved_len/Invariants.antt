@@ -4,7 +4,7 @@ use Rattle.deck_save.specs.LineTexts.{texts_where}
 use Rattle.deck_save.specs.SavedLines.{saved_lines}
 use Rattle.deck_save.proofs.saving.saved_len.Given as goal
 
--- the bytes of the lines so far with those of the lines that are left are all
+-- the bytes that are counted so far and those of the remaining lines are together all bytes
 abbrev pub invariant-loop-place : goal.invariant-loop-place
 invariant-loop-place l = record {
   within : l.len ≤ longest_file;

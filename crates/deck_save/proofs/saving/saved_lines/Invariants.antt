@@ -3,7 +3,7 @@ use Rattle.deck_save.specs.LineTexts.{texts_where}
 use Rattle.deck_save.specs.SavedLines.{saved_lines}
 use Rattle.deck_save.proofs.saving.saved_lines.Given as goal
 
--- the lines so far with those that are left are all
+-- the lines that are saved so far, followed by the remaining ones, are all lines
 abbrev pub invariant-loop-place : goal.invariant-loop-place
 invariant-loop-place l =
     l.lines.items ++ saved_lines (texts_where (drop l.place l.active) (drop l.place l.deck.lines)) ≡ saved_lines

@@ -22,7 +22,7 @@ use Rattle.expr_tree.proofs.Steps.{one_term, terms_begun, next_term, all_terms, 
 use Rattle.expr_tree.proofs.Views.{of_number, of_root, of_group, of_juxtaposed, of_product, of_sum}
 use Rattle.expr_tree.proofs.descent.+rules.Goals as goal
 
--- what a power returns, as an exponent
+-- the result of a power, as the result of an exponent
 exponent_returns : (b : Option (List ℕ)) (k : ℕ) (ts : List Token) (at : ℕ) (r : Result (Tree × ℕ) AllocError)
     → IfOk r (λ x. PowerAt b k (tokens_from ts at) (syntax x.0) (tokens_from ts x.1) × (at < x.1) × (x.1 ≤ length ts))
     → IfOk r (λ x. ExponentAt b k (tokens_from ts at) (syntax x.0) (tokens_from ts x.1) × (at < x.1)

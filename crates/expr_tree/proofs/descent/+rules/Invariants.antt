@@ -5,7 +5,7 @@ use Rattle.expr_tree.specs.Trees.{factors_of, terms_of, trees_of}
 use Rattle.expr_tree.proofs.Steps.{FactorsRead, MembersRead, TermsRead}
 use Rattle.expr_tree.proofs.descent.+rules.Given as goal
 
--- A call goes on to later tokens, or to a rule that binds tighter at the same one.
+-- each call continues at a later token, or at the same one with a rule that binds tighter
 
 abbrev pub decreases-sum_at : goal.decreases-sum_at
 decreases-sum_at l = 8 * (length l.tokens.now - l.at) + 6

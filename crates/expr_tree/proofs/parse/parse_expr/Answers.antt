@@ -14,7 +14,7 @@ use Rattle.expr_tree.proofs.Found.{tree_of_law}
 use Rattle.expr_tree.proofs.ParsedTexts.{parsed_to, refused_by}
 use Rattle.expr_tree.proofs.parse.parse_expr.Goals as goal
 
--- a fault that the scan hands on, where the tree that is not there would have any property
+-- the fault that the scan returns is the fault of the parser
 handed_on : (IsTree : Tree → Type 0) (text : List ℕ) (x : ParseFault) (r : Result Tree ParseFault)
     → IsErrAnd r (λ y. y ≡ x) → (x ≡ OutOfMemory) ⊎ (first_fault text ≡ Some x)
     → MatchResult r IsTree (λ fault. (fault ≡ OutOfMemory) ⊎ (first_fault text ≡ Some fault))
@@ -22,7 +22,7 @@ handed_on IsTree text x (Ok tree) same f = absurd same
 handed_on IsTree text x (Err y) same (inl none) = inl (same ∙ none)
 handed_on IsTree text x (Err y) same (inr first) = inr (first ∙ ap Some (sym same))
 
--- the same fault as a computed one
+-- the first fault of the text is the computed one
 computed : (binder : Option (List ℕ)) (text : List ℕ) (r : Result Tree ParseFault)
     → MatchResult r (λ tree. parsed binder text ≡ Ok (syntax tree))
     (λ fault. (fault ≡ OutOfMemory) ⊎ (first_fault text ≡ Some fault))

@@ -8,7 +8,7 @@ use Rattle.frac128.specs.Floor.{FloorLaw, IsFloor}
 use Rattle.frac128.proofs.Signs.{mul-signed}
 use Rattle.frac128.proofs.laws.floor_law.Goals as goal
 
--- a quotient is at most the ratio, and the next number is above the ratio
+-- the quotient is at most the ratio, and the next number is above it
 at_most : (a d : ℕ) → 0 < d → a / d * d ≤ a
 at_most a d some = omega (arith, mul_comm (a / d) d)
 

@@ -4,7 +4,7 @@ use Rattle.std.proofs.lemmas.Int.{fits_signed_from_abs, to_z_pos}
 use Rattle.frac128.proofs.TenPowers.{ten_power}
 use Rattle.frac128.proofs.numeral.power_of_ten.Goals as goal
 
--- a power of ten is below two to the 127
+-- powers of ten up to the exponent 38 are below `2 ^ 127`
 below : (k : ℕ) → k ≤ 38 → 10 ^ k < 2 ^ 127
 below k h = let big : 10 ^ 38 < 2 ^ 127 = lit< tt in omega (arith, ten_power k h)
 

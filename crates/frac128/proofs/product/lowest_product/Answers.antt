@@ -3,7 +3,7 @@ use Rattle.frac128.specs.Divisors.{IsLowest, IsWide}
 use Rattle.frac128.proofs.Lowest.{lowest_by}
 use Rattle.frac128.proofs.product.lowest_product.Goals as goal
 
--- the two products that are not made, or made
+-- a product is too wide if one of its parts does not fit 128 bits
 wide_top : (a b x y : ℕ) → IsLowest a b x y → (x < 2 ^ 128 → ⊥) → IsWide a b
 wide_top a b x y low none = inl (rw low.top_is (omega (arith, none)))
 

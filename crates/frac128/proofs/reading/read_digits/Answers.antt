@@ -15,7 +15,7 @@ returns-then-coefficient-eq0 c =
     ∙ read_zero _ _ _ _ _ (digits_split c.args.bytes.now c.requires.some c.requires.digits) c.in-Some.ensures
     (omega arith) c.if-coefficient-eq0.true
 
--- the scale of digits is the number of zeros at their end
+-- the scale of digits alone is the number of zeros at their end
 scale_is : (z : ℕ) → z < 2 ^ 64 → to_z w128 z ≡ pos 0 -ℤ pos 0 +ℤ pos z
 scale_is z fits = omega (arith, ints)
 

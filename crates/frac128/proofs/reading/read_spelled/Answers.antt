@@ -26,13 +26,13 @@ returns-then-coefficient-eq0 c =
     ap Ok c.new.ensures
     ∙ read_zero _ _ _ _ _ split c.in-Some.ensures c.in-Some-exponent.ensures.0 c.if-coefficient-eq0.true
 
--- the magnitude of such a number, where the text is no longer than can be
+-- the magnitude of the scale fits 64 bits, since the text is short enough
 scale_fits : (s p : ℤ) (size k z n : ℕ) (b : Bool) → s ≡ p -ℤ pos k +ℤ pos z → p ≡ signed b size → size ≤ 9999
     → k ≤ n → z ≤ n → n < 2 ^ 63 → unsigned_abs s < 2 ^ 64
 scale_fits s p size k z n false s_is p_is low k_fits z_fits fits = rw (s_is, p_is) (omega (arith, ints))
 scale_fits s p size k z n true s_is p_is low k_fits z_fits fits = rw (s_is, p_is) (omega (arith, ints))
 
--- the power less the places and with the zeros at the end, in 128 bits
+-- the scale is computed without overflow in 128 bits
 scale_is : (p : ℤ) (size k z : ℕ) (b : Bool) → p ≡ signed b size → size ≤ 9999 → k < 2 ^ 64 → z < 2 ^ 64
     → to_z w128 (of_z w128 (to_z w128 (of_z w128 (to_z w128 (of_z w128 p) -ℤ to_z w128 k)) +ℤ to_z w128 z))
     ≡ p -ℤ pos k +ℤ pos z

@@ -13,7 +13,7 @@ use Rattle.deck_lines.proofs.Closing.{end_defines}
 use Rattle.deck_lines.proofs.Drafting.{failed, then_extends, with_excerpt-in_turn, extended}
 use Rattle.deck_lines.proofs.load.blocks.push_missing_ends.Goals as goal
 
--- the end lines, the innermost first
+-- the missing end line of the innermost block comes first
 ends_of : (all blocks : List Block) (block : Block) → all ≡ blocks ++ block ∷ []
     → map missing_end (reverse all) ≡ missing_end block ∷ map missing_end (reverse blocks)
 ends_of all blocks block e = ap (λ bs. map missing_end (reverse bs)) e

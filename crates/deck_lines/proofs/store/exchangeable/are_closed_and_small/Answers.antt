@@ -10,7 +10,7 @@ use Rattle.deck_lines.proofs.Exchangeable.{at_end, blocks_more, not_closed, text
 use Rattle.deck_lines.proofs.Finding.{drop_found, exchanged_len}
 use Rattle.deck_lines.proofs.store.exchangeable.are_closed_and_small.Goals as goal
 
--- the line that is lent
+-- the deck line of a borrowed line
 abbrev lent_line : BorrowedLine → DeckLine
 lent_line line = record { number = line.number; text = line.text.now; mark = line.mark }
 

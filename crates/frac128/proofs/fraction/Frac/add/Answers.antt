@@ -36,7 +36,7 @@ returns-in_err-right c =
     (plus-right _ _ _ _ _ _ _ _ _ _ _ _ _ _ parts c.is_negative.ensures c.is_negative-2.ensures
     c.in_ok-multiple.ensures c.in_ok-left.ensures c.in_err-right.ensures))
 
--- the multiple is above 0
+-- the multiple, as a signed number, is above 0
 some_multiple : (n : ℤ) (m : ℕ) → n ≡ pos m → 0 < m → pos 0 <ℤ n
 some_multiple n m e h = rw e (omega (arith, ints))
 

@@ -7,7 +7,7 @@ use Rattle.frac128.specs.Sign.{signed}
 use Rattle.frac128.proofs.Signs.{abs-signed}
 use Rattle.frac128.proofs.fraction.Frac.fitting.Goals as goal
 
--- a number with a sign, and a denominator, that are in lowest terms and not too large
+-- a signed numerator and a denominator that are in lowest terms and in range make a valid fraction
 kept : (num : ℤ) (s : Bool) (top bottom : ℕ) → num ≡ signed s top → 0 < bottom → IsGcd top bottom 1 → top ≤ most
     → bottom ≤ most
     → IsFrac (record { num = num; den = bottom })

@@ -5,14 +5,14 @@ use Rattle.frac128.specs.Fraction.{IsFrac}
 use Rattle.frac128.proofs.Signs.{abs-neg}
 use Rattle.frac128.proofs.fraction.Frac.negate.Goals as goal
 
--- the difference from 0 keeps the magnitude
+-- subtracting from 0 keeps the magnitude
 abs-minus : (z : ℤ) → unsigned_abs (pos 0 -ℤ z) ≡ unsigned_abs z
 abs-minus z = ap unsigned_abs (minus_is z) ∙ abs-neg z
   where
     minus_is : (z : ℤ) → pos 0 -ℤ z ≡ neg_ℤ z
     minus_is z = omega (arith, ints)
 
--- the other sign keeps a fraction in lowest terms and in range
+-- subtracting the numerator from 0 keeps a fraction valid
 kept_minus : (z : ℤ) (d : ℕ) → IsFrac (record { num = z; den = d }) → IsFrac (record { num = pos 0 -ℤ z; den = d })
 kept_minus z d kept = record {
   reduced = record { positive = kept.reduced.positive; lowest = rw (abs-minus z) kept.reduced.lowest };

@@ -6,7 +6,7 @@ use Rattle.frac128.specs.Steps.{ratio}
 use Rattle.frac128.proofs.Signs.{ratio-signed, ratio_is, some_abs}
 use Rattle.frac128.proofs.fraction.Frac.new.Goals as goal
 
--- a quotient by its sign and magnitudes
+-- a ratio, computed from its sign and magnitudes
 by_signs : (n d : ℤ) → 0 < unsigned_abs d
     → ratio n d ≡ ratio (signed (signs_differ n d) (unsigned_abs n)) (pos (unsigned_abs d))
 by_signs n d some =

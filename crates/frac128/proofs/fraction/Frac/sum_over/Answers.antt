@@ -15,7 +15,7 @@ not_least : (z : ℤ) → SFits w128 z → (of_z w128 z ≡ 2 ^ 127 → ⊥) →
 not_least (pos n) fits other = let h = fits.sfits in omega arith
 not_least (negsuc n) fits other = let h = fits.sfits in omega arith
 
--- a ratio by its sign and magnitudes, over a number above 0
+-- a ratio with a denominator above 0, computed from its sign and magnitudes
 ratio_over : (sum m : ℤ) (top bottom : ℕ) → top ≡ unsigned_abs sum → bottom ≡ unsigned_abs m → pos 0 <ℤ m
     → unsigned_abs m ≤ most
     → unsigned_abs sum ≤ most

@@ -5,7 +5,7 @@ use Rattle.std.proofs.Math.Nat.{one-dvd}
 use Rattle.frac128.specs.Fraction.{IsFrac, most}
 use Rattle.frac128.proofs.fraction.Frac.whole.Goals as goal
 
--- a whole number in range is in lowest terms
+-- a whole number in range is a valid fraction
 kept_whole : (n : ℤ) → unsigned_abs n ≤ most → IsFrac (record { num = n; den = 1 })
 kept_whole n fits = record {
   reduced = record { positive = omega arith; lowest = (one-dvd (unsigned_abs n), one-dvd 1, λ d p q. q) };

@@ -7,7 +7,7 @@ use Rattle.deck.proofs.KindPlacing.{count_none, in_index}
 use Rattle.deck.proofs.places.kind_places.KindPlaces.forget.Goals as goal
 use Rattle.deck.proofs.places.kind_places.KindPlaces.forget.Goals.{then-is_some, else-is_some}
 
--- the count before, by whether the place is there that is taken away
+-- the count before exceeds the count after by one if the number had a place, and otherwise equals it
 before : (n number : ℕ) (ps : List (Option ℕ)) (o : Option ℕ) → number < length ps → o ≡ get_or ps number o
     → n ≡ place_count ps →
     n ≡ cond (is_some o) (place_count (set ps number None) + 1) (place_count (set ps number None))
