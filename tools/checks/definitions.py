@@ -27,13 +27,13 @@ MARKS = ROOT / "docs/definition_marks.txt"
 # What the contract of `units_main` cites.
 HEADLINE = [
     Name("units_run", "Headline", "IsRun"),
-    Name("units_run", "Granted", "GrantsExactly"),
+    Name("units_run", "GrantedConversions", "GrantsExactly"),
     Name("units_run", "LeftAlone", "TakesNone"),
     Name("units_run", "LeftAlone", "OpensNone"),
     Name("units_run", "Openings", "IsOpened"),
     Name("units_run", "Openings", "first_on_err"),
     Name("units_run", "Needs", "needs_definitions"),
-    Name("session", "Hearing", "NamesNoFile"),
+    Name("session", "HeardLines", "NamesNoFile"),
 ]
 QUOTED = re.compile(r"`([^`]+)`")
 MOST_BYTES = 10 * 1024

@@ -2,8 +2,8 @@
 use Rattle.std.specs.Prelude.{◌≡◌, ◌++◌, ℕ, Bool, List, [], ◌∷◌, Result, Ok, Err, if◌then◌else◌, codes}
 use Rattle.std.specs.Fmt.{decimal}
 use Rattle.std.specs.List.{flat_map}
-use Rattle.frac128.specs.Fraction.{Fraction, negated}
-use Rattle.frac128.specs.Faults.{fault_text}
+use Rattle.frac128.specs.Fraction.{Fraction, negative_of}
+use Rattle.frac128.specs.Faults.{frac_fault_text}
 use Rattle.digits_print.specs.Exact.{exact_text}
 use Rattle.quantity.specs.Amount.{Amount, are_reciprocal, conform, is_number}
 use Rattle.quantity.specs.Powers.{power_of}
@@ -54,7 +54,7 @@ unlike_text x y = codes "not conformable: " ++ exactly x ++ codes " and " ++ exa
 -- the text of the result of a step, or of its fault
 abbrev pub quantity_text : Result Amount QuantityFault → List ℕ
 quantity_text (Ok x) = exactly x
-quantity_text (Err (step.Number fault)) = fault_text fault
+quantity_text (Err (step.Number fault)) = frac_fault_text fault
 quantity_text (Err (step.NotConformable x y)) = unlike_text x y
 quantity_text (Err step.ExponentNotNumber) = codes "exponent not a number"
 quantity_text (Err step.ExponentRange) = codes "exponent out of range"
@@ -78,7 +78,7 @@ abbrev pub counts_text : Result (List Fraction) SplitFault → List ℕ
 counts_text (Ok counts) = codes "counts" ++ listed counts
 counts_text (Err (splitting.NotConformable place)) = placed_text (codes "not conformable: ") place
 counts_text (Err (splitting.ListUnitNotPositive place)) = placed_text (codes "not positive: ") place
-counts_text (Err (splitting.Number fault)) = fault_text fault
+counts_text (Err (splitting.Number fault)) = frac_fault_text fault
 counts_text (Err splitting.OutOfMemory) = []
 
 -- the text is that of the result of a split, which did not run out of memory
@@ -96,7 +96,7 @@ split_text round x (unit ∷ units) = counts_text (counts_in round x (unit ∷ u
 abbrev pub reading_text : Result Fraction TableFault → List ℕ
 reading_text (Ok x) = exact_text x
 reading_text (Err table.OutsideTable) = codes "outside the table"
-reading_text (Err (table.Number fault)) = fault_text fault
+reading_text (Err (table.Number fault)) = frac_fault_text fault
 
 -- the number that a table returns
 abbrev pub read : Way → List Point → Fraction → Result Fraction TableFault
@@ -109,7 +109,7 @@ read_text way points x = if is_table points then reading_text (read way points x
 
 -- the answer to a call on one quantity
 abbrev pub single_text : Single → Amount → List ℕ
-single_text (single.Negate side) x = exactly (record x { value = negated x.value })
+single_text (single.Negate side) x = exactly (record x { value = negative_of x.value })
 single_text single.Copy x = exactly x
 single_text single.IsNumber x = yes_or_no (is_number x)
 

@@ -20,7 +20,7 @@ pub(crate) fn single_answer(alloc: Global, single: Single, x: &Quantity) -> Resu
 {
     match single {
         Single::Negate(Left::Lent) => x.negate(alloc)?.show(alloc, Style::Exact),
-        Single::Negate(Left::Taken) => x.copy(alloc)?.negated().show(alloc, Style::Exact),
+        Single::Negate(Left::Taken) => x.copy(alloc)?.into_negative().show(alloc, Style::Exact),
         Single::Copy => x.copy(alloc)?.show(alloc, Style::Exact),
         Single::IsNumber => yes_or_no(alloc, x.is_number()),
     }
@@ -68,7 +68,7 @@ fn taken(alloc: Global, step: Step, x: Quantity, y: &Quantity) -> Result<Quantit
         Step::Sub => x.minus(alloc, y),
         Step::Mul => x.times(alloc, y),
         Step::Div => x.over(alloc, y),
-        Step::Pow => x.raised(alloc, y),
+        Step::Pow => x.into_power(alloc, y),
     }
 }
 

@@ -111,7 +111,7 @@ fn read_power(alloc: Global, word: &[u8]) -> Result<Quantity, Unread> {
         return Ok(name);
     }
     let power = Quantity::number(alloc, read_fraction(power)?);
-    known(name.raised(alloc, &power))
+    known(name.into_power(alloc, &power))
 }
 
 // Returns the result of a step. A fault of the step makes the call bad.

@@ -9,7 +9,7 @@ use Rattle.reply.specs.declared.reply.FromValue.TheVariants.{Good, Bad}
 use Rattle.reply.specs.declared.reply.Reply.{Reply}
 use Rattle.reply.specs.Options.{style_of}
 use Rattle.reply.specs.Replies.{conversion_reply, definition_reply, from_value}
-use Rattle.survey.specs.Asked.{conformable}
+use Rattle.survey.specs.ConversionReplies.{asked_conformable}
 use Rattle.survey.specs.Checks.{check_report}
 use Rattle.survey.specs.Searches.{search_report}
 use Rattle.answer_calls.specs.declared.call.Asked.{Asked}
@@ -40,4 +40,4 @@ asked_text table options (Definition from) = reply_text (definition_reply table 
 asked_text table options (Value from) = value_text (from_value table options from.now)
 asked_text table options Check = check_report table (style_of options)
 asked_text table options (Search text) = search_report table text.now
-asked_text table options (Conformable from) = reply_text (conformable table options from.now).reply
+asked_text table options (Conformable from) = reply_text (asked_conformable table options from.now).reply

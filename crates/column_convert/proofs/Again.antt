@@ -15,27 +15,27 @@ use Rattle.table_names.specs.Meanings.{outcome}
 use Rattle.table_names.specs.Reach.{reach}
 use Rattle.deck.specs.Tables.{table}
 use Rattle.live_table.specs.New.{AreNew}
-use Rattle.live_table.specs.Right.{IsRight, IsSettled}
-use Rattle.live_table.specs.Shown.{Follows, IsRightTable, Shown, state}
-use Rattle.live_table.specs.States.{AsksWords, Kept, State, after, after_all, after_query, with_outcomes}
+use Rattle.live_table.specs.Right.{IsKeySettled, IsRight}
+use Rattle.live_table.specs.TableView.{IsAfterEvents, IsRightTable, Shown, state_with_steps}
+use Rattle.live_table.specs.States.{AsksWords, Kept, TableState, after, after_all, after_query, with_outcomes}
 use Rattle.live_table.proofs.New.{new_law}
 use Rattle.live_table.proofs.Outcomes.{inserted, put_in}
 
-right_at : (b : Shown) (k : ℕ) → IsRightTable b → IsRight (state b k)
+right_at : (b : Shown) (k : ℕ) → IsRightTable b → IsRight (state_with_steps b k)
 right_at b k r = record { present = r.present; closed = r.closed; below = r.below; right = r.right }
 
-none_new : (keys : List Key) (s : State) → ((n : Key) → Contains keys n → IsSettled s n) → AreNew s keys []
+none_new : (keys : List Key) (s : TableState) → ((n : Key) → Contains keys n → IsKeySettled s n) → AreNew s keys []
 unfolding IsDistinct
 none_new keys s settled = record {
   exactly = λ n. ((λ i. absurd (let none : i.0 < 0 = i.1 in omega arith)), (λ p. absurd (p.1 (settled n p.0))));
   once = tt;
 }
 
-same_counts : (s : State) (reductions steps : ℕ) → reductions ≡ s.reductions → steps ≡ s.steps
+same_counts : (s : TableState) (reductions steps : ℕ) → reductions ≡ s.reductions → steps ≡ s.steps
     → record s { reductions = reductions; steps = steps } ≡ s
 same_counts s reductions steps p q = λ i. record s { reductions = p i; steps = q i }
 
-table_after : (c : Bool) (keys : List Key) (s : State) → (after_query c keys s).table ≡ s.table
+table_after : (c : Bool) (keys : List Key) (s : TableState) → (after_query c keys s).table ≡ s.table
 table_after true keys s = refl
 table_after false keys s = refl
 
@@ -51,12 +51,13 @@ stays_in t (k ∷ keys) kept n is =
     either true = refl
     either false = is
 
-query_keeps : (c : Bool) (keys : List Key) (s : State) (n : Key) → IsSettled s n → IsSettled (after_query c keys s) n
+query_keeps : (c : Bool) (keys : List Key) (s : TableState) (n : Key) → IsKeySettled s n
+    → IsKeySettled (after_query c keys s) n
 query_keeps true keys s n is = stays_in s.table keys s.kept n is
 query_keeps false keys s n is = is
 
-all_keep : (texts : List (List WordUse)) (s : State) (n : Key) → IsSettled s n
-    → IsSettled (after_all (map AsksWords texts) s) n
+all_keep : (texts : List (List WordUse)) (s : TableState) (n : Key) → IsKeySettled s n
+    → IsKeySettled (after_all (map AsksWords texts) s) n
 all_keep [] s n is = is
 all_keep (words ∷ texts) s n is =
     all_keep texts (after (AsksWords words) s) n
@@ -71,14 +72,14 @@ abbrev AllAsked : Table → List (List WordUse) → Kept → Type 0
 AllAsked t [] kept = ⊤
 AllAsked t (words ∷ texts) kept = AreAsked t words kept × AllAsked t texts kept
 
-asked_one : (words : List WordUse) (s : State) → AreAsked s.table words (after (AsksWords words) s).kept
+asked_one : (words : List WordUse) (s : TableState) → AreAsked s.table words (after (AsksWords words) s).kept
 asked_one words s free n i = go (is_none (name_fault s.table words)) free
   where
-    go : (c : Bool) → c ≡ true → IsSettled (after_query c (reach s.table words) s) n
+    go : (c : Bool) → c ≡ true → IsKeySettled (after_query c (reach s.table words) s) n
     go true e = ap is_some (put_in s.table (reach s.table words) s.kept n (inl i))
     go false e = cc
 
-asked_all : (texts : List (List WordUse)) (s : State)
+asked_all : (texts : List (List WordUse)) (s : TableState)
     → AllAsked s.table texts (after_all (map AsksWords texts) s).kept
 asked_all [] s = tt
 asked_all (words ∷ texts) s =
@@ -88,14 +89,15 @@ asked_all (words ∷ texts) s =
           (table_after (is_none (name_fault s.table words)) (reach s.table words) s) (asked_all texts next),
     )
 
-tables_same : (texts : List (List WordUse)) (s : State) → (after_all (map AsksWords texts) s).table ≡ s.table
+tables_same : (texts : List (List WordUse)) (s : TableState) → (after_all (map AsksWords texts) s).table ≡ s.table
 tables_same [] s = refl
 tables_same (words ∷ texts) s =
     tables_same texts (after (AsksWords words) s)
     ∙ table_after (is_none (name_fault s.table words)) (reach s.table words) s
 
 -- ---- querying again
-one_again : (words : List WordUse) (s : State) → IsRight s → s.reductions ≤ 2 ^ 64 - 1 → AreAsked s.table words s.kept
+one_again : (words : List WordUse) (s : TableState) → IsRight s → s.reductions ≤ 2 ^ 64 - 1
+    → AreAsked s.table words s.kept
     → after (AsksWords words) s ≡ s
 one_again words s right few asked = go (is_none (name_fault s.table words)) refl
   where
@@ -105,7 +107,7 @@ one_again words s right few asked = go (is_none (name_fault s.table words)) refl
         new_law s (reach s.table words) [] right (none_new (reach s.table words) s (asked e))
         ∙ same_counts s (min (2 ^ 64 - 1) (s.reductions + 0)) (s.steps + 0) (omega arith) (omega arith)
 
-all_again : (texts : List (List WordUse)) (s : State) → IsRight s → s.reductions ≤ 2 ^ 64 - 1
+all_again : (texts : List (List WordUse)) (s : TableState) → IsRight s → s.reductions ≤ 2 ^ 64 - 1
     → AllAsked s.table texts s.kept → after_all (map AsksWords texts) s ≡ s
 all_again [] s right few asked = refl
 all_again (words ∷ texts) s right few asked =
@@ -113,14 +115,15 @@ all_again (words ∷ texts) s right few asked =
 
 -- law: if the words of texts were queried, querying them again changes nothing and takes no step
 pub asked_again : (texts : List (List WordUse)) (a b : Shown) (n m k : ℕ) → b.reductions ≤ 2 ^ 64 - 1
-    → Follows (map AsksWords texts) a b n m → Follows (map AsksWords texts) b b k k
+    → IsAfterEvents (map AsksWords texts) a b n m → IsAfterEvents (map AsksWords texts) b b k k
 asked_again texts a b n m k few f =
     let same : table b.deck ≡ table a.deck =
-    ap (λ (t : State). t.table) f.stands ∙ tables_same texts (state a n) in
+    ap (λ (t : TableState). t.table) f.stands ∙ tables_same texts (state_with_steps a n) in
     let asked : AllAsked (table a.deck) texts b.kept =
-    subst (λ (s : State). AllAsked (table a.deck) texts s.kept) (sym f.stands) (asked_all texts (state a n)) in
+    subst (λ (s : TableState). AllAsked (table a.deck) texts s.kept) (sym f.stands)
+    (asked_all texts (state_with_steps a n)) in
     record {
-      stands = sym (all_again texts (state b k) (right_at b k f.right) few
+      stands = sym (all_again texts (state_with_steps b k) (right_at b k f.right) few
           (subst (λ (t : Table). AllAsked t texts b.kept) (sym same) asked));
       right = f.right;
     }

@@ -10,16 +10,16 @@ use Rattle.std.specs.declared.option.Option.{Option}
 use Rattle.csv.specs.declared.writer.Writer.{Writer}
 use Rattle.deck.specs.Tables.{table}
 use Rattle.def_entry.specs.Tables.{Table}
-use Rattle.live_table.specs.Shown.{Follows, IsCutOff, IsRightTable, Shown}
+use Rattle.live_table.specs.TableView.{IsAfterEvents, IsCutOff, IsRightTable, Shown}
 use Rattle.live_table.specs.States.{Event}
-use Rattle.live_table.proofs.Following.{cut_both, follows_both, follows_none}
+use Rattle.live_table.proofs.QuerySequence.{cut_both, follows_both, follows_none}
 use Rattle.live_table.proofs.Runs.{run_law}
 use Rattle.reply.specs.declared.options.Options.{Options}
-use Rattle.column_convert.specs.Blocks.{BlocksLaw, behind_first, block_of, first, is_refused, text_of}
+use Rattle.column_convert.specs.Blocks.{BlocksLaw, block_of, first, input_after, is_error_row, text_of}
 use Rattle.column_convert.specs.Inputs.{Input, behind}
 use Rattle.column_convert.specs.Records.{Fields}
 use Rattle.column_convert.specs.Rows.{before_rows, next_queries, next_row, queries, row, row_queries, rows}
-use Rattle.column_convert.specs.Written.{IsNextWritten, IsWritten}
+use Rattle.column_convert.specs.RecordWriter.{IsNextWritten, IsRowWritten}
 use Rattle.column_convert.specs.declared.block.Block.{Block}
 use Rattle.column_convert.specs.Rows.{ColumnRow}
 
@@ -47,11 +47,11 @@ module _ (t : Table) (options : Options) (from to : List ℕ) where
   abbrev IsOver : ℕ → Input → Type 0
   IsOver n i =
       (rows t options from to (first n i) ≡ []) × (queries t options from to (first n i) ≡ [])
-      × (next_queries t options from to i ≡ []) × (behind_first n i ≡ behind i)
+      × (next_queries t options from to i ≡ []) × (input_after n i ≡ behind i)
 
   -- no row is left
   pub over : (n : ℕ) (i : Input) → next_row t options from to i ≡ None → IsOver n i
-  unfolding behind_first
+  unfolding input_after
   over n i is = go n i.left i.place i.headed is
     where
       at : List Fields → ℕ → Bool → Input
@@ -67,13 +67,13 @@ module _ (t : Table) (options : Options) (from to : List ℕ) where
 abbrev IsCut : Table → Options → (from to : List ℕ) → ℕ → Input → Type 0
 IsCut t options from to n i =
     (rows t options from to i
-    ≡ rows t options from to (first n i) ++ rows t options from to (behind_first n i))
+    ≡ rows t options from to (first n i) ++ rows t options from to (input_after n i))
     × (queries t options from to i
-    ≡ queries t options from to (first n i) ++ queries t options from to (behind_first n i))
+    ≡ queries t options from to (first n i) ++ queries t options from to (input_after n i))
 
 -- law: the rows are those of the next n records and the rows after them, and so are the queries
 pub rows_by_block : BlocksLaw
-unfolding behind_first
+unfolding input_after
 rows_by_block t options from to n i = go n i.left i.place i.headed
   where
     at : List Fields → ℕ → Bool → Input
@@ -90,7 +90,7 @@ rows_by_block t options from to n i = go n i.left i.place i.headed
           ap (λ es. row_queries t options from to place headed fields ++ es) later.1
               ∙ sym (append_assoc (row_queries t options from to place headed fields)
               (queries t options from to (first n (at left place false)))
-              (queries t options from to (behind_first n (at left place false)))),
+              (queries t options from to (input_after n (at left place false)))),
         )
 
 -- ---- bytes and errors of rows, one after another
@@ -109,10 +109,10 @@ or_assoc true b c = refl
 or_assoc false b c = refl
 
 pub refused_more : (done : List ColumnRow) (row : ColumnRow)
-    → is_refused (done ++ row ∷ []) ≡ (is_refused done || row.refused)
+    → is_error_row (done ++ row ∷ []) ≡ (is_error_row done || row.refused)
 refused_more [] row = sym (or_last false row.refused)
 refused_more (d ∷ done) row =
-    ap (λ x. d.refused || x) (refused_more done row) ∙ or_assoc d.refused (is_refused done) row.refused
+    ap (λ x. d.refused || x) (refused_more done row) ∙ or_assoc d.refused (is_error_row done) row.refused
 
 pub length_more : (done : List ColumnRow) (row : ColumnRow) → length (done ++ row ∷ []) ≡ length done + 1
 length_more [] row = refl
@@ -121,7 +121,7 @@ length_more (d ∷ done) row = let e : length (done ++ row ∷ []) ≡ length do
 -- ---- the effect of one more row
 module _ (before after : Writer (Vec ℕ Global)) where
   pub row_there : (r : Bool) (o : Option ColumnRow) → IsNextWritten before after (Some r) o
-      → (row : ColumnRow) × (o ≡ Some row) × IsWritten before after r row
+      → (row : ColumnRow) × (o ≡ Some row) × IsRowWritten before after r row
   row_there r None w = absurd w
   row_there r (Some row) w = (row, refl, w)
 
@@ -139,13 +139,13 @@ module _ (options : Options) (from to : List ℕ) (whole : Input) (most : ℕ) (
         ≡ done ++ rows (table before.deck) options from to (first (most - count) left)
     pub asks : queries (table before.deck) options from to (first most whole)
         ≡ events ++ queries (table before.deck) options from to (first (most - count) left)
-    pub ends : behind_first most whole ≡ behind_first (most - count) left
+    pub ends : input_after most whole ≡ input_after (most - count) left
     pub text_is : text ≡ Some (text_of done)
-    pub refused_is : refused ≡ is_refused done
+    pub refused_is : refused ≡ is_error_row done
     pub count_is : count ≡ length done
     pub fits : count ≤ most
     pub deck : now.deck ≡ before.deck
-    pub follows : Follows events before now old new
+    pub follows : IsAfterEvents events before now old new
 
   all : most ≡ most - 0
   all = omega arith
@@ -157,7 +157,7 @@ module _ (options : Options) (from to : List ℕ) (whole : Input) (most : ℕ) (
     events = [];
     gives = ap (λ n. rows (table before.deck) options from to (first n whole)) all;
     asks = ap (λ n. queries (table before.deck) options from to (first n whole)) all;
-    ends = ap (λ n. behind_first n whole) all;
+    ends = ap (λ n. input_after n whole) all;
     text_is = is;
     refused_is = refl;
     count_is = refl;
@@ -178,15 +178,15 @@ module _ (options : Options) (from to : List ℕ) (whole : Input) (most : ℕ) (
     -- as many rows are written as are wanted
     pub full : most ≤ count → (rows (table before.deck) options from to (first most whole) ≡ u.done)
         × (queries (table before.deck) options from to (first most whole) ≡ u.events)
-        × (behind_first most whole ≡ left)
-    unfolding behind_first
+        × (input_after most whole ≡ left)
+    unfolding input_after
     full enough =
         let none : most - count ≡ 0 = omega (arith, u.fits) in (
           u.gives ∙ ap (λ n. u.done ++ rows (table before.deck) options from to (first n left)) none
               ∙ append-nil u.done,
           u.asks ∙ ap (λ n. u.events ++ queries (table before.deck) options from to (first n left)) none
               ∙ append-nil u.events,
-          u.ends ∙ ap (λ n. behind_first n left) none,
+          u.ends ∙ ap (λ n. input_after n left) none,
         )
 
     -- no row is left
@@ -197,21 +197,21 @@ module _ (options : Options) (from to : List ℕ) (whole : Input) (most : ℕ) (
           (ap (λ d. next_row (table d) options from to left) (sym u.deck) ∙ is)
 
       pub ended : (rows (table before.deck) options from to (first most whole) ≡ u.done)
-          × (behind_first most whole ≡ behind left)
+          × (input_after most whole ≡ behind left)
       ended = (
         u.gives ∙ ap (λ (rs : List ColumnRow). u.done ++ rs) none_left.0 ∙ append-nil u.done,
         u.ends ∙ none_left.3,
       )
 
       pub follows_ended : (later : Shown) (last : ℕ)
-          → Follows (next_queries (table now.deck) options from to left) now later new last
-          → Follows (queries (table before.deck) options from to (first most whole)) before later old last
+          → IsAfterEvents (next_queries (table now.deck) options from to left) now later new last
+          → IsAfterEvents (queries (table before.deck) options from to (first most whole)) before later old last
       follows_ended later last made =
-          subst (λ (es : List Event). Follows es before later old last)
+          subst (λ (es : List Event). IsAfterEvents es before later old last)
           (ap (λ (es : List Event). u.events ++ es) (none_left.2 ∙ sym none_left.1) ∙ sym u.asks)
           (follows_both u.events (next_queries (table before.deck) options from to left) before now later old new last
           u.follows
-          (subst (λ d. Follows (next_queries (table d) options from to left) now later new last) u.deck made))
+          (subst (λ d. IsAfterEvents (next_queries (table d) options from to left) now later new last) u.deck made))
 
     module _ (more : count < most) (later : Shown) (last : ℕ) (same : later.deck ≡ now.deck) where
       one_less : most - count ≡ suc (most - (count + 1))
@@ -237,17 +237,17 @@ module _ (options : Options) (from to : List ℕ) (whole : Input) (most : ℕ) (
           last u.deck u.follows
           (subst (λ d. IsCutOff (next_queries (table d) options from to left) now later new last) u.deck cut))
 
-      module _ (made : Follows (next_queries (table now.deck) options from to left) now later new last) where
-        made_first : Follows (next_queries (table before.deck) options from to left) now later new last
+      module _ (made : IsAfterEvents (next_queries (table now.deck) options from to left) now later new last) where
+        made_first : IsAfterEvents (next_queries (table before.deck) options from to left) now later new last
         made_first =
-            subst (λ d. Follows (next_queries (table d) options from to left) now later new last) u.deck made
+            subst (λ d. IsAfterEvents (next_queries (table d) options from to left) now later new last) u.deck made
 
         -- one more row is written
         pub underway_next : (row : ColumnRow) → next_row (table now.deck) options from to left ≡ Some row
             → (r : Bool) → r ≡ (refused || row.refused) → (longer : Option (List ℕ))
             → longer ≡ Some (text_of u.done ++ row.text)
             → IsUnderway (behind left) (count + 1) r longer later last
-        unfolding behind_first
+        unfolding input_after
         underway_next row is r either longer grows = record {
           done = u.done ++ row ∷ [];
           events = u.events ++ next_queries (table before.deck) options from to left;
@@ -265,7 +265,7 @@ module _ (options : Options) (from to : List ℕ) (whole : Input) (most : ℕ) (
               asks_next
               ∙ sym (append_assoc u.events (next_queries (table before.deck) options from to left)
               (queries (table before.deck) options from to (first (most - (count + 1)) (behind left))));
-          ends = u.ends ∙ ap (λ n. behind_first n left) one_less;
+          ends = u.ends ∙ ap (λ n. input_after n left) one_less;
           text_is = grows ∙ ap Some (sym (text_of_more u.done row));
           refused_is = either ∙ ap (λ b. b || row.refused) u.refused_is ∙ sym (refused_more u.done row);
           count_is = ap (λ n. n + 1) u.count_is ∙ sym (length_more u.done row);
@@ -283,7 +283,8 @@ whatever (Err x) p = tt
 
 pub block_is : (r : Result Block AllocError) (text : Option (List ℕ)) (count : ℕ) (any : Bool) (done : List ColumnRow)
     → IfOk r (λ block. (text ≡ Some block.text) × (block.rows ≡ count) × (block.refused ≡ any))
-    → text ≡ Some (text_of done) → count ≡ length done → any ≡ is_refused done → IfOk r (λ block. block ≡ block_of done)
+    → text ≡ Some (text_of done) → count ≡ length done → any ≡ is_error_row done
+    → IfOk r (λ block. block ≡ block_of done)
 block_is (Err e) text count any done said text_is count_is any_is = tt
 block_is (Ok block) text count any done said text_is count_is any_is = λ i. record {
   text = same_text (sym said.0 ∙ text_is) i;

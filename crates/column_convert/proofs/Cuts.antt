@@ -9,12 +9,13 @@ use Rattle.std.proofs.lemmas.List.Sums.{prefix_len-le-length}
 use Rattle.std.proofs.Math.ListN.{drop_of_length-le}
 use Rattle.std.proofs.lemmas.Bool.{cases_lt}
 use Rattle.units_io.specs.Blanks.{is_blank}
-use Rattle.frac128.specs.Decimals.{read}
+use Rattle.frac128.specs.Decimals.{numeral_reading}
 use Rattle.frac128.specs.Numerals.{is_digit, numeral_len_of}
 use Rattle.frac128.proofs.LongestNumerals.{longest-within}
-use Rattle.expr_tree.specs.Lexemes.{Blank, Lexeme, Malformed, Piece, Placed, Whole, front, is_numeral, is_opened}
+use Rattle.expr_tree.specs.Lexemes.{Blank, Lexeme, Malformed, Piece, Placed, Whole, front, has_paren, is_numeral_lexeme}
 use Rattle.expr_tree.specs.Lexemes.{lexemes_from}
-use Rattle.expr_tree.specs.Lexemes.{mark, mark_piece, numeral, numeral_piece, other_word, piece, word_front, word_piece}
+use Rattle.expr_tree.specs.Lexemes.{byte_lexeme, lexeme_piece, mark_piece, numeral_lexeme, numeral_piece, other_word}
+use Rattle.expr_tree.specs.Lexemes.{word_front, word_piece}
 use Rattle.expr_tree.specs.Names.{is_name, is_refused, is_word_byte, word_of}
 use Rattle.expr_tree.specs.Tokens.{Caret, Close, Head, Word}
 use Rattle.column_convert.proofs.Longest.{longest_same, opened_same, take_front, word_same}
@@ -26,12 +27,13 @@ and_false false = refl
 -- the lexeme at the front, chosen by tests of its first byte
 choose : (blank after_point number word : Bool) → Piece → Piece → Piece → Piece
 choose blank after_point number word p q s =
-    if blank then piece Blank 1
-    else (if after_point then piece Malformed 1
+    if blank then lexeme_piece Blank 1
+    else (if after_point then lexeme_piece Malformed 1
     else (if number then p else (if word then q else s)))
 
 numeral_by : ℕ → List ℕ → Piece
-numeral_by n bytes = if n == 0 then piece Malformed 1 else piece (numeral (read bytes)) n
+numeral_by n bytes = if n == 0 then lexeme_piece Malformed 1 else lexeme_piece (numeral_lexeme (numeral_reading bytes))
+    n
 
 numeral_same : (xs r : List ℕ) → numeral_piece (xs ++ 41 ∷ r) ≡ numeral_piece xs
 unfolding numeral_by
@@ -43,7 +45,7 @@ word_front_same : (xs r : List ℕ) → word_front (xs ++ 41 ∷ r) ≡ word_fro
 word_front_same xs r = λ i. word_piece (word_same xs r i) (opened_same xs r i)
 
 mark_by : Bool → ℕ → Piece
-mark_by two b = if two then piece (Whole Caret) 2 else piece (mark b) 1
+mark_by two b = if two then lexeme_piece (Whole Caret) 2 else lexeme_piece (byte_lexeme b) 1
 
 mark_same : (b : ℕ) (bs r : List ℕ) → mark_piece ((b ∷ bs) ++ 41 ∷ r) ≡ mark_piece (b ∷ bs)
 unfolding mark_by
@@ -66,25 +68,26 @@ choose_within n false false false true p q s one a b c = b
 choose_within n false false false false p q s one a b c = c
 
 numeral_within : (n k : ℕ) (b : Bool) (bytes : List ℕ) → 1 ≤ n → k ≤ n
-    → (if b then piece Malformed 1 else piece (numeral (read bytes)) k).len ≤ n
+    → (if b then lexeme_piece Malformed 1 else lexeme_piece (numeral_lexeme (numeral_reading bytes)) k).len ≤ n
 numeral_within n k true bytes one h = one
 numeral_within n k false bytes one h = h
 
-opened_within : (n : ℕ) (xs : List ℕ) → is_opened (drop n xs) ≡ true → n < length xs
+opened_within : (n : ℕ) (xs : List ℕ) → has_paren (drop n xs) ≡ true → n < length xs
 opened_within n xs h = elim (cases_lt n (length xs)) [
   | inl low ↦ low
-  | inr high ↦ (let none : is_opened (drop n xs) ≡ false = ap is_opened (drop_of_length-le xs (omega arith)) in cc)
+  | inr high ↦ (let none : has_paren (drop n xs) ≡ false = ap has_paren (drop_of_length-le xs (omega arith)) in cc)
 ]
 
 word_within : (n : ℕ) (word : List ℕ) (named opened : Bool) → length word ≤ n → (opened ≡ true → length word < n)
-    → (if named then (if opened then piece (Whole (Head word)) (length word + 1) else piece (Whole (Word word))
-    (length word)) else piece (other_word word) (length word)).len ≤ n
+    → (if named then (if opened then lexeme_piece (Whole (Head word)) (length word + 1) else lexeme_piece
+    (Whole (Word word))
+    (length word)) else lexeme_piece (other_word word) (length word)).len ≤ n
 word_within n word true true h more = let less : length word < n = more refl in omega arith
 word_within n word true false h more = h
 word_within n word false opened h more = h
 
 mark_within : (n : ℕ) (two : Bool) (b : ℕ) → 1 ≤ n → (two ≡ true → 2 ≤ n)
-    → (if two then piece (Whole Caret) 2 else piece (mark b) 1).len ≤ n
+    → (if two then lexeme_piece (Whole Caret) 2 else lexeme_piece (byte_lexeme b) 1).len ≤ n
 mark_within n true b one h = h refl
 mark_within n false b one h = one
 
@@ -104,7 +107,7 @@ front_within an b bs =
     (numeral_within (length text) (numeral_len_of text) (numeral_len_of text == 0) (take (numeral_len_of text) text)
     (omega arith) (longest-within text))
     (word_within (length text) (word_of text) (is_name (word_of text) || is_refused (word_of text))
-    (is_opened (drop n text))
+    (has_paren (drop n text))
     (omega arith) (λ o. let inside : n < length text = opened_within n text o in omega arith))
     (mark_within (length text) ((b == 42) && (slice_index text 1 == 42)) b (omega arith) (two_stars b bs))
 
@@ -118,7 +121,7 @@ place_free covered an p q [] = refl
 place_free (suc covered) an p q (b ∷ bs) = place_free covered an (suc p) (suc q) bs
 place_free zero an p q (b ∷ bs) =
     ap (λ xs. (front an (b ∷ bs)).lexeme ∷ xs)
-    (place_free ((front an (b ∷ bs)).len - 1) (is_numeral (front an (b ∷ bs)).lexeme) (suc p) (suc q) bs)
+    (place_free ((front an (b ∷ bs)).len - 1) (is_numeral_lexeme (front an (b ∷ bs)).lexeme) (suc p) (suc q) bs)
 
 -- the lexemes of a `)` and the text after it do not depend on the text before it
 pub close_forms : (an : Bool) (p q : ℕ) (r : List ℕ) → forms 0 an p (41 ∷ r) ≡ Whole Close ∷ forms 0 false q r
@@ -133,7 +136,9 @@ forms_before [] r zero an p q h = close_forms an p q r
 forms_before [] r (suc covered) an p q h = absurd (omega arith)
 forms_before (b ∷ bs) r (suc covered) an p q h = forms_before bs r covered an (suc p) q (omega arith)
 forms_before (b ∷ bs) r zero an p q h =
-    ap (λ (f : Piece). f.lexeme ∷ forms (f.len - 1) (is_numeral f.lexeme) (suc p) (bs ++ 41 ∷ r)) (front_same an b bs r)
+    ap (λ (f : Piece). f.lexeme ∷ forms (f.len - 1) (is_numeral_lexeme f.lexeme) (suc p) (bs ++ 41 ∷ r))
+    (front_same an b bs r)
     ∙ ap (λ xs. (front an (b ∷ bs)).lexeme ∷ xs)
     (let short : (front an (b ∷ bs)).len ≤ length (b ∷ bs) = front_within an b bs in
-    forms_before bs r ((front an (b ∷ bs)).len - 1) (is_numeral (front an (b ∷ bs)).lexeme) (suc p) q (omega arith))
+    forms_before bs r ((front an (b ∷ bs)).len - 1) (is_numeral_lexeme (front an (b ∷ bs)).lexeme) (suc p) q
+    (omega arith))

@@ -1,7 +1,7 @@
-mod Reading
-mod Changing
-mod Asking
-mod Converting
+mod RecordReads
+mod ItemChanges
+mod CutQueries
+mod CellReplies
 mod Examples
 mod Rows
 mod Longest
@@ -15,9 +15,9 @@ mod Replies
 mod Again
 mod AnyLength
 mod Blocks
-mod Valued
+mod ValueReplies
 mod KnownCells
-mod Beginning
+mod BegunQueries
 mod PlainTrees
 mod FrontQueries
-mod Recalling
+mod RecallQueries

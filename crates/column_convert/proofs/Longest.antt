@@ -6,10 +6,10 @@ use Rattle.std.specs.Prelude.{◌==◌, ◌&&◌, if◌then◌else◌, not}
 use Rattle.std.specs.List.{list_all, list_any, prefix_len}
 use Rattle.std.proofs.lemmas.Bool.{cases_lt}
 use Rattle.std.proofs.lemmas.Bool.Decides.{nat_tests}
-use Rattle.frac128.specs.Numerals.{before, behind_sign, from, greatest, is_digit, is_exponent, is_mantissa}
+use Rattle.frac128.specs.Numerals.{before, behind_sign, from, greatest_passing, is_digit, is_exponent_text, is_mantissa}
 use Rattle.frac128.specs.Numerals.{is_mark_byte, is_numeral}
 use Rattle.frac128.specs.Numerals.{is_point_byte, is_pointed, is_sign_byte, numeral_len_of}
-use Rattle.expr_tree.specs.Lexemes.{is_opened}
+use Rattle.expr_tree.specs.Lexemes.{has_paren}
 use Rattle.expr_tree.specs.Names.{is_word_byte}
 
 -- ---- a numeral contains no `)`
@@ -90,7 +90,7 @@ sign_front (x ∷ xs) h = by (is_sign_byte x) refl h
     by true e k = both_hold (other x) (list_all other xs) (sign_other x e) k
     by false e k = k
 
-exponent_other : (xs : List ℕ) → is_exponent xs ≡ true → list_all other (drop 1 xs) ≡ true
+exponent_other : (xs : List ℕ) → is_exponent_text xs ≡ true → list_all other (drop 1 xs) ≡ true
 exponent_other [] h = refl
 exponent_other (x ∷ xs) h =
     sign_front xs
@@ -98,7 +98,7 @@ exponent_other (x ∷ xs) h =
 
 numeral_other : (xs : List ℕ) → is_numeral xs ≡ true → list_all other xs ≡ true
 numeral_other xs h =
-    let p = both (is_mantissa (before is_mark_byte xs)) (is_exponent (from is_mark_byte xs)) h in
+    let p = both (is_mantissa (before is_mark_byte xs)) (is_exponent_text (from is_mark_byte xs)) h in
     let m = both (list_any is_digit (before is_mark_byte xs)) (is_pointed (before is_mark_byte xs)) p.0 in
     parts_other is_mark_byte xs (pointed_other (before is_mark_byte xs) m.1)
     (from_other is_mark_byte mark_other xs (exponent_other (from is_mark_byte xs) p.1))
@@ -125,20 +125,20 @@ too_far n xs r h = by (is_numeral (take n (xs ++ 41 ∷ r))) refl
         cc
 
 greatest_stays : (test : ℕ → Bool) (i n : ℕ) → i ≤ n → ((m : ℕ) → i < m → m ≤ n → test m ≡ false)
-    → greatest test n ≡ greatest test i
-unfolding greatest
-greatest_stays test i zero h none = let same : zero ≡ i = omega arith in ap (greatest test) same
+    → greatest_passing test n ≡ greatest_passing test i
+unfolding greatest_passing
+greatest_stays test i zero h none = let same : zero ≡ i = omega arith in ap (greatest_passing test) same
 greatest_stays test i (suc n) h none = elim (cases_lt i (suc n)) [
-  | inl low ↦ ap (λ b. if b then suc n else greatest test n) (none (suc n) low (omega arith))
+  | inl low ↦ ap (λ b. if b then suc n else greatest_passing test n) (none (suc n) low (omega arith))
       ∙ greatest_stays test i n (omega arith) (λ m p q. none m p (omega arith))
-  | inr high ↦ (let same : suc n ≡ i = omega arith in ap (greatest test) same)
+  | inr high ↦ (let same : suc n ≡ i = omega arith in ap (greatest_passing test) same)
 ]
 
-greatest_alike : (f g : ℕ → Bool) (n : ℕ) → ((m : ℕ) → m ≤ n → f m ≡ g m) → greatest f n ≡ greatest g n
-unfolding greatest
+greatest_alike : (f g : ℕ → Bool) (n : ℕ) → ((m : ℕ) → m ≤ n → f m ≡ g m) → greatest_passing f n ≡ greatest_passing g n
+unfolding greatest_passing
 greatest_alike f g zero h = refl
 greatest_alike f g (suc n) h =
-    ap (λ b. if b then suc n else greatest f n) (h (suc n) (omega arith))
+    ap (λ b. if b then suc n else greatest_passing f n) (h (suc n) (omega arith))
     ∙ ap (λ k. if g (suc n) then suc n else k) (greatest_alike f g n (λ m p. h m (omega arith)))
 
 length_more : (xs : List ℕ) (b : ℕ) (r : List ℕ) → length xs < length (xs ++ b ∷ r)
@@ -159,17 +159,17 @@ longest_same xs r =
     (λ m p. ap is_numeral (take_front m xs (41 ∷ r) p))
 
 -- ---- words
-drop_one : (b : Bool) (n x : ℕ) (xs : List ℕ) → is_opened (drop (cond b (1 + n) 0) (x ∷ xs)) ≡ cond b
-    (is_opened (drop n xs)) (x == 40)
-drop_one true n x xs = let e : 1 + n ≡ suc n = omega arith in ap (λ k. is_opened (drop k (x ∷ xs))) e
+drop_one : (b : Bool) (n x : ℕ) (xs : List ℕ) → has_paren (drop (cond b (1 + n) 0) (x ∷ xs)) ≡ cond b
+    (has_paren (drop n xs)) (x == 40)
+drop_one true n x xs = let e : 1 + n ≡ suc n = omega arith in ap (λ k. has_paren (drop k (x ∷ xs))) e
 drop_one false n x xs = refl
 
 take_one : (b : Bool) (n x : ℕ) (xs : List ℕ) → take (cond b (1 + n) 0) (x ∷ xs) ≡ cond b (x ∷ take n xs) []
 take_one true n x xs = let e : 1 + n ≡ suc n = omega arith in ap (λ k. take k (x ∷ xs)) e
 take_one false n x xs = refl
 
-pub opened_same : (xs r : List ℕ) → is_opened (drop (prefix_len is_word_byte (xs ++ 41 ∷ r)) (xs ++ 41 ∷ r))
-    ≡ is_opened (drop (prefix_len is_word_byte xs) xs)
+pub opened_same : (xs r : List ℕ) → has_paren (drop (prefix_len is_word_byte (xs ++ 41 ∷ r)) (xs ++ 41 ∷ r))
+    ≡ has_paren (drop (prefix_len is_word_byte xs) xs)
 opened_same [] r = refl
 opened_same (x ∷ xs) r =
     drop_one (is_word_byte x) (prefix_len is_word_byte (xs ++ 41 ∷ r)) x (xs ++ 41 ∷ r)

@@ -6,12 +6,12 @@ use Rattle.std.specs.declared.alloc.AllocError.{AllocError}
 use Rattle.def_entry.specs.declared.key.Kind.TheVariants as kind
 use Rattle.def_entry.specs.Entries.{Entry}
 use Rattle.def_entry.specs.Keys.{key}
-use Rattle.def_entry.specs.Reading.{is_semicolon}
+use Rattle.def_entry.specs.EntryReading.{is_semicolon}
 use Rattle.def_entry.specs.Tables.{Table, entry_at, is_present}
-use Rattle.def_lines.specs.Blanks.{trimmed}
-use Rattle.expr_tree.specs.Parsed.{parsed}
+use Rattle.def_lines.specs.Blanks.{trim_of}
+use Rattle.expr_tree.specs.ParseResult.{parse_of}
 use Rattle.expr_tree.specs.Syntax.{Syntax}
-use Rattle.column_convert.specs.Known.{ArePlain, HasProduct, HasProducts, IsTreeOf, are_plain}
+use Rattle.column_convert.specs.CachedValues.{ArePlain, HasProduct, HasProducts, IsParsedAs, are_plain}
 use Rattle.column_convert.specs.Products.{IsFactor}
 
 -- neither is a function, and TO is not a list
@@ -44,7 +44,7 @@ no_calls table from to e =
     go false false false true e = cc
     go false false false false e = (refl, refl, refl, refl)
 
-factor_of : (from : List ℕ) (f : Syntax) → parsed None from ≡ Ok f → HasProducts from → (negative : Bool)
+factor_of : (from : List ℕ) (f : Syntax) → parse_of None from ≡ Ok f → HasProducts from → (negative : Bool)
     → IsFactor negative from f
 factor_of from f tree has negative = record {
   tree = tree;
@@ -54,13 +54,13 @@ factor_of from f tree has negative = record {
   faultless = has negative;
 }
 
-pub plain_of : (table : Table) (from to name : List ℕ) (f g : Syntax) → name ≡ trimmed to
-    → are_plain table from name ≡ true → HasProducts from → IsTreeOf from f → IsTreeOf name g
+pub plain_of : (table : Table) (from to name : List ℕ) (f g : Syntax) → name ≡ trim_of to
+    → are_plain table from name ≡ true → HasProducts from → IsParsedAs from f → IsParsedAs name g
     → ArePlain table from to f g
 plain_of table from to name f g is plain has tree to_tree = record {
   are_so = subst (λ (n : List ℕ). are_plain table from n ≡ true) is plain;
   factor = factor_of from f tree.tree has;
-  to_tree = subst (λ (n : List ℕ). parsed None n ≡ Ok g) is to_tree.tree;
+  to_tree = subst (λ (n : List ℕ). parse_of None n ≡ Ok g) is to_tree.tree;
 }
 
 -- both products exist, checked one after the other

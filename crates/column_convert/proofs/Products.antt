@@ -1,18 +1,18 @@
 -- The tree of a number times an expression.
 use Rattle.std.proofs.Common.{◌≡◌, ℕ, suc, arith, Bool, true, false, List, [], ◌∷◌, ◌++◌, length, None, Ok, refl, sym}
 use Rattle.std.proofs.Common.{ap, subst, ◌∙◌, append_assoc}
-use Rattle.frac128.specs.Decimals.{Decimal, read}
+use Rattle.frac128.specs.Decimals.{Decimal, numeral_reading}
 use Rattle.frac128.specs.Numerals.{is_numeral}
 use Rattle.expr_tree.specs.declared.operator.Sign.TheVariants as signs
 use Rattle.expr_tree.specs.Faults.{first_fault}
 use Rattle.expr_tree.specs.Grammar.{Sum, SumOf, NoTerm, ProductOf, NoFactor, Signed, JuxtapositionOf, NoPower}
-use Rattle.expr_tree.specs.Grammar.{NextPower, Bare, NumeralAtom, GroupAtom, Gives, sum, sum_tree}
+use Rattle.expr_tree.specs.Grammar.{NextPower, Bare, NumeralAtom, GroupAtom, GivesTree, sum, sum_tree}
 use Rattle.expr_tree.specs.Lexemes.{Blank, Lexeme, Placed, Whole, lexemes, lexemes_from, token_in, tokens, tokens_in}
-use Rattle.expr_tree.specs.Parsed.{parsed}
+use Rattle.expr_tree.specs.ParseResult.{parse_of}
 use Rattle.expr_tree.specs.Syntax.{Syntax}
 use Rattle.expr_tree.specs.Tokens.{Close, Minus, Numeral, Open, Token}
 use Rattle.expr_tree.proofs.ParsedTexts.{parsed_law}
-use Rattle.column_convert.specs.Products.{product_text, product_tree, signed_text}
+use Rattle.column_convert.specs.Products.{number_product, product_text, signed_text}
 use Rattle.column_convert.proofs.Alike.{free_alike, front_forms, lexemes_of}
 use Rattle.column_convert.proofs.Cuts.{forms, forms_before, place_free}
 use Rattle.column_convert.proofs.Numbers.{negative_forms, numeral_forms}
@@ -43,7 +43,8 @@ abbrev number_forms : Bool → Decimal → List Lexeme
 number_forms false x = Whole (Numeral x) ∷ []
 number_forms true x = Whole Minus ∷ Whole (Numeral x) ∷ []
 
-signed_forms : (negative : Bool) (x : Decimal) (text : List ℕ) (p : ℕ) → is_numeral text ≡ true → read text ≡ Ok x
+signed_forms : (negative : Bool) (x : Decimal) (text : List ℕ) (p : ℕ) → is_numeral text ≡ true
+    → numeral_reading text ≡ Ok x
     → forms 0 false p (signed_text negative text) ≡ number_forms negative x
 signed_forms false x text p is value = numeral_forms x text p is value
 signed_forms true x text p is value = negative_forms x text p is value
@@ -53,7 +54,8 @@ front_is : (negative : Bool) (x : Decimal) (rest : List Lexeme)
 front_is false x rest = refl
 front_is true x rest = refl
 
-pub product_forms : (negative : Bool) (x : Decimal) (text from : List ℕ) → is_numeral text ≡ true → read text ≡ Ok x
+pub product_forms : (negative : Bool) (x : Decimal) (text from : List ℕ) → is_numeral text ≡ true
+    → numeral_reading text ≡ Ok x
     → lexemes_of (lexemes (product_text (signed_text negative text) from))
     ≡ front_forms negative x (forms 0 false 0 from ++ (Whole Close ∷ []))
 product_forms negative x text from is value =
@@ -96,7 +98,8 @@ closed_tokens : (xs : List Lexeme) → tokens_of (xs ++ (Whole Close ∷ [])) �
 unfolding tokens_of
 closed_tokens xs = tokens_both xs (Whole Close ∷ [])
 
-product_tokens : (negative : Bool) (x : Decimal) (text from : List ℕ) → is_numeral text ≡ true → read text ≡ Ok x
+product_tokens : (negative : Bool) (x : Decimal) (text from : List ℕ) → is_numeral text ≡ true
+    → numeral_reading text ≡ Ok x
     → tokens (product_text (signed_text negative text) from) ≡ number_tokens negative x (tokens from ++ (Close ∷ []))
 product_tokens negative x text from is value =
     tokens_by (lexemes (product_text (signed_text negative text) from))
@@ -123,28 +126,28 @@ product_spelt false x d = refl
 product_spelt true x d = refl
 
 product_says : (negative : Bool) (x : Decimal) (d : Sum)
-    → product_tree negative x (sum_tree None d) ≡ sum_tree None (product_sum negative x d)
+    → number_product negative x (sum_tree None d) ≡ sum_tree None (product_sum negative x d)
 unfolding number_sum product_sum
 product_says false x d = refl
 product_says true x d = refl
 
-product_gives : (negative : Bool) (x : Decimal) (ts : List Token) (f : Syntax) → Gives None ts f
-    → Gives None (number_tokens negative x (ts ++ (Close ∷ []))) (product_tree negative x f)
+product_gives : (negative : Bool) (x : Decimal) (ts : List Token) (f : Syntax) → GivesTree None ts f
+    → GivesTree None (number_tokens negative x (ts ++ (Close ∷ []))) (number_product negative x f)
 product_gives negative x ts f g = (
   product_sum negative x g.0,
   ap (λ us. number_tokens negative x (us ++ (Close ∷ []))) g.1
       ∙ (ap (number_tokens negative x) (sym (sum_before g.0 [] (Close ∷ []))) ∙ product_spelt negative x g.0),
-  ap (product_tree negative x) g.2 ∙ product_says negative x g.0,
+  ap (number_product negative x) g.2 ∙ product_says negative x g.0,
 )
 
 -- if one number times the expression has no fault, every other number of this sign times it is parsed as their product
 pub product_parsed : (negative : Bool) (x y : Decimal) (text other from : List ℕ) (f : Syntax)
-    → is_numeral text ≡ true → read text ≡ Ok x → is_numeral other ≡ true → read other ≡ Ok y
-    → parsed None from ≡ Ok f → first_fault (product_text (signed_text negative other) from) ≡ None
-    → parsed None (product_text (signed_text negative text) from) ≡ Ok (product_tree negative x f)
+    → is_numeral text ≡ true → numeral_reading text ≡ Ok x → is_numeral other ≡ true → numeral_reading other ≡ Ok y
+    → parse_of None from ≡ Ok f → first_fault (product_text (signed_text negative other) from) ≡ None
+    → parse_of None (product_text (signed_text negative text) from) ≡ Ok (number_product negative x f)
 product_parsed negative x y text other from f is value other_is other_value tree free =
     let g = ((parsed_law None from).0 f).0 tree in
-    ((parsed_law None (product_text (signed_text negative text) from)).0 (product_tree negative x f)).1 (
+    ((parsed_law None (product_text (signed_text negative text) from)).0 (number_product negative x f)).1 (
       free_alike negative y x (forms 0 false 0 from ++ (Whole Close ∷ []))
           (lexemes (product_text (signed_text negative other) from))
           (lexemes (product_text (signed_text negative text) from))
@@ -152,6 +155,6 @@ product_parsed negative x y text other from f is value other_is other_value tree
           (length (product_text (signed_text negative text) from))
           (product_forms negative y other from other_is other_value)
           (product_forms negative x text from is value) free,
-      subst (λ ts. Gives None ts (product_tree negative x f)) (sym (product_tokens negative x text from is value))
+      subst (λ ts. GivesTree None ts (number_product negative x f)) (sym (product_tokens negative x text from is value))
           (product_gives negative x (tokens from) f g.1),
     )

@@ -6,8 +6,8 @@ use Rattle.expr_tree.specs.Grammar.{Juxtaposition, Signed, JuxtapositionOf, Juxt
 use Rattle.expr_tree.specs.Grammar.{Power, Bare, Raised, Exponent, SignedExponent, ExponentOf}
 use Rattle.expr_tree.specs.Grammar.{Atom, NumeralAtom, BarAtom, WordAtom, PowerAtom, CallAtom, InverseAtom, RootAtom}
 use Rattle.expr_tree.specs.Grammar.{GroupAtom}
-use Rattle.expr_tree.specs.Grammar.{sign, scale, sum, sum_rest, product, product_rest, juxtaposition}
-use Rattle.expr_tree.specs.Grammar.{juxtaposition_rest, power, exponent, atom}
+use Rattle.expr_tree.specs.Grammar.{sign_token, scale_token, sum, sum_rest, product, product_rest, juxtaposition}
+use Rattle.expr_tree.specs.Grammar.{juxtaposition_rest, power, exponent_tokens, atom}
 use Rattle.expr_tree.specs.Tokens.{Token, Head, Root, Caret, Tilde, Open, Close}
 
 mutual
@@ -17,7 +17,7 @@ mutual
   sum_rest_before : (d : SumRest) (a b : List Token) → sum_rest d (a ++ b) ≡ sum_rest d a ++ b
   sum_rest_before NoTerm a b = refl
   sum_rest_before (NextTerm s p ps) a b =
-      ap (λ ts. sign s ∷ ts) (ap (product p) (sum_rest_before ps a b) ∙ product_before p (sum_rest ps a) b)
+      ap (λ ts. sign_token s ∷ ts) (ap (product p) (sum_rest_before ps a b) ∙ product_before p (sum_rest ps a) b)
 
   product_before : (d : Product) (a b : List Token) → product d (a ++ b) ≡ product d a ++ b
   product_before (ProductOf j js) a b =
@@ -26,11 +26,11 @@ mutual
   product_rest_before : (d : ProductRest) (a b : List Token) → product_rest d (a ++ b) ≡ product_rest d a ++ b
   product_rest_before NoFactor a b = refl
   product_rest_before (NextFactor s j js) a b =
-      ap (λ ts. scale s ∷ ts) (ap (juxtaposition j) (product_rest_before js a b)
+      ap (λ ts. scale_token s ∷ ts) (ap (juxtaposition j) (product_rest_before js a b)
       ∙ juxtaposition_before j (product_rest js a) b)
 
   juxtaposition_before : (d : Juxtaposition) (a b : List Token) → juxtaposition d (a ++ b) ≡ juxtaposition d a ++ b
-  juxtaposition_before (Signed s j) a b = ap (λ ts. sign s ∷ ts) (juxtaposition_before j a b)
+  juxtaposition_before (Signed s j) a b = ap (λ ts. sign_token s ∷ ts) (juxtaposition_before j a b)
   juxtaposition_before (JuxtapositionOf p ps) a b =
       ap (power p) (juxtaposition_rest_before ps a b) ∙ power_before p (juxtaposition_rest ps a) b
 
@@ -43,10 +43,10 @@ mutual
   power_before : (d : Power) (a b : List Token) → power d (a ++ b) ≡ power d a ++ b
   power_before (Bare x) a b = atom_before x a b
   power_before (Raised x e) a b =
-      ap (λ ts. atom x (Caret ∷ ts)) (exponent_before e a b) ∙ atom_before x (Caret ∷ exponent e a) b
+      ap (λ ts. atom x (Caret ∷ ts)) (exponent_before e a b) ∙ atom_before x (Caret ∷ exponent_tokens e a) b
 
-  exponent_before : (d : Exponent) (a b : List Token) → exponent d (a ++ b) ≡ exponent d a ++ b
-  exponent_before (SignedExponent s e) a b = ap (λ ts. sign s ∷ ts) (exponent_before e a b)
+  exponent_before : (d : Exponent) (a b : List Token) → exponent_tokens d (a ++ b) ≡ exponent_tokens d a ++ b
+  exponent_before (SignedExponent s e) a b = ap (λ ts. sign_token s ∷ ts) (exponent_before e a b)
   exponent_before (ExponentOf p) a b = power_before p a b
 
   atom_before : (d : Atom) (a b : List Token) → atom d (a ++ b) ≡ atom d a ++ b

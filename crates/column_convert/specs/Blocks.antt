@@ -13,27 +13,27 @@ text_of [] = []
 text_of (row ∷ rows) = row.text ++ text_of rows
 
 -- whether the cell of a row is an error
-abbrev pub is_refused : List ColumnRow → Bool
-is_refused [] = false
-is_refused (row ∷ rows) = row.refused || is_refused rows
+abbrev pub is_error_row : List ColumnRow → Bool
+is_error_row [] = false
+is_error_row (row ∷ rows) = row.refused || is_error_row rows
 
 -- rows as a block
 abbrev pub block_of : List ColumnRow → Block
-block_of rows = record { text = text_of rows; rows = length rows; refused = is_refused rows }
+block_of rows = record { text = text_of rows; rows = length rows; refused = is_error_row rows }
 
 -- the next n records, or fewer if fewer are left
 abbrev pub first : ℕ → Input → Input
 first n i = record { left = take n i.left; place = i.place; headed = i.headed }
 
 -- the input after its next n records
-unfoldable pub behind_first : ℕ → Input → Input
-behind_first zero i = i
-behind_first (suc n) i = behind_first n (behind i)
+unfoldable pub input_after : ℕ → Input → Input
+input_after zero i = i
+input_after (suc n) i = input_after n (behind i)
 
 -- law: the rows are those of the next n records and the rows after them, and so are the queries
 abbrev pub BlocksLaw : Type 0
 BlocksLaw = (table : Table) (options : Options) (from to : List ℕ) (n : ℕ) (i : Input)
     → (rows table options from to i
-    ≡ rows table options from to (first n i) ++ rows table options from to (behind_first n i))
+    ≡ rows table options from to (first n i) ++ rows table options from to (input_after n i))
     × (queries table options from to i
-    ≡ queries table options from to (first n i) ++ queries table options from to (behind_first n i))
+    ≡ queries table options from to (first n i) ++ queries table options from to (input_after n i))

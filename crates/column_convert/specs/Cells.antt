@@ -4,7 +4,7 @@ use Rattle.def_entry.specs.Cuts.{cut_at}
 use Rattle.def_entry.specs.declared.key.Kind.TheVariants as kind
 use Rattle.def_entry.specs.Keys.{key}
 use Rattle.def_entry.specs.Tables.{Table, is_present}
-use Rattle.def_lines.specs.Blanks.{trimmed}
+use Rattle.def_lines.specs.Blanks.{trim_of}
 use Rattle.frac128.specs.Numerals.{is_minus_byte, is_numeral}
 use Rattle.live_table.specs.States.{Event}
 use Rattle.reply.specs.declared.options.Options.{Options}
@@ -19,8 +19,8 @@ behind_minus [] = []
 behind_minus (b ∷ bytes) = if is_minus_byte b then bytes else b ∷ bytes
 
 -- whether a text is a numeral, perhaps with a minus sign before it
-abbrev pub is_number : List ℕ → Bool
-is_number text = is_numeral (behind_minus text)
+abbrev pub is_signed_numeral : List ℕ → Bool
+is_signed_numeral text = is_numeral (behind_minus text)
 
 -- the text to convert for a number: the call of the function FROM with the number, if FROM names a function, or else
 -- the number times FROM
@@ -72,12 +72,12 @@ module _ (table : Table) (options : Options) (from to field : List ℕ) where
   -- the cell of a field, and the queries that are made for it: blanks at the ends of the field and of FROM are dropped
   abbrev pub cell : Cell
   cell =
-      if is_number (trimmed field)
-      then cell_of (number_reply table options (trimmed from) to (trimmed field))
+      if is_signed_numeral (trim_of field)
+      then cell_of (number_reply table options (trim_of from) to (trim_of field))
       else not_a_number
 
   abbrev pub cell_queries : List Event
   cell_queries =
-      if is_number (trimmed field)
-      then number_queries table options (trimmed from) to (trimmed field)
+      if is_signed_numeral (trim_of field)
+      then number_queries table options (trim_of from) to (trim_of field)
       else []

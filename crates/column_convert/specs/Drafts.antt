@@ -1,12 +1,12 @@
 -- Rows in the making.
-use Rattle.def_lines.specs.Blanks.{trimmed}
-use Rattle.live_table.specs.Shown.{Shown}
-use Rattle.column_convert.specs.Known.{IsRemembered}
-use Rattle.column_convert.specs.Written.{IsIdle}
+use Rattle.def_lines.specs.Blanks.{trim_of}
+use Rattle.live_table.specs.TableView.{Shown}
+use Rattle.column_convert.specs.CachedValues.{IsRemembered}
+use Rattle.column_convert.specs.RecordWriter.{IsIdleWriter}
 use Rattle.column_convert.specs.declared.conversion.Conversion.{Conversion}
 use Rattle.column_convert.specs.declared.draft.Draft.{Draft}
 
 -- a draft is ready for the next row: no record is partly written, and the remembered values are right in the table
 pub record IsReady (table : Shown) (conversion : Conversion) (draft : Draft) : Type 0 where
-  pub idle : IsIdle draft.writer
-  pub known : IsRemembered table (trimmed conversion.from.now) conversion.to.now draft.memory
+  pub idle : IsIdleWriter draft.writer
+  pub known : IsRemembered table (trim_of conversion.from.now) conversion.to.now draft.memory

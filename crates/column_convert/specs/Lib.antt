@@ -2,10 +2,10 @@ pub mod Records
 pub mod Products
 pub mod Cells
 pub mod Worths
-pub mod Known
+pub mod CachedValues
 pub mod Inputs
 pub mod Rows
-pub mod Written
+pub mod RecordWriter
 pub mod Blocks
 pub mod Examples
 pub mod Drafts

@@ -50,16 +50,16 @@ module _ (table : Table) (options : Options) (from to : List ℕ) where
   rows_of place headed [] = []
   rows_of place headed (fields ∷ left) = row place headed fields ∷ rows_of place false left
 
-  abbrev pub queries_of : (place : ℕ) (headed : Bool) → List Fields → List Event
-  queries_of place headed [] = []
-  queries_of place headed (fields ∷ left) =
-      row_queries place headed fields ++ queries_of place false left
+  abbrev pub rows_queries : (place : ℕ) (headed : Bool) → List Fields → List Event
+  rows_queries place headed [] = []
+  rows_queries place headed (fields ∷ left) =
+      row_queries place headed fields ++ rows_queries place false left
 
   abbrev pub rows : Input → List ColumnRow
   rows i = rows_of i.place i.headed i.left
 
   abbrev pub queries : Input → List Event
-  queries i = queries_of i.place i.headed i.left
+  queries i = rows_queries i.place i.headed i.left
 
   -- the next row, if one is left
   abbrev pub next_of : (place : ℕ) (headed : Bool) → List Fields → Option ColumnRow

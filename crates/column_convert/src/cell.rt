@@ -1,16 +1,16 @@
 //! Converting fields to cells.
 
 ghost use Rattle.std.specs.Prelude.{◌≡◌, ◌++◌, IfOk, OnOk, codes};
-ghost use Rattle.def_lines.specs.Blanks.{trimmed};
+ghost use Rattle.def_lines.specs.Blanks.{trim_of};
 ghost use Rattle.deck.specs.Tables as tables;
 ghost use Rattle.live_table.specs.Calls.{AreQueries};
 ghost use Rattle.reply.specs.Options.{IsPrintable};
 ghost use Rattle.column_convert.specs.Cells as spec;
-ghost use Rattle.column_convert.specs.Known.{IsRemembered, IsSigned};
+ghost use Rattle.column_convert.specs.CachedValues.{IsRemembered, IsSigned};
 ghost use Rattle.column_convert.specs.Products as products;
 
 use crate::memory::Memory;
-use crate::signed::{Signed, behind_minus};
+use crate::signed_number::{Signed, behind_minus};
 use deck::Deck;
 use def_entry::{Kind, cut_at};
 use def_lines::trim;
@@ -40,19 +40,19 @@ pub(crate) fn convert_cell<L: Ledger>(
     steps: &mut Steps<L>,
 ) -> Result<Cell, AllocError>
     requires printable { IsPrintable options.now }
-    requires known { IsRemembered table.old (trimmed from.now) to.now memory.old }
+    requires known { IsRemembered table.old (trim_of from.now) to.now memory.old }
     ensures cell { IfOk result (λ cell.
         cell ≡ spec.cell (tables.table table.old.deck) options.now from.now to.now field.now) }
     ensures queries { AreQueries (spec.cell_queries (tables.table table.old.deck) options.now from.now to.now field.now)
         result table.old table.new steps.old steps.new }
-    ensures known { OnOk result (IsRemembered table.new (trimmed from.now) to.now memory.new) }
+    ensures known { OnOk result (IsRemembered table.new (trim_of from.now) to.now memory.new) }
     ensures deck { table.new.deck ≡ table.old.deck }
 {
     // The cached outcomes are right, even if no query is made.
-    table.kept_right();
+    table.outcomes_are_right();
     let from = trim(from);
     let number = trim(field);
-    if let Some(n) = Signed::read(number) {
+    if let Some(n) = Signed::read_signed(number) {
         return signed_cell(alloc, table, options, from, to, number, &n, memory, steps);
     }
     if is_number(number) {
@@ -112,7 +112,7 @@ fn number_cell<L: Ledger>(
     ensures deck { table.new.deck ≡ table.old.deck }
 {
     // The cached outcomes are right, even if no query is made.
-    table.kept_right();
+    table.outcomes_are_right();
     let asked = asked_text(alloc, table.deck(), from, number)?;
     let reply = convert_reply(
         alloc,
@@ -127,7 +127,7 @@ fn number_cell<L: Ledger>(
 
 // Returns whether a text is a numeral, perhaps with a minus sign before it.
 fn is_number(text: &[u8]) -> bool
-    ensures { result ≡ spec.is_number text.now }
+    ensures { result ≡ spec.is_signed_numeral text.now }
 {
     !matches!(
         read_numeral(behind_minus(text)),

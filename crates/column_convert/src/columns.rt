@@ -4,19 +4,19 @@ ghost use Rattle.std.specs.Prelude.{◌≡◌, ◌≤◌, ◌||◌, IfOk, OnOk, 
 ghost use Rattle.deck.specs.Tables as tables;
 ghost use Rattle.live_table.specs.Calls.{AreQueries};
 ghost use Rattle.reply.specs.Options.{IsPrintable};
-ghost use Rattle.column_convert.specs.Blocks.{behind_first, block_of, first};
+ghost use Rattle.column_convert.specs.Blocks.{block_of, first, input_after};
 ghost use Rattle.column_convert.specs.Inputs.{behind, input_of};
 ghost use Rattle.column_convert.specs.Drafts.{IsReady};
 ghost use Rattle.column_convert.specs.Rows as spec;
-ghost use Rattle.column_convert.specs.Written.{IsNextWritten, text_in};
+ghost use Rattle.column_convert.specs.RecordWriter.{IsNextWritten, text_in};
 
 use crate::block::Block;
 use crate::conversion::Conversion;
 use crate::draft::Draft;
 use crate::memory::Memory;
+use crate::record_writer::{finish_writer, new_writer};
 use crate::records::Records;
 use crate::row::write_row;
-use crate::written::{new_writer, written};
 use csv::ByteRecord;
 use live_table::LiveTable;
 use reply::Options;
@@ -87,14 +87,14 @@ impl Columns {
         requires { IsPrintable options.now }
         ensures block { IfOk result (λ block. block ≡ block_of
             (spec.rows (tables.table table.old.deck) options.now from.now to.now (first most self.old))) }
-        ensures left { OnOk result (self.new ≡ behind_first most self.old) }
+        ensures left { OnOk result (self.new ≡ input_after most self.old) }
         ensures queries { AreQueries
             (spec.queries (tables.table table.old.deck) options.now from.now to.now (first most self.old))
             result table.old table.new steps.old steps.new }
         ensures deck { table.new.deck ≡ table.old.deck }
     {
         // The cached outcomes are right, even if no query is made.
-        table.kept_right();
+        table.outcomes_are_right();
         let conversion = Conversion { options, from, to };
         let mut draft = Draft {
             writer: new_writer(alloc),
@@ -105,12 +105,12 @@ impl Columns {
         while count < most {
             let Some(refused) = self.write_next(alloc, table, &conversion, &mut draft, steps)?
             else {
-                return closed(draft, count, any);
+                return close_draft(draft, count, any);
             };
             any = either(any, refused);
             count += 1;
         }
-        closed(draft, count, any)
+        close_draft(draft, count, any)
     }
 
     // Writes the next row and returns whether its cell is an error, or `None` exactly if no row is left.
@@ -135,7 +135,7 @@ impl Columns {
         ensures deck { table.new.deck ≡ table.old.deck }
     {
         // The cached outcomes are right, even if no query is made.
-        table.kept_right();
+        table.outcomes_are_right();
         if !self.records.read(&mut self.last)? {
             return Ok(None);
         }
@@ -163,12 +163,12 @@ fn either(a: bool, b: bool) -> bool
 }
 
 // Returns the block of the rows in a draft, given the number of rows and whether a cell of them is an error.
-fn closed(draft: Draft, count: usize, any: bool) -> Result<Block, AllocError>
+fn close_draft(draft: Draft, count: usize, any: bool) -> Result<Block, AllocError>
     ensures { IfOk result (λ block.
         (text_in draft.writer ≡ Some block.text) × (block.rows ≡ count) × (block.refused ≡ any)) }
 {
     let Draft { writer, memory: _ } = draft;
-    let text = written(writer)?;
+    let text = finish_writer(writer)?;
     Ok(Block {
         text,
         rows: count,

@@ -1,10 +1,10 @@
 //! Laws of rows.
 
 ghost use Rattle.column_convert.specs.Blocks.{BlocksLaw};
-ghost use Rattle.column_convert.specs.Examples.{ExamplesLaw};
-ghost use Rattle.column_convert.specs.Products.{ProductLaw};
+ghost use Rattle.column_convert.specs.Examples.{ColumnExamplesLaw};
+ghost use Rattle.column_convert.specs.Products.{NumberProductLaw};
 ghost use Rattle.column_convert.specs.Rows.{RowsLaw};
-ghost use Rattle.column_convert.specs.Worths.{AgainLaw, ValuedLaw, WorthLaw};
+ghost use Rattle.column_convert.specs.Worths.{QueriedAgainLaw, ValuedLaw, WorthLaw};
 
 /// The rows are the next row and the rows after it, and so are the queries made for them.
 pub fn rows_law()
@@ -18,12 +18,12 @@ pub fn blocks_law()
 
 /// The rows of a few inputs equal those worked out by hand.
 pub fn examples_law()
-    ensures { ExamplesLaw }
+    ensures { ColumnExamplesLaw }
 {}
 
 /// The text of a number times an expression is parsed as their product, whatever the number.
 pub fn product_law()
-    ensures { ProductLaw }
+    ensures { NumberProductLaw }
 {}
 
 /// The reply to the conversion of a number times an expression follows from the value of the expression.
@@ -38,5 +38,5 @@ pub fn valued_law()
 
 /// If the words of several texts were queried, one text after another, querying them again takes no step.
 pub fn again_law()
-    ensures { AgainLaw }
+    ensures { QueriedAgainLaw }
 {}

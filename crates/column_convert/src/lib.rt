@@ -2,18 +2,18 @@
 #![tactic(auto)]
 
 mod block;
+mod cached_values;
 mod cell;
 mod columns;
 mod conversion;
 mod draft;
-mod known;
 mod laws;
 mod memory;
 mod plain;
+mod record_writer;
 mod records;
 mod row;
-mod signed;
-mod written;
+mod signed_number;
 
 pub use block::Block;
 pub use columns::Columns;

@@ -2,11 +2,11 @@
 
 ghost use Rattle.std.specs.Prelude.{◌≡◌, IfOk, IfSome, OnOk};
 ghost use Rattle.reply.specs.Options.{IsPrintable};
-ghost use Rattle.column_convert.specs.Known as spec;
+ghost use Rattle.column_convert.specs.CachedValues as spec;
 
+use crate::cached_values::{Known, ask_values, product};
 use crate::cell::{Cell, cell_of, cell_options, product_text};
-use crate::known::{Known, ask_values, product};
-use crate::signed::Signed;
+use crate::signed_number::Signed;
 use def_lines::trim;
 use live_table::LiveTable;
 use reply::{Options, comparison_reply};
@@ -53,11 +53,11 @@ impl Memory {
     ) -> Result<(), AllocError>
         requires { spec.IsRemembered table.old from.now to.now self.old }
         ensures known { OnOk result (spec.IsRemembered table.new from.now to.now self.new) }
-        ensures asked { spec.IsBegun n.now from.now to.now result table.old table.new steps.old steps.new }
+        ensures asked { spec.AreQueriesBegun n.now from.now to.now result table.old table.new steps.old steps.new }
         ensures deck { table.new.deck ≡ table.old.deck }
     {
         // The cached outcomes are right, even if no query is made.
-        table.kept_right();
+        table.outcomes_are_right();
         if self.is_vain || self.known.is_some() {
             return Ok(());
         }

@@ -3,7 +3,7 @@
 ghost use Rattle.std.specs.Prelude.{◌≡◌, IfOk, IfSome, IsTrue, codes};
 ghost use Rattle.deck.specs.Tables as tables;
 ghost use Rattle.expr_tree.specs.Trees.{syntax};
-ghost use Rattle.column_convert.specs.Known as spec;
+ghost use Rattle.column_convert.specs.CachedValues as spec;
 ghost use Rattle.column_convert.specs.Products.{signed_text};
 
 use crate::cell::product_text;
@@ -96,7 +96,7 @@ fn one(negative: bool) -> &'static [u8]
 
 // Returns the tree of a text, or `None` if it is not an expression.
 fn tree_in(alloc: Global, text: &[u8]) -> Result<Option<Tree>, AllocError>
-    ensures { IfOk result (λ tree. IfSome tree (λ tree. spec.IsTreeOf text.now (syntax tree))) }
+    ensures { IfOk result (λ tree. IfSome tree (λ tree. spec.IsParsedAs text.now (syntax tree))) }
 {
     match parse_expr(alloc, text, None) {
         Ok(tree) => Ok(Some(tree)),

@@ -7,12 +7,12 @@ ghost use Rattle.live_table.specs.Calls.{AreQueries};
 ghost use Rattle.reply.specs.Options.{IsPrintable};
 ghost use Rattle.column_convert.specs.Drafts.{IsReady};
 ghost use Rattle.column_convert.specs.Rows as spec;
-ghost use Rattle.column_convert.specs.Written.{IsIdle, IsWritten};
+ghost use Rattle.column_convert.specs.RecordWriter.{IsIdleWriter, IsRowWritten};
 
 use crate::cell::{Cell, convert_cell};
 use crate::conversion::Conversion;
 use crate::draft::Draft;
-use crate::written::write_record;
+use crate::record_writer::write_record;
 use csv::{ByteRecord, Writer};
 use live_table::LiveTable;
 use std::alloc::{AllocError, Global};
@@ -35,7 +35,7 @@ pub(crate) fn write_row<L: Ledger>(
     requires printable { IsPrintable conversion.now.options.now }
     requires ready { IsReady table.old conversion.now draft.old }
     ensures ready { OnOk result (IsReady table.new conversion.now draft.new) }
-    ensures row { IfOk result (λ refused. IsWritten draft.old.writer draft.new.writer refused
+    ensures row { IfOk result (λ refused. IsRowWritten draft.old.writer draft.new.writer refused
         (spec.row (tables.table table.old.deck) conversion.now.options.now conversion.now.from.now
         conversion.now.to.now place headed (fields_of fields.now))) }
     ensures queries { AreQueries
@@ -44,7 +44,7 @@ pub(crate) fn write_row<L: Ledger>(
     ensures deck { table.new.deck ≡ table.old.deck }
 {
     // The cached outcomes are right, even if no query is made.
-    table.kept_right();
+    table.outcomes_are_right();
     if headed {
         return write_kept(&mut draft.writer, fields);
     }
@@ -61,10 +61,10 @@ pub(crate) fn write_row<L: Ledger>(
 
 // Writes a record unchanged.
 fn write_kept(writer: &mut Writer<Vec<u8>>, fields: &ByteRecord) -> Result<bool, AllocError>
-    requires { IsIdle writer.old }
-    ensures idle { OnOk result (IsIdle writer.new) }
+    requires { IsIdleWriter writer.old }
+    ensures idle { OnOk result (IsIdleWriter writer.new) }
     ensures row { IfOk result (λ refused.
-        IsWritten writer.old writer.new refused (spec.kept_row (fields_of fields.now))) }
+        IsRowWritten writer.old writer.new refused (spec.kept_row (fields_of fields.now))) }
 {
     write_record(writer, fields)?;
     Ok(false)
@@ -78,11 +78,11 @@ fn write_cell(
     place: usize,
     cell: &Cell,
 ) -> Result<bool, AllocError>
-    requires idle { IsIdle writer.old }
+    requires idle { IsIdleWriter writer.old }
     requires place { place < length (fields_of fields.now) }
-    ensures idle { OnOk result (IsIdle writer.new) }
+    ensures idle { OnOk result (IsIdleWriter writer.new) }
     ensures row { IfOk result (λ refused.
-        IsWritten writer.old writer.new refused (spec.cell_row (fields_of fields.now) place cell.now)) }
+        IsRowWritten writer.old writer.new refused (spec.cell_row (fields_of fields.now) place cell.now)) }
 {
     change(changed, fields, place, cell.text.as_bytes())?;
     write_record(writer, changed)?;

@@ -5,12 +5,12 @@ use Rattle.std.specs.declared.option.Option.{Option}
 use Rattle.std.proofs.lemmas.List.{append-nil}
 use Rattle.deck.specs.Tables.{table}
 use Rattle.def_entry.specs.Tables.{Table}
-use Rattle.live_table.specs.Shown.{Follows, IsRightTable, Shown}
+use Rattle.live_table.specs.TableView.{IsAfterEvents, IsRightTable, Shown}
 use Rattle.live_table.specs.States.{Event}
-use Rattle.live_table.proofs.Following.{follows_both, follows_none}
+use Rattle.live_table.proofs.QuerySequence.{follows_both, follows_none}
 use Rattle.reply.specs.declared.options.Options.{Options}
-use Rattle.units_io.specs.Bytes.{grown, GrowsByFront}
-use Rattle.column_convert.specs.Blocks.{BlocksLaw, behind_first, block_of, first, is_refused, text_of}
+use Rattle.units_io.specs.Bytes.{known_append, GrowsByFront}
+use Rattle.column_convert.specs.Blocks.{BlocksLaw, block_of, first, input_after, is_error_row, text_of}
 use Rattle.column_convert.specs.declared.block.Block.{Block}
 use Rattle.column_convert.specs.Inputs.{Input, behind}
 use Rattle.column_convert.specs.Records.{Fields}
@@ -27,10 +27,10 @@ or_assoc : (a b c : Bool) → (a || (b || c)) ≡ ((a || b) || c)
 or_assoc true b c = refl
 or_assoc false b c = refl
 
-refused_both : (xs ys : List ColumnRow) → is_refused (xs ++ ys) ≡ (is_refused xs || is_refused ys)
+refused_both : (xs ys : List ColumnRow) → is_error_row (xs ++ ys) ≡ (is_error_row xs || is_error_row ys)
 refused_both [] ys = refl
 refused_both (x ∷ xs) ys =
-    ap (λ b. x.refused || b) (refused_both xs ys) ∙ or_assoc x.refused (is_refused xs) (is_refused ys)
+    ap (λ b. x.refused || b) (refused_both xs ys) ∙ or_assoc x.refused (is_error_row xs) (is_error_row ys)
 
 -- ---- the number of rows left
 rows_count : (t : Table) (options : Options) (from to : List ℕ) (i : Input)
@@ -42,15 +42,15 @@ rows_count t options from to i = go i.left i.place i.headed
     go [] place headed = refl
     go (fields ∷ left) place headed = ap suc (go left place false)
 
-behind_count : (n : ℕ) (i : Input) → length (behind_first n i).left ≡ length i.left - n
-unfolding behind_first
+behind_count : (n : ℕ) (i : Input) → length (input_after n i).left ≡ length i.left - n
+unfolding input_after
 behind_count n i = go n i.left i.place i.headed
   where
     at : List Fields → ℕ → Bool → Input
     at left place headed = record { left = left; place = place; headed = headed }
 
     go : (n : ℕ) (left : List Fields) (place : ℕ) (headed : Bool)
-        → length (behind_first n (at left place headed)).left ≡ length left - n
+        → length (input_after n (at left place headed)).left ≡ length left - n
     go zero left place headed = omega arith
     go (suc n) [] place headed = omega (arith, go n [] place headed)
     go (suc n) (fields ∷ left) place headed = omega (arith, go n left place false)
@@ -58,13 +58,13 @@ behind_count n i = go n i.left i.place i.headed
 -- after a block with rows, fewer are left
 pub fewer : (t : Table) (options : Options) (from to : List ℕ) (n : ℕ) (i : Input) (count : ℕ)
     → count ≡ length (rows t options from to (first (suc n) i)) → (count ≡ 0 → ⊥)
-    → length (behind_first (suc n) i).left < length i.left
+    → length (input_after (suc n) i).left < length i.left
 fewer t options from to n i count is some =
     go i.left (is ∙ rows_count t options from to (first (suc n) i)) (behind_count (suc n) i)
   where
     go : (left : List Fields) → count ≡ length (take (suc n) left)
-        → length (behind_first (suc n) i).left ≡ length left - suc n
-        → length (behind_first (suc n) i).left < length left
+        → length (input_after (suc n) i).left ≡ length left - suc n
+        → length (input_after (suc n) i).left < length left
     go [] none less = absurd (some none)
     go (fields ∷ left) more less = omega (arith, less)
 
@@ -83,10 +83,10 @@ module _ (options : Options) (from to : List ℕ) (whole : Input) (start : Optio
     pub events : List Event
     pub gives : rows_at whole ≡ done ++ rows_at left
     pub asks : queries_at whole ≡ events ++ queries_at left
-    pub refused_is : refused ≡ is_refused done
-    pub out_is : out ≡ grown start (text_of done)
+    pub refused_is : refused ≡ is_error_row done
+    pub out_is : out ≡ known_append start (text_of done)
     pub deck : now.deck ≡ before.deck
-    pub follows : Follows events before now old new
+    pub follows : IsAfterEvents events before now old new
 
   pub underway_start : IsRightTable before → IsUnderway whole false start before old
   underway_start right = record {
@@ -112,64 +112,65 @@ module _ (options : Options) (from to : List ℕ) (whole : Input) (start : Optio
         (front_all start out (text_of u.done) u.out_is)
 
     module _ (law : BlocksLaw) (n : ℕ) (later : Shown) (last : ℕ) (same : later.deck ≡ now.deck)
-        (made : Follows (queries (table now.deck) options from to (first n left)) now later new last)
+        (made : IsAfterEvents (queries (table now.deck) options from to (first n left)) now later new last)
         (block : Block) (is : block ≡ block_of (rows (table now.deck) options from to (first n left))) where
-      made_first : Follows (queries_at (first n left)) now later new last
-      made_first = subst (λ d. Follows (queries (table d) options from to (first n left)) now later new last) u.deck
+      made_first : IsAfterEvents (queries_at (first n left)) now later new last
+      made_first = subst (λ d. IsAfterEvents (queries (table d) options from to (first n left)) now later new last)
+          u.deck
           made
 
       block_is : block ≡ block_of (rows_at (first n left))
       block_is = is ∙ ap (λ d. block_of (rows (table d) options from to (first n left))) u.deck
 
       text_next : text_of (rows_at whole)
-          ≡ (text_of u.done ++ block.text) ++ text_of (rows_at (behind_first n left))
+          ≡ (text_of u.done ++ block.text) ++ text_of (rows_at (input_after n left))
       text_next =
           text_now
           ∙ ap (λ (rs : List ColumnRow). text_of u.done ++ text_of rs)
           (law (table before.deck) options from to n left).0
-          ∙ ap (λ t. text_of u.done ++ t) (text_both (rows_at (first n left)) (rows_at (behind_first n left)))
-          ∙ ap (λ (b : Block). text_of u.done ++ (b.text ++ text_of (rows_at (behind_first n left)))) (sym block_is)
-          ∙ sym (append_assoc (text_of u.done) block.text (text_of (rows_at (behind_first n left))))
+          ∙ ap (λ t. text_of u.done ++ t) (text_both (rows_at (first n left)) (rows_at (input_after n left)))
+          ∙ ap (λ (b : Block). text_of u.done ++ (b.text ++ text_of (rows_at (input_after n left)))) (sym block_is)
+          ∙ sym (append_assoc (text_of u.done) block.text (text_of (rows_at (input_after n left))))
 
       -- if a front of the next block is written, too, the bytes written are still a front of all
       pub front_next : (after : Option (List ℕ)) → GrowsByFront out after block.text
           → GrowsByFront start after (text_of (rows_at whole))
       front_next after f =
-          front_more start after (text_of u.done ++ block.text) (text_of (rows_at (behind_first n left)))
+          front_more start after (text_of u.done ++ block.text) (text_of (rows_at (input_after n left)))
           (text_of (rows_at whole)) text_next (front_behind start out after (text_of u.done) block.text u.out_is f)
 
       -- one more block is written
       pub underway_next : (r : Bool) (after : Option (List ℕ)) → r ≡ (refused || block.refused)
-          → after ≡ grown out block.text → IsUnderway (behind_first n left) r after later last
+          → after ≡ known_append out block.text → IsUnderway (input_after n left) r after later last
       underway_next r after either all = record {
         done = u.done ++ rows_at (first n left);
         events = u.events ++ queries_at (first n left);
         gives =
             u.gives
             ∙ ap (λ (rs : List ColumnRow). u.done ++ rs) (law (table before.deck) options from to n left).0
-            ∙ sym (append_assoc u.done (rows_at (first n left)) (rows_at (behind_first n left)));
+            ∙ sym (append_assoc u.done (rows_at (first n left)) (rows_at (input_after n left)));
         asks =
             u.asks
             ∙ ap (λ (es : List Event). u.events ++ es) (law (table before.deck) options from to n left).1
-            ∙ sym (append_assoc u.events (queries_at (first n left)) (queries_at (behind_first n left)));
+            ∙ sym (append_assoc u.events (queries_at (first n left)) (queries_at (input_after n left)));
         refused_is =
             either
             ∙ ap (λ b. b || block.refused) u.refused_is
-            ∙ ap (λ (b : Block). is_refused u.done || b.refused) block_is
+            ∙ ap (λ (b : Block). is_error_row u.done || b.refused) block_is
             ∙ sym (refused_both u.done (rows_at (first n left)));
         out_is =
             all
-            ∙ ap (λ (b : Block). grown out b.text) block_is
-            ∙ ap (λ o. grown o (text_of (rows_at (first n left)))) u.out_is
+            ∙ ap (λ (b : Block). known_append out b.text) block_is
+            ∙ ap (λ o. known_append o (text_of (rows_at (first n left)))) u.out_is
             ∙ grown_twice start (text_of u.done) (text_of (rows_at (first n left)))
-            ∙ ap (grown start) (sym (text_both u.done (rows_at (first n left))));
+            ∙ ap (known_append start) (sym (text_both u.done (rows_at (first n left))));
         deck = same ∙ u.deck;
         follows = follows_both u.events (queries_at (first n left)) before now later old new last u.follows made_first;
       }
 
     -- no row is left
     module _ (n : ℕ) (later : Shown) (last : ℕ)
-        (made : Follows (queries (table now.deck) options from to (first (suc n) left)) now later new last)
+        (made : IsAfterEvents (queries (table now.deck) options from to (first (suc n) left)) now later new last)
         (block : Block) (is : block ≡ block_of (rows (table now.deck) options from to (first (suc n) left)))
         (none : block.rows ≡ 0) where
       over : (rows_at left ≡ []) × (queries_at left ≡ []) × (queries_at (first (suc n) left) ≡ [])
@@ -190,16 +191,16 @@ module _ (options : Options) (from to : List ℕ) (whole : Input) (start : Optio
       rows_over : rows_at whole ≡ u.done
       rows_over = u.gives ∙ ap (λ (rs : List ColumnRow). u.done ++ rs) over.0 ∙ append-nil u.done
 
-      pub whole_over : out ≡ grown start (text_of (rows_at whole))
-      whole_over = u.out_is ∙ ap (λ (rs : List ColumnRow). grown start (text_of rs)) (sym rows_over)
+      pub whole_over : out ≡ known_append start (text_of (rows_at whole))
+      whole_over = u.out_is ∙ ap (λ (rs : List ColumnRow). known_append start (text_of rs)) (sym rows_over)
 
-      pub refused_over : refused ≡ is_refused (rows_at whole)
-      refused_over = u.refused_is ∙ ap is_refused (sym rows_over)
+      pub refused_over : refused ≡ is_error_row (rows_at whole)
+      refused_over = u.refused_is ∙ ap is_error_row (sym rows_over)
 
-      pub follows_over : Follows (queries_at whole) before later old last
+      pub follows_over : IsAfterEvents (queries_at whole) before later old last
       follows_over =
-          subst (λ (es : List Event). Follows es before later old last)
+          subst (λ (es : List Event). IsAfterEvents es before later old last)
           (ap (λ (es : List Event). u.events ++ es) (over.2 ∙ sym over.1) ∙ sym u.asks)
           (follows_both u.events (queries_at (first (suc n) left)) before now later old new last u.follows
-          (subst (λ d. Follows (queries (table d) options from to (first (suc n) left)) now later new last) u.deck
+          (subst (λ d. IsAfterEvents (queries (table d) options from to (first (suc n) left)) now later new last) u.deck
           made))

@@ -2,7 +2,7 @@
 use Rattle.std.proofs.Common.{◌≡◌, ◌+◌, ◌++◌, ◌-◌, ◌^◌, ◌≤◌, ◌∙◌, ℕ, List, [], min, length, take, length-append}
 use Rattle.std.proofs.Common.{length-take, ap, subst, sym, arith}
 use Rattle.std.proofs.lemmas.List.{append-nil}
-use Rattle.session.specs.Waiting.{TookAtLeast}
+use Rattle.session.specs.BetweenPieces.{TookAtLeast}
 use Rattle.session.proofs.Blocks.{took_more}
 
 -- if nothing is left of an input, all of it was read

@@ -3,19 +3,20 @@ use Rattle.std.proofs.Common.{◌≡◌, ◌+◌, ◌++◌, ◌∷◌, ◌∙◌
 use Rattle.std.proofs.Common.{refl, sym, ap, subst, arith, append_assoc, length-append}
 use Rattle.std.specs.declared.option.Option.{Option}
 use Rattle.std.proofs.lemmas.List.{append-nil, take-append-le, take_all}
-use Rattle.units_io.specs.Bytes.{grown, GrowsByFront}
+use Rattle.units_io.specs.Bytes.{known_append, GrowsByFront}
 
-pub grown_twice : (o : Option (List ℕ)) (xs ys : List ℕ) → grown (grown o xs) ys ≡ grown o (xs ++ ys)
+pub grown_twice : (o : Option (List ℕ)) (xs ys : List ℕ) → known_append (known_append o xs) ys ≡ known_append o
+    (xs ++ ys)
 grown_twice None xs ys = refl
 grown_twice (Some held) xs ys = ap Some (append_assoc held xs ys)
 
-pub grown_none : (o : Option (List ℕ)) → o ≡ grown o []
+pub grown_none : (o : Option (List ℕ)) → o ≡ known_append o []
 grown_none None = refl
 grown_none (Some held) = ap Some (sym (append-nil held))
 
 -- all bytes are a front of themselves
-pub front_all : (o out : Option (List ℕ)) (xs : List ℕ) → out ≡ grown o xs → GrowsByFront o out xs
-front_all o out xs e = (length xs, omega arith, e ∙ ap (grown o) (sym (take_all (length xs) xs (omega arith))))
+pub front_all : (o out : Option (List ℕ)) (xs : List ℕ) → out ≡ known_append o xs → GrowsByFront o out xs
+front_all o out xs e = (length xs, omega arith, e ∙ ap (known_append o) (sym (take_all (length xs) xs (omega arith))))
 
 -- a front of some bytes is a front of these bytes and more
 pub front_more : (o out : Option (List ℕ)) (xs more ys : List ℕ) → ys ≡ xs ++ more → GrowsByFront o out xs
@@ -23,7 +24,7 @@ pub front_more : (o out : Option (List ℕ)) (xs more ys : List ℕ) → ys ≡ 
 front_more o out xs more ys is f = subst (GrowsByFront o out) (sym is) (
   f.0,
   omega (arith, f.1, length-append xs more),
-  f.2 ∙ ap (grown o) (sym (take-append-le f.0 xs more f.1)),
+  f.2 ∙ ap (known_append o) (sym (take-append-le f.0 xs more f.1)),
 )
 
 take-append-add : (xs ys : List ℕ) (n : ℕ) → take (length xs + n) (xs ++ ys) ≡ xs ++ take n ys
@@ -33,13 +34,13 @@ take-append-add (x ∷ xs) ys n =
     ap (λ k. take k (x ∷ (xs ++ ys))) z ∙ ap (λ t. x ∷ t) (take-append-add xs ys n)
 
 -- a front of the bytes that come after others is a front of both
-pub front_behind : (o mid out : Option (List ℕ)) (xs ys : List ℕ) → mid ≡ grown o xs → GrowsByFront mid out ys
+pub front_behind : (o mid out : Option (List ℕ)) (xs ys : List ℕ) → mid ≡ known_append o xs → GrowsByFront mid out ys
     → GrowsByFront o out (xs ++ ys)
 front_behind o mid out xs ys e f = (
   length xs + f.0,
   omega (arith, f.1, length-append xs ys),
   f.2
-      ∙ ap (λ p. grown p (take f.0 ys)) e
+      ∙ ap (λ p. known_append p (take f.0 ys)) e
       ∙ grown_twice o xs (take f.0 ys)
-      ∙ ap (grown o) (sym (take-append-add xs ys f.0)),
+      ∙ ap (known_append o) (sym (take-append-add xs ys f.0)),
 )

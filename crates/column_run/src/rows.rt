@@ -2,11 +2,11 @@
 
 ghost use Rattle.std.specs.Prelude.{◌≡◌, ◌||◌, ◌≤◌, IfErr, IfOk, IsErrOf, OnOk};
 ghost use Rattle.deck.specs.Tables as tables;
-ghost use Rattle.live_table.specs.Shown.{Follows};
+ghost use Rattle.live_table.specs.TableView.{IsAfterEvents};
 ghost use Rattle.reply.specs.Options.{IsPrintable};
-ghost use Rattle.units_io.specs.Bytes.{grown, GrowsByFront};
-ghost use Rattle.units_io.specs.Faults.{Rose};
-ghost use Rattle.column_convert.specs.Blocks.{is_refused, text_of};
+ghost use Rattle.units_io.specs.Bytes.{known_append, GrowsByFront};
+ghost use Rattle.units_io.specs.Faults.{CountRose};
+ghost use Rattle.column_convert.specs.Blocks.{is_error_row, text_of};
 ghost use Rattle.column_convert.specs.Rows as rows;
 ghost use Rattle.column_run.specs.Endings.{IsStopped};
 ghost use Rattle.column_run.specs.declared.end.ColumnEnd.TheVariants as end;
@@ -34,22 +34,22 @@ pub(crate) fn write_rows<O: Sink, L: Ledger>(
     steps: &mut Steps<L>,
 ) -> Result<bool, ColumnEnd>
     requires { IsPrintable options.now }
-    ensures whole { OnOk result (O.written out.new ≡ grown (O.written out.old)
+    ensures whole { OnOk result (O.written out.new ≡ known_append (O.written out.old)
         (text_of (rows.rows (tables.table table.old.deck) options.now from.now to.now columns.old))) }
     ensures front { GrowsByFront (O.written out.old) (O.written out.new)
         (text_of (rows.rows (tables.table table.old.deck) options.now from.now to.now columns.old)) }
     ensures refused { IfOk result (λ refused. refused
-        ≡ is_refused (rows.rows (tables.table table.old.deck) options.now from.now to.now columns.old)) }
-    ensures queries { OnOk result (Follows
+        ≡ is_error_row (rows.rows (tables.table table.old.deck) options.now from.now to.now columns.old)) }
+    ensures queries { OnOk result (IsAfterEvents
         (rows.queries (tables.table table.old.deck) options.now from.now to.now columns.old)
         table.old table.new steps.old steps.new) }
-    ensures write { IsErrOf result end.WriteFault → Rose (O.faults out.old) (O.faults out.new) }
+    ensures write { IsErrOf result end.WriteFault → CountRose (O.faults out.old) (O.faults out.new) }
     ensures stopped { IfErr result IsStopped }
     ensures later { O.faults out.old ≤ O.faults out.new }
 {
     blocks_law();
     // The cached outcomes are right, even if there is no row.
-    table.kept_right();
+    table.outcomes_are_right();
     let mut refused = false;
     loop {
         let block = columns.next_rows(alloc, table, options, from, to, MOST_ROWS, steps)?;

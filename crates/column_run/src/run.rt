@@ -2,13 +2,13 @@
 
 ghost use Rattle.std.specs.Prelude.{◌≡◌, ◌≤◌, [], List, ℕ, Some, true};
 ghost use Rattle.deck.specs.Tables as tables;
-ghost use Rattle.live_table.specs.Shown.{Follows};
+ghost use Rattle.live_table.specs.TableView.{IsAfterEvents};
 ghost use Rattle.reply.specs.Options.{IsPrintable};
 ghost use Rattle.session.specs.Outside.{TookMoreThan};
-ghost use Rattle.units_io.specs.Faults.{Rose};
+ghost use Rattle.units_io.specs.Faults.{CountRose};
 ghost use Rattle.column_convert.specs.Inputs.{input_of};
 ghost use Rattle.column_convert.specs.Rows as rows;
-ghost use Rattle.column_run.specs.Outputs.{IsWritten, is_over};
+ghost use Rattle.column_run.specs.Outputs.{AreRowsWritten, is_over};
 
 use crate::end::ColumnEnd;
 use crate::input::read_input;
@@ -38,16 +38,18 @@ pub fn run_columns<S: Source, O: Sink, L: Ledger>(
     requires printable { IsPrintable options.now }
     requires column { 1 ≤ column }
     ensures told { (input : List ℕ) → S.left src.old ≡ Some input →
-        IsWritten (rows.rows (tables.table table.old.deck) options.now from.now to.now (input_of input column header))
+        AreRowsWritten (rows.rows (tables.table table.old.deck) options.now from.now to.now
+        (input_of input column header))
         result
         (O.written out.old) (O.written out.new) }
     ensures queries { (input : List ℕ) → S.left src.old ≡ Some input → is_over result ≡ true →
-        Follows (rows.queries (tables.table table.old.deck) options.now from.now to.now (input_of input column header))
+        IsAfterEvents (rows.queries (tables.table table.old.deck) options.now from.now to.now
+        (input_of input column header))
         table.old table.new steps.old steps.new }
     ensures whole { (input : List ℕ) → S.left src.old ≡ Some input → is_over result ≡ true →
         S.left src.new ≡ Some [] }
-    ensures read { result ≡ ColumnEnd.ReadFault → Rose (S.faults src.old) (S.faults src.new) }
-    ensures write { result ≡ ColumnEnd.WriteFault → Rose (O.faults out.old) (O.faults out.new) }
+    ensures read { result ≡ ColumnEnd.ReadFault → CountRose (S.faults src.old) (S.faults src.new) }
+    ensures write { result ≡ ColumnEnd.WriteFault → CountRose (O.faults out.old) (O.faults out.new) }
     ensures too_long { result ≡ ColumnEnd.InputTooLong → TookMoreThan 16777216 (S.taken src.old) (S.taken src.new) }
 {
     let input = match read_input(alloc, src) {

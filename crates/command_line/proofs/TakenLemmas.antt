@@ -8,7 +8,7 @@ use Rattle.clap.specs.Kinds.{Kinds}
 use Rattle.clap.specs.Words.{Text, fault_of}
 use Rattle.command_line.specs.Definition.{units_app}
 use Rattle.command_line.specs.Fields.{command_line_of}
-use Rattle.command_line.specs.Taken.{are_parsed, are_taken, arguments_fit, is_faultless}
+use Rattle.command_line.specs.AcceptedWords.{are_parsed, are_taken, arguments_fit, is_faultless}
 
 -- if there are faults, the words are not faultless
 is_faultless-some : (kinds : Kinds) → kinds ≢ [] → is_faultless kinds ≡ false

@@ -2,7 +2,7 @@
 use Rattle.std.specs.Prelude.{◌≡◌, ◌∷◌, List, [], Some, None, codes, true, false}
 use Rattle.clap.specs.Words.{Text}
 use Rattle.command_line.specs.Fields.{command_line_of}
-use Rattle.command_line.specs.Taken.{are_taken}
+use Rattle.command_line.specs.AcceptedWords.{are_taken}
 use Rattle.command_line.specs.declared.fields.CommandLine.{CommandLine}
 
 -- the command line without words

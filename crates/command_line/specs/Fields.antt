@@ -4,7 +4,7 @@ use Rattle.std.specs.Option.{option_map_or}
 use Rattle.std.specs.Str.{bytes_eq}
 use Rattle.clap.specs.Words.{Row, Text, first_of, matches_of}
 use Rattle.command_line.specs.Definition.{units_app}
-use Rattle.command_line.specs.Numbers.{IsUpTo, number_of}
+use Rattle.command_line.specs.Numbers.{IsUpTo, decimal_number}
 use Rattle.command_line.specs.declared.fields.CommandLine.{CommandLine}
 
 -- the flag is among the words
@@ -14,7 +14,7 @@ has_flag name rows =
 
 -- the number given for an option, if the option is among the words
 abbrev pub number_at : Text → List Row → Option ℕ
-number_at name rows = option_map number_of (first_of name rows)
+number_at name rows = option_map decimal_number (first_of name rows)
 
 -- the value of the option, if it is given, is a whole number from 1 to high
 abbrev pub HasNumberUpTo : Text → ℕ → List Row → Type 0

@@ -2,6 +2,6 @@ pub mod Rules
 pub mod Definition
 pub mod Numbers
 pub mod Fields
-pub mod Taken
+pub mod AcceptedWords
 pub mod Usage
 pub mod Examples

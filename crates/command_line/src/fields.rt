@@ -1,7 +1,7 @@
 //! The request in the words of a command line, field by field.
 ghost use Rattle.std.specs.Prelude.{◌≡◌, ◌≤◌, IfOk, IfSome, codes, option_map};
 ghost use Rattle.clap.specs.Words.{rows_of, found_of, first_of};
-ghost use Rattle.command_line.specs.Numbers.{IsUpTo, number_of};
+ghost use Rattle.command_line.specs.Numbers.{IsUpTo, decimal_number};
 ghost use Rattle.command_line.specs.Fields.{HasNumberUpTo, has_flag, number_at, fields_of};
 
 use clap::ArgMatches;
@@ -120,7 +120,7 @@ fn column_of(matches: &ArgMatches<'_>) -> Option<u16>
 
 fn number_in(text: &str) -> u16
     requires { IsUpTo 65535 text.now }
-    ensures { result ≡ number_of text.now }
+    ensures { result ≡ decimal_number text.now }
 {
     text.parse::<u16>().unwrap()
 }

@@ -6,11 +6,11 @@ mod examples;
 mod fault;
 mod fields;
 mod parse;
-mod read;
 mod usage;
+mod word_reader;
 
 pub use examples::{refused_examples, taken_examples};
 pub use fault::WordsFault;
 pub use fields::CommandLine;
-pub use read::read_words;
 pub use usage::usage_text;
+pub use word_reader::read_words;

@@ -6,10 +6,10 @@ use Rattle.std.specs.Option.{option_and_then}
 use Rattle.def_entry.specs.declared.key.Key.{Key}
 use Rattle.def_entry.specs.declared.key.Kind.{Kind}
 use Rattle.def_entry.specs.Entries.{Entry}
-use Rattle.def_entry.specs.Reading.{SameTextLaw}
+use Rattle.def_entry.specs.EntryReading.{SameTextLaw}
 use Rattle.def_entry.specs.SameKeys.{is_same_kind}
-use Rattle.deck_lines.specs.Names.{Names, key_at}
-use Rattle.deck_lines.specs.Numbering.{IsNumbering}
+use Rattle.deck_lines.specs.Names.{Names, key_numbered}
+use Rattle.deck_lines.specs.KeyNumbering.{IsNumbering}
 use Rattle.deck_lines.specs.Stores.{Store, definition_at}
 use Rattle.deck_lines.specs.declared.key_number.KeyNumber.{KeyNumber}
 use Rattle.deck_lines.specs.declared.line.DeckLine.{DeckLine}
@@ -20,21 +20,21 @@ use Rattle.deck.specs.Edits.{after_drop, without_some}
 use Rattle.deck.specs.KindPlaces.{without_gap}
 use Rattle.deck.specs.LastPlaces.{AreLast, IsIndexed, places_of}
 use Rattle.deck.specs.Numbers.{entry_there, key_if}
-use Rattle.deck.specs.PlacedKeys.{AreDefined}
-use Rattle.deck.specs.Tables.{definitions, definitions_by, last_place, place_of, table, table_of}
+use Rattle.deck.specs.PlacedKeys.{DefineTheirKeys}
+use Rattle.deck.specs.Tables.{active_definitions, definitions_among, last_place, place_of, table, table_of}
 use Rattle.deck.specs.declared.places.last_places.LastPlaces.{LastPlaces}
 use Rattle.deck.specs.declared.settings.Settings.{Settings}
-use Rattle.deck.proofs.Dropping.{DefinesAt, defined_last, definitions_dropped, dropped, indexed_dropped, table_moved}
-use Rattle.deck.proofs.Dropping.{within}
+use Rattle.deck.proofs.RemovedLine.{DefinesAt, defined_last, definitions_dropped, dropped, indexed_dropped, table_moved}
+use Rattle.deck.proofs.RemovedLine.{within}
 use Rattle.deck.proofs.PlacedKeys.{all_defined}
-use Rattle.deck.proofs.Placing.{in_place_by}
-use Rattle.deck.proofs.Uncovering.{changed_dropped, last_uncovered}
-use Rattle.deck.proofs.Undefining.{place_within}
+use Rattle.deck.proofs.PlacedDefinitions.{in_place_by}
+use Rattle.deck.proofs.UncoveredKeys.{changed_dropped, last_uncovered}
+use Rattle.deck.proofs.LastRemoval.{place_within}
 
 module _ (settings : Settings) (store : Store) (notices : List (List ℕ)) (d : Contents)
     (view : record { lines = store.lines; settings = settings; notices = notices } ≡ d) (k : Key) (place : ℕ)
     (is : Some place ≡ last_place d.settings d.lines k) where
-  was : place_of (definitions settings store.lines) k ≡ Some place
+  was : place_of (active_definitions settings store.lines) k ≡ Some place
   was = ap (λ (c : Contents). last_place c.settings c.lines k) view ∙ sym is
 
   defines : (e : Entry) × DefinesAt store.lines place (k, e)
@@ -60,31 +60,33 @@ module _ (settings : Settings) (store : Store) (notices : List (List ℕ)) (d : 
       ∙ ap (λ (ls : List DeckLine). Ok (record { lines = ls; settings = settings; notices = notices })) (sym given)
 
   module _ (n : KeyNumber)
-      (told : Some (key_at store.names n) ≡ option_map (λ e. Some e.0) (definition_at store.lines place)) where
+      (told : Some (key_numbered store.names n) ≡ option_map (λ e. Some e.0) (definition_at store.lines place)) where
     -- the number of the line is the number of the key
-    numbered : key_at store.names n ≡ Some k
-    numbered = same_Some (key_at store.names n) (Some k) (told ∙ ap (option_map (λ e. Some e.0)) defines.1)
+    numbered : key_numbered store.names n ≡ Some k
+    numbered = same_Some (key_numbered store.names n) (Some k) (told ∙ ap (option_map (λ e. Some e.0)) defines.1)
 
     -- the number is within the places
     pub room_drop : (old : LastPlaces) → IsIndexed store settings old → n.number < length (places_of old n.kind)
     room_drop old indexed =
         place_within (places_of old n.kind) n.number place
-        (indexed.places.place n ∙ ap (option_and_then (place_of (definitions settings store.lines))) numbered ∙ was)
+        (indexed.places.place n ∙ ap (option_and_then (place_of (active_definitions settings store.lines))) numbered
+        ∙ was)
 
     -- the place is the last place of each key with this number
-    pub last_drop : (j : Key) → key_at store.names n ≡ Some j → last_place settings store.lines j ≡ Some place
+    pub last_drop : (j : Key) → key_numbered store.names n ≡ Some j → last_place settings store.lines j ≡ Some place
     last_drop j at =
         ap (last_place settings store.lines) (same_Some j k (sym at ∙ numbered)) ∙ was
 
     module _ (uncovered : Option ℕ)
-        (covers : (j : Key) → key_at store.names n ≡ Some j
-        → uncovered ≡ place_of (definitions_by (set (active_lines settings store.lines) place false) store.lines) j)
+        (covers : (j : Key) → key_numbered store.names n ≡ Some j
+        → uncovered ≡ place_of (definitions_among (set (active_lines settings store.lines) place false) store.lines) j)
       where
         -- after the uncovered place replaces that of the key, the last places are those of the remaining definitions
         last_left : IsNumbering store → (old put : LastPlaces) → IsIndexed store settings old →
             ((kind : Kind) → places_of put kind ≡ cond (is_same_kind kind n.kind)
             (set (places_of old kind) n.number uncovered) (places_of old kind)) →
-            AreLast store.names (definitions_by (set (active_lines settings store.lines) place false) store.lines) put
+            AreLast store.names (definitions_among (set (active_lines settings store.lines) place false) store.lines)
+            put
         last_left numbering old put indexed one =
             last_uncovered settings store n k defines.0 place (set (active_lines settings store.lines) place false)
             uncovered numbered was defines.1 refl (covers k numbered) numbering old put indexed.places one
@@ -93,9 +95,9 @@ module _ (settings : Settings) (store : Store) (notices : List (List ℕ)) (d : 
         pub defined_left : IsNumbering store → (old put : LastPlaces) → IsIndexed store settings old →
             ((kind : Kind) → places_of put kind ≡ cond (is_same_kind kind n.kind)
             (set (places_of old kind) n.number uncovered) (places_of old kind)) →
-            AreDefined store put
+            DefineTheirKeys store put
         defined_left numbering old put indexed one =
-            all_defined store put (definitions_by (set (active_lines settings store.lines) place false) store.lines)
+            all_defined store put (definitions_among (set (active_lines settings store.lines) place false) store.lines)
             (in_place_by (set (active_lines settings store.lines) place false) store.lines)
             (last_left numbering old put indexed one)
 
@@ -107,30 +109,30 @@ module _ (settings : Settings) (store : Store) (notices : List (List ℕ)) (d : 
             (new : Store) → new.lines ≡ dropped place store.lines → new.names ≡ store.names → IsIndexed new settings now
         indexed_drop numbering old put now indexed one gap new left names =
             indexed_dropped settings store.lines place (k, defines.0) defines.1 new put now left indexed.closed
-            (subst (λ (ns : Names). AreLast ns (definitions_by (set (active_lines settings store.lines) place false)
+            (subst (λ (ns : Names). AreLast ns (definitions_among (set (active_lines settings store.lines) place false)
             store.lines) put) (sym names) (last_left numbering old put indexed one))
             gap
 
         -- the table without the line is that of the definitions whose flag for the line is false
         table_left : (left : List DeckLine) → left ≡ dropped place store.lines
-            → table_of (definitions settings left) ≡ table_of
-            (definitions_by (set (active_lines settings store.lines) place false) store.lines)
+            → table_of (active_definitions settings left) ≡ table_of
+            (definitions_among (set (active_lines settings store.lines) place false) store.lines)
         table_left left given =
-            ap (λ (ls : List DeckLine). table_of (definitions settings ls)) given
+            ap (λ (ls : List DeckLine). table_of (active_definitions settings ls)) given
             ∙ ap table_of (definitions_dropped settings store.lines place (k, defines.0) defines.1)
-            ∙ table_moved place (definitions_by (set (active_lines settings store.lines) place false) store.lines)
+            ∙ table_moved place (definitions_among (set (active_lines settings store.lines) place false) store.lines)
 
         -- the keys that the removal changes
         pub changed_drop : SameTextLaw → (left : List DeckLine) (keys : List Key) → left ≡ dropped place store.lines
             → keys ≡ key_if (not (is_same_entry (entry_there store.lines (Some place))
-            (entry_there store.lines uncovered))) (key_at store.names n) →
-            IsTableChange (table d) (table_of (definitions settings left)) keys
+            (entry_there store.lines uncovered))) (key_numbered store.names n) →
+            IsTableChange (table d) (table_of (active_definitions settings left)) keys
         changed_drop law left keys given keys_are =
-            subst (λ (c : Contents). IsTableChange (table c) (table_of (definitions settings left)) keys) view
-            (subst (λ t. IsTableChange (table_of (definitions settings store.lines)) t keys)
+            subst (λ (c : Contents). IsTableChange (table c) (table_of (active_definitions settings left)) keys) view
+            (subst (λ t. IsTableChange (table_of (active_definitions settings store.lines)) t keys)
             (sym (table_left left given))
-            (subst (λ (ks : List Key). IsTableChange (table_of (definitions settings store.lines))
-            (table_of (definitions_by (set (active_lines settings store.lines) place false) store.lines)) ks)
+            (subst (λ (ks : List Key). IsTableChange (table_of (active_definitions settings store.lines))
+            (table_of (definitions_among (set (active_lines settings store.lines) place false) store.lines)) ks)
             (sym keys_are)
             (changed_dropped settings store n k defines.0 place (set (active_lines settings store.lines) place false)
             uncovered

@@ -9,18 +9,19 @@ use Rattle.def_entry.specs.declared.key.Key.{Key}
 use Rattle.def_entry.specs.Entries.{Entry}
 use Rattle.def_entry.specs.SameKeys.{is_same}
 use Rattle.deck_lines.specs.Marks.{plain_line}
-use Rattle.deck_lines.specs.Names.{key_at}
+use Rattle.deck_lines.specs.Names.{key_numbered}
 use Rattle.deck_lines.specs.Readings.{entry_in}
 use Rattle.deck_lines.specs.Stores.{Store, definition_at}
 use Rattle.deck_lines.specs.declared.key_number.KeyNumber.{KeyNumber}
 use Rattle.deck_lines.specs.declared.line.DeckLine.{DeckLine}
 use Rattle.deck.specs.Active.{active_lines, start}
-use Rattle.deck.specs.Tables.{Definitions, definition_by, definitions, definitions_by, definitions_from, last_place}
+use Rattle.deck.specs.Tables.{Definitions, active_definitions, definition_by, definitions_among, definitions_from}
+use Rattle.deck.specs.Tables.{last_place}
 use Rattle.deck.specs.Tables.{place_of}
 use Rattle.deck.specs.declared.settings.Settings.{Settings}
-use Rattle.deck.proofs.Lasting.{by_step}
-use Rattle.deck.proofs.Marking.{length-activity}
-use Rattle.deck.proofs.Uncovering.{found-append, found_first}
+use Rattle.deck.proofs.LastPlaceSteps.{by_step}
+use Rattle.deck.proofs.MarkedLines.{length-activity}
+use Rattle.deck.proofs.UncoveredKeys.{found-append, found_first}
 
 -- the last place of a key in two lists of definitions is that in the second list, or else that in the first
 split : (first second : Definitions) (k : Key) → place_of (reverse (first ++ second)) k
@@ -115,32 +116,32 @@ before_last (f ∷ fs) (x ∷ lines) n (suc place) k h =
 -- the uncovered place is the last one among the lines before the removed line
 pub uncovered_before : (settings : Settings) (lines : List DeckLine) (k : Key) (place : ℕ)
     → last_place settings lines k ≡ Some place
-    → place_of (definitions_by (take place (active_lines settings lines)) (take place lines)) k
-    ≡ place_of (definitions_by (set (active_lines settings lines) place false) lines) k
-unfolding definitions
+    → place_of (definitions_among (take place (active_lines settings lines)) (take place lines)) k
+    ≡ place_of (definitions_among (set (active_lines settings lines) place false) lines) k
+unfolding active_definitions
 uncovered_before settings lines k place h =
     let from_zero : place ≡ 0 + place = omega arith in
     sym (before_last (active_lines settings lines) lines 0 place k (h ∙ ap Some from_zero))
 
 -- the same place is found by going back to the last line of the key before the removed line
 module _ (settings : Settings) (store : Store) (n : KeyNumber) (place end : ℕ)
-    (last : (k : Key) → key_at store.names n ≡ Some k → last_place settings store.lines k ≡ Some place)
-    (same : (k : Key) (flags : List Bool) → key_at store.names n ≡ Some k → length flags ≡ length store.lines
-    → place_of (definitions_by (take place flags) (take place store.lines)) k
-    ≡ place_of (definitions_by (take end flags) (take end store.lines)) k) where
+    (last : (k : Key) → key_numbered store.names n ≡ Some k → last_place settings store.lines k ≡ Some place)
+    (same : (k : Key) (flags : List Bool) → key_numbered store.names n ≡ Some k → length flags ≡ length store.lines
+    → place_of (definitions_among (take place flags) (take place store.lines)) k
+    ≡ place_of (definitions_among (take end flags) (take end store.lines)) k) where
   pub uncovered_found : (flags : List Bool) → flags ≡ active_lines settings store.lines → (k : Key)
-      → key_at store.names n ≡ Some k → place_of (definitions_by (take end flags) (take end store.lines)) k
-      ≡ place_of (definitions_by (set (active_lines settings store.lines) place false) store.lines) k
+      → key_numbered store.names n ≡ Some k → place_of (definitions_among (take end flags) (take end store.lines)) k
+      ≡ place_of (definitions_among (set (active_lines settings store.lines) place false) store.lines) k
   uncovered_found flags are k at =
-      ap (λ (fs : List Bool). place_of (definitions_by (take end fs) (take end store.lines)) k) are
+      ap (λ (fs : List Bool). place_of (definitions_among (take end fs) (take end store.lines)) k) are
       ∙ sym (same k (active_lines settings store.lines) at
       (length-activity settings.locale (start settings) store.lines))
       ∙ uncovered_before settings store.lines k place (last k at)
 
-  pub uncovered_none : end ≡ 0 → (k : Key) → key_at store.names n ≡ Some k
-      → None ≡ place_of (definitions_by (set (active_lines settings store.lines) place false) store.lines) k
+  pub uncovered_none : end ≡ 0 → (k : Key) → key_numbered store.names n ≡ Some k
+      → None ≡ place_of (definitions_among (set (active_lines settings store.lines) place false) store.lines) k
   uncovered_none none k at =
-      sym (ap (λ i. place_of (definitions_by (take i (active_lines settings store.lines)) (take i store.lines)) k)
+      sym (ap (λ i. place_of (definitions_among (take i (active_lines settings store.lines)) (take i store.lines)) k)
       none)
       ∙ uncovered_found (active_lines settings store.lines) refl k at
 
@@ -149,8 +150,8 @@ module _ (lines : List DeckLine) (fs : List Bool) (i : ℕ) (k : Key) (same : le
   -- a line that does not define the key does not change its last place
   pub line_skipped : ((active : Bool) (ds : Definitions)
       → place_of ds k ≡ place_of (definition_by i active (definition_at lines i) ++ ds) k) →
-      place_of (definitions_by (take (i + 1) fs) (take (i + 1) lines)) k
-      ≡ place_of (definitions_by (take i fs) (take i lines)) k
+      place_of (definitions_among (take (i + 1) fs) (take (i + 1) lines)) k
+      ≡ place_of (definitions_among (take i fs) (take i lines)) k
   line_skipped other =
       let x : DeckLine = get_or lines i (plain_line 0 []) in
       let f : Bool = get_or fs i false in
@@ -159,5 +160,5 @@ module _ (lines : List DeckLine) (fs : List Bool) (i : ℕ) (k : Key) (same : le
       let inside : i < length fs = omega (arith, same, within) in
       ap (λ ds. place_of ds k) (by_step fs lines i f x same within (take_more fs i false inside)
       (take_more lines i (plain_line 0 []) within))
-      ∙ sym (other f (definitions_by (take i fs) (take i lines))
-      ∙ ap (λ o. place_of (definition_by i f o ++ definitions_by (take i fs) (take i lines)) k) there)
+      ∙ sym (other f (definitions_among (take i fs) (take i lines))
+      ∙ ap (λ o. place_of (definition_by i f o ++ definitions_among (take i fs) (take i lines)) k) there)

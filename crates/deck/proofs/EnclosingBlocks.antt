@@ -7,15 +7,15 @@ use Rattle.std.specs.Option.{option_or}
 use Rattle.std.specs.Str.{bytes_eq}
 use Rattle.std.proofs.lemmas.List.{reverse-append}
 use Rattle.std.proofs.lemmas.Slice.Eq.{bytes_eq-Decides}
-use Rattle.units_io.specs.Named.{Pairs, value_of}
+use Rattle.units_io.specs.NamedValues.{Pairs, named_value}
 use Rattle.def_lines.specs.Kinds as line
 use Rattle.def_lines.specs.Kinds.{Kind, kind_of}
 use Rattle.deck_lines.specs.declared.line.DeckLine.{DeckLine}
 use Rattle.deck.specs.Active.{Surroundings, active_lines, activity, all_hold, behind_kind, behind_line, is_active}
-use Rattle.deck.specs.Active.{is_value_listed, outer_blocks, start, with_var}
+use Rattle.deck.specs.Active.{is_value_listed, outer_flags, start, with_var}
 use Rattle.deck.specs.declared.settings.Settings.{Settings}
-use Rattle.deck.specs.Enclosing.{block_begun, enclosing_blocks, ends_block, is_active_after, is_active_in}
-use Rattle.deck.specs.Enclosing.{blocks_with, pair_set, vars_after}
+use Rattle.deck.specs.EnclosingBlocks.{block_begun, enclosing_blocks, ends_block, is_active_after, is_active_in}
+use Rattle.deck.specs.EnclosingBlocks.{blocks_with, pair_set, vars_after}
 
 -- ---- values of variables
 or_cond : {A : Type 0} (b : Bool) (x : A) (o p : Option A)
@@ -23,31 +23,31 @@ or_cond : {A : Type 0} (b : Bool) (x : A) (o p : Option A)
 or_cond true x o p = refl
 or_cond false x o p = refl
 
-value_append : (xs ys : Pairs) (name : List ℕ) → value_of (xs ++ ys) name ≡ option_or (value_of xs name)
-    (value_of ys name)
+value_append : (xs ys : Pairs) (name : List ℕ) → named_value (xs ++ ys) name ≡ option_or (named_value xs name)
+    (named_value ys name)
 value_append [] ys name = refl
 value_append (x ∷ xs) ys name =
     ap (λ o. cond (bytes_eq name x.0) (Some x.1) o) (value_append xs ys name)
-    ∙ sym (or_cond (bytes_eq name x.0) x.1 (value_of xs name) (value_of ys name))
+    ∙ sym (or_cond (bytes_eq name x.0) x.1 (named_value xs name) (named_value ys name))
 
 -- a pair appended after another value of the same variable changes no value
-covered : (xs : Pairs) (name value other : List ℕ) → is_some (value_of xs name) ≡ true
-    → value_of (xs ++ (name, value) ∷ []) other ≡ value_of xs other
+covered : (xs : Pairs) (name value other : List ℕ) → is_some (named_value xs name) ≡ true
+    → named_value (xs ++ (name, value) ∷ []) other ≡ named_value xs other
 covered xs name value other some =
-    value_append xs ((name, value) ∷ []) other ∙ by (bytes_eq other name) refl (value_of xs other) refl
+    value_append xs ((name, value) ∷ []) other ∙ by (bytes_eq other name) refl (named_value xs other) refl
   where
-    by : (b : Bool) → bytes_eq other name ≡ b → (o : Option (List ℕ)) → value_of xs other ≡ o
+    by : (b : Bool) → bytes_eq other name ≡ b → (o : Option (List ℕ)) → named_value xs other ≡ o
         → option_or o (cond b (Some value) None) ≡ o
     by b e (Some x) q = refl
     by false e None q = refl
     by true e None q =
         let is : other ≡ name = (bytes_eq-Decides other name).0 e in
-        let z : is_some (value_of xs other) ≡ true =
-        subst (λ (n : List ℕ). is_some (value_of xs n) ≡ true) (sym is) some in
+        let z : is_some (named_value xs other) ≡ true =
+        subst (λ (n : List ℕ). is_some (named_value xs n) ≡ true) (sym is) some in
         let w : false ≡ true = ap is_some (sym q) ∙ z in cc
 
 -- ---- blocks
-drop_outer : (holds : List Bool) (k : ℕ) → drop (suc k) holds ≡ drop k (outer_blocks holds)
+drop_outer : (holds : List Bool) (k : ℕ) → drop (suc k) holds ≡ drop k (outer_flags holds)
 drop_outer [] zero = refl
 drop_outer [] (suc k) = refl
 drop_outer (b ∷ holds) k = refl
@@ -55,7 +55,7 @@ drop_outer (b ∷ holds) k = refl
 -- the state has these enclosing blocks, innermost first, and these values of the variables
 record Fits (kept : Surroundings) (blocks : ℕ → List Bool) (vars : Pairs) : Type 0 where
   holds : (k : ℕ) → blocks k ≡ drop k kept.holds
-  values : (name : List ℕ) → value_of vars name ≡ value_of kept.vars name
+  values : (name : List ℕ) → named_value vars name ≡ named_value kept.vars name
 
 module _ (locale : List ℕ) (kept : Surroundings) (blocks : ℕ → List Bool) (vars : Pairs) (h : Fits kept blocks vars)
   where
@@ -65,8 +65,8 @@ module _ (locale : List ℕ) (kept : Surroundings) (blocks : ℕ → List Bool) 
     opened b c ends e (suc k) = h.holds k
 
     -- a line that sets nothing
-    as_before : (b : Bool) (name : List ℕ) → value_of (cond b (vars ++ []) vars) name ≡ value_of kept.vars name
-    as_before true name = ap (λ (x : Pairs). value_of x name) (append-nil vars) ∙ h.values name
+    as_before : (b : Bool) (name : List ℕ) → named_value (cond b (vars ++ []) vars) name ≡ named_value kept.vars name
+    as_before true name = ap (λ (x : Pairs). named_value x name) (append-nil vars) ∙ h.values name
     as_before false name = h.values name
 
     abbrev Behind : Kind → Type 0
@@ -78,26 +78,27 @@ module _ (locale : List ℕ) (kept : Surroundings) (blocks : ℕ → List Bool) 
     set_holds true more e = e
     set_holds false more e = refl
 
-    put : (name value other : List ℕ) (b s : Bool) → is_some (value_of kept.vars name) ≡ s
-        → value_of (cond b (vars ++ (name, value) ∷ []) vars) other
-        ≡ value_of (cond (b && not s) (record kept { vars = kept.vars ++ (name, value) ∷ [] }) kept).vars other
+    put : (name value other : List ℕ) (b s : Bool) → is_some (named_value kept.vars name) ≡ s
+        → named_value (cond b (vars ++ (name, value) ∷ []) vars) other
+        ≡ named_value (cond (b && not s) (record kept { vars = kept.vars ++ (name, value) ∷ [] }) kept).vars other
     put name value other false s e = h.values other
     put name value other true false e =
         value_append vars ((name, value) ∷ []) other
-        ∙ (ap (λ (o : Option (List ℕ)). option_or o (value_of ((name, value) ∷ []) other)) (h.values other)
+        ∙ (ap (λ (o : Option (List ℕ)). option_or o (named_value ((name, value) ∷ []) other)) (h.values other)
         ∙ sym (value_append kept.vars ((name, value) ∷ []) other))
     put name value other true true e =
         value_append vars ((name, value) ∷ []) other
-        ∙ (ap (λ (o : Option (List ℕ)). option_or o (value_of ((name, value) ∷ []) other)) (h.values other)
+        ∙ (ap (λ (o : Option (List ℕ)). option_or o (named_value ((name, value) ∷ []) other)) (h.values other)
         ∙ (sym (value_append kept.vars ((name, value) ∷ []) other) ∙ covered kept.vars name value other e))
 
     set_values : (name value other : List ℕ)
-        → value_of (cond (list_all (λ holds. holds) (blocks 0)) (vars ++ (name, value) ∷ []) vars) other
-        ≡ value_of (with_var name value kept).vars other
+        → named_value (cond (list_all (λ holds. holds) (blocks 0)) (vars ++ (name, value) ∷ []) vars) other
+        ≡ named_value (with_var name value kept).vars other
     set_values name value other =
-        ap (λ (hs : List Bool). value_of (cond (list_all (λ holds. holds) hs) (vars ++ (name, value) ∷ []) vars) other)
+        ap (λ (hs : List Bool). named_value (cond (list_all (λ holds. holds) hs) (vars ++ (name, value) ∷ []) vars)
+        other)
         (h.holds 0)
-        ∙ put name value other (all_hold kept) (is_some (value_of kept.vars name)) refl
+        ∙ put name value other (all_hold kept) (is_some (named_value kept.vars name)) refl
 
     -- the state after a line without a mark fits
     behind : (k : Kind) → Behind k
@@ -106,13 +107,14 @@ module _ (locale : List ℕ) (kept : Surroundings) (blocks : ℕ → List Bool) 
       values = as_before (list_all (λ holds. holds) (blocks 0));
     }
     behind (line.Var name these) = record {
-      holds = opened (is_value_listed these (value_of vars name)) (is_value_listed these (value_of kept.vars name)) false
+      holds = opened (is_value_listed these (named_value vars name))
+          (is_value_listed these (named_value kept.vars name)) false
           (ap (is_value_listed these) (h.values name));
       values = as_before (list_all (λ holds. holds) (blocks 0));
     }
     behind (line.VarNot name these) = record {
-      holds = opened (not (is_value_listed these (value_of vars name)))
-          (not (is_value_listed these (value_of kept.vars name))) false
+      holds = opened (not (is_value_listed these (named_value vars name)))
+          (not (is_value_listed these (named_value kept.vars name))) false
           (ap (λ o. not (is_value_listed these o)) (h.values name));
       values = as_before (list_all (λ holds. holds) (blocks 0));
     }
@@ -133,7 +135,7 @@ module _ (locale : List ℕ) (kept : Surroundings) (blocks : ℕ → List Bool) 
       values = as_before (list_all (λ holds. holds) (blocks 0));
     }
     behind (line.Set name value) = record {
-      holds = λ k. h.holds k ∙ ap (drop k) (sym (set_holds (all_hold kept && not (is_some (value_of kept.vars name)))
+      holds = λ k. h.holds k ∙ ap (drop k) (sym (set_holds (all_hold kept && not (is_some (named_value kept.vars name)))
           (record kept { vars = kept.vars ++ (name, value) ∷ [] }) refl));
       values = set_values name value;
     }

@@ -3,13 +3,14 @@ use Rattle.std.proofs.Common.{◌≡◌, ◌&&◌, ℕ, zero, suc, List, [], ◌
 use Rattle.std.proofs.Common.{None}
 use Rattle.std.proofs.Common.{is_some, refl, sym, ap, subst}
 use Rattle.std.specs.List.{list_all}
-use Rattle.units_io.specs.Named.{Pairs}
+use Rattle.units_io.specs.NamedValues.{Pairs}
 use Rattle.def_lines.specs.Kinds as line
 use Rattle.def_lines.specs.Kinds.{Kind, kind_of}
 use Rattle.deck_lines.specs.declared.line.DeckLine.{DeckLine}
 use Rattle.deck.specs.declared.settings.Settings.{Settings}
-use Rattle.deck.specs.Enclosing.{EnclosingLaw, Encloses, block_begun, enclosing_blocks, ends_block, is_active_after}
-use Rattle.deck.specs.Enclosing.{blocks_with, begins_block, skip_before, skip_before_all, vars_after}
+use Rattle.deck.specs.EnclosingBlocks.{EnclosingLaw, Encloses, block_begun, enclosing_blocks, ends_block}
+use Rattle.deck.specs.EnclosingBlocks.{is_active_after}
+use Rattle.deck.specs.EnclosingBlocks.{blocks_with, begins_block, skip_before, skip_before_all, vars_after}
 use Rattle.deck.proofs.EnclosingBlocks.{active_at}
 
 -- ---- conjunctions
@@ -134,7 +135,7 @@ module _ (settings : Settings) where
       → (x.mark ≡ false) × ((holds : Bool) → Encloses settings earlier holds → holds ≡ true)
   enclosed earlier x e = (
     not_is x.mark (and_first (not x.mark) (list_all (λ holds. holds) (enclosing_blocks settings earlier 0)) e),
-    λ holds q. encloser_holds q.inner q.line q.outer holds 0 q.unmarked q.begins q.closed
+    λ holds q. encloser_holds q.inner q.line q.outer holds 0 q.lacks_mark q.begins q.closed
         (subst (λ (ls : List DeckLine). AllHold (enclosing_blocks settings ls 0)) q.is
         (and_second (not x.mark) (list_all (λ holds. holds) (enclosing_blocks settings earlier 0)) e)),
   )
@@ -145,11 +146,11 @@ module _ (settings : Settings) where
   is_enclosed earlier x h =
       and_both (not x.mark) (list_all (λ holds. holds) (enclosing_blocks settings earlier 0)) (is_not x.mark h.0)
       (all_hold earlier 0 (λ inner y outer holds e u b z.
-      h.1 holds (record { inner = inner; line = y; outer = outer; is = e; unmarked = u; begins = b; closed = z })))
+      h.1 holds (record { inner = inner; line = y; outer = outer; is = e; lacks_mark = u; begins = b; closed = z })))
 
 -- the law of enclosing blocks
 pub enclosing_law : EnclosingLaw
 enclosing_law = record {
   active = active_at;
-  enclosed = λ settings earlier x. (enclosed settings earlier x, is_enclosed settings earlier x);
+  enclosing_block = λ settings earlier x. (enclosed settings earlier x, is_enclosed settings earlier x);
 }

@@ -6,7 +6,7 @@ use Rattle.def_lines.specs.Kinds.{Kind as LineKind, kind_of}
 use Rattle.def_lines.specs.Kinds as line
 use Rattle.def_entry.specs.declared.key.Key.{Key}
 use Rattle.def_entry.specs.Entries.{Entry}
-use Rattle.def_entry.specs.Reading.{SameTextLaw, entry_of}
+use Rattle.def_entry.specs.EntryReading.{SameTextLaw, entry_of}
 use Rattle.deck_lines.specs.Marks.{plain_line}
 use Rattle.deck_lines.specs.Readings.{defined_by, entry_in, of_entry, reading_by, reading_of}
 use Rattle.deck_lines.specs.Stores.{definition_at}

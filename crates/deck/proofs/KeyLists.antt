@@ -13,22 +13,22 @@ use Rattle.std.specs.declared.cmp.Ordering.TheVariants.{Less, Equal, Greater}
 use Rattle.def_entry.specs.declared.key.Key.{Key}
 use Rattle.def_entry.specs.declared.key.Kind.TheVariants as kind
 use Rattle.def_entry.specs.KeyOrder.{KeyOrderLaw, key_cmp}
-use Rattle.def_entry.specs.SameKeys.{is_among, is_same}
-use Rattle.deck_lines.specs.Names.{is_numbered, key_at}
-use Rattle.deck_lines.specs.Numbering.{IsNumbering}
+use Rattle.def_entry.specs.SameKeys.{is_key_among, is_same}
+use Rattle.deck_lines.specs.Names.{is_numbered, key_numbered}
+use Rattle.deck_lines.specs.KeyNumbering.{IsNumbering}
 use Rattle.deck_lines.specs.Stores.{Store}
 use Rattle.deck_lines.specs.declared.key_number.KeyNumber.{KeyNumber}
 use Rattle.deck.specs.Changes.{AreOnce}
-use Rattle.deck.specs.Holding.{holds, is_found, is_holding}
+use Rattle.deck.specs.SubstringKeys.{holds, is_found, is_holding}
 use Rattle.deck.specs.LastPlaces.{AreLast}
 use Rattle.deck.specs.Numbers.{AreInPlace, keys_where}
 use Rattle.deck.specs.Tables.{Definitions, is_present, place_of, table_of}
 use Rattle.deck.specs.declared.places.last_places.LastPlaces.{LastPlaces}
-use Rattle.deck.proofs.Changing.{not_defined}
+use Rattle.deck.proofs.ChangedKeys.{not_defined}
 use Rattle.deck.proofs.KeyCounts.{distinct, flips}
-use Rattle.deck.proofs.Listing.{among_filter, once_filter}
-use Rattle.deck.proofs.Numbered.{all_filter, all_keys, among_all, once_all}
-use Rattle.deck.proofs.Placing.{place_present}
+use Rattle.deck.proofs.DistinctKeys.{among_filter, once_filter}
+use Rattle.deck.proofs.NumberedKeys.{all_filter, all_keys, among_all, once_all}
+use Rattle.deck.proofs.PlacedDefinitions.{place_present}
 use Rattle.deck.proofs.Sameness.{key_itself}
 
 module _ (law : KeyOrderLaw) where
@@ -65,26 +65,26 @@ module _ (law : KeyOrderLaw) where
 module _ (store : Store) (numbering : IsNumbering store) (ds : Definitions) (placed : AreInPlace store.lines ds)
     (last : LastPlaces) (are_last : AreLast store.names ds last) where
   -- a number is found exactly if its key has an entry and the name of the key contains the text
-  by_number : (text : List ℕ) (n : KeyNumber) (k : Key) → key_at store.names n ≡ Some k
+  by_number : (text : List ℕ) (n : KeyNumber) (k : Key) → key_numbered store.names n ≡ Some k
       → is_found store.names last text n ≡ (is_present (table_of ds) k && holds k.name text)
   by_number text n k e =
-      ap (λ b. b && is_holding text (key_at store.names n))
+      ap (λ b. b && is_holding text (key_numbered store.names n))
       (ap is_some (are_last.place n ∙ ap (option_and_then (place_of ds)) e) ∙ place_present ds k)
       ∙ ap (λ o. is_present (table_of ds) k && is_holding text o) e
 
   -- each key that has an entry has a number
-  present_numbered : (k : Key) → (is_present (table_of ds) k && is_among (all_keys store.names) k)
+  present_numbered : (k : Key) → (is_present (table_of ds) k && is_key_among (all_keys store.names) k)
       ≡ is_present (table_of ds) k
   present_numbered k = by (is_present (table_of ds) k) refl (is_numbered store.names k) refl
     where
       by : (p : Bool) → is_present (table_of ds) k ≡ p → (n : Bool) → is_numbered store.names k ≡ n
-          → (is_present (table_of ds) k && is_among (all_keys store.names) k) ≡ is_present (table_of ds) k
+          → (is_present (table_of ds) k && is_key_among (all_keys store.names) k) ≡ is_present (table_of ds) k
       by true e true h = ap (λ b. is_present (table_of ds) k && b) (among_all store.names k ∙ h) ∙ ap (λ b. b && true) e
           ∙ sym e
       by true e false h =
           absurd (true≢false (sym e ∙ sym (place_present ds k)
           ∙ ap (λ o. is_some (option_map (λ p. p.0) o)) (not_defined store numbering ds placed k h)))
-      by false e n h = ap (λ b. b && is_among (all_keys store.names) k) e ∙ sym e
+      by false e n h = ap (λ b. b && is_key_among (all_keys store.names) k) e ∙ sym e
 
   -- the found keys are strictly sorted, and they are those that have an entry and whose names contain the text
   pub keys_found : KeyOrderLaw → (text : List ℕ) (found sorted : List Key) →
@@ -93,7 +93,7 @@ module _ (store : Store) (numbering : IsNumbering store) (ds : Definitions) (pla
       ++ (keys_where (is_found store.names last text) kind.Func 0 store.names.functions
       ++ keys_where (is_found store.names last text) kind.List 0 store.names.lists)) →
       IsPermutation found sorted → IsSorted key_cmp sorted → IsStrictlySortedBy key_cmp sorted
-      × ((k : Key) → is_among sorted k ≡ (is_present (table_of ds) k && holds k.name text))
+      × ((k : Key) → is_key_among sorted k ≡ (is_present (table_of ds) k && holds k.name text))
   keys_found law text found sorted e moved up = (in_strict_order law sorted up apart, each)
     where
       own : Key → Bool
@@ -113,9 +113,9 @@ module _ (store : Store) (numbering : IsNumbering store) (ds : Definitions) (pla
       both true false a g = refl
       both false h a g = refl
 
-      each : (k : Key) → is_among sorted k ≡ own k
+      each : (k : Key) → is_key_among sorted k ≡ own k
       each k =
-          sym (list_any-IsPermutation (is_same k) found sorted moved) ∙ ap (λ ks. is_among ks k) is
+          sym (list_any-IsPermutation (is_same k) found sorted moved) ∙ ap (λ ks. is_key_among ks k) is
           ∙ among_filter own (all_keys store.names) k
-          ∙ both (is_present (table_of ds) k) (holds k.name text) (is_among (all_keys store.names) k)
+          ∙ both (is_present (table_of ds) k) (holds k.name text) (is_key_among (all_keys store.names) k)
           (present_numbered k)

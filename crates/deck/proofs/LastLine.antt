@@ -4,10 +4,10 @@ use Rattle.std.proofs.Common.{Option, Some, option_map}
 use Rattle.std.proofs.lemmas.Option.{same_Some}
 use Rattle.def_entry.specs.declared.key.Key.{Key}
 use Rattle.def_entry.specs.declared.key.Kind.{Kind}
-use Rattle.def_entry.specs.Reading.{SameTextLaw}
+use Rattle.def_entry.specs.EntryReading.{SameTextLaw}
 use Rattle.def_entry.specs.SameKeys.{is_same_kind}
-use Rattle.deck_lines.specs.Names.{key_at}
-use Rattle.deck_lines.specs.Numbering.{IsNumbering}
+use Rattle.deck_lines.specs.Names.{key_numbered}
+use Rattle.deck_lines.specs.KeyNumbering.{IsNumbering}
 use Rattle.deck_lines.specs.Stores.{Store, definition_at}
 use Rattle.deck_lines.specs.declared.key_number.KeyNumber.{KeyNumber}
 use Rattle.deck_lines.specs.declared.line.DeckLine.{DeckLine}
@@ -15,18 +15,18 @@ use Rattle.deck.specs.Changes.{IsTableChange, is_same_entry}
 use Rattle.deck.specs.Decks.{Contents}
 use Rattle.deck.specs.LastPlaces.{IsIndexed, places_of}
 use Rattle.deck.specs.Numbers.{entry_there, key_if}
-use Rattle.deck.specs.Tables.{definitions, last_place, table, table_of}
-use Rattle.deck.specs.Undefining.{CanUndefine}
+use Rattle.deck.specs.Tables.{active_definitions, last_place, table, table_of}
+use Rattle.deck.specs.LineRemoval.{CanUndefine}
 use Rattle.deck.specs.declared.places.last_places.LastPlaces.{LastPlaces}
 use Rattle.deck.specs.declared.settings.Settings.{Settings}
-use Rattle.deck.proofs.Undefining.{changed_less, defined_there, definitions_are, front_taken, indexed_less, last_at}
-use Rattle.deck.proofs.Undefining.{room_there}
+use Rattle.deck.proofs.LastRemoval.{changed_less, defined_there, definitions_are, front_taken, indexed_less, last_at}
+use Rattle.deck.proofs.LastRemoval.{room_there}
 
 module _ (settings : Settings) (store : Store) (notices : List (List ℕ)) (d : Contents)
     (view : record { lines = store.lines; settings = settings; notices = notices } ≡ d)
     (uncovered : Option ℕ) (can : CanUndefine uncovered d) (len : ℕ) (count : len ≡ length store.lines)
     (numbering : IsNumbering store) (last : LastPlaces) (indexed : IsIndexed store settings last) (n : KeyNumber)
-    (told : Some (key_at store.names n) ≡ option_map (λ e. Some e.0) (definition_at store.lines (len - 1))) where
+    (told : Some (key_numbered store.names n) ≡ option_map (λ e. Some e.0) (definition_at store.lines (len - 1))) where
   split : store.lines ≡ can.front ++ can.line ∷ []
   split = ap (λ (c : Contents). c.lines) view ∙ can.lines
 
@@ -40,9 +40,9 @@ module _ (settings : Settings) (store : Store) (notices : List (List ℕ)) (d : 
   left_is = front_taken store.lines can.front can.line len split count
 
   -- the number of the last line is the number of its key
-  numbered : key_at store.names n ≡ Some can.key
+  numbered : key_numbered store.names n ≡ Some can.key
   numbered =
-      same_Some (key_at store.names n) (Some can.key)
+      same_Some (key_numbered store.names n) (Some can.key)
       (told ∙ ap (λ p. option_map (λ e. Some e.0) (definition_at store.lines p)) at_end
       ∙ ap (option_map (λ e. Some e.0))
       (defined_there settings store can.front can.line can.key can.entry split can.defines numbering last indexed))
@@ -65,15 +65,15 @@ module _ (settings : Settings) (store : Store) (notices : List (List ℕ)) (d : 
   -- the keys that the removal changes
   pub changed_undefined : SameTextLaw → (left : List DeckLine) (keys : List Key) → left ≡ take (len - 1) store.lines
       → keys ≡ key_if (not (is_same_entry (entry_there store.lines (Some (len - 1)))
-      (entry_there store.lines uncovered))) (key_at store.names n) →
-      IsTableChange (table d) (table_of (definitions settings left)) keys
+      (entry_there store.lines uncovered))) (key_numbered store.names n) →
+      IsTableChange (table d) (table_of (active_definitions settings left)) keys
   changed_undefined law left keys is given =
-      subst (λ (c : Contents). IsTableChange (table c) (table_of (definitions settings left)) keys) view
-      (subst (λ (ls : List DeckLine). IsTableChange (table_of (definitions settings store.lines))
-      (table_of (definitions settings ls)) keys) (sym (is ∙ left_is))
-      (subst (λ (ks : List Key). IsTableChange (table_of (definitions settings store.lines))
-      (table_of (definitions settings can.front)) ks) (sym given)
-      (changed_less law settings store.lines can.front can.line can.key can.entry (key_at store.names n) (len - 1)
+      subst (λ (c : Contents). IsTableChange (table c) (table_of (active_definitions settings left)) keys) view
+      (subst (λ (ls : List DeckLine). IsTableChange (table_of (active_definitions settings store.lines))
+      (table_of (active_definitions settings ls)) keys) (sym (is ∙ left_is))
+      (subst (λ (ks : List Key). IsTableChange (table_of (active_definitions settings store.lines))
+      (table_of (active_definitions settings can.front)) ks) (sym given)
+      (changed_less law settings store.lines can.front can.line can.key can.entry (key_numbered store.names n) (len - 1)
       uncovered split
       (definitions_are settings store can.front can.line can.key can.entry split can.defines numbering last indexed)
       numbered at_end covers)))

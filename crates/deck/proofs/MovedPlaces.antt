@@ -9,17 +9,17 @@ use Rattle.std.specs.Option.{option_and_then}
 use Rattle.def_entry.specs.declared.key.Key.{Key}
 use Rattle.def_entry.specs.declared.key.Kind.{Kind}
 use Rattle.def_entry.specs.Entries.{Entry}
-use Rattle.deck_lines.specs.Names.{IsOneToOne, key_at}
+use Rattle.deck_lines.specs.Names.{IsOneToOne, key_numbered}
 use Rattle.deck_lines.specs.Readings.{entry_in}
 use Rattle.deck_lines.specs.Stores.{Store, definition_at}
 use Rattle.deck_lines.specs.declared.key_number.KeyNumber.{KeyNumber}
 use Rattle.deck_lines.specs.declared.line.DeckLine.{DeckLine}
 use Rattle.deck.specs.KindPlaces.{moved_back, place_in, without_gap}
 use Rattle.deck.specs.LastPlaces.{IsMovedTo, moved_to, place_at, places_of}
-use Rattle.deck.specs.PlacedKeys.{AreDefined}
+use Rattle.deck.specs.PlacedKeys.{DefineTheirKeys}
 use Rattle.deck.specs.declared.places.last_places.LastPlaces.{LastPlaces}
 use Rattle.deck.proofs.KindPlacing.{in_mapped}
-use Rattle.deck.proofs.Searching.{is_same_number, number_itself, one_number}
+use Rattle.deck.proofs.LastLineSearch.{is_same_number, number_itself, one_number}
 
 -- lists of places with the same length and the same place at each number are equal
 alike : (xs ys : List (Option ℕ)) → length xs ≡ length ys → ((m : ℕ) → place_in xs m ≡ place_in ys m) → xs ≡ ys
@@ -78,7 +78,7 @@ module _ (gap i : ℕ) where
       one : moved_back i (moved_to gap i p) ≡ moved_to gap (i + 1) p
       one = grind (arith, nat_tests, after)
 
-module _ (store : Store) (unique : IsOneToOne store.names) (old : LastPlaces) (defined : AreDefined store old)
+module _ (store : Store) (unique : IsOneToOne store.names) (old : LastPlaces) (defined : DefineTheirKeys store old)
     (gap i : ℕ) where
   -- no number has the place of a line that defines nothing
   nowhere : None ≡ option_map (λ e. Some e.0) (definition_at store.lines i) → (m : KeyNumber)
@@ -88,12 +88,12 @@ module _ (store : Store) (unique : IsOneToOne store.names) (old : LastPlaces) (d
       never (Some d.0.0) (none ∙ ap (option_map (λ e. Some e.0)) d.1)
 
   -- at most one number has the place of a line that defines a key
-  only : (n : KeyNumber) → Some (key_at store.names n) ≡ option_map (λ e. Some e.0) (definition_at store.lines i)
+  only : (n : KeyNumber) → Some (key_numbered store.names n) ≡ option_map (λ e. Some e.0) (definition_at store.lines i)
       → (m : KeyNumber) → place_at old m ≡ Some i → m ≡ n
   only n told m h =
       let d = defined m i h in
-      let key : key_at store.names n ≡ Some d.0.0 =
-      same_Some (key_at store.names n) (Some d.0.0) (told ∙ ap (option_map (λ e. Some e.0)) d.1) in
+      let key : key_numbered store.names n ≡ Some d.0.0 =
+      same_Some (key_numbered store.names n) (Some d.0.0) (told ∙ ap (option_map (λ e. Some e.0)) d.1) in
       unique m n d.0.0 d.2 key
 
   -- the step past a line that defines nothing
@@ -106,7 +106,7 @@ module _ (store : Store) (unique : IsOneToOne store.names) (old : LastPlaces) (d
 
   -- the step past a line that defines a key
   pub moved_one : gap < i → (n : KeyNumber)
-      → Some (key_at store.names n) ≡ option_map (λ e. Some e.0) (definition_at store.lines i) →
+      → Some (key_numbered store.names n) ≡ option_map (λ e. Some e.0) (definition_at store.lines i) →
       (now new : LastPlaces) → place_at new n ≡ option_map (moved_back i) (place_at now n) →
       ((m : KeyNumber) → (m ≡ n → ⊥) → place_at new m ≡ place_at now m) →
       ((kind : Kind) → length (places_of new kind) ≡ length (places_of now kind)) → IsMovedTo gap i old now

@@ -15,15 +15,15 @@ use Rattle.std.specs.declared.cmp.Ordering.TheVariants.{Less, Equal, Greater}
 use Rattle.def_entry.specs.declared.key.Key.{Key}
 use Rattle.def_entry.specs.Entries.{Entry}
 use Rattle.def_entry.specs.KeyOrder.{key_cmp}
-use Rattle.def_entry.specs.SameKeys.{is_among, is_same}
+use Rattle.def_entry.specs.SameKeys.{is_key_among, is_same}
 use Rattle.def_entry.proofs.SameKeys.{key_order, same_keys}
 use Rattle.deck.specs.Changes.{AreOnce}
-use Rattle.deck.specs.Holding.{holds, keys_holding}
-use Rattle.deck.specs.KeyLists.{AreKeys, IsWhole, KeyListLaw, WholeLaw, table_keys}
+use Rattle.deck.specs.SubstringKeys.{holds, keys_holding}
+use Rattle.deck.specs.KeyLists.{AreAllKeys, AreKeys, KeyListLaw, WholeLaw, table_keys}
 use Rattle.deck.specs.Tables.{Table, is_present, keys_of}
-use Rattle.deck.proofs.Counting.{among}
+use Rattle.deck.proofs.KeyTallies.{among}
 use Rattle.deck.proofs.KeyCounts.{counted}
-use Rattle.deck.proofs.Listing.{among_filter}
+use Rattle.deck.proofs.DistinctKeys.{among_filter}
 use Rattle.deck.proofs.TextPlaces.{holds_nothing}
 
 -- a proof of `T b` shows that `b` is true
@@ -78,7 +78,7 @@ tells k l = elim (cases_Bool (is_same k l)) [
     exact t = key_order.exact k l ((Equal-is (key_cmp k l)).0 t)
 
 -- finding a key in a list by `key_cmp` and by `is_same` gives the same result
-any_alike : (k : Key) (ks : List Key) → list_any (eq_by_cmp key_cmp k) ks ≡ is_among ks k
+any_alike : (k : Key) (ks : List Key) → list_any (eq_by_cmp key_cmp k) ks ≡ is_key_among ks k
 any_alike k ks = ap (λ (t : Key → Bool). list_any t ks) (λ i l. tells k l i)
 
 -- after one more entry is added, an entry is found if its key is the requested one or if an entry was found before
@@ -87,7 +87,7 @@ with_one true b same v o = ap (λ c. c || is_some o) same
 with_one false b same v o = ap (λ c. c || is_some o) same
 
 -- a key is in the finite map exactly if it is among the keys of the table
-contained : (table : Table) (k : Key) → map_of.contains_key (map_of_table table) k ≡ is_among (keys_of table) k
+contained : (table : Table) (k : Key) → map_of.contains_key (map_of_table table) k ≡ is_key_among (keys_of table) k
 contained [] k = ap is_some (map_of.get-empty key_cmp k)
 contained (e ∷ es) k =
     ap is_some (map_of.get-insert key_order.total (map_of_table es) e.0 e.1 k)
@@ -96,7 +96,7 @@ contained (e ∷ es) k =
 
 -- two strictly sorted lists with the same keys are equal
 pub one_order : (ks ls : List Key) → IsStrictlySortedBy key_cmp ks → IsStrictlySortedBy key_cmp ls
-    → ((k : Key) → is_among ks k ≡ is_among ls k) → ks ≡ ls
+    → ((k : Key) → is_key_among ks k ≡ is_key_among ls k) → ks ≡ ls
 one_order ks ls order too same =
     btree_set_from_contains key_order.total (record { keys = ks }) (record { keys = ls }) order too
     (λ k. any_alike k ks ∙ same k ∙ sym (any_alike k ls)) key_order.exact
@@ -105,7 +105,7 @@ one_order ks ls order too same =
 are_keys : (table : Table) → AreKeys table (table_keys table)
 are_keys table = record { each = each; order = in_order table }
   where
-    each : (k : Key) → is_among (table_keys table) k ≡ is_present table k
+    each : (k : Key) → is_key_among (table_keys table) k ≡ is_present table k
     each k =
         sym (any_alike k (table_keys table))
         ∙ (sym (map_of.contains_key-keys (map_of_table table) k) ∙ (contained table k ∙ among table k))
@@ -141,7 +141,7 @@ order_filter p (k ∷ ks) h = by (order_filter p ks h.1) (p k)
 
 -- strictly sorted keys are those of `keys_holding` if they are the present keys whose names contain the text
 pub holding_found : (text : List ℕ) (table : Table) (ks : List Key) → IsStrictlySortedBy key_cmp ks
-    → ((k : Key) → is_among ks k ≡ (is_present table k && holds k.name text)) → ks ≡ keys_holding text table
+    → ((k : Key) → is_key_among ks k ≡ (is_present table k && holds k.name text)) → ks ≡ keys_holding text table
 holding_found text table ks order each =
     one_order ks (keys_holding text table) order
     (order_filter (λ k. holds k.name text) (table_keys table) (in_order table))
@@ -156,10 +156,10 @@ holding_found text table ks order each =
     turned false false = refl
 
 -- a key that is less than all keys of a list is not in the list
-none_below : (k : Key) (ks : List Key) → AllByRecursion (λ y. key_cmp k y ≡ Less) ks → is_among ks k ≡ false
+none_below : (k : Key) (ks : List Key) → AllByRecursion (λ y. key_cmp k y ≡ Less) ks → is_key_among ks k ≡ false
 none_below k [] h = refl
 none_below k (y ∷ ks) h =
-    ap (λ b. b || is_among ks k) (sym (tells k y) ∙ ap is_eq h.0) ∙ none_below k ks h.1
+    ap (λ b. b || is_key_among ks k) (sym (tells k y) ∙ ap is_eq h.0) ∙ none_below k ks h.1
 
 -- strictly sorted keys occur once each
 once : (ks : List Key) → IsStrictlySortedBy key_cmp ks → AreOnce ks
@@ -179,7 +179,7 @@ all_pass p [] h = refl
 all_pass p (k ∷ ks) h = ap (λ b. cond b (k ∷ filter p ks) (filter p ks)) (h k) ∙ ap (λ t. k ∷ t) (all_pass p ks h)
 
 -- every name contains the empty text, so `keys_holding []` is a whole list
-pub whole_holding : (table : Table) (ks : List Key) → ks ≡ keys_holding [] table → IsWhole table ks
+pub whole_holding : (table : Table) (ks : List Key) → ks ≡ keys_holding [] table → AreAllKeys table ks
 whole_holding table ks is =
-    subst (IsWhole table)
+    subst (AreAllKeys table)
     (sym (is ∙ all_pass (λ k. holds k.name []) (table_keys table) (λ k. holds_nothing k.name))) (all_whole table)

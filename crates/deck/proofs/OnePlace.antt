@@ -5,7 +5,7 @@ use Rattle.std.proofs.lemmas.Option.{same_Some}
 use Rattle.def_entry.specs.declared.key.Key.{Key}
 use Rattle.def_entry.specs.declared.key.Kind.{Kind}
 use Rattle.def_entry.specs.SameKeys.{is_same, is_same_kind}
-use Rattle.deck_lines.specs.Names.{Names, key_at}
+use Rattle.deck_lines.specs.Names.{Names, key_numbered}
 use Rattle.deck_lines.specs.declared.key_number.KeyNumber.{KeyNumber}
 use Rattle.deck.specs.KindPlaces.{place_in}
 use Rattle.deck.specs.LastPlaces.{place_at, places_of}
@@ -42,7 +42,9 @@ module _ (n : KeyNumber) (place : Option ℕ) (old now : LastPlaces)
           (put m.kind ∙ ap (λ b. cond b (set (places_of old m.kind) n.number place) (places_of old m.kind)) h)
 
 -- different keys have different numbers
-pub numbers_differ : (names : Names) (n m : KeyNumber) (k j : Key) → key_at names n ≡ Some k → key_at names m ≡ Some j
+pub numbers_differ : (names : Names) (n m : KeyNumber) (k j : Key) → key_numbered names n ≡ Some k
+    → key_numbered names m ≡ Some j
     → is_same j k ≡ false → m ≡ n → ⊥
 numbers_differ names n m k j numbered h apart same =
-    true≢false (sym (key_itself j) ∙ ap (is_same j) (same_Some j k (sym h ∙ ap (key_at names) same ∙ numbered)) ∙ apart)
+    true≢false (sym (key_itself j) ∙ ap (is_same j) (same_Some j k (sym h ∙ ap (key_numbered names) same ∙ numbered))
+    ∙ apart)

@@ -4,7 +4,7 @@ use Rattle.std.proofs.Common.{drop, true≢false, refl, sym, ap, subst, ◌∙�
 use Rattle.std.proofs.Math.Seq.{take-append_seam}
 use Rattle.std.proofs.lemmas.Option.{same_Some}
 use Rattle.std.specs.Str.{bytes_eq}
-use Rattle.units_io.specs.Named.{HasDistinctNames, Pairs, value_of, with_value}
+use Rattle.units_io.specs.NamedValues.{HasDistinctNames, Pairs, named_value, with_value}
 use Rattle.units_io.proofs.Names.{HasNoName-before, HasNoName-not_found, with_value-new}
 use Rattle.def_entry.specs.declared.key.Key.{Key}
 use Rattle.deck_lines.specs.declared.line.DeckLine.{DeckLine}
@@ -15,25 +15,26 @@ use Rattle.deck.specs.Tables.{Table}
 use Rattle.deck.specs.declared.settings.Settings.{Settings}
 
 -- setting a variable to the value that it has changes nothing
-same_value : (vars : Pairs) (name value : List ℕ) → value_of vars name ≡ Some value → with_value vars name value ≡ vars
+same_value : (vars : Pairs) (name value : List ℕ) → named_value vars name ≡ Some value
+    → with_value vars name value ≡ vars
 same_value [] name value e = cc
 same_value (p ∷ vars) name value e = by (bytes_eq name p.0) (same_value vars name value) e
   where
-    by : (b : Bool) → (value_of vars name ≡ Some value → with_value vars name value ≡ vars)
-        → cond b (Some p.1) (value_of vars name) ≡ Some value
+    by : (b : Bool) → (named_value vars name ≡ Some value → with_value vars name value ≡ vars)
+        → cond b (Some p.1) (named_value vars name) ≡ Some value
         → cond b ((p.0, value) ∷ vars) (p ∷ with_value vars name value) ≡ p ∷ vars
     by true ih h = ap (λ v. (p.0, v) ∷ vars) (sym (same_Some p.1 value h))
     by false ih h = ap (λ (ps : Pairs). p ∷ ps) (ih h)
 
 -- setting a variable to its previous value restores the variables
-value_back : (vars : Pairs) (name value before : List ℕ) → value_of vars name ≡ Some before
+value_back : (vars : Pairs) (name value before : List ℕ) → named_value vars name ≡ Some before
     → with_value (with_value vars name value) name before ≡ vars
 value_back [] name value before e = cc
 value_back (p ∷ vars) name value before e = by (bytes_eq name p.0) refl (value_back vars name value before) e
   where
     by : (b : Bool) → bytes_eq name p.0 ≡ b
-        → (value_of vars name ≡ Some before → with_value (with_value vars name value) name before ≡ vars)
-        → cond b (Some p.1) (value_of vars name) ≡ Some before
+        → (named_value vars name ≡ Some before → with_value (with_value vars name value) name before ≡ vars)
+        → cond b (Some p.1) (named_value vars name) ≡ Some before
         → with_value (cond b ((p.0, value) ∷ vars) (p ∷ with_value vars name value)) name before ≡ p ∷ vars
     by true is ih h =
         ap (λ b. cond b ((p.0, before) ∷ vars) ((p.0, value) ∷ with_value vars name before)) is
@@ -59,16 +60,16 @@ by_last (q ∷ r ∷ vars) p e =
     ap (λ (ps : Pairs). q ∷ ps) (by_last (r ∷ vars) p (ap (λ n. slice_get (q ∷ r ∷ vars) n) (sym at) ∙ e))
     ∙ ap (λ n. take n (q ∷ r ∷ vars) ++ p ∷ []) (sym at)
 
-pub same_variable : (s : Settings) (name value : List ℕ) → value_of s.vars name ≡ Some value
+pub same_variable : (s : Settings) (name value : List ℕ) → named_value s.vars name ≡ Some value
     → with_variable s name value ≡ s
 same_variable s name value e = ap (λ (ps : Pairs). record s { vars = ps }) (same_value s.vars name value e)
 
-pub known_variable : (s : Settings) (name value before : List ℕ) → value_of s.vars name ≡ Some before
+pub known_variable : (s : Settings) (name value before : List ℕ) → named_value s.vars name ≡ Some before
     → with_variable (with_variable s name value) name before ≡ s
 known_variable s name value before e =
     ap (λ (ps : Pairs). record s { vars = ps }) (value_back s.vars name value before e)
 
-pub new_variable : (s : Settings) (name value : List ℕ) → value_of s.vars name ≡ None
+pub new_variable : (s : Settings) (name value : List ℕ) → named_value s.vars name ≡ None
     → without_last_variable (with_variable s name value) ≡ s
 new_variable s name value e =
     ap (λ (ps : Pairs). record s { vars = take (length ps - 1) ps })

@@ -8,9 +8,9 @@ use Rattle.deck_lines.specs.Readings.{entry_in}
 use Rattle.deck_lines.specs.declared.line.DeckLine.{DeckLine}
 use Rattle.deck.specs.Active.{active_lines}
 use Rattle.deck.specs.Decks.{Contents}
-use Rattle.deck.specs.Tables.{TableLaw, definition_by, definitions, definitions_from, table}
-use Rattle.deck.proofs.Changing.{from_place}
-use Rattle.deck.proofs.Placing.{in_place}
+use Rattle.deck.specs.Tables.{DeckTableLaw, active_definitions, definition_by, definitions_from, table}
+use Rattle.deck.proofs.ChangedKeys.{from_place}
+use Rattle.deck.proofs.PlacedDefinitions.{in_place}
 
 -- a line defines at most one key
 one_at_most : (place : ℕ) (active : Bool) (o : Option (Key × Entry)) → length (definition_by place active o) ≤ 1
@@ -33,17 +33,18 @@ from_short place (f ∷ flags) (x ∷ lines) =
 
 -- a table has at most as many entries as there are lines
 short : (d : Contents) → length (table d) ≤ length d.lines
-unfolding definitions
+unfolding active_definitions
 short d =
-    let mapped : length (table d) ≡ length (definitions d.settings d.lines) =
-    length-map (definitions d.settings d.lines) _ in
-    let turned : length (definitions d.settings d.lines)
+    let mapped : length (table d) ≡ length (active_definitions d.settings d.lines) =
+    length-map (active_definitions d.settings d.lines) _ in
+    let turned : length (active_definitions d.settings d.lines)
     ≡ length (definitions_from 0 (active_lines d.settings d.lines) d.lines) = length-reverse _ in
     omega (arith, mapped, turned, from_short 0 (active_lines d.settings d.lines) d.lines)
 
 -- the law of tables
-pub of_lines : TableLaw
+pub of_lines : DeckTableLaw
 of_lines = record {
   short = short;
-  given = λ d k e h. from_place d.lines (definitions d.settings d.lines) (in_place d.settings d.lines) k e h;
+  gives_each = λ d k e h. from_place d.lines (active_definitions d.settings d.lines) (in_place d.settings d.lines) k e
+      h;
 }

@@ -8,7 +8,7 @@ use Rattle.std.proofs.lemmas.List.{get_or-take}
 use Rattle.std.proofs.lemmas.Slice.Eq.{bytes_eq-Decides}
 use Rattle.std.specs.List.{starts_with}
 use Rattle.memchr.specs.Find.{FindsNeedle, OccursAt}
-use Rattle.deck.specs.Holding.{holds}
+use Rattle.deck.specs.SubstringKeys.{holds}
 
 -- all bytes contain the empty text
 pub holds_nothing : (bytes : List ℕ) → holds bytes [] ≡ true

@@ -1,27 +1,29 @@
 -- Lists of variables in two parts.
 use Rattle.std.proofs.Common.{◌≡◌, ◌++◌, ◌∷◌, [], List, ℕ, Bool, true, false, cond, refl, Some, None}
 use Rattle.std.specs.Str.{bytes_eq}
-use Rattle.units_io.specs.Named.{HasNoName, Pairs, value_of}
+use Rattle.units_io.specs.NamedValues.{HasNoName, Pairs, named_value}
 
 -- a value in the first part is the value in both parts together
-pub value_first : (ps qs : Pairs) (name value : List ℕ) → value_of ps name ≡ Some value
-    → value_of (ps ++ qs) name ≡ Some value
+pub value_first : (ps qs : Pairs) (name value : List ℕ) → named_value ps name ≡ Some value
+    → named_value (ps ++ qs) name ≡ Some value
 value_first [] qs name value e = cc
 value_first (p ∷ ps) qs name value e = by (bytes_eq name p.0) (λ h. value_first ps qs name value h) e
   where
-    by : (b : Bool) → (value_of ps name ≡ Some value → value_of (ps ++ qs) name ≡ Some value)
-        → cond b (Some p.1) (value_of ps name) ≡ Some value → cond b (Some p.1) (value_of (ps ++ qs) name) ≡ Some value
+    by : (b : Bool) → (named_value ps name ≡ Some value → named_value (ps ++ qs) name ≡ Some value)
+        → cond b (Some p.1) (named_value ps name) ≡ Some value → cond b (Some p.1) (named_value (ps ++ qs) name) ≡ Some
+        value
     by true ih h = h
     by false ih h = ih h
 
 -- a name that the first part lacks has its value in the second part
-pub value_second : (ps qs : Pairs) (name : List ℕ) → value_of ps name ≡ None
-    → value_of (ps ++ qs) name ≡ value_of qs name
+pub value_second : (ps qs : Pairs) (name : List ℕ) → named_value ps name ≡ None
+    → named_value (ps ++ qs) name ≡ named_value qs name
 value_second [] qs name e = refl
 value_second (p ∷ ps) qs name e = by (bytes_eq name p.0) (λ h. value_second ps qs name h) e
   where
-    by : (b : Bool) → (value_of ps name ≡ None → value_of (ps ++ qs) name ≡ value_of qs name)
-        → cond b (Some p.1) (value_of ps name) ≡ None → cond b (Some p.1) (value_of (ps ++ qs) name) ≡ value_of qs name
+    by : (b : Bool) → (named_value ps name ≡ None → named_value (ps ++ qs) name ≡ named_value qs name)
+        → cond b (Some p.1) (named_value ps name) ≡ None → cond b (Some p.1) (named_value (ps ++ qs) name) ≡ named_value
+        qs name
     by true ih h = cc
     by false ih h = ih h
 

@@ -4,7 +4,7 @@ use Rattle.std.specs.Prelude.{◌&&◌, ℕ, List, [], ◌∷◌, ◌++◌, Bool
 use Rattle.std.specs.Prelude.{Some, None}
 use Rattle.std.specs.List.{list_all}
 use Rattle.std.specs.Str.{bytes_eq}
-use Rattle.units_io.specs.Named.{Pairs, value_of}
+use Rattle.units_io.specs.NamedValues.{Pairs, named_value}
 use Rattle.def_lines.specs.Kinds.{Kind, kind_of, Locale, EndLocale, Set, Var, VarNot, EndVar, Utf8, EndUtf8}
 use Rattle.def_lines.specs.Words.{is_listed}
 use Rattle.deck_lines.specs.declared.line.DeckLine.{DeckLine}
@@ -29,27 +29,27 @@ all_hold around = list_all (λ holds. holds) around.holds
 abbrev pub in_block : Bool → Surroundings → Surroundings
 in_block holds around = record around { holds = holds ∷ around.holds }
 
-abbrev pub outer_blocks : List Bool → List Bool
-outer_blocks [] = []
-outer_blocks (b ∷ holds) = holds
+abbrev pub outer_flags : List Bool → List Bool
+outer_flags [] = []
+outer_flags (b ∷ holds) = holds
 
 -- the state outside of the innermost block
 abbrev pub out_of_block : Surroundings → Surroundings
-out_of_block around = record around { holds = outer_blocks around.holds }
+out_of_block around = record around { holds = outer_flags around.holds }
 
 -- the state after an active line sets a variable, unless it is set already
 abbrev pub with_var : List ℕ → List ℕ → Surroundings → Surroundings
 with_var name value around =
-    if all_hold around && not (is_some (value_of around.vars name))
+    if all_hold around && not (is_some (named_value around.vars name))
     then record around { vars = around.vars ++ (name, value) ∷ [] }
     else around
 
 -- the state after a line of this kind
 abbrev pub behind_kind : List ℕ → Surroundings → Kind → Surroundings
 behind_kind locale around (Locale l) = in_block (bytes_eq l locale) around
-behind_kind locale around (Var name values) = in_block (is_value_listed values (value_of around.vars name)) around
+behind_kind locale around (Var name values) = in_block (is_value_listed values (named_value around.vars name)) around
 behind_kind locale around (VarNot name values) =
-    in_block (not (is_value_listed values (value_of around.vars name))) around
+    in_block (not (is_value_listed values (named_value around.vars name))) around
 behind_kind locale around Utf8 = in_block true around
 behind_kind locale around EndLocale = out_of_block around
 behind_kind locale around EndVar = out_of_block around

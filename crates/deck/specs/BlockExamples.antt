@@ -6,12 +6,12 @@ use Rattle.deck.specs.Active.{active_lines}
 use Rattle.deck.specs.declared.settings.Settings.{Settings}
 
 -- no locale and no variable
-abbrev pub bare : Settings
-bare = record { locale = []; vars = [] }
+abbrev pub no_settings : Settings
+no_settings = record { locale = []; vars = [] }
 
 -- one variable with a value
-abbrev pub big : Settings
-big = record { locale = []; vars = (codes "SIZE", codes "big") ∷ [] }
+abbrev pub big_size : Settings
+big_size = record { locale = []; vars = (codes "SIZE", codes "big") ∷ [] }
 
 -- lines with these texts
 abbrev pub lines : List (List ℕ) → List DeckLine
@@ -22,8 +22,8 @@ abbrev pub unless_big : List DeckLine
 unless_big = lines (codes "!varnot SIZE big" ∷ codes "a !" ∷ codes "!endvar" ∷ codes "b !" ∷ [])
 
 -- a block in a block, a line after the inner one and a line after both
-abbrev pub nested : List DeckLine
-nested = lines (codes "!var SIZE big" ∷ codes "!varnot SIZE big" ∷ codes "a !" ∷ codes "!endvar" ∷ codes "b !"
+abbrev pub nested_blocks : List DeckLine
+nested_blocks = lines (codes "!var SIZE big" ∷ codes "!varnot SIZE big" ∷ codes "a !" ∷ codes "!endvar" ∷ codes "b !"
     ∷ codes "!endvar" ∷ codes "c !" ∷ [])
 
 -- a `!set` in a block that does not hold sets nothing; one after the block sets the variable, and a second one for the
@@ -36,19 +36,19 @@ set_within = lines (codes "!var SIZE big" ∷ codes "!set COLOUR red" ∷ codes 
 -- law: which of these lines are active
 pub record BlockExamplesLaw : Type 0 where
   -- `!varnot` holds if the variable has no value, and does not if it has the value
-  pub not_big : active_lines bare unless_big ≡ true ∷ true ∷ true ∷ true ∷ []
-  pub is_big : active_lines big unless_big ≡ true ∷ false ∷ false ∷ true ∷ []
+  pub not_big : active_lines no_settings unless_big ≡ true ∷ true ∷ true ∷ true ∷ []
+  pub is_big : active_lines big_size unless_big ≡ true ∷ false ∷ false ∷ true ∷ []
   -- if the outer block holds, the inner one does not; if it does not hold, no line in it is active
-  pub inner : active_lines big nested ≡ true ∷ true ∷ false ∷ false ∷ true ∷ true ∷ true ∷ []
-  pub outer : active_lines bare nested ≡ true ∷ false ∷ false ∷ false ∷ false ∷ false ∷ true ∷ []
+  pub inner : active_lines big_size nested_blocks ≡ true ∷ true ∷ false ∷ false ∷ true ∷ true ∷ true ∷ []
+  pub outer : active_lines no_settings nested_blocks ≡ true ∷ false ∷ false ∷ false ∷ false ∷ false ∷ true ∷ []
   -- only the first active `!set` of a variable has an effect
-  pub set_first : active_lines bare set_within
+  pub set_first : active_lines no_settings set_within
       ≡ true ∷ false ∷ false ∷ true ∷ true ∷ true ∷ false ∷ false ∷ true ∷ true ∷ true ∷ []
-  pub set_outside : active_lines big set_within
+  pub set_outside : active_lines big_size set_within
       ≡ true ∷ true ∷ true ∷ true ∷ true ∷ true ∷ true ∷ true ∷ true ∷ false ∷ false ∷ []
   -- `!utf8` always holds
-  pub utf8 : active_lines bare (lines (codes "!utf8" ∷ codes "a !" ∷ codes "!endutf8" ∷ []))
+  pub utf8 : active_lines no_settings (lines (codes "!utf8" ∷ codes "a !" ∷ codes "!endutf8" ∷ []))
       ≡ true ∷ true ∷ true ∷ []
   -- a line with a mark begins no block
-  pub marked : active_lines bare (marked_line 1 (codes "!var SIZE big") ∷ plain_line 2 (codes "a !") ∷ [])
+  pub marked : active_lines no_settings (marked_line 1 (codes "!var SIZE big") ∷ plain_line 2 (codes "a !") ∷ [])
       ≡ false ∷ true ∷ []

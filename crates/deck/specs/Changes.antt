@@ -4,7 +4,7 @@ use Rattle.std.specs.List.{filter}
 use Rattle.std.specs.Str.{bytes_eq}
 use Rattle.def_entry.specs.declared.key.Key.{Key}
 use Rattle.def_entry.specs.Entries.{Entry}
-use Rattle.def_entry.specs.SameKeys.{is_among}
+use Rattle.def_entry.specs.SameKeys.{is_key_among}
 use Rattle.def_entry.specs.Tables.{AreChanged}
 use Rattle.deck.specs.Decks.{Contents}
 use Rattle.deck.specs.Tables.{Table, entry_at, keys_of, table}
@@ -12,7 +12,7 @@ use Rattle.deck.specs.Tables.{Table, entry_at, keys_of, table}
 -- no key occurs in the list twice
 abbrev pub AreOnce : List Key → Type 0
 AreOnce [] = ⊤
-AreOnce (k ∷ keys) = (is_among keys k ≡ false) × AreOnce keys
+AreOnce (k ∷ keys) = (is_key_among keys k ≡ false) × AreOnce keys
 
 -- the keys whose entries differ between two tables, each once
 pub record IsTableChange (before after : Table) (keys : List Key) : Type 0 where
@@ -32,7 +32,7 @@ is_same_entry _ _ = false
 -- each key of a list once, at its last place
 abbrev pub each_once : List Key → List Key
 each_once [] = []
-each_once (k ∷ keys) = if is_among keys k then each_once keys else k ∷ each_once keys
+each_once (k ∷ keys) = if is_key_among keys k then each_once keys else k ∷ each_once keys
 
 -- the keys whose entries in the two tables have different texts
 abbrev pub changed_keys : Table → Table → List Key

@@ -6,7 +6,7 @@ use Rattle.def_entry.specs.declared.fault.EntryFault.{EntryFault}
 use Rattle.def_entry.specs.declared.fault.EntryFault.TheVariants.{BadForm}
 use Rattle.def_entry.specs.declared.key.Key.{Key}
 use Rattle.def_entry.specs.Entries.{Entry}
-use Rattle.def_entry.specs.Reading.{entry_of, has_entry}
+use Rattle.def_entry.specs.EntryReading.{entry_of, has_entry}
 use Rattle.deck_lines.specs.Excerpts.{Excerpt}
 use Rattle.deck_lines.specs.Limits.{pass_limit}
 use Rattle.deck_lines.specs.Marks.{plain_line}
@@ -36,13 +36,13 @@ after_define text d =
     if has_entry (kind_of text) then by_entry (entry_of text) (with_line text d) else Err (BadLine BadForm)
 
 -- the deck without the line at a place
-abbrev pub without : ℕ → Contents → Contents
-without place d = record d { lines = take place d.lines ++ drop (place + 1) d.lines }
+abbrev pub without_line : ℕ → Contents → Contents
+without_line place d = record d { lines = take place d.lines ++ drop (place + 1) d.lines }
 
 -- the deck without the line at a place, or `NoSuchKey` if there is no place
 abbrev pub without_some : Option ℕ → Contents → Result Contents DeckFault
 without_some None d = Err NoSuchKey
-without_some (Some place) d = Ok (without place d)
+without_some (Some place) d = Ok (without_line place d)
 
 -- the outcome of removing the last active line of a key
 abbrev pub after_drop : Key → Contents → Result Contents DeckFault

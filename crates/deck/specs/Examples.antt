@@ -28,12 +28,12 @@ first_lines =
     ∷ []
 
 -- the lines after that line; the last one has a notice
-abbrev pub rest_lines : List DeckLine
-rest_lines = plain_line 8 (codes "!endvar") ∷ marked_line 9 (codes "h 2 +") ∷ []
+abbrev pub example_rest : List DeckLine
+example_rest = plain_line 8 (codes "!endvar") ∷ marked_line 9 (codes "h 2 +") ∷ []
 
 -- all lines of the deck
 abbrev pub all_lines : List DeckLine
-all_lines = first_lines ++ plain_line 7 (codes "g 5 m") ∷ rest_lines
+all_lines = first_lines ++ plain_line 7 (codes "g 5 m") ∷ example_rest
 
 -- settings with this locale
 abbrev pub in_locale : List ℕ → Settings
@@ -48,12 +48,12 @@ abbrev pub deck : Settings → List DeckLine → Contents
 deck settings these = record { lines = these; settings = settings; notices = [] }
 
 -- the key of a unit
-abbrev pub unit : List ℕ → Key
-unit name = key kind.Unit name
+abbrev pub deck_unit : List ℕ → Key
+deck_unit name = key kind.Unit name
 
 -- law: the active lines of the deck, the last places of keys, the results of edits, and the keys that other settings
 -- change
-pub record ExamplesLaw : Type 0 where
+pub record DeckExamplesLaw : Type 0 where
   -- both blocks hold
   pub both : active_lines (in_locale (codes "en_US")) all_lines
       ≡ true ∷ true ∷ true ∷ true ∷ true ∷ true ∷ true ∷ true ∷ false ∷ []
@@ -64,10 +64,10 @@ pub record ExamplesLaw : Type 0 where
   pub neither : active_lines (with_size (codes "en_GB") (codes "small")) all_lines
       ≡ true ∷ true ∷ false ∷ false ∷ true ∷ true ∷ false ∷ false ∷ false ∷ []
   -- the places of `g`, counted from 0, and of a key that only a line with a notice would define
-  pub last : last_place (in_locale (codes "en_US")) all_lines (unit (codes "g")) ≡ Some 6
-  pub first : last_place (with_size (codes "en_US") (codes "small")) all_lines (unit (codes "g")) ≡ Some 2
-  pub nowhere : last_place (with_size (codes "en_GB") (codes "small")) all_lines (unit (codes "g")) ≡ None
-  pub untold : last_place (in_locale (codes "en_US")) all_lines (unit (codes "h")) ≡ None
+  pub last : last_place (in_locale (codes "en_US")) all_lines (deck_unit (codes "g")) ≡ Some 6
+  pub first : last_place (with_size (codes "en_US") (codes "small")) all_lines (deck_unit (codes "g")) ≡ Some 2
+  pub nowhere : last_place (with_size (codes "en_GB") (codes "small")) all_lines (deck_unit (codes "g")) ≡ None
+  pub untold : last_place (in_locale (codes "en_US")) all_lines (deck_unit (codes "h")) ≡ None
   -- a line that is appended, and two lines that are refused
   pub defined : after_define (codes "h 2 g") (deck (in_locale (codes "en_US")) all_lines)
       ≡ Ok (deck (in_locale (codes "en_US")) (all_lines ++ plain_line 0 (codes "h 2 g") ∷ []))
@@ -76,11 +76,12 @@ pub record ExamplesLaw : Type 0 where
   pub directive : after_define (codes "!set SIZE small") (deck (in_locale (codes "en_US")) all_lines)
       ≡ Err (BadLine BadForm)
   -- the last active line of `g` is removed, and the earlier one stays; `h` has no line
-  pub dropped : after_drop (unit (codes "g")) (deck (in_locale (codes "en_US")) all_lines)
-      ≡ Ok (deck (in_locale (codes "en_US")) (first_lines ++ rest_lines))
-  pub undefined : after_drop (unit (codes "h")) (deck (in_locale (codes "en_US")) all_lines) ≡ Err NoSuchKey
+  pub after_drop : after_drop (deck_unit (codes "g")) (deck (in_locale (codes "en_US")) all_lines)
+      ≡ Ok (deck (in_locale (codes "en_US")) (first_lines ++ example_rest))
+  pub no_such_definition : after_drop (deck_unit (codes "h")) (deck (in_locale (codes "en_US")) all_lines) ≡ Err
+      NoSuchKey
   -- settings under which another line of `g` is the last, and settings under which the same line is
-  pub switched : changed_keys (table (deck (in_locale (codes "en_US")) all_lines))
-      (table (deck (with_size (codes "en_US") (codes "small")) all_lines)) ≡ unit (codes "g") ∷ []
+  pub after_switch : changed_keys (table (deck (in_locale (codes "en_US")) all_lines))
+      (table (deck (with_size (codes "en_US") (codes "small")) all_lines)) ≡ deck_unit (codes "g") ∷ []
   pub stays : changed_keys (table (deck (in_locale (codes "en_US")) all_lines))
       (table (deck (in_locale (codes "en_GB")) all_lines)) ≡ []

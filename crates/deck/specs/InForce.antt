@@ -1,6 +1,6 @@
 -- Variables of which one may be changed.
 use Rattle.std.specs.Prelude.{Option, Some, None}
-use Rattle.units_io.specs.Named.{Pairs, with_value}
+use Rattle.units_io.specs.NamedValues.{Pairs, with_value}
 use Rattle.deck.specs.declared.force.in_force.NewValue.{NewValue}
 
 -- variables with the value of a change, if there is one

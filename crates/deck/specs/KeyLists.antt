@@ -6,13 +6,13 @@ use Rattle.std.specs.List.Sorted.{IsStrictlySortedBy}
 use Rattle.def_entry.specs.declared.key.Key.{Key}
 use Rattle.def_entry.specs.declared.key.Kind.{Kind}
 use Rattle.def_entry.specs.KeyOrder.{key_cmp}
-use Rattle.def_entry.specs.SameKeys.{is_among, is_same_kind}
+use Rattle.def_entry.specs.SameKeys.{is_key_among, is_same_kind}
 use Rattle.deck.specs.Changes.{each_once}
 use Rattle.deck.specs.Tables.{Table, is_present, keys_of}
 
 -- all keys that have an entry, in order, each once
 pub record AreKeys (table : Table) (keys : List Key) : Type 0 where
-  pub each : (k : Key) → is_among keys k ≡ is_present table k
+  pub each : (k : Key) → is_key_among keys k ≡ is_present table k
   pub order : IsStrictlySortedBy key_cmp keys
 
 -- the keys of the table, in the order of a finite map
@@ -32,10 +32,10 @@ abbrev pub key_count : Table → Kind → ℕ
 key_count table kind = length (of_kind kind (each_once (keys_of table)))
 
 -- a list of all keys in order, in which the number of keys of each kind is `key_count`
-pub record IsWhole (table : Table) (keys : List Key) : Type 0 where
+pub record AreAllKeys (table : Table) (keys : List Key) : Type 0 where
   pub all : AreKeys table keys
   pub count : (kind : Kind) → length (of_kind kind keys) ≡ key_count table kind
 
 -- law: `table_keys` is such a list
 abbrev pub WholeLaw : Type 0
-WholeLaw = (table : Table) → IsWhole table (table_keys table)
+WholeLaw = (table : Table) → AreAllKeys table (table_keys table)

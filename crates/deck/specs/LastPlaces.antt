@@ -3,13 +3,13 @@ use Rattle.std.specs.Prelude.{◌≡◌, ◌<◌, ℕ, List, length, nat_lt, if�
 use Rattle.std.specs.Option.{option_and_then}
 use Rattle.def_entry.specs.declared.key.Kind.{Kind}
 use Rattle.def_entry.specs.declared.key.Kind.TheVariants as kind
-use Rattle.deck_lines.specs.Closed.{IsClosed}
-use Rattle.deck_lines.specs.Names.{Names, key_at, names_of}
+use Rattle.deck_lines.specs.ClosedBlocks.{AreBlocksClosed}
+use Rattle.deck_lines.specs.Names.{Names, key_numbered, names_of_kind}
 use Rattle.deck_lines.specs.Stores.{Store}
 use Rattle.deck_lines.specs.declared.key_number.KeyNumber.{KeyNumber}
 use Rattle.deck.specs.KeyLists.{key_count}
 use Rattle.deck.specs.KindPlaces.{place_count, place_in, without_gap}
-use Rattle.deck.specs.Tables.{Definitions, definitions, place_of, table_of}
+use Rattle.deck.specs.Tables.{Definitions, active_definitions, place_of, table_of}
 use Rattle.deck.specs.declared.places.last_places.LastPlaces.{LastPlaces}
 use Rattle.deck.specs.declared.settings.Settings.{Settings}
 
@@ -24,12 +24,12 @@ abbrev pub place_at : LastPlaces → KeyNumber → Option ℕ
 place_at last n = place_in (places_of last n.kind) n.number
 
 -- there is room for the place of each key that has a number
-abbrev pub HasRoom : Names → LastPlaces → Type 0
-HasRoom names last = (kind : Kind) → length (names_of names kind) < length (places_of last kind)
+abbrev pub HasPlaceRoom : Names → LastPlaces → Type 0
+HasPlaceRoom names last = (kind : Kind) → length (names_of_kind names kind) < length (places_of last kind)
 
 -- the entry at the number of each key is the place of the last definition of the key, if there is one
 pub record AreLast (names : Names) (ds : Definitions) (last : LastPlaces) : Type 0 where
-  pub place : (n : KeyNumber) → place_at last n ≡ option_and_then (place_of ds) (key_at names n)
+  pub place : (n : KeyNumber) → place_at last n ≡ option_and_then (place_of ds) (key_numbered names n)
   pub count : (kind : Kind) → place_count (places_of last kind) ≡ key_count (table_of ds) kind
 
 -- a place, after the places between `gap` and `end` are decremented
@@ -43,5 +43,5 @@ pub record IsMovedTo (gap end : ℕ) (old now : LastPlaces) : Type 0 where
 
 -- the lines are closed, and `last` has the last places of their keys
 pub record IsIndexed (store : Store) (settings : Settings) (last : LastPlaces) : Type 0 where
-  pub closed : IsClosed store.lines
-  pub places : AreLast store.names (definitions settings store.lines) last
+  pub closed : AreBlocksClosed store.lines
+  pub places : AreLast store.names (active_definitions settings store.lines) last

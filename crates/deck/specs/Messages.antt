@@ -15,9 +15,9 @@ abbrev pub lines_in_force : Contents → List DeckLine
 lines_in_force d = where_true (active_lines d.settings d.lines) d.lines
 
 -- the texts of lines, one line after another
-abbrev pub in_turn : (DeckLine → List (List ℕ)) → List DeckLine → List (List ℕ)
-in_turn texts [] = []
-in_turn texts (line ∷ lines) = texts line ++ in_turn texts lines
+abbrev pub texts_of_lines : (DeckLine → List (List ℕ)) → List DeckLine → List (List ℕ)
+texts_of_lines texts [] = []
+texts_of_lines texts (line ∷ lines) = texts line ++ texts_of_lines texts lines
 
 -- the text of a message line
 abbrev pub message_of : Kind → List (List ℕ)
@@ -33,8 +33,8 @@ definition_in line = if is_some (entry_in line) then line.text ∷ [] else []
 
 -- the messages of the active lines of a deck
 abbrev pub messages : Contents → List (List ℕ)
-messages d = in_turn message_in (lines_in_force d)
+messages d = texts_of_lines message_in (lines_in_force d)
 
 -- the texts of the active lines of a deck that define a key
-abbrev pub defining : Contents → List (List ℕ)
-defining d = in_turn definition_in (lines_in_force d)
+abbrev pub defining_texts : Contents → List (List ℕ)
+defining_texts d = texts_of_lines definition_in (lines_in_force d)

@@ -7,7 +7,7 @@ use Rattle.def_entry.specs.declared.key.Kind.{Kind}
 use Rattle.def_entry.specs.Entries.{Entry}
 use Rattle.def_entry.specs.Keys.{key}
 use Rattle.def_entry.specs.SameKeys.{is_same}
-use Rattle.deck_lines.specs.Edited.{Edited}
+use Rattle.deck_lines.specs.StoreEdits.{StoreEdit}
 use Rattle.deck_lines.specs.Stores.{definition_at}
 use Rattle.deck_lines.specs.declared.key_number.KeyNumber.{KeyNumber}
 use Rattle.deck_lines.specs.declared.line.DeckLine.{DeckLine}
@@ -26,7 +26,7 @@ abbrev pub entry_there : List DeckLine → Option ℕ → Option Entry
 entry_there lines place = option_and_then (λ p. option_map (λ d. d.1) (definition_at lines p)) place
 
 -- the entries of a key before and after an edit have different texts
-abbrev pub differs : Edited → LastPlaces → LastPlaces → KeyNumber → Bool
+abbrev pub differs : StoreEdit → LastPlaces → LastPlaces → KeyNumber → Bool
 differs edited before after n =
     not (is_same_entry (entry_there edited.before (place_at before n)) (entry_there edited.after (place_at after n)))
 

@@ -4,7 +4,7 @@ use Rattle.std.specs.List.{filter_map}
 use Rattle.def_entry.specs.declared.key.Key.{Key}
 use Rattle.def_entry.specs.Entries.{Entry}
 use Rattle.def_entry.specs.Keys.{key}
-use Rattle.deck_lines.specs.Names.{key_at}
+use Rattle.deck_lines.specs.Names.{key_numbered}
 use Rattle.deck_lines.specs.Stores.{Store, definition_at}
 use Rattle.deck_lines.specs.declared.key_number.KeyNumber.{KeyNumber}
 use Rattle.deck_lines.specs.declared.line.DeckLine.{DeckLine}
@@ -36,10 +36,11 @@ IsInPlace lines k = key_there lines k.place ≡ Some (placed_key k)
 -- the line at the last place of each key defines that key
 abbrev pub ArePlaced : Store → LastPlaces → Type 0
 ArePlaced store last =
-    (n : KeyNumber) (place : ℕ) → place_at last n ≡ Some place → key_there store.lines place ≡ key_at store.names n
+    (n : KeyNumber) (place : ℕ) → place_at last n ≡ Some place → key_there store.lines place ≡ key_numbered store.names
+    n
 
 -- the line at the last place of each number defines the key with this number
-abbrev pub AreDefined : Store → LastPlaces → Type 0
-AreDefined store last =
+abbrev pub DefineTheirKeys : Store → LastPlaces → Type 0
+DefineTheirKeys store last =
     (n : KeyNumber) (place : ℕ) → place_at last n ≡ Some place
-    → (d : Key × Entry) × (definition_at store.lines place ≡ Some d) × (key_at store.names n ≡ Some d.0)
+    → (d : Key × Entry) × (definition_at store.lines place ≡ Some d) × (key_numbered store.names n ≡ Some d.0)

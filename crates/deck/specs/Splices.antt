@@ -41,6 +41,6 @@ IsSpliced s old new (Ok done) = (new ≡ after_splice s old) × IsChange old new
 IsSpliced s old new (Err refusal) = (new ≡ old) × (refusal.0 ≡ s)
 
 -- law: the inverse of a splice restores the deck
-abbrev pub InverseLaw : Type 0
-InverseLaw =
+abbrev pub SpliceInverseLaw : Type 0
+SpliceInverseLaw =
     (s : Splice) (d : Contents) → s.at + s.cut ≤ length d.lines → after_splice (inverse s d) (after_splice s d) ≡ d

@@ -29,30 +29,30 @@ definitions_from place (active ∷ flags) (line ∷ lines) =
 definitions_from place _ _ = []
 
 -- the definitions of the active lines among all lines, the last one first
-abbrev pub definitions_by : List Bool → List DeckLine → Definitions
-definitions_by flags lines = reverse (definitions_from 0 flags lines)
+abbrev pub definitions_among : List Bool → List DeckLine → Definitions
+definitions_among flags lines = reverse (definitions_from 0 flags lines)
 
 -- the definitions of the active lines of a deck, the last one first
-unfoldable pub definitions : Settings → List DeckLine → Definitions
-definitions settings lines = definitions_by (active_lines settings lines) lines
+unfoldable pub active_definitions : Settings → List DeckLine → Definitions
+active_definitions settings lines = definitions_among (active_lines settings lines) lines
 
 -- the place of the last active line of a key
 abbrev pub place_of : Definitions → Key → Option ℕ
-place_of definitions k = option_map (λ p. p.0) (lookup (is_same k) definitions)
+place_of active_definitions k = option_map (λ p. p.0) (lookup (is_same k) active_definitions)
 
 abbrev pub last_place : Settings → List DeckLine → Key → Option ℕ
-last_place settings lines k = place_of (definitions settings lines) k
+last_place settings lines k = place_of (active_definitions settings lines) k
 
 -- definitions without their places
 abbrev pub table_of : Definitions → Table
-table_of definitions = map (λ p. (p.0, p.1.1)) definitions
+table_of active_definitions = map (λ p. (p.0, p.1.1)) active_definitions
 
 -- the table of a deck
 abbrev pub table : Contents → Table
-table d = table_of (definitions d.settings d.lines)
+table d = table_of (active_definitions d.settings d.lines)
 
 -- law: a table has at most as many entries as there are lines, and each entry is defined by a line
-pub record TableLaw : Type 0 where
+pub record DeckTableLaw : Type 0 where
   pub short : (d : Contents) → length (table d) ≤ length d.lines
-  pub given : (d : Contents) (k : Key) (e : Entry) → entry_at (table d) k ≡ Some e
+  pub gives_each : (d : Contents) (k : Key) (e : Entry) → entry_at (table d) k ≡ Some e
       → (place : ℕ) × (definition_at d.lines place ≡ Some (k, e))

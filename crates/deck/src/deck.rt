@@ -3,23 +3,23 @@
 ghost use Rattle.std.specs.Prelude.{◌≡◌, ◌≤◌, false, length, map, option_map, IfOk, OnOk};
 ghost use Rattle.def_entry.specs.Keys as key_spec;
 ghost use Rattle.def_entry.specs.Views.{entry_view};
-ghost use Rattle.deck_lines.specs.Closed.{IsClosed};
+ghost use Rattle.deck_lines.specs.ClosedBlocks.{AreBlocksClosed};
 ghost use Rattle.deck_lines.specs.Limits.{most_lines, pass_limit};
-ghost use Rattle.deck_lines.specs.Marks.{unmarked};
+ghost use Rattle.deck_lines.specs.Marks.{line_without_mark};
 ghost use Rattle.deck.specs.KeyLists as lists;
 ghost use Rattle.deck.specs.Tables as tables;
 
-mod appending;
 mod define;
-mod defining;
+mod defining_lines;
 mod drop_last;
+mod entry_hint;
+mod file_append;
+mod file_load;
+mod key_removal;
 mod keys;
 mod lines_from;
-mod loading;
-mod near;
 mod placed_keys;
-mod renumbering;
-mod setting;
+mod setting_change;
 mod snapshot;
 mod splice;
 mod switch;
@@ -75,7 +75,7 @@ impl Deck {
         settings: Settings,
         notices: Texts,
     ) -> Result<Deck, AllocError>
-        requires { IsClosed store.lines }
+        requires { AreBlocksClosed store.lines }
         ensures is { IfOk result (λ d. d ≡ record { lines = store.lines; settings = settings; notices = notices }) }
         ensures within { OnOk result (pass_limit store.lines ≡ false) }
     {
@@ -122,7 +122,7 @@ impl Deck {
 
     /// A lemma: the lines of a deck are closed and within the limits.
     pub fn lines_closed(&self)
-        ensures closed { IsClosed self.now.lines }
+        ensures closed { AreBlocksClosed self.now.lines }
         ensures within { pass_limit self.now.lines ≡ false }
     {
         let _ = self.lines();
@@ -130,8 +130,8 @@ impl Deck {
 
     /// Returns the lines without their marks.
     pub fn lines(&self) -> &Lines
-        ensures is { result.now ≡ map unmarked self.now.lines }
-        ensures closed { IsClosed self.now.lines }
+        ensures is { result.now ≡ map line_without_mark self.now.lines }
+        ensures closed { AreBlocksClosed self.now.lines }
         ensures within { pass_limit self.now.lines ≡ false }
     {
         self.store.lines()

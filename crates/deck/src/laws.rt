@@ -2,18 +2,18 @@
 
 ghost use Rattle.deck.specs.BlockExamples.{BlockExamplesLaw};
 ghost use Rattle.deck.specs.Changes.{ChangedLaw};
-ghost use Rattle.deck.specs.Enclosing.{EnclosingLaw};
-ghost use Rattle.deck.specs.Examples.{ExamplesLaw};
+ghost use Rattle.deck.specs.EnclosingBlocks.{EnclosingLaw};
+ghost use Rattle.deck.specs.Examples.{DeckExamplesLaw};
 ghost use Rattle.deck.specs.KeyLists.{KeyListLaw, WholeLaw};
 ghost use Rattle.deck.specs.SettingChanges.{SettingLaw};
-ghost use Rattle.deck.specs.Splices.{InverseLaw};
-ghost use Rattle.deck.specs.Tables.{TableLaw};
+ghost use Rattle.deck.specs.Splices.{SpliceInverseLaw};
+ghost use Rattle.deck.specs.Tables.{DeckTableLaw};
 
 use def_entry::same_text_law;
 
 /// The inverse of a splice restores the deck.
 pub fn splices_are_undone()
-    ensures { InverseLaw }
+    ensures { SpliceInverseLaw }
 {}
 
 /// A change of one setting is undone by restoring its previous value.
@@ -40,13 +40,13 @@ pub fn table_keys_are_whole()
 
 /// A table has at most as many entries as the deck has lines, and each entry is defined by a line.
 pub fn tables_are_of_lines()
-    ensures { TableLaw }
+    ensures { DeckTableLaw }
 {}
 
 /// The examples hold: a small deck has the active lines and last places, and edits have the results, that were worked
 /// out by hand.
 pub fn examples_law()
-    ensures { ExamplesLaw }
+    ensures { DeckExamplesLaw }
 {}
 
 /// A line is active exactly if it has no mark and each block that encloses it holds.

@@ -4,12 +4,12 @@
 mod deck;
 mod fault;
 mod force;
-mod holding;
 mod laws;
 mod no_files;
 mod places;
 mod settings;
 mod splice;
+mod substring_search;
 
 pub use deck::{BorrowedKey, Deck};
 pub use fault::DeckFault;

@@ -30,7 +30,7 @@ pub(crate) fn question_answer(
         Question::Lines => lines_text(alloc, &all_lines(alloc, deck)?),
         Question::Notices => texts_text(alloc, deck.notices()),
         Question::Messages => texts_text(alloc, &deck.messages(alloc)?),
-        Question::Defining => texts_text(alloc, &deck.defining(alloc)?),
+        Question::Defining => texts_text(alloc, &deck.defining_line_texts(alloc)?),
         Question::Settings => settings_text(alloc, deck.settings()),
         Question::Compare => comparison(alloc, deck, snapshot),
     }

@@ -7,12 +7,12 @@ use Rattle.def_lines.specs.Kinds as line
 use Rattle.def_lines.specs.Kinds.{Kind as LineKind, kind_of}
 use Rattle.def_entry.specs.Entries.{Entry, What}
 use Rattle.def_entry.specs.Headings.{entry_text}
-use Rattle.def_entry.specs.Reading.{entry_of}
+use Rattle.def_entry.specs.EntryReading.{entry_of}
 use Rattle.def_entry.specs.Views.{said_by, what_view}
 use Rattle.def_entry.specs.declared.fault.EntryFault.{EntryFault}
 use Rattle.def_entry.specs.declared.key.Key.{Key}
 use Rattle.def_entry.proofs.Texts.{entry_text_is}
-use Rattle.deck_lines.specs.Kept.{keyed_definition, seen_definition}
+use Rattle.deck_lines.specs.StoredDefinitions.{keyed_definition, seen_definition}
 use Rattle.deck_lines.specs.Names.{Names}
 use Rattle.deck_lines.specs.Readings.{defined_by, entry_in, of_entry, reading_by, reading_of}
 use Rattle.deck_lines.specs.Stores.{definition_at}

@@ -8,14 +8,14 @@ use Rattle.std.proofs.lemmas.List.{length-reverse}
 use Rattle.std.proofs.lemmas.List.Sums.{sum_by-cons}
 use Rattle.std.proofs.lemmas.Option.{same_Some}
 use Rattle.std.specs.Option.{option_and_then}
-use Rattle.deck_lines.specs.Closed.{IsClosed, blocks_after, blocks_past}
+use Rattle.deck_lines.specs.ClosedBlocks.{AreBlocksClosed, blocks_after, blocks_past}
 use Rattle.deck_lines.specs.Exchangeable.{CanExchange}
 use Rattle.deck_lines.specs.Limits.{most_bytes, most_lines, pass_limit, text_len}
 use Rattle.deck_lines.specs.Origins.{exchanged_lines}
 use Rattle.deck_lines.specs.declared.line.DeckLine.{DeckLine}
 use Rattle.deck_lines.specs.declared.line.Ending.{Ending}
-use Rattle.deck_lines.proofs.Finding.{exchanged_len}
-use Rattle.deck_lines.proofs.Replacing.{few_bytes, few_lines}
+use Rattle.deck_lines.proofs.ExchangedItems.{exchanged_len}
+use Rattle.deck_lines.proofs.MarkReplacement.{few_bytes, few_lines}
 
 module _ (all xs rest : List DeckLine) (x : DeckLine) (e : xs ≡ x ∷ rest) where
   texts : text_len xs ≡ length x.text + text_len rest
@@ -33,7 +33,7 @@ module _ (all xs rest : List DeckLine) (x : DeckLine) (e : xs ≡ x ∷ rest) wh
 
   -- if `blocks_past` gives `None` for a line, the lines are not closed
   pub not_closed : (blocks : List Ending) → blocks_after blocks xs ≡ blocks_after [] all → blocks_past blocks x ≡ None
-      → IsClosed all → ⊥
+      → AreBlocksClosed all → ⊥
   not_closed blocks h f closed =
       let none : None ≡ Some [] =
       sym (ap (blocks_after blocks) e ∙ ap (option_and_then (λ now. blocks_after now rest)) f) ∙ h ∙ closed in
@@ -60,7 +60,7 @@ no_items (i ∷ items) e = absurd (omega (arith, e))
 pub at_end : (all : List DeckLine) (items : List Ending) (count room : ℕ) (empty : Bool) → empty ≡ eqb count 0
     → count ≡ length items →
     blocks_after (reverse items) [] ≡ blocks_after [] all → text_len [] + most_bytes ≡ text_len all + room →
-    (empty ≡ true) ↔ (IsClosed all × (text_len all ≤ most_bytes))
+    (empty ≡ true) ↔ (AreBlocksClosed all × (text_len all ≤ most_bytes))
 at_end all items count room empty e c h t = (
   λ y. (sym h ∙ ap (λ bs. Some (reverse bs)) (no_items items (sym c ∙ eqb-true count 0 (sym e ∙ y))), omega (arith, t)),
   λ r. e ∙ eq-eqb count 0 (c ∙ ap length (none_open items (h ∙ r.0))),
@@ -74,7 +74,7 @@ few_and_small lines few small = grind (arith, nat_tests, few, small)
 
 module _ (at cut : ℕ) (put lines : List DeckLine) where
   pub exchangeable : (can : Bool) → at + cut ≤ length lines → length (exchanged_lines at cut put lines) ≤ most_lines →
-      (can ≡ true) ↔ (IsClosed (exchanged_lines at cut put lines)
+      (can ≡ true) ↔ (AreBlocksClosed (exchanged_lines at cut put lines)
       × (text_len (exchanged_lines at cut put lines) ≤ most_bytes)) → (can ≡ true) ↔ CanExchange at cut put lines
   exchangeable can places few is = (
     λ y. record {

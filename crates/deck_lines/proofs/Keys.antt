@@ -6,15 +6,16 @@ use Rattle.def_entry.specs.Keys.{key}
 use Rattle.def_entry.specs.declared.key.Key.{Key}
 use Rattle.def_entry.specs.declared.key.Kind.{Kind}
 use Rattle.def_entry.specs.declared.key.Kind.TheVariants as kind
-use Rattle.deck_lines.specs.Names.{IsExtended, IsOneToOne, Names, key_at, names_of, with_key, with_name, with_names}
+use Rattle.deck_lines.specs.Names.{IsExtended, IsOneToOne, Names, key_numbered, names_of_kind, with_key, with_name}
+use Rattle.deck_lines.specs.Names.{with_names}
 use Rattle.deck_lines.specs.Stores.{with_definition}
 use Rattle.deck_lines.specs.declared.key_number.KeyNumber.{KeyNumber}
-use Rattle.deck_lines.proofs.Numbering.{IsDistinct, distinct_put, kept_at}
+use Rattle.deck_lines.proofs.NameNumbers.{IsDistinct, distinct_put, kept_at}
 
 -- replacing the names of one kind does not change those of the others
 kinds : (names : Names) (a b : Kind) (these : List (List ℕ))
-    → ((a ≡ b) × (names_of (with_names names a these) b ≡ these))
-    ⊎ (names_of (with_names names a these) b ≡ names_of names b)
+    → ((a ≡ b) × (names_of_kind (with_names names a these) b ≡ these))
+    ⊎ (names_of_kind (with_names names a these) b ≡ names_of_kind names b)
 kinds names kind.Unit kind.Unit these = inl (refl, refl)
 kinds names kind.Unit kind.Prefix these = inr refl
 kinds names kind.Unit kind.Func these = inr refl
@@ -41,17 +42,17 @@ found_key a (Some name) k e =
     (ap (λ (x : Key). x.kind) same, ap (λ (x : Key). Some x.name) same)
 
 -- no key has two numbers if no name of a kind has two numbers
-one_each : (names : Names) → ((a : Kind) → IsDistinct (names_of names a)) → IsOneToOne names
+one_each : (names : Names) → ((a : Kind) → IsDistinct (names_of_kind names a)) → IsOneToOne names
 one_each names each m n k p q =
-    let at = found_key m.kind (slice_get (names_of names m.kind) m.number) k p in
-    let too = found_key n.kind (slice_get (names_of names n.kind) n.number) k q in
+    let at = found_key m.kind (slice_get (names_of_kind names m.kind) m.number) k p in
+    let too = found_key n.kind (slice_get (names_of_kind names n.kind) n.number) k q in
     let one = each k.kind m.number n.number k.name
-    (subst (λ a. slice_get (names_of names a) m.number ≡ Some k.name) at.0 at.1)
-    (subst (λ a. slice_get (names_of names a) n.number ≡ Some k.name) too.0 too.1) in
+    (subst (λ a. slice_get (names_of_kind names a) m.number ≡ Some k.name) at.0 at.1)
+    (subst (λ a. slice_get (names_of_kind names a) n.number ≡ Some k.name) too.0 too.1) in
     λ i. record { kind = (at.0 ∙ sym too.0) i; number = one i }
 
 -- if no key has two numbers, the names of each kind are distinct
-distinct_each : (names : Names) → IsOneToOne names → (a : Kind) → IsDistinct (names_of names a)
+distinct_each : (names : Names) → IsOneToOne names → (a : Kind) → IsDistinct (names_of_kind names a)
 distinct_each names one a i j x p q =
     ap (λ (n : KeyNumber). n.number)
     (one (record { kind = a; number = i }) (record { kind = a; number = j }) (key a x) (ap (option_map (key a)) p)
@@ -65,10 +66,10 @@ one_to_one names (Some d) one = one_each (with_key names d.0) each
     k : Key
     k = d.0
 
-    each : (a : Kind) → IsDistinct (names_of (with_key names k) a)
-    each a = elim (kinds names k.kind a (with_name k.name (names_of names k.kind))) [
+    each : (a : Kind) → IsDistinct (names_of_kind (with_key names k) a)
+    each a = elim (kinds names k.kind a (with_name k.name (names_of_kind names k.kind))) [
       | inl h ↦ subst IsDistinct (sym h.1)
-          (distinct_put k.name (names_of names k.kind) (distinct_each names one k.kind))
+          (distinct_put k.name (names_of_kind names k.kind) (distinct_each names one k.kind))
       | inr h ↦ subst IsDistinct (sym h) (distinct_each names one a)
     ]
 
@@ -77,26 +78,26 @@ pub extended : (names : Names) (d : Option (Key × Entry)) → IsExtended names 
 extended names None n k e = e
 extended names (Some d) n k e = ap (option_map (key n.kind)) stays ∙ sym (ap (option_map (key n.kind)) at) ∙ e
   where
-    at : slice_get (names_of names n.kind) n.number ≡ Some k.name
-    at = (found_key n.kind (slice_get (names_of names n.kind) n.number) k e).1
+    at : slice_get (names_of_kind names n.kind) n.number ≡ Some k.name
+    at = (found_key n.kind (slice_get (names_of_kind names n.kind) n.number) k e).1
 
     put : Key
     put = d.0
 
-    stays : slice_get (names_of (with_key names put) n.kind) n.number ≡ Some k.name
-    stays = elim (kinds names put.kind n.kind (with_name put.name (names_of names put.kind))) [
+    stays : slice_get (names_of_kind (with_key names put) n.kind) n.number ≡ Some k.name
+    stays = elim (kinds names put.kind n.kind (with_name put.name (names_of_kind names put.kind))) [
       | inl h ↦
           ap (λ these. slice_get these n.number) h.1
-          ∙ kept_at put.name (names_of names put.kind) n.number k.name
-          (subst (λ a. slice_get (names_of names a) n.number ≡ Some k.name) (sym h.0) at)
+          ∙ kept_at put.name (names_of_kind names put.kind) n.number k.name
+          (subst (λ a. slice_get (names_of_kind names a) n.number ≡ Some k.name) (sym h.0) at)
       | inr h ↦ ap (λ these. slice_get these n.number) h ∙ at
     ]
 
 -- keys keep their numbers when a number is given to one key
 pub key_extended : (names room more : Names) (k : Key) → room ≡ names → more ≡ with_key room k → IsExtended names more
 key_extended names room more k p q n l e =
-    ap (λ (t : Names). key_at t n) q
-    ∙ extended room (Some (k, record { text = []; what = Primitive })) n l (ap (λ (t : Names). key_at t n) p ∙ e)
+    ap (λ (t : Names). key_numbered t n) q
+    ∙ extended room (Some (k, record { text = []; what = Primitive })) n l (ap (λ (t : Names). key_numbered t n) p ∙ e)
 
 -- no key has two numbers after a number is given to one key
 pub key_one_to_one : (names room more : Names) (k : Key) → room ≡ names → more ≡ with_key room k → IsOneToOne names
@@ -107,4 +108,4 @@ key_one_to_one names room more k p q one =
 
 -- the same names extend each other
 pub same_extended : (names more : Names) → more ≡ names → IsExtended names more
-same_extended names more p n l e = ap (λ (t : Names). key_at t n) p ∙ e
+same_extended names more p n l e = ap (λ (t : Names). key_numbered t n) p ∙ e

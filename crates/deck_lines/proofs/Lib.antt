@@ -1,17 +1,17 @@
-pub mod Closing
-mod Defining
-mod Drafting
+pub mod ClosedFile
+mod DefinitionsByNumber
+mod DraftAppends
 pub mod Entries
 mod Exchangeable
-pub mod Exchanging
-pub mod Finding
-pub mod Keeping
+pub mod ListExchanges
+pub mod ExchangedItems
+pub mod MarkLimits
 mod Keys
-mod Loading
-mod Numbering
-mod Renumbered
-pub mod Replacing
-mod Stepping
-mod Storing
-mod Telling
-mod Turning
+mod LoadParts
+mod NameNumbers
+mod RenumberedKeys
+pub mod MarkReplacement
+mod LoadSteps
+mod StoredLines
+mod KnownFileSteps
+mod ListTurns

@@ -1,11 +1,11 @@
 -- The decks of a few texts, worked out by hand.
 use Rattle.std.specs.Prelude.{◌≡◌, ◌∷◌, [], Some, codes}
 use Rattle.units_io.specs.FileMap.{FileMap, file_of}
-use Rattle.deck_lines.specs.Includes.{deck_of, lone_deck_of}
+use Rattle.deck_lines.specs.Includes.{deck_of_file, lone_deck_of}
 use Rattle.deck_lines.specs.Marks.{marked_line, plain_line}
 
 -- law: the decks of a few texts as the file `sub/a.units`, alone and with other files
-pub record ExamplesLaw : Type 0 where
+pub record LineExamplesLaw : Type 0 where
   -- blank lines and comments are not lines of a deck, and the other lines have their numbers in the file
   pub plain : lone_deck_of (codes "sub/a.units") (codes "# lengths\n\nm !\n  ft 12 in # feet\n")
       ≡ record { lines = plain_line 3 (codes "m !") ∷ plain_line 4 (codes "ft 12 in") ∷ []; notices = [] }
@@ -21,7 +21,7 @@ pub record ExamplesLaw : Type 0 where
       }
   -- an end line can close only the innermost block; blocks that are left open are closed at the end of the file,
   -- innermost first, and reported in the order of their lines
-  pub unclosed : lone_deck_of (codes "sub/a.units") (codes "!locale en_US\n!var SIZE big\n!endlocale\ng 3 m\n")
+  pub open_block : lone_deck_of (codes "sub/a.units") (codes "!locale en_US\n!var SIZE big\n!endlocale\ng 3 m\n")
       ≡ record {
         lines =
             plain_line 1 (codes "!locale en_US")
@@ -44,8 +44,8 @@ pub record ExamplesLaw : Type 0 where
         notices = codes "sub/a.units:1: no file: sub/b.units" ∷ [];
       }
   -- the lines of an included file follow the include line, and its blocks end with it
-  pub included : (files : FileMap) → file_of files (codes "sub/b.units") ≡ Some (codes "!utf8\ns !") →
-      deck_of files (codes "sub/a.units") (codes "m !\n!include b.units\n!endutf8\n")
+  pub with_include : (files : FileMap) → file_of files (codes "sub/b.units") ≡ Some (codes "!utf8\ns !") →
+      deck_of_file files (codes "sub/a.units") (codes "m !\n!include b.units\n!endutf8\n")
       ≡ record {
         lines =
             plain_line 1 (codes "m !")

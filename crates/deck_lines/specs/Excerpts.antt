@@ -2,7 +2,7 @@
 use Rattle.std.specs.Prelude.{◌++◌, ℕ, List, [], ◌∷◌, Bool, false, if◌then◌else◌, codes, map, reverse}
 use Rattle.std.specs.Fmt.{decimal}
 use Rattle.def_lines.specs.declared.line.Line.{Line}
-use Rattle.def_lines.specs.Lines.{logical_lines, shown}
+use Rattle.def_lines.specs.Lines.{logical_lines, nonblank_lines}
 use Rattle.deck_lines.specs.Blocks.{end_text, same_ending}
 use Rattle.deck_lines.specs.Marks.{marked_line, plain_line}
 use Rattle.deck_lines.specs.Readings.{Reading, Stands, Defines, Includes, Faulty, reading_of}
@@ -105,4 +105,4 @@ rest_excerpt included file blocks (line ∷ lines) =
 
 -- the deck of a file with this name and these bytes: the excerpts of its logical lines except blank ones
 abbrev pub file_excerpt : (List ℕ → Included) → List ℕ → List ℕ → Excerpt
-file_excerpt included file bytes = rest_excerpt included file [] (shown (logical_lines bytes))
+file_excerpt included file bytes = rest_excerpt included file [] (nonblank_lines (logical_lines bytes))

@@ -1,6 +1,6 @@
 -- When lines may be replaced by others.
 use Rattle.std.specs.Prelude.{◌≡◌, ◌≤◌, ◌+◌, ℕ, List, length, false}
-use Rattle.deck_lines.specs.Closed.{IsClosed}
+use Rattle.deck_lines.specs.ClosedBlocks.{AreBlocksClosed}
 use Rattle.deck_lines.specs.Limits.{pass_limit}
 use Rattle.deck_lines.specs.Origins.{exchanged_lines}
 use Rattle.deck_lines.specs.declared.line.DeckLine.{DeckLine}
@@ -8,5 +8,5 @@ use Rattle.deck_lines.specs.declared.line.DeckLine.{DeckLine}
 -- there are `cut` lines from `at` on, and the resulting lines are closed and within the limits
 pub record CanExchange (at cut : ℕ) (put lines : List DeckLine) : Type 0 where
   pub places : at + cut ≤ length lines
-  pub closed : IsClosed (exchanged_lines at cut put lines)
+  pub closed : AreBlocksClosed (exchanged_lines at cut put lines)
   pub within : pass_limit (exchanged_lines at cut put lines) ≡ false

@@ -1,7 +1,7 @@
 -- The deck of a file and of the files that it includes.
 use Rattle.std.specs.Prelude.{◌==◌, ◌++◌, ℕ, zero, suc, List, [], ◌∷◌, if◌then◌else◌, codes, reverse, Result, Ok, Err}
 use Rattle.units_io.specs.FileMap.{FileMap, file_of, no_files}
-use Rattle.units_io.specs.Fetching.{answer_of}
+use Rattle.units_io.specs.FetchResults.{answer_of}
 use Rattle.units_io.specs.declared.files.FetchFault.{FetchFault}
 use Rattle.units_io.specs.declared.files.FetchFault.TheVariants.{Absent, TooLong, Failed, OutOfMemory}
 use Rattle.def_lines.specs.Lines.{begins_with}
@@ -17,8 +17,8 @@ abbrev pub folder_of : List ℕ → List ℕ
 folder_of name = reverse (from_slash (reverse name))
 
 -- the full name under which the file `name` is looked up if the file `includer` includes it
-abbrev pub beside : List ℕ → List ℕ → List ℕ
-beside includer name = if begins_with 47 name then name else folder_of includer ++ name
+abbrev pub included_name : List ℕ → List ℕ → List ℕ
+included_name includer name = if begins_with 47 name then name else folder_of includer ++ name
 
 -- the result of an include of a file that is not read
 abbrev pub not_read : List ℕ → FetchFault → Included
@@ -36,11 +36,11 @@ of_answer included name (Err fault) = not_read name fault
 unfoldable pub included_below : FileMap → ℕ → List ℕ → Included
 included_below files zero name = NotRead (codes "include too deep: " ++ name)
 included_below files (suc depth) name =
-    of_answer (λ word. included_below files depth (beside name word)) name (answer_of (file_of files name))
+    of_answer (λ word. included_below files depth (included_name name word)) name (answer_of (file_of files name))
 
 -- the result of an include in the file `includer`, by the word of the include
 abbrev pub included_by : FileMap → ℕ → List ℕ → List ℕ → Included
-included_by files depth includer word = included_below files depth (beside includer word)
+included_by files depth includer word = included_below files depth (included_name includer word)
 
 -- the deck of a file with this name and these bytes, if files may be nested this deep below it
 abbrev pub deck_above : FileMap → ℕ → List ℕ → List ℕ → Excerpt
@@ -51,9 +51,9 @@ abbrev pub most_depth : ℕ
 most_depth = 16
 
 -- the deck of a file with this name and these bytes
-unfoldable pub deck_of : FileMap → List ℕ → List ℕ → Excerpt
-deck_of files name bytes = deck_above files most_depth name bytes
+unfoldable pub deck_of_file : FileMap → List ℕ → List ℕ → Excerpt
+deck_of_file files name bytes = deck_above files most_depth name bytes
 
 -- the deck of a file with this name and these bytes if all other files are absent
 abbrev pub lone_deck_of : List ℕ → List ℕ → Excerpt
-lone_deck_of name bytes = deck_of no_files name bytes
+lone_deck_of name bytes = deck_of_file no_files name bytes

@@ -1,6 +1,6 @@
 -- The result of a load.
 use Rattle.std.specs.Prelude.{◌≡◌, ◌++◌, List, [], ◌∷◌, true, map, Some, Result, Ok, Err, OnOk, IsErrOf, ⊤}
-use Rattle.deck_lines.specs.Closed.{blocks_after}
+use Rattle.deck_lines.specs.ClosedBlocks.{blocks_after}
 use Rattle.deck_lines.specs.Excerpts.{Excerpt}
 use Rattle.deck_lines.specs.Limits.{pass_limit}
 use Rattle.deck_lines.specs.Names.{Names}
@@ -24,21 +24,21 @@ with_lines store lines =
     record { lines = store.lines ++ lines; names = with_definitions store.names lines }
 
 -- a draft with more lines and notices appended
-abbrev pub with_excerpt : Draft → Excerpt → Draft
-with_excerpt draft excerpt =
+abbrev pub draft_with_excerpt : Draft → Excerpt → Draft
+draft_with_excerpt draft excerpt =
     record { store = with_lines draft.store excerpt.lines; notices = draft.notices ++ excerpt.notices }
 
 -- this fault may end a load whose complete lines would be these
-abbrev pub MayEnd : List DeckLine → LoadFault → Type 0
-MayEnd lines DeckFull = pass_limit lines ≡ true
-MayEnd lines ReadFailed = ⊤
-MayEnd lines OutOfMemory = ⊤
+abbrev pub MayEndLoad : List DeckLine → LoadFault → Type 0
+MayEndLoad lines DeckFull = pass_limit lines ≡ true
+MayEndLoad lines ReadFailed = ⊤
+MayEndLoad lines OutOfMemory = ⊤
 
 -- a load succeeded and appended the lines and notices of the excerpt, or it failed with a fault that may end it, which
 -- is `DeckFull` only if the lines before and those of the excerpt pass a limit
 abbrev pub IsLoad : Draft → Excerpt → Result (Unit {0}) LoadFault → Draft → Type 0
-IsLoad before excerpt (Ok _) after = after ≡ with_excerpt before excerpt
-IsLoad before excerpt (Err fault) after = MayEnd (before.store.lines ++ excerpt.lines) fault
+IsLoad before excerpt (Ok _) after = after ≡ draft_with_excerpt before excerpt
+IsLoad before excerpt (Err fault) after = MayEndLoad (before.store.lines ++ excerpt.lines) fault
 
 -- the result is not `ReadFailed`, as no file is read
 abbrev pub ReadsNone : Result (Unit {0}) LoadFault → Type 0

@@ -16,8 +16,8 @@ abbrev pub with_mark : Bool → Line → DeckLine
 with_mark mark line = record { number = line.number; text = line.text; mark = mark }
 
 -- a line without its mark
-abbrev pub unmarked : DeckLine → Line
-unmarked line = record { number = line.number; text = line.text }
+abbrev pub line_without_mark : DeckLine → Line
+line_without_mark line = record { number = line.number; text = line.text }
 
 abbrev pub mark_of : DeckLine → Bool
 mark_of line = line.mark

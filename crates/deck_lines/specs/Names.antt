@@ -18,27 +18,27 @@ pub record Names : Type 0 where
 abbrev pub no_names : Names
 no_names = record { units = []; prefixes = []; functions = []; lists = [] }
 
-abbrev pub names_of : Names → Kind → List (List ℕ)
-names_of names kind.Unit = names.units
-names_of names kind.Prefix = names.prefixes
-names_of names kind.Func = names.functions
-names_of names kind.List = names.lists
+abbrev pub names_of_kind : Names → Kind → List (List ℕ)
+names_of_kind names kind.Unit = names.units
+names_of_kind names kind.Prefix = names.prefixes
+names_of_kind names kind.Func = names.functions
+names_of_kind names kind.List = names.lists
 
 -- the key that has this number
-abbrev pub key_at : Names → KeyNumber → Option Key
-key_at names n = option_map (key n.kind) (slice_get (names_of names n.kind) n.number)
+abbrev pub key_numbered : Names → KeyNumber → Option Key
+key_numbered names n = option_map (key n.kind) (slice_get (names_of_kind names n.kind) n.number)
 
 -- no key has two numbers
 abbrev pub IsOneToOne : Names → Type 0
-IsOneToOne names = (m n : KeyNumber) (k : Key) → key_at names m ≡ Some k → key_at names n ≡ Some k → m ≡ n
+IsOneToOne names = (m n : KeyNumber) (k : Key) → key_numbered names m ≡ Some k → key_numbered names n ≡ Some k → m ≡ n
 
 -- each key with a number in the first has the same number in the second
 abbrev pub IsExtended : Names → Names → Type 0
-IsExtended names more = (n : KeyNumber) (k : Key) → key_at names n ≡ Some k → key_at more n ≡ Some k
+IsExtended names more = (n : KeyNumber) (k : Key) → key_numbered names n ≡ Some k → key_numbered more n ≡ Some k
 
 -- the key has a number
 abbrev pub is_numbered : Names → Key → Bool
-is_numbered names k = list_any (bytes_eq k.name) (names_of names k.kind)
+is_numbered names k = list_any (bytes_eq k.name) (names_of_kind names k.kind)
 
 -- names with one more appended, unless it is already among them
 abbrev pub with_name : List ℕ → List (List ℕ) → List (List ℕ)
@@ -53,4 +53,4 @@ with_names names kind.List these = record names { lists = these }
 
 -- names with a number for this key: its own if it has one, or else the next number of its kind
 abbrev pub with_key : Names → Key → Names
-with_key names k = with_names names k.kind (with_name k.name (names_of names k.kind))
+with_key names k = with_names names k.kind (with_name k.name (names_of_kind names k.kind))

@@ -5,7 +5,7 @@ use Rattle.def_entry.specs.declared.key.Key.{Key}
 use Rattle.def_entry.specs.declared.fault.EntryFault.{EntryFault}
 use Rattle.def_entry.specs.Entries.{Entry}
 use Rattle.def_entry.specs.Faults.{entry_fault_text}
-use Rattle.def_entry.specs.Reading.{entry_of}
+use Rattle.def_entry.specs.EntryReading.{entry_of}
 use Rattle.deck_lines.specs.Blocks.{role_of}
 use Rattle.deck_lines.specs.declared.line.DeckLine.{DeckLine}
 use Rattle.deck_lines.specs.declared.line.Role.{Role}

@@ -3,12 +3,12 @@ use Rattle.std.specs.Prelude.{◌≡◌, List, map, Option, Some, option_map}
 use Rattle.def_entry.specs.declared.key.Key.{Key}
 use Rattle.def_entry.specs.Entries.{Entry}
 use Rattle.deck_lines.specs.Loads.{with_definitions}
-use Rattle.deck_lines.specs.Names.{IsOneToOne, Names, key_at, no_names}
+use Rattle.deck_lines.specs.Names.{IsOneToOne, Names, key_numbered, no_names}
 use Rattle.deck_lines.specs.NumberedKeys.{names_in}
 use Rattle.deck_lines.specs.Readings.{entry_in}
 use Rattle.deck_lines.specs.declared.key_number.KeyNumber.{KeyNumber}
 use Rattle.deck_lines.specs.declared.line.DeckLine.{DeckLine}
-use Rattle.deck_lines.specs.declared.store.renumbering.Renumbering.{Renumbering}
+use Rattle.deck_lines.specs.declared.store.new_key_numbers.Renumbering.{Renumbering}
 
 -- the keys that have a number after a renumbering
 abbrev pub names_after : Renumbering → Names
@@ -16,7 +16,7 @@ names_after r = names_in r.keys
 
 -- `numbers` are the numbers of the keys that lines define
 abbrev pub AreNumbers : Names → List (Option KeyNumber) → List (Option (Key × Entry)) → Type 0
-AreNumbers names numbers said = map (option_map (key_at names)) numbers ≡ map (option_map (λ d. Some d.0)) said
+AreNumbers names numbers said = map (option_map (key_numbered names)) numbers ≡ map (option_map (λ d. Some d.0)) said
 
 -- the renumbering has the numbers that keys get if these lines are put into an empty store one after another, and for
 -- each line the number of the key that it defines

@@ -25,6 +25,6 @@ with_definition names None = names
 with_definition names (Some definition) = with_key names definition.0
 
 -- a store with one more line appended
-abbrev pub with_line : Store → DeckLine → Store
-with_line store line =
+abbrev pub store_with_line : Store → DeckLine → Store
+store_with_line store line =
     record { lines = store.lines ++ line ∷ []; names = with_definition store.names (entry_in line) }

@@ -1,9 +1,9 @@
 -- The view of the meaning of a line.
 use Rattle.std.specs.Prelude.{ℕ, List}
-use Rattle.def_entry.specs.Seen.{seen_entry}
+use Rattle.def_entry.specs.LineViews.{seen_entry}
 use Rattle.deck_lines.specs.Readings.{Reading, Stands, Defines, Includes, Faulty}
-use Rattle.deck_lines.specs.declared.reading.Reading.{Reading as LineReading}
-use Rattle.deck_lines.specs.declared.reading.Reading.TheVariants as line
+use Rattle.deck_lines.specs.declared.line_meaning.Reading.{Reading as LineReading}
+use Rattle.deck_lines.specs.declared.line_meaning.Reading.TheVariants as line
 
 abbrev pub seen_reading : List ℕ → LineReading → Reading
 seen_reading text (line.Stands role) = Stands role

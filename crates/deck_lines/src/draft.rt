@@ -1,7 +1,7 @@
 //! The lines and notices that a load has read so far.
 
 ghost use Rattle.std.specs.Prelude.{◌≡◌, ◌++◌, ◌∷◌, [], OnOk, OnErr, false, option_map};
-ghost use Rattle.def_entry.specs.Seen.{seen_entry};
+ghost use Rattle.def_entry.specs.LineViews.{seen_entry};
 ghost use Rattle.deck_lines.specs.Excerpts.{line_with_notice, line_without_notice, notice};
 ghost use Rattle.deck_lines.specs.Limits.{pass_limit};
 ghost use Rattle.deck_lines.specs.Loads.{IsLoad, ReadsNone};

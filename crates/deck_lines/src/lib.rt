@@ -6,16 +6,16 @@ mod draft;
 mod key_number;
 mod laws;
 mod line;
+mod line_meaning;
 mod load;
-mod reading;
 mod store;
 
 pub use draft::{Draft, LoadFault, Notices};
 pub use key_number::KeyNumber;
 pub use laws::{decks_are_closed, examples_law, first_faults_end_loads};
 pub use line::{Block, BorrowedLine, DeckLine, DeckLines, Ending, MarkedLines, Role};
+pub use line_meaning::{Reading, read_line};
 pub use load::load_text;
-pub use reading::{Reading, read_line};
 pub use store::{
     EditedLines, LineStore, MOST_BYTES, MOST_LINES, PutDefinitions, Renumbering, can_exchange,
 };

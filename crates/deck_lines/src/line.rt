@@ -28,7 +28,7 @@ pub struct BorrowedLine<'a> {
 
 impl DeckLine {
     /// Borrows the line, without a copy.
-    pub fn borrowed(&self) -> BorrowedLine<'_>
+    pub fn borrow_line(&self) -> BorrowedLine<'_>
         ensures { self.now ≡ record { number = result.number; text = result.text.now; mark = result.mark } }
     {
         BorrowedLine {

@@ -9,18 +9,18 @@ use Rattle.expr_tree.specs.Names.{is_name}
 use Rattle.def_entry.specs.declared.key.Key.{Key}
 use Rattle.def_entry.specs.Entries.{Entry}
 use Rattle.def_entry.specs.EntryGrammar.{EntryLaw, IsEntry}
-use Rattle.def_entry.specs.HeadingGrammar.{Lead, NoLead, PlusLead, WrittenHeading, UnitHeading, PrefixHeading}
+use Rattle.def_entry.specs.HeadingGrammar.{LeadText, NoLead, PlusLead, WrittenHeading, UnitHeading, PrefixHeading}
 use Rattle.def_entry.specs.HeadingGrammar.{FuncHeading, ListHeading, bytes, heading_of, is_head, is_heading, is_lead}
-use Rattle.def_entry.specs.HeadingGrammar.{is_list_name, lead}
-use Rattle.def_entry.specs.Headings.{Heading, ends_in_minus, is_opened, stands_apart}
-use Rattle.def_entry.specs.Reading.{entry_of, has_entry}
+use Rattle.def_entry.specs.HeadingGrammar.{is_list_name, with_lead}
+use Rattle.def_entry.specs.Headings.{Heading, ends_in_minus, has_bracket, stands_apart}
+use Rattle.def_entry.specs.EntryReading.{entry_of, has_entry}
 use Rattle.deck_save.specs.SavedLines.{stays}
 use Rattle.deck_save.proofs.PlainBytes.{all_both}
 use Rattle.deck_save.proofs.Forms.{forms_stay}
 use Rattle.deck_save.proofs.Names.{blanks_stay, name_stays, untrimmed_stays}
 
-lead_stays : (l : Lead) (rest : List ℕ) → is_lead l rest ≡ true → list_all stays rest ≡ true
-    → list_all stays (lead l rest) ≡ true
+lead_stays : (l : LeadText) (rest : List ℕ) → is_lead l rest ≡ true → list_all stays rest ≡ true
+    → list_all stays (with_lead l rest) ≡ true
 lead_stays NoLead rest is clear = clear
 lead_stays (PlusLead blanks) rest is clear = all_both stays blanks rest
     (blanks_stay blanks (and_parts (list_all is_blank blanks) (is_begun rest) is).0) clear
@@ -41,7 +41,7 @@ heading_stays (PrefixHeading l name behind) whole named clear =
     lead_stays l (name ++ (45 ∷ behind)) (and_parts (is_lead l (name ++ (45 ∷ behind))) (is_head name) a.0).0
     (all_both stays name (45 ∷ behind) (name_stays name named) (untrimmed_stays behind clear))
 heading_stays (FuncHeading l name behind) whole named clear =
-    let a : ((is_lead l (name ++ behind) && is_head name) ≡ true) × (is_opened behind ≡ true) = and_parts _ _ whole in
+    let a : ((is_lead l (name ++ behind) && is_head name) ≡ true) × (has_bracket behind ≡ true) = and_parts _ _ whole in
     lead_stays l (name ++ behind) (and_parts (is_lead l (name ++ behind)) (is_head name) a.0).0
     (all_both stays name behind (name_stays name named) (untrimmed_stays behind clear))
 heading_stays (ListHeading before between name behind) whole named clear =

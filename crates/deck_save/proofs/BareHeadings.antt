@@ -6,21 +6,21 @@ use Rattle.std.proofs.lemmas.Bool.{and_parts, not-true, or_parts, true≢false}
 use Rattle.std.proofs.lemmas.List.{reverse-append, reverse-reverse}
 use Rattle.units_io.specs.Blanks.{is_blank}
 use Rattle.def_lines.specs.Blanks.{after_blanks, before_blanks}
-use Rattle.def_lines.specs.Kinds.{Definition, UnitList, beside, directive_kind, directives, kind_of}
+use Rattle.def_lines.specs.Kinds.{Definition, UnitList, directive_kind, directive_of_word, directives, kind_of}
 use Rattle.def_lines.specs.Kinds.{marked_kind}
 use Rattle.def_lines.specs.Parts.{is_begun}
 use Rattle.def_lines.specs.Words.{behind_word, is_empty}
-use Rattle.def_lines.proofs.Trimming.{before_blanks-word}
+use Rattle.def_lines.proofs.TrimmedTexts.{before_blanks-word}
 use Rattle.expr_tree.specs.Names.{is_name}
 use Rattle.def_entry.specs.declared.key.Key.{Key}
 use Rattle.def_entry.specs.declared.key.Kind.TheVariants.{Unit as UnitKind, Prefix, Func, List as ListKind}
 use Rattle.def_entry.specs.Entries.{Entry}
 use Rattle.def_entry.specs.EntryGrammar.{IsEntry}
-use Rattle.def_entry.specs.HeadingGrammar.{Lead, NoLead, PlusLead, WrittenHeading, UnitHeading, PrefixHeading}
+use Rattle.def_entry.specs.HeadingGrammar.{LeadText, NoLead, PlusLead, WrittenHeading, UnitHeading, PrefixHeading}
 use Rattle.def_entry.specs.HeadingGrammar.{FuncHeading, ListHeading, bytes, heading_of, is_head, is_heading, is_lead}
-use Rattle.def_entry.specs.HeadingGrammar.{is_list_name, lead}
-use Rattle.def_entry.specs.Headings.{Heading, ends_in_minus, is_opened, stands_apart}
-use Rattle.def_entry.specs.Reading.{has_entry}
+use Rattle.def_entry.specs.HeadingGrammar.{is_list_name, with_lead}
+use Rattle.def_entry.specs.Headings.{Heading, ends_in_minus, has_bracket, stands_apart}
+use Rattle.def_entry.specs.EntryReading.{has_entry}
 use Rattle.def_entry.proofs.Fronts.{apart-before_blanks, before-at, before_blanks-front, stops-apart}
 use Rattle.def_entry.proofs.Fronts.{trimmed-before_blanks}
 use Rattle.def_entry.proofs.WrittenHeadings.{opened_not_apart}
@@ -78,7 +78,7 @@ named name behind is =
     longer [] some = absurd (true≢false some)
     longer (b ∷ xs) some = refl
 
-led : (l : Lead) (text bare : List ℕ) → EndsAs text bare → EndsAs (lead l text) (lead l bare)
+led : (l : LeadText) (text bare : List ℕ) → EndsAs text bare → EndsAs (with_lead l text) (with_lead l bare)
 led NoLead text bare ends = ends
 led (PlusLead blanks) text bare ends = in_front (43 ∷ blanks) text bare ends
 
@@ -115,15 +115,15 @@ bare_same (ListHeading before between name behind) =
 
 -- without these blanks it is still a heading
 
-bare_lead : (l : Lead) (name x y : List ℕ) → is_name name ≡ true → is_lead l (name ++ x) ≡ true
+bare_lead : (l : LeadText) (name x y : List ℕ) → is_name name ≡ true → is_lead l (name ++ x) ≡ true
     → is_lead l (name ++ y) ≡ true
 bare_lead l [] x y is leads = absurd (true≢false (sym is))
 bare_lead NoLead (b ∷ name) x y is leads = leads
 bare_lead (PlusLead blanks) (b ∷ name) x y is leads = leads
 
-bare_opened : (behind : List ℕ) → is_opened behind ≡ true → is_opened (before_blanks behind) ≡ true
+bare_opened : (behind : List ℕ) → has_bracket behind ≡ true → has_bracket (before_blanks behind) ≡ true
 bare_opened [] opened = opened
-bare_opened (b ∷ behind) opened = ap is_opened (before_blanks-word b behind (opened_not_apart (b ∷ behind) opened).0)
+bare_opened (b ∷ behind) opened = ap has_bracket (before_blanks-word b behind (opened_not_apart (b ∷ behind) opened).0)
     ∙ opened
 
 bare_between : (between name x y : List ℕ) → is_name name ≡ true → stands_apart (between ++ (name ++ x)) ≡ true
@@ -151,7 +151,7 @@ bare_whole (PrefixHeading l name behind) whole is =
     (λ i. bare_lead l name (45 ∷ behind) (45 ∷ before_blanks behind) is c.0 i && c.1 i && apart-before_blanks behind a.1
     i)
 bare_whole (FuncHeading l name behind) whole is =
-    let a : ((is_lead l (name ++ behind) && is_head name) ≡ true) × (is_opened behind ≡ true) = and_parts _ _ whole in
+    let a : ((is_lead l (name ++ behind) && is_head name) ≡ true) × (has_bracket behind ≡ true) = and_parts _ _ whole in
     let c : (is_lead l (name ++ behind) ≡ true) × (is_head name ≡ true) = and_parts _ _ a.0 in
     (λ i. bare_lead l name behind (before_blanks behind) is c.0 i && c.1 i && bare_opened behind a.1 i)
 bare_whole (ListHeading before between name behind) whole is =
@@ -200,8 +200,8 @@ other_mark b line e = ap (λ t. has_entry (cond t (marked_kind (after_blanks lin
 plus_mark : (line : List ℕ) → has_entry (kind_of (43 ∷ line)) ≡ true
 plus_mark line = other_mark 43 line refl
 
-led_kind : (l : Lead) (name behind : List ℕ) → is_name name ≡ true → is_lead l (name ++ behind) ≡ true
-    → has_entry (kind_of (lead l (name ++ behind))) ≡ true
+led_kind : (l : LeadText) (name behind : List ℕ) → is_name name ≡ true → is_lead l (name ++ behind) ≡ true
+    → has_entry (kind_of (with_lead l (name ++ behind))) ≡ true
 led_kind l [] behind is leads = absurd (true≢false (sym is))
 led_kind NoLead (b ∷ name) behind is leads = other_mark b (name ++ behind)
     (or_parts (b == 33) (b == 43) (not-true (b == 33 || b == 43) leads)).0
@@ -212,7 +212,7 @@ list_kind : (before rest : List ℕ) → list_all is_blank before ≡ true → s
 unfolding kind_of
 list_kind before rest blank apart =
     ap marked_kind (after_blanks-front before (codes "unitlist" ++ rest) blank refl)
-    ∙ ap (λ w. directive_kind (beside w directives) (behind_word (codes "unitlist" ++ rest)))
+    ∙ ap (λ w. directive_kind (directive_of_word w directives) (behind_word (codes "unitlist" ++ rest)))
     (before-at is_blank (codes "unitlist") rest refl (stops-apart rest apart))
 
 has_kind : (w : WrittenHeading) → is_heading w ≡ true → is_name (heading_of w).name ≡ true
@@ -227,7 +227,7 @@ has_kind (PrefixHeading l name behind) whole is =
     and_parts _ _ whole in
     led_kind l name (45 ∷ behind) is (and_parts (is_lead l (name ++ (45 ∷ behind))) (is_head name) a.0).0
 has_kind (FuncHeading l name behind) whole is =
-    let a : ((is_lead l (name ++ behind) && is_head name) ≡ true) × (is_opened behind ≡ true) = and_parts _ _ whole in
+    let a : ((is_lead l (name ++ behind) && is_head name) ≡ true) × (has_bracket behind ≡ true) = and_parts _ _ whole in
     led_kind l name behind is (and_parts (is_lead l (name ++ behind)) (is_head name) a.0).0
 has_kind (ListHeading before between name behind) whole is =
     let a : ((list_all is_blank before && list_all is_blank between && stands_apart (between ++ (name ++ behind)) &&

@@ -8,17 +8,18 @@ use Rattle.std.proofs.lemmas.Bool.{and_from, and_parts, eqb-false, eqb-true, tru
 use Rattle.std.proofs.lemmas.List.Folds.{length-prefix_len}
 use Rattle.std.proofs.Math.Seq.{take-add}
 use Rattle.units_io.specs.Blanks.{is_blank}
-use Rattle.frac128.specs.Decimals.{read}
+use Rattle.frac128.specs.Decimals.{numeral_reading}
 use Rattle.frac128.specs.Numerals.{is_digit, numeral_len_of}
 use Rattle.expr_tree.specs.declared.fault.ParseFault.{ParseFault}
 use Rattle.expr_tree.specs.declared.fault.ParseFault.TheVariants.{Syntax as SyntaxFault, NumeralTooLong}
-use Rattle.expr_tree.specs.Faults.{fault_at, fault_from, first_fault, or_later, takes_numeral}
-use Rattle.expr_tree.specs.Lexemes.{Lexeme, Blank, Whole, TooLong, Malformed, Piece, Placed, front, is_numeral}
-use Rattle.expr_tree.specs.Lexemes.{is_opened, is_pointed, lexemes, lexemes_from, mark, mark_piece, numeral}
-use Rattle.expr_tree.specs.Lexemes.{numeral_piece, other_word, piece, token_in, tokens, word_front}
+use Rattle.expr_tree.specs.Faults.{fault_from, first_fault, lexeme_fault, or_later, takes_numeral}
+use Rattle.expr_tree.specs.Lexemes.{Lexeme, Blank, Whole, TooLong, Malformed, Piece, Placed, front, is_numeral_lexeme}
+use Rattle.expr_tree.specs.Lexemes.{begins_with_point, byte_lexeme, has_paren, lexemes, lexemes_from, mark_piece}
+use Rattle.expr_tree.specs.Lexemes.{numeral_lexeme}
+use Rattle.expr_tree.specs.Lexemes.{lexeme_piece, numeral_piece, other_word, token_in, tokens, word_front}
 use Rattle.expr_tree.specs.Names.{is_name, is_refused, is_word_byte, word_of}
-use Rattle.expr_tree.specs.Parsed.{fault_or_tree, parsed}
-use Rattle.expr_tree.specs.Reading.{tree_of}
+use Rattle.expr_tree.specs.ParseResult.{fault_or_tree, parse_of}
+use Rattle.expr_tree.specs.TokenReading.{tree_of}
 use Rattle.expr_tree.specs.Syntax.{Syntax}
 use Rattle.expr_tree.specs.Tokens.{Token, Head, Word, Caret}
 use Rattle.def_entry.proofs.CutTexts.{front-clear}
@@ -51,18 +52,18 @@ word_stays : (text : List ℕ) → list_all stays (take (word_len text) text) �
 word_stays text = all_stay is_word_byte refl refl refl (take (word_len text) text) (front-clear is_word_byte text)
 
 -- a word and the `(` after it stay
-opened_stays : (text : List ℕ) (n : ℕ) → list_all stays (take n text) ≡ true → is_opened (drop n text) ≡ true
+opened_stays : (text : List ℕ) (n : ℕ) → list_all stays (take n text) ≡ true → has_paren (drop n text) ≡ true
     → list_all stays (take (n + 1) text) ≡ true
 opened_stays text n clear opened = ap (list_all stays) (take-add n 1 text)
     ∙ all_both stays (take n text) (take 1 (drop n text)) clear (go (drop n text) opened)
   where
-    go : (rest : List ℕ) → is_opened rest ≡ true → list_all stays (take 1 rest) ≡ true
+    go : (rest : List ℕ) → has_paren rest ≡ true → list_all stays (take 1 rest) ≡ true
     go [] opened = refl
     go (b ∷ rest) opened = and_from (stays b) true (ap stays (eqb-true b 40 opened)) refl
 
 word_covers : (b : ℕ) (bytes : List ℕ) → is_word_byte b ≡ true → IsCovered (b ∷ bytes) (word_front (b ∷ bytes)).len
 word_covers b bytes word = go (is_name (word_of (b ∷ bytes)) || is_refused (word_of (b ∷ bytes)))
-    (is_opened (drop (word_len (b ∷ bytes)) (b ∷ bytes))) refl
+    (has_paren (drop (word_len (b ∷ bytes)) (b ∷ bytes))) refl
   where
     len_is : length (word_of (b ∷ bytes)) ≡ word_len (b ∷ bytes)
     len_is = length-prefix_len is_word_byte (b ∷ bytes)
@@ -75,11 +76,11 @@ word_covers b bytes word = go (is_name (word_of (b ∷ bytes)) || is_refused (wo
     alone : IsCovered (b ∷ bytes) (length (word_of (b ∷ bytes)))
     alone = subst (IsCovered (b ∷ bytes)) (sym len_is) (record { some = some; clear = word_stays (b ∷ bytes) })
 
-    go : (s t : Bool) → is_opened (drop (word_len (b ∷ bytes)) (b ∷ bytes)) ≡ t
+    go : (s t : Bool) → has_paren (drop (word_len (b ∷ bytes)) (b ∷ bytes)) ≡ t
         → IsCovered (b ∷ bytes)
-        (cond s (cond t (piece (Whole (Head (word_of (b ∷ bytes)))) (length (word_of (b ∷ bytes)) + 1))
-        (piece (Whole (Word (word_of (b ∷ bytes)))) (length (word_of (b ∷ bytes)))))
-        (piece (other_word (word_of (b ∷ bytes))) (length (word_of (b ∷ bytes))))).len
+        (cond s (cond t (lexeme_piece (Whole (Head (word_of (b ∷ bytes)))) (length (word_of (b ∷ bytes)) + 1))
+        (lexeme_piece (Whole (Word (word_of (b ∷ bytes)))) (length (word_of (b ∷ bytes)))))
+        (lexeme_piece (other_word (word_of (b ∷ bytes))) (length (word_of (b ∷ bytes))))).len
     go true true opened = subst (λ n. IsCovered (b ∷ bytes) (n + 1)) (sym len_is)
         (record {
           some = omega arith;
@@ -95,10 +96,11 @@ numeral_covers : (text : List ℕ) → is_sound (numeral_piece text).lexeme ≡ 
 numeral_covers text sound = go (numeral_len_of text == 0) refl sound
   where
     go : (t : Bool) → (numeral_len_of text == 0) ≡ t
-        → is_sound (cond t (piece Malformed 1)
-        (piece (numeral (read (take (numeral_len_of text) text))) (numeral_len_of text))).lexeme ≡ true
-        → IsCovered text (cond t (piece Malformed 1)
-        (piece (numeral (read (take (numeral_len_of text) text))) (numeral_len_of text))).len
+        → is_sound (cond t (lexeme_piece Malformed 1)
+        (lexeme_piece (numeral_lexeme (numeral_reading (take (numeral_len_of text) text)))
+        (numeral_len_of text))).lexeme ≡ true
+        → IsCovered text (cond t (lexeme_piece Malformed 1)
+        (lexeme_piece (numeral_lexeme (numeral_reading (take (numeral_len_of text) text))) (numeral_len_of text))).len
     go true e sound = cc
     go false e sound =
         let none : numeral_len_of text ≡ 0 → ⊥ = eqb-false (numeral_len_of text) 0 e in
@@ -116,8 +118,8 @@ mark_covers b bytes sound = go (b == 42 && slice_index (b ∷ bytes) 1 == 42) re
     second (c ∷ text) e = and_from (stays c) true (ap stays (eqb-true c 42 e)) refl
 
     go : (t : Bool) → (b == 42 && slice_index (b ∷ bytes) 1 == 42) ≡ t
-        → is_sound (cond t (piece (Whole Caret) 2) (piece (mark b) 1)).lexeme ≡ true
-        → IsCovered (b ∷ bytes) (cond t (piece (Whole Caret) 2) (piece (mark b) 1)).len
+        → is_sound (cond t (lexeme_piece (Whole Caret) 2) (lexeme_piece (byte_lexeme b) 1)).lexeme ≡ true
+        → IsCovered (b ∷ bytes) (cond t (lexeme_piece (Whole Caret) 2) (lexeme_piece (byte_lexeme b) 1)).len
     go true e sound =
         let stars : ((b == 42) ≡ true) × ((slice_index (b ∷ bytes) 1 == 42) ≡ true) =
         and_parts (b == 42) (slice_index (b ∷ bytes) 1 == 42) e in
@@ -126,23 +128,23 @@ mark_covers b bytes sound = go (b == 42 && slice_index (b ∷ bytes) 1 == 42) re
           clear = and_from (stays b) (list_all stays (take 1 bytes))
               (ap stays (eqb-true b 42 stars.0)) (second bytes stars.1);
         }
-    go false e sound = one b bytes (stays_by (λ c. is_sound (mark c)) refl refl refl b sound)
+    go false e sound = one b bytes (stays_by (λ c. is_sound (byte_lexeme c)) refl refl refl b sound)
 
 -- any lexeme that may occur covers its bytes
 lexeme_covers : (after_numeral : Bool) (b : ℕ) (bytes : List ℕ)
     → is_sound (front after_numeral (b ∷ bytes)).lexeme ≡ true
     → IsCovered (b ∷ bytes) (front after_numeral (b ∷ bytes)).len
 lexeme_covers after_numeral b bytes sound =
-    go (is_blank b) refl (after_numeral && is_pointed (b ∷ bytes)) (is_digit b || is_pointed (b ∷ bytes))
+    go (is_blank b) refl (after_numeral && begins_with_point (b ∷ bytes)) (is_digit b || begins_with_point (b ∷ bytes))
     (is_word_byte b) refl sound
   where
     go : (s : Bool) → is_blank b ≡ s → (t u v : Bool) → is_word_byte b ≡ v
-        → is_sound (cond s (piece Blank 1)
-        (cond t (piece Malformed 1)
+        → is_sound (cond s (lexeme_piece Blank 1)
+        (cond t (lexeme_piece Malformed 1)
         (cond u (numeral_piece (b ∷ bytes)) (cond v (word_front (b ∷ bytes)) (mark_piece (b ∷ bytes)))))).lexeme ≡ true
         → IsCovered (b ∷ bytes)
-        (cond s (piece Blank 1)
-        (cond t (piece Malformed 1)
+        (cond s (lexeme_piece Blank 1)
+        (cond t (lexeme_piece Malformed 1)
         (cond u (numeral_piece (b ∷ bytes)) (cond v (word_front (b ∷ bytes)) (mark_piece (b ∷ bytes)))))).len
     go true e t u v f sound = one b bytes (stays_by is_blank refl refl refl b e)
     go false e true u v f sound = absurd (true≢false (sym sound))
@@ -164,10 +166,12 @@ lexemes_cover (suc covered) after_numeral place (b ∷ bytes) sound clear =
 lexemes_cover zero after_numeral place (b ∷ bytes) sound clear =
     let first : Piece = front after_numeral (b ∷ bytes) in
     let parts : (is_sound first.lexeme ≡ true)
-    × (list_all (λ x. is_sound x.lexeme) (lexemes_from (first.len - 1) (is_numeral first.lexeme) (suc place) bytes)
+    × (list_all (λ x. is_sound x.lexeme)
+    (lexemes_from (first.len - 1) (is_numeral_lexeme first.lexeme) (suc place) bytes)
     ≡ true) =
     and_parts (is_sound first.lexeme)
-    (list_all (λ x. is_sound x.lexeme) (lexemes_from (first.len - 1) (is_numeral first.lexeme) (suc place) bytes))
+    (list_all (λ x. is_sound x.lexeme)
+    (lexemes_from (first.len - 1) (is_numeral_lexeme first.lexeme) (suc place) bytes))
     sound in
     let covers : IsCovered (b ∷ bytes) first.len = lexeme_covers after_numeral b bytes parts.0 in
     let next : first.len ≡ suc (first.len - 1) = omega (arith, covers.some) in
@@ -175,7 +179,7 @@ lexemes_cover zero after_numeral place (b ∷ bytes) sound clear =
     and_parts (stays b) (list_all stays (take (first.len - 1) bytes))
     (ap (λ n. list_all stays (take n (b ∷ bytes))) (sym next) ∙ covers.clear) in
     and_from (stays b) (list_all stays bytes) both.0
-    (lexemes_cover (first.len - 1) (is_numeral first.lexeme) (suc place) bytes parts.1 both.1)
+    (lexemes_cover (first.len - 1) (is_numeral_lexeme first.lexeme) (suc place) bytes parts.1 both.1)
 
 -- in a text without a fault each lexeme may occur
 
@@ -183,7 +187,7 @@ neither : (a b : Option ParseFault) → or_later a b ≡ None → (a ≡ None) �
 neither (Some x) b e = cc
 neither None b e = (refl, e)
 
-no_fault : (last : _) (opened depth place : ℕ) (x : Lexeme) → fault_at last opened depth place x ≡ None
+no_fault : (last : _) (opened depth place : ℕ) (x : Lexeme) → lexeme_fault last opened depth place x ≡ None
     → is_sound x ≡ true
 no_fault last opened depth place Blank e = refl
 no_fault last opened depth place (Whole t) e = refl
@@ -203,9 +207,9 @@ no_faults before len (x ∷ xs) e =
     and_from (is_sound x.lexeme) (list_all (λ y. is_sound y.lexeme) xs) (no_fault _ _ _ x.place x.lexeme parts.0)
     (no_faults (before ++ token_in x.lexeme) len xs parts.1)
 
-faultless : (binder : Option (List ℕ)) (text : List ℕ) (e : Syntax) → parsed binder text ≡ Ok e
+faultless : (binder : Option (List ℕ)) (text : List ℕ) (e : Syntax) → parse_of binder text ≡ Ok e
     → first_fault text ≡ None
-unfolding parsed
+unfolding parse_of
 faultless binder text e is = go (first_fault text) refl is
   where
     go : (found : Option ParseFault) → first_fault text ≡ found → fault_or_tree (length text) found
@@ -213,7 +217,7 @@ faultless binder text e is = go (first_fault text) refl is
     go None f is = f
     go (Some x) f is = cc
 
-pub expressions_stay : (binder : Option (List ℕ)) (text : List ℕ) (e : Syntax) → parsed binder text ≡ Ok e
+pub expressions_stay : (binder : Option (List ℕ)) (text : List ℕ) (e : Syntax) → parse_of binder text ≡ Ok e
     → list_all stays text ≡ true
 expressions_stay binder text e is =
     lexemes_cover 0 false 0 text (no_faults [] (length text) (lexemes text) (faultless binder text e is)) refl

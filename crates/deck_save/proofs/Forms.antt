@@ -3,16 +3,17 @@ use Rattle.std.proofs.Common.{◌≡◌, inl, inr, ◌++◌, ◌∷◌, [], ℕ,
 use Rattle.std.proofs.Common.{refl, ap, ◌∙◌}
 use Rattle.std.specs.List.{join_with_byte, list_all}
 use Rattle.std.proofs.lemmas.Bool.{and_from}
-use Rattle.def_lines.specs.Blanks.{trimmed}
+use Rattle.def_lines.specs.Blanks.{trim_of}
 use Rattle.expr_tree.specs.Names.{is_name}
 use Rattle.expr_tree.specs.Syntax.{Syntax}
 use Rattle.def_entry.specs.declared.key.Kind.{Kind}
 use Rattle.def_entry.specs.declared.key.Kind.TheVariants as kind
 use Rattle.def_entry.specs.Entries.{What, Body, Function, FunctionDef, Alias, Table, TableDef, ListOf}
-use Rattle.def_entry.specs.EntryGrammar.{AreTreesOf, HasFurtherName, HasInnerName, IsSaidOf, IsTreeOf, Parameter, Says}
+use Rattle.def_entry.specs.EntryGrammar.{AreTreesOf, HasFurtherName, HasInnerName, IsDefinitionOf, IsSaidOf, IsTreeOf}
+use Rattle.def_entry.specs.EntryGrammar.{Parameter}
 use Rattle.def_entry.specs.EntryGrammar.{Target}
-use Rattle.def_entry.specs.FormGrammar.{AreBodies, AreParts, IsAlias, IsBracketed, IsFunction, IsTable, IsTarget}
-use Rattle.def_entry.specs.FormGrammar.{IsWritten}
+use Rattle.def_entry.specs.FormGrammar.{AreBodies, AreParts, IsAlias, IsBracketed, IsFunctionForm, IsTable, IsTarget}
+use Rattle.def_entry.specs.FormGrammar.{IsSpelledAs}
 use Rattle.def_entry.specs.FormGrammar.{WrittenForm, PrimitiveForm, DimensionlessForm, BodyForm, FunctionForm}
 use Rattle.def_entry.specs.FormGrammar.{AliasForm, TableForm, ListForm}
 use Rattle.def_entry.specs.Forms.{Form}
@@ -47,14 +48,14 @@ bodies_stay name text forward (Some inverse) tree are clear says =
     ∙ all_both stays front (59 ∷ behind) (trimmed_to front forward are.4.0 clear)
     (trimmed_to behind inverse are.5.0 (expressions_stay (Some name) inverse says.0 says.1))
 
-function_stays : (name text parameter : List ℕ) (form : Form) (f : FunctionDef) → IsFunction text parameter form
+function_stays : (name text parameter : List ℕ) (form : Form) (f : FunctionDef) → IsFunctionForm text parameter form
     → IsSaidOf name parameter form f
     → is_name parameter ≡ true → list_all stays text ≡ true
 function_stays name text parameter form f is says named =
     let bodies : list_all stays is.bodies ≡ true =
     bodies_stay name is.bodies form.forward form.inverse f.inverse is.bodies_are
     (expressions_stay (Some parameter) form.forward f.forward says.forward) says.inverse in
-    bracket_stays 40 41 text is.inside is.behind is.bracketed refl refl
+    bracket_stays 40 41 text is.inside is.behind is.has_brackets refl refl
     (trimmed_to is.inside parameter is.parameter_is.0 (name_stays parameter named))
     (options_stay is.behind is.bodies form.options is.options_are
     (said_units_stay form.options.units f.in_unit f.out_unit says.in_unit says.out_unit) bodies)
@@ -65,27 +66,28 @@ target_stays text target (inr is) clear = ap (list_all stays) is.0 ∙ clear
 
 alias_stays : (text target : List ℕ) → IsAlias text target → is_name target ≡ true → list_all stays text ≡ true
 alias_stays text target is named =
-    bracket_stays 40 41 text is.inside is.behind is.bracketed refl refl (trimmed_to is.inside [] is.blank refl)
-    (untrimmed_stays is.behind (target_stays (trimmed is.behind) target is.target_is (name_stays target named)))
+    bracket_stays 40 41 text is.inside is.behind is.has_brackets refl refl (trimmed_to is.inside [] is.blank refl)
+    (untrimmed_stays is.behind (target_stays (trim_of is.behind) target is.target_is (name_stays target named)))
 
-table_stays : (text unit points : List ℕ) (t : TableDef) → IsTable text unit points → Says [] (TableForm unit points)
+table_stays : (text unit points : List ℕ) (t : TableDef) → IsTable text unit points
+    → IsDefinitionOf [] (TableForm unit points)
     (Table t) → list_all stays text ≡ true
 table_stays text unit points t is says =
-    bracket_stays 91 93 text is.inside points is.bracketed refl refl
+    bracket_stays 91 93 text is.inside points is.has_brackets refl refl
     (trimmed_to is.inside unit is.unit_is.0 (expressions_stay None unit t.unit says.0))
     (points_stay points t.points says.1.0)
 
 -- lists
 
-part_stays : (pieces : List (List ℕ)) (es : List Syntax) → AreTreesOf (map trimmed pieces) es
+part_stays : (pieces : List (List ℕ)) (es : List Syntax) → AreTreesOf (map trim_of pieces) es
     → list_all stays (join_with_byte 59 pieces) ≡ true
 part_stays [] es are = refl
 part_stays (piece ∷ []) [] are = absurd are
-part_stays (piece ∷ []) (e ∷ es) are = untrimmed_stays piece (expressions_stay None (trimmed piece) e are.0)
+part_stays (piece ∷ []) (e ∷ es) are = untrimmed_stays piece (expressions_stay None (trim_of piece) e are.0)
 part_stays (piece ∷ next ∷ pieces) [] are = absurd are
 part_stays (piece ∷ next ∷ pieces) (e ∷ es) are =
     all_both stays piece (59 ∷ join_with_byte 59 (next ∷ pieces))
-    (untrimmed_stays piece (expressions_stay None (trimmed piece) e are.0)) (part_stays (next ∷ pieces) es are.1)
+    (untrimmed_stays piece (expressions_stay None (trim_of piece) e are.0)) (part_stays (next ∷ pieces) es are.1)
 
 list_stays : (text : List ℕ) (parts : List (List ℕ)) (es : List Syntax) → AreParts text parts → AreTreesOf parts es
     → list_all stays text ≡ true
@@ -94,17 +96,17 @@ list_stays text parts es are trees =
 
 -- forms of any kind
 
-body_stays : (name text body : List ℕ) (what : What) → text ≡ body → Says name (BodyForm body) what
+body_stays : (name text body : List ℕ) (what : What) → text ≡ body → IsDefinitionOf name (BodyForm body) what
     → list_all stays text ≡ true
 body_stays name text body (Body e) same says = ap (list_all stays) same ∙ expressions_stay None body e says
 body_stays name text body _ same says = absurd says
 
-func_stays : (name text : List ℕ) (form : WrittenForm) (what : What) → IsWritten kind.Func text form
-    → Says name form what
+func_stays : (name text : List ℕ) (form : WrittenForm) (what : What) → IsSpelledAs kind.Func text form
+    → IsDefinitionOf name form what
     → ((w : List ℕ) → HasInnerName text w → is_name w ≡ true) → list_all stays text ≡ true
 func_stays name text (FunctionForm parameter form) (Function f) is says named =
     function_stays name text parameter form f is says
-    (named parameter (Parameter is.inside is.behind is.bracketed is.parameter_is))
+    (named parameter (Parameter is.inside is.behind is.has_brackets is.parameter_is))
 func_stays name text (AliasForm target) (Alias other) is says named = alias_stays text target is
     (named target (Target is))
 func_stays name text (TableForm unit points) (Table t) is says named = table_stays text unit points t is says
@@ -113,8 +115,8 @@ func_stays name text (AliasForm target) _ is says named = absurd says
 func_stays name text (TableForm unit points) _ is says named = absurd says
 func_stays name text _ what is says named = absurd is
 
-pub forms_stay : (of : Kind) (name text : List ℕ) (form : WrittenForm) (what : What) → IsWritten of text form
-    → Says name form what
+pub forms_stay : (of : Kind) (name text : List ℕ) (form : WrittenForm) (what : What) → IsSpelledAs of text form
+    → IsDefinitionOf name form what
     → ((w : List ℕ) → HasFurtherName of text w → is_name w ≡ true) → list_all stays text ≡ true
 forms_stay kind.Unit name text PrimitiveForm what is says named = ap (list_all stays) is
 forms_stay kind.Unit name text DimensionlessForm what is says named = ap (list_all stays) is

@@ -5,28 +5,28 @@ use Rattle.std.specs.Prelude.{nat_lt}
 use Rattle.std.proofs.lemmas.Bool.{le-leb, ltb-false, or_parts}
 use Rattle.std.proofs.lemmas.List.{length-map}
 use Rattle.units_io.specs.FileMap.{FileMap, file_of, longest_file, no_files}
-use Rattle.units_io.specs.Fetching.{answer_of}
+use Rattle.units_io.specs.FetchResults.{answer_of}
 use Rattle.units_io.specs.declared.files.FetchFault.TheVariants.{TooLong}
-use Rattle.def_lines.specs.Blanks.{trimmed}
-use Rattle.def_lines.specs.Lines.{logical_lines, shown}
+use Rattle.def_lines.specs.Blanks.{trim_of}
+use Rattle.def_lines.specs.Lines.{logical_lines, nonblank_lines}
 use Rattle.def_entry.specs.declared.key.Key.{Key}
 use Rattle.def_entry.specs.Entries.{Entry}
 use Rattle.def_entry.specs.EntryGrammar.{EntryLaw}
 use Rattle.deck_lines.specs.Excerpts.{Excerpt}
-use Rattle.deck_lines.specs.Includes.{beside, deck_of, lone_deck_of, most_depth}
+use Rattle.deck_lines.specs.Includes.{deck_of_file, included_name, lone_deck_of, most_depth}
 use Rattle.def_lines.specs.declared.line.Line.{Line}
-use Rattle.deck_lines.specs.Steps.{AreStepsBelow, AreStepsBy, AreStepsOfRest, Step, outcome_of}
+use Rattle.deck_lines.specs.Steps.{AreStepsBelow, AreStepsBy, AreStepsOfRest, Step, steps_outcome}
 use Rattle.deck_lines.specs.Limits.{most_bytes, most_lines, pass_limit, text_len}
 use Rattle.deck.specs.Active.{active_lines}
 use Rattle.deck.specs.Decks.{Contents}
 use Rattle.deck.specs.Edits.{with_excerpt, within}
-use Rattle.deck.specs.Loading.{ComesTo, after_load, after_text, empty_deck, lines_alone, of_load, with_answer}
-use Rattle.deck.specs.Messages.{defining}
+use Rattle.deck.specs.FileLoads.{ComesTo, after_load, after_text, empty_deck, lines_alone, of_load, with_answer}
+use Rattle.deck.specs.Messages.{defining_texts}
 use Rattle.deck.specs.declared.fault.DeckFault.{DeckFault}
 use Rattle.deck.specs.declared.fault.DeckFault.TheVariants.{DeckFull}
 use Rattle.deck.specs.declared.settings.Settings.{Settings}
 use Rattle.deck_save.specs.Laws.{CanBeSaved, GivesBack, IsGivenBack}
-use Rattle.deck_save.specs.Saved.{saved, saved_texts}
+use Rattle.deck_save.specs.SavedText.{saved_text, saved_texts}
 use Rattle.deck_save.specs.SavedLines.{saved_lines}
 use Rattle.deck_save.proofs.InForce.{entries, kept_count, kept_give, loaded_entries, loaded_texts, table_entries}
 use Rattle.deck_save.proofs.LoadedLines.{plain_excerpt, plain_lines, plain_within, saved_texts_are_loaded}
@@ -34,8 +34,8 @@ use Rattle.deck_save.proofs.LoadSteps.{steps_load}
 use Rattle.deck_save.proofs.ReadLines.{saved_lines_are_read_back}
 use Rattle.deck_save.proofs.SavedTexts.{AreGiving, are_plain}
 
-saved_is : (d : Contents) → saved d ≡ saved_lines (saved_texts d)
-unfolding saved
+saved_is : (d : Contents) → saved_text d ≡ saved_lines (saved_texts d)
+unfolding saved_text
 saved_is d = refl
 
 -- the definitions of the active lines of a deck
@@ -60,8 +60,8 @@ module _ (law : EntryLaw) (d : Contents) where
         ∙ sym (table_entries d.settings d.lines);
   }
 
-  deck_is : (files : FileMap) (name : List ℕ) → deck_of files name (saved d) ≡ plain_excerpt 1 (saved_texts d)
-  deck_is files name = ap (deck_of files name) (saved_is d) ∙ saved_texts_are_loaded files name (saved_texts d)
+  deck_is : (files : FileMap) (name : List ℕ) → deck_of_file files name (saved_text d) ≡ plain_excerpt 1 (saved_texts d)
+  deck_is files name = ap (deck_of_file files name) (saved_is d) ∙ saved_texts_are_loaded files name (saved_texts d)
       (defined d) give
 
   module _ (can : CanBeSaved d) where
@@ -72,7 +72,13 @@ module _ (law : EntryLaw) (d : Contents) where
 
     room : pass_limit (plain_lines 1 (saved_texts d)) ≡ false
     room = plain_within 1 (saved_texts d)
-        (omega (arith, few, kept_count (active_lines d.settings d.lines) d.lines, length-map (defining d) trimmed))
+        (omega (
+          arith,
+          few,
+          kept_count (active_lines d.settings d.lines) d.lines,
+          length-map (defining_texts d)
+              trim_of,
+        ))
         (omega (arith, can.short, ap length (saved_is d)))
 
     -- the excerpt is appended to the empty deck
@@ -84,43 +90,45 @@ module _ (law : EntryLaw) (d : Contents) where
 
     is_back : (settings : Settings) (outcome : Result Contents DeckFault) → outcome ≡ Ok (given settings)
         → IsGivenBack d settings outcome
-    is_back settings outcome is = record { loaded = given settings; is = is; told = refl; back = back settings }
+    is_back settings outcome is = record { load_result = given settings; is = is; told = refl; back = back settings }
 
-    fetched : (files : FileMap) (name : List ℕ) → file_of files name ≡ Some (saved d)
-        → answer_of (file_of files name) ≡ Ok (saved d)
-    fetched files name is = ap answer_of is ∙ ap (λ t. cond t (Ok (saved d)) (Err TooLong))
-        (le-leb (length (saved d)) longest_file can.short)
+    fetched : (files : FileMap) (name : List ℕ) → file_of files name ≡ Some (saved_text d)
+        → answer_of (file_of files name) ≡ Ok (saved_text d)
+    fetched files name is = ap answer_of is ∙ ap (λ t. cond t (Ok (saved_text d)) (Err TooLong))
+        (le-leb (length (saved_text d)) longest_file can.short)
 
-    pub from_file : (files : FileMap) (name : List ℕ) (settings : Settings) → file_of files name ≡ Some (saved d)
+    pub from_file : (files : FileMap) (name : List ℕ) (settings : Settings) → file_of files name ≡ Some (saved_text d)
         → IsGivenBack d settings (after_load files name settings)
     from_file files name settings is =
         is_back settings (after_load files name settings)
         (ap (λ a. with_answer files name a (empty_deck settings)) (fetched files name is)
-        ∙ put settings (deck_of files name (saved d)) (deck_is files name))
+        ∙ put settings (deck_of_file files name (saved_text d)) (deck_is files name))
 
-    pub from_text : (name : List ℕ) (settings : Settings) → IsGivenBack d settings (after_text (saved d) name settings)
-    from_text name settings = is_back settings (after_text (saved d) name settings)
-        (put settings (lone_deck_of name (saved d)) (deck_is no_files name))
+    pub from_text : (name : List ℕ) (settings : Settings)
+        → IsGivenBack d settings (after_text (saved_text d) name settings)
+    from_text name settings = is_back settings (after_text (saved_text d) name settings)
+        (put settings (lone_deck_of name (saved_text d)) (deck_is no_files name))
 
     -- the steps of a load, whatever the contents of the files are
     stepped : (includes : List ℕ → Line → List Step → Type 0) (name : List ℕ) (steps : List Step)
-        → AreStepsBy includes name (saved d) steps
-        → outcome_of (lines_alone []) steps ≡ Ok (plain_excerpt 1 (saved_texts d))
+        → AreStepsBy includes name (saved_text d) steps
+        → steps_outcome (lines_alone []) steps ≡ Ok (plain_excerpt 1 (saved_texts d))
     stepped includes name steps are =
         steps_load includes name 1 (saved_texts d) (defined d) steps (lines_alone []) give
         (subst (λ ls. AreStepsOfRest includes name [] ls steps)
-        (ap (λ t. shown (logical_lines t)) (saved_is d) ∙ saved_lines_are_read_back (saved_texts d)
+        (ap (λ t. nonblank_lines (logical_lines t)) (saved_is d) ∙ saved_lines_are_read_back (saved_texts d)
         (are_plain (saved_texts d) (defined d) give)) are)
         room
 
     pub from_answer : (files : Option FileMap) (name : List ℕ) (outcome : Result Excerpt DeckFault)
-        → ComesTo files name (lines_alone []) (Ok (saved d)) outcome
+        → ComesTo files name (lines_alone []) (Ok (saved_text d)) outcome
         → (read : Excerpt) × (outcome ≡ Ok read)
         × ((settings : Settings)
         → GivesBack d (record { lines = read.lines; settings = settings; notices = read.notices }))
     from_answer files name outcome comes = (
       plain_excerpt 1 (saved_texts d),
       comes.2
-          ∙ ap of_load (stepped (λ word. AreStepsBelow files most_depth name (beside name word)) name comes.0 comes.1),
+          ∙ ap of_load (stepped (λ word. AreStepsBelow files most_depth name (included_name name word)) name comes.0
+          comes.1),
       back,
     )

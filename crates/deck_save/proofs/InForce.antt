@@ -3,19 +3,19 @@ use Rattle.std.proofs.Common.{◌≡◌, ◌+◌, ◌++◌, ◌∷◌, [], ◌�
 use Rattle.std.proofs.Common.{length, map, reverse, Option, Some, None, refl, sym, ap, ◌∙◌, arith, true≢false}
 use Rattle.std.specs.Option.{is_some}
 use Rattle.std.proofs.lemmas.List.{map-append, reverse-append}
-use Rattle.def_lines.specs.Blanks.{trimmed}
+use Rattle.def_lines.specs.Blanks.{trim_of}
 use Rattle.def_lines.specs.Kinds as line
 use Rattle.def_lines.specs.Kinds.{Kind as LineKind, kind_of}
 use Rattle.def_entry.specs.declared.key.Key.{Key}
 use Rattle.def_entry.specs.Entries.{Entry}
 use Rattle.def_entry.specs.EntryGrammar.{EntryLaw}
-use Rattle.def_entry.specs.Reading.{has_entry}
+use Rattle.def_entry.specs.EntryReading.{has_entry}
 use Rattle.deck_lines.specs.Marks.{plain_line}
 use Rattle.deck_lines.specs.Readings.{entry_in}
 use Rattle.deck_lines.specs.declared.line.DeckLine.{DeckLine}
 use Rattle.deck.specs.Active.{Surroundings, active_lines, activity, all_hold, behind_kind, behind_line, start}
-use Rattle.deck.specs.Messages.{definition_in, in_turn, where_true}
-use Rattle.deck.specs.Tables.{definition_by, definitions, definitions_from, table_of}
+use Rattle.deck.specs.Messages.{definition_in, texts_of_lines, where_true}
+use Rattle.deck.specs.Tables.{active_definitions, definition_by, definitions_from, table_of}
 use Rattle.deck.specs.declared.settings.Settings.{Settings}
 use Rattle.deck_save.proofs.LoadedLines.{plain_lines}
 use Rattle.deck_save.proofs.ReadLines.{number_behind}
@@ -56,9 +56,10 @@ map-reverse f (x ∷ xs) =
     ∙ ap (λ t. t ++ f x ∷ []) (map-reverse f xs)
     ∙ sym (reverse-append (f x ∷ []) (map f xs))
 
-pub table_entries : (settings : Settings) (lines : List DeckLine) → table_of (definitions settings lines) ≡ reverse
+pub table_entries : (settings : Settings) (lines : List DeckLine)
+    → table_of (active_definitions settings lines) ≡ reverse
     (entries (active_lines settings lines) lines)
-unfolding definitions
+unfolding active_definitions
 table_entries settings lines =
     map-reverse (λ (p : Key × (ℕ × Entry)). (p.0, p.1.1)) (definitions_from 0 (active_lines settings lines) lines)
     ∙ ap reverse (stripped 0 (active_lines settings lines) lines)
@@ -66,28 +67,31 @@ table_entries settings lines =
 -- the texts of these lines, without the blanks at their ends, give the same definitions
 
 module _ (law : EntryLaw) (x : DeckLine) (texts : List (List ℕ)) (ds : List (Key × Entry))
-    (rest : AreGiving (map trimmed texts) ds) where
+    (rest : AreGiving (map trim_of texts) ds) where
   active_gives : (d : Option (Key × Entry)) → entry_in x ≡ d
-      → AreGiving (map trimmed (cond (is_some d) (x.text ∷ []) [] ++ texts)) (entry_by true d ++ ds)
+      → AreGiving (map trim_of (cond (is_some d) (x.text ∷ []) [] ++ texts)) (entry_by true d ++ ds)
   active_gives None e = rest
   active_gives (Some d) e = (saved_gives law x d e, rest)
 
-  passive_gives : (d : Option (Key × Entry)) → AreGiving (map trimmed texts) (entry_by false d ++ ds)
+  passive_gives : (d : Option (Key × Entry)) → AreGiving (map trim_of texts) (entry_by false d ++ ds)
   passive_gives None = rest
   passive_gives (Some d) = rest
 
 pub kept_give : EntryLaw → (flags : List Bool) (lines : List DeckLine)
-    → AreGiving (map trimmed (in_turn definition_in (where_true flags lines))) (entries flags lines)
+    → AreGiving (map trim_of (texts_of_lines definition_in (where_true flags lines))) (entries flags lines)
 kept_give law [] lines = tt
 kept_give law (active ∷ flags) [] = tt
 kept_give law (active ∷ flags) (x ∷ lines) = go active (kept_give law flags lines)
   where
-    go : (t : Bool) → AreGiving (map trimmed (in_turn definition_in (where_true flags lines))) (entries flags lines)
-        → AreGiving (map trimmed (in_turn definition_in (cond t (x ∷ where_true flags lines) (where_true flags lines))))
+    go : (t : Bool) → AreGiving (map trim_of (texts_of_lines definition_in (where_true flags lines)))
+        (entries flags lines)
+        → AreGiving (map trim_of
+        (texts_of_lines definition_in (cond t (x ∷ where_true flags lines) (where_true flags lines))))
         (entry_by t (entry_in x) ++ entries flags lines)
-    go true rest = active_gives law x (in_turn definition_in (where_true flags lines)) (entries flags lines) rest
+    go true rest = active_gives law x (texts_of_lines definition_in (where_true flags lines)) (entries flags lines) rest
         (entry_in x) refl
-    go false rest = passive_gives law x (in_turn definition_in (where_true flags lines)) (entries flags lines) rest
+    go false rest = passive_gives law x (texts_of_lines definition_in (where_true flags lines)) (entries flags lines)
+        rest
         (entry_in x)
 
 -- there are at most as many texts as lines
@@ -99,16 +103,17 @@ one_more x texts = go (is_some (entry_in x))
     go true = omega arith
     go false = omega arith
 
-pub kept_count : (flags : List Bool) (lines : List DeckLine) → length (in_turn definition_in (where_true flags lines)) ≤
+pub kept_count : (flags : List Bool) (lines : List DeckLine)
+    → length (texts_of_lines definition_in (where_true flags lines)) ≤
     length lines
 kept_count [] lines = omega arith
 kept_count (active ∷ flags) [] = omega arith
 kept_count (active ∷ flags) (x ∷ lines) = go active (kept_count flags lines)
   where
-    go : (t : Bool) → length (in_turn definition_in (where_true flags lines)) ≤ length lines
-        → length (in_turn definition_in (cond t (x ∷ where_true flags lines) (where_true flags lines))) ≤ suc
+    go : (t : Bool) → length (texts_of_lines definition_in (where_true flags lines)) ≤ length lines
+        → length (texts_of_lines definition_in (cond t (x ∷ where_true flags lines) (where_true flags lines))) ≤ suc
         (length lines)
-    go true rest = omega (arith, rest, one_more x (in_turn definition_in (where_true flags lines)))
+    go true rest = omega (arith, rest, one_more x (texts_of_lines definition_in (where_true flags lines)))
     go false rest = omega (arith, rest)
 
 -- a deck made of such texts
@@ -145,7 +150,7 @@ all_defined n (text ∷ texts) (d ∷ ds) give =
     (λ i. entry_by true (plain_entry n text d give.0.reading i) ++ all_defined (number_behind n text) texts ds give.1 i)
 
 all_texts : (n : ℕ) (texts : List (List ℕ)) (ds : List (Key × Entry)) → AreGiving texts ds
-    → in_turn definition_in (where_true (map (λ t. true) texts) (plain_lines n texts)) ≡ texts
+    → texts_of_lines definition_in (where_true (map (λ t. true) texts) (plain_lines n texts)) ≡ texts
 all_texts n [] ds give = refl
 all_texts n (text ∷ texts) [] give = absurd give
 all_texts n (text ∷ texts) (d ∷ ds) give =
@@ -160,7 +165,7 @@ module _ (settings : Settings) (n : ℕ) (texts : List (List ℕ)) (ds : List (K
     pub loaded_entries : entries (active_lines settings (plain_lines n texts)) (plain_lines n texts) ≡ ds
     loaded_entries = ap (λ (f : List Bool). entries f (plain_lines n texts)) flags_are ∙ all_defined n texts ds give
 
-    pub loaded_texts : in_turn definition_in
+    pub loaded_texts : texts_of_lines definition_in
         (where_true (active_lines settings (plain_lines n texts)) (plain_lines n texts)) ≡ texts
-    loaded_texts = ap (λ (f : List Bool). in_turn definition_in (where_true f (plain_lines n texts))) flags_are
+    loaded_texts = ap (λ (f : List Bool). texts_of_lines definition_in (where_true f (plain_lines n texts))) flags_are
         ∙ all_texts n texts ds give

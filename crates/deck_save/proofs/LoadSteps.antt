@@ -12,7 +12,7 @@ use Rattle.deck_lines.specs.Excerpts.{Excerpt, blocks_behind_line, in_turn, line
 use Rattle.deck_lines.specs.Limits.{most_bytes, most_lines, pass_limit, text_len}
 use Rattle.deck_lines.specs.Marks.{plain_line}
 use Rattle.deck_lines.specs.Readings.{Reading, Defines, reading_of}
-use Rattle.deck_lines.specs.Steps.{Step, Gives, AreStepsOfLine, AreStepsOfRest, outcome_of}
+use Rattle.deck_lines.specs.Steps.{Step, Gives, AreStepsOfLine, AreStepsOfRest, steps_outcome}
 use Rattle.deck_lines.specs.declared.draft.LoadFault.TheVariants.{DeckFull}
 use Rattle.deck_lines.specs.declared.line.DeckLine.{DeckLine}
 use Rattle.deck_save.proofs.LoadedLines.{plain_excerpt, plain_lines}
@@ -40,12 +40,12 @@ line_step includes file line reading d steps e are = subst (λ r. AreStepsOfLine
 
 -- a step within the limits is followed by the other steps
 put : (before e : Excerpt) (steps : List Step) → pass_limit (before.lines ++ e.lines) ≡ false
-    → outcome_of before (Gives e ∷ steps) ≡ outcome_of (in_turn before e) steps
-unfolding outcome_of
-put before e steps within = ap (λ t. cond t (Err DeckFull) (outcome_of (in_turn before e) steps)) within
+    → steps_outcome before (Gives e ∷ steps) ≡ steps_outcome (in_turn before e) steps
+unfolding steps_outcome
+put before e steps within = ap (λ t. cond t (Err DeckFull) (steps_outcome (in_turn before e) steps)) within
 
-ended : (before : Excerpt) → outcome_of before [] ≡ Ok before
-unfolding outcome_of
+ended : (before : Excerpt) → steps_outcome before [] ≡ Ok before
+unfolding steps_outcome
 ended before = refl
 
 -- the excerpt of the texts is that of the first text followed by that of the others
@@ -61,10 +61,11 @@ pub steps_load : (includes : List ℕ → Line → List Step → Type 0) (file :
     (ds : List (Key × Entry)) (steps : List Step) (before : Excerpt)
     → AreGiving texts ds → AreStepsOfRest includes file [] (read_lines n texts) steps
     → pass_limit (before.lines ++ plain_lines n texts) ≡ false
-    → outcome_of before steps ≡ Ok (in_turn before (plain_excerpt n texts))
+    → steps_outcome before steps ≡ Ok (in_turn before (plain_excerpt n texts))
 unfolding AreStepsOfRest
 steps_load includes file n [] ds steps before give are within =
-    ap (outcome_of before) are ∙ put before (plain_excerpt n []) [] within ∙ ended (in_turn before (plain_excerpt n []))
+    ap (steps_outcome before) are ∙ put before (plain_excerpt n []) [] within
+    ∙ ended (in_turn before (plain_excerpt n []))
 steps_load includes file n (text ∷ texts) [] steps before give are within = absurd give
 steps_load includes file n (text ∷ texts) (d ∷ ds) steps before give are within =
     let line : Line = record { number = n; text = text } in
@@ -79,7 +80,7 @@ steps_load includes file n (text ∷ texts) (d ∷ ds) steps before give are wit
     let rest : AreStepsOfRest includes file [] (read_lines (number_behind n text) texts) are.1 =
     subst (λ r. AreStepsOfRest includes file (blocks_behind_line [] line r) (read_lines (number_behind n text) texts)
     are.1) give.0.reading are.3 in
-    ap (outcome_of before) (are.4 ∙ ap (λ s. s ++ are.1) first)
+    ap (steps_outcome before) (are.4 ∙ ap (λ s. s ++ are.1) first)
     ∙ put before (line_without_notice line) are.1
     (fewer_within next.lines (plain_lines (number_behind n text) texts) within_all)
     ∙ steps_load includes file (number_behind n text) texts ds are.1 next give.1 rest within_all

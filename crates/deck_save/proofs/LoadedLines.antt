@@ -11,7 +11,7 @@ use Rattle.def_entry.specs.declared.key.Key.{Key}
 use Rattle.def_entry.specs.Entries.{Entry}
 use Rattle.deck_lines.specs.Excerpts.{Excerpt, Included, blocks_behind_line, in_turn, line_excerpt, line_without_notice}
 use Rattle.deck_lines.specs.Excerpts.{rest_excerpt}
-use Rattle.deck_lines.specs.Includes.{deck_of, included_by, most_depth}
+use Rattle.deck_lines.specs.Includes.{deck_of_file, included_by, most_depth}
 use Rattle.deck_lines.specs.Limits.{most_bytes, most_lines, pass_limit, text_len}
 use Rattle.deck_lines.specs.Marks.{plain_line}
 use Rattle.deck_lines.specs.declared.line.DeckLine.{DeckLine}
@@ -43,8 +43,8 @@ rest_loaded included file n (text ∷ texts) (d ∷ ds) give =
 -- the deck of saved texts has these texts as its lines, and no notices
 pub saved_texts_are_loaded : (files : FileMap) (name : List ℕ) (texts : List (List ℕ)) (ds : List (Key × Entry))
     → AreGiving texts ds
-    → deck_of files name (saved_lines texts) ≡ plain_excerpt 1 texts
-unfolding deck_of
+    → deck_of_file files name (saved_lines texts) ≡ plain_excerpt 1 texts
+unfolding deck_of_file
 saved_texts_are_loaded files name texts ds give =
     ap (rest_excerpt (included_by files most_depth name) name [])
     (saved_lines_are_read_back texts (are_plain texts ds give))

@@ -6,10 +6,10 @@ use Rattle.std.specs.Prelude.{nat_lt, nat_le, slice_index}
 use Rattle.std.proofs.lemmas.Bool.{and_from, and_parts, true≢false}
 use Rattle.std.proofs.lemmas.List.{reverse-reverse}
 use Rattle.units_io.specs.Blanks.{is_blank}
-use Rattle.def_lines.specs.Blanks.{after_blanks, before_blanks, trimmed}
+use Rattle.def_lines.specs.Blanks.{after_blanks, before_blanks, trim_of}
 use Rattle.def_lines.specs.Words.{is_empty}
-use Rattle.expr_tree.specs.Names.{ends_in_count, is_among, is_control, is_name, is_one_of, is_refused, is_spelled}
-use Rattle.expr_tree.specs.Names.{is_word_byte, keywords, last_byte, longest_name, may_begin, may_end}
+use Rattle.expr_tree.specs.Names.{ends_in_count, is_control, is_name, is_one_of, is_refused, is_spelled, is_word_among}
+use Rattle.expr_tree.specs.Names.{is_word_byte, keywords, last_byte, longest_name, may_begin, may_end_name}
 use Rattle.deck_save.specs.SavedLines.{stays}
 use Rattle.deck_save.proofs.PlainBytes.{all_pass, all_reversed, all_stay, stays_by}
 
@@ -31,26 +31,27 @@ turned_back : (text : List ℕ) → list_all stays (reverse text) ≡ true → l
 turned_back text clear = ap (list_all stays) (sym (reverse-reverse text)) ∙ all_reversed stays (reverse text) clear
 
 -- a text stays if it stays without the blanks at its ends
-pub untrimmed_stays : (text : List ℕ) → list_all stays (trimmed text) ≡ true → list_all stays text ≡ true
+pub untrimmed_stays : (text : List ℕ) → list_all stays (trim_of text) ≡ true → list_all stays text ≡ true
 untrimmed_stays text clear =
     turned_back text (after_stays (reverse text)
     (turned_back (after_blanks (reverse text)) (after_stays (before_blanks text) clear)))
 
-pub trimmed_to : (text bare : List ℕ) → trimmed text ≡ bare → list_all stays bare ≡ true → list_all stays text ≡ true
+pub trimmed_to : (text bare : List ℕ) → trim_of text ≡ bare → list_all stays bare ≡ true → list_all stays text ≡ true
 trimmed_to text bare same clear = untrimmed_stays text (ap (list_all stays) same ∙ clear)
 
 -- names
 
 spelled : (w : List ℕ) → is_name w ≡ true → is_spelled w ≡ true
 spelled w name =
-    let a : ((is_spelled w && not (ends_in_count w) && not (is_among keywords w)) ≡ true)
+    let a : ((is_spelled w && not (ends_in_count w) && not (is_word_among keywords w)) ≡ true)
     × (not (is_refused w) ≡ true) = and_parts _ _ name in
-    let b : ((is_spelled w && not (ends_in_count w)) ≡ true) × (not (is_among keywords w) ≡ true) = and_parts _ _ a.0 in
+    let b : ((is_spelled w && not (ends_in_count w)) ≡ true) × (not (is_word_among keywords w) ≡ true) =
+    and_parts _ _ a.0 in
     (and_parts (is_spelled w) (not (ends_in_count w)) b.0).0
 
 name_words : (w : List ℕ) → is_name w ≡ true → list_all is_word_byte w ≡ true
 name_words w name =
-    (and_parts (nat_lt 0 (length w) && nat_le (length w) longest_name && may_begin (slice_index w 0) && may_end
+    (and_parts (nat_lt 0 (length w) && nat_le (length w) longest_name && may_begin (slice_index w 0) && may_end_name
     (last_byte w)) (list_all is_word_byte w) (spelled w name)).1
 
 pub name_stays : (w : List ℕ) → is_name w ≡ true → list_all stays w ≡ true

@@ -3,7 +3,7 @@ use Rattle.std.proofs.Common.{◌≡◌, ◌<◌, ◌∷◌, [], ℕ, List, Bool
 use Rattle.std.proofs.Common.{refl}
 use Rattle.std.specs.List.{list_all, list_any}
 use Rattle.std.proofs.lemmas.Bool.{and_from, and_parts}
-use Rattle.frac128.specs.Numerals.{before, behind_sign, from, is_digit, is_exponent, is_mantissa, is_mark_byte}
+use Rattle.frac128.specs.Numerals.{before, behind_sign, from, is_digit, is_exponent_text, is_mantissa, is_mark_byte}
 use Rattle.frac128.specs.Numerals.{is_numeral, is_point_byte, is_pointed, is_sign_byte, numeral_len_of}
 use Rattle.frac128.proofs.LongestNumerals.{longest-numeral}
 use Rattle.deck_save.specs.SavedLines.{stays}
@@ -45,13 +45,13 @@ signed_stays (b ∷ text) digits = go (is_sign_byte b) refl digits
     go true e digits = and_from _ _ (stays_by is_sign_byte refl refl refl b e) (digits_stay text digits)
     go false e digits = digits_stay (b ∷ text) digits
 
-exponent_stays : (text : List ℕ) → is_exponent text ≡ true → list_all stays (drop 1 text) ≡ true
+exponent_stays : (text : List ℕ) → is_exponent_text text ≡ true → list_all stays (drop 1 text) ≡ true
 exponent_stays [] is = refl
 exponent_stays (b ∷ text) is = signed_stays text (and_parts _ _ is).1
 
 pub numeral_stays : (text : List ℕ) → is_numeral text ≡ true → list_all stays text ≡ true
 numeral_stays text is =
-    let parts : (is_mantissa (before is_mark_byte text) ≡ true) × (is_exponent (from is_mark_byte text) ≡ true) =
+    let parts : (is_mantissa (before is_mark_byte text) ≡ true) × (is_exponent_text (from is_mark_byte text) ≡ true) =
     and_parts _ _ is in
     parted_stays is_mark_byte (stays_by is_mark_byte refl refl refl) text
     (mantissa_stays (before is_mark_byte text) parts.0) (exponent_stays (from is_mark_byte text) parts.1)

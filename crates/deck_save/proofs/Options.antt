@@ -5,7 +5,7 @@ use Rattle.std.specs.List.{filter_map, list_all}
 use Rattle.std.specs.Option.{is_some}
 use Rattle.std.proofs.lemmas.Bool.{and_from, and_parts}
 use Rattle.units_io.specs.Blanks.{is_blank}
-use Rattle.def_lines.specs.Blanks.{trimmed}
+use Rattle.def_lines.specs.Blanks.{trim_of}
 use Rattle.expr_tree.specs.Syntax.{Syntax}
 use Rattle.def_entry.specs.declared.entry.Bound.{Bound}
 use Rattle.def_entry.specs.declared.entry.Span.{Span}
@@ -15,8 +15,8 @@ use Rattle.def_entry.specs.Forms.{some_text}
 use Rattle.def_entry.specs.Intervals.{bound_in, is_closing}
 use Rattle.def_entry.specs.OptionGrammar.{WrittenInterval, WrittenOption, UnitsOption, DomainOption, RangeOption}
 use Rattle.def_entry.specs.OptionGrammar.{NoErrorOption, WrittenOptions, NoOption, NextOption}
-use Rattle.def_entry.specs.OptionGrammar.{AreOptions, are_whole, at_most, closing, in_order, interval, is_interval}
-use Rattle.def_entry.specs.OptionGrammar.{is_whole, opening, option, options, span_of, units_of}
+use Rattle.def_entry.specs.OptionGrammar.{AreOptions, are_whole, at_most, closing_byte, in_order, interval, is_interval}
+use Rattle.def_entry.specs.OptionGrammar.{is_complete_option, opening_byte, option, options, span_of, units_of}
 use Rattle.def_entry.specs.Options.{Options, Units}
 use Rattle.def_entry.specs.Steps.{◌>>=◌}
 use Rattle.def_entry.proofs.WrittenIntervals.{bind_some}
@@ -28,11 +28,11 @@ use Rattle.deck_save.proofs.Numbers.{bound_stays}
 
 -- intervals
 
-opening_stays : (closed : Bool) → stays (opening closed) ≡ true
+opening_stays : (closed : Bool) → stays (opening_byte closed) ≡ true
 opening_stays true = refl
 opening_stays false = refl
 
-closing_stays : (closed : Bool) → stays (closing closed) ≡ true
+closing_stays : (closed : Bool) → stays (closing_byte closed) ≡ true
 closing_stays true = refl
 closing_stays false = refl
 
@@ -48,30 +48,30 @@ bounds i is = go (span_of i) refl
     go : (found : Option Span) → span_of i ≡ found → is_some found ≡ true → Bounds i
     go None e some = cc
     go (Some span) e some =
-        let low : (x : Option Bound) × (bound_in i.low_closed (trimmed i.low) ≡ Some x)
-        × ((bound_in i.high_closed (trimmed i.high) >>= (λ y. Some (record { low = x; high = y }))) ≡ Some span) =
-        bind_some (bound_in i.low_closed (trimmed i.low))
-        (λ (x : Option Bound). bound_in i.high_closed (trimmed i.high) >>=
+        let low : (x : Option Bound) × (bound_in i.low_closed (trim_of i.low) ≡ Some x)
+        × ((bound_in i.high_closed (trim_of i.high) >>= (λ y. Some (record { low = x; high = y }))) ≡ Some span) =
+        bind_some (bound_in i.low_closed (trim_of i.low))
+        (λ (x : Option Bound). bound_in i.high_closed (trim_of i.high) >>=
         (λ (y : Option Bound). Some (record { low = x; high = y }))) span e in
-        let high : (y : Option Bound) × (bound_in i.high_closed (trimmed i.high) ≡ Some y)
+        let high : (y : Option Bound) × (bound_in i.high_closed (trim_of i.high) ≡ Some y)
         × (Some (record { low = low.0; high = y }) ≡ Some span) =
-        bind_some (bound_in i.high_closed (trimmed i.high))
+        bind_some (bound_in i.high_closed (trim_of i.high))
         (λ (y : Option Bound). Some (record { low = low.0; high = y })) span low.2 in
         record {
-          low = untrimmed_stays i.low (bound_stays i.low_closed (trimmed i.low) low.0 low.1);
-          high = untrimmed_stays i.high (bound_stays i.high_closed (trimmed i.high) high.0 high.1);
+          low = untrimmed_stays i.low (bound_stays i.low_closed (trim_of i.low) low.0 low.1);
+          high = untrimmed_stays i.high (bound_stays i.high_closed (trim_of i.high) high.0 high.1);
         }
 
 interval_stays : (i : WrittenInterval) (rest : List ℕ) → is_interval i ≡ true → list_all stays rest ≡ true
     → list_all stays (interval i rest) ≡ true
 interval_stays i rest is clear =
     let b : Bounds i = bounds i is in
-    let back : list_all stays (i.high ++ (closing i.high_closed ∷ rest)) ≡ true =
-    all_both stays i.high (closing i.high_closed ∷ rest) b.high
-    (and_from (stays (closing i.high_closed)) (list_all stays rest) (closing_stays i.high_closed) clear) in
-    and_from (stays (opening i.low_closed))
-    (list_all stays (i.low ++ (44 ∷ (i.high ++ (closing i.high_closed ∷ rest))))) (opening_stays i.low_closed)
-    (all_both stays i.low (44 ∷ (i.high ++ (closing i.high_closed ∷ rest))) b.low back)
+    let back : list_all stays (i.high ++ (closing_byte i.high_closed ∷ rest)) ≡ true =
+    all_both stays i.high (closing_byte i.high_closed ∷ rest) b.high
+    (and_from (stays (closing_byte i.high_closed)) (list_all stays rest) (closing_stays i.high_closed) clear) in
+    and_from (stays (opening_byte i.low_closed))
+    (list_all stays (i.low ++ (44 ∷ (i.high ++ (closing_byte i.high_closed ∷ rest))))) (opening_stays i.low_closed)
+    (all_both stays i.low (44 ∷ (i.high ++ (closing_byte i.high_closed ∷ rest))) b.low back)
 
 -- units
 
@@ -94,7 +94,7 @@ said_units_stay (Some units) in_unit out_unit first second =
 
 -- options
 
-option_stays : (o : WrittenOption) (os : List WrittenOption) (rest : List ℕ) → is_whole o rest ≡ true
+option_stays : (o : WrittenOption) (os : List WrittenOption) (rest : List ℕ) → is_complete_option o rest ≡ true
     → UnitsStay (filter_map units_of (o ∷ os))
     → list_all stays rest ≡ true → list_all stays (option o rest) ≡ true
 option_stays (UnitsOption a b) os rest whole units clear =
@@ -120,10 +120,11 @@ written_stays : (w : WrittenOptions) (rest : List ℕ) → are_whole w rest ≡ 
     → list_all stays rest ≡ true → list_all stays (options w rest) ≡ true
 written_stays (NoOption blanks) rest whole units clear = all_both stays blanks rest (blanks_stay blanks whole) clear
 written_stays (NextOption blanks o os) rest whole units clear =
-    let outer : ((list_all is_blank blanks && is_whole o (options os rest)) ≡ true) × (are_whole os rest ≡ true) =
-    and_parts (list_all is_blank blanks && is_whole o (options os rest)) (are_whole os rest) whole in
-    let inner : (list_all is_blank blanks ≡ true) × (is_whole o (options os rest) ≡ true) =
-    and_parts (list_all is_blank blanks) (is_whole o (options os rest)) outer.0 in
+    let outer : ((list_all is_blank blanks && is_complete_option o (options os rest)) ≡ true)
+    × (are_whole os rest ≡ true) =
+    and_parts (list_all is_blank blanks && is_complete_option o (options os rest)) (are_whole os rest) whole in
+    let inner : (list_all is_blank blanks ≡ true) × (is_complete_option o (options os rest) ≡ true) =
+    and_parts (list_all is_blank blanks) (is_complete_option o (options os rest)) outer.0 in
     all_both stays blanks (option o (options os rest)) (blanks_stay blanks inner.0)
     (option_stays o (in_order os) (options os rest) inner.1 units
     (written_stays os rest outer.1 (other_units o (in_order os) units) clear))
@@ -134,4 +135,4 @@ pub options_stay : (text rest : List ℕ) (o : Options) → AreOptions text rest
     → list_all stays text ≡ true
 options_stay text rest o are units clear =
     ap (list_all stays) are.spelled ∙ written_stays are.written rest are.whole
-    (subst UnitsStay (sym are.stated.units) units) clear
+    (subst UnitsStay (sym are.statement_is.units) units) clear

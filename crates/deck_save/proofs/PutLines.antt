@@ -6,10 +6,10 @@ use Rattle.std.proofs.lemmas.Grind.{flat_map-append}
 use Rattle.std.proofs.lemmas.List.{drop_more, map-append}
 use Rattle.std.proofs.lemmas.Option.{slice_get-get_or}
 use Rattle.units_io.specs.FileMap.{longest_file}
-use Rattle.def_lines.specs.Blanks.{trimmed}
+use Rattle.def_lines.specs.Blanks.{trim_of}
 use Rattle.deck_lines.specs.Marks.{plain_line}
 use Rattle.deck_lines.specs.declared.line.DeckLine.{DeckLine}
-use Rattle.deck.specs.Messages.{definition_in, in_turn, where_true}
+use Rattle.deck.specs.Messages.{definition_in, texts_of_lines, where_true}
 use Rattle.deck_save.specs.LineTexts.{texts_of, texts_where}
 use Rattle.deck_save.specs.SavedLines.{saved_line, saved_lines}
 
@@ -28,8 +28,8 @@ first_saved : (active : Bool) (flags : List Bool) (x : DeckLine) (lines : List D
     saved_lines (texts_where (active ∷ flags) (x ∷ lines)) ≡ saved_lines (texts_of active x) ++ saved_lines
     (texts_where flags lines)
 first_saved true flags x lines =
-    ap saved_lines (map-append trimmed (definition_in x) (in_turn definition_in (where_true flags lines)))
-    ∙ flat_map-append saved_line (map trimmed (definition_in x)) (texts_where flags lines)
+    ap saved_lines (map-append trim_of (definition_in x) (texts_of_lines definition_in (where_true flags lines)))
+    ∙ flat_map-append saved_line (map trim_of (definition_in x)) (texts_where flags lines)
 first_saved false flags x lines = refl
 
 module _ (flags : List Bool) (lines : List DeckLine) (i : ℕ) (same : length flags ≡ length lines)

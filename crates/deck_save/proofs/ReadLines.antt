@@ -6,13 +6,14 @@ use Rattle.std.proofs.lemmas.Bool.{and_parts}
 use Rattle.std.proofs.lemmas.List.{append-nil, reverse-append, reverse-reverse}
 use Rattle.std.proofs.Math.Seq.{take-length}
 use Rattle.def_lines.specs.declared.line.Line.{Line}
-use Rattle.def_lines.specs.Blanks.{after_blanks, before_blanks, trimmed}
-use Rattle.def_lines.specs.Lines.{before_byte, begins_with, behind_first, cleaned, continued, ends_with, front}
-use Rattle.def_lines.specs.Lines.{joined, lines_from, logical_lines, onto_line, physical_lines, shown}
+use Rattle.def_lines.specs.Blanks.{after_blanks, before_blanks, trim_of}
+use Rattle.def_lines.specs.Lines.{before_byte, begins_with, continuation, ends_with, front, without_comment}
+use Rattle.def_lines.specs.Lines.{without_first_byte}
+use Rattle.def_lines.specs.Lines.{logical_lines, nonblank_lines, numbered_lines, onto_line, physical_lines, with_front}
 use Rattle.def_lines.specs.Lines.{trimmed_line}
 use Rattle.def_lines.specs.Parts.{is_begun}
 use Rattle.def_lines.specs.Words.{is_empty}
-use Rattle.def_lines.proofs.Trimming.{trimmed-begun}
+use Rattle.def_lines.proofs.TrimmedTexts.{trimmed-begun}
 use Rattle.deck_save.specs.SavedLines.{saved_line, saved_lines, stays}
 use Rattle.deck_save.proofs.PlainBytes.{IsNone, all_reversed, none_of}
 
@@ -62,7 +63,7 @@ place_of_comment (b ∷ text) clear =
     ∙ one-add (position_or_len (λ x. x == 35) text)
     ∙ ap suc (place_of_comment text parts.1)
 
-cleaned_plain : (text : List ℕ) → list_all stays text ≡ true → before_blanks text ≡ text → cleaned text ≡ text
+cleaned_plain : (text : List ℕ) → list_all stays text ≡ true → before_blanks text ≡ text → without_comment text ≡ text
 cleaned_plain text clear bare =
     ap (λ t. before_blanks (before_byte 35 (cond t (front text) text)))
     (no_return (reverse text) (all_reversed stays text clear))
@@ -82,7 +83,7 @@ marked_bare text =
     ∙ ap (λ t. t ++ 92 ∷ []) (reverse-reverse text)
 
 marked_front : (text : List ℕ) → front (text ++ 92 ∷ []) ≡ text
-marked_front text = ap (λ t. reverse (behind_first t)) (marked_last text) ∙ reverse-reverse text
+marked_front text = ap (λ t. reverse (without_first_byte t)) (marked_last text) ∙ reverse-reverse text
 
 marked_clear : (text : List ℕ) → list_all stays text ≡ true → list_all stays (text ++ 92 ∷ []) ≡ true
 marked_clear [] clear = refl
@@ -91,80 +92,84 @@ marked_clear (b ∷ text) clear =
     (λ i. parts.0 i && marked_clear text parts.1 i)
 
 -- trimming removes a space after a text
-spaced : (text : List ℕ) → trimmed (text ++ 32 ∷ []) ≡ trimmed text
+spaced : (text : List ℕ) → trim_of (text ++ 32 ∷ []) ≡ trim_of text
 spaced text = ap (λ t. after_blanks (reverse (after_blanks t))) (reverse-append text (32 ∷ []))
 
 -- a saved line, followed by the lines that are read after it
 
 line_ended : (n : ℕ) (text rest : List ℕ) → IsPlain text → ends_with 92 text ≡ false →
-    lines_from n (physical_lines ((text ++ 10 ∷ []) ++ rest)) ≡ record { number = n; text = text } ∷ lines_from (n + 1)
+    numbered_lines n (physical_lines ((text ++ 10 ∷ []) ++ rest)) ≡ record { number = n; text = text } ∷ numbered_lines
+    (n + 1)
     (physical_lines rest)
 line_ended n text rest plain ends =
-    ap (λ t. lines_from n (physical_lines t)) (append_assoc text (10 ∷ []) rest)
-    ∙ ap (lines_from n) (physical text rest plain.clear)
-    ∙ ap (λ t. continued n t (lines_from (n + 1) (physical_lines rest))) (cleaned_plain text plain.clear plain.bare)
-    ∙ ap (λ t. cond t (joined n (front text ++ 32 ∷ []) (lines_from (n + 1) (physical_lines rest)))
-    (record { number = n; text = text } ∷ lines_from (n + 1) (physical_lines rest))) ends
+    ap (λ t. numbered_lines n (physical_lines t)) (append_assoc text (10 ∷ []) rest)
+    ∙ ap (numbered_lines n) (physical text rest plain.clear)
+    ∙ ap (λ t. continuation n t (numbered_lines (n + 1) (physical_lines rest)))
+    (cleaned_plain text plain.clear plain.bare)
+    ∙ ap (λ t. cond t (with_front n (front text ++ 32 ∷ []) (numbered_lines (n + 1) (physical_lines rest)))
+    (record { number = n; text = text } ∷ numbered_lines (n + 1) (physical_lines rest))) ends
 
 line_continued : (n : ℕ) (text rest : List ℕ) → IsPlain text →
-    lines_from n (physical_lines ((text ++ 92 ∷ 10 ∷ 10 ∷ []) ++ rest)) ≡ record
-    { number = n; text = (text ++ 32 ∷ []) ++ [] } ∷ lines_from (n + 1 + 1) (physical_lines rest)
+    numbered_lines n (physical_lines ((text ++ 92 ∷ 10 ∷ 10 ∷ []) ++ rest)) ≡ record
+    { number = n; text = (text ++ 32 ∷ []) ++ [] } ∷ numbered_lines (n + 1 + 1) (physical_lines rest)
 line_continued n text rest plain =
-    let next : List Line = lines_from (n + 1) ([] ∷ physical_lines rest) in
+    let next : List Line = numbered_lines (n + 1) ([] ∷ physical_lines rest) in
     let marked : List ℕ = text ++ 92 ∷ [] in
-    ap (λ t. lines_from n (physical_lines t))
+    ap (λ t. numbered_lines n (physical_lines t))
     (append_assoc text (92 ∷ 10 ∷ 10 ∷ []) rest ∙ sym (append_assoc text (92 ∷ []) (10 ∷ 10 ∷ rest)))
-    ∙ ap (lines_from n) (physical marked (10 ∷ rest) (marked_clear text plain.clear))
-    ∙ ap (λ t. continued n t next) (cleaned_plain marked (marked_clear text plain.clear) (marked_bare text))
-    ∙ ap (λ t. cond (begins_with 92 t) (joined n (front marked ++ 32 ∷ []) next)
+    ∙ ap (numbered_lines n) (physical marked (10 ∷ rest) (marked_clear text plain.clear))
+    ∙ ap (λ t. continuation n t next) (cleaned_plain marked (marked_clear text plain.clear) (marked_bare text))
+    ∙ ap (λ t. cond (begins_with 92 t) (with_front n (front marked ++ 32 ∷ []) next)
     (record { number = n; text = marked } ∷ next)) (marked_last text)
-    ∙ ap (λ t. joined n (t ++ 32 ∷ []) next) (marked_front text)
+    ∙ ap (λ t. with_front n (t ++ 32 ∷ []) next) (marked_front text)
 
 abbrev before : List ℕ → ℕ → List ℕ → ℕ → List Line
-before rest n text m = record { number = n; text = text } ∷ map trimmed_line (lines_from m (physical_lines rest))
+before rest n text m = record { number = n; text = text } ∷ map trimmed_line (numbered_lines m (physical_lines rest))
 
 line_read : (n : ℕ) (text rest : List ℕ) → IsPlain text →
-    map trimmed_line (lines_from n (physical_lines (saved_line text ++ rest)))
-    ≡ record { number = n; text = text } ∷ map trimmed_line (lines_from (number_behind n text) (physical_lines rest))
+    map trimmed_line (numbered_lines n (physical_lines (saved_line text ++ rest)))
+    ≡ record { number = n; text = text } ∷ map trimmed_line
+    (numbered_lines (number_behind n text) (physical_lines rest))
 line_read n text rest plain = go (ends_with 92 text) refl
   where
-    same : trimmed text ≡ text
+    same : trim_of text ≡ text
     same = trimmed-begun text plain.begun ∙ plain.bare
 
     go : (t : Bool) → ends_with 92 text ≡ t →
-        map trimmed_line (lines_from n
+        map trimmed_line (numbered_lines n
         (physical_lines ((text ++ cond (ends_with 92 text) (92 ∷ 10 ∷ 10 ∷ []) (10 ∷ [])) ++ rest)))
         ≡ record { number = n; text = text } ∷ map trimmed_line
-        (lines_from (cond (ends_with 92 text) (n + 1 + 1) (n + 1)) (physical_lines rest))
+        (numbered_lines (cond (ends_with 92 text) (n + 1 + 1) (n + 1)) (physical_lines rest))
     go true e =
         ap (λ t. map trimmed_line
-        (lines_from n (physical_lines ((text ++ cond t (92 ∷ 10 ∷ 10 ∷ []) (10 ∷ [])) ++ rest)))) e
+        (numbered_lines n (physical_lines ((text ++ cond t (92 ∷ 10 ∷ 10 ∷ []) (10 ∷ [])) ++ rest)))) e
         ∙ ap (map trimmed_line) (line_continued n text rest plain)
-        ∙ ap (λ t. before rest n t (n + 1 + 1)) (ap trimmed (append-nil (text ++ 32 ∷ [])) ∙ spaced text ∙ same)
+        ∙ ap (λ t. before rest n t (n + 1 + 1)) (ap trim_of (append-nil (text ++ 32 ∷ [])) ∙ spaced text ∙ same)
         ∙ ap (λ t. before rest n text (cond t (n + 1 + 1) (n + 1))) (sym e)
     go false e =
         ap (λ t. map trimmed_line
-        (lines_from n (physical_lines ((text ++ cond t (92 ∷ 10 ∷ 10 ∷ []) (10 ∷ [])) ++ rest)))) e
+        (numbered_lines n (physical_lines ((text ++ cond t (92 ∷ 10 ∷ 10 ∷ []) (10 ∷ [])) ++ rest)))) e
         ∙ ap (map trimmed_line) (line_ended n text rest plain e)
         ∙ ap (λ t. before rest n t (n + 1)) same
         ∙ ap (λ t. before rest n text (cond t (n + 1 + 1) (n + 1))) (sym e)
 
 lines_read : (n : ℕ) (texts : List (List ℕ)) → ArePlain texts
-    → map trimmed_line (lines_from n (physical_lines (saved_lines texts))) ≡ read_lines n texts
+    → map trimmed_line (numbered_lines n (physical_lines (saved_lines texts))) ≡ read_lines n texts
 lines_read n [] plain = refl
 lines_read n (text ∷ texts) plain =
     line_read n text (saved_lines texts) plain.0
     ∙ ap (λ ls. record { number = n; text = text } ∷ ls) (lines_read (number_behind n text) texts plain.1)
 
 -- none of the lines is blank
-all_shown : (n : ℕ) (texts : List (List ℕ)) → ArePlain texts → shown (read_lines n texts) ≡ read_lines n texts
+all_shown : (n : ℕ) (texts : List (List ℕ)) → ArePlain texts → nonblank_lines (read_lines n texts) ≡ read_lines n texts
 all_shown n [] plain = refl
 all_shown n (text ∷ texts) plain =
-    ap (λ t. cond (not t) (record { number = n; text = text } ∷ shown (read_lines (number_behind n text) texts))
-    (shown (read_lines (number_behind n text) texts))) plain.0.some
+    ap (λ t. cond (not t)
+    (record { number = n; text = text } ∷ nonblank_lines (read_lines (number_behind n text) texts))
+    (nonblank_lines (read_lines (number_behind n text) texts))) plain.0.some
     ∙ ap (λ ls. record { number = n; text = text } ∷ ls) (all_shown (number_behind n text) texts plain.1)
 
 -- the logical lines of saved texts are these texts
 pub saved_lines_are_read_back : (texts : List (List ℕ)) → ArePlain texts
-    → shown (logical_lines (saved_lines texts)) ≡ read_lines 1 texts
-saved_lines_are_read_back texts plain = ap shown (lines_read 1 texts plain) ∙ all_shown 1 texts plain
+    → nonblank_lines (logical_lines (saved_lines texts)) ≡ read_lines 1 texts
+saved_lines_are_read_back texts plain = ap nonblank_lines (lines_read 1 texts plain) ∙ all_shown 1 texts plain

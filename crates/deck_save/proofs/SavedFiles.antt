@@ -7,7 +7,7 @@ use Rattle.deck_lines.specs.declared.line.DeckLine.{DeckLine}
 use Rattle.deck.specs.Active.{Surroundings, active_lines, activity, behind_line, start}
 use Rattle.deck.specs.Decks.{Contents}
 use Rattle.deck_save.specs.LineTexts.{texts_where}
-use Rattle.deck_save.specs.Saved.{saved, saved_file}
+use Rattle.deck_save.specs.SavedText.{saved_file, saved_text}
 use Rattle.deck_save.specs.SavedLines.{saved_lines}
 use Rattle.deck_save.specs.declared.fault.SaveFault.TheVariants.{TooLong}
 
@@ -21,18 +21,18 @@ module _ (d : Contents) (flags : List Bool) (are : flags ≡ active_lines d.sett
   pub one_each : length flags ≡ length d.lines
   one_each = ap length are ∙ flag_count d.settings.locale (start d.settings) d.lines
 
-  saved_is : saved_lines (texts_where flags d.lines) ≡ saved d
-  unfolding saved
+  saved_is : saved_lines (texts_where flags d.lines) ≡ saved_text d
+  unfolding saved_text
   saved_is = ap (λ (f : List Bool). saved_lines (texts_where f d.lines)) are
 
   pub too_long : longest_file < length (saved_lines (texts_where flags d.lines)) → saved_file d ≡ Err TooLong
   too_long more =
-      ap (λ t. cond t (Err TooLong) (Ok (saved d)))
-      (lt-ltb longest_file (length (saved d)) (subst (λ t. longest_file < length t) saved_is more))
+      ap (λ t. cond t (Err TooLong) (Ok (saved_text d)))
+      (lt-ltb longest_file (length (saved_text d)) (subst (λ t. longest_file < length t) saved_is more))
 
   pub short_enough : (text : List ℕ) → text ≡ saved_lines (texts_where flags d.lines)
       → length (saved_lines (texts_where flags d.lines)) ≤ longest_file → saved_file d ≡ Ok text
   short_enough text is few =
-      ap (λ t. cond t (Err TooLong) (Ok (saved d)))
-      (le-ltb longest_file (length (saved d)) (subst (λ t. length t ≤ longest_file) saved_is few))
+      ap (λ t. cond t (Err TooLong) (Ok (saved_text d)))
+      (le-ltb longest_file (length (saved_text d)) (subst (λ t. length t ≤ longest_file) saved_is few))
       ∙ ap Ok (sym (is ∙ saved_is))

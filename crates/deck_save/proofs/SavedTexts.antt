@@ -1,14 +1,14 @@
 -- Texts that define keys as lines of a file.
 use Rattle.std.proofs.Common.{◌≡◌, ◌∷◌, [], ℕ, List, Bool, true, false, cond, Some, None, Ok, refl}
 use Rattle.std.proofs.Common.{sym, ap, subst, ◌∙◌, true≢false}
-use Rattle.def_lines.specs.Blanks.{before_blanks, trimmed}
+use Rattle.def_lines.specs.Blanks.{before_blanks, trim_of}
 use Rattle.def_lines.specs.Kinds as line
 use Rattle.def_lines.specs.Kinds.{Kind as LineKind, kind_of}
-use Rattle.def_lines.proofs.Trimming.{trimmed-begun}
+use Rattle.def_lines.proofs.TrimmedTexts.{trimmed-begun}
 use Rattle.def_entry.specs.declared.key.Key.{Key}
 use Rattle.def_entry.specs.Entries.{Entry}
 use Rattle.def_entry.specs.EntryGrammar.{EntryLaw, IsEntry}
-use Rattle.def_entry.specs.Reading.{entry_of, has_entry}
+use Rattle.def_entry.specs.EntryReading.{entry_of, has_entry}
 use Rattle.def_entry.proofs.Fronts.{trimmed-before_blanks}
 use Rattle.deck_lines.specs.Marks.{plain_line}
 use Rattle.deck_lines.specs.Readings.{Defines, defined_by, entry_in, of_entry, reading_by, reading_of}
@@ -81,7 +81,7 @@ unfolding entry_in
 plain_entry n text d e = ap defined_by e
 
 -- a line that defines a key defines it also without the blanks at its ends
-pub saved_gives : EntryLaw → (x : DeckLine) (d : Key × Entry) → entry_in x ≡ Some d → Gives (trimmed x.text) d
+pub saved_gives : EntryLaw → (x : DeckLine) (d : Key × Entry) → entry_in x ≡ Some d → Gives (trim_of x.text) d
 saved_gives law x d e = subst (λ t. Gives t d) (sym same) (record {
   plain = record {
     some = bare.some;
@@ -104,7 +104,7 @@ saved_gives law x d e = subst (λ t. Gives t d) (sym same) (record {
     again : IsBare (before_blanks x.text) d.0 d.1
     again = bare_entry (before_blanks x.text) d.0 d.1 bare.entry
 
-    same : trimmed x.text ≡ before_blanks x.text
+    same : trim_of x.text ≡ before_blanks x.text
     same = trimmed-begun x.text bare.begun
 
     twice : before_blanks (before_blanks x.text) ≡ before_blanks x.text

@@ -3,7 +3,7 @@ use Rattle.std.specs.Prelude.{◌≡◌, ◌++◌, ◌∷◌, ℕ, List, [], cod
 use Rattle.deck_lines.specs.Marks.{marked_line, plain_line}
 use Rattle.deck_lines.specs.declared.line.DeckLine.{DeckLine}
 use Rattle.deck.specs.Decks.{Contents}
-use Rattle.deck_save.specs.Saved.{saved}
+use Rattle.deck_save.specs.SavedText.{saved_text}
 
 -- a deck with this locale and these lines
 abbrev pub deck : List ℕ → List DeckLine → Contents
@@ -22,11 +22,12 @@ local_lines =
 
 -- law: the lines of a block are saved if the block holds; a line that ends in `\` is saved so that it does not continue
 -- on the next definition; a line with blanks at its ends, which edits may produce, is saved without them
-abbrev pub ExamplesLaw : Type 0
-ExamplesLaw =
-    (saved (deck (codes "en_US") local_lines) ≡ codes "m !" ++ 10 ∷ codes "g 3 m" ++ 10 ∷ codes "h 2 g" ++ 10 ∷ [])
-    × (saved (deck (codes "en_GB") local_lines) ≡ codes "m !" ++ 10 ∷ codes "h 2 g" ++ 10 ∷ [])
-    × (saved (deck [] (plain_line 1 (codes "m !") ∷ plain_line 2 (codes "\\ 3 m") ∷ plain_line 3 (codes "x \\") ∷ []))
+abbrev pub SaveExamplesLaw : Type 0
+SaveExamplesLaw =
+    (saved_text (deck (codes "en_US") local_lines) ≡ codes "m !" ++ 10 ∷ codes "g 3 m" ++ 10 ∷ codes "h 2 g" ++ 10 ∷ [])
+    × (saved_text (deck (codes "en_GB") local_lines) ≡ codes "m !" ++ 10 ∷ codes "h 2 g" ++ 10 ∷ [])
+    × (saved_text (deck []
+    (plain_line 1 (codes "m !") ∷ plain_line 2 (codes "\\ 3 m") ∷ plain_line 3 (codes "x \\") ∷ []))
     ≡ codes "m !" ++ 10 ∷ codes "\\ 3 m" ++ 10 ∷ codes "x \\\\" ++ 10 ∷ 10 ∷ [])
-    × (saved (deck [] (plain_line 1 (codes "x  !  ") ∷ [])) ≡ codes "x  !" ++ 10 ∷ [])
-    × (saved (deck [] []) ≡ [])
+    × (saved_text (deck [] (plain_line 1 (codes "x  !  ") ∷ [])) ≡ codes "x  !" ++ 10 ∷ [])
+    × (saved_text (deck [] []) ≡ [])

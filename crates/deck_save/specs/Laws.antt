@@ -5,57 +5,57 @@ use Rattle.units_io.specs.FileMap.{FileMap, file_of, longest_file}
 use Rattle.def_lines.specs.Kinds.{kind_of}
 use Rattle.def_entry.specs.declared.key.Key.{Key}
 use Rattle.def_entry.specs.Entries.{Entry}
-use Rattle.def_entry.specs.Reading.{entry_of, has_entry}
+use Rattle.def_entry.specs.EntryReading.{entry_of, has_entry}
 use Rattle.deck_lines.specs.Excerpts.{Excerpt}
 use Rattle.deck_lines.specs.Limits.{pass_limit}
 use Rattle.deck.specs.Decks.{Contents}
-use Rattle.deck.specs.Loading.{ComesTo, after_load, after_text, lines_alone}
-use Rattle.deck.specs.Messages.{defining}
+use Rattle.deck.specs.FileLoads.{ComesTo, after_load, after_text, lines_alone}
+use Rattle.deck.specs.Messages.{defining_texts}
 use Rattle.deck.specs.Tables.{table}
 use Rattle.deck.specs.declared.fault.DeckFault.{DeckFault}
 use Rattle.deck.specs.declared.settings.Settings.{Settings}
-use Rattle.deck_save.specs.Saved.{saved, saved_texts}
+use Rattle.deck_save.specs.SavedText.{saved_text, saved_texts}
 use Rattle.deck_save.specs.SavedLines.{stays}
 
 -- a deck within the limits, as every deck is, whose saved text is not too long for a file
 pub record CanBeSaved (d : Contents) : Type 0 where
   pub within : pass_limit d.lines ≡ false
-  pub short : length (saved d) ≤ longest_file
+  pub short : length (saved_text d) ≤ longest_file
 
 -- a loaded deck has no notices and has the definitions of another deck: the same texts, and the same entry for each key
 pub record GivesBack (d loaded : Contents) : Type 0 where
   pub silent : loaded.notices ≡ []
-  pub texts : defining loaded ≡ saved_texts d
+  pub texts : defining_texts loaded ≡ saved_texts d
   pub entries : table loaded ≡ table d
 
 -- a load yields such a deck, with the settings that it is given
 pub record IsGivenBack (d : Contents) (under : Settings) (outcome : Result Contents DeckFault) : Type 0 where
-  pub loaded : Contents
-  pub is : outcome ≡ Ok loaded
-  pub told : loaded.settings ≡ under
-  pub back : GivesBack d loaded
+  pub load_result : Contents
+  pub is : outcome ≡ Ok load_result
+  pub told : load_result.settings ≡ under
+  pub back : GivesBack d load_result
 
 -- law: loading a file with the saved text of a deck gives the deck back, whatever the name of the file, the other files
 -- and the settings are
 abbrev pub FileLaw : Type 0
 FileLaw = (d : Contents) (files : FileMap) (name : List ℕ) (settings : Settings) → CanBeSaved d
-    → file_of files name ≡ Some (saved d) → IsGivenBack d settings (after_load files name settings)
+    → file_of files name ≡ Some (saved_text d) → IsGivenBack d settings (after_load files name settings)
 
 -- law: loading the saved text itself gives the deck back
 abbrev pub TextLaw : Type 0
 TextLaw = (d : Contents) (name : List ℕ) (settings : Settings) → CanBeSaved d
-    → IsGivenBack d settings (after_text (saved d) name settings)
+    → IsGivenBack d settings (after_text (saved_text d) name settings)
 
 -- law: loading a file gives the deck back if its fetch returns the saved text, even if the files are not known
 abbrev pub AnswerLaw : Type 0
 AnswerLaw = (d : Contents) (files : Option FileMap) (name : List ℕ) (outcome : Result Excerpt DeckFault) → CanBeSaved d
-    → ComesTo files name (lines_alone []) (Ok (saved d)) outcome
+    → ComesTo files name (lines_alone []) (Ok (saved_text d)) outcome
     → (read : Excerpt) × (outcome ≡ Ok read)
     × ((settings : Settings) → GivesBack d (record { lines = read.lines; settings = settings; notices = read.notices }))
 
 -- law: a deck that was given back has the same saved text again
-abbrev pub AgainLaw : Type 0
-AgainLaw = (d loaded : Contents) → GivesBack d loaded → saved loaded ≡ saved d
+abbrev pub SavedAgainLaw : Type 0
+SavedAgainLaw = (d loaded : Contents) → GivesBack d loaded → saved_text loaded ≡ saved_text d
 
 -- law: a line that defines a key contains no line feed, no carriage return and no `#`
 abbrev pub AcceptedLaw : Type 0

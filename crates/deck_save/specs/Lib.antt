@@ -1,5 +1,5 @@
 pub mod Examples
 pub mod Laws
 pub mod LineTexts
-pub mod Saved
+pub mod SavedText
 pub mod SavedLines

@@ -1,7 +1,7 @@
 //! Laws of saved texts. The calls do nothing: their contracts are the laws.
 
-ghost use Rattle.deck_save.specs.Examples.{ExamplesLaw};
-ghost use Rattle.deck_save.specs.Laws.{AcceptedLaw, AgainLaw, AnswerLaw, FileLaw, TextLaw};
+ghost use Rattle.deck_save.specs.Examples.{SaveExamplesLaw};
+ghost use Rattle.deck_save.specs.Laws.{AcceptedLaw, AnswerLaw, FileLaw, SavedAgainLaw, TextLaw};
 
 use def_entry::entry_law;
 
@@ -17,7 +17,7 @@ pub fn saved_decks_are_given_back()
 
 /// A deck that was loaded from a saved text has the same saved text again.
 pub fn saved_texts_are_kept()
-    ensures { AgainLaw }
+    ensures { SavedAgainLaw }
 {}
 
 /// A line that defines a key can be saved unchanged on a line of its own: it contains no line feed, no carriage return
@@ -30,5 +30,5 @@ pub fn accepted_lines_stay()
 
 /// The examples hold: a few decks have the saved texts that were worked out by hand.
 pub fn examples_law()
-    ensures { ExamplesLaw }
+    ensures { SaveExamplesLaw }
 {}

@@ -14,11 +14,11 @@ use Rattle.def_lines.specs.Words.{is_empty, words_of}
 use Rattle.piecewise.specs.Lines.{Point}
 use Rattle.def_entry.specs.Cuts.{lacks}
 use Rattle.def_entry.specs.Headings.{stands_apart}
-use Rattle.def_entry.specs.Numbers.{number_of}
+use Rattle.def_entry.specs.Numbers.{text_number}
 use Rattle.def_entry.specs.Options.{behind}
 use Rattle.def_entry.specs.PointGrammar.{ArePairs, Apart, Comma}
 use Rattle.def_entry.specs.PointGrammar.{NextPair, ends_number, pair_then}
-use Rattle.def_entry.specs.PointLists.{pairs_of, points_between, some_pairs}
+use Rattle.def_entry.specs.PointLists.{points_between, points_of_words, some_pairs}
 use Rattle.def_entry.specs.Steps.{◌>>=◌}
 use Rattle.def_entry.proofs.CutParts.{parts-none}
 use Rattle.def_entry.proofs.CutTexts.{cut-at, cut-lacks, not_true}
@@ -37,8 +37,8 @@ pub record PairIs (x y : List ℕ) (found : Option (List Point)) (list : List Po
   pub first : Fraction
   pub second : Fraction
   pub behind_pair : List Point
-  pub x_is : number_of x ≡ Some first
-  pub y_is : number_of y ≡ Some second
+  pub x_is : text_number x ≡ Some first
+  pub y_is : text_number y ≡ Some second
   pub found_is : found ≡ Some behind_pair
   pub whole : (first, second) ∷ behind_pair ≡ list
 
@@ -46,8 +46,8 @@ pub record PairIs (x y : List ℕ) (found : Option (List Point)) (list : List Po
 pair-is : (x y : List ℕ) (found : Option (List Point)) (list : List Point) → pair_then x y found ≡ Some list
     → PairIs x y found list
 pair-is x y found list e =
-    let one = bind_some (number_of x) (λ a. number_of y >>= (λ b. found >>= (λ ps. Some ((a, b) ∷ ps)))) list e in
-    let two = bind_some (number_of y) (λ b. found >>= (λ ps. Some ((one.0, b) ∷ ps))) list one.2 in
+    let one = bind_some (text_number x) (λ a. text_number y >>= (λ b. found >>= (λ ps. Some ((a, b) ∷ ps)))) list e in
+    let two = bind_some (text_number y) (λ b. found >>= (λ ps. Some ((one.0, b) ∷ ps))) list one.2 in
     let three = bind_some found (λ ps. Some ((one.0, two.0) ∷ ps)) list two.2 in
     record {
       first = one.0;
@@ -97,7 +97,7 @@ lone-none before x blanks [] clear is blank end =
     lone_lacks before x (blanks ++ []) clear is (blank_lacks (blanks ++ []) all) in
     ap points_between
     (parts-none 44 (before ++ (x ++ (blanks ++ []))) (cut-lacks 44 (before ++ (x ++ (blanks ++ []))) whole))
-    ∙ ap pairs_of (lone_words before x (blanks ++ []) clear is all)
+    ∙ ap points_of_words (lone_words before x (blanks ++ []) clear is all)
 lone-none before x blanks (b ∷ rest) clear is blank end =
     let run : List ℕ = before ++ (x ++ blanks) in
     let mark : before ++ (x ++ (blanks ++ (b ∷ rest))) ≡ (before ++ (x ++ blanks)) ++ (44 ∷ rest) =

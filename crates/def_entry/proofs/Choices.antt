@@ -4,8 +4,8 @@ use Rattle.std.proofs.Common.{None, refl, sym, ap, ◌∙◌, arith}
 use Rattle.def_lines.specs.Blanks.{after_blanks}
 use Rattle.def_entry.specs.declared.options.Choice.{Choice}
 use Rattle.def_entry.specs.declared.options.Choice.TheVariants.{Units, Domain, Range, NoError}
-use Rattle.def_entry.specs.Options.{Options, begins_with, begins_with_no_error, behind, choice_at, options_from}
-use Rattle.def_entry.specs.Options.{with_choice, with_next}
+use Rattle.def_entry.specs.Options.{Options, begins_with_no_error, begins_with_option, behind, choice_at, options_from}
+use Rattle.def_entry.specs.Options.{with_choice, with_next_option}
 use Rattle.def_entry.specs.Steps.{◌>>=◌}
 
 -- if a conjunction holds, so does its first test
@@ -14,36 +14,41 @@ and_left true b e = refl
 and_left false b e = e
 
 -- the option with which a text starts, in terms of the tests of all options
-begins_by : (text : List ℕ) (choice : Choice) (u d r n : Bool) → begins_with Units text ≡ u
-    → begins_with Domain text ≡ d → begins_with Range text ≡ r → begins_with_no_error text ≡ n
+begins_by : (text : List ℕ) (choice : Choice) (u d r n : Bool) → begins_with_option Units text ≡ u
+    → begins_with_option Domain text ≡ d → begins_with_option Range text ≡ r → begins_with_no_error text ≡ n
     → cond u (Some Units) (cond d (Some Domain) (cond r (Some Range) (cond n (Some NoError) None))) ≡ Some choice
-    → begins_with choice text ≡ true
-begins_by text choice true d r n eu ed er en e = let i : choice ≡ Units = cc in ap (λ x. begins_with x text) i ∙ eu
-begins_by text choice false true r n eu ed er en e = let i : choice ≡ Domain = cc in ap (λ x. begins_with x text) i ∙ ed
-begins_by text choice false false true n eu ed er en e = let i : choice ≡ Range = cc in ap (λ x. begins_with x text) i
+    → begins_with_option choice text ≡ true
+begins_by text choice true d r n eu ed er en e = let i : choice ≡ Units = cc in
+    ap (λ x. begins_with_option x text) i ∙ eu
+begins_by text choice false true r n eu ed er en e = let i : choice ≡ Domain = cc in
+    ap (λ x. begins_with_option x text) i ∙ ed
+begins_by text choice false false true n eu ed er en e = let i : choice ≡ Range = cc in
+    ap (λ x. begins_with_option x text) i
     ∙ er
 begins_by text choice false false false true eu ed er en e =
-    let i : choice ≡ NoError = cc in ap (λ x. begins_with x text) i ∙ and_left (begins_with NoError text) _ en
+    let i : choice ≡ NoError = cc in
+    ap (λ x. begins_with_option x text) i ∙ and_left (begins_with_option NoError text) _ en
 begins_by text choice false false false false eu ed er en e = cc
 
 -- the option with which a text starts has its word at the front of the text
 pub begins-choice_at : (text : List ℕ) (found : Option Choice) (choice : Choice) → found ≡ choice_at text
-    → found ≡ Some choice → begins_with choice text ≡ true
+    → found ≡ Some choice → begins_with_option choice text ≡ true
 begins-choice_at text found choice is some =
-    begins_by text choice (begins_with Units text) (begins_with Domain text) (begins_with Range text)
+    begins_by text choice (begins_with_option Units text) (begins_with_option Domain text)
+    (begins_with_option Range text)
     (begins_with_no_error text) refl refl refl refl (sym is ∙ some)
 
 -- one step of reading options
 next : (n : ℕ) (o : Options) (text rest : List ℕ) (found : Option Choice) → 0 < n → rest ≡ after_blanks text
     → found ≡ choice_at rest
-    → options_from n o text ≡ with_next (options_from (n - 1)) found o rest
+    → options_from n o text ≡ with_next_option (options_from (n - 1)) found o rest
 unfolding options_from
 next zero o text rest found some front is = absurd (omega arith)
 next (suc n) o text rest found some front is =
     let less : n ≡ suc n - 1 = omega arith in
-    ap (λ t. with_next (options_from n) (choice_at t) o t) (sym front)
-    ∙ ap (λ x. with_next (options_from n) x o rest) (sym is)
-    ∙ ap (λ k. with_next (options_from k) found o rest) less
+    ap (λ t. with_next_option (options_from n) (choice_at t) o t) (sym front)
+    ∙ ap (λ x. with_next_option (options_from n) x o rest) (sym is)
+    ∙ ap (λ k. with_next_option (options_from k) found o rest) less
 
 -- if the text does not start with an option, reading ends
 pub next-none : (most k : ℕ) (o : Options) (text rest : List ℕ) (found : Option Choice)
@@ -53,7 +58,7 @@ pub next-none : (most k : ℕ) (o : Options) (text rest : List ℕ) (found : Opt
 next-none most k o text rest found whole less is front at none =
     let some : 0 < suc most - k = omega arith in
     sym (sym is ∙ next (suc most - k) o text rest found some front at
-    ∙ ap (λ x. with_next (options_from (suc most - k - 1)) x o rest) none)
+    ∙ ap (λ x. with_next_option (options_from (suc most - k - 1)) x o rest) none)
 
 -- if the text starts with an option, reading continues after it
 pub next-some : (most k : ℕ) (o : Options) (text rest value : List ℕ) (found : Option Choice) (choice : Choice)
@@ -67,7 +72,7 @@ next-some most k o text rest value found choice made whole less is front at some
     sym
     (sym is
     ∙ next (suc most - k) o text rest found more front at
-    ∙ ap (λ x. with_next (options_from (suc most - k - 1)) x o rest) some
+    ∙ ap (λ x. with_next_option (options_from (suc most - k - 1)) x o rest) some
     ∙ ap (λ v. with_choice choice o v >>= (λ f. options_from (suc most - k - 1) f.0 f.1)) (sym from)
     ∙ ap (λ m. m >>= (λ f. options_from (suc most - k - 1) f.0 f.1)) (sym by)
     ∙ ap (λ m. made >>= (λ f. options_from m f.0 f.1)) count)

@@ -10,11 +10,12 @@ use Rattle.std.proofs.lemmas.List.Sums.{passes_at_first}
 use Rattle.std.proofs.Math.ListN.{drop_of_length-le}
 use Rattle.std.proofs.Math.Seq.{drop-append_seam, drop-cons, take-append_seam, take-length}
 use Rattle.units_io.specs.Blanks.{is_blank}
-use Rattle.def_lines.specs.Blanks.{after_blanks, before_blanks, trimmed}
+use Rattle.def_lines.specs.Blanks.{after_blanks, before_blanks, trim_of}
 use Rattle.def_lines.specs.Parts.{is_begun}
 use Rattle.def_lines.specs.Words.{behind_word, first_word}
-use Rattle.def_lines.proofs.Trimming.{after_blanks-blank, after_blanks-word, before_blanks-word, is_begun-after_blanks}
-use Rattle.def_lines.proofs.Trimming.{trimmed-begun, trimmed-blank}
+use Rattle.def_lines.proofs.TrimmedTexts.{after_blanks-blank, after_blanks-word, before_blanks-word}
+use Rattle.def_lines.proofs.TrimmedTexts.{is_begun-after_blanks}
+use Rattle.def_lines.proofs.TrimmedTexts.{trimmed-begun, trimmed-blank}
 use Rattle.def_entry.specs.Headings.{stands_apart}
 use Rattle.def_entry.proofs.CutTexts.{front-clear, not_true, place-at}
 
@@ -88,18 +89,18 @@ before_blanks-again text =
     ∙ ap reverse (after_blanks-begun (after_blanks (reverse text)) (is_begun-after_blanks (reverse text)))
 
 -- removing trailing blanks does not change the trimmed text
-pub trimmed-before_blanks : (text : List ℕ) → trimmed (before_blanks text) ≡ trimmed text
+pub trimmed-before_blanks : (text : List ℕ) → trim_of (before_blanks text) ≡ trim_of text
 trimmed-before_blanks text = ap after_blanks (before_blanks-again text)
 
 -- leading blanks do not change the trimmed text
-pub trimmed-blanks : (blanks text : List ℕ) → list_all is_blank blanks ≡ true → trimmed (blanks ++ text) ≡ trimmed text
+pub trimmed-blanks : (blanks text : List ℕ) → list_all is_blank blanks ≡ true → trim_of (blanks ++ text) ≡ trim_of text
 trimmed-blanks [] text clear = refl
 trimmed-blanks (b ∷ blanks) text clear =
     go (and_parts (is_blank b) (list_all is_blank blanks) clear) (trimmed-blanks blanks text)
   where
     go : (is_blank b ≡ true) × (list_all is_blank blanks ≡ true)
-        → (list_all is_blank blanks ≡ true → trimmed (blanks ++ text) ≡ trimmed text)
-        → trimmed ((b ∷ blanks) ++ text) ≡ trimmed text
+        → (list_all is_blank blanks ≡ true → trim_of (blanks ++ text) ≡ trim_of text)
+        → trim_of ((b ∷ blanks) ++ text) ≡ trim_of text
     go parts rest = trimmed-blank b (blanks ++ text) parts.0 ∙ rest parts.1
 
 -- removing trailing blanks does not change a word at the front
@@ -141,15 +142,15 @@ stops-apart (b ∷ text) apart = apart
 
 -- the first word of a trimmed text, and the text after it
 pub record FirstWord (text word behind : List ℕ) : Type 0 where
-  pub first : first_word (trimmed text) ≡ word
-  pub rest : behind_word (trimmed text) ≡ trimmed behind
+  pub first : first_word (trim_of text) ≡ word
+  pub rest : behind_word (trim_of text) ≡ trim_of behind
 
 -- the first word of a text that starts with blanks, if the word is followed by a blank or by nothing
 pub first-word : (blanks word behind : List ℕ) → list_all is_blank blanks ≡ true → is_begun (word ++ behind) ≡ true
     → list_all (λ b. not (is_blank b)) word ≡ true
     → stands_apart behind ≡ true → FirstWord (blanks ++ (word ++ behind)) word behind
 first-word blanks word behind clear begun is_word apart =
-    let bare : trimmed (blanks ++ (word ++ behind)) ≡ word ++ before_blanks behind =
+    let bare : trim_of (blanks ++ (word ++ behind)) ≡ word ++ before_blanks behind =
     trimmed-blanks blanks (word ++ behind) clear ∙ trimmed-begun (word ++ behind) begun
     ∙ before_blanks-front word behind is_word in
     let front : first_word (word ++ before_blanks behind) ≡ word =
@@ -159,7 +160,7 @@ first-word blanks word behind clear begun is_word apart =
       first = ap first_word bare ∙ front;
       rest =
           ap behind_word bare
-          ∙ ap (λ w. trimmed (drop (length w) (word ++ before_blanks behind))) front
-          ∙ ap trimmed (drop-append_seam word (before_blanks behind))
+          ∙ ap (λ w. trim_of (drop (length w) (word ++ before_blanks behind))) front
+          ∙ ap trim_of (drop-append_seam word (before_blanks behind))
           ∙ trimmed-before_blanks behind;
     }

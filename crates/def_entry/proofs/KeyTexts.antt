@@ -15,7 +15,7 @@ use Rattle.def_entry.specs.declared.key.Key.{Key}
 use Rattle.def_entry.specs.declared.key.Kind.{Kind}
 use Rattle.def_entry.specs.declared.key.Kind.TheVariants as kind
 use Rattle.def_entry.specs.Keys.{IsNamed, IsNoKey, KeyOfLaw, OneKeyLaw, is_key_of, key, key_of, key_shown, key_text}
-use Rattle.def_entry.specs.Keys.{kind_shown, name_shown, written}
+use Rattle.def_entry.specs.Keys.{key_spelling, kind_shown, name_shown}
 
 -- a byte that passes a test differs from a byte that fails it
 apart : (p : ℕ → Bool) (n b : ℕ) → p n ≡ false → p b ≡ true → (b == n) ≡ false
@@ -80,7 +80,7 @@ no_mark last first h =
     neither (last == 41) (last == 45) _ (apart is_word_byte 41 last refl h) (apart is_word_byte 45 last refl h)
 
 -- the text of a key with a valid name indicates its kind
-written_shows : (k : Kind) (w : List ℕ) → is_name w ≡ true → kind_shown (written k w) ≡ k
+written_shows : (k : Kind) (w : List ℕ) → is_name w ≡ true → kind_shown (key_spelling k w) ≡ k
 written_shows kind.Unit w h =
     no_mark (last_byte w) (slice_index w 0) (name_last w h)
     ∙ ap (λ b. if b then kind.List else kind.Unit) (name_parts w h).1
@@ -93,7 +93,7 @@ written_shows kind.List w h =
     ∙ no_mark (last_byte w) 33 (name_last w h)
 
 -- the text of a key of this kind contains its name
-pub written_names : (k : Kind) (w : List ℕ) → name_shown k (written k w) ≡ w
+pub written_names : (k : Kind) (w : List ℕ) → name_shown k (key_spelling k w) ≡ w
 written_names kind.Unit w = refl
 written_names kind.Prefix w =
     ap (λ n. take n (w ++ codes "-")) (omega (arith, length-append w (codes "-"))) ∙ take-append_seam w (codes "-")
@@ -138,7 +138,7 @@ none_chosen true x f = absurd (f refl)
 none_chosen false x f = refl
 
 -- if the bytes are not the text of a valid name, no key is read
-pub read_key-none : (bytes : List ℕ) → ((w : List ℕ) → is_name w ≡ true → written (kind_shown bytes) w ≡ bytes → ⊥)
+pub read_key-none : (bytes : List ℕ) → ((w : List ℕ) → is_name w ≡ true → key_spelling (kind_shown bytes) w ≡ bytes → ⊥)
     → key_of bytes ≡ None
 unfolding key_of
 read_key-none bytes f =
@@ -180,15 +180,15 @@ before_suffix bytes suffix (Some x) m =
 -- the name of a prefix is its text without the `-`
 pub prefix_named : (k : Kind) (bytes suffix : List ℕ) (r : Option (Bor (List ℕ))) → k ≡ kind.Prefix → suffix ≡ codes "-"
     → IsDropped bytes suffix r
-    → MatchOption r ((w : List ℕ) → written k w ≢ bytes) (λ x. written k x.now ≡ bytes)
+    → MatchOption r ((w : List ℕ) → key_spelling k w ≢ bytes) (λ x. key_spelling k x.now ≡ bytes)
 prefix_named k bytes suffix r e f m = rw (e, ← f) (before_suffix bytes suffix r m)
 
 -- the name of a function is its text without the `()`
 pub func_named : (k : Kind) (bytes suffix : List ℕ) (r : Option (Bor (List ℕ))) → k ≡ kind.Func → suffix ≡ codes "()"
     → IsDropped bytes suffix r
-    → MatchOption r ((w : List ℕ) → written k w ≢ bytes) (λ x. written k x.now ≡ bytes)
+    → MatchOption r ((w : List ℕ) → key_spelling k w ≢ bytes) (λ x. key_spelling k x.now ≡ bytes)
 func_named k bytes suffix r e f m = rw (e, ← f) (before_suffix bytes suffix r m)
 
 -- keys of the same kind with the same text have the same name
-pub written_once : (k : Kind) (w v : List ℕ) → written k w ≡ written k v → w ≡ v
+pub written_once : (k : Kind) (w v : List ℕ) → key_spelling k w ≡ key_spelling k v → w ≡ v
 written_once k w v e = sym (written_names k w) ∙ (ap (name_shown k) e ∙ written_names k v)

@@ -15,7 +15,7 @@ pub mod ReadForms
 pub mod Runs
 pub mod SameKeys
 pub mod Texts
-pub mod Told
+pub mod EntryFaults
 pub mod WrittenEntries
 pub mod WrittenForms
 pub mod WrittenHeadings

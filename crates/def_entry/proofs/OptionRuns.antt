@@ -10,15 +10,17 @@ use Rattle.std.proofs.lemmas.List.Elements.{filter_map-append}
 use Rattle.units_io.specs.Blanks.{is_blank}
 use Rattle.def_lines.specs.Blanks.{after_blanks}
 use Rattle.def_lines.specs.Parts.{is_begun}
-use Rattle.def_lines.proofs.Trimming.{is_begun-after_blanks}
+use Rattle.def_lines.proofs.TrimmedTexts.{is_begun-after_blanks}
 use Rattle.def_entry.specs.declared.options.Choice.{Choice}
 use Rattle.def_entry.specs.OptionGrammar.{WrittenInterval, WrittenOption, UnitsOption, DomainOption, RangeOption}
 use Rattle.def_entry.specs.OptionGrammar.{NoErrorOption, WrittenOptions, NoOption, NextOption}
-use Rattle.def_entry.specs.OptionGrammar.{AnyOrderLaw, AreOptions, OptionsLaw, are_whole, at_most, domain_of, has_ended}
-use Rattle.def_entry.specs.OptionGrammar.{in_order, is_interval, is_whole, no_error_of, option, options, range_of}
+use Rattle.def_entry.specs.OptionGrammar.{AnyOrderLaw, AreOptions, OptionsLaw, are_whole, at_most, domain_of}
+use Rattle.def_entry.specs.OptionGrammar.{option_has_ended}
+use Rattle.def_entry.specs.OptionGrammar.{in_order, is_complete_option, is_interval, no_error_of, option, options}
+use Rattle.def_entry.specs.OptionGrammar.{range_of}
 use Rattle.def_entry.specs.OptionGrammar.{span_of, units_of}
-use Rattle.def_entry.specs.Options.{Options, behind, choice_at, most_options, no_options, options_at, options_from}
-use Rattle.def_entry.specs.Options.{with_choice, with_next}
+use Rattle.def_entry.specs.Options.{Options, behind, choice_at, empty_options, most_options, options_at, options_from}
+use Rattle.def_entry.specs.Options.{with_choice, with_next_option}
 use Rattle.def_entry.specs.Steps.{◌>>=◌}
 use Rattle.def_entry.proofs.WrittenIntervals.{bind_some, one_pair}
 use Rattle.def_entry.proofs.WrittenOptions.{Added, Fronted, added, after_blanks-front, begun-option, choice-at, fronted}
@@ -95,7 +97,7 @@ behind-more NoErrorOption o os new free is = record {
 
 -- the first of some options is free
 behind-less : (w : WrittenOption) (o : Options) (os : List WrittenOption) (new : Options) (rest : List ℕ)
-    → is_whole w rest ≡ true
+    → is_complete_option w rest ≡ true
     → Behind o (w ∷ os) new
     → (is_free w o ≡ true) × Behind (added w o) os new
 behind-less (UnitsOption a b) o os new rest whole is =
@@ -159,7 +161,7 @@ record ReadFrom (o : Options) (text rest : List ℕ) (new : Options) : Type 0 wh
   written : WrittenOptions
   spelled : text ≡ options written rest
   whole : are_whole written rest ≡ true
-  ended : has_ended rest ≡ true
+  ended : option_has_ended rest ≡ true
   said : Behind o (in_order written) new
 
 -- equal options are followed by the same options
@@ -174,7 +176,7 @@ read-is zero o text rest new e = cc
 read-is (suc n) o text rest new e = go (choice_at (after_blanks text)) refl e (fronted text) (read-is n)
   where
     go : (found : Option Choice) → choice_at (after_blanks text) ≡ found
-        → with_next (options_from n) found o (after_blanks text) ≡ Some (new, rest) → Fronted text
+        → with_next_option (options_from n) found o (after_blanks text) ≡ Some (new, rest) → Fronted text
         → ((o : Options) (text rest : List ℕ) (new : Options) → options_from n o text ≡ Some (new, rest)
         → ReadFrom o text rest new)
         → ReadFrom o text rest new
@@ -184,7 +186,7 @@ read-is (suc n) o text rest new e = go (choice_at (after_blanks text)) refl e (f
           written = NoOption front.blanks;
           spelled = front.whole ∙ ap (λ t. front.blanks ++ t) pair.1;
           whole = front.clear;
-          ended = ap has_ended (sym pair.1) ∙ has-ended (after_blanks text) none (is_begun-after_blanks text);
+          ended = ap option_has_ended (sym pair.1) ∙ has-ended (after_blanks text) none (is_begun-after_blanks text);
           said = none-behind o new pair.0;
         }
     go (Some c) some e front next =
@@ -200,7 +202,7 @@ read-is (suc n) o text rest new e = go (choice_at (after_blanks text)) refl e (f
             record {
               written = NextOption front.blanks one.written rests.written;
               spelled = front.whole ∙ ap (λ t. front.blanks ++ t) (one.spelled ∙ ap (option one.written) rests.spelled);
-              whole = (λ i. front.clear i && (ap (is_whole one.written) (sym rests.spelled) ∙ one.whole) i
+              whole = (λ i. front.clear i && (ap (is_complete_option one.written) (sym rests.spelled) ∙ one.whole) i
                   && rests.whole i);
               ended = rests.ended;
               said = behind-more one.written o (in_order rests.written) new one.free
@@ -209,7 +211,7 @@ read-is (suc n) o text rest new e = go (choice_at (after_blanks text)) refl e (f
 
 -- options that are written are read
 written-read : (w : WrittenOptions) (n : ℕ) (o new : Options) (rest : List ℕ) → are_whole w rest ≡ true
-    → has_ended rest ≡ true
+    → option_has_ended rest ≡ true
     → Behind o (in_order w) new → length (in_order w) < n
     → options_from n o (options w rest) ≡ Some (new, rest)
 unfolding options_from
@@ -217,27 +219,30 @@ written-read (NoOption blanks) zero o new rest whole ended said room = absurd (o
 written-read (NoOption blanks) (suc n) o new rest whole ended said room =
     let end : (choice_at rest ≡ None) × (is_begun rest ≡ true) = no-choice rest ended in
     let front : after_blanks (blanks ++ rest) ≡ rest = after_blanks-front blanks rest whole end.1 in
-    ap (λ t. with_next (options_from n) (choice_at t) o t) front
-    ∙ ap (λ c. with_next (options_from n) c o rest) end.0
+    ap (λ t. with_next_option (options_from n) (choice_at t) o t) front
+    ∙ ap (λ c. with_next_option (options_from n) c o rest) end.0
     ∙ ap (λ (x : Options). Some (x, rest)) (behind-none o new said)
 written-read (NextOption blanks x xs) zero o new rest whole ended said room = absurd (omega arith)
 written-read (NextOption blanks x xs) (suc n) o new rest whole ended said room =
     go (written-read xs n (added x o) new rest)
   where
-    go : (are_whole xs rest ≡ true → has_ended rest ≡ true → Behind (added x o) (in_order xs) new
+    go : (are_whole xs rest ≡ true → option_has_ended rest ≡ true → Behind (added x o) (in_order xs) new
         → length (in_order xs) < n → options_from n (added x o) (options xs rest) ≡ Some (new, rest))
         → options_from (suc n) o (options (NextOption blanks x xs) rest) ≡ Some (new, rest)
     go next =
         let left : List ℕ = options xs rest in
-        let parts : ((list_all is_blank blanks && is_whole x (options xs rest)) ≡ true) × (are_whole xs rest ≡ true) =
+        let parts : ((list_all is_blank blanks && is_complete_option x (options xs rest)) ≡ true)
+        × (are_whole xs rest ≡ true) =
         and_parts _ _ whole in
-        let front : (list_all is_blank blanks ≡ true) × (is_whole x (options xs rest) ≡ true) = and_parts _ _ parts.0 in
+        let front : (list_all is_blank blanks ≡ true) × (is_complete_option x (options xs rest) ≡ true) =
+        and_parts _ _ parts.0 in
         let free : (is_free x o ≡ true) × Behind (added x o) (in_order xs) new =
         behind-less x o (in_order xs) new (options xs rest) front.1 said in
         let begun : after_blanks (blanks ++ option x (options xs rest)) ≡ option x (options xs rest) =
         after_blanks-front blanks (option x (options xs rest)) front.0 (begun-option x (options xs rest)) in
-        ap (λ t. with_next (options_from n) (choice_at t) o t) begun
-        ∙ ap (λ c. with_next (options_from n) c o (option x (options xs rest))) (choice-at x (options xs rest) front.1)
+        ap (λ t. with_next_option (options_from n) (choice_at t) o t) begun
+        ∙ ap (λ c. with_next_option (options_from n) c o (option x (options xs rest)))
+        (choice-at x (options xs rest) front.1)
         ∙ ap (λ f. f >>= (λ found. options_from n found.0 found.1)) (value-at x o (options xs rest) front.1 free.0)
         ∙ next parts.1 ended free.1 (omega arith)
 
@@ -252,7 +257,8 @@ counted : (w : WrittenOptions) (rest : List ℕ) → are_whole w rest ≡ true
     + length (filter_map range_of (in_order w)) + length (filter_map no_error_of (in_order w))
 counted (NoOption blanks) rest whole = omega arith
 counted (NextOption blanks x xs) rest whole =
-    let parts : ((list_all is_blank blanks && is_whole x (options xs rest)) ≡ true) × (are_whole xs rest ≡ true) =
+    let parts : ((list_all is_blank blanks && is_complete_option x (options xs rest)) ≡ true)
+    × (are_whole xs rest ≡ true) =
     and_parts _ _ whole in
     go x (and_parts _ _ parts.0).1 (counted xs rest parts.1)
   where
@@ -261,7 +267,7 @@ counted (NextOption blanks x xs) rest whole =
     one_more None values e = cc
     one_more (Some y) values e = refl
 
-    go : (y : WrittenOption) → is_whole y (options xs rest) ≡ true
+    go : (y : WrittenOption) → is_complete_option y (options xs rest) ≡ true
         → length (in_order xs)
         ≤ length (filter_map units_of (in_order xs)) + length (filter_map domain_of (in_order xs))
         + length (filter_map range_of (in_order xs)) + length (filter_map no_error_of (in_order xs))
@@ -293,13 +299,13 @@ options_read text rest o = (to, from)
   where
     to : options_at text ≡ Some (o, rest) → AreOptions text rest o
     to e =
-        let is : ReadFrom no_options text rest o = read-is (suc most_options) no_options text rest o e in
+        let is : ReadFrom empty_options text rest o = read-is (suc most_options) empty_options text rest o e in
         record {
           written = is.written;
           spelled = is.spelled;
           whole = is.whole;
           ended = is.ended;
-          stated = record {
+          statement_is = record {
             units = is.said.units;
             domain = is.said.domain;
             range = is.said.range;
@@ -311,25 +317,25 @@ options_read text rest o = (to, from)
     from : AreOptions text rest o → options_at text ≡ Some (o, rest)
     from is =
         let u : length (filter_map units_of (in_order is.written)) ≤ 1 =
-        few o.units (filter_map units_of (in_order is.written)) is.stated.units in
+        few o.units (filter_map units_of (in_order is.written)) is.statement_is.units in
         let d : length (filter_map domain_of (in_order is.written)) ≤ 1 =
-        few o.domain (filter_map domain_of (in_order is.written)) is.stated.domain in
+        few o.domain (filter_map domain_of (in_order is.written)) is.statement_is.domain in
         let r : length (filter_map range_of (in_order is.written)) ≤ 1 =
-        few o.range (filter_map range_of (in_order is.written)) is.stated.range in
+        few o.range (filter_map range_of (in_order is.written)) is.statement_is.range in
         let n : length (filter_map no_error_of (in_order is.written)) ≤ 1 =
-        few (flag o.no_error) (filter_map no_error_of (in_order is.written)) is.stated.no_error in
+        few (flag o.no_error) (filter_map no_error_of (in_order is.written)) is.statement_is.no_error in
         let all = counted is.written rest is.whole in
         let room : length (in_order is.written) < suc most_options = omega arith in
-        let said : Behind no_options (in_order is.written) o =
+        let said : Behind empty_options (in_order is.written) o =
         record {
-          units = is.stated.units;
-          domain = is.stated.domain;
-          range = is.stated.range;
+          units = is.statement_is.units;
+          domain = is.statement_is.domain;
+          range = is.statement_is.range;
           no_error =
-              is.stated.no_error;
+              is.statement_is.no_error;
         } in
         ap options_at is.spelled
-        ∙ written-read is.written (suc most_options) no_options o rest is.whole is.ended said room
+        ∙ written-read is.written (suc most_options) empty_options o rest is.whole is.ended said room
 
 -- exchanging two options does not change their meaning
 

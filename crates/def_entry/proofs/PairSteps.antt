@@ -12,16 +12,16 @@ use Rattle.units_io.specs.Blanks.{is_blank}
 use Rattle.def_lines.specs.Blanks.{after_blanks}
 use Rattle.def_lines.specs.Parts.{is_begun}
 use Rattle.def_lines.specs.Words.{after_word, first_word, is_empty, words_of}
-use Rattle.def_lines.proofs.Listing.{words_of-after_blanks, words_of-first}
-use Rattle.def_lines.proofs.Trimming.{is_begun-after_blanks}
+use Rattle.def_lines.proofs.WordLists.{words_of-after_blanks, words_of-first}
+use Rattle.def_lines.proofs.TrimmedTexts.{is_begun-after_blanks}
 use Rattle.piecewise.specs.Lines.{Point}
 use Rattle.def_entry.specs.Cuts.{cut_at, lacks}
 use Rattle.def_entry.specs.Headings.{stands_apart}
-use Rattle.def_entry.specs.Numbers.{number_of}
+use Rattle.def_entry.specs.Numbers.{text_number}
 use Rattle.def_entry.specs.Options.{behind}
 use Rattle.def_entry.specs.PointGrammar.{PairEnd, Apart, Comma, WrittenPoints, NoPair, NextPair, are_points}
-use Rattle.def_entry.specs.PointGrammar.{ends_number, is_number, is_pair_end, pair_end, pair_then, points, values}
-use Rattle.def_entry.specs.PointLists.{pairs_of, points_between, some_pairs}
+use Rattle.def_entry.specs.PointGrammar.{ends_number, is_number_text, is_pair_end, pair_end, pair_then, points, values}
+use Rattle.def_entry.specs.PointLists.{points_between, points_of_words, some_pairs}
 use Rattle.def_entry.specs.Steps.{◌>>=◌}
 use Rattle.def_entry.proofs.CutParts.{parts-none}
 use Rattle.def_entry.proofs.CutTexts.{cut-at, cut-is, cut-lacks, cut-none}
@@ -109,19 +109,20 @@ pub record Number (x : List ℕ) : Type 0 where
   pub some : x ≢ []
 
 -- an empty text is not a number
-pub nothing_none : number_of [] ≡ None
-unfolding number_of
+pub nothing_none : text_number [] ≡ None
+unfolding text_number
 nothing_none = refl
 
 -- a number is not empty and contains no byte that ends one
-pub number-parts : (x : List ℕ) → is_number x ≡ true → Number x
+pub number-parts : (x : List ℕ) → is_number_text x ≡ true → Number x
 number-parts x whole =
-    let parts : (list_all (λ b. not (ends_number b)) x ≡ true) × (is_some (number_of x) ≡ true) = and_parts _ _ whole in
+    let parts : (list_all (λ b. not (ends_number b)) x ≡ true) × (is_some (text_number x) ≡ true) =
+    and_parts _ _ whole in
     let none : (list_all (λ b. not (is_blank b)) x ≡ true) × (lacks 44 x ≡ true) = none_each x parts.0 in
     record {
       word = none.0;
       clear = none.1;
-      some = λ e. true≢false (sym parts.1 ∙ ap (λ t. is_some (number_of t)) e ∙ ap is_some nothing_none);
+      some = λ e. true≢false (sym parts.1 ∙ ap (λ t. is_some (text_number t)) e ∙ ap is_some nothing_none);
     }
 
 -- a text that starts with a gap starts with a blank
@@ -178,7 +179,7 @@ front_split before x gap y rest others =
 -- a pair before two runs comes before both
 pub both_pair : (x y : List ℕ) (found given : Option (List Point))
     → both (pair_then x y found) given ≡ pair_then x y (both found given)
-both_pair x y found given = go (number_of x) (number_of y) found given
+both_pair x y found given = go (text_number x) (text_number y) found given
   where
     go : (a b : Option Fraction) (found given : Option (List Point))
         → both (a >>= (λ v. b >>= (λ w. found >>= (λ ps. Some ((v, w) ∷ ps))))) given
@@ -215,11 +216,11 @@ no_comma_next (b ∷ text) = not (b == 44)
 
 -- a text before a comma has a word, if the text does not start with a comma after blanks
 pub some_words : (front behind : List ℕ) → no_comma_next (after_blanks (front ++ (44 ∷ behind))) ≡ true
-    → some_pairs (words_of front) ≡ pairs_of (words_of front)
+    → some_pairs (words_of front) ≡ points_of_words (words_of front)
 some_words front behind next = go (after_blanks front) refl (fronted front)
   where
     go : (rest : List ℕ) → after_blanks front ≡ rest → Fronted front
-        → some_pairs (words_of front) ≡ pairs_of (words_of front)
+        → some_pairs (words_of front) ≡ points_of_words (words_of front)
     go [] e is =
         let blanks : front ≡ is.blanks = is.whole ∙ ap (λ t. is.blanks ++ t) e ∙ append-nil is.blanks in
         let mark : after_blanks (front ++ (44 ∷ behind)) ≡ 44 ∷ behind =
@@ -229,7 +230,7 @@ some_words front behind next = go (after_blanks front) refl (fronted front)
         let begun : is_begun (b ∷ rest) ≡ true = ap is_begun (sym e) ∙ is_begun-after_blanks front in
         let words : words_of front ≡ first_word (b ∷ rest) ∷ words_of (after_word (b ∷ rest)) =
         sym (words_of-after_blanks front) ∙ ap words_of e ∙ words_of-first b rest begun in
-        ap some_pairs words ∙ sym (ap pairs_of words)
+        ap some_pairs words ∙ sym (ap points_of_words words)
 
 -- the points of a text that starts with a pair and a blank, or is only a pair
 pub apart-step : (before x gap y rest : List ℕ) → Front before x gap y → stands_apart rest ≡ true
@@ -247,19 +248,19 @@ apart-step before x gap y rest is apart next = go (cut_at 44 rest) refl
         ap points_between
         (parts-none 44 (front_of before x gap y rest)
         (cut-lacks 44 (front_of before x gap y rest) (front_lacks before x gap y rest is (cut-none 44 rest e))))
-        ∙ ap pairs_of (pair-words before x gap y rest is apart)
+        ∙ ap points_of_words (pair-words before x gap y rest is apart)
         ∙ ap (λ runs. pair_then x y (points_between runs)) (sym (parts-none 44 rest e))
     go (Some parts) e =
         let cut : (rest ≡ parts.0 ++ (44 ∷ parts.1)) × (lacks 44 parts.0 ≡ true) = cut-is 44 rest parts.0 parts.1 e in
         let run : List ℕ = front_of before x gap y parts.0 in
-        let words : some_pairs (words_of parts.0) ≡ pairs_of (words_of parts.0) =
+        let words : some_pairs (words_of parts.0) ≡ points_of_words (words_of parts.0) =
         some_words parts.0 parts.1 (ap (λ t. no_comma_next (after_blanks t)) (sym cut.0) ∙ next) in
         ap points_in_runs (ap (front_of before x gap y) cut.0 ∙ front_split before x gap y parts.0 (44 ∷ parts.1))
         ∙ points-cut (run ++ (44 ∷ parts.1)) run parts.1
         (cut-at 44 run parts.1 (front_lacks before x gap y parts.0 is cut.1))
         ∙ ap (λ ws. both (some_pairs ws) (points_in_runs parts.1))
         (pair-words before x gap y parts.0 is (apart_front parts.0 parts.1 (ap stands_apart (sym cut.0) ∙ apart)))
-        ∙ both_pair x y (pairs_of (words_of parts.0)) (points_in_runs parts.1)
+        ∙ both_pair x y (points_of_words (words_of parts.0)) (points_in_runs parts.1)
         ∙ ap (λ found. pair_then x y (both found (points_in_runs parts.1))) (sym words)
         ∙ ap (pair_then x y) (sym (points-cut rest parts.0 parts.1 e))
 
@@ -267,15 +268,17 @@ apart-step before x gap y rest is apart next = go (cut_at 44 rest) refl
 
 -- the tests of a pair give the properties of its parts
 pub front-parts : (before x gap y : List ℕ)
-    → (list_all is_blank before && is_number x && not (is_empty gap) && list_all is_blank gap && is_number y) ≡ true
+    → (list_all is_blank before && is_number_text x && not (is_empty gap) && list_all is_blank gap && is_number_text y)
+    ≡ true
     → Front before x gap y
 front-parts before x gap y whole =
-    let a : ((list_all is_blank before && is_number x && not (is_empty gap) && list_all is_blank gap) ≡ true)
-    × (is_number y ≡ true) = and_parts _ _ whole in
-    let b : ((list_all is_blank before && is_number x && not (is_empty gap)) ≡ true) × (list_all is_blank gap ≡ true) =
+    let a : ((list_all is_blank before && is_number_text x && not (is_empty gap) && list_all is_blank gap) ≡ true)
+    × (is_number_text y ≡ true) = and_parts _ _ whole in
+    let b : ((list_all is_blank before && is_number_text x && not (is_empty gap)) ≡ true)
+    × (list_all is_blank gap ≡ true) =
     and_parts _ _ a.0 in
-    let c : ((list_all is_blank before && is_number x) ≡ true) × (not (is_empty gap) ≡ true) = and_parts _ _ b.0 in
-    let d : (list_all is_blank before ≡ true) × (is_number x ≡ true) = and_parts _ _ c.0 in
+    let c : ((list_all is_blank before && is_number_text x) ≡ true) × (not (is_empty gap) ≡ true) = and_parts _ _ b.0 in
+    let d : (list_all is_blank before ≡ true) × (is_number_text x ≡ true) = and_parts _ _ c.0 in
     record {
       blank = d.0;
       first = number-parts x d.1;
@@ -314,7 +317,8 @@ pub written-next : (w : WrittenPoints) → are_points w ≡ true → no_comma_ne
 written-next (NoPair blanks) whole =
     ap no_comma_next (ap after_blanks (sym (append-nil blanks)) ∙ after_blanks-front blanks [] whole refl)
 written-next (NextPair before x gap y end rest) whole =
-    let a : ((list_all is_blank before && is_number x && not (is_empty gap) && list_all is_blank gap && is_number y
+    let a : ((list_all is_blank before && is_number_text x && not (is_empty gap) && list_all is_blank gap &&
+    is_number_text y
     && is_pair_end end (points rest)) ≡ true) × (are_points rest ≡ true) = and_parts _ _ whole in
     let is : Front before x gap y = front-parts before x gap y (and_parts _ _ a.0).0 in
     ap no_comma_next (after_skipped before (x ++ (gap ++ (y ++ pair_end end (points rest)))) is.blank)
@@ -324,11 +328,13 @@ written-next (NextPair before x gap y end rest) whole =
 pub pairs-read : (w : WrittenPoints) → are_points w ≡ true → points_in_runs (points w) ≡ values w
 pairs-read (NoPair blanks) whole =
     ap points_between (parts-none 44 blanks (cut-lacks 44 blanks (blank_lacks blanks whole)))
-    ∙ ap pairs_of (blank_words blanks whole)
+    ∙ ap points_of_words (blank_words blanks whole)
 pairs-read (NextPair before x gap y end rest) whole =
-    let a : ((list_all is_blank before && is_number x && not (is_empty gap) && list_all is_blank gap && is_number y
+    let a : ((list_all is_blank before && is_number_text x && not (is_empty gap) && list_all is_blank gap &&
+    is_number_text y
     && is_pair_end end (points rest)) ≡ true) × (are_points rest ≡ true) = and_parts _ _ whole in
-    let b : ((list_all is_blank before && is_number x && not (is_empty gap) && list_all is_blank gap && is_number y)
+    let b : ((list_all is_blank before && is_number_text x && not (is_empty gap) && list_all is_blank gap &&
+    is_number_text y)
     ≡ true) × (is_pair_end end (points rest) ≡ true) = and_parts _ _ a.0 in
     go end b.1 (front-parts before x gap y b.0) (written-next rest a.1) (pairs-read rest a.1)
   where

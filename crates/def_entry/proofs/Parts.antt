@@ -2,12 +2,12 @@
 use Rattle.std.proofs.Common.{◌≡◌, ◌⊎◌, inl, inr, ◌++◌, ℕ, List, [], ◌∷◌, None, Result, Ok, Err, refl, sym, ap, ◌∙◌}
 use Rattle.std.proofs.Common.{append_assoc}
 use Rattle.units_io.specs.Outcomes.{◌>>=◌}
-use Rattle.def_lines.specs.Blanks.{trimmed}
+use Rattle.def_lines.specs.Blanks.{trim_of}
 use Rattle.expr_tree.specs.Syntax.{Syntax}
 use Rattle.def_entry.specs.declared.fault.EntryFault.{EntryFault}
 use Rattle.def_entry.specs.declared.fault.EntryFault.TheVariants.{OutOfMemory}
-use Rattle.def_entry.specs.Outcomes.{tree_in}
-use Rattle.def_entry.specs.Reading.{trees_in}
+use Rattle.def_entry.specs.Outcomes.{entry_tree}
+use Rattle.def_entry.specs.EntryReading.{entry_trees}
 
 -- some trees, followed by the given ones
 abbrev pub joined : List Syntax → Result (List Syntax) EntryFault → Result (List Syntax) EntryFault
@@ -22,21 +22,21 @@ join-tree front tree (Err fault) = refl
 
 -- one more part is parsed
 pub trees-more : (front new : List Syntax) (tree : Syntax) (part text : List ℕ) (parts : List (List ℕ))
-    → text ≡ trimmed part → tree_in None text ≡ Ok tree → new ≡ front ++ tree ∷ []
-    → joined front (trees_in (part ∷ parts)) ≡ joined new (trees_in parts)
+    → text ≡ trim_of part → entry_tree None text ≡ Ok tree → new ≡ front ++ tree ∷ []
+    → joined front (entry_trees (part ∷ parts)) ≡ joined new (entry_trees parts)
 trees-more front new tree part text parts from is made =
-    ap (λ t. joined front (tree_in None t >>= (λ e. trees_in parts >>= (λ es. Ok (e ∷ es))))) (sym from)
-    ∙ ap (λ r. joined front (r >>= (λ e. trees_in parts >>= (λ es. Ok (e ∷ es))))) is
-    ∙ join-tree front tree (trees_in parts)
-    ∙ ap (λ t. joined t (trees_in parts)) (sym made)
+    ap (λ t. joined front (entry_tree None t >>= (λ e. entry_trees parts >>= (λ es. Ok (e ∷ es))))) (sym from)
+    ∙ ap (λ r. joined front (r >>= (λ e. entry_trees parts >>= (λ es. Ok (e ∷ es))))) is
+    ∙ join-tree front tree (entry_trees parts)
+    ∙ ap (λ t. joined t (entry_trees parts)) (sym made)
 
 -- the fault of a part is the fault of the list
 pub trees-fault : (front : List Syntax) (part text : List ℕ) (parts : List (List ℕ)) (fault : EntryFault)
-    → text ≡ trimmed part → tree_in None text ≡ Err fault
-    → joined front (trees_in (part ∷ parts)) ≡ Err fault
+    → text ≡ trim_of part → entry_tree None text ≡ Err fault
+    → joined front (entry_trees (part ∷ parts)) ≡ Err fault
 trees-fault front part text parts fault from is =
-    ap (λ t. joined front (tree_in None t >>= (λ e. trees_in parts >>= (λ es. Ok (e ∷ es))))) (sym from)
-    ∙ ap (λ r. joined front (r >>= (λ e. trees_in parts >>= (λ es. Ok (e ∷ es))))) is
+    ap (λ t. joined front (entry_tree None t >>= (λ e. entry_trees parts >>= (λ es. Ok (e ∷ es))))) (sym from)
+    ∙ ap (λ r. joined front (r >>= (λ e. entry_trees parts >>= (λ es. Ok (e ∷ es))))) is
 
 -- a fault of the part is one of the whole if the whole has each fault of the part
 pub fault_of : {A B : Type 0} (fault : EntryFault) (part : Result A EntryFault) (whole : Result B EntryFault)

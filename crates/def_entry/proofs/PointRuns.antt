@@ -11,7 +11,8 @@ use Rattle.def_entry.specs.declared.fault.EntryFault.{EntryFault}
 use Rattle.def_entry.specs.declared.fault.EntryFault.TheVariants.{BadTable}
 use Rattle.def_entry.specs.Cuts.{cut_at}
 use Rattle.def_entry.specs.Outcomes.{or_fault}
-use Rattle.def_entry.specs.PointLists.{behind_no_error, few, is_comma, most_points, pairs_of, points_between, points_of}
+use Rattle.def_entry.specs.PointLists.{behind_no_error, few, is_comma, most_points, points_between, points_of}
+use Rattle.def_entry.specs.PointLists.{points_of_words}
 use Rattle.def_entry.specs.PointLists.{some_pairs}
 use Rattle.def_entry.specs.Steps.{◌>>=◌}
 use Rattle.def_entry.proofs.CutParts.{parts-some, parts-none}
@@ -111,6 +112,6 @@ points-fault front text run behind fault cut said =
 -- the last run is read
 pub points-last : (front : List Point) (text : List ℕ) → cut_at 44 text ≡ None
     → or_fault BadTable (few (onto front (points_in_runs text)))
-    ≡ or_fault BadTable (few (onto front (pairs_of (words_of text))))
+    ≡ or_fault BadTable (few (onto front (points_of_words (words_of text))))
 points-last front text cut =
     ap (λ runs. or_fault BadTable (few (onto front (points_between runs)))) (parts-none 44 text cut)

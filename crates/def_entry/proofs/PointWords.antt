@@ -7,15 +7,16 @@ use Rattle.std.proofs.lemmas.List.{append-nil}
 use Rattle.def_lines.specs.Blanks.{after_blanks}
 use Rattle.def_lines.specs.Parts.{is_begun}
 use Rattle.def_lines.specs.Words.{after_word, first_word, words_of}
-use Rattle.def_lines.proofs.Listing.{is_begun-after_word, length-after_word, shorter-after_word, words_of-after_blanks}
-use Rattle.def_lines.proofs.Listing.{words_of-first}
-use Rattle.def_lines.proofs.Trimming.{empty-nil, is_begun-after_blanks}
+use Rattle.def_lines.proofs.WordLists.{is_begun-after_word, length-after_word, shorter-after_word}
+use Rattle.def_lines.proofs.WordLists.{words_of-after_blanks}
+use Rattle.def_lines.proofs.WordLists.{words_of-first}
+use Rattle.def_lines.proofs.TrimmedTexts.{empty-nil, is_begun-after_blanks}
 use Rattle.frac128.specs.Fraction.{Fraction}
 use Rattle.piecewise.specs.Lines.{Point}
 use Rattle.def_entry.specs.declared.fault.EntryFault.TheVariants.{BadTable}
-use Rattle.def_entry.specs.Numbers.{number_of}
+use Rattle.def_entry.specs.Numbers.{text_number}
 use Rattle.def_entry.specs.Outcomes.{or_fault}
-use Rattle.def_entry.specs.PointLists.{few, most_points, pairs_of, some_pairs}
+use Rattle.def_entry.specs.PointLists.{few, most_points, points_of_words, some_pairs}
 use Rattle.def_entry.specs.Steps.{◌>>=◌}
 
 -- a pair of numbers and the pairs after it
@@ -24,7 +25,8 @@ paired point points = point >>= (λ p. points >>= (λ ps. Some (p ∷ ps)))
 
 -- the two numbers at the front of a text
 abbrev pub front_pair : List ℕ → Option Point
-front_pair text = number_of (first_word text) >>= (λ x. number_of (first_word (after_word text)) >>= (λ y. Some (x, y)))
+front_pair text = text_number (first_word text) >>=
+    (λ x. text_number (first_word (after_word text)) >>= (λ y. Some (x, y)))
 
 -- no number
 abbrev nothing : Option Fraction
@@ -36,16 +38,16 @@ unfolding words_of
 words_of-nil = refl
 
 -- an empty text is not a number
-number_of-nil : number_of [] ≡ None
-unfolding number_of
+number_of-nil : text_number [] ≡ None
+unfolding text_number
 number_of-nil = refl
 
 -- one step of reading pairs
 pub pairs-step : (b : ℕ) (text : List ℕ) → is_begun (b ∷ text) ≡ true
-    → pairs_of (words_of (b ∷ text))
-    ≡ paired (front_pair (b ∷ text)) (pairs_of (words_of (after_word (after_word (b ∷ text)))))
+    → points_of_words (words_of (b ∷ text))
+    ≡ paired (front_pair (b ∷ text)) (points_of_words (words_of (after_word (after_word (b ∷ text)))))
 pairs-step b text begun =
-    ap pairs_of (words_of-first b text begun) ∙ behind (after_word (b ∷ text)) (is_begun-after_word (b ∷ text))
+    ap points_of_words (words_of-first b text begun) ∙ behind (after_word (b ∷ text)) (is_begun-after_word (b ∷ text))
   where
     none : (x y : Option Fraction) (points : Option (List Point)) → y ≡ None
         → None ≡ paired (x >>= (λ v. y >>= (λ w. Some (v, w)))) points
@@ -61,17 +63,17 @@ pairs-step b text begun =
     some (Some v) (Some w) points = refl
 
     behind : (rest : List ℕ) → is_begun rest ≡ true
-        → pairs_of (first_word (b ∷ text) ∷ words_of rest)
-        ≡ paired (number_of (first_word (b ∷ text)) >>= (λ v. number_of (first_word rest) >>= (λ w. Some (v, w))))
-        (pairs_of (words_of (after_word rest)))
+        → points_of_words (first_word (b ∷ text) ∷ words_of rest)
+        ≡ paired (text_number (first_word (b ∷ text)) >>= (λ v. text_number (first_word rest) >>= (λ w. Some (v, w))))
+        (points_of_words (words_of (after_word rest)))
     behind [] begun =
-        ap (λ ws. pairs_of (first_word (b ∷ text) ∷ ws)) words_of-nil
-        ∙ none (number_of (first_word (b ∷ text))) (number_of (first_word []))
-        (pairs_of (words_of (after_word []))) number_of-nil
+        ap (λ ws. points_of_words (first_word (b ∷ text) ∷ ws)) words_of-nil
+        ∙ none (text_number (first_word (b ∷ text))) (text_number (first_word []))
+        (points_of_words (words_of (after_word []))) number_of-nil
     behind (d ∷ rest) begun =
-        ap (λ ws. pairs_of (first_word (b ∷ text) ∷ ws)) (words_of-first d rest begun)
-        ∙ some (number_of (first_word (b ∷ text))) (number_of (first_word (d ∷ rest)))
-        (pairs_of (words_of (after_word (d ∷ rest))))
+        ap (λ ws. points_of_words (first_word (b ∷ text) ∷ ws)) (words_of-first d rest begun)
+        ∙ some (text_number (first_word (b ∷ text))) (text_number (first_word (d ∷ rest)))
+        (points_of_words (words_of (after_word (d ∷ rest))))
 
 -- the pairs after some points
 abbrev pub onto : List Point → Option (List Point) → Option (List Point)
@@ -87,50 +89,51 @@ join-pair front new pair (Some pairs) made = ap Some (ap (λ t. t ++ pairs) made
 pub pairs-more : (front new : List Point) (text word behind word' behind' : List ℕ) (x y : Fraction)
     → is_begun text ≡ true
     → (length text == 0) ≡ false
-    → word ≡ first_word text → behind ≡ after_word text → number_of word ≡ Some x
-    → word' ≡ first_word behind → behind' ≡ after_word behind → number_of word' ≡ Some y
-    → new ≡ front ++ (x, y) ∷ [] → onto new (pairs_of (words_of behind')) ≡ onto front (pairs_of (words_of text))
+    → word ≡ first_word text → behind ≡ after_word text → text_number word ≡ Some x
+    → word' ≡ first_word behind → behind' ≡ after_word behind → text_number word' ≡ Some y
+    → new ≡ front ++ (x, y) ∷ [] → onto new (points_of_words (words_of behind')) ≡ onto front
+    (points_of_words (words_of text))
 pairs-more front new [] word behind word' behind' x y begun some is from value is' from' value' made = cc
 pairs-more front new (b ∷ text) word behind word' behind' x y begun some is from value is' from' value' made =
-    let first : number_of (first_word (b ∷ text)) ≡ Some x = ap number_of (sym is) ∙ value in
-    let second : number_of (first_word (after_word (b ∷ text))) ≡ Some y =
-    ap (λ t. number_of (first_word t)) (sym from) ∙ ap number_of (sym is') ∙ value' in
+    let first : text_number (first_word (b ∷ text)) ≡ Some x = ap text_number (sym is) ∙ value in
+    let second : text_number (first_word (after_word (b ∷ text))) ≡ Some y =
+    ap (λ t. text_number (first_word t)) (sym from) ∙ ap text_number (sym is') ∙ value' in
     let pair : front_pair (b ∷ text) ≡ Some (x, y) = λ i. first i >>= (λ v. second i >>= (λ w. Some (v, w))) in
-    join-pair front new (x, y) (pairs_of (words_of behind')) made
-    ∙ ap (λ t. onto front (paired (Some (x, y)) (pairs_of (words_of t)))) (from' ∙ ap after_word from)
-    ∙ ap (λ p. onto front (paired p (pairs_of (words_of (after_word (after_word (b ∷ text))))))) (sym pair)
+    join-pair front new (x, y) (points_of_words (words_of behind')) made
+    ∙ ap (λ t. onto front (paired (Some (x, y)) (points_of_words (words_of t)))) (from' ∙ ap after_word from)
+    ∙ ap (λ p. onto front (paired p (points_of_words (words_of (after_word (after_word (b ∷ text))))))) (sym pair)
     ∙ ap (onto front) (sym (pairs-step b text begun))
 
 -- a text that does not start with a number has no pairs
 pub pairs-no_first : (front : List Point) (text word : List ℕ) → is_begun text ≡ true → (length text == 0) ≡ false
     → word ≡ first_word text
-    → number_of word ≡ None
-    → onto front (pairs_of (words_of text)) ≡ None
+    → text_number word ≡ None
+    → onto front (points_of_words (words_of text)) ≡ None
 pairs-no_first front [] word begun some is none = cc
 pairs-no_first front (b ∷ text) word begun some is none =
     ap (onto front) (pairs-step b text begun)
     ∙ ap (λ x. onto front
-    (paired (x >>= (λ v. number_of (first_word (after_word (b ∷ text))) >>= (λ w. Some (v, w))))
-    (pairs_of (words_of (after_word (after_word (b ∷ text)))))))
-    (ap number_of (sym is) ∙ none)
+    (paired (x >>= (λ v. text_number (first_word (after_word (b ∷ text))) >>= (λ w. Some (v, w))))
+    (points_of_words (words_of (after_word (after_word (b ∷ text)))))))
+    (ap text_number (sym is) ∙ none)
 
 -- a text without a second number has no pairs
 pub pairs-no_second : (front : List Point) (text behind word' : List ℕ) → is_begun text ≡ true
     → (length text == 0) ≡ false
     → behind ≡ after_word text → word' ≡ first_word behind
-    → number_of word' ≡ None → onto front (pairs_of (words_of text)) ≡ None
+    → text_number word' ≡ None → onto front (points_of_words (words_of text)) ≡ None
 pairs-no_second front [] behind word' begun some from is' none = cc
 pairs-no_second front (b ∷ text) behind word' begun some from is' none =
     ap (onto front) (pairs-step b text begun)
     ∙ ap (λ y. onto front
-    (paired (number_of (first_word (b ∷ text)) >>= (λ v. y >>= (λ w. Some (v, w))))
-    (pairs_of (words_of (after_word (after_word (b ∷ text)))))))
-    (ap (λ t. number_of (first_word t)) (sym from) ∙ ap number_of (sym is') ∙ none)
-    ∙ lost (number_of (first_word (b ∷ text)))
+    (paired (text_number (first_word (b ∷ text)) >>= (λ v. y >>= (λ w. Some (v, w))))
+    (points_of_words (words_of (after_word (after_word (b ∷ text)))))))
+    (ap (λ t. text_number (first_word t)) (sym from) ∙ ap text_number (sym is') ∙ none)
+    ∙ lost (text_number (first_word (b ∷ text)))
   where
     lost : (x : Option Fraction)
         → onto front (paired (x >>= (λ v. nothing >>= (λ w. Some (v, w))))
-        (pairs_of (words_of (after_word (after_word (b ∷ text)))))) ≡ None
+        (points_of_words (words_of (after_word (after_word (b ∷ text)))))) ≡ None
     lost None = refl
     lost (Some v) = refl
 
@@ -144,10 +147,10 @@ shorter-pair (b ∷ text) behind behind' begun some from from' =
 
 -- an empty text has no pairs
 pub pairs-nil : (front : List Point) (text : List ℕ) → (length text == 0) ≡ true
-    → onto front (pairs_of (words_of text)) ≡ Some front
+    → onto front (points_of_words (words_of text)) ≡ Some front
 pairs-nil front text none =
-    ap (λ t. onto front (pairs_of (words_of t))) (empty-nil text none)
-    ∙ ap (λ ws. onto front (pairs_of ws)) words_of-nil ∙ ap Some (append-nil front)
+    ap (λ t. onto front (points_of_words (words_of t))) (empty-nil text none)
+    ∙ ap (λ ws. onto front (points_of_words ws)) words_of-nil ∙ ap Some (append-nil front)
 
 -- blanks contain no words
 words_of-blanks : (text rest : List ℕ) → rest ≡ after_blanks text → (length rest == 0) ≡ true → words_of text ≡ []
@@ -161,13 +164,13 @@ some_pairs-none front text rest is none = ap (λ ws. onto front (some_pairs ws))
 
 -- a text that is not blank needs no further test for a pair
 pub some_pairs-some : (text rest : List ℕ) → rest ≡ after_blanks text → (length rest == 0) ≡ false
-    → some_pairs (words_of text) ≡ pairs_of (words_of text)
+    → some_pairs (words_of text) ≡ points_of_words (words_of text)
 some_pairs-some text [] is some = cc
 some_pairs-some text (b ∷ rest) is some =
     let words : words_of text ≡ first_word (b ∷ rest) ∷ words_of (after_word (b ∷ rest)) =
     sym (words_of-after_blanks text) ∙ ap words_of (sym is)
     ∙ words_of-first b rest (ap is_begun is ∙ is_begun-after_blanks text) in
-    ap some_pairs words ∙ sym (ap pairs_of words)
+    ap some_pairs words ∙ sym (ap points_of_words words)
 
 -- few points, and too many
 
@@ -208,11 +211,11 @@ few-is (Some some) points e = go (nat_le (length some) most_points) refl e
 -- a further pair is one too many
 pub pairs-many : (front : List Point) (text : List ℕ) → is_begun text ≡ true → (length text == 0) ≡ false
     → most_points ≤ length front
-    → few (onto front (pairs_of (words_of text))) ≡ None
+    → few (onto front (points_of_words (words_of text))) ≡ None
 pairs-many front [] begun some more = cc
 pairs-many front (b ∷ text) begun some more =
     ap (λ found. few (onto front found)) (pairs-step b text begun)
-    ∙ go (front_pair (b ∷ text)) (pairs_of (words_of (after_word (after_word (b ∷ text)))))
+    ∙ go (front_pair (b ∷ text)) (points_of_words (words_of (after_word (after_word (b ∷ text)))))
   where
     go : (pair : Option Point) (points : Option (List Point)) → few (onto front (paired pair points)) ≡ None
     go None points = refl

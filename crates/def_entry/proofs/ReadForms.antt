@@ -6,7 +6,7 @@ use Rattle.std.specs.List.{slice_split}
 use Rattle.std.proofs.lemmas.Bool.{eqb-true}
 use Rattle.std.proofs.lemmas.Slice.Eq.{bytes_eq-Decides}
 use Rattle.units_io.specs.Outcomes.{◌>>=◌}
-use Rattle.def_lines.specs.Blanks.{trimmed}
+use Rattle.def_lines.specs.Blanks.{trim_of}
 use Rattle.expr_tree.specs.Names.{is_name}
 use Rattle.def_entry.specs.declared.fault.EntryFault.{EntryFault}
 use Rattle.def_entry.specs.declared.fault.EntryFault.TheVariants.{BadForm}
@@ -15,15 +15,15 @@ use Rattle.def_entry.specs.declared.key.Kind.TheVariants as kind
 use Rattle.def_entry.specs.Cuts.{cut_at}
 use Rattle.def_entry.specs.Entries.{What, Primitive, Dimensionless, Body, Alias, ListOf}
 use Rattle.def_entry.specs.EntryGrammar.{HasFurtherName, Parameter, Target}
-use Rattle.def_entry.specs.FormGrammar.{IsBracketed, IsTarget, IsWritten}
+use Rattle.def_entry.specs.FormGrammar.{IsBracketed, IsSpelledAs, IsTarget}
 use Rattle.def_entry.specs.FormGrammar.{WrittenForm, PrimitiveForm, DimensionlessForm, BodyForm, FunctionForm}
 use Rattle.def_entry.specs.FormGrammar.{AliasForm, TableForm, ListForm}
 use Rattle.def_entry.specs.Forms.{Form, form_of, some_text}
-use Rattle.def_entry.specs.Headings.{is_opened}
-use Rattle.def_entry.specs.Outcomes.{named, or_fault, tree_in}
-use Rattle.def_entry.specs.Reading.{alias_in, body_in, call_in, func_in, function_of, is_semicolon}
-use Rattle.def_entry.specs.Reading.{list_in, parted_call, parted_table, table_in, trees_in, unit_in, what_in}
-use Rattle.def_entry.specs.Reading.{without_call}
+use Rattle.def_entry.specs.Headings.{has_bracket}
+use Rattle.def_entry.specs.Outcomes.{entry_tree, name_or_fault, or_fault}
+use Rattle.def_entry.specs.EntryReading.{alias_in, body_in, call_in, func_in, function_of, is_semicolon}
+use Rattle.def_entry.specs.EntryReading.{entry_trees, list_in, parted_call, parted_table, table_in, unit_in, what_in}
+use Rattle.def_entry.specs.EntryReading.{without_call}
 use Rattle.def_entry.proofs.CutTexts.{cut-at}
 use Rattle.def_entry.proofs.Meanings.{list_trees, meaning}
 use Rattle.def_entry.proofs.WrittenForms.{Formed, brackets, form-at, form-is, parts-at, parts-is, some-text, target-at}
@@ -36,9 +36,9 @@ cons_some b text e = cc
 
 -- the body of a unit or a prefix
 body-at : (text body : List ℕ) → text ≡ body → text ≢ []
-    → body_in text ≡ (tree_in None body >>= (λ tree. Ok (Body tree)))
+    → body_in text ≡ (entry_tree None body >>= (λ tree. Ok (Body tree)))
 body-at [] body e some = absurd (some refl)
-body-at (b ∷ text) body e some = ap (λ t. tree_in None t >>= (λ tree. Ok (Body tree))) e
+body-at (b ∷ text) body e some = ap (λ t. entry_tree None t >>= (λ tree. Ok (Body tree))) e
 
 -- the equality test is false for different texts
 other_bytes : (text word : List ℕ) → text ≢ word → bytes_eq text word ≡ false
@@ -49,17 +49,18 @@ other_bytes text word other = go (bytes_eq text word) refl
     go false e = refl
 
 -- the trees of parts are those of the trimmed parts
-parts-trees : (pieces : List (List ℕ)) → trees_in pieces ≡ list_trees (map trimmed pieces)
+parts-trees : (pieces : List (List ℕ)) → entry_trees pieces ≡ list_trees (map trim_of pieces)
 parts-trees [] = refl
 parts-trees (piece ∷ pieces) =
-    ap (λ rest. tree_in None (trimmed piece) >>= (λ tree. rest >>= (λ trees. Ok (tree ∷ trees)))) (parts-trees pieces)
+    ap (λ rest. entry_tree None (trim_of piece) >>= (λ tree. rest >>= (λ trees. Ok (tree ∷ trees))))
+    (parts-trees pieces)
 
 -- the definition of a list, given the text of its parts
 abbrev list_of : List ℕ → Result What EntryFault
-list_of text = trees_in (slice_split is_semicolon text) >>= (λ trees. Ok (ListOf trees))
+list_of text = entry_trees (slice_split is_semicolon text) >>= (λ trees. Ok (ListOf trees))
 
 -- a list is read from its parts
-list-at : (text : List ℕ) (parts : List (List ℕ)) → parts ≡ map trimmed (slice_split is_semicolon text) → text ≢ []
+list-at : (text : List ℕ) (parts : List (List ℕ)) → parts ≡ map trim_of (slice_split is_semicolon text) → text ≢ []
     → list_in text ≡ (list_trees parts >>= (λ trees. Ok (ListOf trees)))
 list-at [] parts e some = absurd (some refl)
 list-at (b ∷ text) parts e some =
@@ -76,11 +77,11 @@ call-at name (b ∷ parameter) behind form some is_one e =
     ∙ ap (λ f. or_fault BadForm f >>= (λ form. function_of name (b ∷ parameter) form)) e
 
 -- an alias is read from its target
-alias-at : (behind target : List ℕ) → without_call (trimmed behind) ≡ target → target ≢ [] → is_name target ≡ true
+alias-at : (behind target : List ℕ) → without_call (trim_of behind) ≡ target → target ≢ [] → is_name target ≡ true
     → alias_in behind ≡ Ok (Alias target)
 alias-at behind target e some is_one =
-    ap (λ o. or_fault BadForm o >>= (λ t. named t >>= (λ other. Ok (Alias other))))
-    (some-text (without_call (trimmed behind)) target e some)
+    ap (λ o. or_fault BadForm o >>= (λ t. name_or_fault t >>= (λ other. Ok (Alias other))))
+    (some-text (without_call (trim_of behind)) target e some)
     ∙ taken target (λ other. Ok (Alias other)) is_one
 
 -- a table is read from its unit and its points
@@ -92,7 +93,7 @@ table-at name text unit points e some =
 -- a text with a written form is read as the meaning of that form
 pub written-what : (k : Kind) (name text : List ℕ) (form : WrittenForm)
     → ((w : List ℕ) → HasFurtherName k text w → is_name w ≡ true)
-    → IsWritten k text form
+    → IsSpelledAs k text form
     → what_in k name text ≡ meaning name form
 written-what kind.Unit name text PrimitiveForm good is = ap unit_in is
 written-what kind.Unit name text DimensionlessForm good is = ap unit_in is
@@ -103,27 +104,27 @@ written-what kind.Unit name text (BodyForm body) good is =
     ∙ body-at text body is.0 is.1
 written-what kind.Prefix name text (BodyForm body) good is = body-at text body is.0 is.1
 written-what kind.Func name text (FunctionForm parameter form) good is =
-    ap (func_in name) is.bracketed.spelled
-    ∙ ap (parted_call name) (cut-at 41 is.inside is.behind is.bracketed.clear)
+    ap (func_in name) is.has_brackets.spelled
+    ∙ ap (parted_call name) (cut-at 41 is.inside is.behind is.has_brackets.clear)
     ∙ ap (λ p. call_in name p is.behind) is.parameter_is.0
     ∙ call-at name parameter is.behind form is.parameter_is.1
-    (good parameter (Parameter is.inside is.behind is.bracketed is.parameter_is))
+    (good parameter (Parameter is.inside is.behind is.has_brackets is.parameter_is))
     (form-at is.behind is.bodies form is.options_are is.bodies_are)
 written-what kind.Func name text (AliasForm target) good is =
-    ap (func_in name) is.bracketed.spelled
-    ∙ ap (parted_call name) (cut-at 41 is.inside is.behind is.bracketed.clear)
+    ap (func_in name) is.has_brackets.spelled
+    ∙ ap (parted_call name) (cut-at 41 is.inside is.behind is.has_brackets.clear)
     ∙ ap (λ p. call_in name p is.behind) is.blank
-    ∙ alias-at is.behind target (target-at (trimmed is.behind) target is.target_is) is.some (good target (Target is))
+    ∙ alias-at is.behind target (target-at (trim_of is.behind) target is.target_is) is.some (good target (Target is))
 written-what kind.Func name text (TableForm unit points) good is =
-    ap (func_in name) is.bracketed.spelled
-    ∙ ap parted_table (cut-at 93 is.inside points is.bracketed.clear)
-    ∙ table-at name (trimmed is.inside) unit points is.unit_is.0 is.unit_is.1
+    ap (func_in name) is.has_brackets.spelled
+    ∙ ap parted_table (cut-at 93 is.inside points is.has_brackets.clear)
+    ∙ table-at name (trim_of is.inside) unit points is.unit_is.0 is.unit_is.1
 written-what kind.List name text (ListForm parts) good is = list-at text parts (parts-at text parts is) is.some
 written-what _ name text _ good is = absurd is
 
 -- a text has a written form, or is read as a bad form
 pub data FormOf (k : Kind) (name text : List ℕ) : Type 0 where
-  InForm : (form : WrittenForm) → IsWritten k text form → FormOf k name text
+  InForm : (form : WrittenForm) → IsSpelledAs k text form → FormOf k name text
   NoForm : what_in k name text ≡ Err BadForm → FormOf k name text
 
 -- the text of a unit has a written form or is read as a bad form
@@ -146,24 +147,25 @@ unit-form name (b ∷ text) =
 -- the text of a function or an alias has a written form or is read as a bad form
 function-form : (name : List ℕ) (b : ℕ) (text inside behind parameter : List ℕ)
     → IsBracketed 40 41 (b ∷ text) inside behind
-    → trimmed inside ≡ parameter
+    → trim_of inside ≡ parameter
     → func_in name (b ∷ text) ≡ call_in name parameter behind
     → ((w : List ℕ) → HasFurtherName kind.Func (b ∷ text) w → is_name w ≡ true)
     → FormOf kind.Func name (b ∷ text)
-function-form name b text inside behind [] is bare read good = go (some_text (without_call (trimmed behind))) refl
+function-form name b text inside behind [] is bare read good = go (some_text (without_call (trim_of behind))) refl
   where
-    go : (target : Option (List ℕ)) → some_text (without_call (trimmed behind)) ≡ target
+    go : (target : Option (List ℕ)) → some_text (without_call (trim_of behind)) ≡ target
         → FormOf kind.Func name (b ∷ text)
-    go None e = NoForm (read ∙ ap (λ o. or_fault BadForm o >>= (λ t. named t >>= (λ other. Ok (Alias other)))) e)
+    go None e = NoForm (read ∙ ap (λ o. or_fault BadForm o >>= (λ t. name_or_fault t >>= (λ other. Ok (Alias other))))
+        e)
     go (Some target) e =
-        let some : (without_call (trimmed behind) ≡ target) × (target ≢ []) =
-        text-some (without_call (trimmed behind)) target e in
+        let some : (without_call (trim_of behind) ≡ target) × (target ≢ []) =
+        text-some (without_call (trim_of behind)) target e in
         InForm (AliasForm target) (record {
           inside = inside;
           behind = behind;
-          bracketed = is;
+          has_brackets = is;
           blank = bare;
-          target_is = subst (IsTarget (trimmed behind)) some.0 (target-is (trimmed behind));
+          target_is = subst (IsTarget (trim_of behind)) some.0 (target-is (trim_of behind));
           some = some.1;
         })
 function-form name b text inside behind (c ∷ parameter) is bare read good = go (form_of behind) refl
@@ -181,7 +183,7 @@ function-form name b text inside behind (c ∷ parameter) is bare read good = go
           inside = inside;
           behind = behind;
           bodies = formed.bodies;
-          bracketed = is;
+          has_brackets = is;
           parameter_is = (bare, cons_some c parameter);
           options_are = formed.options_are;
           bodies_are = formed.bodies_are;
@@ -189,15 +191,15 @@ function-form name b text inside behind (c ∷ parameter) is bare read good = go
 
 -- the text of a table has a written form or is read as a bad form
 table-form : (name : List ℕ) (b : ℕ) (text inside points unit : List ℕ) → IsBracketed 91 93 (b ∷ text) inside points
-    → trimmed inside ≡ unit
+    → trim_of inside ≡ unit
     → func_in name (b ∷ text) ≡ table_in unit points → FormOf kind.Func name (b ∷ text)
 table-form name b text inside points [] is bare read = NoForm read
 table-form name b text inside points (c ∷ unit) is bare read =
     InForm (TableForm (c ∷ unit) points)
-    (record { inside = inside; bracketed = is; unit_is = (bare, cons_some c unit) })
+    (record { inside = inside; has_brackets = is; unit_is = (bare, cons_some c unit) })
 
 -- the text of a function, an alias or a table has a written form or is read as a bad form
-func-form : (name text : List ℕ) → is_opened text ≡ true
+func-form : (name text : List ℕ) → has_bracket text ≡ true
     → ((w : List ℕ) → HasFurtherName kind.Func text w → is_name w ≡ true)
     → FormOf kind.Func name text
 func-form name [] opened good = NoForm refl
@@ -215,7 +217,7 @@ func-form name (b ∷ text) opened good = go (b == 40) refl (cut_at 41 text) ref
         NoForm (ap (λ s. cond s (parted_call name (cut_at 41 text)) (parted_table (cut_at 93 text))) e
         ∙ ap (parted_call name) f)
     go true e (Some parts) f other g =
-        function-form name b text parts.0 parts.1 (trimmed parts.0)
+        function-form name b text parts.0 parts.1 (trim_of parts.0)
         (brackets 40 41 b text parts.0 parts.1 (eqb-true b 40 e) f) refl
         (ap (λ s. cond s (parted_call name (cut_at 41 text)) (parted_table (cut_at 93 text))) e
         ∙ ap (parted_call name) f) good
@@ -223,12 +225,12 @@ func-form name (b ∷ text) opened good = go (b == 40) refl (cut_at 41 text) ref
         NoForm (ap (λ s. cond s (parted_call name (cut_at 41 text)) (parted_table (cut_at 93 text))) e
         ∙ ap parted_table g)
     go false e round f (Some parts) g =
-        table-form name b text parts.0 parts.1 (trimmed parts.0)
+        table-form name b text parts.0 parts.1 (trim_of parts.0)
         (brackets 91 93 b text parts.0 parts.1 (eqb-true b 91 (bracket_else (b == 40) (b == 91) e opened)) g) refl
         (ap (λ s. cond s (parted_call name (cut_at 41 text)) (parted_table (cut_at 93 text))) e ∙ ap parted_table g)
 
 -- the text of each kind of key has a written form or is read as a bad form
-pub form-of : (k : Kind) (name text : List ℕ) → (k ≡ kind.Func → is_opened text ≡ true)
+pub form-of : (k : Kind) (name text : List ℕ) → (k ≡ kind.Func → has_bracket text ≡ true)
     → ((w : List ℕ) → HasFurtherName k text w → is_name w ≡ true) → FormOf k name text
 form-of kind.Unit name text opened good = unit-form name text
 form-of kind.Prefix name [] opened good = NoForm refl
@@ -236,4 +238,4 @@ form-of kind.Prefix name (b ∷ text) opened good = InForm (BodyForm (b ∷ text
 form-of kind.Func name text opened good = func-form name text (opened refl) good
 form-of kind.List name [] opened good = NoForm refl
 form-of kind.List name (b ∷ text) opened good =
-    InForm (ListForm (map trimmed (slice_split is_semicolon (b ∷ text)))) (parts-is (b ∷ text) (cons_some b text))
+    InForm (ListForm (map trim_of (slice_split is_semicolon (b ∷ text)))) (parts-is (b ∷ text) (cons_some b text))

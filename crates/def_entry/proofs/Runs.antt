@@ -3,12 +3,12 @@ use Rattle.std.proofs.Common.{◌≡◌, inl, inr, ◌∷◌, [], ◌++◌, ℕ,
 use Rattle.std.proofs.lemmas.List.{append-nil}
 use Rattle.units_io.specs.Outcomes.{◌>>=◌}
 use Rattle.expr_tree.specs.declared.fault.ParseFault.{ParseFault}
-use Rattle.expr_tree.specs.Parsed.{parsed}
+use Rattle.expr_tree.specs.ParseResult.{parse_of}
 use Rattle.expr_tree.specs.Syntax.{Syntax}
 use Rattle.def_entry.specs.declared.fault.EntryFault.{EntryFault}
 use Rattle.def_entry.specs.declared.fault.EntryFault.TheVariants.{Parse}
-use Rattle.def_entry.specs.EntryGrammar.{IsFirstFault}
-use Rattle.def_entry.specs.Outcomes.{parsed_entry, tree_in}
+use Rattle.def_entry.specs.EntryGrammar.{IsExpressionFault}
+use Rattle.def_entry.specs.Outcomes.{entry_tree, parsed_entry}
 
 -- an expression, given by its binder and its text
 abbrev pub Expression : Type 0
@@ -17,13 +17,13 @@ Expression = Option (List ℕ) × List ℕ
 -- each expression has a tree
 abbrev pub AllParse : List Expression → Type 0
 AllParse [] = Unit {0}
-AllParse (e ∷ es) = ((tree : Syntax) × (parsed e.0 e.1 ≡ Ok tree)) × AllParse es
+AllParse (e ∷ es) = ((tree : Syntax) × (parse_of e.0 e.1 ≡ Ok tree)) × AllParse es
 
 -- the fault is the first fault of the expressions
 pub record Faulty (es : List Expression) (fault : EntryFault) : Type 0 where
   pub of : ParseFault
   pub is : fault ≡ Parse of
-  pub first : IsFirstFault es of
+  pub first : IsExpressionFault es of
 
 -- the result succeeds if each expression has a tree, and is the first fault otherwise
 pub record Runs {A : Type 0} (given : Result A EntryFault) (es : List Expression) : Type 0 where
@@ -36,22 +36,23 @@ both_parse [] fs first second = second
 both_parse (e ∷ es) fs first second = (first.0, both_parse es fs first.1 second)
 
 -- the first fault of the front is that of all expressions
-fault_front : (es fs : List Expression) (x : ParseFault) → IsFirstFault es x → IsFirstFault (es ++ fs) x
+fault_front : (es fs : List Expression) (x : ParseFault) → IsExpressionFault es x → IsExpressionFault (es ++ fs) x
 fault_front [] fs x is = absurd is
 fault_front (e ∷ es) fs x (inl is) = inl is
 fault_front (e ∷ es) fs x (inr is) = inr (is.0, fault_front es fs x is.1)
 
 -- if all expressions of the front parse, the first fault is that of the others
-fault_behind : (es fs : List Expression) (x : ParseFault) → AllParse es → IsFirstFault fs x → IsFirstFault (es ++ fs) x
+fault_behind : (es fs : List Expression) (x : ParseFault) → AllParse es → IsExpressionFault fs x
+    → IsExpressionFault (es ++ fs) x
 fault_behind [] fs x first is = is
 fault_behind (e ∷ es) fs x first is = inr (first.0, fault_behind es fs x first.1 is)
 
 -- the first fault is unique, and there is none if each expression has a tree
 
 -- if all expressions parse, there is no fault
-pub no-fault : (es : List Expression) (x : ParseFault) → AllParse es → IsFirstFault es x → ⊥
+pub no-fault : (es : List Expression) (x : ParseFault) → AllParse es → IsExpressionFault es x → ⊥
 no-fault [] x all is = is
-no-fault (e ∷ es) x all (inl is) = let tree : parsed e.0 e.1 ≡ Ok all.0.0 =
+no-fault (e ∷ es) x all (inl is) = let tree : parse_of e.0 e.1 ≡ Ok all.0.0 =
     all.0.1 in absurd (apart (all.0.0) (sym tree ∙ is))
   where
     apart : (t : Syntax) → ◌≡◌ {A = Result Syntax ParseFault} (Ok t) (Err x) → ⊥
@@ -59,7 +60,7 @@ no-fault (e ∷ es) x all (inl is) = let tree : parsed e.0 e.1 ≡ Ok all.0.0 =
 no-fault (e ∷ es) x all (inr is) = no-fault es x all.1 is.1
 
 -- the first fault is unique
-pub one-fault : (es : List Expression) (x y : ParseFault) → IsFirstFault es x → IsFirstFault es y → x ≡ y
+pub one-fault : (es : List Expression) (x y : ParseFault) → IsExpressionFault es x → IsExpressionFault es y → x ≡ y
 one-fault [] x y is other = absurd is
 one-fault (e ∷ es) x y (inl is) (inl other) = let same : ◌≡◌ {A = Result Syntax ParseFault} (Err x) (Err y) =
     sym is ∙ other in cc
@@ -70,10 +71,10 @@ one-fault (e ∷ es) x y (inr is) (inl other) = let no_way : ◌≡◌ {A = Resu
 one-fault (e ∷ es) x y (inr is) (inr other) = one-fault es x y is.1 other.1
 
 -- a single expression
-pub runs-tree : (binder : Option (List ℕ)) (text : List ℕ) → Runs (tree_in binder text) ((binder, text) ∷ [])
-runs-tree binder text = go (parsed binder text) refl
+pub runs-tree : (binder : Option (List ℕ)) (text : List ℕ) → Runs (entry_tree binder text) ((binder, text) ∷ [])
+runs-tree binder text = go (parse_of binder text) refl
   where
-    go : (given : Result Syntax ParseFault) → parsed binder text ≡ given
+    go : (given : Result Syntax ParseFault) → parse_of binder text ≡ given
         → Runs (parsed_entry given) ((binder, text) ∷ [])
     go (Ok tree) e = record { ok = λ x f. ((tree, e), tt); err = λ fault f. cc }
     go (Err x) e = record {
@@ -128,16 +129,16 @@ bind_ok (Err fault) step y e = cc
 -- the tree of an expression
 
 -- a tree that is read was parsed
-pub tree-ok : (binder : Option (List ℕ)) (text : List ℕ) (tree : Syntax) → tree_in binder text ≡ Ok tree
-    → parsed binder text ≡ Ok tree
-tree-ok binder text tree e = go (parsed binder text) refl e
+pub tree-ok : (binder : Option (List ℕ)) (text : List ℕ) (tree : Syntax) → entry_tree binder text ≡ Ok tree
+    → parse_of binder text ≡ Ok tree
+tree-ok binder text tree e = go (parse_of binder text) refl e
   where
-    go : (given : Result Syntax ParseFault) → parsed binder text ≡ given → parsed_entry given ≡ Ok tree
-        → parsed binder text ≡ Ok tree
+    go : (given : Result Syntax ParseFault) → parse_of binder text ≡ given → parsed_entry given ≡ Ok tree
+        → parse_of binder text ≡ Ok tree
     go (Ok other) f e = let same : other ≡ tree = cc in f ∙ ap Ok same
     go (Err x) f e = cc
 
 -- a tree that was parsed is read
-pub ok-tree : (binder : Option (List ℕ)) (text : List ℕ) (tree : Syntax) → parsed binder text ≡ Ok tree
-    → tree_in binder text ≡ Ok tree
+pub ok-tree : (binder : Option (List ℕ)) (text : List ℕ) (tree : Syntax) → parse_of binder text ≡ Ok tree
+    → entry_tree binder text ≡ Ok tree
 ok-tree binder text tree e = ap parsed_entry e

@@ -4,9 +4,9 @@ use Rattle.units_io.specs.Outcomes.{◌>>=◌}
 use Rattle.def_entry.specs.declared.fault.EntryFault.{EntryFault}
 use Rattle.def_entry.specs.declared.key.Key.{Key}
 use Rattle.def_entry.specs.Entries.{Entry, What}
-use Rattle.def_entry.specs.Headings.{Heading, heading}
+use Rattle.def_entry.specs.Headings.{Heading, head_of_line}
 use Rattle.def_entry.specs.Keys.{key}
-use Rattle.def_entry.specs.Reading.{EntryTextLaw, SameTextLaw, entry_by, what_of}
+use Rattle.def_entry.specs.EntryReading.{EntryTextLaw, SameTextLaw, entry_by, what_of}
 
 -- the value of a result, or another value
 abbrev value_or : {A : Type 0} → A → Result A EntryFault → A
@@ -36,9 +36,10 @@ told h k e is = go (what_of h) refl is
 
 -- the law of the text of an entry
 pub entry_text_is : EntryTextLaw
-entry_text_is line k e is = go (what_of (heading line)) is
+entry_text_is line k e is = go (what_of (head_of_line line)) is
   where
-    go : (w : Result What EntryFault) → (w >>= entry_with (heading line)) ≡ Ok (k, e) → e.text ≡ (heading line).text
+    go : (w : Result What EntryFault) → (w >>= entry_with (head_of_line line)) ≡ Ok (k, e)
+        → e.text ≡ (head_of_line line).text
     go (Ok what) said = ap (λ (r : Result (Key × Entry) EntryFault). (value_or (k, e) r).1.text) (sym said)
     go (Err fault) said = cc
 
@@ -49,7 +50,7 @@ same_text k line other e f first second = (
   (λ same.
       let what : e.what ≡ f.what =
       ap (value_or e.what)
-      (sym (told (heading line) k e first) ∙ ap (λ t. what_of (heading_by k t)) same
-      ∙ told (heading other) k f second) in
+      (sym (told (head_of_line line) k e first) ∙ ap (λ t. what_of (heading_by k t)) same
+      ∙ told (head_of_line other) k f second) in
       (λ i. record { text = same i; what = what i })),
 )

@@ -4,8 +4,8 @@ use Rattle.std.proofs.Common.{Result, Ok, Err, refl, sym, ap, ◌∙◌, subst}
 use Rattle.std.proofs.lemmas.Bool.{and_parts}
 use Rattle.units_io.specs.Blanks.{is_blank}
 use Rattle.units_io.specs.Outcomes.{◌>>=◌}
-use Rattle.def_lines.specs.Blanks.{trimmed}
-use Rattle.def_lines.proofs.Trimming.{before_blanks-word, trimmed-begun}
+use Rattle.def_lines.specs.Blanks.{trim_of}
+use Rattle.def_lines.proofs.TrimmedTexts.{before_blanks-word, trimmed-begun}
 use Rattle.expr_tree.specs.declared.fault.ParseFault.{ParseFault}
 use Rattle.def_entry.specs.declared.fault.EntryFault.{EntryFault}
 use Rattle.def_entry.specs.declared.fault.EntryFault.TheVariants.{BadForm, BadName, BadTable, Parse, OutOfMemory}
@@ -13,15 +13,15 @@ use Rattle.def_entry.specs.declared.key.Key.{Key}
 use Rattle.def_entry.specs.declared.key.Kind.TheVariants as kind
 use Rattle.def_entry.specs.Entries.{Entry, What}
 use Rattle.def_entry.specs.EntryGrammar.{EntryLaw, HasFault, HasNames, HasPoints}
-use Rattle.def_entry.specs.EntryGrammar.{IsEntry, IsFaultOf, OneEntryLaw, Says, expressions}
-use Rattle.def_entry.specs.FormGrammar.{IsWritten}
+use Rattle.def_entry.specs.EntryGrammar.{IsDefinitionOf, IsEntry, IsLineFault, OneEntryLaw, expressions}
+use Rattle.def_entry.specs.FormGrammar.{IsSpelledAs}
 use Rattle.def_entry.specs.FormGrammar.{WrittenForm}
 use Rattle.def_entry.specs.HeadingGrammar.{IsHeaded, UnitHeading, PrefixHeading, FuncHeading, ListHeading}
 use Rattle.def_entry.specs.HeadingGrammar.{WrittenHeading, heading_of, is_heading}
-use Rattle.def_entry.specs.Headings.{Heading, heading, is_opened}
+use Rattle.def_entry.specs.Headings.{Heading, has_bracket, head_of_line}
 use Rattle.def_entry.specs.Keys.{key}
-use Rattle.def_entry.specs.Reading.{entry_by, entry_of}
-use Rattle.def_entry.specs.Reading.{what_of}
+use Rattle.def_entry.specs.EntryReading.{entry_by, entry_of}
+use Rattle.def_entry.specs.EntryReading.{what_of}
 use Rattle.def_entry.proofs.Meanings.{FormPoints, Has, HasNone, form-points, meaning, ok-says, runs-meaning}
 use Rattle.def_entry.proofs.Meanings.{says-ok}
 use Rattle.def_entry.proofs.Runs.{Faulty, no-fault, one-fault}
@@ -33,29 +33,29 @@ use Rattle.def_entry.proofs.ReadForms.{FormOf, InForm, NoForm, form-of, written-
 -- the text of a function starts with a bracket
 
 -- a text that starts with a bracket still does when it is trimmed
-opened-trimmed : (text : List ℕ) → is_opened text ≡ true → is_opened (trimmed text) ≡ true
+opened-trimmed : (text : List ℕ) → has_bracket text ≡ true → has_bracket (trim_of text) ≡ true
 opened-trimmed [] opened = cc
 opened-trimmed (b ∷ text) opened =
     let word : is_blank b ≡ false = (opened_not_apart (b ∷ text) opened).0 in
-    ap is_opened (trimmed-begun (b ∷ text) (ap not word) ∙ before_blanks-word b text word) ∙ opened
+    ap has_bracket (trimmed-begun (b ∷ text) (ap not word) ∙ before_blanks-word b text word) ∙ opened
 
 -- the text in the heading of a function starts with a bracket
 opened-heading : (w : WrittenHeading) → is_heading w ≡ true → (heading_of w).kind ≡ kind.Func
-    → is_opened (heading_of w).text ≡ true
+    → has_bracket (heading_of w).text ≡ true
 opened-heading (UnitHeading l name behind) whole e = cc
 opened-heading (PrefixHeading l name behind) whole e = cc
-opened-heading (FuncHeading l name behind) whole e = opened-trimmed behind (and_parts _ (is_opened behind) whole).1
+opened-heading (FuncHeading l name behind) whole e = opened-trimmed behind (and_parts _ (has_bracket behind) whole).1
 opened-heading (ListHeading before between name behind) whole e = cc
 
 -- the text of a line with the heading of a function starts with a bracket
-opened-headed : (line : List ℕ) (h : Heading) → IsHeaded line h → h.kind ≡ kind.Func → is_opened h.text ≡ true
+opened-headed : (line : List ℕ) (h : Heading) → IsHeaded line h → h.kind ≡ kind.Func → has_bracket h.text ≡ true
 opened-headed line h is =
-    subst (λ (g : Heading). g.kind ≡ kind.Func → is_opened g.text ≡ true) (sym is.same)
+    subst (λ (g : Heading). g.kind ≡ kind.Func → has_bracket g.text ≡ true) (sym is.same)
     (opened-heading is.written is.whole)
 
 -- a line has the heading with which it is written
-headed-is : (line : List ℕ) (h : Heading) → IsHeaded line h → heading line ≡ h
-headed-is line h is = ap heading is.spelled ∙ heading-written is.written is.whole ∙ sym is.same
+headed-is : (line : List ℕ) (h : Heading) → IsHeaded line h → head_of_line line ≡ h
+headed-is line h is = ap head_of_line is.spelled ∙ heading-written is.written is.whole ∙ sym is.same
 
 -- the result for a heading
 
@@ -83,22 +83,23 @@ never-form name form e = go (form-points name form)
         (runs-meaning name form has).err BadForm e in parse faulty.of faulty.is
 
 -- if all names are valid, a form that is written is read
-what-written : (h : Heading) (form : WrittenForm) → HasNames h → IsWritten h.kind h.text form
+what-written : (h : Heading) (form : WrittenForm) → HasNames h → IsSpelledAs h.kind h.text form
     → what_of h ≡ meaning h.name form
 what-written h form good is = what-named h good.own ∙ written-what h.kind h.name h.text form good.further is
 
 -- the result of reading a heading: its definition, or its first fault
 pub data ReadOf (h : Heading) : Type 0 where
-  Gives : HasNames h → (form : WrittenForm) → IsWritten h.kind h.text form → (what : What) → Says h.name form what
+  Gives : HasNames h → (form : WrittenForm) → IsSpelledAs h.kind h.text form → (what : What)
+      → IsDefinitionOf h.name form what
       → what_of h ≡ Ok what
       → ReadOf h
-  Fails : (x : EntryFault) → IsFaultOf h x → what_of h ≡ Err x → ReadOf h
+  Fails : (x : EntryFault) → IsLineFault h x → what_of h ≡ Err x → ReadOf h
 
 -- each heading has such a result
-read-of : (h : Heading) → (h.kind ≡ kind.Func → is_opened h.text ≡ true) → ReadOf h
+read-of : (h : Heading) → (h.kind ≡ kind.Func → has_bracket h.text ≡ true) → ReadOf h
 read-of h opened = by_names (names-of h)
   where
-    by_meaning : HasNames h → (form : WrittenForm) → IsWritten h.kind h.text form → HasPoints form
+    by_meaning : HasNames h → (form : WrittenForm) → IsSpelledAs h.kind h.text form → HasPoints form
         → (given : Result What EntryFault)
         → meaning h.name form ≡ given → ReadOf h
     by_meaning good form is has (Ok what) e =
@@ -108,7 +109,7 @@ read-of h opened = by_names (names-of h)
         Fails (Parse faulty.of) (good, (form, is, has, faulty.first))
         (what-written h form good is ∙ e ∙ ap Err faulty.is)
 
-    by_points : HasNames h → (form : WrittenForm) → IsWritten h.kind h.text form → FormPoints h.name form → ReadOf h
+    by_points : HasNames h → (form : WrittenForm) → IsSpelledAs h.kind h.text form → FormPoints h.name form → ReadOf h
     by_points good form is (HasNone never e) =
         Fails BadTable (good, (form, is, never)) (what-written h form good is ∙ e)
     by_points good form is (Has has) = by_meaning good form is has (meaning h.name form) refl
@@ -130,7 +131,7 @@ read-of h opened = by_names (names-of h)
     by_names (Names good) = by_form good (form-of h.kind h.name h.text opened good.further)
 
 -- the first fault of a heading is the result of reading it
-fault-at : (h : Heading) (x : EntryFault) → (h.kind ≡ kind.Func → is_opened h.text ≡ true) → IsFaultOf h x
+fault-at : (h : Heading) (x : EntryFault) → (h.kind ≡ kind.Func → has_bracket h.text ≡ true) → IsLineFault h x
     → what_of h ≡ Err x
 fault-at h (BadName w) opened is = bad-name h w is
 fault-at h BadForm opened (inl is) = lacks-name h is
@@ -192,44 +193,48 @@ line-fault line x is =
 pub entries : EntryLaw
 entries line entry = (λ k e. (to k e, entry-at line k e), λ x. (fault_to x, line-fault line x))
   where
-    headed : IsHeaded line (heading line)
-    headed = (headings line (heading line) entry).0 refl
+    headed : IsHeaded line (head_of_line line)
+    headed = (headings line (head_of_line line) entry).0 refl
 
     to : (k : Key) (e : Entry) → entry_of line ≡ Ok (k, e) → IsEntry line k e
-    to k e given = go (read-of (heading line) (opened-headed line (heading line) headed))
+    to k e given = go (read-of (head_of_line line) (opened-headed line (head_of_line line) headed))
       where
-        go : ReadOf (heading line) → IsEntry line k e
-        go (Fails x is f) = absurd (err_apart (k, e) x (sym (ap (λ w. w >>= entry_with (heading line)) f) ∙ given))
+        go : ReadOf (head_of_line line) → IsEntry line k e
+        go (Fails x is f) = absurd (err_apart (k, e) x (sym (ap (λ w. w >>= entry_with (head_of_line line)) f) ∙ given))
         go (Gives good form is what says f) =
-            let same : (key (heading line).kind (heading line).name ≡ k)
-            × (record { text = (heading line).text; what = what } ≡ e) =
-            same_pair (key (heading line).kind (heading line).name) k
-            (record { text = (heading line).text; what = what }) e
-            (sym (ap (λ w. w >>= entry_with (heading line)) f) ∙ given) in
+            let same : (key (head_of_line line).kind (head_of_line line).name ≡ k)
+            × (record { text = (head_of_line line).text; what = what } ≡ e) =
+            same_pair (key (head_of_line line).kind (head_of_line line).name) k
+            (record { text = (head_of_line line).text; what = what }) e
+            (sym (ap (λ w. w >>= entry_with (head_of_line line)) f) ∙ given) in
             record {
-              heading = heading line;
+              heading = head_of_line line;
               headed = headed;
               key_is = sym same.0;
               text_is = sym (ap (λ (x : Entry). x.text) same.1);
               names = good;
               form = form;
               written = is;
-              says = subst (Says (heading line).name form) (ap (λ (x : Entry). x.what) same.1) says;
+              says = subst (IsDefinitionOf (head_of_line line).name form) (ap (λ (x : Entry). x.what) same.1) says;
             }
 
     fault_to : (x : EntryFault) → entry_of line ≡ Err x → HasFault line x
-    fault_to x given = go (read-of (heading line) (opened-headed line (heading line) headed))
+    fault_to x given = go (read-of (head_of_line line) (opened-headed line (head_of_line line) headed))
       where
-        go : ReadOf (heading line) → HasFault line x
+        go : ReadOf (head_of_line line) → HasFault line x
         go (Gives good form is what says f) =
             absurd (err_apart (
-              key (heading line).kind (heading line).name,
-              record { text = (heading line).text; what = what },
+              key (head_of_line line).kind (head_of_line line).name,
+              record { text = (head_of_line line).text; what = what },
             ) x
-            (sym given ∙ ap (λ w. w >>= entry_with (heading line)) f))
+            (sym given ∙ ap (λ w. w >>= entry_with (head_of_line line)) f))
         go (Fails y is f) =
-            let same : y ≡ x = same_fault y x (sym (ap (λ w. w >>= entry_with (heading line)) f) ∙ given) in
-            record { heading = heading line; headed = headed; is = subst (IsFaultOf (heading line)) same is }
+            let same : y ≡ x = same_fault y x (sym (ap (λ w. w >>= entry_with (head_of_line line)) f) ∙ given) in
+            record {
+              heading = head_of_line line;
+              headed = headed;
+              is = subst (IsLineFault (head_of_line line)) same is;
+            }
 
 -- the law of one entry
 pub one_entry : OneEntryLaw

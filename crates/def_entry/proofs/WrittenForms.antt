@@ -7,14 +7,14 @@ use Rattle.std.proofs.lemmas.Bool.{and_parts}
 use Rattle.std.proofs.lemmas.Bool.Decides.{Decides-eqb}
 use Rattle.std.proofs.lemmas.Slice.Eq.{ends_is}
 use Rattle.std.proofs.lemmas.List.Splits.{join_with_byte-slice_split, slice_split-cons_no, slice_split-cons_yes}
-use Rattle.def_lines.specs.Blanks.{trimmed}
+use Rattle.def_lines.specs.Blanks.{trim_of}
 use Rattle.def_entry.specs.declared.key.Kind.TheVariants as kind
 use Rattle.def_entry.specs.Cuts.{cut_at, lacks}
 use Rattle.def_entry.specs.FormGrammar.{AreBodies, AreParts, IsBracketed, IsTarget}
 use Rattle.def_entry.specs.Forms.{Form, form_of, form_parted, some_text}
 use Rattle.def_entry.specs.OptionGrammar.{AreOptions}
 use Rattle.def_entry.specs.Options.{Options, options_at}
-use Rattle.def_entry.specs.Reading.{is_semicolon, without_call}
+use Rattle.def_entry.specs.EntryReading.{is_semicolon, without_call}
 use Rattle.def_entry.specs.Steps.{◌>>=◌}
 use Rattle.def_entry.proofs.CutParts.{parts-none, parts-some}
 use Rattle.def_entry.proofs.CutTexts.{cut-at, cut-is, cut-lacks, cut-none}
@@ -98,14 +98,14 @@ bodies-at : (o : Options) (text forward : List ℕ) (inverse : Option (List ℕ)
     → form_parted o (cut_at 59 text) text ≡ Some (form_by o forward inverse)
 bodies-at o text forward None is =
     ap (λ c. form_parted o c text) (cut-lacks 59 text is.1)
-    ∙ (λ i. some-text (trimmed text) forward is.0.0 is.0.1 i >>= (λ f. Some (form_by o f None)))
+    ∙ (λ i. some-text (trim_of text) forward is.0.0 is.0.1 i >>= (λ f. Some (form_by o f None)))
 bodies-at o text forward (Some inverse) is =
     let front : List ℕ = is.0 in
     let behind : List ℕ = is.1 in
     ap (λ c. form_parted o c text) (ap (cut_at 59) is.2 ∙ cut-at 59 front behind is.3)
-    ∙ (λ i. some-text (trimmed front) forward is.4.0 is.4.1 i
-    >>= (λ f. some_text (trimmed behind) >>= (λ v. Some (form_by o f (Some v)))))
-    ∙ (λ i. some-text (trimmed behind) inverse is.5.0 is.5.1 i >>= (λ v. Some (form_by o forward (Some v))))
+    ∙ (λ i. some-text (trim_of front) forward is.4.0 is.4.1 i
+    >>= (λ f. some_text (trim_of behind) >>= (λ v. Some (form_by o f (Some v)))))
+    ∙ (λ i. some-text (trim_of behind) inverse is.5.0 is.5.1 i >>= (λ v. Some (form_by o forward (Some v))))
 
 -- the bodies of a form that is read
 record Bodied (o : Options) (text : List ℕ) (form : Form) : Type 0 where
@@ -120,13 +120,13 @@ bodies-is o text form e = go (cut_at 59 text) refl e
     some_is : (x y : Form) → Some x ≡ Some y → x ≡ y
     some_is x y e = cc
 
-    one : (forward : List ℕ) → cut_at 59 text ≡ None → some_text (trimmed text) ≡ Some forward
+    one : (forward : List ℕ) → cut_at 59 text ≡ None → some_text (trim_of text) ≡ Some forward
         → Bodied o text (form_by o forward None)
-    one forward cut is = record { options = refl; bodies = (text-some (trimmed text) forward is, cut-none 59 text cut) }
+    one forward cut is = record { options = refl; bodies = (text-some (trim_of text) forward is, cut-none 59 text cut) }
 
     two : (front behind forward inverse : List ℕ) → cut_at 59 text ≡ Some (front, behind)
-        → some_text (trimmed front) ≡ Some forward
-        → some_text (trimmed behind) ≡ Some inverse
+        → some_text (trim_of front) ≡ Some forward
+        → some_text (trim_of behind) ≡ Some inverse
         → Bodied o text (form_by o forward (Some inverse))
     two front behind forward inverse cut first second =
         let is : (text ≡ front ++ (59 ∷ behind)) × (lacks 59 front ≡ true) = cut-is 59 text front behind cut in
@@ -137,20 +137,20 @@ bodies-is o text form e = go (cut_at 59 text) refl e
             behind,
             is.0,
             is.1,
-            text-some (trimmed front) forward first,
-            text-some (trimmed behind) inverse second,
+            text-some (trim_of front) forward first,
+            text-some (trim_of behind) inverse second,
           );
         }
 
     go : (found : Option (List ℕ × List ℕ)) → cut_at 59 text ≡ found → form_parted o found text ≡ Some form
         → Bodied o text form
     go None cut e =
-        let step = bind_some (some_text (trimmed text)) (λ f. Some (form_by o f None)) form e in
+        let step = bind_some (some_text (trim_of text)) (λ f. Some (form_by o f None)) form e in
         subst (Bodied o text) (some_is (form_by o step.0 None) form step.2) (one step.0 cut step.1)
     go (Some parts) cut e =
-        let step = bind_some (some_text (trimmed parts.0))
-        (λ f. some_text (trimmed parts.1) >>= (λ v. Some (form_by o f (Some v)))) form e in
-        let last = bind_some (some_text (trimmed parts.1)) (λ v. Some (form_by o step.0 (Some v))) form step.2 in
+        let step = bind_some (some_text (trim_of parts.0))
+        (λ f. some_text (trim_of parts.1) >>= (λ v. Some (form_by o f (Some v)))) form e in
+        let last = bind_some (some_text (trim_of parts.1)) (λ v. Some (form_by o step.0 (Some v))) form step.2 in
         subst (Bodied o text) (some_is (form_by o step.0 (Some last.0)) form last.2)
         (two parts.0 parts.1 step.0 last.0 cut step.1 last.1)
 
@@ -200,14 +200,14 @@ pieces-at piece (next ∷ pieces) clear =
 
 -- parts are read the way they are written
 pub parts-at : (text : List ℕ) (parts : List (List ℕ)) → AreParts text parts
-    → parts ≡ map trimmed (slice_split is_semicolon text)
+    → parts ≡ map trim_of (slice_split is_semicolon text)
 parts-at text parts is = is.parts_are ∙ go is.pieces is.joined is.clear
   where
     go : (pieces : List (List ℕ)) → text ≡ join_with_byte 59 pieces → list_all (lacks 59) pieces ≡ true
-        → map trimmed pieces ≡ map trimmed (slice_split is_semicolon text)
+        → map trim_of pieces ≡ map trim_of (slice_split is_semicolon text)
     go [] joined clear = absurd (is.some joined)
     go (piece ∷ pieces) joined clear =
-        ap (map trimmed) (sym (ap (slice_split is_semicolon) joined ∙ pieces-at piece pieces clear))
+        ap (map trim_of) (sym (ap (slice_split is_semicolon) joined ∙ pieces-at piece pieces clear))
 
 -- the pieces do not contain the byte that separates them
 split-clear : (text : List ℕ) → list_all (lacks 59) (slice_split is_semicolon text) ≡ true
@@ -230,7 +230,7 @@ split-clear (b ∷ text) = go (b == 59) refl (slice_split is_semicolon text) ref
         ∙ (ap (list_all (lacks 59)) (sym f) ∙ rest)
 
 -- parts that are read are written that way
-pub parts-is : (text : List ℕ) → text ≢ [] → AreParts text (map trimmed (slice_split is_semicolon text))
+pub parts-is : (text : List ℕ) → text ≢ [] → AreParts text (map trim_of (slice_split is_semicolon text))
 parts-is text some = record {
   pieces = slice_split is_semicolon text;
   joined = sym (join_with_byte-slice_split 59 text);

@@ -15,21 +15,22 @@ use Rattle.std.proofs.Math.Seq.{drop-append_seam, drop-cons}
 use Rattle.units_io.specs.Blanks.{is_blank}
 use Rattle.def_lines.specs.declared.directive.Directive.{Directive}
 use Rattle.def_lines.specs.declared.directive.Directive.TheVariants as directive
-use Rattle.def_lines.specs.Blanks.{after_blanks, trimmed}
-use Rattle.def_lines.specs.Kinds.{Kind as LineKind, beside, directive_kind, directives, kind_of, marked_kind}
+use Rattle.def_lines.specs.Blanks.{after_blanks, trim_of}
+use Rattle.def_lines.specs.Kinds.{Kind as LineKind, directive_kind, directive_of_word, directives, kind_of, marked_kind}
 use Rattle.def_lines.specs.Kinds.{with_arguments}
 use Rattle.def_lines.specs.Kinds as line
 use Rattle.def_lines.specs.Parts.{is_begun}
 use Rattle.def_lines.specs.Words.{behind_word, first_word, is_empty, is_word}
-use Rattle.def_lines.proofs.Trimming.{is_begun-after_blanks}
+use Rattle.def_lines.proofs.TrimmedTexts.{is_begun-after_blanks}
 use Rattle.expr_tree.specs.Names.{base, last_byte}
 use Rattle.def_entry.specs.declared.key.Kind.TheVariants.{Unit as UnitKind, Prefix, Func, List as ListKind}
-use Rattle.def_entry.specs.HeadingGrammar.{HeadingLaw, IsHeaded, Lead, NoLead, PlusLead, WrittenHeading, UnitHeading}
+use Rattle.def_entry.specs.HeadingGrammar.{HeadingLaw, IsHeaded, LeadText, NoLead, PlusLead, WrittenHeading}
+use Rattle.def_entry.specs.HeadingGrammar.{UnitHeading}
 use Rattle.def_entry.specs.HeadingGrammar.{PrefixHeading, FuncHeading, ListHeading, bytes, heading_of, is_head}
-use Rattle.def_entry.specs.HeadingGrammar.{is_heading, is_lead, is_list_name, lead}
-use Rattle.def_entry.specs.Headings.{Heading, definition_heading, ends_head, ends_in_minus, heading}
-use Rattle.def_entry.specs.Headings.{heading_of as heading_by, is_opened, is_opening, list_heading, stands_apart}
-use Rattle.def_entry.specs.Reading.{has_entry}
+use Rattle.def_entry.specs.HeadingGrammar.{is_heading, is_lead, is_list_name, with_lead}
+use Rattle.def_entry.specs.Headings.{Heading, definition_heading, ends_head, ends_in_minus, head_of_line}
+use Rattle.def_entry.specs.Headings.{has_bracket, heading_of as heading_by, is_opening, list_heading, stands_apart}
+use Rattle.def_entry.specs.EntryReading.{has_entry}
 use Rattle.def_entry.proofs.CutTexts.{not_true}
 use Rattle.def_entry.proofs.Fronts.{FirstWord, Parted, before-at, first-word, parted, stops, stops-apart}
 use Rattle.def_entry.proofs.KeyTexts.{last_behind, written_names}
@@ -43,11 +44,11 @@ neither_true false false e = (refl, refl)
 
 -- the heading of a prefix
 abbrev prefix : List ℕ → List ℕ → Heading
-prefix head behind = record { kind = Prefix; name = base head; text = trimmed behind }
+prefix head behind = record { kind = Prefix; name = base head; text = trim_of behind }
 
 -- the heading of a function or of a unit
 abbrev other : List ℕ → List ℕ → Bool → Heading
-other head behind opened = record { kind = if opened then Func else UnitKind; name = head; text = trimmed behind }
+other head behind opened = record { kind = if opened then Func else UnitKind; name = head; text = trim_of behind }
 
 -- the heading of a list
 abbrev list_by : List ℕ → List ℕ → Heading
@@ -59,8 +60,8 @@ and_no true = refl
 and_no false = refl
 
 -- a lead does not change the heading
-led : (l : Lead) (rest : List ℕ) → is_lead l rest ≡ true → heading (lead l rest) ≡ definition_heading rest
-unfolding heading
+led : (l : LeadText) (rest : List ℕ) → is_lead l rest ≡ true → head_of_line (with_lead l rest) ≡ definition_heading rest
+unfolding head_of_line
 led NoLead [] plain = refl
 led NoLead (b ∷ rest) plain =
     let none : ((b == 33) ≡ false) × ((b == 43) ≡ false) = neither_true (b == 33) (b == 43) plain in
@@ -79,7 +80,8 @@ headed head behind clear stop =
     ∙ ap (heading_by head) (drop-append_seam head behind)
 
 -- a text that is empty or starts with a blank does not start with a bracket, and ends a head
-apart_not_opened : (text : List ℕ) → stands_apart text ≡ true → (is_opened text ≡ false) × (stops ends_head text ≡ true)
+apart_not_opened : (text : List ℕ) → stands_apart text ≡ true
+    → (has_bracket text ≡ false) × (stops ends_head text ≡ true)
 apart_not_opened [] apart = (refl, refl)
 apart_not_opened (b ∷ text) apart = (go (b == 32) (b == 9) refl refl apart, ap (λ t. t || is_opening b) apart)
   where
@@ -89,7 +91,7 @@ apart_not_opened (b ∷ text) apart = (go (b == 32) (b == 9) refl refl apart, ap
     go false false e f apart = cc
 
 -- a text that starts with a bracket is neither empty nor starts with a blank, and ends a head
-pub opened_not_apart : (text : List ℕ) → is_opened text ≡ true
+pub opened_not_apart : (text : List ℕ) → has_bracket text ≡ true
     → (stands_apart text ≡ false) × (stops ends_head text ≡ true)
 opened_not_apart [] opened = cc
 opened_not_apart (b ∷ text) opened =
@@ -127,41 +129,41 @@ minus_is head ends =
     ∙ (λ i. eqb-true (last_byte head) 45 parts.1 i ∷ drop_of_length-le head all i))
 
 -- a line that is written this way has this heading
-pub heading-written : (w : WrittenHeading) → is_heading w ≡ true → heading (bytes w) ≡ heading_of w
-unfolding heading
+pub heading-written : (w : WrittenHeading) → is_heading w ≡ true → head_of_line (bytes w) ≡ heading_of w
+unfolding head_of_line
 heading-written (UnitHeading l name behind) whole =
     let a : ((is_lead l (name ++ behind) && is_head name && stands_apart behind) ≡ true)
     × (not (ends_in_minus name) ≡ true) = and_parts _ _ whole in
     let b : ((is_lead l (name ++ behind) && is_head name) ≡ true) × (stands_apart behind ≡ true) = and_parts _ _ a.0 in
     let c : (is_lead l (name ++ behind) ≡ true) × (is_head name ≡ true) = and_parts _ _ b.0 in
-    let apart : (is_opened behind ≡ false) × (stops ends_head behind ≡ true) = apart_not_opened behind b.1 in
+    let apart : (has_bracket behind ≡ false) × (stops ends_head behind ≡ true) = apart_not_opened behind b.1 in
     led l (name ++ behind) c.0
     ∙ headed name behind c.1 apart.1
-    ∙ ap (λ t. cond (t && stands_apart behind) (prefix name behind) (other name behind (is_opened behind)))
+    ∙ ap (λ t. cond (t && stands_apart behind) (prefix name behind) (other name behind (has_bracket behind)))
     (not_true (ends_in_minus name) a.1)
     ∙ ap (other name behind) apart.0
 heading-written (PrefixHeading l name behind) whole =
     let a : ((is_lead l (name ++ (45 ∷ behind)) && is_head name) ≡ true) × (stands_apart behind ≡ true) =
     and_parts _ _ whole in
     let c : (is_lead l (name ++ (45 ∷ behind)) ≡ true) × (is_head name ≡ true) = and_parts _ _ a.0 in
-    let apart : (is_opened behind ≡ false) × (stops ends_head behind ≡ true) = apart_not_opened behind a.1 in
+    let apart : (has_bracket behind ≡ false) × (stops ends_head behind ≡ true) = apart_not_opened behind a.1 in
     let head : is_head (name ++ (45 ∷ [])) ≡ true = list_all-append (λ b. not (ends_head b)) name (45 ∷ [])
     ∙ ap (λ t. t && true) c.1 in
     let parts : definition_heading (name ++ (45 ∷ behind)) ≡ heading_by (name ++ (45 ∷ [])) behind =
     ap definition_heading (sym (append_assoc name (45 ∷ []) behind)) ∙ headed (name ++ (45 ∷ [])) behind head apart.1 in
     led l (name ++ (45 ∷ behind)) c.0
     ∙ parts
-    ∙ ap (λ t. cond t (prefix (name ++ (45 ∷ [])) behind) (other (name ++ (45 ∷ [])) behind (is_opened behind)))
+    ∙ ap (λ t. cond t (prefix (name ++ (45 ∷ [])) behind) (other (name ++ (45 ∷ [])) behind (has_bracket behind)))
     (λ i. minus_ends name i && a.1 i)
-    ∙ ap (λ (n : List ℕ). record { kind = Prefix; name = n; text = trimmed behind }) (written_names Prefix name)
+    ∙ ap (λ (n : List ℕ). record { kind = Prefix; name = n; text = trim_of behind }) (written_names Prefix name)
 heading-written (FuncHeading l name behind) whole =
-    let a : ((is_lead l (name ++ behind) && is_head name) ≡ true) × (is_opened behind ≡ true) = and_parts _ _ whole in
+    let a : ((is_lead l (name ++ behind) && is_head name) ≡ true) × (has_bracket behind ≡ true) = and_parts _ _ whole in
     let c : (is_lead l (name ++ behind) ≡ true) × (is_head name ≡ true) = and_parts _ _ a.0 in
     let opened : (stands_apart behind ≡ false) × (stops ends_head behind ≡ true) = opened_not_apart behind a.1 in
     led l (name ++ behind) c.0
     ∙ headed name behind c.1 opened.1
-    ∙ ap (λ t. cond (ends_in_minus name && t) (prefix name behind) (other name behind (is_opened behind))) opened.0
-    ∙ ap (λ t. cond t (prefix name behind) (other name behind (is_opened behind))) (and_no (ends_in_minus name))
+    ∙ ap (λ t. cond (ends_in_minus name && t) (prefix name behind) (other name behind (has_bracket behind))) opened.0
+    ∙ ap (λ t. cond t (prefix name behind) (other name behind (has_bracket behind))) (and_no (ends_in_minus name))
     ∙ ap (other name behind) a.1
 heading-written (ListHeading before between name behind) whole =
     let y : List ℕ = between ++ (name ++ behind) in
@@ -180,8 +182,8 @@ heading-written (ListHeading before between name behind) whole =
     after_blanks-front before (codes "unitlist" ++ y) e.0 refl in
     let word : first_word (codes "unitlist" ++ y) ≡ codes "unitlist" =
     before-at is_blank (codes "unitlist") y refl (stops-apart y d.1) in
-    let rest : behind_word (after_blanks (before ++ (codes "unitlist" ++ y))) ≡ trimmed y =
-    ap behind_word front ∙ ap (λ w. trimmed (drop (length w) (codes "unitlist" ++ y))) word in
+    let rest : behind_word (after_blanks (before ++ (codes "unitlist" ++ y))) ≡ trim_of y =
+    ap behind_word front ∙ ap (λ w. trim_of (drop (length w) (codes "unitlist" ++ y))) word in
     let first : FirstWord y name behind = first-word between name behind e.1 c.1 b.1 a.1 in
     ap (λ (r : List ℕ). list_by (first_word r) (behind_word r)) rest ∙ (λ i. list_by (first.first i) (first.rest i))
 
@@ -192,7 +194,7 @@ pub record Written (line : List ℕ) : Type 0 where
   pub whole : is_heading written ≡ true
 
 -- a text that ends a head and does not start with a bracket is empty or starts with a blank
-apart_else : (text : List ℕ) → stops ends_head text ≡ true → is_opened text ≡ false → stands_apart text ≡ true
+apart_else : (text : List ℕ) → stops ends_head text ≡ true → has_bracket text ≡ false → stands_apart text ≡ true
 apart_else [] stop closed = refl
 apart_else (b ∷ text) stop closed = go (is_blank b) (is_opening b) stop closed
   where
@@ -202,16 +204,16 @@ apart_else (b ∷ text) stop closed = go (is_blank b) (is_opening b) stop closed
     go false false e f = cc
 
 -- the written form of a definition with its lead
-defined : (l : Lead) (rest line : List ℕ) → is_lead l rest ≡ true → line ≡ lead l rest → Written line
+defined : (l : LeadText) (rest line : List ℕ) → is_lead l rest ≡ true → line ≡ with_lead l rest → Written line
 defined l rest line plain is = go (parted ends_head rest)
   where
     go : Parted ends_head rest → Written line
-    go part = by (is_opened part.behind) refl (ends_in_minus part.front) refl
+    go part = by (has_bracket part.behind) refl (ends_in_minus part.front) refl
       where
-        by : (o : Bool) → is_opened part.behind ≡ o → (m : Bool) → ends_in_minus part.front ≡ m → Written line
+        by : (o : Bool) → has_bracket part.behind ≡ o → (m : Bool) → ends_in_minus part.front ≡ m → Written line
         by true f m g = record {
           written = FuncHeading l part.front part.behind;
-          spelled = is ∙ ap (lead l) part.whole;
+          spelled = is ∙ ap (with_lead l) part.whole;
           whole = (λ i. (ap (is_lead l) (sym part.whole) ∙ plain) i && part.clear i && f i);
         }
         by false f true g =
@@ -223,14 +225,14 @@ defined l rest line plain is = go (parted ends_head rest)
             ∙ part.clear in
             record {
               written = PrefixHeading l (base part.front) part.behind;
-              spelled = is ∙ ap (lead l) whole;
+              spelled = is ∙ ap (with_lead l) whole;
               whole = (λ i. (ap (is_lead l) (sym whole) ∙ plain) i
                   && (and_parts (is_head (base part.front)) (is_head (45 ∷ [])) head).0 i
                   && apart_else part.behind part.stop f i);
             }
         by false f false g = record {
           written = UnitHeading l part.front part.behind;
-          spelled = is ∙ ap (lead l) part.whole;
+          spelled = is ∙ ap (with_lead l) part.whole;
           whole = (λ i. (ap (is_lead l) (sym part.whole) ∙ plain) i && part.clear i
               && apart_else part.behind part.stop f i && not (g i));
         }
@@ -274,7 +276,7 @@ last_word word true same e = (bytes_eq-Decides word (codes "unitlist")).0 same
 last_word word false same e = cc
 
 -- only the word `unitlist` has the directive of a list
-list_word : (word : List ℕ) → beside word directives ≡ Some directive.UnitList → word ≡ codes "unitlist"
+list_word : (word : List ℕ) → directive_of_word word directives ≡ Some directive.UnitList → word ≡ codes "unitlist"
 list_word word e0 =
     let e1 = other_word word (bytes_eq word (codes "include")) directive.Include _ (λ e. cc) e0 in
     let e2 = other_word word (bytes_eq word (codes "locale")) directive.Locale _ (λ e. cc) e1 in
@@ -291,9 +293,9 @@ list_word word e0 =
 
 -- a directive with an entry starts with the word `unitlist`
 listed : (text : List ℕ) → has_entry (marked_kind text) ≡ true → first_word text ≡ codes "unitlist"
-listed text e = go (beside (first_word text) directives) refl e
+listed text e = go (directive_of_word (first_word text) directives) refl e
   where
-    go : (found : Option Directive) → beside (first_word text) directives ≡ found
+    go : (found : Option Directive) → directive_of_word (first_word text) directives ≡ found
         → has_entry (directive_kind found (behind_word text)) ≡ true → first_word text ≡ codes "unitlist"
     go None f e = absurd (true≢false (sym e))
     go (Some d) f e = list_word (first_word text) (f ∙ ap Some (one_directive d (behind_word text) e))
@@ -348,15 +350,15 @@ written-as (b ∷ text) entry = go (b == 33) refl (b == 43) refl entry (fronted 
 pub headings : HeadingLaw
 headings text h entry = (to, from)
   where
-    to : heading text ≡ h → IsHeaded text h
+    to : head_of_line text ≡ h → IsHeaded text h
     to e =
         let is : Written text = written-as text entry in
         record {
           written = is.written;
           spelled = is.spelled;
           whole = is.whole;
-          same = sym e ∙ ap heading is.spelled ∙ heading-written is.written is.whole;
+          same = sym e ∙ ap head_of_line is.spelled ∙ heading-written is.written is.whole;
         }
 
-    from : IsHeaded text h → heading text ≡ h
-    from is = ap heading is.spelled ∙ heading-written is.written is.whole ∙ sym is.same
+    from : IsHeaded text h → head_of_line text ≡ h
+    from is = ap head_of_line is.spelled ∙ heading-written is.written is.whole ∙ sym is.same

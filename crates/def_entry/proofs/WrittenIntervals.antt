@@ -6,12 +6,12 @@ use Rattle.std.specs.Option.{is_some}
 use Rattle.std.specs.Prelude.{slice_index}
 use Rattle.std.proofs.lemmas.Bool.{and_parts, eqb-true}
 use Rattle.std.proofs.Math.Seq.{drop-append-add, take-append_seam}
-use Rattle.def_lines.specs.Blanks.{trimmed}
+use Rattle.def_lines.specs.Blanks.{trim_of}
 use Rattle.def_entry.specs.declared.entry.Bound.{Bound}
 use Rattle.def_entry.specs.declared.entry.Span.{Span}
 use Rattle.def_entry.specs.Cuts.{cut_at, lacks}
-use Rattle.def_entry.specs.Intervals.{bound_in, closed, interval_at, is_closing, opened}
-use Rattle.def_entry.specs.OptionGrammar.{WrittenInterval, closing, interval, is_interval, opening, span_of}
+use Rattle.def_entry.specs.Intervals.{bound_in, closing_bracket, interval_at, is_closing, opening_bracket}
+use Rattle.def_entry.specs.OptionGrammar.{WrittenInterval, closing_byte, interval, is_interval, opening_byte, span_of}
 use Rattle.def_entry.specs.Steps.{◌>>=◌}
 use Rattle.def_entry.proofs.CutTexts.{Around, around, cut-at, cut-is, index-at, position-at}
 
@@ -34,71 +34,73 @@ one_pair {A = A} {B = B} a x b y e = let p : (◌≡◌ {A = A × B} (a, b) (x, 
     ap (λ o. unwrap_or {T = A × B} o (a, b)) e in (ap (λ (q : A × B). q.0) p, ap (λ (q : A × B). q.1) p)
 
 -- a written opening bracket is read
-opened-at : (is_closed : Bool) (text : List ℕ) → opened (opening is_closed ∷ text) ≡ Some (is_closed, text)
+opened-at : (is_closed : Bool) (text : List ℕ) → opening_bracket (opening_byte is_closed ∷ text) ≡ Some
+    (is_closed, text)
 opened-at true text = refl
 opened-at false text = refl
 
 -- an opening bracket that is read is at the front of the text
-opened-is : (text : List ℕ) (is_closed : Bool) (behind : List ℕ) → opened text ≡ Some (is_closed, behind)
-    → text ≡ opening is_closed ∷ behind
+opened-is : (text : List ℕ) (is_closed : Bool) (behind : List ℕ) → opening_bracket text ≡ Some (is_closed, behind)
+    → text ≡ opening_byte is_closed ∷ behind
 opened-is [] is_closed behind e = cc
 opened-is (b ∷ text) is_closed behind e = go (b == 91) (b == 40) refl refl e
   where
     go : (s t : Bool) → (b == 91) ≡ s → (b == 40) ≡ t
         → cond {A = Option (Bool × List ℕ)} s (Some (true, text)) (cond t (Some (false, text)) None)
         ≡ Some (is_closed, behind)
-        → b ∷ text ≡ opening is_closed ∷ behind
+        → b ∷ text ≡ opening_byte is_closed ∷ behind
     go true t f g e =
         let parts : (true ≡ is_closed) × (text ≡ behind) = one_pair true is_closed text behind e in
-        let byte : b ≡ opening true = eqb-true b 91 f in
-        (λ i. byte i ∷ text) ∙ (λ i. opening (parts.0 i) ∷ parts.1 i)
+        let byte : b ≡ opening_byte true = eqb-true b 91 f in
+        (λ i. byte i ∷ text) ∙ (λ i. opening_byte (parts.0 i) ∷ parts.1 i)
     go false true f g e =
         let parts : (false ≡ is_closed) × (text ≡ behind) = one_pair false is_closed text behind e in
-        let byte : b ≡ opening false = eqb-true b 40 g in
-        (λ i. byte i ∷ text) ∙ (λ i. opening (parts.0 i) ∷ parts.1 i)
+        let byte : b ≡ opening_byte false = eqb-true b 40 g in
+        (λ i. byte i ∷ text) ∙ (λ i. opening_byte (parts.0 i) ∷ parts.1 i)
     go false false f g e = cc
 
 -- a closing bracket is recognised as one
-closes : (is_closed : Bool) → is_closing (closing is_closed) ≡ true
+closes : (is_closed : Bool) → is_closing (closing_byte is_closed) ≡ true
 closes true = refl
 closes false = refl
 
 -- a closing bracket determines whether the end is included
-closes_so : (is_closed : Bool) → (closing is_closed == 93) ≡ is_closed
+closes_so : (is_closed : Bool) → (closing_byte is_closed == 93) ≡ is_closed
 closes_so true = refl
 closes_so false = refl
 
 -- the text before the first closing bracket is read
 closed-at : (is_closed : Bool) (front behind : List ℕ) → list_all (λ b. not (is_closing b)) front ≡ true
-    → closed (front ++ (closing is_closed ∷ behind)) ≡ Some (front, is_closed, behind)
+    → closing_bracket (front ++ (closing_byte is_closed ∷ behind)) ≡ Some (front, is_closed, behind)
 closed-at is_closed front behind clear =
-    let text : List ℕ = front ++ (closing is_closed ∷ behind) in
-    let so : (slice_index (front ++ (closing is_closed ∷ behind)) (length front) == 93) ≡ is_closed =
-    ap (λ b. b == 93) (index-at front (closing is_closed) behind) ∙ closes_so is_closed in
+    let text : List ℕ = front ++ (closing_byte is_closed ∷ behind) in
+    let so : (slice_index (front ++ (closing_byte is_closed ∷ behind)) (length front) == 93) ≡ is_closed =
+    ap (λ b. b == 93) (index-at front (closing_byte is_closed) behind) ∙ closes_so is_closed in
     ap (option_map {U = List ℕ × Bool × List ℕ} (λ n. (take n text, slice_index text n == 93, drop (n + 1) text)))
-    (position-at is_closing front (closing is_closed) behind clear (closes is_closed))
+    (position-at is_closing front (closing_byte is_closed) behind clear (closes is_closed))
     ∙ (λ i. Some (
-      take-append_seam front (closing is_closed ∷ behind) i,
+      take-append_seam front (closing_byte is_closed ∷ behind) i,
       so i,
-      drop-append-add front (closing is_closed ∷ behind) 1 i,
+      drop-append-add front (closing_byte is_closed ∷ behind) 1 i,
     ))
 
 -- a closing bracket is determined by the test for `]`
-bracket : (b : ℕ) → is_closing b ≡ true → b ≡ closing (b == 93)
+bracket : (b : ℕ) → is_closing b ≡ true → b ≡ closing_byte (b == 93)
 bracket b passes = go (b == 93) refl (b == 41) refl passes
   where
-    go : (s : Bool) → (b == 93) ≡ s → (t : Bool) → (b == 41) ≡ t → (s || t) ≡ true → b ≡ closing (b == 93)
-    go true e t f passes = eqb-true b 93 e ∙ ap closing (sym e)
-    go false e true f passes = eqb-true b 41 f ∙ ap closing (sym e)
+    go : (s : Bool) → (b == 93) ≡ s → (t : Bool) → (b == 41) ≡ t → (s || t) ≡ true → b ≡ closing_byte (b == 93)
+    go true e t f passes = eqb-true b 93 e ∙ ap closing_byte (sym e)
+    go false e true f passes = eqb-true b 41 f ∙ ap closing_byte (sym e)
     go false e false f passes = cc
 
 -- the texts before and after the closing bracket
 pub record Closed (text front : List ℕ) (is_closed : Bool) (behind : List ℕ) : Type 0 where
-  pub whole : text ≡ front ++ (closing is_closed ∷ behind)
+  pub whole : text ≡ front ++ (closing_byte is_closed ∷ behind)
   pub clear : list_all (λ b. not (is_closing b)) front ≡ true
 
 -- a closing bracket that is read is in the text
-closed-is : (text front : List ℕ) (is_closed : Bool) (behind : List ℕ) → closed text ≡ Some (front, is_closed, behind)
+closed-is : (text front : List ℕ) (is_closed : Bool) (behind : List ℕ)
+    → closing_bracket text ≡ Some (front, is_closed, behind)
     → Closed text front is_closed behind
 closed-is text front is_closed behind e = go (position is_closing text) refl e
   where
@@ -113,8 +115,8 @@ closed-is text front is_closed behind e = go (position is_closing text) refl e
         ap (λ o. (unwrap_or {T = List ℕ × Bool × List ℕ} o ([], true, [])).1) e in
         let third : drop (n + 1) text ≡ behind =
         ap (λ o. (unwrap_or {T = List ℕ × Bool × List ℕ} o ([], true, [])).2) e in
-        let byte : slice_index text n ≡ closing is_closed = bracket (slice_index text n) at.passes
-        ∙ ap closing second in
+        let byte : slice_index text n ≡ closing_byte is_closed = bracket (slice_index text n) at.passes
+        ∙ ap closing_byte second in
         record {
           whole = at.whole ∙ (λ i. first i ++ (byte i ∷ third i));
           clear = ap (list_all (λ b. not (is_closing b))) (sym first) ∙ at.clear;
@@ -154,21 +156,21 @@ interval-at i rest s whole value =
     let most : ((lacks 44 i.low && list_all (λ b. not (is_closing b)) i.high) ≡ true) × (is_some (span_of i) ≡ true) =
     and_parts _ _ whole in
     let parts : (lacks 44 i.low ≡ true) × (list_all (λ b. not (is_closing b)) i.high ≡ true) = and_parts _ _ most.0 in
-    let first : opened (interval i rest)
-    ≡ Some (i.low_closed, i.low ++ (44 ∷ (i.high ++ (closing i.high_closed ∷ rest)))) = opened-at i.low_closed _ in
-    let second : cut_at 44 (i.low ++ (44 ∷ (i.high ++ (closing i.high_closed ∷ rest))))
-    ≡ Some (i.low, i.high ++ (closing i.high_closed ∷ rest)) = cut-at 44 i.low _ parts.0 in
-    let third : closed (i.high ++ (closing i.high_closed ∷ rest)) ≡ Some (i.high, i.high_closed, rest) =
+    let first : opening_bracket (interval i rest)
+    ≡ Some (i.low_closed, i.low ++ (44 ∷ (i.high ++ (closing_byte i.high_closed ∷ rest)))) = opened-at i.low_closed _ in
+    let second : cut_at 44 (i.low ++ (44 ∷ (i.high ++ (closing_byte i.high_closed ∷ rest))))
+    ≡ Some (i.low, i.high ++ (closing_byte i.high_closed ∷ rest)) = cut-at 44 i.low _ parts.0 in
+    let third : closing_bracket (i.high ++ (closing_byte i.high_closed ∷ rest)) ≡ Some (i.high, i.high_closed, rest) =
     closed-at i.high_closed i.high rest parts.1 in
     (λ j. first j >>= (λ front. cut_at 44 front.1
-    >>= (λ parts. closed parts.1
-    >>= (λ back. both (bound_in front.0 (trimmed parts.0)) (bound_in back.1 (trimmed back.0)) back.2))))
+    >>= (λ parts. closing_bracket parts.1
+    >>= (λ back. both (bound_in front.0 (trim_of parts.0)) (bound_in back.1 (trim_of back.0)) back.2))))
     ∙ (λ j. second j
-    >>= (λ parts. closed parts.1
-    >>= (λ back. both (bound_in i.low_closed (trimmed parts.0)) (bound_in back.1 (trimmed back.0)) back.2)))
-    ∙ (λ j. third j >>= (λ back. both (bound_in i.low_closed (trimmed i.low))
-    (bound_in back.1 (trimmed back.0)) back.2))
-    ∙ both-some (bound_in i.low_closed (trimmed i.low)) (bound_in i.high_closed (trimmed i.high)) s rest value
+    >>= (λ parts. closing_bracket parts.1
+    >>= (λ back. both (bound_in i.low_closed (trim_of parts.0)) (bound_in back.1 (trim_of back.0)) back.2)))
+    ∙ (λ j. third j >>= (λ back. both (bound_in i.low_closed (trim_of i.low))
+    (bound_in back.1 (trim_of back.0)) back.2))
+    ∙ both-some (bound_in i.low_closed (trim_of i.low)) (bound_in i.high_closed (trim_of i.high)) s rest value
 
 -- the written form of an interval that is read
 pub record Interval (text rest : List ℕ) (s : Span) : Type 0 where
@@ -181,38 +183,38 @@ pub record Interval (text rest : List ℕ) (s : Span) : Type 0 where
 pub interval-is : (text rest : List ℕ) (s : Span) → interval_at text ≡ Some (s, rest) → Interval text rest s
 unfolding interval_at
 interval-is text rest s e =
-    let one = bind_some (opened text)
+    let one = bind_some (opening_bracket text)
     (λ front. cut_at 44 front.1
-    >>= (λ parts. closed parts.1
-    >>= (λ back. both (bound_in front.0 (trimmed parts.0)) (bound_in back.1 (trimmed back.0)) back.2)))
+    >>= (λ parts. closing_bracket parts.1
+    >>= (λ back. both (bound_in front.0 (trim_of parts.0)) (bound_in back.1 (trim_of back.0)) back.2)))
     (s, rest) e in
     let two = bind_some (cut_at 44 one.0.1)
-    (λ parts. closed parts.1
-    >>= (λ back. both (bound_in one.0.0 (trimmed parts.0)) (bound_in back.1 (trimmed back.0)) back.2))
+    (λ parts. closing_bracket parts.1
+    >>= (λ back. both (bound_in one.0.0 (trim_of parts.0)) (bound_in back.1 (trim_of back.0)) back.2))
     (s, rest) one.2 in
-    let three = bind_some (closed two.0.1)
-    (λ back. both (bound_in one.0.0 (trimmed two.0.0)) (bound_in back.1 (trimmed back.0)) back.2) (s, rest) two.2 in
+    let three = bind_some (closing_bracket two.0.1)
+    (λ back. both (bound_in one.0.0 (trim_of two.0.0)) (bound_in back.1 (trim_of back.0)) back.2) (s, rest) two.2 in
     done one.0.0 one.0.1 two.0.0 two.0.1 three.0.0 three.0.1 three.0.2 one.1 two.1 three.1 three.2
   where
     done : (is_low : Bool) (inside low behind high : List ℕ) (is_high : Bool) (left : List ℕ)
-        → opened text ≡ Some (is_low, inside)
+        → opening_bracket text ≡ Some (is_low, inside)
         → cut_at 44 inside ≡ Some (low, behind)
-        → closed behind ≡ Some (high, is_high, left)
-        → both (bound_in is_low (trimmed low)) (bound_in is_high (trimmed high)) left ≡ Some (s, rest)
+        → closing_bracket behind ≡ Some (high, is_high, left)
+        → both (bound_in is_low (trim_of low)) (bound_in is_high (trim_of high)) left ≡ Some (s, rest)
         → Interval text rest s
     done is_low inside low behind high is_high left first second third last =
-        let a : text ≡ opening is_low ∷ inside = opened-is text is_low inside first in
+        let a : text ≡ opening_byte is_low ∷ inside = opened-is text is_low inside first in
         let b : (inside ≡ low ++ (44 ∷ behind)) × (lacks 44 low ≡ true) = cut-is 44 inside low behind second in
         let c : Closed behind high is_high left = closed-is behind high is_high left third in
-        let d : (span (bound_in is_low (trimmed low)) (bound_in is_high (trimmed high)) ≡ Some s) × (left ≡ rest) =
-        some-both (bound_in is_low (trimmed low)) (bound_in is_high (trimmed high)) s rest left last in
+        let d : (span (bound_in is_low (trim_of low)) (bound_in is_high (trim_of high)) ≡ Some s) × (left ≡ rest) =
+        some-both (bound_in is_low (trim_of low)) (bound_in is_high (trim_of high)) s rest left last in
         record {
           written = record { low_closed = is_low; low = low; high = high; high_closed = is_high };
           spelled =
               a
-              ∙ ap (λ t. opening is_low ∷ t) b.0
-              ∙ ap (λ t. opening is_low ∷ (low ++ (44 ∷ t))) c.whole
-              ∙ ap (λ t. opening is_low ∷ (low ++ (44 ∷ (high ++ (closing is_high ∷ t))))) d.1;
+              ∙ ap (λ t. opening_byte is_low ∷ t) b.0
+              ∙ ap (λ t. opening_byte is_low ∷ (low ++ (44 ∷ t))) c.whole
+              ∙ ap (λ t. opening_byte is_low ∷ (low ++ (44 ∷ (high ++ (closing_byte is_high ∷ t))))) d.1;
           whole = (λ j. b.1 j && c.clear j && is_some (d.0 j));
           value = d.0;
         }

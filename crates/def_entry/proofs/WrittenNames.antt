@@ -3,7 +3,7 @@ use Rattle.std.proofs.Common.{◌≡◌, ◌≢◌, ◌==◌, ◌∷◌, [], ℕ
 use Rattle.std.proofs.Common.{Err, refl, sym, ap, ◌∙◌, subst, true≢false}
 use Rattle.std.proofs.lemmas.Bool.{eqb-true}
 use Rattle.units_io.specs.Outcomes.{◌>>=◌}
-use Rattle.def_lines.specs.Blanks.{trimmed}
+use Rattle.def_lines.specs.Blanks.{trim_of}
 use Rattle.expr_tree.specs.Names.{is_name}
 use Rattle.def_entry.specs.declared.fault.EntryFault.{EntryFault}
 use Rattle.def_entry.specs.declared.fault.EntryFault.TheVariants.{BadForm, BadName}
@@ -16,9 +16,10 @@ use Rattle.def_entry.specs.EntryGrammar.{Target, HasNames, LacksName}
 use Rattle.def_entry.specs.FormGrammar.{IsBracketed, IsTarget}
 use Rattle.def_entry.specs.Forms.{form_of, some_text}
 use Rattle.def_entry.specs.Headings.{Heading}
-use Rattle.def_entry.specs.Outcomes.{named, or_fault}
-use Rattle.def_entry.specs.Reading.{call_in, func_in, function_of, name_in, parted_call, parted_table, what_in, what_of}
-use Rattle.def_entry.specs.Reading.{without_call}
+use Rattle.def_entry.specs.Outcomes.{name_or_fault, or_fault}
+use Rattle.def_entry.specs.EntryReading.{call_in, func_in, function_of, name_in, parted_call, parted_table, what_in}
+use Rattle.def_entry.specs.EntryReading.{what_of}
+use Rattle.def_entry.specs.EntryReading.{without_call}
 use Rattle.def_entry.proofs.CutTexts.{cut-at}
 use Rattle.def_entry.proofs.WrittenForms.{brackets, some-text, target-at, target-is, text-some}
 
@@ -26,13 +27,13 @@ use Rattle.def_entry.proofs.WrittenForms.{brackets, some-text, target-at, target
 
 -- the name in the parentheses of a function, or the target of an alias after them
 abbrev call_name : List ℕ → List ℕ → Option (List ℕ)
-call_name [] behind = some_text (without_call (trimmed behind))
+call_name [] behind = some_text (without_call (trim_of behind))
 call_name (b ∷ parameter) behind = Some (b ∷ parameter)
 
 -- the further name of a text, given the parts before and after its closing parenthesis
 abbrev inner_of : Option (List ℕ × List ℕ) → Option (List ℕ)
 inner_of None = None
-inner_of (Some parts) = call_name (trimmed parts.0) parts.1
+inner_of (Some parts) = call_name (trim_of parts.0) parts.1
 
 -- the further name of a text
 abbrev inner_name : List ℕ → Option (List ℕ)
@@ -42,33 +43,33 @@ inner_name (b ∷ text) = cond (b == 40) (inner_of (cut_at 41 text)) None
 -- a further name that is written is read
 name-at : (text w : List ℕ) → HasInnerName text w → inner_name text ≡ Some w
 name-at text w (Parameter inside behind is bare) =
-    ap inner_name is.spelled ∙ ap inner_of (cut-at 41 inside behind is.clear) ∙ go (trimmed inside) bare.0
+    ap inner_name is.spelled ∙ ap inner_of (cut-at 41 inside behind is.clear) ∙ go (trim_of inside) bare.0
   where
     go : (parameter : List ℕ) → parameter ≡ w → call_name parameter behind ≡ Some w
     go [] e = absurd (bare.1 (sym e))
     go (b ∷ parameter) e = ap Some e
 name-at text w (Target is) =
-    ap inner_name is.bracketed.spelled
-    ∙ ap inner_of (cut-at 41 is.inside is.behind is.bracketed.clear)
+    ap inner_name is.has_brackets.spelled
+    ∙ ap inner_of (cut-at 41 is.inside is.behind is.has_brackets.clear)
     ∙ ap (λ p. call_name p is.behind) is.blank
-    ∙ some-text (without_call (trimmed is.behind)) w (target-at (trimmed is.behind) w is.target_is) is.some
+    ∙ some-text (without_call (trim_of is.behind)) w (target-at (trim_of is.behind) w is.target_is) is.some
 
 -- a further name that is read is written
 name-is : (text w : List ℕ) → inner_name text ≡ Some w → HasInnerName text w
 name-is [] w e = cc
 name-is (b ∷ text) w e = go (b == 40) refl (cut_at 41 text) refl e
   where
-    inner : (inside behind parameter : List ℕ) → IsBracketed 40 41 (b ∷ text) inside behind → trimmed inside ≡ parameter
+    inner : (inside behind parameter : List ℕ) → IsBracketed 40 41 (b ∷ text) inside behind → trim_of inside ≡ parameter
         → call_name parameter behind ≡ Some w
         → HasInnerName (b ∷ text) w
     inner inside behind [] is bare e =
-        let some : (without_call (trimmed behind) ≡ w) × (w ≢ []) = text-some (without_call (trimmed behind)) w e in
+        let some : (without_call (trim_of behind) ≡ w) × (w ≢ []) = text-some (without_call (trim_of behind)) w e in
         Target (record {
           inside = inside;
           behind = behind;
-          bracketed = is;
+          has_brackets = is;
           blank = bare;
-          target_is = subst (IsTarget (trimmed behind)) some.0 (target-is (trimmed behind));
+          target_is = subst (IsTarget (trim_of behind)) some.0 (target-is (trim_of behind));
           some = some.1;
         })
     inner inside behind (c ∷ parameter) is bare e =
@@ -81,16 +82,17 @@ name-is (b ∷ text) w e = go (b == 40) refl (cut_at 41 text) refl e
     go false f found cut e = cc
     go true f None cut e = cc
     go true f (Some parts) cut e =
-        inner parts.0 parts.1 (trimmed parts.0) (brackets 40 41 b text parts.0 parts.1 (eqb-true b 40 f) cut) refl e
+        inner parts.0 parts.1 (trim_of parts.0) (brackets 40 41 b text parts.0 parts.1 (eqb-true b 40 f) cut) refl e
 
 -- a bad name is the fault
 
 -- a bad name is rejected before anything after it
-refused : (w : List ℕ) (go : List ℕ → Result What EntryFault) → is_name w ≡ false → (named w >>= go) ≡ Err (BadName w)
+refused : (w : List ℕ) (go : List ℕ → Result What EntryFault) → is_name w ≡ false
+    → (name_or_fault w >>= go) ≡ Err (BadName w)
 refused w go not_one = ap (λ t. cond t (Ok w) (Err (BadName w)) >>= go) not_one
 
 -- if a name is valid, reading continues
-pub taken : (w : List ℕ) (go : List ℕ → Result What EntryFault) → is_name w ≡ true → (named w >>= go) ≡ go w
+pub taken : (w : List ℕ) (go : List ℕ → Result What EntryFault) → is_name w ≡ true → (name_or_fault w >>= go) ≡ go w
 taken w go is_one = ap (λ t. cond t (Ok w) (Err (BadName w)) >>= go) is_one
 
 -- a bad further name of a function is rejected
@@ -101,30 +103,31 @@ func-bad name (b ∷ text) w e not_one = go (b == 40) (cut_at 41 text) e
     inner : (parameter behind : List ℕ) → call_name parameter behind ≡ Some w
         → call_in name parameter behind ≡ Err (BadName w)
     inner [] behind e =
-        ap (λ o. or_fault BadForm o >>= (λ target. named target >>= (λ other. Ok (Alias other)))) e
+        ap (λ o. or_fault BadForm o >>= (λ target. name_or_fault target >>= (λ other. Ok (Alias other)))) e
         ∙ refused w (λ other. Ok (Alias other)) not_one
     inner (c ∷ parameter) behind e =
         let same : c ∷ parameter ≡ w = (text-some (c ∷ parameter) w e).0 in
-        ap (λ p. named p >>= (λ q. or_fault BadForm (form_of behind) >>= (λ form. function_of name q form))) same
+        ap (λ p. name_or_fault p >>= (λ q. or_fault BadForm (form_of behind) >>= (λ form. function_of name q form)))
+        same
         ∙ refused w (λ q. or_fault BadForm (form_of behind) >>= (λ form. function_of name q form)) not_one
 
     go : (s : Bool) (found : Option (List ℕ × List ℕ)) → cond s (inner_of found) None ≡ Some w
         → cond s (parted_call name found) (parted_table (cut_at 93 text)) ≡ Err (BadName w)
     go false found e = cc
     go true None e = cc
-    go true (Some parts) e = inner (trimmed parts.0) parts.1 e
+    go true (Some parts) e = inner (trim_of parts.0) parts.1 e
 
 -- a bad name of the key is rejected
 own_bad : (k : Kind) (name w text : List ℕ) → ((k ≡ kind.List) × (name ≡ []) → ⊥) → name ≡ w → is_name w ≡ false
     → (name_in k name >>= (λ n. what_in k n text)) ≡ Err (BadName w)
-own_bad kind.Unit name w text some e not_one = ap (λ n. named n >>= (λ n. what_in kind.Unit n text)) e
+own_bad kind.Unit name w text some e not_one = ap (λ n. name_or_fault n >>= (λ n. what_in kind.Unit n text)) e
     ∙ refused w (λ n. what_in kind.Unit n text) not_one
-own_bad kind.Prefix name w text some e not_one = ap (λ n. named n >>= (λ n. what_in kind.Prefix n text)) e
+own_bad kind.Prefix name w text some e not_one = ap (λ n. name_or_fault n >>= (λ n. what_in kind.Prefix n text)) e
     ∙ refused w (λ n. what_in kind.Prefix n text) not_one
-own_bad kind.Func name w text some e not_one = ap (λ n. named n >>= (λ n. what_in kind.Func n text)) e
+own_bad kind.Func name w text some e not_one = ap (λ n. name_or_fault n >>= (λ n. what_in kind.Func n text)) e
     ∙ refused w (λ n. what_in kind.Func n text) not_one
 own_bad kind.List [] w text some e not_one = absurd (some (refl, refl))
-own_bad kind.List (b ∷ name) w text some e not_one = ap (λ n. named n >>= (λ n. what_in kind.List n text)) e
+own_bad kind.List (b ∷ name) w text some e not_one = ap (λ n. name_or_fault n >>= (λ n. what_in kind.List n text)) e
     ∙ refused w (λ n. what_in kind.List n text) not_one
 
 -- if the name of a heading is valid, the definition is that of the text after it

@@ -8,9 +8,9 @@ use Rattle.std.proofs.lemmas.Bool.{and_parts, eqb-true}
 use Rattle.std.proofs.lemmas.List.{take-append-drop}
 use Rattle.std.proofs.lemmas.Slice.Eq.{bytes_eq-Decides}
 use Rattle.units_io.specs.Blanks.{is_blank}
-use Rattle.def_lines.specs.Blanks.{after_blanks, trimmed}
+use Rattle.def_lines.specs.Blanks.{after_blanks, trim_of}
 use Rattle.def_lines.specs.Parts.{is_begun}
-use Rattle.def_lines.proofs.Trimming.{after_blanks-blank, after_blanks-word}
+use Rattle.def_lines.proofs.TrimmedTexts.{after_blanks-blank, after_blanks-word}
 use Rattle.def_entry.specs.declared.entry.Span.{Span}
 use Rattle.def_entry.specs.declared.options.Choice.{Choice}
 use Rattle.def_entry.specs.declared.options.Choice.TheVariants.{Units as UnitsChoice, Domain, Range, NoError}
@@ -19,8 +19,9 @@ use Rattle.def_entry.specs.Headings.{stands_apart}
 use Rattle.def_entry.specs.Intervals.{interval_at}
 use Rattle.def_entry.specs.OptionGrammar.{WrittenInterval, WrittenOption, UnitsOption, DomainOption, RangeOption}
 use Rattle.def_entry.specs.OptionGrammar.{NoErrorOption}
-use Rattle.def_entry.specs.OptionGrammar.{has_ended, interval, is_interval, is_whole, option, span_of}
-use Rattle.def_entry.specs.Options.{Options, Units, begins_with, begins_with_no_error, behind, choice_at, units_at}
+use Rattle.def_entry.specs.OptionGrammar.{interval, is_complete_option, is_interval, option, option_has_ended, span_of}
+use Rattle.def_entry.specs.Options.{Options, Units, begins_with_no_error, begins_with_option, behind, choice_at}
+use Rattle.def_entry.specs.Options.{units_at}
 use Rattle.def_entry.specs.Options.{with_choice}
 use Rattle.def_entry.specs.Steps.{◌>>=◌}
 use Rattle.def_entry.proofs.Choices.{begins-choice_at}
@@ -75,7 +76,7 @@ choice_of (RangeOption i) = Range
 choice_of NoErrorOption = NoError
 
 -- an option starts with the word of its kind
-pub choice-at : (w : WrittenOption) (rest : List ℕ) → is_whole w rest ≡ true
+pub choice-at : (w : WrittenOption) (rest : List ℕ) → is_complete_option w rest ≡ true
     → choice_at (option w rest) ≡ Some (choice_of w)
 choice-at (UnitsOption a b) rest whole = refl
 choice-at (DomainOption i) rest whole = refl
@@ -101,9 +102,9 @@ ended-cases false false true n b e = cc
 ended-cases false false false true b e = cc
 
 -- if the options have ended, the text does not start with an option
-pub no-choice : (rest : List ℕ) → has_ended rest ≡ true → (choice_at rest ≡ None) × (is_begun rest ≡ true)
+pub no-choice : (rest : List ℕ) → option_has_ended rest ≡ true → (choice_at rest ≡ None) × (is_begun rest ≡ true)
 no-choice rest e =
-    ended-cases (begins_with UnitsChoice rest) (begins_with Domain rest) (begins_with Range rest)
+    ended-cases (begins_with_option UnitsChoice rest) (begins_with_option Domain rest) (begins_with_option Range rest)
     (begins_with_no_error rest) (is_begun rest) e
 
 -- if no option is chosen, no test for a word holds
@@ -118,16 +119,16 @@ cases-ended false false true n b e f = cc
 cases-ended false false false true b e f = cc
 
 -- if the text does not start with an option, the options have ended
-pub has-ended : (rest : List ℕ) → choice_at rest ≡ None → is_begun rest ≡ true → has_ended rest ≡ true
+pub has-ended : (rest : List ℕ) → choice_at rest ≡ None → is_begun rest ≡ true → option_has_ended rest ≡ true
 has-ended rest none begun =
-    cases-ended (begins_with UnitsChoice rest) (begins_with Domain rest) (begins_with Range rest)
+    cases-ended (begins_with_option UnitsChoice rest) (begins_with_option Domain rest) (begins_with_option Range rest)
     (begins_with_no_error rest) (is_begun rest) none begun
 
 -- a single option
 
 -- the units of two texts
 abbrev units_by : List ℕ → List ℕ → Units
-units_by a b = record { in_unit = trimmed a; out_unit = trimmed b }
+units_by a b = record { in_unit = trim_of a; out_unit = trim_of b }
 
 -- options with these units
 abbrev with_units : Options → Units × List ℕ → Options × List ℕ
@@ -173,7 +174,7 @@ units-at a b rest clear clear' =
     ∙ (λ i. cut-at 93 b rest clear' i >>= (λ second. Some (units_by a second.0, second.1)))
 
 -- the value of an option is read
-pub value-at : (w : WrittenOption) (o : Options) (rest : List ℕ) → is_whole w rest ≡ true → is_free w o ≡ true
+pub value-at : (w : WrittenOption) (o : Options) (rest : List ℕ) → is_complete_option w rest ≡ true → is_free w o ≡ true
     → with_choice (choice_of w) o (behind (choice_of w) (option w rest)) ≡ Some (added w o, rest)
 value-at (UnitsOption a b) o rest whole free =
     let clear : (lacks 59 a ≡ true) × (lacks 93 b ≡ true) = and_parts _ _ whole in
@@ -204,7 +205,7 @@ value-at NoErrorOption o rest whole free =
 pub record Added (text : List ℕ) (o new : Options) (rest : List ℕ) : Type 0 where
   pub written : WrittenOption
   pub spelled : text ≡ option written rest
-  pub whole : is_whole written rest ≡ true
+  pub whole : is_complete_option written rest ≡ true
   pub free : is_free written o ≡ true
   pub made : new ≡ added written o
 
@@ -265,8 +266,8 @@ taken false put given made e = (refl, mapped_some put given made e)
 
 -- `noerror` is followed by a blank or by nothing
 apart : (text : List ℕ) → choice_at text ≡ Some NoError → stands_apart (behind NoError text) ≡ true
-apart text e = go (begins_with UnitsChoice text) (begins_with Domain text) (begins_with Range text)
-    (begins_with NoError text) (stands_apart (behind NoError text)) e
+apart text e = go (begins_with_option UnitsChoice text) (begins_with_option Domain text) (begins_with_option Range text)
+    (begins_with_option NoError text) (stands_apart (behind NoError text)) e
   where
     go : (u d r n s : Bool)
         → cond u (Some UnitsChoice) (cond d (Some Domain) (cond r (Some Range) (cond (n && s) (Some NoError) None)))

@@ -11,14 +11,14 @@ use Rattle.units_io.specs.Blanks.{is_blank}
 use Rattle.def_lines.specs.Blanks.{after_blanks}
 use Rattle.def_lines.specs.Parts.{is_begun}
 use Rattle.def_lines.specs.Words.{first_word, is_empty}
-use Rattle.def_lines.proofs.Trimming.{is_begun-after_blanks}
+use Rattle.def_lines.proofs.TrimmedTexts.{is_begun-after_blanks}
 use Rattle.piecewise.specs.Lines.{Point}
 use Rattle.def_entry.specs.declared.options.Choice.TheVariants.{NoError}
 use Rattle.def_entry.specs.Headings.{stands_apart}
-use Rattle.def_entry.specs.Numbers.{number_of}
-use Rattle.def_entry.specs.Options.{begins_with, begins_with_no_error, behind}
+use Rattle.def_entry.specs.Numbers.{text_number}
+use Rattle.def_entry.specs.Options.{begins_with_no_error, begins_with_option, behind}
 use Rattle.def_entry.specs.PointGrammar.{ArePairs, AreWrittenPoints, PointsLaw, WrittenPoints, NoPair}
-use Rattle.def_entry.specs.PointGrammar.{NextPair, are_points, ends_number, is_number, is_pair_end, pair_end}
+use Rattle.def_entry.specs.PointGrammar.{NextPair, are_points, ends_number, is_number_text, is_pair_end, pair_end}
 use Rattle.def_entry.specs.PointGrammar.{points, values}
 use Rattle.def_entry.specs.PointLists.{behind_no_error, points_of}
 use Rattle.def_entry.specs.Steps.{◌>>=◌}
@@ -137,15 +137,16 @@ bare (NoPair blanks) list whole same = record {
   same = same;
 }
 bare (NextPair before x gap y end rest) list whole same =
-    let a : ((list_all is_blank before && is_number x && not (is_empty gap) && list_all is_blank gap && is_number y
+    let a : ((list_all is_blank before && is_number_text x && not (is_empty gap) && list_all is_blank gap &&
+    is_number_text y
     && is_pair_end end (points rest)) ≡ true) × (are_points rest ≡ true) = and_parts _ _ whole in
     let is : Front before x gap y = front-parts before x gap y (and_parts _ _ a.0).0 in
     record {
       written = NextPair [] x gap y end rest;
       spelled = after_blanks-front before (x ++ (gap ++ (y ++ pair_end end (points rest)))) is.blank
           (number_begun x (gap ++ (y ++ pair_end end (points rest))) is.first);
-      whole = without_blanks (list_all is_blank before) (is_number x) (not (is_empty gap)) (list_all is_blank gap)
-          (is_number y) (is_pair_end end (points rest)) (are_points rest) whole;
+      whole = without_blanks (list_all is_blank before) (is_number_text x) (not (is_empty gap)) (list_all is_blank gap)
+          (is_number_text y) (is_pair_end end (points rest)) (are_points rest) whole;
       same = same;
     }
   where
@@ -168,7 +169,7 @@ behind-blanks blanks (NextPair before x gap y end rest) list clear whole same = 
   written = NextPair (blanks ++ before) x gap y end rest;
   spelled = sym (append_assoc blanks before (x ++ (gap ++ (y ++ pair_end end (points rest)))));
   whole =
-      ap (λ t. t && is_number x && not (is_empty gap) && list_all is_blank gap && is_number y
+      ap (λ t. t && is_number_text x && not (is_empty gap) && list_all is_blank gap && is_number_text y
       && is_pair_end end (points rest) && are_points rest)
       (list_all-append is_blank blanks before ∙ ap (λ t. t && list_all is_blank before) clear)
       ∙ whole;
@@ -176,8 +177,8 @@ behind-blanks blanks (NextPair before x gap y end rest) list clear whole same = 
 }
 
 -- `noerror` is not a number
-word_none : number_of (codes "noerror") ≡ None
-unfolding number_of
+word_none : text_number (codes "noerror") ≡ None
+unfolding text_number
 word_none = refl
 
 -- pairs do not start with `noerror`
@@ -185,12 +186,13 @@ no_word_led : (text : List ℕ) (list : List Point) → ArePairs text list
     → begins_with_no_error (after_blanks text) ≡ false
 no_word_led text list is = ap (λ t. begins_with_no_error (after_blanks t)) is.spelled ∙ go is.written is.whole
   where
-    words : (x rest : List ℕ) → Number x → is_number x ≡ true → stands_apart rest ≡ true → (t : Bool)
+    words : (x rest : List ℕ) → Number x → is_number_text x ≡ true → stands_apart rest ≡ true → (t : Bool)
         → begins_with_no_error (x ++ rest) ≡ t
         → t ≡ false
     words x rest is number apart false e = refl
     words x rest is number apart true e =
-        let parts : (begins_with NoError (x ++ rest) ≡ true) × (stands_apart (behind NoError (x ++ rest)) ≡ true) =
+        let parts : (begins_with_option NoError (x ++ rest) ≡ true) × (stands_apart (behind NoError (x ++ rest)) ≡ true)
+        =
         and_parts _ _ e in
         let led : x ++ rest ≡ codes "noerror" ++ behind NoError (x ++ rest) =
         starts-is (x ++ rest) (codes "noerror") parts.0 in
@@ -199,21 +201,25 @@ no_word_led text list is = ap (λ t. begins_with_no_error (after_blanks t)) is.s
         ∙ ap first_word led
         ∙ before-at is_blank (codes "noerror") (behind NoError (x ++ rest)) refl
         (stops-apart (behind NoError (x ++ rest)) parts.1) in
-        absurd (true≢false (sym (and_parts _ _ number).1 ∙ ap (λ w. is_some (number_of w)) word ∙ ap is_some word_none))
+        absurd (true≢false (sym (and_parts _ _ number).1 ∙ ap (λ w. is_some (text_number w)) word
+        ∙ ap is_some word_none))
 
     go : (w : WrittenPoints) → are_points w ≡ true → begins_with_no_error (after_blanks (points w)) ≡ false
     go (NoPair blanks) whole =
         ap begins_with_no_error (ap after_blanks (sym (append-nil blanks)) ∙ after_blanks-front blanks [] whole refl)
     go (NextPair before x gap y end rest) whole =
-        let a : ((list_all is_blank before && is_number x && not (is_empty gap) && list_all is_blank gap && is_number y
+        let a : ((list_all is_blank before && is_number_text x && not (is_empty gap) && list_all is_blank gap &&
+        is_number_text y
         && is_pair_end end (points rest)) ≡ true) × (are_points rest ≡ true) = and_parts _ _ whole in
-        let b : ((list_all is_blank before && is_number x && not (is_empty gap) && list_all is_blank gap && is_number y)
+        let b : ((list_all is_blank before && is_number_text x && not (is_empty gap) && list_all is_blank gap &&
+        is_number_text y)
         ≡ true) × (is_pair_end end (points rest) ≡ true) = and_parts _ _ a.0 in
-        let c : ((list_all is_blank before && is_number x && not (is_empty gap) && list_all is_blank gap) ≡ true)
-        × (is_number y ≡ true) = and_parts _ _ b.0 in
-        let d : ((list_all is_blank before && is_number x && not (is_empty gap)) ≡ true)
+        let c : ((list_all is_blank before && is_number_text x && not (is_empty gap) && list_all is_blank gap) ≡ true)
+        × (is_number_text y ≡ true) = and_parts _ _ b.0 in
+        let d : ((list_all is_blank before && is_number_text x && not (is_empty gap)) ≡ true)
         × (list_all is_blank gap ≡ true) = and_parts _ _ c.0 in
-        let f : ((list_all is_blank before && is_number x) ≡ true) × (not (is_empty gap) ≡ true) = and_parts _ _ d.0 in
+        let f : ((list_all is_blank before && is_number_text x) ≡ true) × (not (is_empty gap) ≡ true) =
+        and_parts _ _ d.0 in
         let front : Front before x gap y = front-parts before x gap y b.0 in
         let others : List ℕ = gap ++ (y ++ pair_end end (points rest)) in
         ap begins_with_no_error
@@ -230,7 +236,7 @@ points_read text list = (to, from)
     with_word : (t : Bool) → begins_with_no_error (after_blanks text) ≡ t → points_of text ≡ Some list
         → AreWrittenPoints text list
     with_word true e given =
-        let parts : (begins_with NoError (after_blanks text) ≡ true)
+        let parts : (begins_with_option NoError (after_blanks text) ≡ true)
         × (stands_apart (behind NoError (after_blanks text)) ≡ true) = and_parts _ _ e in
         let front : Fronted text = fronted text in
         let led : after_blanks text ≡ codes "noerror" ++ behind NoError (after_blanks text) =

@@ -3,7 +3,7 @@ use Rattle.std.specs.Prelude.{◌≡◌, ◌↔◌, ◌⊎◌, ◌++◌, ℕ, Li
 use Rattle.def_lines.specs.Kinds.{kind_of}
 use Rattle.expr_tree.specs.declared.fault.ParseFault.{ParseFault}
 use Rattle.expr_tree.specs.Names.{is_name}
-use Rattle.expr_tree.specs.Parsed.{parsed}
+use Rattle.expr_tree.specs.ParseResult.{parse_of}
 use Rattle.expr_tree.specs.Syntax.{Syntax}
 use Rattle.piecewise.specs.Lines.{Point}
 use Rattle.piecewise.specs.Points.{is_table}
@@ -14,7 +14,7 @@ use Rattle.def_entry.specs.declared.key.Kind.{Kind}
 use Rattle.def_entry.specs.declared.key.Kind.TheVariants as kind
 use Rattle.def_entry.specs.Entries.{Entry, FunctionDef, What, Primitive, Dimensionless, Body, Function, Alias, Table}
 use Rattle.def_entry.specs.Entries.{ListOf}
-use Rattle.def_entry.specs.FormGrammar.{IsAlias, IsBracketed, IsTrimmed, IsWritten}
+use Rattle.def_entry.specs.FormGrammar.{IsAlias, IsBracketed, IsSpelledAs, IsTrimmed}
 use Rattle.def_entry.specs.FormGrammar.{WrittenForm, PrimitiveForm, DimensionlessForm, BodyForm, FunctionForm}
 use Rattle.def_entry.specs.FormGrammar.{AliasForm, TableForm, ListForm}
 use Rattle.def_entry.specs.Forms.{Form, some_text}
@@ -24,7 +24,7 @@ use Rattle.def_entry.specs.Keys.{key}
 use Rattle.def_entry.specs.Marks.{close_paren, open_paren}
 use Rattle.def_entry.specs.Options.{Units}
 use Rattle.def_entry.specs.PointGrammar.{AreWrittenPoints}
-use Rattle.def_entry.specs.Reading.{entry_of, has_entry}
+use Rattle.def_entry.specs.EntryReading.{entry_of, has_entry}
 
 -- names
 
@@ -56,12 +56,12 @@ pub data HasBadName (h : Heading) (w : List ℕ) : Type 0 where
 -- points
 
 -- the points of a table
-abbrev pub ArePoints : List ℕ → List Point → Type 0
-ArePoints text points = AreWrittenPoints text points × (is_table points ≡ true)
+abbrev pub ArePointsOfText : List ℕ → List Point → Type 0
+ArePointsOfText text points = AreWrittenPoints text points × (is_table points ≡ true)
 
 -- if the form is a table, it has points
 abbrev pub HasPoints : WrittenForm → Type 0
-HasPoints (TableForm unit text) = (points : List Point) × ArePoints text points
+HasPoints (TableForm unit text) = (points : List Point) × ArePointsOfText text points
 HasPoints _ = Unit {0}
 
 -- expressions
@@ -77,37 +77,37 @@ out_unit_text None = None
 out_unit_text (Some units) = some_text units.out_unit
 
 -- the expression with this binder and this text, if there is one
-abbrev pub expression : Option (List ℕ) → Option (List ℕ) → List (Option (List ℕ) × List ℕ)
-expression binder None = []
-expression binder (Some text) = (binder, text) ∷ []
+abbrev pub optional_expression : Option (List ℕ) → Option (List ℕ) → List (Option (List ℕ) × List ℕ)
+optional_expression binder None = []
+optional_expression binder (Some text) = (binder, text) ∷ []
 
 -- the expressions of a form, in the order of their faults; in the forward one the parameter denotes the argument, and
 -- in the inverse one the name of the function does
 abbrev pub expressions : List ℕ → WrittenForm → List (Option (List ℕ) × List ℕ)
 expressions name (BodyForm body) = (None, body) ∷ []
 expressions name (FunctionForm parameter form) =
-    expression None (in_unit_text form.options.units)
-    ++ expression None (out_unit_text form.options.units)
-    ++ ((Some parameter, form.forward) ∷ expression (Some name) form.inverse)
+    optional_expression None (in_unit_text form.options.units)
+    ++ optional_expression None (out_unit_text form.options.units)
+    ++ ((Some parameter, form.forward) ∷ optional_expression (Some name) form.inverse)
 expressions name (TableForm unit points) = (None, unit) ∷ []
 expressions name (ListForm parts) = map (λ part. (None, part)) parts
 expressions name _ = []
 
 -- the first fault of some expressions
-abbrev pub IsFirstFault : List (Option (List ℕ) × List ℕ) → ParseFault → Type 0
-IsFirstFault [] x = ⊥
-IsFirstFault (e ∷ es) x =
-    (parsed e.0 e.1 ≡ Err x) ⊎ (((tree : Syntax) × (parsed e.0 e.1 ≡ Ok tree)) × IsFirstFault es x)
+abbrev pub IsExpressionFault : List (Option (List ℕ) × List ℕ) → ParseFault → Type 0
+IsExpressionFault [] x = ⊥
+IsExpressionFault (e ∷ es) x =
+    (parse_of e.0 e.1 ≡ Err x) ⊎ (((tree : Syntax) × (parse_of e.0 e.1 ≡ Ok tree)) × IsExpressionFault es x)
 
 -- the tree of an expression, if there is one
 abbrev pub IsTreeOf : Option (List ℕ) → Option (List ℕ) → Option Syntax → Type 0
 IsTreeOf binder None tree = tree ≡ None
-IsTreeOf binder (Some text) tree = (e : Syntax) × (parsed binder text ≡ Ok e) × (tree ≡ Some e)
+IsTreeOf binder (Some text) tree = (e : Syntax) × (parse_of binder text ≡ Ok e) × (tree ≡ Some e)
 
 -- the trees of some parts
 abbrev pub AreTreesOf : List (List ℕ) → List Syntax → Type 0
 AreTreesOf [] [] = Unit {0}
-AreTreesOf (part ∷ parts) (e ∷ es) = (parsed None part ≡ Ok e) × AreTreesOf parts es
+AreTreesOf (part ∷ parts) (e ∷ es) = (parse_of None part ≡ Ok e) × AreTreesOf parts es
 AreTreesOf _ _ = ⊥
 
 -- definitions
@@ -117,19 +117,20 @@ pub record IsSaidOf (name parameter : List ℕ) (form : Form) (f : FunctionDef) 
   pub out_unit : IsTreeOf None (out_unit_text form.options.units) f.out_unit
   pub domain : f.domain ≡ form.options.domain
   pub range : f.range ≡ form.options.range
-  pub forward : parsed (Some parameter) form.forward ≡ Ok f.forward
+  pub forward : parse_of (Some parameter) form.forward ≡ Ok f.forward
   pub inverse : IsTreeOf (Some name) form.inverse f.inverse
 
 -- the definition that a form gives to a key with this name
-abbrev pub Says : List ℕ → WrittenForm → What → Type 0
-Says name PrimitiveForm Primitive = Unit {0}
-Says name DimensionlessForm Dimensionless = Unit {0}
-Says name (BodyForm body) (Body e) = parsed None body ≡ Ok e
-Says name (FunctionForm parameter form) (Function f) = IsSaidOf name parameter form f
-Says name (AliasForm target) (Alias other) = target ≡ other
-Says name (TableForm unit points) (Table t) = (parsed None unit ≡ Ok t.unit) × ArePoints points t.points
-Says name (ListForm parts) (ListOf es) = AreTreesOf parts es
-Says _ _ _ = ⊥
+abbrev pub IsDefinitionOf : List ℕ → WrittenForm → What → Type 0
+IsDefinitionOf name PrimitiveForm Primitive = Unit {0}
+IsDefinitionOf name DimensionlessForm Dimensionless = Unit {0}
+IsDefinitionOf name (BodyForm body) (Body e) = parse_of None body ≡ Ok e
+IsDefinitionOf name (FunctionForm parameter form) (Function f) = IsSaidOf name parameter form f
+IsDefinitionOf name (AliasForm target) (Alias other) = target ≡ other
+IsDefinitionOf name (TableForm unit points) (Table t) =
+    (parse_of None unit ≡ Ok t.unit) × ArePointsOfText points t.points
+IsDefinitionOf name (ListForm parts) (ListOf es) = AreTreesOf parts es
+IsDefinitionOf _ _ _ = ⊥
 
 -- the line is written such that it gives this key and this entry
 pub record IsEntry (line : List ℕ) (k : Key) (e : Entry) : Type 0 where
@@ -139,27 +140,27 @@ pub record IsEntry (line : List ℕ) (k : Key) (e : Entry) : Type 0 where
   pub text_is : e.text ≡ heading.text
   pub names : HasNames heading
   pub form : WrittenForm
-  pub written : IsWritten heading.kind heading.text form
-  pub says : Says heading.name form e.what
+  pub written : IsSpelledAs heading.kind heading.text form
+  pub says : IsDefinitionOf heading.name form e.what
 
 -- the first fault of a line: a bad name precedes a bad form, which precedes points that do not form a table, which
 -- precede an expression
-abbrev pub IsFaultOf : Heading → EntryFault → Type 0
-IsFaultOf h (fault.BadName w) = HasBadName h w
-IsFaultOf h fault.BadForm =
-    LacksName h ⊎ (HasNames h × ((form : WrittenForm) → IsWritten h.kind h.text form → ⊥))
-IsFaultOf h fault.BadTable =
-    HasNames h × ((form : WrittenForm) × IsWritten h.kind h.text form × (HasPoints form → ⊥))
-IsFaultOf h (fault.Parse x) =
+abbrev pub IsLineFault : Heading → EntryFault → Type 0
+IsLineFault h (fault.BadName w) = HasBadName h w
+IsLineFault h fault.BadForm =
+    LacksName h ⊎ (HasNames h × ((form : WrittenForm) → IsSpelledAs h.kind h.text form → ⊥))
+IsLineFault h fault.BadTable =
+    HasNames h × ((form : WrittenForm) × IsSpelledAs h.kind h.text form × (HasPoints form → ⊥))
+IsLineFault h (fault.Parse x) =
     HasNames h
-    × ((form : WrittenForm) × IsWritten h.kind h.text form × HasPoints form
-    × IsFirstFault (expressions h.name form) x)
-IsFaultOf h fault.OutOfMemory = ⊥
+    × ((form : WrittenForm) × IsSpelledAs h.kind h.text form × HasPoints form
+    × IsExpressionFault (expressions h.name form) x)
+IsLineFault h fault.OutOfMemory = ⊥
 
 pub record HasFault (line : List ℕ) (x : EntryFault) : Type 0 where
   pub heading : Heading
   pub headed : IsHeaded line heading
-  pub is : IsFaultOf heading x
+  pub is : IsLineFault heading x
 
 -- law: a line gives a key and an entry if and only if it is written that way, and a fault if and only if that is its
 -- first one

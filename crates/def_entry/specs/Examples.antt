@@ -12,7 +12,7 @@ use Rattle.def_entry.specs.Entries.{Entry, What, Primitive, Dimensionless, Body,
 use Rattle.def_entry.specs.Faults.{entry_fault_text}
 use Rattle.def_entry.specs.Intervals.{bound}
 use Rattle.def_entry.specs.Keys.{key, key_of, key_text}
-use Rattle.def_entry.specs.Reading.{entry_of}
+use Rattle.def_entry.specs.EntryReading.{entry_of}
 
 -- the key of this kind and this name, whose entry has this text and this meaning
 abbrev pub gives : Kind → List ℕ → List ℕ → What → Result (Key × Entry) EntryFault
@@ -70,8 +70,8 @@ EntriesLaw =
     ≡ gives kind.List (codes "l") (codes "ft;m") (ListOf (Word (codes "ft") ∷ Word (codes "m") ∷ [])))
 
 -- law: the faults of lines, each the first fault of its line
-abbrev pub FaultsLaw : Type 0
-FaultsLaw =
+abbrev pub EntryFaultsLaw : Type 0
+EntryFaultsLaw =
     (entry_of (codes "foo2 m") ≡ Err (BadName (codes "foo2")))
     × (entry_of (codes "- 3") ≡ Err (BadName []))
     × (entry_of (codes " m !") ≡ Err (BadName []))
@@ -128,8 +128,8 @@ abbrev pub FaultTextsLaw : Type 0
 FaultTextsLaw = map (λ row. entry_fault_text row.0) fault_texts ≡ map (λ row. row.1) fault_texts
 
 -- law: all of these examples hold
-pub record ExamplesLaw : Type 0 where
+pub record EntryExamplesLaw : Type 0 where
   pub entries : EntriesLaw
-  pub faults : FaultsLaw
+  pub faults : EntryFaultsLaw
   pub keys_read : KeysLaw
   pub faults_told : FaultTextsLaw

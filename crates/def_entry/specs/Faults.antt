@@ -5,13 +5,13 @@ use Rattle.expr_tree.specs.declared.fault.ParseFault.{ParseFault}
 use Rattle.expr_tree.specs.declared.fault.ParseFault.TheVariants as parse
 use Rattle.def_entry.specs.declared.fault.EntryFault.{EntryFault}
 use Rattle.def_entry.specs.declared.fault.EntryFault.TheVariants as entry
-use Rattle.def_entry.specs.Reading.{entry_of}
+use Rattle.def_entry.specs.EntryReading.{entry_of}
 
 -- the fault is one of the line, not an out-of-memory fault
-abbrev pub is_told : EntryFault → Bool
-is_told entry.OutOfMemory = false
-is_told (entry.Parse parse.OutOfMemory) = false
-is_told _ = true
+abbrev pub is_fault_of_line : EntryFault → Bool
+is_fault_of_line entry.OutOfMemory = false
+is_fault_of_line (entry.Parse parse.OutOfMemory) = false
+is_fault_of_line _ = true
 
 -- the message for an expression
 abbrev pub parse_fault_text : ParseFault → List ℕ
@@ -29,5 +29,5 @@ entry_fault_text (entry.Parse fault) = parse_fault_text fault
 entry_fault_text entry.OutOfMemory = []
 
 -- law: the fault of a line is never an out-of-memory fault
-abbrev pub ToldLaw : Type 0
-ToldLaw = (line : List ℕ) (fault : EntryFault) → entry_of line ≡ Err fault → is_told fault ≡ true
+abbrev pub EntryMemoryLaw : Type 0
+EntryMemoryLaw = (line : List ℕ) (fault : EntryFault) → entry_of line ≡ Err fault → is_fault_of_line fault ≡ true

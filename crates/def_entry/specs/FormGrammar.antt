@@ -2,7 +2,7 @@
 use Rattle.std.specs.Prelude.{◌≡◌, ◌≢◌, ◌⊎◌, ◌++◌, ℕ, List, [], ◌∷◌, true, false, codes, nat_eq, map, Option, Some}
 use Rattle.std.specs.Prelude.{None}
 use Rattle.std.specs.List.{ends_with, join_with_byte, list_all}
-use Rattle.def_lines.specs.Blanks.{trimmed}
+use Rattle.def_lines.specs.Blanks.{trim_of}
 use Rattle.def_entry.specs.declared.key.Kind.{Kind}
 use Rattle.def_entry.specs.declared.key.Kind.TheVariants as kind
 use Rattle.def_entry.specs.Cuts.{lacks}
@@ -33,7 +33,7 @@ pub record IsBracketed (open_byte close_byte : ℕ) (text inside behind : List �
 
 -- a text without the blanks at its ends, which must not be empty
 abbrev pub IsTrimmed : List ℕ → List ℕ → Type 0
-IsTrimmed text bare = (trimmed text ≡ bare) × (bare ≢ [])
+IsTrimmed text bare = (trim_of text ≡ bare) × (bare ≢ [])
 
 -- forward, or forward ";" inverse
 abbrev pub AreBodies : List ℕ → List ℕ → Option (List ℕ) → Type 0
@@ -43,11 +43,11 @@ AreBodies text forward (Some inverse) =
     × IsTrimmed front forward × IsTrimmed behind inverse
 
 -- "(" parameter ")" options bodies
-pub record IsFunction (text parameter : List ℕ) (form : Form) : Type 0 where
+pub record IsFunctionForm (text parameter : List ℕ) (form : Form) : Type 0 where
   pub inside : List ℕ
   pub behind : List ℕ
   pub bodies : List ℕ
-  pub bracketed : IsBracketed open_paren close_paren text inside behind
+  pub has_brackets : IsBracketed open_paren close_paren text inside behind
   pub parameter_is : IsTrimmed inside parameter
   pub options_are : AreOptions behind bodies form.options
   pub bodies_are : AreBodies bodies form.forward form.inverse
@@ -61,15 +61,15 @@ IsTarget text target =
 pub record IsAlias (text target : List ℕ) : Type 0 where
   pub inside : List ℕ
   pub behind : List ℕ
-  pub bracketed : IsBracketed open_paren close_paren text inside behind
-  pub blank : trimmed inside ≡ []
-  pub target_is : IsTarget (trimmed behind) target
+  pub has_brackets : IsBracketed open_paren close_paren text inside behind
+  pub blank : trim_of inside ≡ []
+  pub target_is : IsTarget (trim_of behind) target
   pub some : target ≢ []
 
 -- "[" unit "]" points
 pub record IsTable (text unit points : List ℕ) : Type 0 where
   pub inside : List ℕ
-  pub bracketed : IsBracketed open_bracket close_bracket text inside points
+  pub has_brackets : IsBracketed open_bracket close_bracket text inside points
   pub unit_is : IsTrimmed inside unit
 
 -- part { ";" part }
@@ -77,18 +77,18 @@ pub record AreParts (text : List ℕ) (parts : List (List ℕ)) : Type 0 where
   pub pieces : List (List ℕ)
   pub joined : text ≡ join_with_byte semicolon pieces
   pub clear : list_all (lacks semicolon) pieces ≡ true
-  pub parts_are : parts ≡ map trimmed pieces
+  pub parts_are : parts ≡ map trim_of pieces
   pub some : text ≢ []
 
 -- the text of a key of this kind has this written form
-abbrev pub IsWritten : Kind → List ℕ → WrittenForm → Type 0
-IsWritten kind.Unit text PrimitiveForm = text ≡ codes "!"
-IsWritten kind.Unit text DimensionlessForm = text ≡ codes "!dimensionless"
-IsWritten kind.Unit text (BodyForm body) =
+abbrev pub IsSpelledAs : Kind → List ℕ → WrittenForm → Type 0
+IsSpelledAs kind.Unit text PrimitiveForm = text ≡ codes "!"
+IsSpelledAs kind.Unit text DimensionlessForm = text ≡ codes "!dimensionless"
+IsSpelledAs kind.Unit text (BodyForm body) =
     (text ≡ body) × (text ≢ []) × (text ≢ codes "!") × (text ≢ codes "!dimensionless")
-IsWritten kind.Prefix text (BodyForm body) = (text ≡ body) × (text ≢ [])
-IsWritten kind.Func text (FunctionForm parameter form) = IsFunction text parameter form
-IsWritten kind.Func text (AliasForm target) = IsAlias text target
-IsWritten kind.Func text (TableForm unit points) = IsTable text unit points
-IsWritten kind.List text (ListForm parts) = AreParts text parts
-IsWritten _ _ _ = ⊥
+IsSpelledAs kind.Prefix text (BodyForm body) = (text ≡ body) × (text ≢ [])
+IsSpelledAs kind.Func text (FunctionForm parameter form) = IsFunctionForm text parameter form
+IsSpelledAs kind.Func text (AliasForm target) = IsAlias text target
+IsSpelledAs kind.Func text (TableForm unit points) = IsTable text unit points
+IsSpelledAs kind.List text (ListForm parts) = AreParts text parts
+IsSpelledAs _ _ _ = ⊥

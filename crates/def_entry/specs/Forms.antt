@@ -1,7 +1,7 @@
 -- The bodies of a function, which follow its parameter, as they are computed. FormGrammar defines how they are
 -- written.
 use Rattle.std.specs.Prelude.{ℕ, List, [], ◌∷◌, Option, Some, None}
-use Rattle.def_lines.specs.Blanks.{trimmed}
+use Rattle.def_lines.specs.Blanks.{trim_of}
 use Rattle.def_entry.specs.Cuts.{cut_at}
 use Rattle.def_entry.specs.Marks.{semicolon}
 use Rattle.def_entry.specs.Options.{Options, options_at}
@@ -21,11 +21,11 @@ some_text (b ∷ text) = Some (b ∷ text)
 -- the bodies, separated at the first `;`; neither may be empty
 abbrev pub form_parted : Options → Option (List ℕ × List ℕ) → List ℕ → Option Form
 form_parted options None text = do
-  forward ← some_text (trimmed text)
+  forward ← some_text (trim_of text)
   Some (record { options = options; forward = forward; inverse = None })
 form_parted options (Some parts) text = do
-  forward ← some_text (trimmed parts.0)
-  inverse ← some_text (trimmed parts.1)
+  forward ← some_text (trim_of parts.0)
+  inverse ← some_text (trim_of parts.1)
   Some (record { options = options; forward = forward; inverse = Some inverse })
 
 -- the options, and the bodies after them

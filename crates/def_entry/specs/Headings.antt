@@ -4,7 +4,7 @@ use Rattle.std.specs.Prelude.{◌==◌, ◌||◌, ◌&&◌, ℕ, List, [], ◌�
 use Rattle.std.specs.Prelude.{if◌then◌else◌}
 use Rattle.std.specs.List.{before_first}
 use Rattle.units_io.specs.Blanks.{is_blank}
-use Rattle.def_lines.specs.Blanks.{after_blanks, trimmed}
+use Rattle.def_lines.specs.Blanks.{after_blanks, trim_of}
 use Rattle.def_lines.specs.Words.{behind_word, first_word}
 use Rattle.expr_tree.specs.Names.{base, last_byte}
 use Rattle.def_entry.specs.declared.key.Kind.{Kind}
@@ -31,9 +31,9 @@ stands_apart [] = true
 stands_apart (b ∷ text) = is_blank b
 
 -- the text starts with `(` or `[`
-abbrev pub is_opened : List ℕ → Bool
-is_opened [] = false
-is_opened (b ∷ text) = is_opening b
+abbrev pub has_bracket : List ℕ → Bool
+has_bracket [] = false
+has_bracket (b ∷ text) = is_opening b
 
 -- the last byte is `-`
 abbrev pub ends_in_minus : List ℕ → Bool
@@ -43,11 +43,11 @@ ends_in_minus head = nat_lt 0 (length head) && last_byte head == minus_mark
 abbrev pub heading_of : List ℕ → List ℕ → Heading
 heading_of head behind =
     if ends_in_minus head && stands_apart behind
-    then record { kind = Prefix; name = base head; text = trimmed behind }
+    then record { kind = Prefix; name = base head; text = trim_of behind }
     else record {
-      kind = if is_opened behind then Func else UnitKind;
+      kind = if has_bracket behind then Func else UnitKind;
       name = head;
-      text = trimmed behind;
+      text = trim_of behind;
     }
 
 -- the heading of a line that defines a unit, a prefix or a function
@@ -62,13 +62,13 @@ list_heading directive =
     record { kind = ListKind; name = first_word rest; text = behind_word rest }
 
 -- the head of a line; one leading `+` and the blanks after it are ignored
-unfoldable pub heading : List ℕ → Heading
-heading [] = definition_heading []
-heading (b ∷ line) =
+unfoldable pub head_of_line : List ℕ → Heading
+head_of_line [] = definition_heading []
+head_of_line (b ∷ line) =
     if b == exclamation
     then list_heading line
     else (if b == plus_mark then definition_heading (after_blanks line) else definition_heading (b ∷ line))
 
 -- the text of the entry that a line gives
 abbrev pub entry_text : List ℕ → List ℕ
-entry_text line = (heading line).text
+entry_text line = (head_of_line line).text

@@ -17,15 +17,15 @@ abbrev pub IsNamed : Key → Type 0
 IsNamed k = is_name k.name ≡ true
 
 -- the text of a key of this kind with this name
-abbrev pub written : Kind → List ℕ → List ℕ
-written kind.Unit w = w
-written kind.Prefix w = w ++ codes "-"
-written kind.Func w = w ++ codes "()"
-written kind.List w = codes "!unitlist " ++ w
+abbrev pub key_spelling : Kind → List ℕ → List ℕ
+key_spelling kind.Unit w = w
+key_spelling kind.Prefix w = w ++ codes "-"
+key_spelling kind.Func w = w ++ codes "()"
+key_spelling kind.List w = codes "!unitlist " ++ w
 
 -- the text of a key
 abbrev pub key_text : Key → List ℕ
-key_text k = written k.kind k.name
+key_text k = key_spelling k.kind k.name
 
 -- the bytes are not the text of a key with a valid name
 abbrev pub IsNoKey : List ℕ → Type 0

@@ -17,9 +17,9 @@ pub mod Options
 pub mod Outcomes
 pub mod PointGrammar
 pub mod PointLists
-pub mod Reading
+pub mod EntryReading
 pub mod SameKeys
-pub mod Seen
+pub mod LineViews
 pub mod Steps
 pub mod Tables
 pub mod Views

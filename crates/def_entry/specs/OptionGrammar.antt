@@ -4,7 +4,7 @@ use Rattle.std.specs.Prelude.{codes, drop, nat_eq, if◌then◌else◌, Option, 
 use Rattle.std.specs.List.{filter_map, list_all, starts_with}
 use Rattle.std.specs.Option.{is_some}
 use Rattle.units_io.specs.Blanks.{is_blank}
-use Rattle.def_lines.specs.Blanks.{trimmed}
+use Rattle.def_lines.specs.Blanks.{trim_of}
 use Rattle.def_lines.specs.Parts.{is_begun}
 use Rattle.def_entry.specs.declared.entry.Span.{Span}
 use Rattle.def_entry.specs.Cuts.{lacks}
@@ -38,16 +38,16 @@ pub data WrittenOptions : Type 0 where
 
 -- the brackets `[` or `(`, and `]` or `)`
 
-abbrev pub opening : Bool → ℕ
-opening is_closed = if is_closed then open_bracket else open_paren
+abbrev pub opening_byte : Bool → ℕ
+opening_byte is_closed = if is_closed then open_bracket else open_paren
 
-abbrev pub closing : Bool → ℕ
-closing is_closed = if is_closed then close_bracket else close_paren
+abbrev pub closing_byte : Bool → ℕ
+closing_byte is_closed = if is_closed then close_bracket else close_paren
 
 -- the bytes of each form, followed by other bytes
 
 abbrev pub interval : WrittenInterval → List ℕ → List ℕ
-interval i rest = opening i.low_closed ∷ (i.low ++ (comma ∷ (i.high ++ (closing i.high_closed ∷ rest))))
+interval i rest = opening_byte i.low_closed ∷ (i.low ++ (comma ∷ (i.high ++ (closing_byte i.high_closed ∷ rest))))
 
 abbrev pub option : WrittenOption → List ℕ → List ℕ
 option (UnitsOption in_unit out_unit) rest =
@@ -63,8 +63,8 @@ options (NextOption blanks o os) rest = blanks ++ option o (options os rest)
 -- the value of an interval; there is none if the text of a bound is neither empty nor a number
 abbrev pub span_of : WrittenInterval → Option Span
 span_of i = do
-  low ← bound_in i.low_closed (trimmed i.low)
-  high ← bound_in i.high_closed (trimmed i.high)
+  low ← bound_in i.low_closed (trim_of i.low)
+  high ← bound_in i.high_closed (trim_of i.high)
   Some (record { low = low; high = high })
 
 -- the low bound extends to the first `,`, and the high bound to the first bracket after that
@@ -73,20 +73,20 @@ is_interval i = lacks comma i.low && list_all (λ b. not (is_closing b)) i.high 
 
 -- the option is complete when followed by these bytes: the in unit extends to the first `;`, the out unit to the first
 -- `]` after that, and `noerror` is followed by a blank or by the end
-abbrev pub is_whole : WrittenOption → List ℕ → Bool
-is_whole (UnitsOption in_unit out_unit) rest = lacks semicolon in_unit && lacks close_bracket out_unit
-is_whole (DomainOption i) rest = is_interval i
-is_whole (RangeOption i) rest = is_interval i
-is_whole NoErrorOption rest = stands_apart rest
+abbrev pub is_complete_option : WrittenOption → List ℕ → Bool
+is_complete_option (UnitsOption in_unit out_unit) rest = lacks semicolon in_unit && lacks close_bracket out_unit
+is_complete_option (DomainOption i) rest = is_interval i
+is_complete_option (RangeOption i) rest = is_interval i
+is_complete_option NoErrorOption rest = stands_apart rest
 
 abbrev pub are_whole : WrittenOptions → List ℕ → Bool
 are_whole (NoOption blanks) rest = list_all is_blank blanks
 are_whole (NextOption blanks o os) rest =
-    list_all is_blank blanks && is_whole o (options os rest) && are_whole os rest
+    list_all is_blank blanks && is_complete_option o (options os rest) && are_whole os rest
 
 -- the text starts neither with another option nor with a blank
-abbrev pub has_ended : List ℕ → Bool
-has_ended rest =
+abbrev pub option_has_ended : List ℕ → Bool
+option_has_ended rest =
     not
     (starts_with nat_eq rest (codes "units=")
     || starts_with nat_eq rest (codes "domain=")
@@ -103,7 +103,7 @@ in_order (NextOption blanks o os) = o ∷ in_order os
 
 abbrev pub units_of : WrittenOption → Option Units
 units_of (UnitsOption in_unit out_unit) =
-    Some (record { in_unit = trimmed in_unit; out_unit = trimmed out_unit })
+    Some (record { in_unit = trim_of in_unit; out_unit = trim_of out_unit })
 units_of _ = None
 
 abbrev pub domain_of : WrittenOption → Option Span
@@ -135,8 +135,8 @@ pub record AreOptions (text rest : List ℕ) (o : Options) : Type 0 where
   pub written : WrittenOptions
   pub spelled : text ≡ options written rest
   pub whole : are_whole written rest ≡ true
-  pub ended : has_ended rest ≡ true
-  pub stated : AreStated (in_order written) o
+  pub ended : option_has_ended rest ≡ true
+  pub statement_is : AreStated (in_order written) o
 
 -- law: options are read if and only if they are written according to the grammar
 abbrev pub OptionsLaw : Type 0

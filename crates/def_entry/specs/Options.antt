@@ -3,7 +3,7 @@ use Rattle.std.specs.Prelude.{◌&&◌, ℕ, zero, suc, List, Bool, true, false,
 use Rattle.std.specs.Prelude.{Option, Some, None, option_map}
 use Rattle.std.specs.List.{starts_with}
 use Rattle.std.specs.Option.{is_some}
-use Rattle.def_lines.specs.Blanks.{after_blanks, trimmed}
+use Rattle.def_lines.specs.Blanks.{after_blanks, trim_of}
 use Rattle.def_entry.specs.declared.entry.Span.{Span}
 use Rattle.def_entry.specs.declared.options.Choice.{Choice}
 use Rattle.def_entry.specs.declared.options.Choice.TheVariants.{Units as UnitsChoice, Domain, Range, NoError}
@@ -26,8 +26,8 @@ pub record Options : Type 0 where
   pub no_error : Bool
 
 -- the set without options
-abbrev pub no_options : Options
-no_options = record { units = None; domain = None; range = None; no_error = false }
+abbrev pub empty_options : Options
+empty_options = record { units = None; domain = None; range = None; no_error = false }
 
 -- the text with which an option starts
 abbrev pub word : Choice → List ℕ
@@ -37,8 +37,8 @@ word Range = codes "range="
 word NoError = codes "noerror"
 
 -- the text starts with the word of an option
-abbrev pub begins_with : Choice → List ℕ → Bool
-begins_with choice text = starts_with nat_eq text (word choice)
+abbrev pub begins_with_option : Choice → List ℕ → Bool
+begins_with_option choice text = starts_with nat_eq text (word choice)
 
 -- the text after the word of an option
 abbrev pub behind : Choice → List ℕ → List ℕ
@@ -46,15 +46,15 @@ behind choice text = drop (length (word choice)) text
 
 -- the text starts with `noerror` followed by a blank or by nothing
 abbrev pub begins_with_no_error : List ℕ → Bool
-begins_with_no_error text = begins_with NoError text && stands_apart (behind NoError text)
+begins_with_no_error text = begins_with_option NoError text && stands_apart (behind NoError text)
 
 -- the option with which the text starts
 abbrev pub choice_at : List ℕ → Option Choice
 choice_at text =
-    if begins_with UnitsChoice text
+    if begins_with_option UnitsChoice text
     then Some UnitsChoice
-    else (if begins_with Domain text then Some Domain
-    else (if begins_with Range text then Some Range
+    else (if begins_with_option Domain text then Some Domain
+    else (if begins_with_option Range text then Some Range
     else (if begins_with_no_error text then Some NoError
     else None)))
 
@@ -64,7 +64,7 @@ units_at text = do
   inside ← behind_byte open_bracket text
   first ← cut_at semicolon inside
   second ← cut_at close_bracket first.1
-  Some (record { in_unit = trimmed first.0; out_unit = trimmed second.0 }, second.1)
+  Some (record { in_unit = trim_of first.0; out_unit = trim_of second.0 }, second.1)
 
 -- the options with one more, whose value is at the front, and the text after it; `None` if it has no value, or if the
 -- option is repeated
@@ -89,10 +89,10 @@ abbrev pub most_options : ℕ
 most_options = 4
 
 -- the options with the one with which the text starts, if there is one, and the rest by the continuation
-abbrev pub with_next : (Options → List ℕ → Option (Options × List ℕ)) → Option Choice → Options
+abbrev pub with_next_option : (Options → List ℕ → Option (Options × List ℕ)) → Option Choice → Options
     → List ℕ → Option (Options × List ℕ)
-with_next go_on None options text = Some (options, text)
-with_next go_on (Some choice) options text = do
+with_next_option go_on None options text = Some (options, text)
+with_next_option go_on (Some choice) options text = do
   found ← with_choice choice options (behind choice text)
   go_on found.0 found.1
 
@@ -100,8 +100,8 @@ with_next go_on (Some choice) options text = do
 unfoldable pub options_from : ℕ → Options → List ℕ → Option (Options × List ℕ)
 options_from zero options text = None
 options_from (suc n) options text =
-    let rest = after_blanks text in with_next (options_from n) (choice_at rest) options rest
+    let rest = after_blanks text in with_next_option (options_from n) (choice_at rest) options rest
 
 -- the options at the front after any blanks, and the text after them
 abbrev pub options_at : List ℕ → Option (Options × List ℕ)
-options_at text = options_from (suc most_options) no_options text
+options_at text = options_from (suc most_options) empty_options text

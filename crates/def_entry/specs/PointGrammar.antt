@@ -8,7 +8,7 @@ use Rattle.def_lines.specs.Words.{is_empty}
 use Rattle.piecewise.specs.Lines.{Point}
 use Rattle.def_entry.specs.Headings.{stands_apart}
 use Rattle.def_entry.specs.Marks.{comma}
-use Rattle.def_entry.specs.Numbers.{number_of}
+use Rattle.def_entry.specs.Numbers.{text_number}
 use Rattle.def_entry.specs.PointLists.{points_of}
 use Rattle.def_entry.specs.Steps.{◌>>=◌}
 
@@ -39,8 +39,8 @@ abbrev pub ends_number : ℕ → Bool
 ends_number b = is_blank b || b == comma
 
 -- a number extends to the first blank or comma
-abbrev pub is_number : List ℕ → Bool
-is_number text = list_all (λ b. not (ends_number b)) text && is_some (number_of text)
+abbrev pub is_number_text : List ℕ → Bool
+is_number_text text = list_all (λ b. not (ends_number b)) text && is_some (text_number text)
 
 abbrev pub is_pair_end : PairEnd → List ℕ → Bool
 is_pair_end Apart rest = stands_apart rest
@@ -50,18 +50,18 @@ abbrev pub are_points : WrittenPoints → Bool
 are_points (NoPair blanks) = list_all is_blank blanks
 are_points (NextPair before x gap y end rest) =
     list_all is_blank before
-    && is_number x
+    && is_number_text x
     && not (is_empty gap)
     && list_all is_blank gap
-    && is_number y
+    && is_number_text y
     && is_pair_end end (points rest)
     && are_points rest
 
 -- two numbers as a point, followed by the points after them
 abbrev pub pair_then : List ℕ → List ℕ → Option (List Point) → Option (List Point)
 pair_then x y found = do
-  a ← number_of x
-  b ← number_of y
+  a ← text_number x
+  b ← text_number y
   behind ← found
   Some ((a, b) ∷ behind)
 

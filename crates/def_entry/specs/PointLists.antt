@@ -7,29 +7,29 @@ use Rattle.piecewise.specs.Lines.{Point}
 use Rattle.piecewise.specs.Points.{is_table}
 use Rattle.def_entry.specs.declared.options.Choice.TheVariants.{NoError}
 use Rattle.def_entry.specs.Marks.{comma}
-use Rattle.def_entry.specs.Numbers.{number_of}
+use Rattle.def_entry.specs.Numbers.{text_number}
 use Rattle.def_entry.specs.Options.{begins_with_no_error, behind}
 use Rattle.def_entry.specs.Steps.{◌>>=◌}
 
 -- the numbers of words, in pairs
-abbrev pub pairs_of : List (List ℕ) → Option (List Point)
-pairs_of [] = Some []
-pairs_of (x ∷ []) = None
-pairs_of (x ∷ y ∷ words) = do
-  a ← number_of x
-  b ← number_of y
-  points ← pairs_of words
+abbrev pub points_of_words : List (List ℕ) → Option (List Point)
+points_of_words [] = Some []
+points_of_words (x ∷ []) = None
+points_of_words (x ∷ y ∷ words) = do
+  a ← text_number x
+  b ← text_number y
+  points ← points_of_words words
   Some ((a, b) ∷ points)
 
 -- the numbers of words, in pairs, of which there must be at least one
 abbrev pub some_pairs : List (List ℕ) → Option (List Point)
 some_pairs [] = None
-some_pairs (x ∷ words) = pairs_of (x ∷ words)
+some_pairs (x ∷ words) = points_of_words (x ∷ words)
 
 -- the points of the texts between commas: each text has at least one pair, except that the last may have none
 abbrev pub points_between : List (List ℕ) → Option (List Point)
 points_between [] = Some []
-points_between (run ∷ []) = pairs_of (words_of run)
+points_between (run ∷ []) = points_of_words (words_of run)
 points_between (run ∷ next ∷ runs) = do
   front ← some_pairs (words_of run)
   points ← points_between (next ∷ runs)

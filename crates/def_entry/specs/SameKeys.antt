@@ -18,8 +18,8 @@ abbrev pub is_same : Key → Key → Bool
 is_same a b = is_same_kind a.kind b.kind && bytes_eq a.name b.name
 
 -- the key is one of these
-abbrev pub is_among : List Key → Key → Bool
-is_among keys k = list_any (is_same k) keys
+abbrev pub is_key_among : List Key → Key → Bool
+is_key_among keys k = list_any (is_same k) keys
 
 -- law: keys of the same kind and the same name are equal
 abbrev pub SameKeysLaw : Type 0

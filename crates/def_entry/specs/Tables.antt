@@ -4,7 +4,7 @@ use Rattle.std.specs.Map.{lookup}
 use Rattle.std.specs.Option.{is_some}
 use Rattle.def_entry.specs.declared.key.Key.{Key}
 use Rattle.def_entry.specs.Entries.{Entry}
-use Rattle.def_entry.specs.SameKeys.{is_among, is_same}
+use Rattle.def_entry.specs.SameKeys.{is_key_among, is_same}
 
 -- keys with their entries, the last one first: a later entry shadows those of the same key before it
 abbrev pub Table : Type 0
@@ -24,4 +24,4 @@ keys_of table = map (λ e. e.0) table
 
 -- a key is not in this list if and only if its entry is the same before and after
 abbrev pub AreChanged : Table → Table → List Key → Type 0
-AreChanged before after keys = (k : Key) → (is_among keys k ≡ true → ⊥) ↔ (entry_at before k ≡ entry_at after k)
+AreChanged before after keys = (k : Key) → (is_key_among keys k ≡ true → ⊥) ↔ (entry_at before k ≡ entry_at after k)

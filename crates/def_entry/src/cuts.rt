@@ -4,7 +4,7 @@ ghost use Rattle.std.specs.Prelude.{◌≡◌, ◌==◌, ◌<◌, length, option
 ghost use Rattle.std.specs.List.{position};
 ghost use Rattle.std.specs.Option.{option_copied};
 ghost use Rattle.def_entry.specs.Cuts as spec;
-ghost use Rattle.def_entry.specs.Seen.{seen_pair};
+ghost use Rattle.def_entry.specs.LineViews.{seen_pair};
 
 // Returns the text after its first byte if that byte is `mark`, and `None` otherwise.
 pub(crate) fn behind_byte(text: &[u8], mark: u8) -> Option<&[u8]>

@@ -3,7 +3,7 @@
 ghost use Rattle.std.specs.Prelude.{◌≡◌};
 ghost use Rattle.def_entry.specs.Views.{entry_view};
 
-use crate::heading::heading_in;
+use crate::line_head::heading_in;
 use expr_tree::{Tree, Trees};
 use frac128::Frac;
 use piecewise::Points;

@@ -3,7 +3,7 @@
 ghost use Rattle.std.specs.Prelude.{◌≡◌, option_map};
 ghost use Rattle.std.specs.Option.{option_copied};
 ghost use Rattle.def_entry.specs.Forms as spec;
-ghost use Rattle.def_entry.specs.Seen.{seen_form, seen_options, seen_pair};
+ghost use Rattle.def_entry.specs.LineViews.{seen_form, seen_options, seen_pair};
 
 use crate::cuts::cut_at;
 use crate::options::{Options, options_at};

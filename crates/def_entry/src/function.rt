@@ -2,9 +2,9 @@
 
 ghost use Rattle.std.specs.Prelude.{option_map};
 ghost use Rattle.std.specs.Option.{option_copied};
-ghost use Rattle.def_entry.specs.Outcomes.{Gives};
-ghost use Rattle.def_entry.specs.Reading as spec;
-ghost use Rattle.def_entry.specs.Seen.{seen_form, seen_tree, seen_trees, seen_units};
+ghost use Rattle.def_entry.specs.Outcomes.{GivesEntry};
+ghost use Rattle.def_entry.specs.EntryReading as spec;
+ghost use Rattle.def_entry.specs.LineViews.{seen_form, seen_tree, seen_trees, seen_units};
 ghost use Rattle.def_entry.specs.Views.{what_view};
 
 use crate::entry::{FunctionDef, What};
@@ -22,7 +22,7 @@ pub(crate) fn function_of(
     parameter: &[u8],
     form: &Form,
 ) -> Result<What, EntryFault>
-    ensures { Gives what_view result (spec.function_of name.now parameter.now (seen_form form.now)) }
+    ensures { GivesEntry what_view result (spec.function_of name.now parameter.now (seen_form form.now)) }
 {
     let (in_unit, out_unit) = unit_trees(alloc, form.options.units)?;
     let forward = tree_of(alloc, form.forward, Some(parameter))?;
@@ -43,7 +43,7 @@ fn unit_trees(
     alloc: Global,
     units: Option<Units>,
 ) -> Result<(Option<Tree>, Option<Tree>), EntryFault>
-    ensures { Gives seen_trees result (spec.units_in (option_map seen_units units.entry)) }
+    ensures { GivesEntry seen_trees result (spec.units_in (option_map seen_units units.entry)) }
 {
     let Some(units) = units else {
         return Ok((None, None));
@@ -55,7 +55,7 @@ fn unit_trees(
 
 // Returns a unit of a function, or `None` if its text is empty.
 fn unit_tree(alloc: Global, text: &[u8]) -> Result<Option<Tree>, EntryFault>
-    ensures { Gives seen_tree result (spec.unit_tree text.now) }
+    ensures { GivesEntry seen_tree result (spec.unit_tree text.now) }
 {
     if text.is_empty() {
         return Ok(None);
@@ -65,7 +65,7 @@ fn unit_tree(alloc: Global, text: &[u8]) -> Result<Option<Tree>, EntryFault>
 
 // Returns the inverse, in which the name of the function denotes its argument.
 fn inverse_tree(alloc: Global, name: &[u8], text: Option<&[u8]>) -> Result<Option<Tree>, EntryFault>
-    ensures { Gives seen_tree result (spec.inverse_in name.now (option_copied text.entry)) }
+    ensures { GivesEntry seen_tree result (spec.inverse_in name.now (option_copied text.entry)) }
 {
     match text {
         Some(text) => Ok(Some(tree_of(alloc, text, Some(name))?)),

@@ -3,7 +3,7 @@
 ghost use Rattle.std.specs.Prelude.{◌≡◌, ◌<◌, length, option_map, IfSome};
 ghost use Rattle.std.specs.List.{position};
 ghost use Rattle.def_entry.specs.Intervals as spec;
-ghost use Rattle.def_entry.specs.Seen.{seen_behind, seen_closed};
+ghost use Rattle.def_entry.specs.LineViews.{seen_behind, seen_closed};
 
 use crate::cuts::cut_at;
 use crate::entry::{Bound, Span};
@@ -24,17 +24,17 @@ struct Closing<'a> {
 pub(crate) fn interval_at(text: &[u8]) -> Option<(Span, &[u8])>
     ensures { option_map seen_behind result ≡ spec.interval_at text.now }
 {
-    let (low_closed, inside) = opened(text)?;
+    let (low_closed, inside) = read_opening(text)?;
     let (low, behind) = cut_at(inside, b',')?;
-    let end = closed(behind)?;
+    let end = read_closing(behind)?;
     let low = bound_in(low_closed, trim(low))?;
     let high = bound_in(end.is_square, trim(end.before))?;
     Some((Span { low, high }, end.behind))
 }
 
 // Returns whether the bracket at the front is `[`, and the text after it.
-fn opened(text: &[u8]) -> Option<(bool, &[u8])>
-    ensures { option_map seen_behind result ≡ spec.opened text.now }
+fn read_opening(text: &[u8]) -> Option<(bool, &[u8])>
+    ensures { option_map seen_behind result ≡ spec.opening_bracket text.now }
 {
     match text.split_first()? {
         (b'[', behind) => Some((true, behind)),
@@ -44,8 +44,8 @@ fn opened(text: &[u8]) -> Option<(bool, &[u8])>
 }
 
 // Returns the text before the first `]` or `)`, whether that bracket is `]`, and the text after it.
-fn closed(text: &[u8]) -> Option<Closing<'_>>
-    ensures { option_map seen_closed result ≡ spec.closed text.now }
+fn read_closing(text: &[u8]) -> Option<Closing<'_>>
+    ensures { option_map seen_closed result ≡ spec.closing_bracket text.now }
 {
     match closing_place(text) {
         Some(place) => Some(Closing {

@@ -1,14 +1,14 @@
 //! Laws of keys, of their texts and of entries.
 
 ghost use Rattle.def_entry.specs.EntryGrammar.{EntryLaw, OneEntryLaw};
-ghost use Rattle.def_entry.specs.Examples.{ExamplesLaw};
-ghost use Rattle.def_entry.specs.Faults.{ToldLaw};
+ghost use Rattle.def_entry.specs.Examples.{EntryExamplesLaw};
+ghost use Rattle.def_entry.specs.Faults.{EntryMemoryLaw};
 ghost use Rattle.def_entry.specs.HeadingGrammar.{HeadingLaw};
 ghost use Rattle.def_entry.specs.KeyOrder.{KeyOrderLaw};
 ghost use Rattle.def_entry.specs.Keys.{KeyOfLaw, OneKeyLaw};
 ghost use Rattle.def_entry.specs.OptionGrammar.{AnyOrderLaw, OptionsLaw};
 ghost use Rattle.def_entry.specs.PointGrammar.{PointsLaw};
-ghost use Rattle.def_entry.specs.Reading.{EntryTextLaw, SameTextLaw};
+ghost use Rattle.def_entry.specs.EntryReading.{EntryTextLaw, SameTextLaw};
 ghost use Rattle.def_entry.specs.SameKeys.{SameKeysLaw};
 
 /// A text is read as a key if and only if that key has a valid name and this text.
@@ -32,14 +32,14 @@ pub fn entry_text_law()
 {}
 
 /// The fault of a line is never an out-of-memory fault.
-pub fn told_law()
-    ensures { ToldLaw }
+pub fn entry_memory_law()
+    ensures { EntryMemoryLaw }
 {}
 
 /// A few lines have the keys, the entries and the faults that were found by hand, and a few keys and faults their
 /// texts.
 pub fn examples_law()
-    ensures { ExamplesLaw }
+    ensures { EntryExamplesLaw }
 {}
 
 /// The heading of a line is the one with which it is written.

@@ -2,12 +2,12 @@
 
 ghost use Rattle.std.specs.Prelude.{◌≡◌, option_map, true};
 ghost use Rattle.def_entry.specs.Options as spec;
-ghost use Rattle.def_entry.specs.Seen.{seen_found, seen_options, seen_units_found};
+ghost use Rattle.def_entry.specs.LineViews.{seen_found, seen_options, seen_units_found};
 
 use crate::cuts::{behind_byte, cut_at};
 use crate::entry::Span;
-use crate::heading::stands_apart;
 use crate::interval::interval_at;
+use crate::line_head::stands_apart;
 use def_lines::{trim, trim_front};
 
 // The maximum number of options: one of each kind.
@@ -58,7 +58,7 @@ pub(crate) fn options_at(text: &[u8]) -> Option<(Options<'_>, &[u8])>
 impl<'a> Options<'a> {
     // Creates a set without options.
     fn new() -> Options<'a>
-        ensures { seen_options result ≡ spec.no_options }
+        ensures { seen_options result ≡ spec.empty_options }
     {
         Options {
             units: None,
@@ -118,14 +118,14 @@ impl Choice {
 
     // Reports whether the text starts with the word of the option.
     fn begins(self, text: &[u8]) -> bool
-        ensures { result ≡ spec.begins_with self text.now }
+        ensures { result ≡ spec.begins_with_option self text.now }
     {
         text.starts_with(self.word())
     }
 
     // Returns the text after the word of the option.
     pub(crate) fn behind(self, text: &[u8]) -> &[u8]
-        requires { spec.begins_with self text.now ≡ true }
+        requires { spec.begins_with_option self text.now ≡ true }
         ensures { result.now ≡ spec.behind self text.now }
     {
         &text[self.word().len()..]

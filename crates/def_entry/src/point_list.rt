@@ -2,9 +2,9 @@
 
 ghost use Rattle.std.specs.Prelude.{◌≡◌, ◌≤◌, ◌++◌, length, option_map};
 ghost use Rattle.def_lines.specs.Words.{words_of};
-ghost use Rattle.def_entry.specs.Outcomes.{Gives, or_fault};
+ghost use Rattle.def_entry.specs.Outcomes.{GivesEntry, or_fault};
 ghost use Rattle.def_entry.specs.PointLists as spec;
-ghost use Rattle.def_entry.specs.Reading.{points_in};
+ghost use Rattle.def_entry.specs.EntryReading.{points_in};
 
 use crate::cuts::cut_at;
 use crate::fault::EntryFault;
@@ -20,7 +20,7 @@ const MOST_POINTS: usize = 1_000;
 
 // Returns the table of a list of points.
 pub(crate) fn table_points(alloc: Global, text: &[u8]) -> Result<Points, EntryFault>
-    ensures { Gives (λ points. points) result (points_in text.now) }
+    ensures { GivesEntry (λ points. points) result (points_in text.now) }
 {
     let points = points_of(alloc, text)?;
     match Points::new(alloc, &points) {
@@ -33,7 +33,7 @@ pub(crate) fn table_points(alloc: Global, text: &[u8]) -> Result<Points, EntryFa
 // Returns the points of a list, whose pairs may be separated by commas. The error is `BadTable` if there are more
 // points than a table can have. No more points are read or stored than are needed to detect that.
 fn points_of(alloc: Global, text: &[u8]) -> Result<Vec<(Frac, Frac)>, EntryFault>
-    ensures { Gives (λ points. points.items) result
+    ensures { GivesEntry (λ points. points.items) result
         (or_fault EntryFault.BadTable (spec.few (spec.points_of text.now))) }
 {
     let mut points = Vec::new(alloc);
@@ -60,7 +60,7 @@ fn behind_no_error(text: &[u8]) -> &[u8]
 // Appends the pairs of numbers in a text, of which there must be at least one, to the points.
 fn push_some_pairs(points: &mut Vec<(Frac, Frac)>, text: &[u8]) -> Result<(), EntryFault>
     requires { length points.old.items ≤ spec.most_points }
-    ensures { Gives (λ done. points.new.items) result
+    ensures { GivesEntry (λ done. points.new.items) result
         (or_fault EntryFault.BadTable
         (spec.few (option_map (λ pairs. points.old.items ++ pairs) (spec.some_pairs (words_of text.now))))) }
 {
@@ -73,9 +73,9 @@ fn push_some_pairs(points: &mut Vec<(Frac, Frac)>, text: &[u8]) -> Result<(), En
 // Appends the pairs of numbers in a text to the points, up to the maximum number of points of a table.
 fn push_pairs(points: &mut Vec<(Frac, Frac)>, text: &[u8]) -> Result<(), EntryFault>
     requires { length points.old.items ≤ spec.most_points }
-    ensures { Gives (λ done. points.new.items) result
+    ensures { GivesEntry (λ done. points.new.items) result
         (or_fault EntryFault.BadTable
-        (spec.few (option_map (λ pairs. points.old.items ++ pairs) (spec.pairs_of (words_of text.now))))) }
+        (spec.few (option_map (λ pairs. points.old.items ++ pairs) (spec.points_of_words (words_of text.now))))) }
 {
     let mut rest = trim_front(text);
     while !rest.is_empty() {

@@ -3,8 +3,8 @@
 ghost use Rattle.std.specs.Prelude.{◌≡◌};
 ghost use Rattle.std.specs.Option.{option_copied};
 ghost use Rattle.def_entry.specs.Outcomes as outcomes;
-ghost use Rattle.def_entry.specs.Reading as spec;
-ghost use Rattle.def_entry.specs.Seen.{seen_heading, seen_text};
+ghost use Rattle.def_entry.specs.EntryReading as spec;
+ghost use Rattle.def_entry.specs.LineViews.{seen_heading, seen_text};
 ghost use Rattle.def_entry.specs.Views.{what_view};
 
 use crate::cuts::cut_at;
@@ -13,8 +13,8 @@ use crate::expression::tree_of;
 use crate::fault::EntryFault;
 use crate::form::{form_of, some_text};
 use crate::function::function_of;
-use crate::heading::Heading;
 use crate::key::Kind;
+use crate::line_head::Heading;
 use crate::list::part_trees;
 use crate::point_list::table_points;
 use def_lines::trim;
@@ -23,9 +23,9 @@ use std::alloc::Global;
 use units_io::Text;
 
 // Returns the definition in a line, given its heading.
-#[tactic(auto, unfolding(crate::specs::Reading::what_of))]
+#[tactic(auto, unfolding(crate::specs::EntryReading::what_of))]
 pub(crate) fn what_of(alloc: Global, heading: &Heading) -> Result<What, EntryFault>
-    ensures { outcomes.Gives what_view result (spec.what_of (seen_heading heading.now)) }
+    ensures { outcomes.GivesEntry what_view result (spec.what_of (seen_heading heading.now)) }
 {
     check_heading(alloc, heading)?;
     let (name, text) = (heading.name, heading.text);
@@ -39,7 +39,7 @@ pub(crate) fn what_of(alloc: Global, heading: &Heading) -> Result<What, EntryFau
 
 // Checks that the name of a heading is valid. A list without a name is a bad form.
 fn check_heading(alloc: Global, heading: &Heading) -> Result<(), EntryFault>
-    ensures { outcomes.Gives (λ done. heading.now.name.now) result
+    ensures { outcomes.GivesEntry (λ done. heading.now.name.now) result
         (spec.name_in heading.now.kind heading.now.name.now) }
 {
     match heading.kind {
@@ -50,7 +50,7 @@ fn check_heading(alloc: Global, heading: &Heading) -> Result<(), EntryFault>
 
 // Checks that a word is a valid name.
 pub(crate) fn check_name(alloc: Global, word: &[u8]) -> Result<(), EntryFault>
-    ensures { outcomes.Gives (λ done. word.now) result (outcomes.named word.now) }
+    ensures { outcomes.GivesEntry (λ done. word.now) result (outcomes.name_or_fault word.now) }
 {
     if is_name(word) {
         return Ok(());
@@ -59,15 +59,15 @@ pub(crate) fn check_name(alloc: Global, word: &[u8]) -> Result<(), EntryFault>
 }
 
 // Returns the text, or the fault of a bad form if it is empty.
-fn wanted(text: &[u8]) -> Result<&[u8], EntryFault>
-    ensures { outcomes.Gives seen_text result (spec.wanted text.now) }
+fn require_text(text: &[u8]) -> Result<&[u8], EntryFault>
+    ensures { outcomes.GivesEntry seen_text result (spec.nonempty_text text.now) }
 {
     some_text(text).ok_or(EntryFault::BadForm)
 }
 
 // Returns the definition of a unit.
 fn unit_of(alloc: Global, text: &[u8]) -> Result<What, EntryFault>
-    ensures { outcomes.Gives what_view result (spec.unit_in text.now) }
+    ensures { outcomes.GivesEntry what_view result (spec.unit_in text.now) }
 {
     if text == b"!".as_slice() {
         return Ok(What::Primitive);
@@ -80,15 +80,15 @@ fn unit_of(alloc: Global, text: &[u8]) -> Result<What, EntryFault>
 
 // Returns the definition of a unit or a prefix by an expression.
 fn body_of(alloc: Global, text: &[u8]) -> Result<What, EntryFault>
-    ensures { outcomes.Gives what_view result (spec.body_in text.now) }
+    ensures { outcomes.GivesEntry what_view result (spec.body_in text.now) }
 {
-    let body = wanted(text)?;
+    let body = require_text(text)?;
     Ok(What::Body(tree_of(alloc, body, None)?))
 }
 
 // Returns a function, whose text starts with `(`, or a table, whose text starts with `[`.
 fn func_of(alloc: Global, name: &[u8], text: &[u8]) -> Result<What, EntryFault>
-    ensures { outcomes.Gives what_view result (spec.func_in name.now text.now) }
+    ensures { outcomes.GivesEntry what_view result (spec.func_in name.now text.now) }
 {
     let Some((bracket, inside)) = text.split_first() else {
         return Err(EntryFault::BadForm);
@@ -104,7 +104,7 @@ fn func_of(alloc: Global, name: &[u8], text: &[u8]) -> Result<What, EntryFault>
 
 // Returns a function, given its parameter, which is empty for an alias, and the text after it.
 fn call_of(alloc: Global, name: &[u8], parameter: &[u8], behind: &[u8]) -> Result<What, EntryFault>
-    ensures { outcomes.Gives what_view result (spec.call_in name.now parameter.now behind.now) }
+    ensures { outcomes.GivesEntry what_view result (spec.call_in name.now parameter.now behind.now) }
 {
     if parameter.is_empty() {
         return alias_of(alloc, behind);
@@ -118,9 +118,9 @@ fn call_of(alloc: Global, name: &[u8], parameter: &[u8], behind: &[u8]) -> Resul
 
 // Returns an alias of another function.
 fn alias_of(alloc: Global, text: &[u8]) -> Result<What, EntryFault>
-    ensures { outcomes.Gives what_view result (spec.alias_in text.now) }
+    ensures { outcomes.GivesEntry what_view result (spec.alias_in text.now) }
 {
-    let target = wanted(without_call(trim(text)))?;
+    let target = require_text(without_call(trim(text)))?;
     check_name(alloc, target)?;
     Ok(What::Alias(Text::from_bytes(alloc, target)?))
 }
@@ -138,9 +138,9 @@ fn without_call(text: &[u8]) -> &[u8]
 
 // Returns a table, given its unit and the text after it.
 fn table_of(alloc: Global, text: &[u8], behind: &[u8]) -> Result<What, EntryFault>
-    ensures { outcomes.Gives what_view result (spec.table_in text.now behind.now) }
+    ensures { outcomes.GivesEntry what_view result (spec.table_in text.now behind.now) }
 {
-    let unit = wanted(text)?;
+    let unit = require_text(text)?;
     let points = table_points(alloc, behind)?;
     let unit = tree_of(alloc, unit, None)?;
     Ok(What::Table(Box::new(alloc, TableDef { unit, points })?))
@@ -148,8 +148,8 @@ fn table_of(alloc: Global, text: &[u8], behind: &[u8]) -> Result<What, EntryFaul
 
 // Returns a list, whose parts are separated by `;`.
 fn list_of(alloc: Global, text: &[u8]) -> Result<What, EntryFault>
-    ensures { outcomes.Gives what_view result (spec.list_in text.now) }
+    ensures { outcomes.GivesEntry what_view result (spec.list_in text.now) }
 {
-    let parts = wanted(text)?;
+    let parts = require_text(text)?;
     Ok(What::ListOf(part_trees(alloc, parts)?))
 }

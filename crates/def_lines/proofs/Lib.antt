@@ -1,6 +1,6 @@
 pub mod FirstLine
-pub mod Joining
-pub mod Listing
-pub mod Seeking
-pub mod Skipping
-pub mod Trimming
+pub mod ContinuedLines
+pub mod WordLists
+pub mod ByteSearch
+pub mod EmptyLines
+pub mod TrimmedTexts

@@ -12,5 +12,5 @@ abbrev pub before_blanks : List ℕ → List ℕ
 before_blanks bytes = reverse (after_blanks (reverse bytes))
 
 -- a text without the blanks at both ends
-abbrev pub trimmed : List ℕ → List ℕ
-trimmed bytes = after_blanks (before_blanks bytes)
+abbrev pub trim_of : List ℕ → List ℕ
+trim_of bytes = after_blanks (before_blanks bytes)

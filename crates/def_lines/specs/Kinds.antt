@@ -43,34 +43,34 @@ directives =
     ∷ []
 
 -- the directive of a word in such a list
-abbrev pub beside : List ℕ → List (List ℕ × Directive) → Option Directive
-beside word [] = None
-beside word (d ∷ ds) = if bytes_eq word d.0 then Some d.1 else beside word ds
+abbrev pub directive_of_word : List ℕ → List (List ℕ × Directive) → Option Directive
+directive_of_word word [] = None
+directive_of_word word (d ∷ ds) = if bytes_eq word d.0 then Some d.1 else directive_of_word word ds
 
 -- a kind that takes one word
 abbrev pub with_word : (List ℕ → Kind) → List ℕ → Kind
 with_word kind rest = if is_word rest then kind rest else BadDirective
 
 -- a kind that takes a word and at least one more after it
-abbrev pub with_rest : (List ℕ → List ℕ → Kind) → List ℕ → Kind
-with_rest kind rest =
+abbrev pub with_two_words : (List ℕ → List ℕ → Kind) → List ℕ → Kind
+with_two_words kind rest =
     if is_empty (behind_word rest) then BadDirective else kind (first_word rest) (behind_word rest)
 
 -- a kind that takes no argument
-abbrev pub alone : Kind → List ℕ → Kind
-alone kind rest = if is_empty rest then kind else BadDirective
+abbrev pub without_argument : Kind → List ℕ → Kind
+without_argument kind rest = if is_empty rest then kind else BadDirective
 
 -- the kind of a directive with the rest of its line
 abbrev pub with_arguments : Directive → List ℕ → Kind
 with_arguments directive.Include rest = with_word Include rest
 with_arguments directive.Locale rest = with_word Locale rest
-with_arguments directive.EndLocale rest = alone EndLocale rest
-with_arguments directive.Set rest = with_rest Set rest
-with_arguments directive.Var rest = with_rest Var rest
-with_arguments directive.VarNot rest = with_rest VarNot rest
-with_arguments directive.EndVar rest = alone EndVar rest
-with_arguments directive.Utf8 rest = alone Utf8 rest
-with_arguments directive.EndUtf8 rest = alone EndUtf8 rest
+with_arguments directive.EndLocale rest = without_argument EndLocale rest
+with_arguments directive.Set rest = with_two_words Set rest
+with_arguments directive.Var rest = with_two_words Var rest
+with_arguments directive.VarNot rest = with_two_words VarNot rest
+with_arguments directive.EndVar rest = without_argument EndVar rest
+with_arguments directive.Utf8 rest = without_argument Utf8 rest
+with_arguments directive.EndUtf8 rest = without_argument EndUtf8 rest
 with_arguments directive.Message rest = Message rest
 with_arguments directive.Prompt rest = Prompt
 with_arguments directive.UnitList rest = UnitList
@@ -82,7 +82,7 @@ directive_kind None rest = UnknownDirective
 
 -- the kind of a line by the text after its `!` and the blanks that follow the `!`
 abbrev pub marked_kind : List ℕ → Kind
-marked_kind text = directive_kind (beside (first_word text) directives) (behind_word text)
+marked_kind text = directive_kind (directive_of_word (first_word text) directives) (behind_word text)
 
 -- the kind of a line
 unfoldable pub kind_of : List ℕ → Kind

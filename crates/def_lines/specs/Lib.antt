@@ -3,5 +3,5 @@ pub mod Examples
 pub mod Kinds
 pub mod Lines
 pub mod Parts
-pub mod Seen
+pub mod KindView
 pub mod Words

@@ -3,7 +3,7 @@ use Rattle.std.specs.Prelude.{◌&&◌, ℕ, List, [], ◌∷◌, Bool, true, fa
 use Rattle.std.specs.List.{before_first, list_any, slice_split}
 use Rattle.std.specs.Str.{bytes_eq}
 use Rattle.units_io.specs.Blanks.{is_blank}
-use Rattle.def_lines.specs.Blanks.{after_blanks, trimmed}
+use Rattle.def_lines.specs.Blanks.{after_blanks, trim_of}
 
 -- the texts that are not empty
 abbrev pub nonempty : List (List ℕ) → List (List ℕ)
@@ -25,7 +25,7 @@ after_word text = after_blanks (drop (length (first_word text)) text)
 
 -- the text after the first word, trimmed
 abbrev pub behind_word : List ℕ → List ℕ
-behind_word text = trimmed (drop (length (first_word text)) text)
+behind_word text = trim_of (drop (length (first_word text)) text)
 
 -- the text is empty
 abbrev pub is_empty : List ℕ → Bool

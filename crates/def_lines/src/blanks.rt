@@ -2,19 +2,19 @@
 ghost use Rattle.std.specs.Prelude.{◌≡◌, ◌≤◌, length, take};
 ghost use Rattle.std.specs.List as lists;
 ghost use Rattle.units_io.specs.Blanks as blanks;
-ghost use Rattle.def_lines.specs.Blanks.{after_blanks, before_blanks, trimmed};
+ghost use Rattle.def_lines.specs.Blanks.{after_blanks, before_blanks, trim_of};
 
 use units_io::{is_blank, prefix_len};
 
 /// Returns the text without the blanks at both ends.
 pub fn trim(text: &[u8]) -> &[u8]
-    ensures { result.now ≡ trimmed text.now }
+    ensures { result.now ≡ trim_of text.now }
 {
     trim_front(trim_end(text))
 }
 
 /// Returns the text without leading blanks.
-#[tactic(auto, using(crate::proofs::Trimming::passed_over))]
+#[tactic(auto, using(crate::proofs::TrimmedTexts::passed_over))]
 pub fn trim_front(text: &[u8]) -> &[u8]
     ensures { result.now ≡ after_blanks text.now }
 {

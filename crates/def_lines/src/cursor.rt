@@ -1,7 +1,8 @@
 //! Iteration over the logical lines of a file.
 ghost use Rattle.std.specs.Prelude.{◌≡◌, ◌≤◌, ◌+◌, ◌++◌, ◌∷◌, [], List, IfOk, OnErr, length, map};
 ghost use Rattle.std.specs.Map.Iter.{TakesFirst};
-ghost use Rattle.def_lines.specs.Lines.{joined, lines_behind, lines_from, logical_lines, physical_lines, shown};
+ghost use Rattle.def_lines.specs.Lines.{lines_behind, logical_lines, nonblank_lines, numbered_lines, physical_lines};
+ghost use Rattle.def_lines.specs.Lines.{with_front};
 ghost use Rattle.def_lines.specs.Lines.{trimmed_line};
 
 use crate::line::{LentLine, Line, Lines};
@@ -60,13 +61,13 @@ impl<'a> Cursor<'a> {
         let Some(start) = strip_last(line, b'\\') else {
             self.rest = behind;
             self.number = number;
-            return Ok(Some(LentLine::lent(number, line)));
+            return Ok(Some(LentLine::of_physical_line(number, line)));
         };
         match join_lines(alloc, number, start, behind) {
             Ok(joined) => {
                 self.rest = joined.behind;
                 self.number = joined.number;
-                Ok(Some(LentLine::made(joined.line)))
+                Ok(Some(LentLine::of_joined_line(joined.line)))
             }
             Err(e) => Err(e),
         }
@@ -75,8 +76,9 @@ impl<'a> Cursor<'a> {
     /// Returns the next line that is not blank, or `None` if none is left. Memory is allocated only for a line joined
     /// from several physical ones. If the allocation fails, only blank lines are taken.
     pub fn take_shown(&mut self, alloc: Global) -> Result<Option<LentLine<'a>>, AllocError>
-        ensures ok { IfOk result (λ line. TakesFirst (λ line. line) (shown self.old) line (shown self.new)) }
-        ensures err { OnErr result (shown self.new ≡ shown self.old) }
+        ensures ok { IfOk result (λ line. TakesFirst (λ line. line) (nonblank_lines self.old) line
+            (nonblank_lines self.new)) }
+        ensures err { OnErr result (nonblank_lines self.new ≡ nonblank_lines self.old) }
     {
         while let Some(line) = self.take(alloc)? {
             if !line.text().is_empty() {
@@ -89,7 +91,7 @@ impl<'a> Cursor<'a> {
 
     // Skips the empty physical lines at the front. A file may have millions of them.
     fn skip_line_feeds(&mut self)
-        ensures shown { shown self.new ≡ shown self.old }
+        ensures shown { nonblank_lines self.new ≡ nonblank_lines self.old }
         ensures fewer { length self.new ≤ length self.old }
     {
         let count = line_feed_count(self.rest);
@@ -117,7 +119,7 @@ fn join_lines<'a>(
     requires { number + length bytes.now ≤ 16777216 }
     ensures lines { IfOk result (λ taken. taken.line ∷ lines_behind taken.number taken.behind.now
         ≡ map trimmed_line
-        (joined number (start.now ++ 32 ∷ []) (lines_from (number + 1) (physical_lines bytes.now)))) }
+        (with_front number (start.now ++ 32 ∷ []) (numbered_lines (number + 1) (physical_lines bytes.now)))) }
     ensures few { IfOk result (λ taken. taken.number + length taken.behind.now ≤ number + length bytes.now) }
 {
     let mut part = Part::new(alloc, number);
@@ -133,7 +135,7 @@ fn join_lines<'a>(
             Some(start) => part.go_on(start)?,
             None => {
                 return Ok(Joined {
-                    line: part.ended(line)?,
+                    line: part.end_line(line)?,
                     behind,
                     number: last,
                 });
@@ -141,7 +143,7 @@ fn join_lines<'a>(
         }
     }
     Ok(Joined {
-        line: part.finished(),
+        line: part.complete(),
         behind: rest,
         number: last,
     })

@@ -1,7 +1,7 @@
 //! The directives and their words.
 
 ghost use Rattle.std.specs.Prelude.{◌≡◌};
-ghost use Rattle.def_lines.specs.Kinds.{beside, directives};
+ghost use Rattle.def_lines.specs.Kinds.{directive_of_word, directives};
 
 /// A directive, named by the word after a `!`.
 #[derive(Clone, Copy)]
@@ -34,7 +34,7 @@ pub enum Directive {
 
 // Returns the directive with this word.
 pub(crate) fn directive_of(word: &[u8]) -> Option<Directive>
-    ensures { result ≡ beside word.now directives }
+    ensures { result ≡ directive_of_word word.now directives }
 {
     if word == b"include".as_slice() {
         Some(Directive::Include)

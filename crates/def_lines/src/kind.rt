@@ -3,7 +3,7 @@
 ghost use Rattle.std.specs.Prelude.{◌≡◌, true};
 ghost use Rattle.def_lines.specs.Kinds as spec;
 ghost use Rattle.def_lines.specs.Parts.{takes_rest};
-ghost use Rattle.def_lines.specs.Seen.{seen_kind};
+ghost use Rattle.def_lines.specs.KindView.{seen_kind};
 
 use crate::blanks::trim_front;
 use crate::directive::{Directive, directive_of};

@@ -17,4 +17,4 @@ pub use examples::examples_law;
 pub use kind::{LineKind, classify};
 pub use line::{LentLine, Line, Lines};
 pub use physical::{clean, line_content};
-pub use words::{cut_word, listed, split_word};
+pub use words::{cut_word, is_listed, split_word};

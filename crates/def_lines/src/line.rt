@@ -1,6 +1,6 @@
 //! A logical line.
 ghost use Rattle.std.specs.Prelude.{◌≡◌, IfOk};
-ghost use Rattle.def_lines.specs.Blanks.{trimmed};
+ghost use Rattle.def_lines.specs.Blanks.{trim_of};
 
 use crate::blanks::trim;
 use std::alloc::{AllocError, Global};
@@ -38,8 +38,8 @@ impl<'a> Model for LentLine<'a> {
 
 impl<'a> LentLine<'a> {
     // Creates a line from a single physical line.
-    pub(crate) fn lent(number: u32, text: &'a [u8]) -> LentLine<'a>
-        ensures { result ≡ record { number = number; text = trimmed text.now } }
+    pub(crate) fn of_physical_line(number: u32, text: &'a [u8]) -> LentLine<'a>
+        ensures { result ≡ record { number = number; text = trim_of text.now } }
     {
         LentLine {
             number,
@@ -48,7 +48,7 @@ impl<'a> LentLine<'a> {
     }
 
     // Creates a line from a joined one.
-    pub(crate) fn made(line: Line) -> LentLine<'a>
+    pub(crate) fn of_joined_line(line: Line) -> LentLine<'a>
         ensures { result ≡ line }
     {
         LentLine {

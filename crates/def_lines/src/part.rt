@@ -1,8 +1,8 @@
 //! The first part of a logical line that continues.
 ghost use Rattle.std.specs.Prelude.{◌≡◌, ◌++◌, ◌∷◌, [], List, ℕ, IfOk, OnOk, map, true};
 ghost use Rattle.def_lines.specs.declared.line.Line as line_spec;
-ghost use Rattle.def_lines.specs.Blanks.{trimmed};
-ghost use Rattle.def_lines.specs.Lines.{joined, trimmed_line};
+ghost use Rattle.def_lines.specs.Blanks.{trim_of};
+ghost use Rattle.def_lines.specs.Lines.{trimmed_line, with_front};
 ghost use Rattle.def_lines.specs.Parts.{is_begun};
 
 use crate::blanks::{kept_len, trim_front};
@@ -33,8 +33,8 @@ impl Part {
     // Appends bytes.
     fn put(&mut self, bytes: &[u8]) -> Result<(), AllocError>
         ensures number { self.new.number ≡ self.old.number }
-        ensures text { OnOk result ((behind : List ℕ) → trimmed (self.new.text.items ++ behind)
-            ≡ trimmed (self.old.text.items ++ (bytes.now ++ behind))) }
+        ensures text { OnOk result ((behind : List ℕ) → trim_of (self.new.text.items ++ behind)
+            ≡ trim_of (self.old.text.items ++ (bytes.now ++ behind))) }
     {
         if self.text.as_slice().is_empty() {
             self.text.extend_from_slice(trim_front(bytes))
@@ -46,18 +46,18 @@ impl Part {
     // Appends the text before a `\`, and a space in place of the `\`.
     pub(crate) fn go_on(&mut self, start: &[u8]) -> Result<(), AllocError>
         ensures { OnOk result ((number : ℕ) (more : List line_spec.Line) →
-            map trimmed_line (joined self.new.number self.new.text.items more)
+            map trimmed_line (with_front self.new.number self.new.text.items more)
             ≡ map trimmed_line
-            (joined self.old.number self.old.text.items (joined number (start.now ++ 32 ∷ []) more))) }
+            (with_front self.old.number self.old.text.items (with_front number (start.now ++ 32 ∷ []) more))) }
     {
         self.put(start)?;
         self.put(b" ")
     }
 
     // Returns the line, if no text follows.
-    pub(crate) fn finished(self) -> Line
+    pub(crate) fn complete(self) -> Line
         ensures number { result.number ≡ self.number }
-        ensures text { result.text ≡ trimmed self.text.items }
+        ensures text { result.text ≡ trim_of self.text.items }
     {
         let Part { number, mut text } = self;
         text.truncate(kept_len(text.as_slice()));
@@ -68,12 +68,12 @@ impl Part {
     }
 
     // Appends the bytes that end the line, and returns the line.
-    pub(crate) fn ended(mut self, bytes: &[u8]) -> Result<Line, AllocError>
+    pub(crate) fn end_line(mut self, bytes: &[u8]) -> Result<Line, AllocError>
         ensures { IfOk result (λ line. (number : ℕ) (more : List line_spec.Line) → line ∷ map trimmed_line more
             ≡ map trimmed_line
-            (joined self.number self.text.items (record { number = number; text = bytes.now } ∷ more))) }
+            (with_front self.number self.text.items (record { number = number; text = bytes.now } ∷ more))) }
     {
         self.put(bytes)?;
-        Ok(self.finished())
+        Ok(self.complete())
     }
 }

@@ -24,7 +24,7 @@ pub(crate) fn next_line(bytes: &[u8]) -> (&[u8], &[u8])
 /// Returns a physical line without its final carriage return, then without `#` and the text after it, then without its
 /// trailing blanks.
 pub fn clean(line: &[u8]) -> &[u8]
-    ensures { result.now ≡ spec.cleaned line.now }
+    ensures { result.now ≡ spec.without_comment line.now }
 {
     let line = strip_last(line, b'\r').unwrap_or(line);
     trim_end(&line[..place_of(line, b'#')])

@@ -11,7 +11,7 @@ use Rattle.std.proofs.lemmas.Fmt.{decimal_is_IsNumeral_wide}
 use Rattle.frac128.specs.Decimals.{DigitsLaw, digits_of, number}
 use Rattle.frac128.specs.Fraction.{most, whole}
 use Rattle.frac128.specs.Numerals.{is_digit}
-use Rattle.digits_print.specs.Back.{BackLaw}
+use Rattle.digits_print.specs.Back.{ReadBackLaw}
 
 -- a digit of std is a digit of numerals with the same value
 digit_is : (c : ℕ) → digit_value c < 10 → (is_digit c ≡ true) × (digit_value c ≡ c - 48)
@@ -35,7 +35,7 @@ wide : (n : ℕ) → n ≤ most → n < 10 ^ 64
 wide n h = let big : 2 ^ 127 < 10 ^ 64 = lit< tt in omega arith
 
 -- the law that the digits of a number read as that number
-pub back_law : DigitsLaw → BackLaw
+pub back_law : DigitsLaw → ReadBackLaw
 back_law law n fits =
     let is = decimal_is_IsNumeral_wide n (wide n fits) in
     let same : number (digits_of (decimal n)) ≡ n = number_is 0 (decimal n) is.0.1 ∙ is.1 in

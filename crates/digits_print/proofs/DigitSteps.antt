@@ -8,7 +8,7 @@ use Rattle.std.proofs.lemmas.Nat.{div-mul-add, le-div, mod_below, mod-mul-add, m
 use Rattle.std.proofs.Math.Nat.{div-add-mod, mul-pos}
 use Rattle.frac128.specs.Nearest.{by_half}
 use Rattle.digits_print.specs.Nearest.{down, up}
-use Rattle.digits_print.specs.Rounding.{carried, first_power, rounded, rounded_at}
+use Rattle.digits_print.specs.RatioRounding.{carry_of, first_power, rounded_at, rounding_of}
 use Rattle.digits_print.proofs.Scales.{IsScaled, scale_unique, scaled, ten_before, ten_some, ten_suc, ten_up}
 
 -- at a scale at which the ratio has n digits before the point, rounding is determined by the quotient and the
@@ -16,16 +16,16 @@ use Rattle.digits_print.proofs.Scales.{IsScaled, scale_unique, scaled, ten_befor
 rounded_by : (n a b q r : ℕ) (s : ℤ) → 0 < n → 0 < a → 0 < b → q * (b * up s) + r ≡ a * down s → r < b * up s
     → 10 ^ (n - 1) ≤ q
     → q < 10 ^ n
-    → carried n (by_half q (nat_cmp (2 * r) (b * up s))) s ≡ rounded n a b
-unfolding rounded rounded_at
+    → carry_of n (by_half q (nat_cmp (2 * r) (b * up s))) s ≡ rounding_of n a b
+unfolding rounding_of rounded_at
 rounded_by n a b q r s some some_a some_b whole part low high =
     let quotient : a * down s / (b * up s) ≡ q = ap (λ v. v / (b * up s)) (sym whole)
     ∙ div-mul-add q (b * up s) r part in
     let rest : a * down s % (b * up s) ≡ r = ap (λ v. v % (b * up s)) (sym whole) ∙ mod-mul-add q (b * up s) r part in
     let same : s ≡ first_power a b -ℤ pos (n - 1) =
     scale_unique n a b s _ some_b at (scaled n a b some some_a some_b) in
-    sym (ap (λ v. carried n (by_half v (nat_cmp (2 * (a * down s % (b * up s))) (b * up s))) s) quotient
-    ∙ ap (λ v. carried n (by_half q (nat_cmp (2 * v) (b * up s))) s) rest)
+    sym (ap (λ v. carry_of n (by_half v (nat_cmp (2 * (a * down s % (b * up s))) (b * up s))) s) quotient
+    ∙ ap (λ v. carry_of n (by_half q (nat_cmp (2 * v) (b * up s))) s) rest)
     ∙ ap (rounded_at n a b) same
   where
     low_of : (l q b r a : ℕ) → q * b + r ≡ a → l ≤ q → l * b ≤ a
@@ -129,10 +129,10 @@ lengthened_less n top bottom number rest places some is =
 pub lengthened_end : (n top bottom number rest places : ℕ) → 0 < n → 0 < top
     → IsLengthened n top bottom number rest places
     → 10 ^ (n - 1) ≤ number
-    → carried n (by_half number (nat_cmp (rest * 2) bottom)) (neg_ℤ (pos places)) ≡ rounded n top bottom
+    → carry_of n (by_half number (nat_cmp (rest * 2) bottom)) (neg_ℤ (pos places)) ≡ rounding_of n top bottom
 lengthened_end n top bottom number rest places some some_top is least =
-    ap (λ v. carried n (by_half number (nat_cmp v bottom)) (neg_ℤ (pos places))) twice
-    ∙ ap (λ v. carried n (by_half number (nat_cmp (2 * rest) v)) (neg_ℤ (pos places))) (sym step)
+    ap (λ v. carry_of n (by_half number (nat_cmp v bottom)) (neg_ℤ (pos places))) twice
+    ∙ ap (λ v. carry_of n (by_half number (nat_cmp (2 * rest) v)) (neg_ℤ (pos places))) (sym step)
     ∙ rounded_by n top bottom number rest (neg_ℤ (pos places)) some some_top (omega (arith, is.part))
     (ap (λ v. number * v + rest) step ∙ is.value ∙ ap (λ v. top * v) (sym (down_is places)))
     (rw step is.part) least is.below
@@ -234,8 +234,9 @@ unit_even n whole unit places is = let ten = ten_before places is.some in let po
 -- a number with n digits is rounded by the part that is cut off
 pub shortened_end : (n top bottom unit places : ℕ) → 0 < n → 0 < bottom → IsShortened n (top / bottom) unit places
     → top / bottom / unit < 10 ^ n
-    → carried n (by_half (top / bottom / unit)
-    (nat_cmp (2 * (top / bottom % unit * bottom + top % bottom)) (bottom * unit))) (pos places) ≡ rounded n top bottom
+    → carry_of n (by_half (top / bottom / unit)
+    (nat_cmp (2 * (top / bottom % unit * bottom + top % bottom)) (bottom * unit))) (pos places) ≡ rounding_of n top
+    bottom
 shortened_end n top bottom unit places some some_bottom is below =
     let some_unit = unit_some n (top / bottom) unit places is in
     let whole : bottom * (top / bottom) + top % bottom ≡ top = div-add-mod top bottom in
@@ -247,7 +248,7 @@ shortened_end n top bottom unit places some some_bottom is below =
     let less : r < bottom * unit =
     less_of unit (top / bottom % unit) bottom (top % bottom) (mod_below (top / bottom) unit some_unit)
     (mod_below top bottom some_bottom) in
-    ap (λ v. carried n (by_half q (nat_cmp (2 * r) (bottom * v))) (pos places)) is.power
+    ap (λ v. carry_of n (by_half q (nat_cmp (2 * r) (bottom * v))) (pos places)) is.power
     ∙ rounded_by n top bottom q r (pos places) some
     (some_top (top / bottom) (some_whole n (top / bottom) unit places is) whole) some_bottom
     (ap (λ v. q * (bottom * v) + r) (sym is.power) ∙ value ∙ one top)

@@ -8,13 +8,13 @@ use Rattle.std.specs.Str.Parse.{IsNumeral, digits_value}
 use Rattle.std.proofs.lemmas.Bool.Decides.{nat_tests}
 use Rattle.std.proofs.lemmas.Fmt.{decimal_is_IsNumeral_wide}
 use Rattle.frac128.specs.Fraction.{Fraction, IsFrac, most}
-use Rattle.frac128.specs.Sign.{signed}
-use Rattle.frac128.specs.Steps.{ReducedLaw, fitting, ratio}
-use Rattle.digits_print.specs.Back.{BackLaw, IsReadAs}
+use Rattle.frac128.specs.Sign.{number_with_sign}
+use Rattle.frac128.specs.Steps.{ReducedLaw, fit_or_overflow, ratio}
+use Rattle.digits_print.specs.Back.{IsReadAs, ReadBackLaw}
 use Rattle.digits_print.specs.Exact.{ExactLaw, ReadsAsQuotient, ReadsAsWhole, exact_text, sign_text}
 
 -- a fraction of the program fits
-fitting_kept : (x : Fraction) → IsFrac x → fitting x ≡ Ok x
+fitting_kept : (x : Fraction) → IsFrac x → fit_or_overflow x ≡ Ok x
 fitting_kept x kept = rw (tests (unsigned_abs x.num) x.den kept.num_fits kept.den_fits) refl
   where
     tests : (m n : ℕ) → m ≤ most → n ≤ most → (nat_le m most && nat_le n most) ≡ true
@@ -27,7 +27,7 @@ ratio_kept law n zero kept = absurd (omega (arith, kept.reduced.positive))
 ratio_kept law n (suc d) kept =
     let x : Fraction = record { num = n; den = suc d } in
     let same : x ≡ _ = (law n (suc d) kept.reduced.positive).2 x kept.reduced refl in
-    ap fitting (sym same) ∙ fitting_kept x kept
+    ap fit_or_overflow (sym same) ∙ fitting_kept x kept
 
 -- a number is an optional minus and a numeral
 record IsSpelled (z : ℤ) : Type 0 where
@@ -36,18 +36,18 @@ record IsSpelled (z : ℤ) : Type 0 where
   numeral : IsNumeral 10 digits
   read : IsReadAs digits (digits_value 10 digits)
   text : signed_decimal z ≡ sign_text negative ++ digits
-  value : signed negative (digits_value 10 digits) ≡ z
+  value : number_with_sign negative (digits_value 10 digits) ≡ z
 
 -- a number that fits has at most 64 digits
 wide : (n : ℕ) → n ≤ most → n < 10 ^ 64
 wide n h = let big : 2 ^ 127 < 10 ^ 64 = lit< tt in omega arith
 
 -- the decimal digits of a number read as that number
-read_back : BackLaw → (n : ℕ) → n ≤ most → IsReadAs (decimal n) (digits_value 10 (decimal n))
+read_back : ReadBackLaw → (n : ℕ) → n ≤ most → IsReadAs (decimal n) (digits_value 10 (decimal n))
 read_back back n h = subst (IsReadAs (decimal n)) (sym (decimal_is_IsNumeral_wide n (wide n h)).1) (back n h)
 
 -- a whole number that fits is spelled by its sign and its digits
-spelled : BackLaw → (z : ℤ) → unsigned_abs z ≤ most → IsSpelled z
+spelled : ReadBackLaw → (z : ℤ) → unsigned_abs z ≤ most → IsSpelled z
 spelled back (pos n) h =
     let is = decimal_is_IsNumeral_wide n (wide n h) in
     record {
@@ -67,11 +67,11 @@ spelled back (negsuc n) h =
       numeral = is.0;
       read = read_back back (suc n) h;
       text = refl;
-      value = ap (signed true) is.1;
+      value = ap (number_with_sign true) is.1;
     }
 
 -- the text of a whole number reads as that number
-reads_as_whole : ReducedLaw → BackLaw → (n : ℤ) → IsFrac (record { num = n; den = 1 })
+reads_as_whole : ReducedLaw → ReadBackLaw → (n : ℤ) → IsFrac (record { num = n; den = 1 })
     → ReadsAsWhole (signed_decimal n) (record { num = n; den = 1 })
 reads_as_whole law back n kept =
     let top = spelled back n kept.num_fits in
@@ -85,7 +85,7 @@ reads_as_whole law back n kept =
     }
 
 -- the text of a fraction reads as the quotient of its parts
-reads_as_quotient : ReducedLaw → BackLaw → (n : ℤ) (d : ℕ) → IsFrac (record { num = n; den = d })
+reads_as_quotient : ReducedLaw → ReadBackLaw → (n : ℤ) (d : ℕ) → IsFrac (record { num = n; den = d })
     → ReadsAsQuotient (signed_decimal n ++ codes "|" ++ decimal d) (record { num = n; den = d })
 reads_as_quotient law back n d kept =
     let top = spelled back n kept.num_fits in
@@ -104,7 +104,7 @@ reads_as_quotient law back n d kept =
     }
 
 -- an exact text reads in one of these two ways
-reads : ReducedLaw → BackLaw → (n : ℤ) (d : ℕ) → IsFrac (record { num = n; den = d })
+reads : ReducedLaw → ReadBackLaw → (n : ℤ) (d : ℕ) → IsFrac (record { num = n; den = d })
     → ReadsAsWhole (exact_text (record { num = n; den = d })) (record { num = n; den = d })
     ⊎ ReadsAsQuotient (exact_text (record { num = n; den = d })) (record { num = n; den = d })
 reads law back n zero kept = inr (reads_as_quotient law back n zero kept)
@@ -115,5 +115,5 @@ reads law back n (suc (suc d)) kept = inr (rw (other d) (reads_as_quotient law b
     other d = grind (arith, nat_tests)
 
 -- the exact text of each fraction of the program reads as that fraction
-pub exact_law : ReducedLaw → BackLaw → ExactLaw
+pub exact_law : ReducedLaw → ReadBackLaw → ExactLaw
 exact_law law back x kept = reads law back x.num x.den kept

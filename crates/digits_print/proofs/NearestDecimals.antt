@@ -14,8 +14,8 @@ use Rattle.std.proofs.lemmas.Nat.{div_below, le-div, mul-le, pow-add}
 use Rattle.std.proofs.Math.Nat.{mul-pos, mul-one}
 use Rattle.frac128.specs.Decimals.{Decimal}
 use Rattle.frac128.specs.Nearest.{IsNearestWhole, NearestWholeLaw, by_half, nearest_whole}
-use Rattle.digits_print.specs.Nearest.{HasDigits, IsLess, IsNearest, IsPreferred, NoFarther, down, gap, up}
-use Rattle.digits_print.specs.Rounding.{NearestLaw, carried, rounded, rounded_at}
+use Rattle.digits_print.specs.Nearest.{HasDigits, IsLessDecimal, IsNearest, IsPreferred, NoFarther, down, gap, up}
+use Rattle.digits_print.specs.RatioRounding.{NearestLaw, carry_of, rounded_at, rounding_of}
 use Rattle.digits_print.proofs.NearestWholes.{other_odd}
 use Rattle.digits_print.proofs.Products.{abs_diff-mul, cancelled, cancelled_le, scaled_lt, turned}
 use Rattle.digits_print.proofs.Scales.{IsScaled, down_some, ordered, scaled, shifted, ten_before, ten_some, ten_suc}
@@ -106,7 +106,7 @@ record IsCarried (n m : ℕ) (s : ℤ) (d : Decimal) : Type 0 where
       ⊎ ((m ≡ 10 ^ n) × (d.coefficient ≡ 10 ^ (n - 1)) × (d.scale ≡ s +ℤ pos 1))
 
 -- a number of n digits, or the next power of ten, is carried to n digits
-carried_is : (n m : ℕ) (s : ℤ) → 0 < n → 10 ^ (n - 1) ≤ m → m ≤ 10 ^ n → IsCarried n m s (carried n m s)
+carried_is : (n m : ℕ) (s : ℤ) → 0 < n → 10 ^ (n - 1) ≤ m → m ≤ 10 ^ n → IsCarried n m s (carry_of n m s)
 carried_is n m s some low high = elim (cases_eq m (10 ^ n)) [
   | inl h ↦ rw (same h) (next h)
   | inr h ↦ rw (other h) (own (omega arith))
@@ -209,7 +209,7 @@ preferred n m s d e some own digits is even odd = by_case own.is
         one_above : (x y z : ℤ) → x ≡ y +ℤ pos 1 → z ≡ y +ℤ pos 0 → x ≡ z +ℤ pos 1
         one_above x y z e f = omega (arith, ints)
 
-        less : d.coefficient ≡ 1 → n - 1 ≡ 0 → IsLess e d
+        less : d.coefficient ≡ 1 → n - 1 ≡ 0 → IsLessDecimal e d
         less one none =
             let below_ten : e.coefficient < 10 = let ten = ten_before n some in let power : 10 ^ (n - 1) ≡ 1 =
             ap (λ v. 10 ^ v) none in omega (arith, digits.below) in
@@ -365,8 +365,8 @@ rounded_at_is_nearest law n a b s some some_b at =
     (carried_is n _ s some bounds.0 bounds.1)
 
 -- the computed decimal is the nearest one
-rounded_is_nearest : NearestWholeLaw → (n a b : ℕ) → 0 < n → 0 < a → 0 < b → IsNearest n a b (rounded n a b)
-unfolding rounded
+rounded_is_nearest : NearestWholeLaw → (n a b : ℕ) → 0 < n → 0 < a → 0 < b → IsNearest n a b (rounding_of n a b)
+unfolding rounding_of
 rounded_is_nearest law n a b some some_a some_b =
     rounded_at_is_nearest law n a b _ some some_b (scaled n a b some some_a some_b)
 
@@ -374,4 +374,4 @@ rounded_is_nearest law n a b some some_a some_b =
 pub nearest_law : NearestWholeLaw → NearestLaw
 nearest_law law n a b some some_a some_b =
     let is = rounded_is_nearest law n a b some some_a some_b in
-    (is, λ d own. unique n a b d (rounded n a b) own is)
+    (is, λ d own. unique n a b d (rounding_of n a b) own is)

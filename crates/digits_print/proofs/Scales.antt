@@ -11,7 +11,7 @@ use Rattle.std.proofs.lemmas.Int.Digits.{all_below_base_digits_of, length-digits
 use Rattle.std.proofs.lemmas.Nat.{le-div, mul-le, pow-add}
 use Rattle.std.proofs.Math.Nat.{div-add-mod, one-le-pow, pow-le-pow_right, pow-suc}
 use Rattle.digits_print.specs.Nearest.{down, up}
-use Rattle.digits_print.specs.Rounding.{digit_count, first_power}
+use Rattle.digits_print.specs.RatioRounding.{digit_count, first_power}
 use Rattle.digits_print.proofs.Products.{cancelled_le, cancelled_lt, scaled_lt}
 
 -- a power of ten is above 0

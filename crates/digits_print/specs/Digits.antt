@@ -6,7 +6,7 @@ use Rattle.frac128.specs.Sign.{is_negative, is_zero}
 use Rattle.digits_print.specs.Exact.{sign_text}
 use Rattle.digits_print.specs.Layout.{decimal_text}
 use Rattle.digits_print.specs.Nearest.{IsNearest}
-use Rattle.digits_print.specs.Rounding.{rounded}
+use Rattle.digits_print.specs.RatioRounding.{rounding_of}
 
 -- the text is a minus if x is below 0, followed by the decimal with n digits that is nearest to its magnitude
 pub record IsNearestText (x : Fraction) (n : ℕ) (text : List ℕ) : Type 0 where
@@ -23,4 +23,4 @@ abbrev pub digits_text : Fraction → ℕ → List ℕ
 digits_text x n =
     if is_zero x
     then codes "0"
-    else sign_text (is_negative x) ++ decimal_text n (rounded n (unsigned_abs x.num) x.den)
+    else sign_text (is_negative x) ++ decimal_text n (rounding_of n (unsigned_abs x.num) x.den)

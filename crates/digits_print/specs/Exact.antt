@@ -3,7 +3,7 @@ use Rattle.std.specs.Prelude.{◌≡◌, ◌++◌, ◌==◌, [], ℕ, List, Bool
 use Rattle.std.specs.Fmt.{decimal, signed_decimal}
 use Rattle.std.specs.Str.Parse.{IsNumeral, digits_value}
 use Rattle.frac128.specs.Fraction.{Fraction, IsFrac}
-use Rattle.frac128.specs.Sign.{signed}
+use Rattle.frac128.specs.Sign.{number_with_sign}
 use Rattle.frac128.specs.Steps.{ratio}
 use Rattle.digits_print.specs.Back.{IsReadAs}
 
@@ -23,7 +23,7 @@ pub record ReadsAsWhole (text : List ℕ) (x : Fraction) : Type 0 where
   pub top_digits : IsNumeral 10 top
   pub top_read : IsReadAs top (digits_value 10 top)
   pub spelled : text ≡ sign_text negative ++ top
-  pub value : ratio (signed negative (digits_value 10 top)) (pos 1) ≡ Ok x
+  pub value : ratio (number_with_sign negative (digits_value 10 top)) (pos 1) ≡ Ok x
 
 -- the text is an optional minus and two decimal numerals, which are also numerals of the product, separated by a bar,
 -- and their quotient is x
@@ -36,7 +36,7 @@ pub record ReadsAsQuotient (text : List ℕ) (x : Fraction) : Type 0 where
   pub top_read : IsReadAs top (digits_value 10 top)
   pub bottom_read : IsReadAs bottom (digits_value 10 bottom)
   pub spelled : text ≡ sign_text negative ++ top ++ codes "|" ++ bottom
-  pub value : ratio (signed negative (digits_value 10 top)) (pos (digits_value 10 bottom)) ≡ Ok x
+  pub value : ratio (number_with_sign negative (digits_value 10 top)) (pos (digits_value 10 bottom)) ≡ Ok x
 
 -- law: the exact text of each fraction of the program reads as that fraction
 abbrev pub ExactLaw : Type 0

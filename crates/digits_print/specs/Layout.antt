@@ -11,26 +11,26 @@ without_end_zeros [] = []
 without_end_zeros (b ∷ bs) = if list_all (λ c. c == 48) (b ∷ bs) then [] else b ∷ without_end_zeros bs
 
 -- the digits after a point, or nothing if there are none
-abbrev pub pointed : List ℕ → List ℕ
-pointed [] = []
-pointed (b ∷ bs) = codes "." ++ (b ∷ bs)
+abbrev pub point_and_digits : List ℕ → List ℕ
+point_and_digits [] = []
+point_and_digits (b ∷ bs) = codes "." ++ (b ∷ bs)
 
 -- a point and the digits after it, without trailing zeros
 abbrev pub fraction_part : List ℕ → List ℕ
-fraction_part ds = pointed (without_end_zeros ds)
+fraction_part ds = point_and_digits (without_end_zeros ds)
 
 -- a number with at least two digits
 abbrev pub two_digits : ℕ → List ℕ
 two_digits k = if nat_lt k 10 then codes "0" ++ decimal k else decimal k
 
 -- an exponent with its mark and sign
-abbrev pub exponent_text : ℤ → List ℕ
-exponent_text (pos k) = codes "e+" ++ two_digits k
-exponent_text (negsuc k) = codes "e-" ++ two_digits (suc k)
+abbrev pub exponent_suffix : ℤ → List ℕ
+exponent_suffix (pos k) = codes "e+" ++ two_digits k
+exponent_suffix (negsuc k) = codes "e-" ++ two_digits (suc k)
 
 -- the first digit, a point and the other digits, and the power of ten of the first digit
 abbrev pub scientific : List ℕ → ℤ → List ℕ
-scientific ds power = take 1 ds ++ fraction_part (drop 1 ds) ++ exponent_text power
+scientific ds power = take 1 ds ++ fraction_part (drop 1 ds) ++ exponent_suffix power
 
 -- plain notation with k digits before the point
 abbrev pub plain : List ℕ → ℕ → List ℕ

@@ -3,5 +3,5 @@ pub mod Digits
 pub mod Exact
 pub mod Layout
 pub mod Nearest
-pub mod Rounding
+pub mod RatioRounding
 pub mod Styles

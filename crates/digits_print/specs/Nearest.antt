@@ -27,13 +27,13 @@ abbrev pub NoFarther : ℕ → ℕ → Decimal → Decimal → Type 0
 NoFarther a b d e = gap a b d * down e.scale ≤ gap a b e * down d.scale
 
 -- d is less than e
-abbrev pub IsLess : Decimal → Decimal → Type 0
-IsLess d e = d.coefficient * up d.scale * down e.scale < e.coefficient * up e.scale * down d.scale
+abbrev pub IsLessDecimal : Decimal → Decimal → Type 0
+IsLessDecimal d e = d.coefficient * up d.scale * down e.scale < e.coefficient * up e.scale * down d.scale
 
 -- d is preferred over an equally near e: d is even and e is odd or, if both are odd, d is the greater one
 abbrev pub IsPreferred : Decimal → Decimal → Type 0
 IsPreferred d e = ((d.coefficient % 2 ≡ 0) × (e.coefficient % 2 ≡ 1))
-    ⊎ ((d.coefficient % 2 ≡ 1) × (e.coefficient % 2 ≡ 1) × IsLess e d)
+    ⊎ ((d.coefficient % 2 ≡ 1) × (e.coefficient % 2 ≡ 1) × IsLessDecimal e d)
 
 -- d is the nearest to a / b of all decimals with n significant digits and any scale
 pub record IsNearest (n a b : ℕ) (d : Decimal) : Type 0 where

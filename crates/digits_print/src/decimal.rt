@@ -3,7 +3,7 @@
 ghost use Rattle.std.specs.Prelude.{◌≡◌, ◌<◌, ◌≤◌, ◌^◌, pos, negsuc, ◌<ℤ◌, ◌≤ℤ◌};
 ghost use Rattle.frac128.specs.Nearest as nearest_spec;
 ghost use Rattle.digits_print.specs.Nearest.{HasDigits};
-ghost use Rattle.digits_print.specs.Rounding as spec;
+ghost use Rattle.digits_print.specs.RatioRounding as spec;
 
 use std::cmp::Ordering;
 use std::marker::Model;
@@ -30,13 +30,13 @@ impl Model for Decimal {
 
 impl Decimal {
     // Returns the number at this scale, rounded by the comparison of the part cut off with one half.
-    pub(crate) fn rounded(number: u128, cut: Ordering, scale: i32, digits: u32) -> Decimal
+    pub(crate) fn round_number(number: u128, cut: Ordering, scale: i32, digits: u32) -> Decimal
         requires some { 0 < digits }
         requires most { digits ≤ MOST_DIGITS }
         requires fits { HasDigits digits number }
         requires low { negsuc 99 <ℤ scale }
         requires high { scale <ℤ pos 100 }
-        ensures value { result ≡ spec.carried digits (nearest_spec.by_half number cut) scale }
+        ensures value { result ≡ spec.carry_of digits (nearest_spec.by_half number cut) scale }
         ensures fits { HasDigits digits result.coefficient }
         ensures low { negsuc 99 <ℤ result.scale }
         ensures high { result.scale ≤ℤ pos 100 }

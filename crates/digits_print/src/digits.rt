@@ -6,7 +6,7 @@ ghost use Rattle.digits_print.specs.Digits.{IsDigitsText, digits_text};
 use crate::decimal::MOST_DIGITS;
 use crate::laws::nearest_law;
 use crate::layout::put_decimal;
-use crate::rounding::rounded;
+use crate::ratio_rounding::round_ratio;
 use frac128::Frac;
 use std::alloc::{AllocError, Global};
 use units_io::Text;
@@ -42,7 +42,7 @@ fn rounded_text(alloc: Global, x: &Frac, digits: u8) -> Result<Text, AllocError>
         text.push(b'-')?;
     }
     let count = u32::from(digits);
-    let nearest = rounded(x.num().unsigned_abs(), x.den().unsigned_abs(), count);
+    let nearest = round_ratio(x.num().unsigned_abs(), x.den().unsigned_abs(), count);
     put_decimal(alloc, &mut text, nearest, count)?;
     Ok(Text::from(text))
 }

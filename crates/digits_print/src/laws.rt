@@ -1,8 +1,8 @@
 //! Laws of the definitions that the contracts cite.
 
-ghost use Rattle.digits_print.specs.Back.{BackLaw};
+ghost use Rattle.digits_print.specs.Back.{ReadBackLaw};
 ghost use Rattle.digits_print.specs.Exact.{ExactLaw};
-ghost use Rattle.digits_print.specs.Rounding.{NearestLaw};
+ghost use Rattle.digits_print.specs.RatioRounding.{NearestLaw};
 
 use frac128::{digits_law, nearest_whole_law, reduced_law};
 
@@ -23,7 +23,7 @@ pub fn nearest_law()
 
 /// The digits of a whole number read as that number.
 pub fn back_law()
-    ensures { BackLaw }
+    ensures { ReadBackLaw }
 {
     digits_law();
 }

@@ -102,7 +102,7 @@ fn put_fraction(text: &mut Vec<u8>, digits: &[u8]) -> Result<(), AllocError>
 
 // Appends the exponent with its mark and sign.
 fn put_exponent(alloc: Global, text: &mut Vec<u8>, power: i32) -> Result<(), AllocError>
-    ensures { OnOk result (text.new.items ≡ text.old.items ++ spec.exponent_text power) }
+    ensures { OnOk result (text.new.items ≡ text.old.items ++ spec.exponent_suffix power) }
 {
     if power < 0 {
         text.extend_from_slice(b"e-".as_slice())?;

@@ -6,7 +6,7 @@ mod digits;
 mod exact;
 mod laws;
 mod layout;
-mod rounding;
+mod ratio_rounding;
 mod style;
 mod tenfold;
 

@@ -18,15 +18,15 @@ pub(crate) fn ten_times(rest: u128, bottom: u128) -> Mixed
     ensures rest { result.rest < bottom }
     ensures digit { result.whole < 10 }
 {
-    let two = normalized(0, rest * 2, bottom);
-    let four = normalized(two.whole * 2, two.rest * 2, bottom);
-    let five = normalized(four.whole, four.rest + rest, bottom);
-    normalized(five.whole * 2, five.rest * 2, bottom)
+    let two = carry_whole(0, rest * 2, bottom);
+    let four = carry_whole(two.whole * 2, two.rest * 2, bottom);
+    let five = carry_whole(four.whole, four.rest + rest, bottom);
+    carry_whole(five.whole * 2, five.rest * 2, bottom)
 }
 
 // Returns the whole number and the part over `bottom`, with `bottom` carried from the part if it is not below
 // `bottom`.
-fn normalized(whole: u128, part: u128, bottom: u128) -> Mixed
+fn carry_whole(whole: u128, part: u128, bottom: u128) -> Mixed
     requires few { whole < 100 }
     requires part { part < 2 * bottom }
     ensures value { result.whole * bottom + result.rest ≡ whole * bottom + part }

@@ -20,10 +20,10 @@ pub(crate) struct Board {
 }
 
 impl Model for Board {
-    ghost use Rattle.edge_links.specs.Edges.{Graph};
+    ghost use Rattle.edge_links.specs.Edges.{EdgeGraph};
     ghost use Rattle.edge_calls.specs.Answers.{IsNewest};
 
-    ghost Value = { Graph };
+    ghost Value = { EdgeGraph };
 
     ghost view = { λ b. b.links };
 

@@ -2,7 +2,7 @@
 use Rattle.std.proofs.Common.{◌≡◌, ℕ, ◌<◌, length, set, get_or, refl, sym, ◌∙◌, ap, subst, arith}
 use Rattle.std.proofs.Common.{◌⊎◌, inl, inr, get_or-set_same, get_or-set_other, length-set}
 use Rattle.std.proofs.lemmas.Bool.{cases_eq}
-use Rattle.edge_links.specs.Changes.{IsCut}
+use Rattle.edge_links.specs.Changes.{IsFreed}
 use Rattle.edge_links.specs.Owners.{Owners}
 
 -- some of the old places that satisfy the test are free now, and all others are unchanged
@@ -58,7 +58,7 @@ cutting_next Test old s place c ks l test = record {
 pub cutting_end : (Test : ℕ → Type 0) (old s : Owners) → IsCutting Test old s
     → ((p : ℕ) → p < length old.users → Test p → (get_or s.users p 0 ≡ get_or old.users p 0)
     × (get_or s.keys p 0 ≡ get_or old.keys p 0) → ⊥)
-    → IsCut Test old s
+    → IsFreed Test old s
 cutting_end Test old s c none p l = (
   λ t. elim (c.each p l) [ inl w ↦ (w.1, w.2) | inr w ↦ absurd (none p l t w) ],
   λ n. elim (c.each p l) [ inl w ↦ absurd (n w.0) | inr w ↦ w ],

@@ -7,20 +7,20 @@ use Rattle.std.proofs.lemmas.List.{length-append}
 use Rattle.edge_links.specs.Edges.{Edge, edge_count}
 use Rattle.edge_links.specs.Changes.{IsParted}
 use Rattle.edge_links.specs.Owners.{Owners, AreEdges, IsHead}
-use Rattle.edge_links.specs.PlaceReach.{IsCutOff}
+use Rattle.edge_links.specs.PlaceReach.{IsEdgeOfAffected}
 use Rattle.edge_links.specs.Once.{ClearsEachOnce, ClearsPlacesOnce}
-use Rattle.edge_links.specs.Reach.{IsAffected, Forgets, IsCleared}
-use Rattle.edge_links.specs.Shown.{edge_at, edges_below, AreLinks}
+use Rattle.edge_links.specs.Reach.{IsAffectedNode, AreMarksCleared, Forgets}
+use Rattle.edge_links.specs.PlaceView.{edge_at, edges_below, AreLinks}
 use Rattle.edge_links.specs.PlaceReach as place
 use Rattle.edge_links.specs.Times.{times}
-use Rattle.edge_links.proofs.Counting.{owned_zero}
-use Rattle.edge_links.proofs.Linked.{same_heads}
+use Rattle.edge_links.proofs.OwnedCounts.{owned_zero}
+use Rattle.edge_links.proofs.FreePlaces.{same_heads}
 use Rattle.edge_links.proofs.Membership.{contains_map, contains_origin, apart_map}
 use Rattle.edge_links.proofs.EdgeCounts.{count_other}
-use Rattle.edge_links.proofs.Listed.{user, key_of, by_edge, at_none, at_free, at_edge, at_same, counts_same}
-use Rattle.edge_links.proofs.Listed.{counts_none}
-use Rattle.edge_links.proofs.Put.{read}
-use Rattle.edge_links.proofs.Reaching.{user_head, affected_down, affected_up, affected_there}
+use Rattle.edge_links.proofs.FirstEdges.{user, key_of, by_edge, at_none, at_free, at_edge, at_same, counts_same}
+use Rattle.edge_links.proofs.FirstEdges.{counts_none}
+use Rattle.edge_links.proofs.ListPuts.{read}
+use Rattle.edge_links.proofs.PlacePaths.{user_head, affected_down, affected_up, affected_there}
 
 -- the number of free places among the first n
 abbrev pub frees : (ℕ → ℕ) → ℕ → ℕ
@@ -45,7 +45,7 @@ module _ (s : Owners) (e : AreEdges s.users s.keys) (nodes : List ℕ) (links : 
     (there : key < length nodes)
     (head : ℕ) (found : head ≡ get_or nodes key head)
     (t : Owners) (size : length t.users ≡ length s.users) (same_names : t.names ≡ s.names)
-    (parted : IsParted (IsCutOff s head) s t)
+    (parted : IsParted (IsEdgeOfAffected s head) s t)
     (idle : (x : ℕ) → get_or t.waits x false ≡ false) where
   abbrev n : ℕ
   n = length s.users
@@ -53,17 +53,17 @@ module _ (s : Owners) (e : AreEdges s.users s.keys) (nodes : List ℕ) (links : 
   is_head : head ≡ get_or nodes key 0
   is_head = read nodes key head there found
 
-  cut : IsParted (IsCutOff s (get_or nodes key 0)) s t
-  cut = subst (λ z. IsParted (IsCutOff s z) s t) is_head parted
+  cut : IsParted (IsEdgeOfAffected s (get_or nodes key 0)) s t
+  cut = subst (λ z. IsParted (IsEdgeOfAffected s z) s t) is_head parted
 
   abbrev old : List Edge
   old = edges_below s n
 
   -- a place that stays has the same edge as before
   abbrev Stays : ℕ → Type 0
-  Stays p = (IsCutOff s (get_or nodes key 0) p → ⊥) × (edge_at t p ≡ edge_at s p)
+  Stays p = (IsEdgeOfAffected s (get_or nodes key 0) p → ⊥) × (edge_at t p ≡ edge_at s p)
 
-  at_place : (p : ℕ) → p < n → (IsCutOff s (get_or nodes key 0) p × (edge_at t p ≡ [])) ⊎ Stays p
+  at_place : (p : ℕ) → p < n → (IsEdgeOfAffected s (get_or nodes key 0) p × (edge_at t p ≡ [])) ⊎ Stays p
   at_place p l = elim (cut p l) [
     | inl c ↦ inl (c.0, at_free t p c.1)
     | inr c ↦ inr (
@@ -91,38 +91,38 @@ module _ (s : Owners) (e : AreEdges s.users s.keys) (nodes : List ℕ) (links : 
   links_after = same_heads s t nodes size same_names heads_stay heads_were idle links
 
   -- the edge of a user is removed if and only if the user is affected
-  cut_off_affected : (p : ℕ) → p < n → IsCutOff s (get_or nodes key 0) p
-      → IsAffected old key (get_or s.names (user s p) 0)
+  cut_off_affected : (p : ℕ) → p < n → IsEdgeOfAffected s (get_or nodes key 0) p
+      → IsAffectedNode old key (get_or s.names (user s p) 0)
   cut_off_affected p l c = affected_up s e nodes links key (user s p) there c.2
 
   affected_cut_off : (p : ℕ) → p < n → (user s p ≡ p → ⊥) → (user s p ≡ 0 → ⊥)
-      → IsAffected old key (get_or s.names (user s p) 0)
-      → IsCutOff s (get_or nodes key 0) p
+      → IsAffectedNode old key (get_or s.names (user s p) 0)
+      → IsEdgeOfAffected s (get_or nodes key 0) p
   affected_cut_off p l a b f =
       let h = links.named (user s p) (user_head s e nodes links p l b) in (
         a,
         b,
-        subst (λ z. place.IsAffected s (get_or nodes key 0) z) h.1
+        subst (λ z. place.IsAffectedPlace s (get_or nodes key 0) z) h.1
             (affected_down s e nodes links key (get_or s.names (user s p) 0) f),
       )
 
-  gone_at : (x y : ℕ) → IsAffected old key x → (p : ℕ) → p < n → edge_count (edge_at t p) x y ≡ 0
+  gone_at : (x y : ℕ) → IsAffectedNode old key x → (p : ℕ) → p < n → edge_count (edge_at t p) x y ≡ 0
   gone_at x y f p l = elim (at_place p l) [
     | inl c ↦ ap (λ es. edge_count es x y) c.1
     | inr c ↦ ap (λ es. edge_count es x y) c.1 ∙ elim (by_edge s p) [
       | inl h ↦ ap (λ es. edge_count es x y) (at_none s p h)
       | inr h ↦ ap (λ es. edge_count es x y) (at_edge s p h.0 h.1)
           ∙ count_other (get_or s.names (user s p) 0) (get_or s.names (key_of s p) 0) x y
-          (λ q. c.0 (affected_cut_off p l h.0 h.1 (subst (λ z. IsAffected old key z) (sym q) f)))
+          (λ q. c.0 (affected_cut_off p l h.0 h.1 (subst (λ z. IsAffectedNode old key z) (sym q) f)))
     ]
   ]
 
-  kept_at : (x y : ℕ) → (IsAffected old key x → ⊥) → (p : ℕ) → p < n
+  kept_at : (x y : ℕ) → (IsAffectedNode old key x → ⊥) → (p : ℕ) → p < n
       → edge_count (edge_at t p) x y ≡ edge_count (edge_at s p) x y
   kept_at x y f p l = elim (at_place p l) [
     | inl c ↦ ap (λ es. edge_count es x y) c.1 ∙ sym (ap (λ es. edge_count es x y) (at_edge s p c.0.0 c.0.1)
         ∙ count_other (get_or s.names (user s p) 0) (get_or s.names (key_of s p) 0) x y
-        (λ q. f (subst (λ z. IsAffected old key z) q (cut_off_affected p l c.0))))
+        (λ q. f (subst (λ z. IsAffectedNode old key z) q (cut_off_affected p l c.0))))
     | inr c ↦ ap (λ es. edge_count es x y) c.1
   ]
 
@@ -174,16 +174,16 @@ module _ (s : Owners) (e : AreEdges s.users s.keys) (nodes : List ℕ) (links : 
       sums a b d f g h i j k l m o p = omega arith
 
   pub cleared : (now new : ℕ → Bool)
-      → ((x : ℕ) → IsHead s x → place.IsAffected s head x → new (get_or s.names x 0) ≡ false)
-      → ((m : ℕ) → ((x : ℕ) → IsHead s x → place.IsAffected s head x → get_or s.names x 0 ≡ m → ⊥) → new m ≡ now m)
-      → IsCleared (IsAffected old key) now new
+      → ((x : ℕ) → IsHead s x → place.IsAffectedPlace s head x → new (get_or s.names x 0) ≡ false)
+      → ((m : ℕ) → ((x : ℕ) → IsHead s x → place.IsAffectedPlace s head x → get_or s.names x 0 ≡ m → ⊥) → new m ≡ now m)
+      → AreMarksCleared (IsAffectedNode old key) now new
   cleared now new gone kept = record {
     gone = λ x f. let h = affected_there s e nodes links key x there f in
         ap new (sym h.1)
-        ∙ gone (get_or nodes x 0) h.0 (subst (λ z. place.IsAffected s z (get_or nodes x 0)) (sym is_head)
+        ∙ gone (get_or nodes x 0) h.0 (subst (λ z. place.IsAffectedPlace s z (get_or nodes x 0)) (sym is_head)
         (affected_down s e nodes links key x f));
-    kept = λ m f. kept m (λ x h a q. f (subst (λ z. IsAffected old key z) q
-        (affected_up s e nodes links key x there (subst (λ z. place.IsAffected s z x) is_head a))));
+    kept = λ m f. kept m (λ x h a q. f (subst (λ z. IsAffectedNode old key z) q
+        (affected_up s e nodes links key x there (subst (λ z. place.IsAffectedPlace s z x) is_head a))));
   }
 
   -- the name of a place
@@ -191,29 +191,29 @@ module _ (s : Owners) (e : AreEdges s.users s.keys) (nodes : List ℕ) (links : 
   name x = get_or s.names x 0
 
   pub once : {M : Type 0} (IsCall : ℕ → M → M → Type 0) (m k : M)
-      → ClearsPlacesOnce IsCall s.names (λ x. IsHead s x × place.IsAffected s head x) m k
-      → ClearsEachOnce IsCall (IsAffected old key) m k
+      → ClearsPlacesOnce IsCall s.names (λ x. IsHead s x × place.IsAffectedPlace s head x) m k
+      → ClearsEachOnce IsCall (IsAffectedNode old key) m k
   once IsCall m k calls = record {
     nodes = map name calls.places;
     apart = apart_map name calls.places
-        (λ x y i j same. let a = links.named x ((calls.affected x).0 i).0 in
-        let b = links.named y ((calls.affected y).0 j).0 in
+        (λ x y i j same. let a = links.named x ((calls.marks_affected x).0 i).0 in
+        let b = links.named y ((calls.marks_affected y).0 j).0 in
         sym a.1 ∙ (ap (λ z. get_or nodes z 0) same ∙ b.1))
         calls.apart;
-    affected = λ x. (λ i. named_affected x (contains_origin name x calls.places i), λ f. affected_named x f);
+    marks_affected = λ x. (λ i. named_affected x (contains_origin name x calls.places i), λ f. affected_named x f);
     calls = calls.calls;
   }
     where
-      named_affected : (x : ℕ) → ((p : ℕ) × Contains calls.places p × (name p ≡ x)) → IsAffected old key x
-      named_affected x (p, i, same) = subst (λ z. IsAffected old key z) same
+      named_affected : (x : ℕ) → ((p : ℕ) × Contains calls.places p × (name p ≡ x)) → IsAffectedNode old key x
+      named_affected x (p, i, same) = subst (λ z. IsAffectedNode old key z) same
           (affected_up s e nodes links key p there
-          (subst (λ z. place.IsAffected s z p) is_head ((calls.affected p).0 i).1))
+          (subst (λ z. place.IsAffectedPlace s z p) is_head ((calls.marks_affected p).0 i).1))
 
-      affected_named : (x : ℕ) → IsAffected old key x → Contains (map name calls.places) x
+      affected_named : (x : ℕ) → IsAffectedNode old key x → Contains (map name calls.places) x
       affected_named x f = let h = affected_there s e nodes links key x there f in
           subst (λ z. Contains (map name calls.places) z) h.1 (contains_map name (get_or nodes x 0) calls.places
-          ((calls.affected (get_or nodes x 0)).1 (
+          ((calls.marks_affected (get_or nodes x 0)).1 (
             h.0,
-            subst (λ z. place.IsAffected s z (get_or nodes x 0)) (sym is_head)
+            subst (λ z. place.IsAffectedPlace s z (get_or nodes x 0)) (sym is_head)
                 (affected_down s e nodes links key x f),
           )))

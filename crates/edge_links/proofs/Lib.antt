@@ -1,22 +1,22 @@
-mod Begun
-mod Counting
+mod AddedPlaces
+mod OwnedCounts
 mod Cuts
 pub mod EdgeCounts
 mod Forgotten
-mod Growing
-mod Joining
-mod Leaving
-mod Linked
-mod Linking
-mod Listed
+mod OneMorePlace
+mod RingJoins
+mod RingLeaves
+mod FreePlaces
+mod ColumnChanges
+mod FirstEdges
 pub mod Membership
 mod Moves
-mod Placing
-mod Put
-mod Reaching
+mod OwnerChanges
+mod ListPuts
+mod PlacePaths
 mod Unsettle
 mod Users
 mod WaitingPlaces
-mod Walking
-mod Weighing
-mod Written
+mod BackwardWalks
+mod WeightedSums
+mod SlotWrites

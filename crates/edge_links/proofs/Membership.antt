@@ -1,7 +1,7 @@
 -- The members of a list with one more item.
 use Rattle.std.proofs.Common.{◌≡◌, ◌⊎◌, ℕ, zero, suc, ◌<◌, List, [], ◌∷◌, length, get_or, Contains, sym, arith, inl}
 use Rattle.std.proofs.Common.{inr, map, refl, ap, subst}
-use Rattle.edge_links.specs.Waiting.{AreApart}
+use Rattle.edge_links.specs.WaitingStack.{AreApart}
 
 -- an empty list has no members
 pub contains_none : (x : ℕ) → Contains [] x → ⊥

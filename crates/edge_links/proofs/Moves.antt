@@ -6,11 +6,11 @@ use Rattle.std.proofs.lemmas.List.{set-set}
 use Rattle.edge_links.specs.declared.slots.Side.{Side}
 use Rattle.edge_links.specs.declared.slots.Side.TheVariants.{User, Key}
 use Rattle.edge_links.specs.Columns.{Columns, ring_of, with_ring, with_next, with_prev, with_seat}
-use Rattle.edge_links.specs.Linked.{AreLinked}
+use Rattle.edge_links.specs.RingInvariants.{AreLinked}
 use Rattle.edge_links.specs.Owners.{Owners, owners, owners_of, with_owner}
-use Rattle.edge_links.proofs.Joining.{with_joined, joined_ring}
-use Rattle.edge_links.proofs.Leaving.{without, left_ring, not_owner}
-use Rattle.edge_links.proofs.Linking.{owners_at, rings_at, relinked, shown_as, joined_columns, left_columns}
+use Rattle.edge_links.proofs.RingJoins.{with_joined, joined_ring}
+use Rattle.edge_links.proofs.RingLeaves.{without, left_ring, not_owner}
+use Rattle.edge_links.proofs.ColumnChanges.{owners_at, rings_at, relinked, shown_as, joined_columns, left_columns}
 
 -- setting an owner sets it on its side
 owner_set : (side : Side) (s : Owners) (p h : ℕ) → owners_of side (with_owner side s p h) ≡ set (owners_of side s) p h

@@ -4,10 +4,10 @@ use Rattle.std.proofs.Common.{get_or}
 use Rattle.std.proofs.Common.{Contains, ◌⊎◌, ◌↔◌}
 use Rattle.std.proofs.Common.{refl, sym, ◌∙◌, ap, subst, inl, inr, arith, get_or-set_other, map}
 use Rattle.std.proofs.lemmas.Bool.{cases_eq, cond-true, cond-false, eq-eqb, ne_eqb}
-use Rattle.edge_links.specs.Changes.{IsCut, IsParted, HasUser, HasKey}
+use Rattle.edge_links.specs.Changes.{IsFreed, IsParted, HasUser, HasKey}
 use Rattle.edge_links.specs.Owners.{Owners, AreEdges, Waits, IsHead}
-use Rattle.edge_links.specs.Waiting.{AreApart}
-use Rattle.edge_links.specs.PlaceReach.{IsEdge, Reaches, at_once, further, IsAffected, IsCutOff}
+use Rattle.edge_links.specs.WaitingStack.{AreApart}
+use Rattle.edge_links.specs.PlaceReach.{IsEdge, PlaceReaches, at_once, further, IsAffectedPlace, IsEdgeOfAffected}
 use Rattle.edge_links.proofs.Membership.{contains_none, contains_first, contains_later, contains_cases}
 
 -- the head of the user of a place
@@ -40,7 +40,7 @@ pub record IsUnsettling (old s : Owners) (name : ℕ → ℕ) (marks now : ℕ �
   pub out_user : (p : ℕ) → p < length old.users → IsLive s p → Contains done (user s p) → ⊥
   pub out_key : (p : ℕ) → p < length old.users → IsLive s p → Contains done (key_of s p) → ⊥
   pub reached : (x : ℕ) → Contains done x ⊎ Waits s x → (x < length old.users) × (user old x ≡ x) × (x ≡ 0 → ⊥)
-      × IsAffected old key x
+      × IsAffectedPlace old key x
   pub cleared : (x : ℕ) → Contains done x → now (name x) ≡ false
   pub kept : (m : ℕ) → ((x : ℕ) → Contains done x → name x ≡ m → ⊥) → now m ≡ marks m
   pub begun : Contains done key ⊎ Waits s key
@@ -60,13 +60,13 @@ module _ (old : Owners) (old_edges : AreEdges old.users old.keys) (key : ℕ) (n
       (u : IsUnsettling old s0 name marks now key Called)
       (popped : (x < length s0.users) × Waits s0 x × (s.waits ≡ set s0.waits x false))
       (same_users : s.users ≡ s0.users) (same_keys : s.keys ≡ s0.keys) (edges : AreEdges s.users s.keys)
-      (cut_users : IsCut (HasUser s x) s t) (t_waits : t.waits ≡ s.waits) (t_size : length t.users ≡ length s.users)
-      (cut_keys : IsCut (HasKey t x) t v) (v_waits : (y : ℕ) → Waits v y ↔
+      (cut_users : IsFreed (HasUser s x) s t) (t_waits : t.waits ≡ s.waits) (t_size : length t.users ≡ length s.users)
+      (cut_keys : IsFreed (HasKey t x) t v) (v_waits : (y : ℕ) → Waits v y ↔
       (Waits t y ⊎ ((p : ℕ) × (p < length t.users) × HasKey t x p × (get_or t.users p 0 ≡ y))))
       (v_size : length v.users ≡ length t.users)
       (called : (ms : List ℕ) → Called ms → Called2 (name x ∷ ms))
       (now2 : ℕ → Bool) (cleared_x : (m : ℕ) → now2 m ≡ cond (nat_eq m (name x)) false (now m)) where
-    x_facts : (x < length old.users) × (user old x ≡ x) × (x ≡ 0 → ⊥) × IsAffected old key x
+    x_facts : (x < length old.users) × (user old x ≡ x) × (x ≡ 0 → ⊥) × IsAffectedPlace old key x
     x_facts = u.reached x (inr popped.1)
 
     in_s : (p : ℕ) → p < length old.users → p < length s.users
@@ -204,7 +204,8 @@ module _ (old : Owners) (old_edges : AreEdges old.users old.keys) (key : ℕ) (n
         let n : user s p ≡ x → ⊥ = λ e. let a = (cut_users p (in_s p l)).0 (k.0, e) in x_facts.2 (sym k.1 ∙ a.1) in
         let a = (cut_users p (in_s p l)).1 (λ w. n w.1) in (n, a.0, a.1)
 
-    reached_new : (y : ℕ) → Waits v y → (y < length old.users) × (user old y ≡ y) × (y ≡ 0 → ⊥) × IsAffected old key y
+    reached_new : (y : ℕ) → Waits v y → (y < length old.users) × (user old y ≡ y) × (y ≡ 0 → ⊥) × IsAffectedPlace old
+        key y
     reached_new y h =
         elim ((v_waits y).0 h) [
           | inl q ↦ u.reached y (inr (before y (ap (λ b. get_or b y false) (sym (t_waits ∙ popped.2)) ∙ q)))
@@ -227,7 +228,7 @@ module _ (old : Owners) (old_edges : AreEdges old.users old.keys) (key : ℕ) (n
                       subst (λ z. user old z ≡ z) uo (old_edges.top p lo),
                       λ q. nz (uo ∙ q),
                       inr (elim x_facts.3
-                          [ inl e ↦ subst (λ z. Reaches old y z) e (at_once p edge) | inr r ↦ further p edge r ]),
+                          [ inl e ↦ subst (λ z. PlaceReaches old y z) e (at_once p edge) | inr r ↦ further p edge r ]),
                     )
               ]
         ]
@@ -354,19 +355,19 @@ module _ (old : Owners) (old_edges : AreEdges old.users old.keys) (key : ℕ) (n
               (subst (λ z. Contains u.done z) (sym (m.1 ∙ e.4)) i))
         ]
 
-    reach_done : {x y : ℕ} → Reaches old x y → Contains u.done y → Contains u.done x
+    reach_done : {x y : ℕ} → PlaceReaches old x y → Contains u.done y → Contains u.done x
     reach_done (at_once p e) i = pred_done p _ _ e i
     reach_done (further p e r) i = pred_done p _ _ e (reach_done r i)
 
-    pub affected_done : (x : ℕ) → IsAffected old key x → Contains u.done x
+    pub affected_done : (x : ℕ) → IsAffectedPlace old key x → Contains u.done x
     affected_done x (inl e) =
         subst (λ z. Contains u.done z) (sym e) (elim u.begun [ inl i ↦ i | inr q ↦ absurd (none _ q) ])
     affected_done x (inr r) = reach_done r (elim u.begun [ inl i ↦ i | inr q ↦ absurd (none _ q) ])
 
-    pub done_affected : (x : ℕ) → Contains u.done x → IsAffected old key x
+    pub done_affected : (x : ℕ) → Contains u.done x → IsAffectedPlace old key x
     done_affected x i = (u.reached x (inl i)).3
 
-    pub all_cut : IsParted (IsCutOff old key) old s
+    pub all_cut : IsParted (IsEdgeOfAffected old key) old s
     all_cut p l = elim (u.each p l) [
       | inl o ↦
           let i : Contains u.done (user old p) = elim o.3 [ inl j ↦ j | inr q ↦ absurd (none _ q) ] in
@@ -379,14 +380,14 @@ module _ (old : Owners) (old_edges : AreEdges old.users old.keys) (key : ℕ) (n
       )
     ]
 
-    pub all_cleared : (x : ℕ) → IsAffected old key x → now (name x) ≡ false
+    pub all_cleared : (x : ℕ) → IsAffectedPlace old key x → now (name x) ≡ false
     all_cleared x a = u.cleared x (affected_done x a)
 
-    pub all_kept : (m : ℕ) → ((x : ℕ) → IsHead old x → IsAffected old key x → name x ≡ m → ⊥) → now m ≡ marks m
+    pub all_kept : (m : ℕ) → ((x : ℕ) → IsHead old x → IsAffectedPlace old key x → name x ≡ m → ⊥) → now m ≡ marks m
     all_kept m n = u.kept m (λ x i. let r = u.reached x (inl i) in n x (r.0, r.1, r.2) r.3)
 
     pub all_once : (places : List ℕ) × AreApart places
-        × ((x : ℕ) → Contains places x ↔ (IsHead old x × IsAffected old key x)) × Called (map name places)
+        × ((x : ℕ) → Contains places x ↔ (IsHead old x × IsAffectedPlace old key x)) × Called (map name places)
     all_once = (
       u.done,
       u.apart,

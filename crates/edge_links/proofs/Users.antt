@@ -5,14 +5,14 @@ use Rattle.std.proofs.lemmas.Bool.{cases_eq, cond-true, cond-false, eq-eqb, ne_e
 use Rattle.edge_links.specs.Edges.{edge, edge_count}
 use Rattle.edge_links.specs.Owners.{Owners, AreEdges, IsHead}
 use Rattle.edge_links.specs.Rings.{AreMembers}
-use Rattle.edge_links.specs.Shown.{edge_at, edges_below, AreLinks}
+use Rattle.edge_links.specs.PlaceView.{edge_at, edges_below, AreLinks}
 use Rattle.edge_links.specs.Times.{times}
 use Rattle.edge_links.specs.Into.{AreUsers}
-use Rattle.edge_links.proofs.Counting.{owned_end}
+use Rattle.edge_links.proofs.OwnedCounts.{owned_end}
 use Rattle.edge_links.proofs.EdgeCounts.{count_append, count_found, count_other, count_self}
-use Rattle.edge_links.proofs.Listed.{user, key_of, by_edge, at_none, at_edge}
-use Rattle.edge_links.proofs.Reaching.{key_head}
-use Rattle.edge_links.proofs.Weighing.{summed, weighed, weighed_summed, many}
+use Rattle.edge_links.proofs.FirstEdges.{user, key_of, by_edge, at_none, at_edge}
+use Rattle.edge_links.proofs.PlacePaths.{key_head}
+use Rattle.edge_links.proofs.WeightedSums.{summed, weighed, weighed_summed, many}
 
 -- 1 if the user of a place has this name, and 0 otherwise
 abbrev pub has_user : Owners → ℕ → ℕ → ℕ

@@ -5,7 +5,7 @@ use Rattle.std.proofs.Common.{refl, sym, ◌∙◌, ap, subst, inl, inr, arith, 
 use Rattle.std.proofs.lemmas.Bool.{cases_eq, false_from_ne_true}
 use Rattle.std.proofs.lemmas.List.{get_or_append_left, length-append}
 use Rattle.edge_links.proofs.Membership.{contains_none, contains_first, contains_later, contains_cases}
-use Rattle.edge_links.specs.Waiting.{AreApart, IsChain, AreWaiting, waiting_count}
+use Rattle.edge_links.specs.WaitingStack.{AreApart, IsChain, AreWaiting, waiting_count}
 
 -- setting a link outside a chain does not change the chain
 chain_set : (behind : List (Option ℕ)) (x : ℕ) (v top : Option ℕ) (xs : List ℕ) → (Contains xs x → ⊥)

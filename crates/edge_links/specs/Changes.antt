@@ -1,15 +1,15 @@
 -- The changes that the calls on places make.
 use Rattle.std.specs.Prelude.{◌≡◌, ◌⊎◌, ℕ, ◌+◌, ◌<◌, ◌≤◌, length, slice_index, slice_set}
-use Rattle.edge_links.specs.Owners.{Owners, owned, with_head}
-use Rattle.edge_links.specs.Waiting.{waiting_count}
+use Rattle.edge_links.specs.Owners.{Owners, owned_count, with_head}
+use Rattle.edge_links.specs.WaitingStack.{waiting_count}
 
 -- nothing changed, or place 0 was added
 abbrev pub IsBegun : Owners → Owners → Type 0
 IsBegun old new = (new ≡ old) ⊎ ((length old.users ≡ 0) × (new ≡ with_head old 0 0))
 
 -- a place that satisfies the test became free, and each other place is unchanged
-abbrev pub IsCut : (ℕ → Type 0) → Owners → Owners → Type 0
-IsCut Test old new =
+abbrev pub IsFreed : (ℕ → Type 0) → Owners → Owners → Type 0
+IsFreed Test old new =
     (p : ℕ) → p < length old.users
     → (Test p → (slice_index new.users p ≡ 0) × (slice_index new.keys p ≡ 0))
     × ((Test p → ⊥)
@@ -43,4 +43,4 @@ pub record IsFilled (old : Owners) (user key : ℕ) (new : Owners) : Type 0 wher
 
 -- each place that began to wait is paid for by an edge that was removed
 abbrev pub IsPaid : Owners → Owners → Type 0
-IsPaid old new = waiting_count new.waits + owned 0 old.users ≤ waiting_count old.waits + owned 0 new.users
+IsPaid old new = waiting_count new.waits + owned_count 0 old.users ≤ waiting_count old.waits + owned_count 0 new.users

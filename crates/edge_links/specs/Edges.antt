@@ -19,7 +19,7 @@ abbrev pub SameEdges : List Edge → List Edge → Type 0
 SameEdges es ds = (user key : ℕ) → edge_count es user key ≡ edge_count ds user key
 
 -- the number of nodes, the edges, whose order does not matter, and the number of edges for which there is more room
-pub record Graph : Type 0 where
+pub record EdgeGraph : Type 0 where
   pub nodes : ℕ
   pub edges : List Edge
   pub spare : ℕ

@@ -3,12 +3,12 @@ pub mod Columns
 pub mod Edges
 pub mod Into
 pub mod Laws
-pub mod Linked
+pub mod RingInvariants
 pub mod Once
 pub mod Owners
 pub mod PlaceReach
 pub mod Reach
 pub mod Rings
-pub mod Shown
+pub mod PlaceView
 pub mod Times
-pub mod Waiting
+pub mod WaitingStack

@@ -1,6 +1,6 @@
 -- Sequences of calls that each clear one node.
 use Rattle.std.specs.Prelude.{◌↔◌, ℕ, List, [], ◌∷◌, map, slice_index, Contains}
-use Rattle.edge_links.specs.Waiting.{AreApart}
+use Rattle.edge_links.specs.WaitingStack.{AreApart}
 
 -- one call for each node of a list, from the last node to the first
 pub data Clears {M : Type 0} (IsCall : ℕ → M → M → Type 0) : List ℕ → M → M → Type 0 where
@@ -12,7 +12,7 @@ pub record ClearsEachOnce {M : Type 0} (IsCall : ℕ → M → M → Type 0) (Af
     : Type 0 where
   pub nodes : List ℕ
   pub apart : AreApart nodes
-  pub affected : (x : ℕ) → Contains nodes x ↔ Affected x
+  pub marks_affected : (x : ℕ) → Contains nodes x ↔ Affected x
   pub calls : Clears IsCall nodes old new
 
 -- exactly one call for the name of each affected place, in some order, and no other calls
@@ -20,5 +20,5 @@ pub record ClearsPlacesOnce {M : Type 0} (IsCall : ℕ → M → M → Type 0) (
     (old new : M) : Type 0 where
   pub places : List ℕ
   pub apart : AreApart places
-  pub affected : (x : ℕ) → Contains places x ↔ Affected x
+  pub marks_affected : (x : ℕ) → Contains places x ↔ Affected x
   pub calls : Clears IsCall (map (slice_index names) places) old new

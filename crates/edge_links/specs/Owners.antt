@@ -61,11 +61,11 @@ abbrev pub Waits : Owners → ℕ → Type 0
 Waits s x = slice_index_or s.waits x false ≡ true
 
 -- the number of places that a head owns
-abbrev pub owned : ℕ → List ℕ → ℕ
-owned x owners = times x owners
+abbrev pub owned_count : ℕ → List ℕ → ℕ
+owned_count x owners = times x owners
 
 -- the number of free places, without place 0, is `spare`, and the number of places fits in 64 bits
 pub record ArePlaces (s : Owners) (spare : ℕ) : Type 0 where
   pub edges : AreEdges s.users s.keys
-  pub counted : spare ≡ owned 0 s.users - 1
+  pub counted : spare ≡ owned_count 0 s.users - 1
   pub size : length s.users < 2 ^ 64

@@ -3,8 +3,8 @@ use Rattle.std.specs.Prelude.{◌≡◌, ℕ, ◌<◌, nat_eq, List, length, sli
 use Rattle.edge_links.specs.Columns.{Ring}
 use Rattle.edge_links.specs.Times.{times}
 
-abbrev pub put : (ℕ → ℕ) → ℕ → ℕ → ℕ → ℕ
-put f i v k = if nat_eq k i then v else f k
+abbrev pub update_at : (ℕ → ℕ) → ℕ → ℕ → ℕ → ℕ
+update_at f i v k = if nat_eq k i then v else f k
 
 -- `next` and `prev` are inverse to each other, all places of a ring have the same owner, and the rank decreases along
 -- `prev` until the head

@@ -3,7 +3,7 @@
 ghost use Rattle.std.specs.Prelude.{◌≡◌, ◌+◌, ◌<◌, ◌≤◌, [], ◌∷◌, length, IfOk, OnOk, OnErr};
 ghost use Rattle.edge_links.specs.Edges.{edge, SameEdges};
 ghost use Rattle.edge_links.specs.Once.{ClearsEachOnce};
-ghost use Rattle.edge_links.specs.Reach.{IsAffected, Forgets, IsCleared};
+ghost use Rattle.edge_links.specs.Reach.{IsAffectedNode, AreMarksCleared, Forgets};
 ghost use Rattle.edge_links.specs.Into.{AreUsers};
 
 use crate::marks::Marks;
@@ -26,10 +26,10 @@ pub struct Links {
 }
 
 impl Model for Links {
-    ghost use Rattle.edge_links.specs.Edges.{Graph};
-    ghost use Rattle.edge_links.specs.Shown.{graph_of, AreLinks};
+    ghost use Rattle.edge_links.specs.Edges.{EdgeGraph};
+    ghost use Rattle.edge_links.specs.PlaceView.{graph_of, AreLinks};
 
-    ghost Value = { Graph };
+    ghost Value = { EdgeGraph };
 
     ghost view = { λ l. graph_of l.places l.nodes.items };
 
@@ -108,9 +108,10 @@ impl Links {
         ensures edges { Forgets key self.old.edges self.new.edges }
         ensures spare { self.new.spare + length self.new.edges ≡ self.old.spare + length self.old.edges }
         ensures nodes { self.new.nodes ≡ self.old.nodes }
-        ensures marks { IsCleared (IsAffected self.old.edges key) (K.is_marked marks.old) (K.is_marked marks.new) }
+        ensures marks { AreMarksCleared (IsAffectedNode self.old.edges key) (K.is_marked marks.old)
+            (K.is_marked marks.new) }
         ensures rest { K.stays marks.old marks.new }
-        ensures once { ClearsEachOnce K.is_call (IsAffected self.old.edges key) marks.old marks.new }
+        ensures once { ClearsEachOnce K.is_call (IsAffectedNode self.old.edges key) marks.old marks.new }
     {
         let place = self.nodes[key];
         self.places.unsettle(place, marks);

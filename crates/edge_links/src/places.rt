@@ -3,7 +3,7 @@
 ghost use Rattle.std.specs.Prelude.{◌≡◌, ℕ, ◌+◌, ◌-◌, ◌<◌, length};
 ghost use Rattle.std.specs.Prelude.{slice_index, MatchOption, IfOk, OnOk, OnErr};
 ghost use Rattle.edge_links.specs.Changes.{IsBegun, IsFilled, with_both};
-ghost use Rattle.edge_links.specs.Owners.{AreEdges, no_owners, owned, with_head};
+ghost use Rattle.edge_links.specs.Owners.{AreEdges, no_owners, owned_count, with_head};
 ghost use Rattle.edge_links.specs.Rings.{AreMembers};
 
 use crate::rings::Rings;
@@ -53,7 +53,7 @@ impl Places {
 
     // Returns the number of free places.
     pub(crate) fn spare(&self) -> usize
-        ensures { result ≡ owned 0 self.now.users - 1 }
+        ensures { result ≡ owned_count 0 self.now.users - 1 }
     {
         self.spare
     }
@@ -85,10 +85,10 @@ impl Places {
         requires there { (user < length self.old.users) × (key < length self.old.users) }
         requires some { (user ≡ 0 → ⊥) × (key ≡ 0 → ⊥) }
         requires heads { (slice_index self.old.users user ≡ user) × (slice_index self.old.users key ≡ key) }
-        requires room { 1 < owned 0 self.old.users }
+        requires room { 1 < owned_count 0 self.old.users }
         ensures edges { AreEdges self.old.users self.old.keys }
         ensures filled { IsFilled self.old user key self.new }
-        ensures spare { owned 0 self.new.users + 1 ≡ owned 0 self.old.users }
+        ensures spare { owned_count 0 self.new.users + 1 ≡ owned_count 0 self.old.users }
     {
         if let Some(place) = self.rings.first(Side::User, 0) {
             self.rings.move_to(Side::User, place, user);

@@ -19,7 +19,7 @@ pub(crate) struct Rings {
 
 impl Model for Rings {
     ghost use Rattle.edge_links.specs.Owners.{Owners, owners};
-    ghost use Rattle.edge_links.specs.Linked.{AreLinked};
+    ghost use Rattle.edge_links.specs.RingInvariants.{AreLinked};
 
     ghost Value = { Owners };
 

@@ -3,14 +3,14 @@ use Rattle.std.proofs.Common.{◌≡◌, ◌∷◌, ◌-◌, [], ℕ, List, Bool
 use Rattle.std.proofs.Common.{Ok, Err}
 use Rattle.std.proofs.lemmas.List.{append-nil, reverse-reverse}
 use Rattle.units_io.specs.Blanks.{is_blank}
-use Rattle.def_lines.specs.Blanks.{after_blanks, before_blanks, trimmed}
+use Rattle.def_lines.specs.Blanks.{after_blanks, before_blanks, trim_of}
 use Rattle.def_lines.specs.Kinds.{kind_of}
-use Rattle.def_lines.proofs.Trimming.{trimmed-after_blanks}
+use Rattle.def_lines.proofs.TrimmedTexts.{trimmed-after_blanks}
 use Rattle.def_entry.specs.declared.fault.EntryFault.{EntryFault}
 use Rattle.def_entry.specs.declared.fault.EntryFault.TheVariants.{BadForm}
 use Rattle.def_entry.specs.declared.key.Key.{Key}
 use Rattle.def_entry.specs.Entries.{Entry}
-use Rattle.def_entry.specs.Reading.{entry_of, has_entry}
+use Rattle.def_entry.specs.EntryReading.{entry_of, has_entry}
 use Rattle.deck_lines.specs.Limits.{pass_limit}
 use Rattle.deck_lines.specs.declared.line.DeckLine.{DeckLine}
 use Rattle.deck.specs.Decks.{Contents}
@@ -33,10 +33,10 @@ before_twice bytes =
     ∙ ap reverse (after_twice (reverse bytes))
 
 -- trimming twice is trimming once
-pub trimmed_twice : (bytes : List ℕ) → trimmed (trimmed bytes) ≡ trimmed bytes
+pub trimmed_twice : (bytes : List ℕ) → trim_of (trim_of bytes) ≡ trim_of bytes
 trimmed_twice bytes =
-    ap trimmed (sym (append-nil (trimmed bytes))) ∙ trimmed-after_blanks (before_blanks bytes) []
-    ∙ ap trimmed (append-nil (before_blanks bytes))
+    ap trim_of (sym (append-nil (trim_of bytes))) ∙ trimmed-after_blanks (before_blanks bytes) []
+    ∙ ap trim_of (append-nil (before_blanks bytes))
     ∙ ap after_blanks (before_twice bytes)
 
 -- a line that is accepted is appended

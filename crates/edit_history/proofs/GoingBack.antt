@@ -4,15 +4,15 @@ use Rattle.std.proofs.Common.{length, take, refl, sym, ap, subst, ◌∙◌, ari
 use Rattle.std.proofs.Common.{Err}
 use Rattle.std.proofs.lemmas.List.{append-nil, drop_all}
 use Rattle.std.specs.Option.{option_and_then}
-use Rattle.def_lines.specs.Blanks.{trimmed}
+use Rattle.def_lines.specs.Blanks.{trim_of}
 use Rattle.def_lines.specs.Kinds.{Kind, kind_of}
 use Rattle.def_lines.specs.Kinds as line
 use Rattle.def_entry.specs.declared.fault.EntryFault.{EntryFault}
 use Rattle.def_entry.specs.declared.fault.EntryFault.TheVariants.{BadForm}
 use Rattle.def_entry.specs.declared.key.Key.{Key}
 use Rattle.def_entry.specs.Entries.{Entry}
-use Rattle.def_entry.specs.Reading.{entry_of, has_entry}
-use Rattle.deck_lines.specs.Closed.{IsClosed}
+use Rattle.def_entry.specs.EntryReading.{entry_of, has_entry}
+use Rattle.deck_lines.specs.ClosedBlocks.{AreBlocksClosed}
 use Rattle.deck_lines.specs.Limits.{pass_limit}
 use Rattle.deck_lines.specs.Marks.{plain_line}
 use Rattle.deck_lines.specs.Origins.{exchanged_lines}
@@ -20,14 +20,14 @@ use Rattle.deck_lines.specs.Readings.{defined_by, entry_in, of_entry, reading_by
 use Rattle.deck_lines.specs.declared.line.DeckLine.{DeckLine}
 use Rattle.deck.specs.Decks.{Contents}
 use Rattle.deck.specs.Edits.{after_define, by_entry, with_line}
-use Rattle.deck.specs.Splices.{InverseLaw, after_splice, inverse, lines_from}
+use Rattle.deck.specs.Splices.{SpliceInverseLaw, after_splice, inverse, lines_from}
 use Rattle.deck.specs.Tables.{last_place}
-use Rattle.deck.specs.Undefining.{CanUndefine, IsLastText, place_of_key, without_last}
+use Rattle.deck.specs.LineRemoval.{CanUndefine, IsLastText, place_of_key, without_last}
 use Rattle.deck.specs.declared.fault.DeckFault.TheVariants.{BadLine}
 use Rattle.deck.specs.declared.settings.Settings.{Settings}
 use Rattle.deck.specs.declared.splice.Splice.{Splice}
 use Rattle.edit_history.specs.Steps.{CanStep, IsLastDefined, after_step, splice_of}
-use Rattle.edit_history.specs.Versions.{Version, deck_of, version_of}
+use Rattle.edit_history.specs.Versions.{Version, deck_of_version, version_of}
 use Rattle.edit_history.specs.declared.step.Step.{Step}
 use Rattle.edit_history.specs.declared.step.Step.TheVariants.{Define, Undefine}
 use Rattle.edit_history.proofs.Defining.{accepted_as, defined_is}
@@ -49,11 +49,12 @@ pub record IsMade (s back : Step) (old new : Contents) : Type 0 where
   pub again : after_step back (version_of new) ≡ version_of old
 
 -- an exchange of lines was made
-pub exchanged : InverseLaw → (at cut : ℕ) (put : List DeckLine) (settings : Settings) (undo : Splice) (back : Step)
+pub exchanged : SpliceInverseLaw → (at cut : ℕ) (put : List DeckLine) (settings : Settings) (undo : Splice)
+    (back : Step)
     (old new : Contents)
     → new ≡ after_splice (splice at cut put settings) old → undo ≡ inverse (splice at cut put settings) old
     → settings ≡ old.settings
-    → back ≡ exchange_step undo.at undo.cut undo.put → at + cut ≤ length old.lines → IsClosed old.lines
+    → back ≡ exchange_step undo.at undo.cut undo.put → at + cut ≤ length old.lines → AreBlocksClosed old.lines
     → pass_limit old.lines ≡ false
     → IsMade (exchange_step at cut put) back old new
 exchanged law at cut put settings undo back old new is inverse_is same back_is places closed within = record {
@@ -76,9 +77,10 @@ exchanged law at cut put settings undo back old new is inverse_is same back_is p
     back_by = back_is ∙ ap (λ (u : Splice). exchange_step u.at u.cut u.put) inverse_is
 
 -- the step back from a line that `define` appended
-module _ (text : List ℕ) (bare : trimmed text ≡ text) (covered : Option ℕ) (old new : Contents)
+module _ (text : List ℕ) (bare : trim_of text ≡ text) (covered : Option ℕ) (old new : Contents)
     (accepted : after_define text old ≡ Ok new)
-    (place : covered ≡ place_of_key text old) (closed : IsClosed old.lines) (within : pass_limit old.lines ≡ false)
+    (place : covered ≡ place_of_key text old) (closed : AreBlocksClosed old.lines)
+    (within : pass_limit old.lines ≡ false)
   where
     new_is : new ≡ with_line text old
     new_is = defined_is text old new accepted
@@ -101,7 +103,7 @@ module _ (text : List ℕ) (bare : trimmed text ≡ text) (covered : Option ℕ)
         before = version_of old;
         definition = record {
           bare = bare;
-          accepted = accepted_as text old.lines old.settings old.notices [] new accepted;
+          is_accepted = accepted_as text old.lines old.settings old.notices [] new accepted;
         };
         is = ap version_of new_is;
         place = place;
@@ -164,7 +166,8 @@ defines text d e h = by_kind (has_entry (kind_of text)) refl h
 pub can_take : (uncovered : Option ℕ) (old : Contents) → IsLastDefined uncovered (version_of old)
     → CanUndefine uncovered old
 can_take uncovered old last =
-    let p = defines last.text (deck_of last.before) (with_line last.text (deck_of last.before)) last.definition.accepted
+    let p = defines last.text (deck_of_version last.before) (with_line last.text (deck_of_version last.before))
+    last.definition.is_accepted
     in
     record {
       front = last.before.lines;
@@ -182,7 +185,7 @@ can_take uncovered old last =
 -- the last line was removed, and the step back appends it again
 pub undefined : (uncovered : Option ℕ) (text : List ℕ) (old new : Contents) → IsLastDefined uncovered (version_of old)
     → new ≡ without_last old
-    → IsLastText text old → IsClosed old.lines → pass_limit old.lines ≡ false
+    → IsLastText text old → AreBlocksClosed old.lines → pass_limit old.lines ≡ false
     → IsMade (Undefine uncovered) (Define text) old new
 undefined uncovered text old new last taken text_is closed within = record {
   made = taken ∙ sym (ap (λ (ls : List DeckLine). record old { lines = ls })

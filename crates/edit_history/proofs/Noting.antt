@@ -5,22 +5,22 @@ use Rattle.std.proofs.lemmas.List.{append-nil}
 use Rattle.std.specs.Prelude.{reverse}
 use Rattle.units_io.specs.FileMap.{FileMap}
 use Rattle.def_entry.specs.declared.key.Key.{Key}
-use Rattle.deck_lines.specs.Closed.{IsClosed}
+use Rattle.deck_lines.specs.ClosedBlocks.{AreBlocksClosed}
 use Rattle.deck_lines.specs.Excerpts.{Excerpt, in_turn}
 use Rattle.deck_lines.specs.Limits.{pass_limit}
 use Rattle.deck_lines.specs.Origins.{exchanged_lines}
-use Rattle.deck_lines.specs.Steps.{Step as Read, Gives, Fails, outcome_of}
+use Rattle.deck_lines.specs.Steps.{Step as Read, Gives, Fails, steps_outcome}
 use Rattle.deck_lines.specs.declared.draft.LoadFault.{LoadFault}
 use Rattle.deck_lines.specs.declared.draft.LoadFault.TheVariants.{DeckFull, ReadFailed}
 use Rattle.deck_lines.specs.declared.line.DeckLine.{DeckLine}
 use Rattle.deck.specs.Decks.{Contents}
-use Rattle.deck.specs.Edits.{after_drop, without, without_some}
-use Rattle.deck.specs.Loading.{MayComeTo, lines_alone, of_load}
-use Rattle.deck.specs.Splices.{InverseLaw, after_splice, lines_from}
+use Rattle.deck.specs.Edits.{after_drop, without_line, without_some}
+use Rattle.deck.specs.FileLoads.{MayComeTo, lines_alone, of_load}
+use Rattle.deck.specs.Splices.{SpliceInverseLaw, after_splice, lines_from}
 use Rattle.deck.specs.Tables.{last_place}
 use Rattle.deck.specs.declared.fault.DeckFault.{DeckFault}
 use Rattle.deck.specs.declared.splice.Splice.{Splice}
-use Rattle.edit_history.specs.Histories.{Course, Follows, Lead}
+use Rattle.edit_history.specs.Histories.{IsHistoryOf, IsStepPath, UndoStacks}
 use Rattle.edit_history.specs.Steps.{CanStep, after_step}
 use Rattle.edit_history.specs.Versions.{version_of}
 use Rattle.edit_history.specs.declared.step.Step.{Step}
@@ -30,16 +30,16 @@ use Rattle.edit_history.proofs.Placed.{last_within}
 use Rattle.edit_history.proofs.Stepping.{can_exchange, can_go_back, cut_last, lines_back, splice}
 
 -- with one more step, back to the version before, the history belongs to the deck after
-pub follows_noted : (s : Step) (old new : Course) (before after : Contents)
+pub follows_noted : (s : Step) (old new : UndoStacks) (before after : Contents)
     → new ≡ record { done = s ∷ old.done; undone = [] }
-    → CanStep s (version_of after) → after_step s (version_of after) ≡ version_of before → Follows old before
-    → Follows new after
+    → CanStep s (version_of after) → after_step s (version_of after) ≡ version_of before → IsHistoryOf old before
+    → IsHistoryOf new after
 follows_noted s old new before after is can again f =
-    subst (λ h. Follows h after) (sym is)
-    (record { back = (can, subst (Lead old.done) (sym again) f.back); forth = tt })
+    subst (λ h. IsHistoryOf h after) (sym is)
+    (record { back = (can, subst (IsStepPath old.done) (sym again) f.back); forth = tt })
 
 -- a history with these lists
-abbrev course : (done undone : List Step) → Course
+abbrev course : (done undone : List Step) → UndoStacks
 course done undone = record { done = done; undone = undone }
 
 pub course_is : (s : Step) (done undone rest : List Step) → done ≡ s ∷ rest → undone ≡ []
@@ -56,9 +56,9 @@ pub same_deck : (d e : Contents) → ◌≡◌ {A = Result Contents DeckFault} (
 same_deck d e h = cc
 
 -- a line was removed, and the step back puts it in its place
-pub dropped : InverseLaw → (k : Key) (at : ℕ) (put : List DeckLine) (before after : Contents)
+pub dropped : SpliceInverseLaw → (k : Key) (at : ℕ) (put : List DeckLine) (before after : Contents)
     → last_place before.settings before.lines k ≡ Some at
-    → after_drop k before ≡ Ok after → put ≡ lines_from at 1 before.lines → IsClosed before.lines
+    → after_drop k before ≡ Ok after → put ≡ lines_from at 1 before.lines → AreBlocksClosed before.lines
     → pass_limit before.lines ≡ false
     → LeadsBack (exchange_step at 0 put) before after
 dropped law k at put before after last outcome put_is closed within = record {
@@ -74,7 +74,7 @@ dropped law k at put before after last outcome put_is closed within = record {
     s = splice at 1 [] before.settings
 
     is : after ≡ after_splice s before
-    is = sym (same_deck (without at before) after (sym (ap (λ o. without_some o before) last) ∙ outcome))
+    is = sym (same_deck (without_line at before) after (sym (ap (λ o. without_some o before) last) ∙ outcome))
 
     places : at + 1 ≤ length before.lines
     places = omega (arith, last_within before.settings before.lines k at last)
@@ -82,7 +82,7 @@ dropped law k at put before after last outcome put_is closed within = record {
 -- lines were appended, and the step back cuts them off
 pub appended : (at cut : ℕ) (put more : List DeckLine) (before after : Contents) → after.lines ≡ before.lines ++ more
     → after.settings ≡ before.settings
-    → at ≡ length before.lines → at + cut ≡ length after.lines → put ≡ [] → IsClosed before.lines
+    → at ≡ length before.lines → at + cut ≡ length after.lines → put ≡ [] → AreBlocksClosed before.lines
     → pass_limit before.lines ≡ false
     → LeadsBack (exchange_step at cut put) before after
 appended at cut put more before after lines settings here all none closed within = record {
@@ -100,9 +100,9 @@ appended at cut put more before after lines settings here all none closed within
     gone = cut_last at cut before.lines more after.lines lines here all
 
 -- a load appends lines to the present ones
-pub lines_behind : (before after : Excerpt) (reads : List Read) → outcome_of before reads ≡ Ok after
+pub lines_behind : (before after : Excerpt) (reads : List Read) → steps_outcome before reads ≡ Ok after
     → (more : List DeckLine) × (after.lines ≡ before.lines ++ more)
-unfolding outcome_of
+unfolding steps_outcome
 lines_behind before after [] h =
     ([], ap (λ (e : Excerpt). e.lines) (sym (same_Ok before after h)) ∙ sym (append-nil before.lines))
   where
@@ -111,9 +111,9 @@ lines_behind before after [] h =
 lines_behind before after (Gives excerpt ∷ reads) h =
     by (pass_limit (before.lines ++ excerpt.lines)) (lines_behind (in_turn before excerpt) after reads) h
   where
-    by : (b : Bool) → (outcome_of (in_turn before excerpt) reads ≡ Ok after
+    by : (b : Bool) → (steps_outcome (in_turn before excerpt) reads ≡ Ok after
         → (more : List DeckLine) × (after.lines ≡ (in_turn before excerpt).lines ++ more))
-        → cond b (Err DeckFull) (outcome_of (in_turn before excerpt) reads) ≡ Ok after
+        → cond b (Err DeckFull) (steps_outcome (in_turn before excerpt) reads) ≡ Ok after
         → (more : List DeckLine) × (after.lines ≡ before.lines ++ more)
     by true ih g = cc
     by false ih g =
@@ -130,10 +130,11 @@ pub appended_behind : (files : Option FileMap) (name : List ℕ) (lines : List D
     → MayComeTo files name (lines_alone lines) (Ok given)
     → (more : List DeckLine) × (given.lines ≡ lines ++ more)
 appended_behind files name lines given (Err fault, may, comes) = cc
-appended_behind files name lines given (Ok bytes, may, (reads, are, comes)) = by (outcome_of (lines_alone lines) reads)
+appended_behind files name lines given (Ok bytes, may, (reads, are, comes)) =
+    by (steps_outcome (lines_alone lines) reads)
     refl comes
   where
-    by : (o : Result Excerpt LoadFault) → outcome_of (lines_alone lines) reads ≡ o → Ok given ≡ of_load o
+    by : (o : Result Excerpt LoadFault) → steps_outcome (lines_alone lines) reads ≡ o → Ok given ≡ of_load o
         → (more : List DeckLine) × (given.lines ≡ lines ++ more)
     by (Err fault) e g = cc
     by (Ok x) e g =

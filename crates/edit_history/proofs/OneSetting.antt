@@ -3,8 +3,8 @@ use Rattle.std.proofs.Common.{◌≡◌, ◌-◌, ◌∷◌, [], ℕ, suc, List,
 use Rattle.std.proofs.Common.{Ok}
 use Rattle.std.proofs.Common.{None, slice_get}
 use Rattle.std.specs.Prelude.{Result}
-use Rattle.units_io.specs.Named.{Pairs}
-use Rattle.deck_lines.specs.Closed.{IsClosed}
+use Rattle.units_io.specs.NamedValues.{Pairs}
+use Rattle.deck_lines.specs.ClosedBlocks.{AreBlocksClosed}
 use Rattle.deck_lines.specs.Limits.{pass_limit}
 use Rattle.deck.specs.Decks.{Contents}
 use Rattle.deck.specs.Edits.{after_switch}
@@ -13,9 +13,9 @@ use Rattle.deck.specs.Splices.{CanSplice, after_splice}
 use Rattle.deck.specs.declared.fault.DeckFault.{DeckFault}
 use Rattle.deck.specs.declared.settings.Settings.{Settings}
 use Rattle.deck.specs.declared.splice.Splice.{Splice}
-use Rattle.edit_history.specs.Making.{PutsSettings}
+use Rattle.edit_history.specs.StepEffects.{PutsSettings}
 use Rattle.edit_history.specs.Steps.{settings_splice, splice_of}
-use Rattle.edit_history.specs.Versions.{deck_of, version_of}
+use Rattle.edit_history.specs.Versions.{deck_of_version, version_of}
 use Rattle.edit_history.specs.declared.step.Step.{Step}
 use Rattle.edit_history.specs.declared.step.Step.TheVariants.{Set, UnsetLast, Locale, Nothing}
 use Rattle.edit_history.proofs.GoingBack.{IsMade, version_by}
@@ -58,15 +58,15 @@ no_last (p ∷ q ∷ vars) e =
 pub leads_back : (back : Step) (settings : Settings) (before after : Contents)
     → ◌≡◌ {A = Result Contents DeckFault} (Ok (after_switch settings before)) (Ok after)
     → PutsSettings back settings before.settings
-    → IsClosed before.lines → pass_limit before.lines ≡ false → LeadsBack back before after
+    → AreBlocksClosed before.lines → pass_limit before.lines ≡ false → LeadsBack back before after
 leads_back back settings before after outcome puts closed within = record {
   can = record {
-    splice = subst (λ (s : Splice). CanSplice s (deck_of (version_of after))) (sym splice)
+    splice = subst (λ (s : Splice). CanSplice s (deck_of_version (version_of after))) (sym splice)
         (can_exchange 0 0 [] after.lines before.lines (omega arith) lines closed within);
     right = puts.right (version_of after);
   };
   again =
-      ap (λ (s : Splice). version_of (after_splice s (deck_of (version_of after)))) splice
+      ap (λ (s : Splice). version_of (after_splice s (deck_of_version (version_of after)))) splice
       ∙ version_by after.lines before.lines before.settings before.settings lines refl;
 }
   where
@@ -84,7 +84,7 @@ pub setting_made : (s back : Step) (settings : Settings) (old new : Contents)
     → splice_of s (version_of old) ≡ settings_splice settings
     → ◌≡◌ {A = Result Contents DeckFault} (Ok (after_switch settings old)) (Ok new)
     → PutsSettings back settings old.settings
-    → IsClosed old.lines → pass_limit old.lines ≡ false → IsMade s back old new
+    → AreBlocksClosed old.lines → pass_limit old.lines ≡ false → IsMade s back old new
 setting_made s back settings old new splice outcome puts closed within =
     let leads = leads_back back settings old new outcome puts closed within in
     record {
@@ -104,7 +104,7 @@ pub variable_made : (pair : List ℕ × List ℕ) (back : Step) (seen : Settings
     → name ≡ pair.0 → value ≡ pair.1 → named ≡ pair.0 → valued ≡ pair.1 → seen ≡ old.settings
     → PutsSettings back (with_variable seen name value) seen
     → Switches (with_variable old.settings named valued) old new
-    → IsClosed old.lines → pass_limit old.lines ≡ false → IsMade (Set pair) back old new
+    → AreBlocksClosed old.lines → pass_limit old.lines ≡ false → IsMade (Set pair) back old new
 variable_made pair back seen name value named valued old new is_name is_value is_named is_valued same puts outcome
     closed within =
     setting_made (Set pair) back (with_variable old.settings pair.0 pair.1) old new refl
@@ -118,7 +118,7 @@ variable_made pair back seen name value named valued old new is_name is_value is
 pub last_taken : (back : Step) (seen : Settings) (old new : Contents) → seen ≡ old.settings
     → PutsSettings back (without_last_variable seen) seen
     → Switches (without_last_variable old.settings) old new
-    → IsClosed old.lines → pass_limit old.lines ≡ false → IsMade UnsetLast back old new
+    → AreBlocksClosed old.lines → pass_limit old.lines ≡ false → IsMade UnsetLast back old new
 last_taken back seen old new same puts outcome closed within =
     setting_made UnsetLast back (without_last_variable old.settings) old new refl outcome
     (subst (λ (s : Settings). PutsSettings back (without_last_variable s) s) same puts) closed within
@@ -128,7 +128,7 @@ pub locale_made : (locale bytes again : List ℕ) (back : Step) (seen : Settings
     → bytes ≡ locale → again ≡ locale → seen ≡ old.settings
     → PutsSettings back (with_locale seen bytes) seen
     → Switches (with_locale old.settings again) old new
-    → IsClosed old.lines → pass_limit old.lines ≡ false → IsMade (Locale locale) back old new
+    → AreBlocksClosed old.lines → pass_limit old.lines ≡ false → IsMade (Locale locale) back old new
 locale_made locale bytes again back seen old new is is_again same puts outcome closed within =
     setting_made (Locale locale) back (with_locale old.settings locale) old new refl
     (subst (λ (l : List ℕ). Switches (with_locale old.settings l) old new) is_again outcome)
@@ -138,7 +138,7 @@ locale_made locale bytes again back seen old new is is_again same puts outcome c
 -- the current locale was put in force again
 pub nothing_made : (locale : List ℕ) (old new : Contents) → locale ≡ old.settings.locale
     → Switches (with_locale old.settings locale) old new
-    → IsClosed old.lines → pass_limit old.lines ≡ false → IsMade Nothing Nothing old new
+    → AreBlocksClosed old.lines → pass_limit old.lines ≡ false → IsMade Nothing Nothing old new
 nothing_made locale old new here outcome closed within =
     setting_made Nothing Nothing old.settings old new refl
     (subst (λ (l : List ℕ). Switches (with_locale old.settings l) old new) here outcome)

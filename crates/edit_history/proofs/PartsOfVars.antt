@@ -8,9 +8,9 @@ use Rattle.std.proofs.lemmas.Bool.{OnTrue_from}
 use Rattle.std.proofs.lemmas.List.{append-nil, drop_more, take_more_same, take_rest}
 use Rattle.std.proofs.lemmas.Option.{get_or_from_slice_get, same_Some, slice_get-get_or, slice_get_within}
 use Rattle.std.proofs.lemmas.Slice.Eq.{bytes_eq-Decides}
-use Rattle.units_io.specs.Named.{HasDistinctNames, HasNoName, Pairs, with_value}
+use Rattle.units_io.specs.NamedValues.{HasDistinctNames, HasNoName, Pairs, with_value}
 use Rattle.units_io.proofs.Names.{HasNoName-before, with_value-new}
-use Rattle.edit_history.specs.Switching.{changed_vars}
+use Rattle.edit_history.specs.SettingSwitches.{exchanged_vars}
 use Rattle.edit_history.specs.VarsParts.{IsSamePair, pairs_between, with_pairs}
 
 -- setting the pairs of two lists, one after the other, is setting those of both together
@@ -54,7 +54,7 @@ copied_part first end vars distinct =
 -- replacing what differs by the differing part of the others gives the others
 pub part_put : (first cut end : ℕ) (vars others : Pairs) → take first vars ≡ take first others
     → drop cut vars ≡ drop end others → first ≤ end
-    → changed_vars first cut (pairs_between first end others) vars ≡ others
+    → exchanged_vars first cut (pairs_between first end others) vars ≡ others
 part_put first cut end vars others front back within =
     ap (λ (ps : Pairs). ps ++ (part ++ drop cut vars)) front
     ∙ ap (λ (ps : Pairs). take first others ++ (part ++ ps)) (back ∙ behind)
@@ -74,10 +74,10 @@ from_start : (end : ℕ) (vars : Pairs) → pairs_between 0 end vars ≡ take en
 from_start end vars = let all : end - 0 ≡ end = omega arith in ap (λ n. take n vars) all
 
 -- copying the three parts of changed variables, one after another, gives the changed variables
-pub parts_copied : (first end : ℕ) (put vars : Pairs) → HasDistinctNames (changed_vars first end put vars)
+pub parts_copied : (first end : ℕ) (put vars : Pairs) → HasDistinctNames (exchanged_vars first end put vars)
     → with_pairs (with_pairs (with_pairs [] (pairs_between 0 first vars)) (pairs_between 0 (length put) put))
     (pairs_between end (length vars) vars)
-    ≡ changed_vars first end put vars
+    ≡ exchanged_vars first end put vars
 parts_copied first end put vars distinct =
     with_pairs-append (with_pairs [] (pairs_between 0 first vars)) (pairs_between 0 (length put) put)
     (pairs_between end (length vars) vars)
@@ -89,14 +89,14 @@ parts_copied first end put vars distinct =
     ∙ ap (λ (ps : Pairs). with_pairs [] (take first vars ++ (ps ++ pairs_between end (length vars) vars)))
     (from_start (length put) put ∙ take_all (length put) put (omega arith))
     ∙ ap (λ (ps : Pairs). with_pairs [] (take first vars ++ (put ++ ps))) (take_rest vars end)
-    ∙ with_pairs-new [] (changed_vars first end put vars) distinct
+    ∙ with_pairs-new [] (exchanged_vars first end put vars) distinct
 
 -- copying the three parts gives the changed variables, for lists and lengths that are equal to these
 pub put_together : (first end put_length length_before : ℕ) (put vars none made more all : Pairs) → none ≡ []
     → made ≡ with_pairs none (pairs_between 0 first vars)
     → put_length ≡ length put → more ≡ with_pairs made (pairs_between 0 put_length put)
     → length_before ≡ length vars → all ≡ with_pairs more (pairs_between end length_before vars)
-    → HasDistinctNames (changed_vars first end put vars) → all ≡ changed_vars first end put vars
+    → HasDistinctNames (exchanged_vars first end put vars) → all ≡ exchanged_vars first end put vars
 put_together first end put_length length_before put vars none made more all empty front here middle there back
     distinct =
     back ∙ ap (λ n. with_pairs more (pairs_between end n vars)) there

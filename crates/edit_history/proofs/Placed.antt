@@ -11,7 +11,7 @@ use Rattle.def_entry.specs.SameKeys.{is_same}
 use Rattle.deck_lines.specs.Readings.{entry_in}
 use Rattle.deck_lines.specs.declared.line.DeckLine.{DeckLine}
 use Rattle.deck.specs.Active.{active_lines}
-use Rattle.deck.specs.Tables.{Definitions, definition_by, definitions, definitions_from, last_place}
+use Rattle.deck.specs.Tables.{Definitions, active_definitions, definition_by, definitions_from, last_place}
 use Rattle.deck.specs.declared.settings.Settings.{Settings}
 
 -- each place is below a limit
@@ -55,7 +55,7 @@ found-below most (d ∷ ds) k v h e = by (is_same k d.0) (found-below most ds k 
 
 pub last_within : (settings : Settings) (lines : List DeckLine) (k : Key) (place : ℕ)
     → last_place settings lines k ≡ Some place → place < length lines
-unfolding definitions
+unfolding active_definitions
 last_within settings lines k place h = by (lookup (is_same k) ds) refl h
   where
     ds : Definitions

@@ -2,13 +2,13 @@
 use Rattle.std.proofs.Common.{◌≡◌, ◌++◌, ◌∷◌, ◌+◌, ◌-◌, ◌≤◌, [], ℕ, List, false, length, take, drop, refl, sym, ap}
 use Rattle.std.proofs.Common.{subst, ◌∙◌, arith, length-append, length-take}
 use Rattle.std.proofs.lemmas.List.{append-nil, drop_all}
-use Rattle.deck_lines.specs.Closed.{IsClosed}
+use Rattle.deck_lines.specs.ClosedBlocks.{AreBlocksClosed}
 use Rattle.deck_lines.specs.Exchangeable.{CanExchange}
 use Rattle.deck_lines.specs.Limits.{pass_limit}
 use Rattle.deck_lines.specs.Origins.{exchanged_lines}
 use Rattle.deck_lines.specs.declared.line.DeckLine.{DeckLine}
 use Rattle.deck.specs.Decks.{Contents}
-use Rattle.deck.specs.Splices.{InverseLaw, after_splice, lines_from}
+use Rattle.deck.specs.Splices.{SpliceInverseLaw, after_splice, lines_from}
 use Rattle.deck.specs.declared.settings.Settings.{Settings}
 use Rattle.deck.specs.declared.splice.Splice.{Splice}
 
@@ -35,16 +35,16 @@ cut_last at cut xs ys zs is here all =
 -- lines can be exchanged if the result is closed and within the limits
 pub can_exchange : (at cut : ℕ) (put lines given : List DeckLine) → at + cut ≤ length lines
     → exchanged_lines at cut put lines ≡ given →
-    IsClosed given → pass_limit given ≡ false → CanExchange at cut put lines
+    AreBlocksClosed given → pass_limit given ≡ false → CanExchange at cut put lines
 can_exchange at cut put lines given places is closed within =
-    record { places = places; closed = subst IsClosed (sym is) closed; within = ap pass_limit is ∙ within }
+    record { places = places; closed = subst AreBlocksClosed (sym is) closed; within = ap pass_limit is ∙ within }
 
 -- a splice with these parts
 abbrev pub splice : ℕ → ℕ → List DeckLine → Settings → Splice
 splice at cut put settings = record { at = at; cut = cut; put = put; settings = settings }
 
 -- the way back from a splice
-module _ (law : InverseLaw) (s : Splice) (old new : Contents) (is : new ≡ after_splice s old)
+module _ (law : SpliceInverseLaw) (s : Splice) (old new : Contents) (is : new ≡ after_splice s old)
     (places : s.at + s.cut ≤ length old.lines) where
   pub lines_back : exchanged_lines s.at (length s.put) (lines_from s.at s.cut old.lines) new.lines ≡ old.lines
   lines_back =
@@ -63,7 +63,7 @@ module _ (law : InverseLaw) (s : Splice) (old new : Contents) (is : new ≡ afte
         length-take s.at old.lines,
       )
 
-  pub can_go_back : IsClosed old.lines → pass_limit old.lines ≡ false → CanExchange s.at (length s.put)
+  pub can_go_back : AreBlocksClosed old.lines → pass_limit old.lines ≡ false → CanExchange s.at (length s.put)
       (lines_from s.at s.cut old.lines) new.lines
   can_go_back closed within = can_exchange s.at (length s.put) (lines_from s.at s.cut old.lines) new.lines old.lines
       places_back lines_back closed within

@@ -1,12 +1,12 @@
 -- Changes of settings, and back.
 use Rattle.std.proofs.Common.{◌≡◌, [], ℕ, List, false, sym, ap, subst, ◌∙◌, arith}
-use Rattle.units_io.specs.Named.{HasDistinctNames, Pairs}
-use Rattle.deck_lines.specs.Closed.{IsClosed}
+use Rattle.units_io.specs.NamedValues.{HasDistinctNames, Pairs}
+use Rattle.deck_lines.specs.ClosedBlocks.{AreBlocksClosed}
 use Rattle.deck_lines.specs.Limits.{pass_limit}
 use Rattle.deck.specs.Decks.{Contents}
 use Rattle.deck.specs.Edits.{after_switch}
 use Rattle.deck.specs.declared.settings.Settings.{Settings}
-use Rattle.edit_history.specs.Switching.{after_change}
+use Rattle.edit_history.specs.SettingSwitches.{after_change}
 use Rattle.edit_history.specs.declared.settings_change.SettingsChange.{SettingsChange}
 use Rattle.edit_history.specs.declared.step.Step.TheVariants.{Switch}
 use Rattle.edit_history.proofs.GoingBack.{IsMade, version_by}
@@ -25,7 +25,7 @@ settings_by locale other vars others e f = λ i. record { locale = e i; vars = f
 pub switched : (back : SettingsChange) (settings : Settings) (before after : Contents)
     → after ≡ after_switch settings before
     → after_change back settings ≡ before.settings → HasDistinctNames before.settings.vars
-    → IsClosed before.lines → pass_limit before.lines ≡ false → LeadsBack (Switch back) before after
+    → AreBlocksClosed before.lines → pass_limit before.lines ≡ false → LeadsBack (Switch back) before after
 switched back settings before after is gives distinct closed within = record {
   can = record {
     splice = can_exchange 0 0 [] after.lines before.lines (omega arith) lines closed within;

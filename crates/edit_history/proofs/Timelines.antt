@@ -2,21 +2,23 @@
 use Rattle.std.proofs.Common.{◌≡◌, ◌∷◌, inl, inr, [], List, refl, sym, ap, subst, ◌∙◌, Some, None, Ok, Err}
 use Rattle.std.proofs.lemmas.Option.{same_Some}
 use Rattle.deck.specs.Decks.{Contents}
-use Rattle.live_table.specs.Shown.{Shown}
-use Rattle.edit_history.specs.Calls.{IsMoved, IsNoted, IsRefusal, IsUndone, turned}
-use Rattle.edit_history.specs.Histories.{Course}
+use Rattle.live_table.specs.TableView.{Shown}
+use Rattle.edit_history.specs.Calls.{IsMoved, IsNoted, IsRefusal, IsUndone, swapped_stacks}
+use Rattle.edit_history.specs.Histories.{UndoStacks}
 use Rattle.edit_history.specs.Steps.{after_step}
-use Rattle.edit_history.specs.Timelines.{Timeline, edited, redone, redone_to, timeline, undone, undone_to, versions}
+use Rattle.edit_history.specs.Timelines.{Timeline, redone, redone_to, step_versions, timeline, timeline_after_edit}
+use Rattle.edit_history.specs.Timelines.{undone, undone_to}
 use Rattle.edit_history.specs.Versions.{Version, version_of}
 use Rattle.edit_history.specs.declared.fault.HistoryFault.{HistoryFault}
 use Rattle.edit_history.specs.declared.fault.HistoryFault.TheVariants.{NothingToRedo, NothingToUndo, OutOfMemory}
 use Rattle.edit_history.specs.declared.step.Step.{Step}
 
-pub edit_noted : (old new : Course) (before after : Contents) → IsNoted old new before after (Ok tt)
-    → timeline new (version_of after) ≡ edited (version_of after) (timeline old (version_of before))
+pub edit_noted : (old new : UndoStacks) (before after : Contents) → IsNoted old new before after (Ok tt)
+    → timeline new (version_of after) ≡ timeline_after_edit (version_of after) (timeline old (version_of before))
 edit_noted old new before after (s, is, back) =
     let here = version_of after in
-    ap (λ h. timeline h here) is ∙ ap (λ v. record { past = v ∷ versions old.done v; present = here; future = [] }) back
+    ap (λ h. timeline h here) is ∙ ap (λ v. record { past = v ∷ step_versions old.done v; present = here; future = [] })
+    back
 
 -- the versions of the steps left, and those of the steps that were added
 module _ (steps rest others more : List Step) (before after : Contents)
@@ -28,27 +30,29 @@ module _ (steps rest others more : List Step) (before after : Contents)
   there = version_of after
 
   pub left : (f : List Version → Version → List Version → Timeline)
-      → f (versions rest there) there (versions more there) ≡ f (versions rest (after_step moved.step here))
-      (after_step moved.step here) (here ∷ versions others here)
+      → f (step_versions rest there) there (step_versions more there) ≡ f
+      (step_versions rest (after_step moved.step here))
+      (after_step moved.step here) (here ∷ step_versions others here)
   left f =
-      ap (λ ss. f (versions rest there) there (versions ss there)) moved.put
-      ∙ ap (λ v. f (versions rest there) there (v ∷ versions others v)) moved.again
-      ∙ ap (λ v. f (versions rest v) v (here ∷ versions others here)) (ap version_of moved.made)
+      ap (λ ss. f (step_versions rest there) there (step_versions ss there)) moved.put
+      ∙ ap (λ v. f (step_versions rest there) there (v ∷ step_versions others v)) moved.again
+      ∙ ap (λ v. f (step_versions rest v) v (here ∷ step_versions others here)) (ap version_of moved.made)
 
-pub undo_moved : (old new : Course) (before after : Shown) → IsUndone NothingToUndo old new before after (Ok tt)
+pub undo_moved : (old new : UndoStacks) (before after : Shown) → IsUndone NothingToUndo old new before after (Ok tt)
     → undone (timeline old (version_of before.deck)) ≡ Some (timeline new (version_of after.deck))
 undo_moved old new before after (moved, edit) =
     let here = version_of before.deck in
-    ap (λ steps. undone_to (versions steps here) (timeline old here)) moved.taken
+    ap (λ steps. undone_to (step_versions steps here) (timeline old here)) moved.taken
     ∙ sym (ap Some (left old.done new.done old.undone new.undone before.deck after.deck moved
     (λ past v future. record { past = past; present = v; future = future })))
 
-pub redo_moved : (old new : Course) (before after : Shown) → IsUndone NothingToRedo (turned old) (turned new) before
+pub redo_moved : (old new : UndoStacks) (before after : Shown) → IsUndone NothingToRedo (swapped_stacks old)
+    (swapped_stacks new) before
     after (Ok tt)
     → redone (timeline old (version_of before.deck)) ≡ Some (timeline new (version_of after.deck))
 redo_moved old new before after (moved, edit) =
     let here = version_of before.deck in
-    ap (λ steps. redone_to (versions steps here) (timeline old here)) moved.taken
+    ap (λ steps. redone_to (step_versions steps here) (timeline old here)) moved.taken
     ∙ sym (ap Some (left old.undone new.undone old.done new.done before.deck after.deck moved
     (λ future v past. record { past = past; present = v; future = future })))
 
@@ -57,20 +61,20 @@ none_left : (nothing : HistoryFault) (steps : List Step) → (nothing ≡ OutOfM
 none_left nothing steps other (inl h) = h.1
 none_left nothing steps other (inr h) = absurd (other h.0)
 
-pub no_undo : (old new : Course) (before after : Shown) → IsUndone NothingToUndo old new before after
+pub no_undo : (old new : UndoStacks) (before after : Shown) → IsUndone NothingToUndo old new before after
     (Err NothingToUndo)
     → undone (timeline old (version_of before.deck)) ≡ None
 no_undo old new before after (same, table, refused) =
     let here = version_of before.deck in
-    ap (λ steps. undone_to (versions steps here) (timeline old here))
+    ap (λ steps. undone_to (step_versions steps here) (timeline old here))
     (none_left NothingToUndo old.done (λ e. cc) refused)
 
-pub no_redo : (old new : Course) (before after : Shown)
-    → IsUndone NothingToRedo (turned old) (turned new) before after (Err NothingToRedo)
+pub no_redo : (old new : UndoStacks) (before after : Shown)
+    → IsUndone NothingToRedo (swapped_stacks old) (swapped_stacks new) before after (Err NothingToRedo)
     → redone (timeline old (version_of before.deck)) ≡ None
 no_redo old new before after (same, table, refused) =
     let here = version_of before.deck in
-    ap (λ steps. redone_to (versions steps here) (timeline old here))
+    ap (λ steps. redone_to (step_versions steps here) (timeline old here))
     (none_left NothingToRedo old.undone (λ e. cc) refused)
 
 pub redo_back : (t u : Timeline) → undone t ≡ Some u → redone u ≡ Some t

@@ -3,9 +3,9 @@ use Rattle.std.specs.Prelude.{◌≡◌, ◌∷◌, ◌⊎◌, [], List, Result,
 use Rattle.deck.specs.Decks.{Contents}
 use Rattle.deck.specs.Splices.{after_splice}
 use Rattle.deck.specs.declared.fault.DeckFault.{DeckFault}
-use Rattle.live_table.specs.Calls.{IsEdit}
-use Rattle.live_table.specs.Shown.{Shown}
-use Rattle.edit_history.specs.Histories.{Course}
+use Rattle.live_table.specs.Calls.{IsAcceptedEdit}
+use Rattle.live_table.specs.TableView.{Shown}
+use Rattle.edit_history.specs.Histories.{UndoStacks}
 use Rattle.edit_history.specs.Steps.{after_step, splice_of}
 use Rattle.edit_history.specs.Versions.{version_of}
 use Rattle.edit_history.specs.declared.fault.HistoryFault.{HistoryFault}
@@ -14,7 +14,7 @@ use Rattle.edit_history.specs.declared.step.Step.{Step}
 
 -- an accepted edit pushes a step back to the version before it onto the steps done, and nothing is left to redo; a
 -- refused edit leaves the history as it is
-abbrev pub IsNoted : Course → Course → Contents → Contents → Result (Unit {0}) DeckFault → Type 0
+abbrev pub IsNoted : UndoStacks → UndoStacks → Contents → Contents → Result (Unit {0}) DeckFault → Type 0
 IsNoted old new before after (Ok _) =
     (s : Step) × (new ≡ record { done = s ∷ old.done; undone = [] })
     × (after_step s (version_of after) ≡ version_of before)
@@ -35,12 +35,12 @@ IsRefusal nothing steps fault =
     ((fault ≡ nothing) × (steps ≡ [])) ⊎ ((fault ≡ OutOfMemory) × (steps ≡ [] → ⊥))
 
 -- the last edit done is taken back, and the results that this affects are forgotten; or everything is as before
-abbrev pub IsUndone : HistoryFault → Course → Course → Shown → Shown → Result (Unit {0}) HistoryFault → Type 0
+abbrev pub IsUndone : HistoryFault → UndoStacks → UndoStacks → Shown → Shown → Result (Unit {0}) HistoryFault → Type 0
 IsUndone nothing old new before after (Ok _) =
-    IsMoved old.done new.done old.undone new.undone before.deck after.deck × IsEdit before after
+    IsMoved old.done new.done old.undone new.undone before.deck after.deck × IsAcceptedEdit before after
 IsUndone nothing old new before after (Err fault) =
     (new ≡ old) × (after ≡ before) × IsRefusal nothing old.done fault
 
 -- the same history with its two lists swapped
-abbrev pub turned : Course → Course
-turned h = record { done = h.undone; undone = h.done }
+abbrev pub swapped_stacks : UndoStacks → UndoStacks
+swapped_stacks h = record { done = h.undone; undone = h.done }

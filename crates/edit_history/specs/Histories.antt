@@ -7,16 +7,16 @@ use Rattle.edit_history.specs.declared.step.Step.{Step}
 
 -- the steps that take back the edits done, the last edit first; and the steps that make the undone edits again, the one
 -- undone last first
-pub record Course : Type 0 where
+pub record UndoStacks : Type 0 where
   pub done : List Step
   pub undone : List Step
 
 -- steps that can be made one after another, beginning at a version
-abbrev pub Lead : List Step → Version → Type 0
-Lead [] v = ⊤
-Lead (s ∷ steps) v = CanStep s v × Lead steps (after_step s v)
+abbrev pub IsStepPath : List Step → Version → Type 0
+IsStepPath [] v = ⊤
+IsStepPath (s ∷ steps) v = CanStep s v × IsStepPath steps (after_step s v)
 
 -- a history belongs to this deck: the steps of both lists can be made from it
-pub record Follows (h : Course) (d : Contents) : Type 0 where
-  pub back : Lead h.done (version_of d)
-  pub forth : Lead h.undone (version_of d)
+pub record IsHistoryOf (h : UndoStacks) (d : Contents) : Type 0 where
+  pub back : IsStepPath h.done (version_of d)
+  pub forth : IsStepPath h.undone (version_of d)

@@ -1,9 +1,9 @@
 pub mod Calls
 pub mod Histories
 pub mod Laws
-pub mod Making
+pub mod StepEffects
 pub mod Steps
-pub mod Switching
+pub mod SettingSwitches
 pub mod Timelines
 pub mod VarsParts
 pub mod Versions

@@ -1,16 +1,16 @@
 -- Steps from one version of a deck to another.
 use Rattle.std.specs.Prelude.{◌≡◌, ◌-◌, ◌∷◌, [], ⊤, ℕ, List, length, Option, Ok}
-use Rattle.units_io.specs.Named.{HasDistinctNames}
-use Rattle.def_lines.specs.Blanks.{trimmed}
+use Rattle.units_io.specs.NamedValues.{HasDistinctNames}
+use Rattle.def_lines.specs.Blanks.{trim_of}
 use Rattle.deck_lines.specs.Marks.{plain_line}
 use Rattle.deck.specs.Edits.{after_define, with_line}
 use Rattle.deck.specs.SettingChanges.{with_locale, with_variable, without_last_variable}
 use Rattle.deck.specs.Splices.{CanSplice, after_splice}
-use Rattle.deck.specs.Undefining.{place_of_key}
+use Rattle.deck.specs.LineRemoval.{place_of_key}
 use Rattle.deck.specs.declared.settings.Settings.{Settings}
 use Rattle.deck.specs.declared.splice.Splice.{Splice}
-use Rattle.edit_history.specs.Switching.{after_change}
-use Rattle.edit_history.specs.Versions.{Version, deck_of, version_of}
+use Rattle.edit_history.specs.SettingSwitches.{after_change}
+use Rattle.edit_history.specs.Versions.{Version, deck_of_version, version_of}
 use Rattle.edit_history.specs.declared.step.Step.{Step}
 use Rattle.edit_history.specs.declared.step.Step.TheVariants.{Define, Undefine, Exchange, Switch, Set, UnsetLast}
 use Rattle.edit_history.specs.declared.step.Step.TheVariants.{Locale, Nothing}
@@ -34,20 +34,20 @@ splice_of Nothing v = settings_splice v.settings
 
 -- the version after a step
 abbrev pub after_step : Step → Version → Version
-after_step s v = version_of (after_splice (splice_of s v) (deck_of v))
+after_step s v = version_of (after_splice (splice_of s v) (deck_of_version v))
 
 -- `define` appends this line unchanged
 pub record IsDefinition (text : List ℕ) (v : Version) : Type 0 where
-  pub bare : trimmed text ≡ text
-  pub accepted : after_define text (deck_of v) ≡ Ok (with_line text (deck_of v))
+  pub bare : trim_of text ≡ text
+  pub is_accepted : after_define text (deck_of_version v) ≡ Ok (with_line text (deck_of_version v))
 
 -- `define` appended the last line, and before that the line of its key that was in force had this place
 pub record IsLastDefined (uncovered : Option ℕ) (v : Version) : Type 0 where
   pub text : List ℕ
   pub before : Version
   pub definition : IsDefinition text before
-  pub is : v ≡ version_of (with_line text (deck_of before))
-  pub place : uncovered ≡ place_of_key text (deck_of before)
+  pub is : v ≡ version_of (with_line text (deck_of_version before))
+  pub place : uncovered ≡ place_of_key text (deck_of_version before)
 
 -- a step is right about the line that it appends or removes, and no two variables have one name after it
 abbrev pub SaysRight : Step → Version → Type 0
@@ -58,5 +58,5 @@ SaysRight _ v = ⊤
 
 -- a step can be made in a version: the condition of its splice holds, and what it says is right
 pub record CanStep (s : Step) (v : Version) : Type 0 where
-  pub splice : CanSplice (splice_of s v) (deck_of v)
+  pub splice : CanSplice (splice_of s v) (deck_of_version v)
   pub right : SaysRight s v

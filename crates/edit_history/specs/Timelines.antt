@@ -1,6 +1,6 @@
 -- A history and its deck as whole versions.
 use Rattle.std.specs.Prelude.{◌∷◌, [], List, Option, Some, None}
-use Rattle.edit_history.specs.Histories.{Course}
+use Rattle.edit_history.specs.Histories.{UndoStacks}
 use Rattle.edit_history.specs.Steps.{after_step}
 use Rattle.edit_history.specs.Versions.{Version}
 use Rattle.edit_history.specs.declared.step.Step.{Step}
@@ -13,17 +13,17 @@ pub record Timeline : Type 0 where
   pub future : List Version
 
 -- the versions that steps give, one after another
-abbrev pub versions : List Step → Version → List Version
-versions [] v = []
-versions (s ∷ steps) v = after_step s v ∷ versions steps (after_step s v)
+abbrev pub step_versions : List Step → Version → List Version
+step_versions [] v = []
+step_versions (s ∷ steps) v = after_step s v ∷ step_versions steps (after_step s v)
 
 -- the versions of a history, and the present one
-abbrev pub timeline : Course → Version → Timeline
-timeline h v = record { past = versions h.done v; present = v; future = versions h.undone v }
+abbrev pub timeline : UndoStacks → Version → Timeline
+timeline h v = record { past = step_versions h.done v; present = v; future = step_versions h.undone v }
 
 -- the timeline after an edit that gives a version
-abbrev pub edited : Version → Timeline → Timeline
-edited v t = record { past = t.present ∷ t.past; present = v; future = [] }
+abbrev pub timeline_after_edit : Version → Timeline → Timeline
+timeline_after_edit v t = record { past = t.present ∷ t.past; present = v; future = [] }
 
 -- the timeline after an undo, if these are the versions before
 abbrev pub undone_to : List Version → Timeline → Option Timeline

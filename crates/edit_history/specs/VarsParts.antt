@@ -1,6 +1,6 @@
 -- Parts of lists of variables.
 use Rattle.std.specs.Prelude.{◌≡◌, ◌<◌, ◌-◌, ◌∷◌, [], ℕ, length, take, drop, slice_get}
-use Rattle.units_io.specs.Named.{Pairs, with_value}
+use Rattle.units_io.specs.NamedValues.{Pairs, with_value}
 
 -- the pairs from a place up to another
 abbrev pub pairs_between : (first end : ℕ) → Pairs → Pairs

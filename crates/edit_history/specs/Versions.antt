@@ -14,5 +14,5 @@ abbrev pub version_of : Contents → Version
 version_of d = record { lines = d.lines; settings = d.settings }
 
 -- a deck of this version
-abbrev pub deck_of : Version → Contents
-deck_of v = record { lines = v.lines; settings = v.settings; notices = [] }
+abbrev pub deck_of_version : Version → Contents
+deck_of_version v = record { lines = v.lines; settings = v.settings; notices = [] }

@@ -2,15 +2,15 @@
 
 ghost use Rattle.std.specs.Prelude.{◌≡◌, []};
 ghost use Rattle.edit_history.specs.Calls as calls;
-ghost use Rattle.edit_history.specs.Histories.{Follows};
+ghost use Rattle.edit_history.specs.Histories.{IsHistoryOf};
 ghost use Rattle.edit_history.specs.declared.fault.HistoryFault.TheVariants.{NothingToRedo, NothingToUndo};
 
-mod editing;
-mod setting;
+mod recorded_edits;
+mod recorded_settings;
 
 use crate::fault::HistoryFault;
-use crate::making::make_last;
 use crate::step::Step;
+use crate::step_application::apply_last;
 use live_table::LiveTable;
 use std::alloc::Global;
 use std::marker::Model;
@@ -31,9 +31,9 @@ impl Drop for History {
 
 impl Model for History {
     ghost use Rattle.std.specs.Prelude.{reverse};
-    ghost use Rattle.edit_history.specs.Histories.{Course};
+    ghost use Rattle.edit_history.specs.Histories.{UndoStacks};
 
-    ghost Value = { Course };
+    ghost Value = { UndoStacks };
 
     ghost view = { λ h. record { done = reverse h.done.items; undone = reverse h.undone.items } };
 }
@@ -54,29 +54,29 @@ impl History {
     /// there is no such edit; the only other error is running out of memory. After an error the table and the history
     /// are as before.
     pub fn undo(&mut self, alloc: Global, table: &mut LiveTable) -> Result<(), HistoryFault>
-        requires { Follows self.old table.old.deck }
-        ensures follows { Follows self.new table.new.deck }
+        requires { IsHistoryOf self.old table.old.deck }
+        ensures follows { IsHistoryOf self.new table.new.deck }
         ensures undone { calls.IsUndone NothingToUndo self.old self.new table.old table.new result }
     {
         if self.done.is_empty() {
             return Err(HistoryFault::NothingToUndo);
         }
-        make_last(alloc, &mut self.done, &mut self.undone, table)?;
+        apply_last(alloc, &mut self.done, &mut self.undone, table)?;
         Ok(())
     }
 
     /// Makes the edit again that was undone last, if no edit was made since. It changes the table in the same way as
     /// `undo`. Returns `NothingToRedo` exactly if there is no such edit; the only other error is running out of memory.
     pub fn redo(&mut self, alloc: Global, table: &mut LiveTable) -> Result<(), HistoryFault>
-        requires { Follows self.old table.old.deck }
-        ensures follows { Follows self.new table.new.deck }
-        ensures redone { calls.IsUndone NothingToRedo (calls.turned self.old) (calls.turned self.new)
+        requires { IsHistoryOf self.old table.old.deck }
+        ensures follows { IsHistoryOf self.new table.new.deck }
+        ensures redone { calls.IsUndone NothingToRedo (calls.swapped_stacks self.old) (calls.swapped_stacks self.new)
             table.old table.new result }
     {
         if self.undone.is_empty() {
             return Err(HistoryFault::NothingToRedo);
         }
-        make_last(alloc, &mut self.undone, &mut self.done, table)?;
+        apply_last(alloc, &mut self.undone, &mut self.done, table)?;
         Ok(())
     }
 }

@@ -1,6 +1,6 @@
 //! Laws of histories. The functions do nothing: the contract of each is the law.
 
-ghost use Rattle.edit_history.specs.Laws.{BackLaw, ReplyLaw, TimelineLaw};
+ghost use Rattle.edit_history.specs.Laws.{ReplyLaw, TimelineLaw, UndoRedoLaw};
 
 /// The calls of a history, described by whole versions of the deck.
 pub fn histories_are_timelines()
@@ -9,7 +9,7 @@ pub fn histories_are_timelines()
 
 /// An undo after an edit restores the version before it, and a redo after an undo restores what the undo took back.
 pub fn undo_gives_back()
-    ensures { BackLaw }
+    ensures { UndoRedoLaw }
 {}
 
 /// The replies of the table are the same in all decks of one version.

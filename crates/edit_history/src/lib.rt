@@ -3,17 +3,17 @@
 
 mod boxed_change;
 mod boxed_exchange;
-mod changing;
 mod fault;
 mod history;
 mod laws;
 mod line_exchange;
-mod making;
 mod named_value;
+mod setting_changes;
 mod setting_steps;
 mod settings_change;
 mod stack;
 mod step;
+mod step_application;
 mod vars_parts;
 
 pub use boxed_change::BoxedChange;

@@ -2,7 +2,7 @@
 
 ghost use Rattle.std.specs.Prelude.{IfOk};
 ghost use Rattle.deck.specs.SettingChanges as changes;
-ghost use Rattle.edit_history.specs.Making.{PutsSettings};
+ghost use Rattle.edit_history.specs.StepEffects.{PutsSettings};
 
 use crate::named_value::NamedValue;
 use crate::step::Step;

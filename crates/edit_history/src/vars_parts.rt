@@ -2,7 +2,7 @@
 
 ghost use Rattle.std.specs.Prelude.{◌≡◌, ◌≤◌, length, take, drop, OnOk};
 ghost use Rattle.std.specs.Bool.{OnTrue};
-ghost use Rattle.units_io.specs.Named.{HasDistinctNames};
+ghost use Rattle.units_io.specs.NamedValues.{HasDistinctNames};
 ghost use Rattle.edit_history.specs.VarsParts.{IsSamePair, pairs_between, with_pairs};
 
 use std::alloc::{AllocError, Global};

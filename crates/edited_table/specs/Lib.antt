@@ -1,1 +1,1 @@
-pub mod Edited
+pub mod TableValue

@@ -1,7 +1,7 @@
 //! A live table and its edit history.
 
 ghost use Rattle.std.specs.Prelude.{◌≡◌};
-ghost use Rattle.edited_table.specs.Edited.{unedited};
+ghost use Rattle.edited_table.specs.TableValue.{table_without_edits};
 
 use deck::Deck;
 use edit_history::History;
@@ -26,8 +26,8 @@ impl Drop for EditedTable {
 }
 
 impl Model for EditedTable {
-    ghost use Rattle.edit_history.specs.Histories.{Follows};
-    ghost use Rattle.edited_table.specs.Edited.{Edited, edited_code};
+    ghost use Rattle.edit_history.specs.Histories.{IsHistoryOf};
+    ghost use Rattle.edited_table.specs.TableValue.{Edited, edited_code};
 
     ghost Value = { Edited };
 
@@ -35,13 +35,13 @@ impl Model for EditedTable {
 
     ghost view = { λ e. record { table = e.table; history = e.history } };
 
-    ghost invariant = { λ e. Follows e.history e.table.deck };
+    ghost invariant = { λ e. IsHistoryOf e.history e.table.deck };
 }
 
 impl EditedTable {
     /// Returns a table over `deck` with no name settled and no edit made. Does not allocate.
     pub fn new(alloc: Global, deck: Deck) -> EditedTable
-        ensures { result ≡ unedited deck }
+        ensures { result ≡ table_without_edits deck }
     {
         EditedTable {
             table: LiveTable::new(alloc, deck),

@@ -1,10 +1,10 @@
 //! A live table together with the history of its edits.
 #![tactic(auto)]
 
-mod asking;
 mod column;
 mod edited_table;
-mod editing;
+mod table_edits;
+mod table_queries;
 
 pub use column::Column;
 pub use edited_table::EditedTable;

@@ -5,7 +5,7 @@ use Rattle.def_entry.specs.declared.fault.EntryFault.{EntryFault}
 use Rattle.def_entry.specs.declared.key.Key.{Key}
 use Rattle.def_entry.specs.Entries.{Entry}
 use Rattle.def_entry.specs.Faults.{entry_fault_text}
-use Rattle.def_entry.specs.Reading.{entry_of, has_entry}
+use Rattle.def_entry.specs.EntryReading.{entry_of, has_entry}
 use Rattle.entry_calls.specs.declared.finding.Finding.{Finding}
 use Rattle.entry_calls.specs.declared.finding.Finding.TheVariants as finding
 use Rattle.entry_calls.specs.Shown.{entry_text}

@@ -2,13 +2,13 @@
 
 ghost use Rattle.std.specs.Prelude.{◌≡◌, true, IfOk};
 ghost use Rattle.def_lines.specs.Kinds.{kind_of};
-ghost use Rattle.def_entry.specs.Faults.{is_told};
-ghost use Rattle.def_entry.specs.Reading.{entry_of, has_entry};
+ghost use Rattle.def_entry.specs.Faults.{is_fault_of_line};
+ghost use Rattle.def_entry.specs.EntryReading.{entry_of, has_entry};
 ghost use Rattle.def_entry.specs.Views.{entry_view};
 ghost use Rattle.entry_calls.specs.Findings.{finding_by, finding_of};
 
 use crate::shown::entry_text;
-use def_entry::{Entry, EntryFault, Key, entry_fault_text, read_entry, told_law};
+use def_entry::{Entry, EntryFault, Key, entry_fault_text, entry_memory_law, read_entry};
 use def_lines::{LineKind, classify};
 use std::alloc::{AllocError, Global};
 use units_io::Text;
@@ -40,7 +40,7 @@ fn entry_finding(alloc: Global, text: &[u8]) -> Result<Finding, AllocError>
     requires { has_entry (kind_of text.now) ≡ true }
     ensures { IfOk result (λ finding. finding ≡ finding_by (entry_of text.now)) }
 {
-    told_law();
+    entry_memory_law();
     match read_entry(alloc, text) {
         Ok((key, what)) => {
             let entry = Entry {
@@ -66,7 +66,7 @@ fn found_entry(alloc: Global, key: &Key, entry: Entry<'_>) -> Result<Finding, Al
 
 // Returns the finding for a fault that has a message.
 fn found_fault(alloc: Global, fault: &EntryFault) -> Result<Finding, AllocError>
-    requires { is_told fault.now ≡ true }
+    requires { is_fault_of_line fault.now ≡ true }
     ensures { IfOk result (λ finding. finding ≡ finding_by (Err fault.now)) }
 {
     let told = entry_fault_text(alloc, fault)?;

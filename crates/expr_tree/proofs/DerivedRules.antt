@@ -7,9 +7,9 @@ use Rattle.expr_tree.specs.Grammar.{Signed, JuxtapositionOf, NextPower, Bare, Ra
 use Rattle.expr_tree.specs.Grammar.{ExponentOf}
 use Rattle.expr_tree.specs.Grammar.{NumeralAtom, BarAtom, CallAtom, InverseAtom, RootAtom}
 use Rattle.expr_tree.specs.Grammar.{GroupAtom}
-use Rattle.expr_tree.specs.Grammar.{sign, scale, sum, sum_rest, product, product_rest, juxtaposition}
-use Rattle.expr_tree.specs.Grammar.{juxtaposition_rest, power, exponent, atom}
-use Rattle.expr_tree.specs.Rules.{WantsOperand, EndsOperand, EndsNumeral, fits}
+use Rattle.expr_tree.specs.Grammar.{sign_token, scale_token, sum, sum_rest, product, product_rest, juxtaposition}
+use Rattle.expr_tree.specs.Grammar.{juxtaposition_rest, power, exponent_tokens, atom}
+use Rattle.expr_tree.specs.Rules.{WantsOperand, EndsOperand, EndsNumeral, tokens_fit}
 use Rattle.expr_tree.specs.Tokens.{Token, Numeral, Head, Root, Bar}
 use Rattle.expr_tree.specs.Tokens.{Caret, Tilde, Open, Close}
 use Rattle.expr_tree.specs.declared.operator.Scale.{Scale}
@@ -25,7 +25,7 @@ pub record At {X : Type 0} (spell : X → List Token → List Token) (follow : T
   pub rest : List Token
   pub is : ts ≡ spell made rest
   pub stop : stops follow rest ≡ true
-  pub fit : fits EndsOperand k rest ≡ true
+  pub fit : tokens_fit EndsOperand k rest ≡ true
   pub less : length rest ≤ length ts
 
 -- such a derivation that has at least one token
@@ -35,14 +35,14 @@ pub record Front {X : Type 0} (spell : X → List Token → List Token) (follow 
   pub rest : List Token
   pub is : ts ≡ spell made rest
   pub stop : stops follow rest ≡ true
-  pub fit : fits EndsOperand k rest ≡ true
+  pub fit : tokens_fit EndsOperand k rest ≡ true
   pub less : length rest < length ts
 
 -- ---- each rule of the grammar, made from the derivations of its parts
 
 -- a sum, made from a product and the terms after it
 pub sum_from : (k : ℕ) (ts : List Token) → Front product after_product k ts
-    → ((r : List Token) → length r < length ts → stops after_product r ≡ true → fits EndsOperand k r ≡ true
+    → ((r : List Token) → length r < length ts → stops after_product r ≡ true → tokens_fit EndsOperand k r ≡ true
     → At sum_rest after_sum k r) → Front sum after_sum k ts
 sum_from k ts p f = go p (f p.rest p.less p.stop p.fit)
   where
@@ -58,16 +58,17 @@ sum_from k ts p f = go p (f p.rest p.less p.stop p.fit)
 
 -- one more term, made from its sign, a product and the terms after it
 pub next_term_from : (s : Sign) (k : ℕ) (ts : List Token) → Front product after_product k ts
-    → ((r : List Token) → length r < length ts → stops after_product r ≡ true → fits EndsOperand k r ≡ true
-    → At sum_rest after_sum k r) → At sum_rest after_sum k (sign s ∷ ts)
+    → ((r : List Token) → length r < length ts → stops after_product r ≡ true → tokens_fit EndsOperand k r ≡ true
+    → At sum_rest after_sum k r) → At sum_rest after_sum k (sign_token s ∷ ts)
 next_term_from s k ts p f = go p (f p.rest p.less p.stop p.fit)
   where
-    go : (p : Front product after_product k ts) → At sum_rest after_sum k p.rest → At sum_rest after_sum k (sign s ∷ ts)
+    go : (p : Front product after_product k ts) → At sum_rest after_sum k p.rest
+        → At sum_rest after_sum k (sign_token s ∷ ts)
     go p q = record {
       made = NextTerm s p.made q.made;
       rest = q.rest;
       is =
-          ap (λ x. sign s ∷ x) (p.is ∙ ap (product p.made) q.is);
+          ap (λ x. sign_token s ∷ x) (p.is ∙ ap (product p.made) q.is);
       stop = q.stop;
       fit = q.fit;
       less = omega arith;
@@ -75,7 +76,7 @@ next_term_from s k ts p f = go p (f p.rest p.less p.stop p.fit)
 
 -- a product, made from a juxtaposition and the factors after it
 pub product_from : (k : ℕ) (ts : List Token) → Front juxtaposition after_juxtaposition k ts
-    → ((r : List Token) → length r < length ts → stops after_juxtaposition r ≡ true → fits EndsOperand k r ≡ true
+    → ((r : List Token) → length r < length ts → stops after_juxtaposition r ≡ true → tokens_fit EndsOperand k r ≡ true
     → At product_rest after_product k r) → Front product after_product k ts
 product_from k ts p f = go p (f p.rest p.less p.stop p.fit)
   where
@@ -93,17 +94,17 @@ product_from k ts p f = go p (f p.rest p.less p.stop p.fit)
 
 -- one more factor, made from its operator, a juxtaposition and the factors after it
 pub next_factor_from : (s : Scale) (k : ℕ) (ts : List Token) → Front juxtaposition after_juxtaposition k ts
-    → ((r : List Token) → length r < length ts → stops after_juxtaposition r ≡ true → fits EndsOperand k r ≡ true
-    → At product_rest after_product k r) → At product_rest after_product k (scale s ∷ ts)
+    → ((r : List Token) → length r < length ts → stops after_juxtaposition r ≡ true → tokens_fit EndsOperand k r ≡ true
+    → At product_rest after_product k r) → At product_rest after_product k (scale_token s ∷ ts)
 next_factor_from s k ts p f = go p (f p.rest p.less p.stop p.fit)
   where
     go : (p : Front juxtaposition after_juxtaposition k ts) → At product_rest after_product k p.rest
-        → At product_rest after_product k (scale s ∷ ts)
+        → At product_rest after_product k (scale_token s ∷ ts)
     go p q = record {
       made = NextFactor s p.made q.made;
       rest = q.rest;
       is =
-          ap (λ x. scale s ∷ x) (p.is ∙ ap (juxtaposition p.made) q.is);
+          ap (λ x. scale_token s ∷ x) (p.is ∙ ap (juxtaposition p.made) q.is);
       stop = q.stop;
       fit = q.fit;
       less = omega arith;
@@ -111,12 +112,12 @@ next_factor_from s k ts p f = go p (f p.rest p.less p.stop p.fit)
 
 -- a juxtaposition with a sign in front
 pub signed_from : (s : Sign) (k : ℕ) (ts : List Token) → Front juxtaposition after_juxtaposition k ts
-    → Front juxtaposition after_juxtaposition k (sign s ∷ ts)
+    → Front juxtaposition after_juxtaposition k (sign_token s ∷ ts)
 signed_from s k ts p =
     record {
       made = Signed s p.made;
       rest = p.rest;
-      is = ap (λ x. sign s ∷ x) p.is;
+      is = ap (λ x. sign_token s ∷ x) p.is;
       stop = p.stop;
       fit = p.fit;
       less =
@@ -125,7 +126,7 @@ signed_from s k ts p =
 
 -- a juxtaposition, made from a power and the powers after it
 pub juxtaposition_from : (k : ℕ) (ts : List Token) → Front power after_power k ts
-    → ((r : List Token) → length r < length ts → stops after_power r ≡ true → fits EndsOperand k r ≡ true
+    → ((r : List Token) → length r < length ts → stops after_power r ≡ true → tokens_fit EndsOperand k r ≡ true
     → At juxtaposition_rest after_juxtaposition k r) → Front juxtaposition after_juxtaposition k ts
 juxtaposition_from k ts p f = go p (f p.rest p.less p.stop p.fit)
   where
@@ -143,7 +144,7 @@ juxtaposition_from k ts p f = go p (f p.rest p.less p.stop p.fit)
 
 -- one more power, made from the power and the powers after it
 pub next_power_from : (k : ℕ) (ts : List Token) → Front power after_power k ts
-    → ((r : List Token) → length r < length ts → stops after_power r ≡ true → fits EndsOperand k r ≡ true
+    → ((r : List Token) → length r < length ts → stops after_power r ≡ true → tokens_fit EndsOperand k r ≡ true
     → At juxtaposition_rest after_juxtaposition k r) → At juxtaposition_rest after_juxtaposition k ts
 next_power_from k ts p f = go p (f p.rest p.less p.stop p.fit)
   where
@@ -160,16 +161,17 @@ next_power_from k ts p f = go p (f p.rest p.less p.stop p.fit)
 
 -- an atom, with its exponent if a `^` follows
 pub power_from : (k : ℕ) (ts : List Token) → Front atom after_atom k ts
-    → ((r : List Token) → suc (length r) < length ts → fits WantsOperand k r ≡ true → Front exponent after_power k r)
+    → ((r : List Token) → suc (length r) < length ts → tokens_fit WantsOperand k r ≡ true
+    → Front exponent_tokens after_power k r)
     → Front power after_power k ts
 power_from k ts p f = go p.rest p.is p.fit p.less
   where
-    go : (r : List Token) → ts ≡ atom p.made r → fits EndsOperand k r ≡ true → length r < length ts
+    go : (r : List Token) → ts ≡ atom p.made r → tokens_fit EndsOperand k r ≡ true → length r < length ts
         → Front power after_power k ts
     go [] is fit less = record { made = Bare p.made; rest = []; is = is; stop = refl; fit = fit; less = less }
     go (Caret ∷ r) is fit less = raised is less (f r less fit)
       where
-        raised : ts ≡ atom p.made (Caret ∷ r) → length (Caret ∷ r) < length ts → Front exponent after_power k r
+        raised : ts ≡ atom p.made (Caret ∷ r) → length (Caret ∷ r) < length ts → Front exponent_tokens after_power k r
             → Front power after_power k ts
         raised is less q =
             record {
@@ -184,20 +186,20 @@ power_from k ts p f = go p.rest p.is p.fit p.less
     go (t ∷ r) is fit less = record { made = Bare p.made; rest = t ∷ r; is = is; stop = refl; fit = fit; less = less }
 
 -- an exponent with a sign in front
-pub signed_exponent_from : (s : Sign) (k : ℕ) (ts : List Token) → Front exponent after_power k ts
-    → Front exponent after_power k (sign s ∷ ts)
+pub signed_exponent_from : (s : Sign) (k : ℕ) (ts : List Token) → Front exponent_tokens after_power k ts
+    → Front exponent_tokens after_power k (sign_token s ∷ ts)
 signed_exponent_from s k ts p =
     record {
       made = SignedExponent s p.made;
       rest = p.rest;
-      is = ap (λ x. sign s ∷ x) p.is;
+      is = ap (λ x. sign_token s ∷ x) p.is;
       stop = p.stop;
       fit = p.fit;
       less = omega arith;
     }
 
 -- an exponent that is a power
-pub exponent_from : (k : ℕ) (ts : List Token) → Front power after_power k ts → Front exponent after_power k ts
+pub exponent_from : (k : ℕ) (ts : List Token) → Front power after_power k ts → Front exponent_tokens after_power k ts
 exponent_from k ts p =
     record { made = ExponentOf p.made; rest = p.rest; is = p.is; stop = p.stop; fit = p.fit; less = p.less }
 
@@ -206,7 +208,7 @@ pub call_from : (w : List ℕ) (k : ℕ) (ts : List Token) → Front sum after_s
     → Front atom after_atom k (Head w ∷ ts)
 call_from w k ts p = go (closing k p.rest p.stop p.fit)
   where
-    go : ((s : List Token) × (p.rest ≡ Close ∷ s) × (fits EndsOperand k s ≡ true))
+    go : ((s : List Token) × (p.rest ≡ Close ∷ s) × (tokens_fit EndsOperand k s ≡ true))
         → Front atom after_atom k (Head w ∷ ts)
     go c =
         let e : length p.rest ≡ suc (length c.0) = ap length c.1 in
@@ -225,7 +227,7 @@ pub inverse_from : (w : List ℕ) (k : ℕ) (ts : List Token) → Front sum afte
     → Front atom after_atom k (Tilde ∷ Head w ∷ ts)
 inverse_from w k ts p = go (closing k p.rest p.stop p.fit)
   where
-    go : ((s : List Token) × (p.rest ≡ Close ∷ s) × (fits EndsOperand k s ≡ true))
+    go : ((s : List Token) × (p.rest ≡ Close ∷ s) × (tokens_fit EndsOperand k s ≡ true))
         → Front atom after_atom k (Tilde ∷ Head w ∷ ts)
     go c =
         let e : length p.rest ≡ suc (length c.0) = ap length c.1 in
@@ -245,7 +247,7 @@ pub root_from : (n : RootKind) (k : ℕ) (ts : List Token) → Front sum after_s
     → Front atom after_atom k (Root n ∷ Open ∷ ts)
 root_from n k ts p = go (closing k p.rest p.stop p.fit)
   where
-    go : ((s : List Token) × (p.rest ≡ Close ∷ s) × (fits EndsOperand k s ≡ true))
+    go : ((s : List Token) × (p.rest ≡ Close ∷ s) × (tokens_fit EndsOperand k s ≡ true))
         → Front atom after_atom k (Root n ∷ Open ∷ ts)
     go c =
         let e : length p.rest ≡ suc (length c.0) = ap length c.1 in
@@ -259,7 +261,7 @@ root_from n k ts p = go (closing k p.rest p.stop p.fit)
         }
 
 -- a numeral, with its denominator if a `|` follows
-pub numeral_from : (m : Decimal) (k : ℕ) (ts : List Token) → fits EndsNumeral k ts ≡ true
+pub numeral_from : (m : Decimal) (k : ℕ) (ts : List Token) → tokens_fit EndsNumeral k ts ≡ true
     → Front atom after_atom k (Numeral m ∷ ts)
 numeral_from m k [] h = record { made = NumeralAtom m; rest = []; is = refl; stop = refl; fit = h; less = omega arith }
 numeral_from m k (Bar ∷ Numeral d ∷ ts) h =
@@ -273,7 +275,8 @@ numeral_from m k (t ∷ ts) h =
 pub group_from : (k : ℕ) (ts : List Token) → Front sum after_sum (suc k) ts → Front atom after_atom k (Open ∷ ts)
 group_from k ts p = go (closing k p.rest p.stop p.fit)
   where
-    go : ((s : List Token) × (p.rest ≡ Close ∷ s) × (fits EndsOperand k s ≡ true)) → Front atom after_atom k (Open ∷ ts)
+    go : ((s : List Token) × (p.rest ≡ Close ∷ s) × (tokens_fit EndsOperand k s ≡ true))
+        → Front atom after_atom k (Open ∷ ts)
     go c =
         let e : length p.rest ≡ suc (length c.0) = ap length c.1 in
         record {

@@ -1,8 +1,8 @@
 -- The tokens after a derivation, if all tokens fit.
 use Rattle.std.proofs.Common.{◌≡◌, ℕ, suc, ◌-◌, Bool, true, false, ◌&&◌, List, [], ◌∷◌, refl, subst, arith, eqb-true}
-use Rattle.expr_tree.specs.Rules.{WantsOperand, EndsOperand, EndsNumeral, fits}
+use Rattle.expr_tree.specs.Rules.{WantsOperand, EndsOperand, EndsNumeral, tokens_fit}
 use Rattle.expr_tree.specs.Tokens.{Token, Numeral, Word, WordWithPower, Head, Root, Bar, Tilde, Open, Close}
-use Rattle.expr_tree.specs.Front.{stops, begins, after_sum, after_atom}
+use Rattle.expr_tree.specs.Front.{stops, can_begin_operand, after_sum, after_atom}
 
 -- if the conjunction of two tests holds, both tests hold
 pub both : (a b : Bool) → (a && b) ≡ true → (a ≡ true) × (b ≡ true)
@@ -15,8 +15,8 @@ both_hold true b e f = f
 both_hold false b e f = cc
 
 -- tokens that begin an operand and fit after an operand also fit where an operand is wanted
-pub begins_wanted : (k : ℕ) (ts : List Token) → begins ts ≡ true → fits EndsOperand k ts ≡ true
-    → fits WantsOperand k ts ≡ true
+pub begins_wanted : (k : ℕ) (ts : List Token) → can_begin_operand ts ≡ true → tokens_fit EndsOperand k ts ≡ true
+    → tokens_fit WantsOperand k ts ≡ true
 begins_wanted k [] b h = cc
 begins_wanted k (Numeral n ∷ ts) b h = h
 begins_wanted k (Word w ∷ ts) b h = h
@@ -28,8 +28,8 @@ begins_wanted k (Open ∷ ts) b h = h
 begins_wanted k (t ∷ ts) b h = cc
 
 -- tokens that begin an operand and fit where one is wanted also fit after an operand
-pub begins_ended : (k : ℕ) (ts : List Token) → begins ts ≡ true → fits WantsOperand k ts ≡ true
-    → fits EndsOperand k ts ≡ true
+pub begins_ended : (k : ℕ) (ts : List Token) → can_begin_operand ts ≡ true → tokens_fit WantsOperand k ts ≡ true
+    → tokens_fit EndsOperand k ts ≡ true
 begins_ended k [] b h = cc
 begins_ended k (Numeral n ∷ ts) b h = h
 begins_ended k (Word w ∷ ts) b h = h
@@ -41,21 +41,21 @@ begins_ended k (Open ∷ ts) b h = h
 begins_ended k (t ∷ ts) b h = cc
 
 -- tokens that fit after any operand fit after a numeral
-pub numeral_ended : (k : ℕ) (ts : List Token) → fits EndsOperand k ts ≡ true → fits EndsNumeral k ts ≡ true
+pub numeral_ended : (k : ℕ) (ts : List Token) → tokens_fit EndsOperand k ts ≡ true → tokens_fit EndsNumeral k ts ≡ true
 numeral_ended k [] h = h
 numeral_ended k (Bar ∷ ts) h = cc
 numeral_ended k (t ∷ ts) h = h
 
 -- after an operand that is not a numeral no `|` follows
-pub ended_stops : (k : ℕ) (ts : List Token) → fits EndsOperand k ts ≡ true → stops after_atom ts ≡ true
+pub ended_stops : (k : ℕ) (ts : List Token) → tokens_fit EndsOperand k ts ≡ true → stops after_atom ts ≡ true
 ended_stops k [] h = refl
 ended_stops k (Bar ∷ ts) h = cc
 ended_stops k (t ∷ ts) h = refl
 
 -- a sum inside parentheses is followed by its `)`
-pub closing : (k : ℕ) (r : List Token) → stops after_sum r ≡ true → fits EndsOperand (suc k) r ≡ true
-    → (s : List Token) × (r ≡ Close ∷ s) × (fits EndsOperand k s ≡ true)
+pub closing : (k : ℕ) (r : List Token) → stops after_sum r ≡ true → tokens_fit EndsOperand (suc k) r ≡ true
+    → (s : List Token) × (r ≡ Close ∷ s) × (tokens_fit EndsOperand k s ≡ true)
 closing k [] h f = let none_open : suc k ≡ 0 = eqb-true (suc k) 0 f in absurd (omega arith)
 closing k (Close ∷ s) h f = let one_less : suc k - 1 ≡ k =
-    omega arith in (s, refl, subst (λ i. fits EndsOperand i s ≡ true) one_less (both _ _ f).1)
+    omega arith in (s, refl, subst (λ i. tokens_fit EndsOperand i s ≡ true) one_less (both _ _ f).1)
 closing k (t ∷ s) h f = cc

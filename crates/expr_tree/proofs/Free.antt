@@ -8,8 +8,9 @@ use Rattle.expr_tree.specs.Grammar.{Juxtaposition, Signed, JuxtapositionOf, Juxt
 use Rattle.expr_tree.specs.Grammar.{Power, Bare, Raised, Exponent, SignedExponent, ExponentOf}
 use Rattle.expr_tree.specs.Grammar.{Atom, NumeralAtom, BarAtom, WordAtom, PowerAtom, CallAtom, InverseAtom, RootAtom}
 use Rattle.expr_tree.specs.Grammar.{GroupAtom}
-use Rattle.expr_tree.specs.Grammar.{sum_tree, terms, product_tree, factors, juxtaposition_tree, members, power_tree}
-use Rattle.expr_tree.specs.Grammar.{exponent_tree, atom_tree, signed, Gives}
+use Rattle.expr_tree.specs.Grammar.{sum_tree, terms, product_tree, juxtaposition_tree, members, power_tree}
+use Rattle.expr_tree.specs.Grammar.{rest_factors}
+use Rattle.expr_tree.specs.Grammar.{exponent_tree, atom_tree, signed_syntax, GivesTree}
 use Rattle.expr_tree.specs.Syntax.{Syntax}
 use Rattle.expr_tree.specs.Tokens.{Token}
 use Rattle.expr_tree.specs.Arguments.{holds_argument, members_hold, factors_hold, terms_hold}
@@ -19,7 +20,7 @@ neither : (a b : Bool) → a ≡ false → b ≡ false → a || b ≡ false
 neither a b h k = ap (λ x. x || b) h ∙ k
 
 -- a sign adds no argument
-free-signed : (s : Sign) (e : Syntax) → holds_argument e ≡ false → holds_argument (signed s e) ≡ false
+free-signed : (s : Sign) (e : Syntax) → holds_argument e ≡ false → holds_argument (signed_syntax s e) ≡ false
 free-signed signs.Plus e h = h
 free-signed signs.Minus e h = h
 
@@ -37,7 +38,7 @@ mutual
   free-product (ProductOf j (NextFactor s k ks)) =
       neither _ _ (free-juxtaposition j) (neither _ _ (free-juxtaposition k) (free-factors ks))
 
-  free-factors : (js : ProductRest) → factors_hold (factors None js) ≡ false
+  free-factors : (js : ProductRest) → factors_hold (rest_factors None js) ≡ false
   free-factors NoFactor = refl
   free-factors (NextFactor s j js) = neither _ _ (free-juxtaposition j) (free-factors js)
 
@@ -70,5 +71,5 @@ mutual
   free-atom (GroupAtom d) = free-sum d
 
 -- the tree that tokens give without a binder contains no argument
-pub free : (ts : List Token) (e : Syntax) → Gives None ts e → holds_argument e ≡ false
+pub free : (ts : List Token) (e : Syntax) → GivesTree None ts e → holds_argument e ≡ false
 free ts e g = ap holds_argument g.2 ∙ free-sum g.0

@@ -3,12 +3,13 @@ use Rattle.std.proofs.Common.{◌≡◌, ℕ, suc, true, false, List, [], ◌∷
 use Rattle.frac128.specs.Decimals.{Decimal}
 use Rattle.expr_tree.specs.declared.operator.Sign.{Sign}
 use Rattle.expr_tree.specs.declared.operator.Sign.TheVariants as signs
-use Rattle.expr_tree.specs.Front.{IsFront, JuxtapositionAt, PowerAt, ExponentAt, AtomAt, IsClosed, first_sign}
-use Rattle.expr_tree.specs.Front.{first_caret, first_denominator, stops, begins, after_sum, after_power, after_atom}
+use Rattle.expr_tree.specs.Front.{IsFront, JuxtapositionAt, PowerAt, ExponentAt, AtomAt, IsSumInParens, first_sign}
+use Rattle.expr_tree.specs.Front.{first_caret, first_denominator, stops, can_begin_operand, after_sum, after_power}
+use Rattle.expr_tree.specs.Front.{after_atom}
 use Rattle.expr_tree.specs.Grammar.{Signed, Bare, Raised, SignedExponent, ExponentOf, NumeralAtom, BarAtom, WordAtom}
 use Rattle.expr_tree.specs.Grammar.{PowerAtom, CallAtom, InverseAtom, RootAtom, GroupAtom}
-use Rattle.expr_tree.specs.Grammar.{sign, sum, sum_tree, atom, word, call, signed}
-use Rattle.expr_tree.specs.Rules.{WantsOperand, EndsOperand, EndsNumeral, fits}
+use Rattle.expr_tree.specs.Grammar.{sign_token, sum, sum_tree, atom, word, call, signed_syntax}
+use Rattle.expr_tree.specs.Rules.{WantsOperand, EndsOperand, EndsNumeral, tokens_fit}
 use Rattle.expr_tree.specs.Syntax.{Syntax}
 use Rattle.expr_tree.specs.Syntax as tree
 use Rattle.expr_tree.specs.Tokens.{Token, Numeral, Word, WordWithPower, Head, Root, Plus, Minus, Star, Slash, Bar}
@@ -17,22 +18,22 @@ use Rattle.expr_tree.proofs.Fits.{ended_stops}
 use Rattle.expr_tree.specs.declared.operator.RootKind.{RootKind}
 
 -- tokens that are equal to tokens that fit, fit
-fit_as : (k : ℕ) (x y : List Token) → x ≡ y → fits WantsOperand k x ≡ true → fits WantsOperand k y ≡ true
-fit_as k x y e h = subst (λ z. fits WantsOperand k z ≡ true) e h
+fit_as : (k : ℕ) (x y : List Token) → x ≡ y → tokens_fit WantsOperand k x ≡ true → tokens_fit WantsOperand k y ≡ true
+fit_as k x y e h = subst (λ z. tokens_fit WantsOperand k z ≡ true) e h
 
 -- a word at the front is an atom
 pub word_front : (b : Option (List ℕ)) (k : ℕ) (w : List ℕ) (x y : List Token) (e : Syntax) → x ≡ Word w ∷ y
-    → fits WantsOperand k x ≡ true → e ≡ word b w → AtomAt b k x e y
+    → tokens_fit WantsOperand k x ≡ true → e ≡ word b w → AtomAt b k x e y
 word_front b k w x y e is h says =
-    let f : fits EndsOperand k y ≡ true = fit_as k x _ is h in
+    let f : tokens_fit EndsOperand k y ≡ true = fit_as k x _ is h in
     record { made = WordAtom w; is = is; says = says; stop = ended_stops k y f; fit = f }
 
 -- a word with a power at the front is an atom
 pub word_power_front : (b : Option (List ℕ)) (k : ℕ) (w : List ℕ) (n : Decimal) (x y : List Token) (c e : Syntax)
-    → x ≡ WordWithPower w n ∷ y → fits WantsOperand k x ≡ true → c ≡ word b w → e ≡ tree.Power c (tree.Number n)
+    → x ≡ WordWithPower w n ∷ y → tokens_fit WantsOperand k x ≡ true → c ≡ word b w → e ≡ tree.Power c (tree.Number n)
     → AtomAt b k x e y
 word_power_front b k w n x y c e is h base says =
-    let f : fits EndsOperand k y ≡ true = fit_as k x _ is h in
+    let f : tokens_fit EndsOperand k y ≡ true = fit_as k x _ is h in
     record {
       made = PowerAtom w n;
       is = is;
@@ -44,14 +45,14 @@ word_power_front b k w n x y c e is h base says =
 
 -- two numerals with a bar at the front are an atom
 pub bar_front : (b : Option (List ℕ)) (k : ℕ) (n d : Decimal) (x y : List Token) (e : Syntax)
-    → x ≡ Numeral n ∷ Bar ∷ Numeral d ∷ y → fits WantsOperand k x ≡ true → e ≡ tree.Bar n d → AtomAt b k x e y
+    → x ≡ Numeral n ∷ Bar ∷ Numeral d ∷ y → tokens_fit WantsOperand k x ≡ true → e ≡ tree.Bar n d → AtomAt b k x e y
 bar_front b k n d x y e is h says =
-    let f : fits EndsOperand k y ≡ true = fit_as k x _ is h in
+    let f : tokens_fit EndsOperand k y ≡ true = fit_as k x _ is h in
     record { made = BarAtom n d; is = is; says = says; stop = ended_stops k y f; fit = f }
 
 -- if no numeral follows after a `|`, no `|` follows
-no_denominator : (k : ℕ) (y : List Token) → first_denominator y ≡ None → fits EndsNumeral k y ≡ true
-    → (stops after_atom y ≡ true) × (fits EndsOperand k y ≡ true)
+no_denominator : (k : ℕ) (y : List Token) → first_denominator y ≡ None → tokens_fit EndsNumeral k y ≡ true
+    → (stops after_atom y ≡ true) × (tokens_fit EndsOperand k y ≡ true)
 no_denominator k [] n h = (refl, h)
 no_denominator k (Bar ∷ Numeral d ∷ y) n h = cc
 no_denominator k (Bar ∷ []) n h = cc
@@ -60,15 +61,15 @@ no_denominator k (t ∷ y) n h = (refl, h)
 
 -- a numeral alone at the front is an atom
 pub numeral_front : (b : Option (List ℕ)) (k : ℕ) (n : Decimal) (x y : List Token) (e : Syntax) → x ≡ Numeral n ∷ y
-    → first_denominator y ≡ None → fits WantsOperand k x ≡ true → e ≡ tree.Number n → AtomAt b k x e y
+    → first_denominator y ≡ None → tokens_fit WantsOperand k x ≡ true → e ≡ tree.Number n → AtomAt b k x e y
 numeral_front b k n x y e is alone h says =
-    let f : (stops after_atom y ≡ true) × (fits EndsOperand k y ≡ true) =
+    let f : (stops after_atom y ≡ true) × (tokens_fit EndsOperand k y ≡ true) =
     no_denominator k y alone (fit_as k x _ is h) in
     record { made = NumeralAtom n; is = is; says = says; stop = f.0; fit = f.1 }
 
 -- a call at the front, up to its `)`, is an atom
 pub call_front : (b : Option (List ℕ)) (k : ℕ) (w : List ℕ) (x y z : List Token) (a e : Syntax) → x ≡ Head w ∷ y
-    → IsClosed b k y a z → e ≡ call b w a → AtomAt b k x e z
+    → IsSumInParens b k y a z → e ≡ call b w a → AtomAt b k x e z
 call_front b k w x y z a e is c says =
     record {
       made = CallAtom w c.made;
@@ -81,7 +82,7 @@ call_front b k w x y z a e is c says =
 
 -- an inverse at the front, up to its `)`, is an atom
 pub inverse_front : (b : Option (List ℕ)) (k : ℕ) (w : List ℕ) (x y z : List Token) (a e : Syntax)
-    → x ≡ Tilde ∷ Head w ∷ y → IsClosed b k y a z → e ≡ tree.Inverse w a → AtomAt b k x e z
+    → x ≡ Tilde ∷ Head w ∷ y → IsSumInParens b k y a z → e ≡ tree.Inverse w a → AtomAt b k x e z
 inverse_front b k w x y z a e is c says =
     record {
       made = InverseAtom w c.made;
@@ -94,7 +95,7 @@ inverse_front b k w x y z a e is c says =
 
 -- a root at the front, up to its `)`, is an atom
 pub root_front : (b : Option (List ℕ)) (k : ℕ) (n : RootKind) (x y z : List Token) (a e : Syntax)
-    → x ≡ Root n ∷ Open ∷ y → IsClosed b k y a z → e ≡ tree.Root n a → AtomAt b k x e z
+    → x ≡ Root n ∷ Open ∷ y → IsSumInParens b k y a z → e ≡ tree.Root n a → AtomAt b k x e z
 root_front b k n x y z a e is c says =
     record {
       made = RootAtom n c.made;
@@ -106,7 +107,8 @@ root_front b k n x y z a e is c says =
     }
 
 -- a group at the front, up to its `)`, is an atom
-pub group_front : (b : Option (List ℕ)) (k : ℕ) (x y z : List Token) (a e : Syntax) → x ≡ Open ∷ y → IsClosed b k y a z
+pub group_front : (b : Option (List ℕ)) (k : ℕ) (x y z : List Token) (a e : Syntax) → x ≡ Open ∷ y
+    → IsSumInParens b k y a z
     → e ≡ tree.Group a → AtomAt b k x e z
 group_front b k x y z a e is c says =
     record {
@@ -150,24 +152,24 @@ exponent_front b k x y e p = record { made = ExponentOf p.made; is = p.is; says 
 
 -- an exponent with a sign in front is an exponent
 pub signed_exponent_front : (b : Option (List ℕ)) (k : ℕ) (s : Sign) (x y z : List Token) (a e : Syntax)
-    → x ≡ sign s ∷ y → ExponentAt b k y a z → e ≡ signed s a → ExponentAt b k x e z
+    → x ≡ sign_token s ∷ y → ExponentAt b k y a z → e ≡ signed_syntax s a → ExponentAt b k x e z
 signed_exponent_front b k s x y z a e is q says =
     record {
       made = SignedExponent s q.made;
-      is = is ∙ ap (λ v. sign s ∷ v) q.is;
-      says = says ∙ ap (signed s) q.says;
+      is = is ∙ ap (λ v. sign_token s ∷ v) q.is;
+      says = says ∙ ap (signed_syntax s) q.says;
       stop = q.stop;
       fit = q.fit;
     }
 
 -- a juxtaposition with a sign in front is a juxtaposition
-pub signed_front : (b : Option (List ℕ)) (k : ℕ) (s : Sign) (x y z : List Token) (a e : Syntax) → x ≡ sign s ∷ y
-    → JuxtapositionAt b k y a z → e ≡ signed s a → JuxtapositionAt b k x e z
+pub signed_front : (b : Option (List ℕ)) (k : ℕ) (s : Sign) (x y z : List Token) (a e : Syntax) → x ≡ sign_token s ∷ y
+    → JuxtapositionAt b k y a z → e ≡ signed_syntax s a → JuxtapositionAt b k x e z
 signed_front b k s x y z a e is q says =
     record {
       made = Signed s q.made;
-      is = is ∙ ap (λ v. sign s ∷ v) q.is;
-      says = says ∙ ap (signed s) q.says;
+      is = is ∙ ap (λ v. sign_token s ∷ v) q.is;
+      says = says ∙ ap (signed_syntax s) q.says;
       stop =
           q.stop;
       fit = q.fit;
@@ -176,21 +178,22 @@ signed_front b k s x y z a e is q says =
 -- the state after each first token
 
 -- after a sign an operand is wanted
-pub sign_wants : (k : ℕ) (s : Sign) (x y : List Token) → x ≡ sign s ∷ y → fits WantsOperand k x ≡ true
-    → fits WantsOperand k y ≡ true
+pub sign_wants : (k : ℕ) (s : Sign) (x y : List Token) → x ≡ sign_token s ∷ y → tokens_fit WantsOperand k x ≡ true
+    → tokens_fit WantsOperand k y ≡ true
 sign_wants k s x y is h = go s (fit_as k x _ is h)
   where
-    go : (s : Sign) → fits WantsOperand k (sign s ∷ y) ≡ true → fits WantsOperand k y ≡ true
+    go : (s : Sign) → tokens_fit WantsOperand k (sign_token s ∷ y) ≡ true → tokens_fit WantsOperand k y ≡ true
     go signs.Plus f = f
     go signs.Minus f = f
 
 -- after a `^` an operand is wanted
-pub caret_wants : (k : ℕ) (x y : List Token) → x ≡ Caret ∷ y → fits EndsOperand k x ≡ true
-    → fits WantsOperand k y ≡ true
-caret_wants k x y is h = subst (λ z. fits EndsOperand k z ≡ true) is h
+pub caret_wants : (k : ℕ) (x y : List Token) → x ≡ Caret ∷ y → tokens_fit EndsOperand k x ≡ true
+    → tokens_fit WantsOperand k y ≡ true
+caret_wants k x y is h = subst (λ z. tokens_fit EndsOperand k z ≡ true) is h
 
 -- if an operand is wanted and the first token is not a sign, that token begins an operand
-pub no_sign_begins : (k : ℕ) (x : List Token) → fits WantsOperand k x ≡ true → first_sign x ≡ None → begins x ≡ true
+pub no_sign_begins : (k : ℕ) (x : List Token) → tokens_fit WantsOperand k x ≡ true → first_sign x ≡ None
+    → can_begin_operand x ≡ true
 no_sign_begins k [] h n = cc
 no_sign_begins k (Plus ∷ x) h n = cc
 no_sign_begins k (Minus ∷ x) h n = cc
@@ -203,6 +206,6 @@ no_sign_begins k (t ∷ x) h n = refl
 
 -- a sum followed by its `)` is closed
 pub closed_front : (b : Option (List ℕ)) (k : ℕ) (x y z : List Token) (e : Syntax)
-    → IsFront sum (sum_tree b) after_sum (suc k) x e y → y ≡ Close ∷ z → fits EndsOperand k z ≡ true
-    → IsClosed b k x e z
+    → IsFront sum (sum_tree b) after_sum (suc k) x e y → y ≡ Close ∷ z → tokens_fit EndsOperand k z ≡ true
+    → IsSumInParens b k x e z
 closed_front b k x y z e p is f = record { made = p.made; is = p.is ∙ ap (sum p.made) is; says = p.says; fit = f }

@@ -1,7 +1,7 @@
 -- Tokens give at most one tree.
 use Rattle.std.proofs.Common.{◌≡◌, ◌∙◌, sym, Some}
 use Rattle.expr_tree.specs.Grammar.{OneTreeLaw}
-use Rattle.expr_tree.proofs.Found.{tree_of_law}
+use Rattle.expr_tree.proofs.DerivationSearch.{tree_of_law}
 
 -- the law that tokens give at most one tree
 pub one_tree : OneTreeLaw

@@ -2,14 +2,14 @@
 use Rattle.std.proofs.Common.{◌≡◌, ◌↔◌, ℕ, List, length, Option, Some, None, Ok, Err, refl, sym, ◌∙◌, ap}
 use Rattle.expr_tree.specs.declared.fault.ParseFault.{ParseFault}
 use Rattle.expr_tree.specs.Faults.{first_fault}
-use Rattle.expr_tree.specs.Grammar.{Gives}
+use Rattle.expr_tree.specs.Grammar.{GivesTree}
 use Rattle.expr_tree.specs.Lexemes.{tokens}
-use Rattle.expr_tree.specs.Parsed.{fault_or_tree, parsed, ParsedLaw}
-use Rattle.expr_tree.specs.Reading.{tree_of}
+use Rattle.expr_tree.specs.ParseResult.{fault_or_tree, parse_of, ParsedLaw}
+use Rattle.expr_tree.specs.TokenReading.{tree_of}
 use Rattle.expr_tree.specs.Syntax.{Syntax}
-use Rattle.expr_tree.proofs.Derived.{given}
+use Rattle.expr_tree.proofs.Derivations.{given}
 use Rattle.expr_tree.proofs.Faultless.{faultless_fits}
-use Rattle.expr_tree.proofs.Found.{tree_of_law}
+use Rattle.expr_tree.proofs.DerivationSearch.{tree_of_law}
 
 -- the result is a tree exactly if there is no fault and the tree is read
 tree_of_parts : (len : ℕ) (o : Option ParseFault) (t : Option Syntax) (e : Syntax)
@@ -34,16 +34,16 @@ fault_of_parts len None None x some = (λ h. absurd (some refl refl), λ h. cc)
 has_tree : (binder : Option (List ℕ)) (text : List ℕ) → first_fault text ≡ None → tree_of binder (tokens text) ≡ None
     → ⊥
 has_tree binder text h none =
-    let x : (e : Syntax) × Gives binder (tokens text) e = given binder (tokens text) (faultless_fits text h) in
+    let x : (e : Syntax) × GivesTree binder (tokens text) e = given binder (tokens text) (faultless_fits text h) in
     let some : tree_of binder (tokens text) ≡ Some x.0 = (tree_of_law binder (tokens text) x.0).1 x.1 in
     let no : None ≡ Some x.0 = sym none ∙ some in cc
 
 -- a text is parsed to a tree exactly if it has no fault and its tokens give the tree
 parsed_tree : (binder : Option (List ℕ)) (text : List ℕ) (e : Syntax)
-    → (parsed binder text ≡ Ok e) ↔ ((first_fault text ≡ None) × Gives binder (tokens text) e)
-unfolding parsed
+    → (parse_of binder text ≡ Ok e) ↔ ((first_fault text ≡ None) × GivesTree binder (tokens text) e)
+unfolding parse_of
 parsed_tree binder text e =
-    let p : (parsed binder text ≡ Ok e) ↔ ((first_fault text ≡ None) × (tree_of binder (tokens text) ≡ Some e)) =
+    let p : (parse_of binder text ≡ Ok e) ↔ ((first_fault text ≡ None) × (tree_of binder (tokens text) ≡ Some e)) =
     tree_of_parts (length text) (first_fault text) (tree_of binder (tokens text)) e in (
       λ h. ((p.0 h).0, (tree_of_law binder (tokens text) e).0 (p.0 h).1),
       λ h. p.1 (h.0, (tree_of_law binder (tokens text) e).1 h.1),
@@ -51,8 +51,8 @@ parsed_tree binder text e =
 
 -- a text is parsed to a fault exactly if that is its first one
 parsed_fault : (binder : Option (List ℕ)) (text : List ℕ) (x : ParseFault)
-    → (parsed binder text ≡ Err x) ↔ (first_fault text ≡ Some x)
-unfolding parsed
+    → (parse_of binder text ≡ Err x) ↔ (first_fault text ≡ Some x)
+unfolding parse_of
 parsed_fault binder text x =
     fault_of_parts (length text) (first_fault text) (tree_of binder (tokens text)) x (has_tree binder text)
 
@@ -62,10 +62,10 @@ parsed_law binder text = (parsed_tree binder text, parsed_fault binder text)
 
 -- a text without a fault is parsed to the tree of its tokens
 pub parsed_to : (binder : Option (List ℕ)) (text : List ℕ) (e : Syntax) → first_fault text ≡ None
-    → tree_of binder (tokens text) ≡ Some e → parsed binder text ≡ Ok e
+    → tree_of binder (tokens text) ≡ Some e → parse_of binder text ≡ Ok e
 parsed_to binder text e h t = (parsed_tree binder text e).1 (h, (tree_of_law binder (tokens text) e).0 t)
 
 -- a text with a fault is parsed to its first fault
 pub refused_by : (binder : Option (List ℕ)) (text : List ℕ) (x : ParseFault) → first_fault text ≡ Some x
-    → parsed binder text ≡ Err x
+    → parse_of binder text ≡ Err x
 refused_by binder text x h = (parsed_fault binder text x).1 h

@@ -1,7 +1,7 @@
 -- Rules of the grammar that read one part after another: the parts that were read come before those that follow.
 use Rattle.std.proofs.Common.{◌≡◌, ℕ, Bool, true, false, List, [], ◌∷◌, ◌++◌, refl, sym, ◌∙◌, ap}
 use Rattle.expr_tree.specs.Front.{IsFront, stops}
-use Rattle.expr_tree.specs.Rules.{EndsOperand, fits}
+use Rattle.expr_tree.specs.Rules.{EndsOperand, tokens_fit}
 use Rattle.expr_tree.specs.Syntax.{Syntax}
 use Rattle.expr_tree.specs.Tokens.{Token}
 
@@ -46,7 +46,7 @@ pub record AreRead {P R A L : Type 0} (rule : PartRule P R A L) (k : ℕ) (x y :
   pub are : read ≡ rule.head (rule.says first) ∷ more
   pub two : rule.ends y ≡ true → some more ≡ true
   pub stop : stops rule.follow y ≡ true
-  pub fit : fits EndsOperand k y ≡ true
+  pub fit : tokens_fit EndsOperand k y ≡ true
   pub so_far : (q : R) (others : List Token) → y ≡ rule.rest q others
       → (p : R) × (x ≡ rule.part first (rule.rest p others)) × (before rule.cons more (rule.list q) ≡ rule.list p)
 

@@ -3,8 +3,8 @@ use Rattle.std.proofs.Common.{◌≡◌, ◌↔◌, ℕ, zero, suc, ◌+◌, ◌
 use Rattle.std.proofs.Common.{arith, ltb-true}
 use Rattle.std.specs.Prelude.{slice_get}
 use Rattle.expr_tree.specs.Rules.{After, WantsOperand, WantsHead, WantsOpen, WantsNumeral, EndsNumeral, EndsOperand}
-use Rattle.expr_tree.specs.Rules.{may, may_end, fits, after, opened_after}
-use Rattle.expr_tree.specs.Rules.{left_by, count_opens, count_closes, opened, MayStand, MayEnd}
+use Rattle.expr_tree.specs.Rules.{may, may_end_tokens, tokens_fit, after, opened_after}
+use Rattle.expr_tree.specs.Rules.{left_by, count_opens, count_closes, open_parens, MayStand, TokensMayEnd}
 use Rattle.expr_tree.specs.Tokens.{Token, Close}
 use Rattle.expr_tree.proofs.Fits.{both, both_hold}
 
@@ -34,20 +34,21 @@ Stands last k ts = (i : ℕ) (t : Token) → slice_get ts i ≡ Some t
 
 -- the tokens may end
 abbrev Ends : After → ℕ → List Token → Type 0
-Ends last k ts = may_end (left_by last ts) (still_open k ts) ≡ true
+Ends last k ts = may_end_tokens (left_by last ts) (still_open k ts) ≡ true
 
 -- an empty list of tokens does not change the count
 none_more : (k : ℕ) → still_open k [] ≡ k
 none_more k = omega arith
 
 -- tokens that fit are allowed at their places and may end
-stands : (last : After) (k : ℕ) (ts : List Token) → fits last k ts ≡ true → Stands last k ts × Ends last k ts
-stands last k [] h = (λ i t g. cc, subst (λ n. may_end last n ≡ true) (sym (none_more k)) h)
+stands : (last : After) (k : ℕ) (ts : List Token) → tokens_fit last k ts ≡ true → Stands last k ts × Ends last k ts
+stands last k [] h = (λ i t g. cc, subst (λ n. may_end_tokens last n ≡ true) (sym (none_more k)) h)
 stands last k (u ∷ ts) h =
-    let e : (may last k u ≡ true) × (fits (after u last) (opened_after u k) ts ≡ true) = both (may last k u) _ h in
+    let e : (may last k u ≡ true) × (tokens_fit (after u last) (opened_after u k) ts ≡ true) =
+    both (may last k u) _ h in
     let r : Stands (after u last) (opened_after u k) ts × Ends (after u last) (opened_after u k) ts =
     stands (after u last) (opened_after u k) ts e.1 in
-    (at e.0 r.0, subst (λ n. may_end (left_by (after u last) ts) n ≡ true) (one_more last k u ts e.0) r.1)
+    (at e.0 r.0, subst (λ n. may_end_tokens (left_by (after u last) ts) n ≡ true) (one_more last k u ts e.0) r.1)
   where
     at : may last k u ≡ true → Stands (after u last) (opened_after u k) ts → Stands last k (u ∷ ts)
     at m s zero t g =
@@ -57,29 +58,30 @@ stands last k (u ∷ ts) h =
         subst (λ n. may (left_by (after u last) (take i ts)) n t ≡ true) (one_more last k u (take i ts) m) (s i t g)
 
 -- tokens that are allowed at their places and may end, fit
-fits_from : (last : After) (k : ℕ) (ts : List Token) → Stands last k ts → Ends last k ts → fits last k ts ≡ true
-fits_from last k [] s e = subst (λ n. may_end last n ≡ true) (none_more k) e
+fits_from : (last : After) (k : ℕ) (ts : List Token) → Stands last k ts → Ends last k ts → tokens_fit last k ts ≡ true
+fits_from last k [] s e = subst (λ n. may_end_tokens last n ≡ true) (none_more k) e
 fits_from last k (u ∷ ts) s e =
     let m : may last k u ≡ true = subst (λ n. may last n u ≡ true) (none_more k) (s 0 u refl) in
     both_hold (may last k u) _ m
     (fits_from (after u last) (opened_after u k) ts
     (λ i t g. subst (λ n. may (left_by (after u last) (take i ts)) n t ≡ true) (sym (one_more last k u (take i ts) m))
     (s (suc i) t g))
-    (subst (λ n. may_end (left_by (after u last) ts) n ≡ true) (sym (one_more last k u ts m)) e))
+    (subst (λ n. may_end_tokens (left_by (after u last) ts) n ≡ true) (sym (one_more last k u ts m)) e))
 
 -- the number of open parentheses after tokens, if none was open before them
-none_before : (ts : List Token) → still_open 0 ts ≡ opened ts
+none_before : (ts : List Token) → still_open 0 ts ≡ open_parens ts
 none_before ts = omega arith
 
 -- tokens fit exactly if they satisfy the plain rules
-pub fits_exactly : (ts : List Token) → (fits WantsOperand 0 ts ≡ true) ↔ (((i : ℕ) → MayStand ts i) × MayEnd ts)
+pub fits_exactly : (ts : List Token) → (tokens_fit WantsOperand 0 ts ≡ true) ↔
+    (((i : ℕ) → MayStand ts i) × TokensMayEnd ts)
 fits_exactly ts = (
   λ h. let r : Stands WantsOperand 0 ts × Ends WantsOperand 0 ts = stands WantsOperand 0 ts h in (
     λ i t g. subst (λ n. may (left_by WantsOperand (take i ts)) n t ≡ true) (none_before (take i ts)) (r.0 i t g),
-    subst (λ n. may_end (left_by WantsOperand ts) n ≡ true) (none_before ts) r.1,
+    subst (λ n. may_end_tokens (left_by WantsOperand ts) n ≡ true) (none_before ts) r.1,
   ),
   λ m. fits_from WantsOperand 0 ts
       (λ i t g. subst (λ n. may (left_by WantsOperand (take i ts)) n t ≡ true) (sym (none_before (take i ts)))
       (m.0 i t g))
-      (subst (λ n. may_end (left_by WantsOperand ts) n ≡ true) (sym (none_before ts)) m.1),
+      (subst (λ n. may_end_tokens (left_by WantsOperand ts) n ≡ true) (sym (none_before ts)) m.1),
 )

@@ -4,7 +4,7 @@ use Rattle.std.proofs.lemmas.List.{append-nil, drop_more, map-append, take_all, 
 use Rattle.expr_tree.specs.declared.operator.Scale.{Scale}
 use Rattle.expr_tree.specs.declared.operator.Sign.{Sign}
 use Rattle.expr_tree.specs.declared.tree.Tree.{Tree}
-use Rattle.expr_tree.specs.Trees.{factor, factors, members, syntax, term, terms}
+use Rattle.expr_tree.specs.Trees.{factor_syntax, factors_syntax, members, syntax, term, terms}
 use Rattle.expr_tree.specs.Words.{words_in, words_in_factors, words_in_members, words_in_terms}
 use Rattle.expr_tree.proofs.Views.{views}
 
@@ -18,9 +18,9 @@ member_words_at ts i d h = ap (λ xs. words_in_members (members (map syntax xs))
 
 -- the words of the factors from a place on are those of the one there and of those after it
 pub factor_words_at : (fs : List (Scale × Tree)) (i : ℕ) (d : Scale × Tree) → i < length fs
-    → words_in_factors (factors (map factor (drop i fs))) ≡ words_in (syntax (get_or fs i d).1)
-    ++ words_in_factors (factors (map factor (drop (i + 1) fs)))
-factor_words_at fs i d h = ap (λ xs. words_in_factors (factors (map factor xs))) (drop_more fs i d h)
+    → words_in_factors (factors_syntax (map factor_syntax (drop i fs))) ≡ words_in (syntax (get_or fs i d).1)
+    ++ words_in_factors (factors_syntax (map factor_syntax (drop (i + 1) fs)))
+factor_words_at fs i d h = ap (λ xs. words_in_factors (factors_syntax (map factor_syntax xs))) (drop_more fs i d h)
 
 -- the words of the terms from a place on are those of the one there and of those after it
 pub term_words_at : (ts : List (Sign × Tree)) (i : ℕ) (d : Sign × Tree) → i < length ts
@@ -43,10 +43,17 @@ trees-push ts i d c cs h e f =
 
 -- the copies of the factors before a place, extended by a copy of the factor there
 pub factors-push : (fs : List (Scale × Tree)) (i : ℕ) (d c : Scale × Tree) (cs : List (Scale × Tree)) → i < length fs
-    → map factor cs ≡ map factor (take i fs) → factor c ≡ factor (get_or fs i d)
-    → map factor (cs ++ c ∷ []) ≡ map factor (take (i + 1) fs)
+    → map factor_syntax cs ≡ map factor_syntax (take i fs) → factor_syntax c ≡ factor_syntax (get_or fs i d)
+    → map factor_syntax (cs ++ c ∷ []) ≡ map factor_syntax (take (i + 1) fs)
 factors-push fs i d c cs h e f =
-    rw (map-append factor cs (c ∷ []), e, f, take_more fs i d h, map-append factor (take i fs) (get_or fs i d ∷ []))
+    rw (
+      map-append factor_syntax cs (c ∷ []),
+      e,
+      f,
+      take_more fs i d h,
+      map-append factor_syntax (take i fs)
+          (get_or fs i d ∷ []),
+    )
 
 -- the copies of the terms before a place, extended by a copy of the term there
 pub terms-push : (ts : List (Sign × Tree)) (i : ℕ) (d c : Sign × Tree) (cs : List (Sign × Tree)) → i < length ts

@@ -10,23 +10,24 @@ use Rattle.expr_tree.specs.declared.operator.Sign.{Sign}
 use Rattle.expr_tree.specs.declared.operator.Sign.TheVariants as signs
 use Rattle.expr_tree.specs.declared.token.Token.{Token as Made}
 use Rattle.expr_tree.specs.declared.token.Token.TheVariants as made
-use Rattle.expr_tree.specs.Front.{tokens_from, first_sign, first_scale, first_caret, first_denominator, stops, begins}
+use Rattle.expr_tree.specs.Front.{tokens_from, first_sign, first_scale, first_caret, first_denominator, stops}
+use Rattle.expr_tree.specs.Front.{can_begin_operand}
 use Rattle.expr_tree.specs.Front.{after_sum}
-use Rattle.expr_tree.specs.Grammar.{sign, scale}
-use Rattle.expr_tree.specs.Rules.{WantsHead, WantsOpen, WantsOperand, EndsOperand, fits}
+use Rattle.expr_tree.specs.Grammar.{sign_token, scale_token}
+use Rattle.expr_tree.specs.Rules.{WantsHead, WantsOpen, WantsOperand, EndsOperand, tokens_fit}
 use Rattle.frac128.specs.Decimals.{Decimal}
-use Rattle.expr_tree.specs.Seen.{seen}
+use Rattle.expr_tree.specs.TokenViews.{token_view}
 use Rattle.expr_tree.specs.Tokens.{Token, Numeral, Root, Plus, Minus, Star, Slash, Bar, Caret, Open, Close}
 use Rattle.expr_tree.proofs.Fits.{closing}
 
 -- the tokens from a place on begin with the one there
 pub here : (ts : List Made) (at : ℕ) (d : Made) → at < length ts
-    → tokens_from ts at ≡ seen (get_or ts at d) ∷ tokens_from ts (at + 1)
-here ts at d l = ap (map seen) (drop_more ts at d l)
+    → tokens_from ts at ≡ token_view (get_or ts at d) ∷ tokens_from ts (at + 1)
+here ts at d l = ap (map token_view) (drop_more ts at d l)
 
 -- past the last token there are none
 pub past : (ts : List Made) (at : ℕ) → length ts ≤ at → tokens_from ts at ≡ []
-past ts at h = ap (map seen) (drop_of_length-le ts h)
+past ts at h = ap (map token_view) (drop_of_length-le ts h)
 
 -- there is no token at the place, or there is one
 data Ahead (ts : List Made) (at : ℕ) : Type 0 where
@@ -39,7 +40,7 @@ ahead ts at = go (nat_lt at (length ts)) refl
   where
     go : (b : Bool) → nat_lt at (length ts) ≡ b → Ahead ts at
     go true e = let l : at < length ts =
-        ltb-true at (length ts) e in something l (seen (get_or ts at made.Plus)) (here ts at made.Plus l)
+        ltb-true at (length ts) e in something l (token_view (get_or ts at made.Plus)) (here ts at made.Plus l)
     go false e = nothing (past ts at (ltb-false at (length ts) e))
 
 -- this token is at the place
@@ -48,24 +49,25 @@ pub record Standing (ts : List Made) (at : ℕ) (t : Token) : Type 0 where
   pub is : tokens_from ts at ≡ t ∷ tokens_from ts (at + 1)
 
 -- if an operand is wanted, there is a token
-pub wanted : (ts : List Made) (at k : ℕ) → fits WantsOperand k (tokens_from ts at) ≡ true → at < length ts
+pub wanted : (ts : List Made) (at k : ℕ) → tokens_fit WantsOperand k (tokens_from ts at) ≡ true → at < length ts
 wanted ts at k h = go (ahead ts at)
   where
     go : Ahead ts at → at < length ts
-    go (nothing e) = let f : fits WantsOperand k [] ≡ true = subst (λ y. fits WantsOperand k y ≡ true) e h in cc
+    go (nothing e) = let f : tokens_fit WantsOperand k [] ≡ true = subst (λ y. tokens_fit WantsOperand k y ≡ true) e h
+        in cc
     go (something l t e) = l
 
 -- a sign that is the first token is at the place
 pub sign_stands : (ts : List Made) (at : ℕ) (s : Sign) → first_sign (tokens_from ts at) ≡ Some s
-    → Standing ts at (sign s)
+    → Standing ts at (sign_token s)
 sign_stands ts at s h = go (ahead ts at)
   where
-    one : (t : Token) (others : List Token) → first_sign (t ∷ others) ≡ Some s → t ≡ sign s
-    one Plus others e = let f : signs.Plus ≡ s = cc in ap sign f
-    one Minus others e = let f : signs.Minus ≡ s = cc in ap sign f
+    one : (t : Token) (others : List Token) → first_sign (t ∷ others) ≡ Some s → t ≡ sign_token s
+    one Plus others e = let f : signs.Plus ≡ s = cc in ap sign_token f
+    one Minus others e = let f : signs.Minus ≡ s = cc in ap sign_token f
     one t others e = cc
 
-    go : Ahead ts at → Standing ts at (sign s)
+    go : Ahead ts at → Standing ts at (sign_token s)
     go (nothing e) = let f : first_sign [] ≡ Some s = sym (ap first_sign e) ∙ h in cc
     go (something l t e) =
         record {
@@ -76,15 +78,15 @@ sign_stands ts at s h = go (ahead ts at)
 
 -- a `*` or `/` that is the first token is at the place
 pub scale_stands : (ts : List Made) (at : ℕ) (s : Scale) → first_scale (tokens_from ts at) ≡ Some s
-    → Standing ts at (scale s)
+    → Standing ts at (scale_token s)
 scale_stands ts at s h = go (ahead ts at)
   where
-    one : (t : Token) (others : List Token) → first_scale (t ∷ others) ≡ Some s → t ≡ scale s
-    one Star others e = let f : Multiply ≡ s = cc in ap scale f
-    one Slash others e = let f : Divide ≡ s = cc in ap scale f
+    one : (t : Token) (others : List Token) → first_scale (t ∷ others) ≡ Some s → t ≡ scale_token s
+    one Star others e = let f : Multiply ≡ s = cc in ap scale_token f
+    one Slash others e = let f : Divide ≡ s = cc in ap scale_token f
     one t others e = cc
 
-    go : Ahead ts at → Standing ts at (scale s)
+    go : Ahead ts at → Standing ts at (scale_token s)
     go (nothing e) = let f : first_scale [] ≡ Some s = sym (ap first_scale e) ∙ h in cc
     go (something l t e) =
         record {
@@ -112,56 +114,56 @@ caret_stands ts at h = go (ahead ts at)
 
 -- after a sum inside parentheses, its `)` is at the place
 pub close_stands : (ts : List Made) (at k : ℕ) → stops after_sum (tokens_from ts at) ≡ true
-    → fits EndsOperand (suc k) (tokens_from ts at) ≡ true
-    → Standing ts at Close × (fits EndsOperand k (tokens_from ts (at + 1)) ≡ true)
+    → tokens_fit EndsOperand (suc k) (tokens_from ts at) ≡ true
+    → Standing ts at Close × (tokens_fit EndsOperand k (tokens_from ts (at + 1)) ≡ true)
 close_stands ts at k s f = go (ahead ts at) (closing k (tokens_from ts at) s f)
   where
-    go : Ahead ts at → (r : List Token) × (tokens_from ts at ≡ Close ∷ r) × (fits EndsOperand k r ≡ true)
-        → Standing ts at Close × (fits EndsOperand k (tokens_from ts (at + 1)) ≡ true)
+    go : Ahead ts at → (r : List Token) × (tokens_from ts at ≡ Close ∷ r) × (tokens_fit EndsOperand k r ≡ true)
+        → Standing ts at Close × (tokens_fit EndsOperand k (tokens_from ts (at + 1)) ≡ true)
     go (nothing e) c = let f : [] ≡ Close ∷ c.0 = sym e ∙ c.1 in cc
     go (something l t e) c =
         let both : t ∷ tokens_from ts (at + 1) ≡ Close ∷ c.0 = sym e ∙ c.1 in
         let first : t ≡ Close = cc in
         let others : c.0 ≡ tokens_from ts (at + 1) = cc in (
           record { within = l; is = e ∙ ap (λ (x : Token). x ∷ tokens_from ts (at + 1)) first },
-          subst (λ y. fits EndsOperand k y ≡ true) others c.2,
+          subst (λ y. tokens_fit EndsOperand k y ≡ true) others c.2,
         )
 
 -- the token that the program reads is at the place
 pub stands_as : (ts : List Made) (at : ℕ) (d m : Made) → at < length ts → get_or ts at d ≡ m
-    → tokens_from ts at ≡ seen m ∷ tokens_from ts (at + 1)
-stands_as ts at d m l is = here ts at d l ∙ ap (λ (t : Made). seen t ∷ tokens_from ts (at + 1)) is
+    → tokens_from ts at ≡ token_view m ∷ tokens_from ts (at + 1)
+stands_as ts at d m l is = here ts at d l ∙ ap (λ (t : Made). token_view t ∷ tokens_from ts (at + 1)) is
 
 -- if an operand begins, there is a token
-pub begun : (ts : List Made) (at : ℕ) → begins (tokens_from ts at) ≡ true → at < length ts
+pub begun : (ts : List Made) (at : ℕ) → can_begin_operand (tokens_from ts at) ≡ true → at < length ts
 begun ts at h = go (ahead ts at)
   where
     go : Ahead ts at → at < length ts
-    go (nothing e) = let f : begins [] ≡ true = sym (ap begins e) ∙ h in cc
+    go (nothing e) = let f : can_begin_operand [] ≡ true = sym (ap can_begin_operand e) ∙ h in cc
     go (something l t e) = l
 
 -- if a head is wanted, there is a token
-pub head_wanted : (ts : List Made) (at k : ℕ) → fits WantsHead k (tokens_from ts at) ≡ true → at < length ts
+pub head_wanted : (ts : List Made) (at k : ℕ) → tokens_fit WantsHead k (tokens_from ts at) ≡ true → at < length ts
 head_wanted ts at k h = go (ahead ts at)
   where
     go : Ahead ts at → at < length ts
-    go (nothing e) = let f : fits WantsHead k [] ≡ true = subst (λ y. fits WantsHead k y ≡ true) e h in cc
+    go (nothing e) = let f : tokens_fit WantsHead k [] ≡ true = subst (λ y. tokens_fit WantsHead k y ≡ true) e h in cc
     go (something l t e) = l
 
 -- if a `(` is wanted, it is at the place
-pub open_stands : (ts : List Made) (at k : ℕ) → fits WantsOpen k (tokens_from ts at) ≡ true
-    → Standing ts at Open × (fits WantsOperand (suc k) (tokens_from ts (at + 1)) ≡ true)
+pub open_stands : (ts : List Made) (at k : ℕ) → tokens_fit WantsOpen k (tokens_from ts at) ≡ true
+    → Standing ts at Open × (tokens_fit WantsOperand (suc k) (tokens_from ts (at + 1)) ≡ true)
 open_stands ts at k h = go (ahead ts at)
   where
     one : (t : Token) → tokens_from ts at ≡ t ∷ tokens_from ts (at + 1) → at < length ts
-        → fits WantsOpen k (t ∷ tokens_from ts (at + 1)) ≡ true
-        → Standing ts at Open × (fits WantsOperand (suc k) (tokens_from ts (at + 1)) ≡ true)
+        → tokens_fit WantsOpen k (t ∷ tokens_from ts (at + 1)) ≡ true
+        → Standing ts at Open × (tokens_fit WantsOperand (suc k) (tokens_from ts (at + 1)) ≡ true)
     one Open e l f = (record { within = l; is = e }, f)
     one t e l f = cc
 
-    go : Ahead ts at → Standing ts at Open × (fits WantsOperand (suc k) (tokens_from ts (at + 1)) ≡ true)
-    go (nothing e) = let f : fits WantsOpen k [] ≡ true = subst (λ y. fits WantsOpen k y ≡ true) e h in cc
-    go (something l t e) = one t e l (subst (λ y. fits WantsOpen k y ≡ true) e h)
+    go : Ahead ts at → Standing ts at Open × (tokens_fit WantsOperand (suc k) (tokens_from ts (at + 1)) ≡ true)
+    go (nothing e) = let f : tokens_fit WantsOpen k [] ≡ true = subst (λ y. tokens_fit WantsOpen k y ≡ true) e h in cc
+    go (something l t e) = one t e l (subst (λ y. tokens_fit WantsOpen k y ≡ true) e h)
 
 -- if a numeral follows after a `|`, both are at their places
 pub denominator_stands : (ts : List Made) (at : ℕ) (n : Decimal) → first_denominator (tokens_from ts at) ≡ Some n
@@ -200,25 +202,26 @@ denominator_stands ts at n h = first (ahead ts at)
 pub record Rooted (ts : List Made) (at k : ℕ) (n : RootKind) : Type 0 where
   pub within : at + 2 ≤ length ts
   pub is : tokens_from ts at ≡ Root n ∷ Open ∷ tokens_from ts (at + 2)
-  pub fit : fits WantsOperand (k + 1) (tokens_from ts (at + 2)) ≡ true
+  pub fit : tokens_fit WantsOperand (k + 1) (tokens_from ts (at + 2)) ≡ true
 
 -- the keyword of a root is followed by its `(`
 pub rooted : (ts : List Made) (at k : ℕ) (n : RootKind) (d : Made) → at < length ts → get_or ts at d ≡ made.Root n
-    → fits WantsOperand k (tokens_from ts at) ≡ true → Rooted ts at k n
-rooted ts at k n d l is h = go (open_stands ts (at + 1) k (subst (λ y. fits WantsOperand k y ≡ true) root h))
+    → tokens_fit WantsOperand k (tokens_from ts at) ≡ true → Rooted ts at k n
+rooted ts at k n d l is h = go (open_stands ts (at + 1) k (subst (λ y. tokens_fit WantsOperand k y ≡ true) root h))
   where
     root : tokens_from ts at ≡ Root n ∷ tokens_from ts (at + 1)
     root = stands_as ts at d (made.Root n) l is
 
-    go : Standing ts (at + 1) Open × (fits WantsOperand (suc k) (tokens_from ts (at + 1 + 1)) ≡ true) → Rooted ts at k n
+    go : Standing ts (at + 1) Open × (tokens_fit WantsOperand (suc k) (tokens_from ts (at + 1 + 1)) ≡ true)
+        → Rooted ts at k n
     go o =
         let next : at + 1 + 1 ≡ at + 2 = omega arith in
         let more : suc k ≡ k + 1 = omega arith in
         record {
           within = omega (arith, o.0.within);
           is = root ∙ ap (λ y. Root n ∷ y) (o.0.is ∙ ap (λ i. Open ∷ tokens_from ts i) next);
-          fit = subst (λ i. fits WantsOperand i (tokens_from ts (at + 2)) ≡ true) more
-              (subst (λ i. fits WantsOperand (suc k) (tokens_from ts i) ≡ true) next o.1);
+          fit = subst (λ i. tokens_fit WantsOperand i (tokens_from ts (at + 2)) ≡ true) more
+              (subst (λ i. tokens_fit WantsOperand (suc k) (tokens_from ts i) ≡ true) next o.1);
         }
 
 -- two numerals with a `|` between them are at the place

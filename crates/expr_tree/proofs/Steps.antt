@@ -5,20 +5,23 @@ use Rattle.expr_tree.specs.declared.operator.Scale.{Scale}
 use Rattle.expr_tree.specs.declared.operator.Scale.TheVariants.{Multiply, Divide}
 use Rattle.expr_tree.specs.declared.operator.Sign.{Sign}
 use Rattle.expr_tree.specs.declared.operator.Sign.TheVariants as signs
-use Rattle.expr_tree.specs.Front.{JuxtapositionAt, PowerAt, ProductAt, SumAt, begins, first_scale, first_sign, stops}
+use Rattle.expr_tree.specs.Front.{JuxtapositionAt, PowerAt, ProductAt, SumAt, can_begin_operand, first_scale}
+use Rattle.expr_tree.specs.Front.{first_sign, stops}
 use Rattle.expr_tree.specs.Front.{after_juxtaposition, after_power, after_product, after_sum}
-use Rattle.expr_tree.specs.Grammar.{SumOf, SumRest, NoTerm, NextTerm, sign, sum_rest, summed}
-use Rattle.expr_tree.specs.Grammar.{Product, ProductOf, ProductRest, NoFactor, NextFactor, scale, product, product_rest}
-use Rattle.expr_tree.specs.Grammar.{product_tree, multiplied}
-use Rattle.expr_tree.specs.Grammar.{Juxtaposition, JuxtapositionOf, JuxtapositionRest, NoPower, NextPower, juxtaposed}
+use Rattle.expr_tree.specs.Grammar.{SumOf, SumRest, NoTerm, NextTerm, sign_token, sum_rest, sum_syntax}
+use Rattle.expr_tree.specs.Grammar.{Product, ProductOf, ProductRest, NoFactor, NextFactor, scale_token, product}
+use Rattle.expr_tree.specs.Grammar.{product_rest}
+use Rattle.expr_tree.specs.Grammar.{product_tree, product_syntax}
+use Rattle.expr_tree.specs.Grammar.{Juxtaposition, JuxtapositionOf, JuxtapositionRest, NoPower, NextPower}
+use Rattle.expr_tree.specs.Grammar.{juxtaposition_syntax}
 use Rattle.expr_tree.specs.Grammar.{juxtaposition, juxtaposition_rest, juxtaposition_tree}
 use Rattle.expr_tree.specs.Grammar.{Power, power, power_tree}
-use Rattle.expr_tree.specs.Grammar.{terms as terms_of_rest, factors as factors_of_rest, members as members_of_rest}
-use Rattle.expr_tree.specs.Rules.{WantsOperand, EndsOperand, fits}
+use Rattle.expr_tree.specs.Grammar.{terms as terms_of_rest, members as members_of_rest, rest_factors as factors_of_rest}
+use Rattle.expr_tree.specs.Rules.{WantsOperand, EndsOperand, tokens_fit}
 use Rattle.expr_tree.specs.Syntax.{Syntax, Members, Factors, Terms}
 use Rattle.expr_tree.specs.Syntax as tree
 use Rattle.expr_tree.specs.Tokens.{Token, Plus, Minus, Star, Slash, Close}
-use Rattle.expr_tree.specs.Trees.{factors, members, terms}
+use Rattle.expr_tree.specs.Trees.{factors_syntax, members, terms}
 use Rattle.expr_tree.proofs.PartLists.{AreRead, PartRule, all_read, begun, gone_on}
 
 -- an option that passes `is_none` is `None`
@@ -68,9 +71,10 @@ terms_begun b k x y e read p n are = begun (sums b) k x y e read p (λ h. n (no_
 -- a product after a sign is the next term
 pub next_term : (b : Option (List ℕ)) (k : ℕ) (x y y' z : List Token) (s : Sign) (e : Syntax)
     (read read' : List (Sign × Syntax)) → TermsRead b k x y read
-    → y ≡ sign s ∷ y' → ProductAt b k y' e z → read' ≡ read ++ (s, e) ∷ [] → TermsRead b k x z read'
+    → y ≡ sign_token s ∷ y' → ProductAt b k y' e z → read' ≡ read ++ (s, e) ∷ [] → TermsRead b k x z read'
 next_term b k x y y' z s e read read' r is p are =
-    gone_on (sums b) k x y y' z e (s, e) read read' r p (NextTerm s p.made) (λ q others h. is ∙ ap (λ v. sign s ∷ v) h)
+    gone_on (sums b) k x y y' z e (s, e) read read' r p (NextTerm s p.made)
+    (λ q others h. is ∙ ap (λ v. sign_token s ∷ v) h)
     (λ q. ap (λ v. tree.Term s v (terms_of_rest b q)) p.says) are
 
 -- if no sign follows, the terms make a sum
@@ -78,16 +82,16 @@ pub all_terms : (b : Option (List ℕ)) (k : ℕ) (x y : List Token) (e : Syntax
     → TermsRead b k x y read
     → first_sign y ≡ None → e ≡ tree.Sum (terms read) → SumAt b k x e y
 all_terms b k x y e read r n says =
-    let all = all_read (sums b) terms tree.Sum summed k x y e read r (ap is_none n) NoTerm refl refl (λ t ts. refl)
+    let all = all_read (sums b) terms tree.Sum sum_syntax k x y e read r (ap is_none n) NoTerm refl refl (λ t ts. refl)
     (λ e t ts. refl) says in
     record { made = SumOf r.first all.0; is = all.1; says = all.2; stop = no_term y r.stop n; fit = r.fit }
 
 -- an operand is wanted after the sign of a term
-pub term_wants : (k : ℕ) (s : Sign) (x y : List Token) → x ≡ sign s ∷ y → fits EndsOperand k x ≡ true
-    → fits WantsOperand k y ≡ true
-term_wants k s x y is h = go s (subst (λ z. fits EndsOperand k z ≡ true) is h)
+pub term_wants : (k : ℕ) (s : Sign) (x y : List Token) → x ≡ sign_token s ∷ y → tokens_fit EndsOperand k x ≡ true
+    → tokens_fit WantsOperand k y ≡ true
+term_wants k s x y is h = go s (subst (λ z. tokens_fit EndsOperand k z ≡ true) is h)
   where
-    go : (s : Sign) → fits EndsOperand k (sign s ∷ y) ≡ true → fits WantsOperand k y ≡ true
+    go : (s : Sign) → tokens_fit EndsOperand k (sign_token s ∷ y) ≡ true → tokens_fit WantsOperand k y ≡ true
     go signs.Plus f = f
     go signs.Minus f = f
 
@@ -135,27 +139,28 @@ factors_begun b k x y e read p n are = begun (products b) k x y e read p (λ h. 
 -- a juxtaposition after a `*` or `/` is the next factor
 pub next_factor : (b : Option (List ℕ)) (k : ℕ) (x y y' z : List Token) (s : Scale) (e : Syntax)
     (read read' : List (Scale × Syntax)) → FactorsRead b k x y read
-    → y ≡ scale s ∷ y' → JuxtapositionAt b k y' e z → read' ≡ read ++ (s, e) ∷ [] → FactorsRead b k x z read'
+    → y ≡ scale_token s ∷ y' → JuxtapositionAt b k y' e z → read' ≡ read ++ (s, e) ∷ [] → FactorsRead b k x z read'
 next_factor b k x y y' z s e read read' r is p are =
     gone_on (products b) k x y y' z e (s, e) read read' r p (NextFactor s p.made)
-    (λ q others h. is ∙ ap (λ v. scale s ∷ v) h)
+    (λ q others h. is ∙ ap (λ v. scale_token s ∷ v) h)
     (λ q. ap (λ v. tree.Factor s v (factors_of_rest b q)) p.says) are
 
 -- if no `*` or `/` follows, the factors make a product
 pub all_factors : (b : Option (List ℕ)) (k : ℕ) (x y : List Token) (e : Syntax) (read : List (Scale × Syntax))
     → FactorsRead b k x y read
-    → first_scale y ≡ None → e ≡ tree.Product (factors read) → ProductAt b k x e y
+    → first_scale y ≡ None → e ≡ tree.Product (factors_syntax read) → ProductAt b k x e y
 all_factors b k x y e read r n says =
-    let all = all_read (products b) factors tree.Product multiplied k x y e read r (ap is_none n) NoFactor refl refl
+    let all = all_read (products b) factors_syntax tree.Product product_syntax k x y e read r (ap is_none n) NoFactor
+    refl refl
     (λ f fs. refl) (λ e f fs. refl) says in
     record { made = ProductOf r.first all.0; is = all.1; says = all.2; stop = no_factor y r.stop n; fit = r.fit }
 
 -- an operand is wanted after the `*` or `/` of a factor
-pub factor_wants : (k : ℕ) (s : Scale) (x y : List Token) → x ≡ scale s ∷ y → fits EndsOperand k x ≡ true
-    → fits WantsOperand k y ≡ true
-factor_wants k s x y is h = go s (subst (λ z. fits EndsOperand k z ≡ true) is h)
+pub factor_wants : (k : ℕ) (s : Scale) (x y : List Token) → x ≡ scale_token s ∷ y → tokens_fit EndsOperand k x ≡ true
+    → tokens_fit WantsOperand k y ≡ true
+factor_wants k s x y is h = go s (subst (λ z. tokens_fit EndsOperand k z ≡ true) is h)
   where
-    go : (s : Scale) → fits EndsOperand k (scale s ∷ y) ≡ true → fits WantsOperand k y ≡ true
+    go : (s : Scale) → tokens_fit EndsOperand k (scale_token s ∷ y) ≡ true → tokens_fit WantsOperand k y ≡ true
     go Multiply f = f
     go Divide f = f
 
@@ -171,7 +176,7 @@ juxtapositions b = record {
   list = members_of_rest b;
   cons = tree.Member;
   head = λ e. e;
-  ends = λ y. not (begins y);
+  ends = λ y. not (can_begin_operand y);
 }
 
 -- the powers that are read so far
@@ -179,7 +184,8 @@ abbrev pub MembersRead : Option (List ℕ) → ℕ → List Token → List Token
 MembersRead b = AreRead (juxtapositions b)
 
 -- if a power ends and no operand begins, the juxtaposition ends
-no_member : (y : List Token) → stops after_power y ≡ true → begins y ≡ false → stops after_juxtaposition y ≡ true
+no_member : (y : List Token) → stops after_power y ≡ true → can_begin_operand y ≡ false
+    → stops after_juxtaposition y ≡ true
 no_member [] s n = refl
 no_member (Plus ∷ y) s n = refl
 no_member (Minus ∷ y) s n = refl
@@ -189,7 +195,8 @@ no_member (Close ∷ y) s n = refl
 no_member (t ∷ y) s n = cc
 
 -- a power that no operand follows is a juxtaposition
-pub one_member : (b : Option (List ℕ)) (k : ℕ) (x y : List Token) (e : Syntax) → PowerAt b k x e y → begins y ≡ false
+pub one_member : (b : Option (List ℕ)) (k : ℕ) (x y : List Token) (e : Syntax) → PowerAt b k x e y
+    → can_begin_operand y ≡ false
     → JuxtapositionAt b k x e y
 one_member b k x y e p n =
     record { made = JuxtapositionOf p.made NoPower; is = p.is; says = p.says; stop = no_member y p.stop n; fit = p.fit }
@@ -197,7 +204,7 @@ one_member b k x y e p n =
 -- a power that an operand follows is the first member
 pub members_begun : (b : Option (List ℕ)) (k : ℕ) (x y : List Token) (e : Syntax) (read : List Syntax)
     → PowerAt b k x e y
-    → begins y ≡ true → read ≡ e ∷ [] → MembersRead b k x y read
+    → can_begin_operand y ≡ true → read ≡ e ∷ [] → MembersRead b k x y read
 members_begun b k x y e read p n are =
     begun (juxtapositions b) k x y e read p (λ h. let no : false ≡ true = sym (ap not n) ∙ h in cc) are
 
@@ -212,8 +219,9 @@ next_member b k x y z e read read' r p are =
 -- if no operand begins, the members make a juxtaposition
 pub all_members : (b : Option (List ℕ)) (k : ℕ) (x y : List Token) (e : Syntax) (read : List Syntax)
     → MembersRead b k x y read
-    → begins y ≡ false → e ≡ tree.Juxtaposed (members read) → JuxtapositionAt b k x e y
+    → can_begin_operand y ≡ false → e ≡ tree.Juxtaposed (members read) → JuxtapositionAt b k x e y
 all_members b k x y e read r n says =
-    let all = all_read (juxtapositions b) members tree.Juxtaposed juxtaposed k x y e read r (ap not n) NoPower refl refl
+    let all = all_read (juxtapositions b) members tree.Juxtaposed juxtaposition_syntax k x y e read r (ap not n) NoPower
+    refl refl
     (λ e es. refl) (λ e f es. refl) says in
     record { made = JuxtapositionOf r.first all.0; is = all.1; says = all.2; stop = no_member y r.stop n; fit = r.fit }

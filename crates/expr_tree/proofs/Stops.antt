@@ -4,8 +4,9 @@ use Rattle.expr_tree.specs.Grammar.{SumRest, NoTerm, NextTerm, ProductRest, NoFa
 use Rattle.expr_tree.specs.Grammar.{NoPower, NextPower}
 use Rattle.expr_tree.specs.Grammar.{Power, Bare, Raised, Atom, NumeralAtom, BarAtom, WordAtom, PowerAtom, CallAtom}
 use Rattle.expr_tree.specs.Grammar.{InverseAtom, RootAtom, GroupAtom}
-use Rattle.expr_tree.specs.Grammar.{sum_rest, product_rest, juxtaposition_rest, power, exponent, atom}
-use Rattle.expr_tree.specs.Front.{stops, begins, after_sum, after_product, after_juxtaposition, after_power, after_atom}
+use Rattle.expr_tree.specs.Grammar.{sum_rest, product_rest, juxtaposition_rest, power, exponent_tokens, atom}
+use Rattle.expr_tree.specs.Front.{stops, can_begin_operand, after_sum, after_product, after_juxtaposition, after_power}
+use Rattle.expr_tree.specs.Front.{after_atom}
 use Rattle.expr_tree.specs.Tokens.{Token, Numeral, Word, WordWithPower, Head, Root, Plus, Minus, Bar, Caret, Tilde}
 use Rattle.expr_tree.specs.Tokens.{Open, Close}
 use Rattle.expr_tree.specs.declared.operator.Scale.TheVariants.{Multiply, Divide}
@@ -39,14 +40,14 @@ power_atom (Bar ∷ r) h = cc
 power_atom (t ∷ r) h = refl
 
 -- what begins an operand may follow a power
-pub begins_power : (r : List Token) → begins r ≡ true → stops after_power r ≡ true
+pub begins_power : (r : List Token) → can_begin_operand r ≡ true → stops after_power r ≡ true
 begins_power [] h = cc
 begins_power (Caret ∷ r) h = cc
 begins_power (Bar ∷ r) h = cc
 begins_power (t ∷ r) h = refl
 
 -- what begins an operand may not follow a juxtaposition
-pub begins_juxtaposition : (r : List Token) → begins r ≡ true → stops after_juxtaposition r ≡ true → ⊥
+pub begins_juxtaposition : (r : List Token) → can_begin_operand r ≡ true → stops after_juxtaposition r ≡ true → ⊥
 begins_juxtaposition [] b h = cc
 begins_juxtaposition (Numeral n ∷ r) b h = cc
 begins_juxtaposition (Word w ∷ r) b h = cc
@@ -72,7 +73,7 @@ product_rest_stops (NextFactor Multiply j js) r h = refl
 product_rest_stops (NextFactor Divide j js) r h = refl
 
 -- an atom begins an operand
-pub atom_begins : (a : Atom) (r : List Token) → begins (atom a r) ≡ true
+pub atom_begins : (a : Atom) (r : List Token) → can_begin_operand (atom a r) ≡ true
 atom_begins (NumeralAtom n) r = refl
 atom_begins (BarAtom n d) r = refl
 atom_begins (WordAtom w) r = refl
@@ -83,9 +84,9 @@ atom_begins (RootAtom n d) r = refl
 atom_begins (GroupAtom d) r = refl
 
 -- a power begins an operand
-pub power_begins : (p : Power) (r : List Token) → begins (power p r) ≡ true
+pub power_begins : (p : Power) (r : List Token) → can_begin_operand (power p r) ≡ true
 power_begins (Bare a) r = atom_begins a r
-power_begins (Raised a e) r = atom_begins a (Caret ∷ exponent e r)
+power_begins (Raised a e) r = atom_begins a (Caret ∷ exponent_tokens e r)
 
 -- the powers of a juxtaposition may follow a power
 pub juxtaposition_rest_stops : (ps : JuxtapositionRest) (r : List Token) → stops after_juxtaposition r ≡ true

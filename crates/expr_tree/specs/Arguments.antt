@@ -1,6 +1,6 @@
 -- Trees that contain the argument of a function.
 use Rattle.std.specs.Prelude.{◌≡◌, ℕ, Bool, true, false, ◌||◌, List, None, Ok}
-use Rattle.expr_tree.specs.Parsed.{parsed}
+use Rattle.expr_tree.specs.ParseResult.{parse_of}
 use Rattle.expr_tree.specs.Syntax.{Syntax, Number, Bar, Word, Argument, Call, Inverse, Root, Group, Negate, Power}
 use Rattle.expr_tree.specs.Syntax.{Juxtaposed, Product, Sum}
 use Rattle.expr_tree.specs.Syntax.{Members, NoMember, Member, Factors, NoFactor, Factor, Terms, NoTerm, Term}
@@ -35,4 +35,4 @@ abbrev mutual
 
 -- law: the tree of a text that is parsed without a binder contains no argument
 abbrev pub FreeLaw : Type 0
-FreeLaw = (text : List ℕ) (e : Syntax) → parsed None text ≡ Ok e → holds_argument e ≡ false
+FreeLaw = (text : List ℕ) (e : Syntax) → parse_of None text ≡ Ok e → holds_argument e ≡ false

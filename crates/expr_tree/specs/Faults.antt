@@ -4,7 +4,8 @@ use Rattle.std.specs.Prelude.{List, [], ◌∷◌, ◌++◌, length, Option, Som
 use Rattle.expr_tree.specs.declared.fault.ParseFault.{ParseFault}
 use Rattle.expr_tree.specs.declared.fault.ParseFault.TheVariants.{Syntax, NumeralTooLong, NestedTooDeep}
 use Rattle.expr_tree.specs.Lexemes.{Lexeme, Blank, Whole, TooLong, Malformed, Placed, lexemes, token_in}
-use Rattle.expr_tree.specs.Rules.{After, WantsOperand, count_closes, count_deepens, left_by, may, may_end, opened}
+use Rattle.expr_tree.specs.Rules.{After, WantsOperand, count_closes, count_deepens, left_by, may, may_end_tokens}
+use Rattle.expr_tree.specs.Rules.{open_parens}
 use Rattle.expr_tree.specs.Tokens.{Token, Numeral}
 
 -- the maximum depth of a token
@@ -21,13 +22,13 @@ takes_numeral last = may last 0 (Numeral (record { coefficient = 0; scale = pos 
 
 -- the fault of a lexeme, by the state after the tokens before it, the number of open parentheses, its depth and its
 -- place; a numeral that is too long is allowed at the same places as any numeral
-abbrev pub fault_at : After → ℕ → ℕ → ℕ → Lexeme → Option ParseFault
-fault_at last opened depth place Blank = None
-fault_at last opened depth place Malformed = Some (Syntax place)
-fault_at last opened depth place TooLong =
+abbrev pub lexeme_fault : After → ℕ → ℕ → ℕ → Lexeme → Option ParseFault
+lexeme_fault last open_parens depth place Blank = None
+lexeme_fault last open_parens depth place Malformed = Some (Syntax place)
+lexeme_fault last open_parens depth place TooLong =
     if takes_numeral last then Some NumeralTooLong else Some (Syntax place)
-fault_at last opened depth place (Whole t) =
-    if may last opened t
+lexeme_fault last open_parens depth place (Whole t) =
+    if may last open_parens t
     then (if nat_lt deepest depth then Some NestedTooDeep else None)
     else Some (Syntax place)
 
@@ -39,10 +40,10 @@ or_later None later = later
 -- the first fault of the lexemes that follow the tokens, in a text of the given length
 unfoldable pub fault_from : List Token → ℕ → List Placed → Option ParseFault
 fault_from before len [] =
-    if may_end (left_by WantsOperand before) (opened before) then None else Some (Syntax len)
+    if may_end_tokens (left_by WantsOperand before) (open_parens before) then None else Some (Syntax len)
 fault_from before len (x ∷ xs) =
     or_later
-    (fault_at (left_by WantsOperand before) (opened before) (depth_behind before) x.place x.lexeme)
+    (lexeme_fault (left_by WantsOperand before) (open_parens before) (depth_behind before) x.place x.lexeme)
     (fault_from (before ++ token_in x.lexeme) len xs)
 
 -- the first fault of a text, if it has one

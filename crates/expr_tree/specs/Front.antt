@@ -10,16 +10,16 @@ use Rattle.expr_tree.specs.declared.operator.Sign.TheVariants as signs
 use Rattle.expr_tree.specs.declared.token.Token.{Token as Made}
 use Rattle.expr_tree.specs.declared.tree.Tree.{Tree}
 use Rattle.expr_tree.specs.Grammar.{Sum, sum, sum_tree, product, product_tree, juxtaposition, juxtaposition_tree, power}
-use Rattle.expr_tree.specs.Grammar.{power_tree, exponent, exponent_tree, atom, atom_tree}
-use Rattle.expr_tree.specs.Rules.{EndsOperand, begins_operand, fits}
-use Rattle.expr_tree.specs.Seen.{seen}
+use Rattle.expr_tree.specs.Grammar.{power_tree, exponent_tokens, exponent_tree, atom, atom_tree}
+use Rattle.expr_tree.specs.Rules.{EndsOperand, begins_operand, tokens_fit}
+use Rattle.expr_tree.specs.TokenViews.{token_view}
 use Rattle.expr_tree.specs.Syntax.{Syntax}
 use Rattle.expr_tree.specs.Tokens.{Token, Numeral, Plus, Minus, Star, Slash, Bar, Caret, Close}
 use Rattle.expr_tree.specs.Trees.{syntax}
 
 -- the tokens from a place on
 abbrev pub tokens_from : List Made → ℕ → List Token
-tokens_from ts i = map seen (drop i ts)
+tokens_from ts i = map token_view (drop i ts)
 
 -- the sign that is the first token
 abbrev pub first_sign : List Token → Option Sign
@@ -39,9 +39,9 @@ first_caret (Caret ∷ ts) = true
 first_caret _ = false
 
 -- the first token can begin an operand
-abbrev pub begins : List Token → Bool
-begins [] = false
-begins (t ∷ ts) = begins_operand t
+abbrev pub can_begin_operand : List Token → Bool
+can_begin_operand [] = false
+can_begin_operand (t ∷ ts) = begins_operand t
 
 -- the numeral after a `|` that is the first token
 abbrev pub first_denominator : List Token → Option Decimal
@@ -90,7 +90,7 @@ pub record IsFront {X : Type 0} (spell : X → List Token → List Token) (tree 
   pub is : ts ≡ spell made others
   pub says : e ≡ tree made
   pub stop : stops follow others ≡ true
-  pub fit : fits EndsOperand opened others ≡ true
+  pub fit : tokens_fit EndsOperand opened others ≡ true
 
 -- `IsFront` for each rule of the grammar
 
@@ -107,18 +107,18 @@ abbrev pub PowerAt : Option (List ℕ) → ℕ → List Token → Syntax → Lis
 PowerAt binder = IsFront power (power_tree binder) after_power
 
 abbrev pub ExponentAt : Option (List ℕ) → ℕ → List Token → Syntax → List Token → Type 0
-ExponentAt binder = IsFront exponent (exponent_tree binder) after_power
+ExponentAt binder = IsFront exponent_tokens (exponent_tree binder) after_power
 
 abbrev pub AtomAt : Option (List ℕ) → ℕ → List Token → Syntax → List Token → Type 0
 AtomAt binder = IsFront atom (atom_tree binder) after_atom
 
 -- the tokens are a sum and its `)` followed by the others
-pub record IsClosed (binder : Option (List ℕ)) (opened : ℕ) (ts : List Token) (e : Syntax)
+pub record IsSumInParens (binder : Option (List ℕ)) (opened : ℕ) (ts : List Token) (e : Syntax)
     (others : List Token) : Type 0 where
   pub made : Sum
   pub is : ts ≡ sum made (Close ∷ others)
   pub says : e ≡ sum_tree binder made
-  pub fit : fits EndsOperand opened others ≡ true
+  pub fit : tokens_fit EndsOperand opened others ≡ true
 
 -- what a rule reads at a place: its tree begins there, and ends at a later place
 abbrev pub IsReadAt : (List Token → Syntax → List Token → Type 0) → List Made → ℕ → Result (Tree × ℕ) AllocError

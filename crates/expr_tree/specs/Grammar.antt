@@ -67,13 +67,13 @@ mutual
     -- "(" sum ")"
     GroupAtom : Sum → Atom
 
-abbrev pub sign : Sign → Token
-sign signs.Plus = Plus
-sign signs.Minus = Minus
+abbrev pub sign_token : Sign → Token
+sign_token signs.Plus = Plus
+sign_token signs.Minus = Minus
 
-abbrev pub scale : Scale → Token
-scale Multiply = Star
-scale Divide = Slash
+abbrev pub scale_token : Scale → Token
+scale_token Multiply = Star
+scale_token Divide = Slash
 
 -- the tokens of a derivation, followed by other tokens
 abbrev mutual
@@ -82,17 +82,17 @@ abbrev mutual
 
   pub sum_rest : SumRest → List Token → List Token
   sum_rest NoTerm others = others
-  sum_rest (NextTerm s p ps) others = sign s ∷ product p (sum_rest ps others)
+  sum_rest (NextTerm s p ps) others = sign_token s ∷ product p (sum_rest ps others)
 
   pub product : Product → List Token → List Token
   product (ProductOf j js) others = juxtaposition j (product_rest js others)
 
   pub product_rest : ProductRest → List Token → List Token
   product_rest NoFactor others = others
-  product_rest (NextFactor s j js) others = scale s ∷ juxtaposition j (product_rest js others)
+  product_rest (NextFactor s j js) others = scale_token s ∷ juxtaposition j (product_rest js others)
 
   pub juxtaposition : Juxtaposition → List Token → List Token
-  juxtaposition (Signed s j) others = sign s ∷ juxtaposition j others
+  juxtaposition (Signed s j) others = sign_token s ∷ juxtaposition j others
   juxtaposition (JuxtapositionOf p ps) others = power p (juxtaposition_rest ps others)
 
   pub juxtaposition_rest : JuxtapositionRest → List Token → List Token
@@ -101,11 +101,11 @@ abbrev mutual
 
   pub power : Power → List Token → List Token
   power (Bare a) others = atom a others
-  power (Raised a e) others = atom a (Caret ∷ exponent e others)
+  power (Raised a e) others = atom a (Caret ∷ exponent_tokens e others)
 
-  pub exponent : Exponent → List Token → List Token
-  exponent (SignedExponent s e) others = sign s ∷ exponent e others
-  exponent (ExponentOf p) others = power p others
+  pub exponent_tokens : Exponent → List Token → List Token
+  exponent_tokens (SignedExponent s e) others = sign_token s ∷ exponent_tokens e others
+  exponent_tokens (ExponentOf p) others = power p others
 
   pub atom : Atom → List Token → List Token
   atom (NumeralAtom n) others = Numeral n ∷ others
@@ -134,43 +134,43 @@ argument_times e = tree.Group (tree.Juxtaposed (tree.Member tree.Argument (tree.
 abbrev pub call : Option (List ℕ) → List ℕ → Syntax → Syntax
 call binder w e = if is_binder binder w then argument_times e else tree.Call w e
 
-abbrev pub signed : Sign → Syntax → Syntax
-signed signs.Plus e = e
-signed signs.Minus e = tree.Negate e
+abbrev pub signed_syntax : Sign → Syntax → Syntax
+signed_syntax signs.Plus e = e
+signed_syntax signs.Minus e = tree.Negate e
 
 -- a list of one member is that member itself
 
-abbrev pub summed : Syntax → Terms → Syntax
-summed e tree.NoTerm = e
-summed e ts = tree.Sum (tree.Term signs.Plus e ts)
+abbrev pub sum_syntax : Syntax → Terms → Syntax
+sum_syntax e tree.NoTerm = e
+sum_syntax e ts = tree.Sum (tree.Term signs.Plus e ts)
 
-abbrev pub multiplied : Syntax → Factors → Syntax
-multiplied e tree.NoFactor = e
-multiplied e fs = tree.Product (tree.Factor Multiply e fs)
+abbrev pub product_syntax : Syntax → Factors → Syntax
+product_syntax e tree.NoFactor = e
+product_syntax e fs = tree.Product (tree.Factor Multiply e fs)
 
-abbrev pub juxtaposed : Syntax → Members → Syntax
-juxtaposed e tree.NoMember = e
-juxtaposed e es = tree.Juxtaposed (tree.Member e es)
+abbrev pub juxtaposition_syntax : Syntax → Members → Syntax
+juxtaposition_syntax e tree.NoMember = e
+juxtaposition_syntax e es = tree.Juxtaposed (tree.Member e es)
 
 -- the tree of a derivation, with or without a binder
 abbrev mutual
   pub sum_tree : Option (List ℕ) → Sum → Syntax
-  sum_tree binder (SumOf p ps) = summed (product_tree binder p) (terms binder ps)
+  sum_tree binder (SumOf p ps) = sum_syntax (product_tree binder p) (terms binder ps)
 
   pub terms : Option (List ℕ) → SumRest → Terms
   terms binder NoTerm = tree.NoTerm
   terms binder (NextTerm s p ps) = tree.Term s (product_tree binder p) (terms binder ps)
 
   pub product_tree : Option (List ℕ) → Product → Syntax
-  product_tree binder (ProductOf j js) = multiplied (juxtaposition_tree binder j) (factors binder js)
+  product_tree binder (ProductOf j js) = product_syntax (juxtaposition_tree binder j) (rest_factors binder js)
 
-  pub factors : Option (List ℕ) → ProductRest → Factors
-  factors binder NoFactor = tree.NoFactor
-  factors binder (NextFactor s j js) = tree.Factor s (juxtaposition_tree binder j) (factors binder js)
+  pub rest_factors : Option (List ℕ) → ProductRest → Factors
+  rest_factors binder NoFactor = tree.NoFactor
+  rest_factors binder (NextFactor s j js) = tree.Factor s (juxtaposition_tree binder j) (rest_factors binder js)
 
   pub juxtaposition_tree : Option (List ℕ) → Juxtaposition → Syntax
-  juxtaposition_tree binder (Signed s j) = signed s (juxtaposition_tree binder j)
-  juxtaposition_tree binder (JuxtapositionOf p ps) = juxtaposed (power_tree binder p) (members binder ps)
+  juxtaposition_tree binder (Signed s j) = signed_syntax s (juxtaposition_tree binder j)
+  juxtaposition_tree binder (JuxtapositionOf p ps) = juxtaposition_syntax (power_tree binder p) (members binder ps)
 
   pub members : Option (List ℕ) → JuxtapositionRest → Members
   members binder NoPower = tree.NoMember
@@ -181,7 +181,7 @@ abbrev mutual
   power_tree binder (Raised a e) = tree.Power (atom_tree binder a) (exponent_tree binder e)
 
   pub exponent_tree : Option (List ℕ) → Exponent → Syntax
-  exponent_tree binder (SignedExponent s e) = signed s (exponent_tree binder e)
+  exponent_tree binder (SignedExponent s e) = signed_syntax s (exponent_tree binder e)
   exponent_tree binder (ExponentOf p) = power_tree binder p
 
   pub atom_tree : Option (List ℕ) → Atom → Syntax
@@ -195,10 +195,10 @@ abbrev mutual
   atom_tree binder (GroupAtom d) = tree.Group (sum_tree binder d)
 
 -- the tokens give the tree
-abbrev pub Gives : Option (List ℕ) → List Token → Syntax → Type 0
-Gives binder ts e = (d : Sum) × (ts ≡ sum d []) × (e ≡ sum_tree binder d)
+abbrev pub GivesTree : Option (List ℕ) → List Token → Syntax → Type 0
+GivesTree binder ts e = (d : Sum) × (ts ≡ sum d []) × (e ≡ sum_tree binder d)
 
 -- law: tokens give at most one tree
 abbrev pub OneTreeLaw : Type 0
 OneTreeLaw = (binder : Option (List ℕ)) (ts : List Token) (x y : Syntax)
-    → Gives binder ts x → Gives binder ts y → x ≡ y
+    → GivesTree binder ts x → GivesTree binder ts y → x ≡ y

@@ -1,17 +1,17 @@
 -- Laws that relate the grammar to the plain rules, and a law of all faults.
 use Rattle.std.specs.Prelude.{◌≢◌, ◌↔◌, ℕ, List, Option, Err}
 use Rattle.expr_tree.specs.declared.fault.ParseFault.TheVariants.{OutOfMemory}
-use Rattle.expr_tree.specs.Grammar.{Gives}
-use Rattle.expr_tree.specs.Parsed.{parsed}
-use Rattle.expr_tree.specs.Rules.{MayStand, MayEnd}
+use Rattle.expr_tree.specs.Grammar.{GivesTree}
+use Rattle.expr_tree.specs.ParseResult.{parse_of}
+use Rattle.expr_tree.specs.Rules.{MayStand, TokensMayEnd}
 use Rattle.expr_tree.specs.Syntax.{Syntax}
 use Rattle.expr_tree.specs.Tokens.{Token}
 
 -- law: tokens give a tree exactly if each of them is allowed at its place and they may end
 abbrev pub CompleteLaw : Type 0
 CompleteLaw = (binder : Option (List ℕ)) (ts : List Token)
-    → ((e : Syntax) × Gives binder ts e) ↔ (((i : ℕ) → MayStand ts i) × MayEnd ts)
+    → ((e : Syntax) × GivesTree binder ts e) ↔ (((i : ℕ) → MayStand ts i) × TokensMayEnd ts)
 
 -- law: the specified result for a text is never a lack of memory
-abbrev pub ToldLaw : Type 0
-ToldLaw = (binder : Option (List ℕ)) (text : List ℕ) → parsed binder text ≢ Err OutOfMemory
+abbrev pub ParseMemoryLaw : Type 0
+ParseMemoryLaw = (binder : Option (List ℕ)) (text : List ℕ) → parse_of binder text ≢ Err OutOfMemory

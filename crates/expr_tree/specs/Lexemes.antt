@@ -3,7 +3,7 @@ use Rattle.std.specs.Prelude.{ℕ, zero, suc, ◌+◌, ◌-◌, pos, Bool, true,
 use Rattle.std.specs.Prelude.{List, [], ◌∷◌, ◌++◌, length, take, drop, slice_index, Result, Ok, Err}
 use Rattle.std.specs.List.{prefix_len}
 use Rattle.std.specs.Str.{bytes_eq}
-use Rattle.frac128.specs.Decimals.{Decimal, read}
+use Rattle.frac128.specs.Decimals.{Decimal, numeral_reading}
 use Rattle.frac128.specs.Numerals.{is_digit, numeral_len_of}
 use Rattle.frac128.specs.declared.numeral.NumeralFault.{NumeralFault}
 use Rattle.frac128.specs.declared.numeral.NumeralFault.TheVariants as fault
@@ -31,29 +31,29 @@ pub record Placed : Type 0 where
   pub place : ℕ
   pub lexeme : Lexeme
 
-abbrev pub piece : Lexeme → ℕ → Piece
-piece x n = record { lexeme = x; len = n }
+abbrev pub lexeme_piece : Lexeme → ℕ → Piece
+lexeme_piece x n = record { lexeme = x; len = n }
 
 -- the lexeme of the bytes of a numeral
-abbrev pub numeral : Result Decimal NumeralFault → Lexeme
-numeral (Ok x) = Whole (Numeral x)
-numeral (Err fault.TooLong) = TooLong
-numeral (Err fault.NotNumeral) = Malformed
+abbrev pub numeral_lexeme : Result Decimal NumeralFault → Lexeme
+numeral_lexeme (Ok x) = Whole (Numeral x)
+numeral_lexeme (Err fault.TooLong) = TooLong
+numeral_lexeme (Err fault.NotNumeral) = Malformed
 
 -- the longest numeral at the front; a point without a digit is not a numeral
 abbrev pub numeral_piece : List ℕ → Piece
 numeral_piece text =
     if numeral_len_of text == 0
-    then piece Malformed 1
-    else piece (numeral (read (take (numeral_len_of text) text))) (numeral_len_of text)
+    then lexeme_piece Malformed 1
+    else lexeme_piece (numeral_lexeme (numeral_reading (take (numeral_len_of text) text))) (numeral_len_of text)
 
 -- the last digit of a word, as a numeral
-abbrev pub power_of : List ℕ → Decimal
-power_of word = record { coefficient = last_byte word - 48; scale = pos 0 }
+abbrev pub word_power : List ℕ → Decimal
+word_power word = record { coefficient = last_byte word - 48; scale = pos 0 }
 
 -- a name followed by one digit from 2 to 9
 abbrev pub word_with_power : List ℕ → Lexeme
-word_with_power word = if has_power word then Whole (WordWithPower (base word) (power_of word)) else Malformed
+word_with_power word = if has_power word then Whole (WordWithPower (base word) (word_power word)) else Malformed
 
 -- the lexeme of a word that is neither a name nor refused
 abbrev pub other_word : List ℕ → Lexeme
@@ -67,20 +67,21 @@ other_word word =
 abbrev pub word_piece : List ℕ → Bool → Piece
 word_piece word opened =
     if is_name word || is_refused word
-    then (if opened then piece (Whole (Head word)) (length word + 1) else piece (Whole (Word word)) (length word))
-    else piece (other_word word) (length word)
+    then (if opened then lexeme_piece (Whole (Head word)) (length word + 1) else lexeme_piece (Whole (Word word))
+    (length word))
+    else lexeme_piece (other_word word) (length word)
 
 -- the first byte is `(`
-abbrev pub is_opened : List ℕ → Bool
-is_opened text = slice_index text 0 == 40
+abbrev pub has_paren : List ℕ → Bool
+has_paren text = slice_index text 0 == 40
 
 -- the word at the front of a text
 abbrev pub word_front : List ℕ → Piece
-word_front text = word_piece (word_of text) (is_opened (drop (prefix_len is_word_byte text) text))
+word_front text = word_piece (word_of text) (has_paren (drop (prefix_len is_word_byte text) text))
 
 -- the token that a byte is by itself
-abbrev pub mark : ℕ → Lexeme
-mark b =
+abbrev pub byte_lexeme : ℕ → Lexeme
+byte_lexeme b =
     if b == 43 then Whole Plus
     else (if b == 45 then Whole Minus
     else (if b == 42 then Whole Star
@@ -96,19 +97,19 @@ mark b =
 abbrev pub mark_piece : List ℕ → Piece
 mark_piece text =
     if slice_index text 0 == 42 && slice_index text 1 == 42
-    then piece (Whole Caret) 2
-    else piece (mark (slice_index text 0)) 1
+    then lexeme_piece (Whole Caret) 2
+    else lexeme_piece (byte_lexeme (slice_index text 0)) 1
 
 -- the first byte is `.`
-abbrev pub is_pointed : List ℕ → Bool
-is_pointed text = slice_index text 0 == 46
+abbrev pub begins_with_point : List ℕ → Bool
+begins_with_point text = slice_index text 0 == 46
 
 -- the lexeme at the front of a non-empty text; a point directly after a numeral is malformed
 abbrev pub front : Bool → List ℕ → Piece
 front after_numeral text =
-    if is_blank (slice_index text 0) then piece Blank 1
-    else (if after_numeral && is_pointed text then piece Malformed 1
-    else (if is_digit (slice_index text 0) || is_pointed text then numeral_piece text
+    if is_blank (slice_index text 0) then lexeme_piece Blank 1
+    else (if after_numeral && begins_with_point text then lexeme_piece Malformed 1
+    else (if is_digit (slice_index text 0) || begins_with_point text then numeral_piece text
     else (if is_word_byte (slice_index text 0) then word_front text
     else mark_piece text)))
 
@@ -116,10 +117,10 @@ abbrev pub is_numeral_token : Token → Bool
 is_numeral_token (Numeral x) = true
 is_numeral_token _ = false
 
-abbrev pub is_numeral : Lexeme → Bool
-is_numeral (Whole t) = is_numeral_token t
-is_numeral TooLong = true
-is_numeral _ = false
+abbrev pub is_numeral_lexeme : Lexeme → Bool
+is_numeral_lexeme (Whole t) = is_numeral_token t
+is_numeral_lexeme TooLong = true
+is_numeral_lexeme _ = false
 
 -- the lexemes of a text whose first `covered` bytes belong to the lexeme before it
 unfoldable pub lexemes_from : ℕ → Bool → ℕ → List ℕ → List Placed
@@ -128,7 +129,7 @@ lexemes_from (suc covered) after_numeral place (b ∷ bs) = lexemes_from covered
 lexemes_from zero after_numeral place (b ∷ bs) =
     let first : Piece = front after_numeral (b ∷ bs) in
     record { place = place; lexeme = first.lexeme }
-    ∷ lexemes_from (first.len - 1) (is_numeral first.lexeme) (suc place) bs
+    ∷ lexemes_from (first.len - 1) (is_numeral_lexeme first.lexeme) (suc place) bs
 
 -- the lexemes of a text, each with its offset
 abbrev pub lexemes : List ℕ → List Placed

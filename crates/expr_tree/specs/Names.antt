@@ -31,8 +31,8 @@ abbrev pub may_begin : ℕ → Bool
 may_begin b = not (is_digit b || is_one_of (codes "_,.!") b)
 
 -- a byte that a name may end with
-abbrev pub may_end : ℕ → Bool
-may_end b = not (is_one_of (codes "_,.") b)
+abbrev pub may_end_name : ℕ → Bool
+may_end_name b = not (is_one_of (codes "_,.") b)
 
 -- a digit from 1 to 9
 abbrev pub is_count : ℕ → Bool
@@ -59,11 +59,11 @@ refused_names =
     ∷ codes "ln" ∷ codes "log" ∷ codes "log2" ∷ codes "exp" ∷ []
 
 -- the bytes are one of the words
-abbrev pub is_among : List (List ℕ) → List ℕ → Bool
-is_among words bytes = list_any (bytes_eq bytes) words
+abbrev pub is_word_among : List (List ℕ) → List ℕ → Bool
+is_word_among words bytes = list_any (bytes_eq bytes) words
 
 abbrev pub is_refused : List ℕ → Bool
-is_refused bytes = is_among refused_names bytes
+is_refused bytes = is_word_among refused_names bytes
 
 -- the maximum length of a name in bytes
 abbrev pub longest_name : ℕ
@@ -75,7 +75,7 @@ is_spelled bytes =
     nat_lt 0 (length bytes)
     && nat_le (length bytes) longest_name
     && may_begin (slice_index bytes 0)
-    && may_end (last_byte bytes)
+    && may_end_name (last_byte bytes)
     && list_all is_word_byte bytes
 
 -- the last byte is a digit from 1 to 9 that is not part of an index
@@ -86,7 +86,7 @@ abbrev pub is_name : List ℕ → Bool
 is_name bytes =
     is_spelled bytes
     && not (ends_in_count bytes)
-    && not (is_among keywords bytes)
+    && not (is_word_among keywords bytes)
     && not (is_refused bytes)
 
 -- a word without its last byte

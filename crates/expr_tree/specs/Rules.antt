@@ -43,27 +43,27 @@ after Bar _ = WantsNumeral
 after _ _ = WantsOperand
 
 -- an operand has ended
-abbrev pub has_ended : After → Bool
-has_ended EndsNumeral = true
-has_ended EndsOperand = true
-has_ended _ = false
+abbrev pub operand_has_ended : After → Bool
+operand_has_ended EndsNumeral = true
+operand_has_ended EndsOperand = true
+operand_has_ended _ = false
 
 -- whether the token may follow, by the state after the tokens before it and the number of open parentheses
 abbrev pub may : After → ℕ → Token → Bool
-may WantsOperand opened t = begins_operand t || is_sign t
-may WantsHead opened (Head w) = true
-may WantsOpen opened Open = true
-may WantsNumeral opened (Numeral n) = true
-may EndsNumeral opened Bar = true
-may EndsNumeral opened Close = nat_lt 0 opened
-may EndsNumeral opened t = begins_operand t || is_operator t
-may EndsOperand opened Close = nat_lt 0 opened
-may EndsOperand opened t = begins_operand t || is_operator t
-may _ opened t = false
+may WantsOperand open_parens t = begins_operand t || is_sign t
+may WantsHead open_parens (Head w) = true
+may WantsOpen open_parens Open = true
+may WantsNumeral open_parens (Numeral n) = true
+may EndsNumeral open_parens Bar = true
+may EndsNumeral open_parens Close = nat_lt 0 open_parens
+may EndsNumeral open_parens t = begins_operand t || is_operator t
+may EndsOperand open_parens Close = nat_lt 0 open_parens
+may EndsOperand open_parens t = begins_operand t || is_operator t
+may _ open_parens t = false
 
 -- whether the tokens may end
-abbrev pub may_end : After → ℕ → Bool
-may_end last opened = has_ended last && nat_eq opened 0
+abbrev pub may_end_tokens : After → ℕ → Bool
+may_end_tokens last open_parens = operand_has_ended last && nat_eq open_parens 0
 
 -- a `(` or a head
 abbrev pub opens : Token → Bool
@@ -83,28 +83,29 @@ deepens Minus EndsOperand = false
 deepens Minus _ = true
 deepens t last = opens t
 
-abbrev pub closes : Token → Bool
-closes Close = true
-closes _ = false
+abbrev pub closes_paren : Token → Bool
+closes_paren Close = true
+closes_paren _ = false
 
 -- one more, one less, or the same
-abbrev pub counted : Bool → Bool → ℕ → ℕ
-counted true less n = suc n
-counted false true n = n - 1
-counted false false n = n
+abbrev pub count_after : Bool → Bool → ℕ → ℕ
+count_after true less n = suc n
+count_after false true n = n - 1
+count_after false false n = n
 
 -- how many parentheses are open after a token, by how many are open before it
 abbrev pub opened_after : Token → ℕ → ℕ
-opened_after t opened = counted (opens t) (closes t) opened
+opened_after t open_parens = count_after (opens t) (closes_paren t) open_parens
 
 -- the depth of the token after a token, by the depth of that token
 abbrev pub depth_after : Token → After → ℕ → ℕ
-depth_after t last depth = counted (deepens t last) (closes t) depth
+depth_after t last token_depth = count_after (deepens t last) (closes_paren t) token_depth
 
 -- each of the tokens is allowed at its place and they may end, by the state before them
-abbrev pub fits : After → ℕ → List Token → Bool
-fits last opened [] = may_end last opened
-fits last opened (t ∷ ts) = may last opened t && fits (after t last) (opened_after t opened) ts
+abbrev pub tokens_fit : After → ℕ → List Token → Bool
+tokens_fit last open_parens [] = may_end_tokens last open_parens
+tokens_fit last open_parens (t ∷ ts) = may last open_parens t && tokens_fit (after t last) (opened_after t open_parens)
+    ts
 
 -- the plain rules, which look at all tokens before a place
 
@@ -116,28 +117,28 @@ left_by last (t ∷ ts) = left_by (after t last) ts
 -- how many tokens of a list open a parenthesis, deepen, and close
 abbrev pub count_opens : List Token → ℕ
 count_opens [] = 0
-count_opens (t ∷ ts) = counted (opens t) false (count_opens ts)
+count_opens (t ∷ ts) = count_after (opens t) false (count_opens ts)
 
 abbrev pub count_deepens : After → List Token → ℕ
 count_deepens last [] = 0
-count_deepens last (t ∷ ts) = counted (deepens t last) false (count_deepens (after t last) ts)
+count_deepens last (t ∷ ts) = count_after (deepens t last) false (count_deepens (after t last) ts)
 
 abbrev pub count_closes : List Token → ℕ
 count_closes [] = 0
-count_closes (t ∷ ts) = counted (closes t) false (count_closes ts)
+count_closes (t ∷ ts) = count_after (closes_paren t) false (count_closes ts)
 
-abbrev pub opened : List Token → ℕ
-opened ts = count_opens ts - count_closes ts
+abbrev pub open_parens : List Token → ℕ
+open_parens ts = count_opens ts - count_closes ts
 
 -- token i may follow the tokens before it
 abbrev pub MayStand : List Token → ℕ → Type 0
 MayStand ts i = (t : Token) → slice_get ts i ≡ Some t
-    → IsTrue (may (left_by WantsOperand (take i ts)) (opened (take i ts)) t)
+    → IsTrue (may (left_by WantsOperand (take i ts)) (open_parens (take i ts)) t)
 
 -- the tokens may end
-abbrev pub MayEnd : List Token → Type 0
-MayEnd ts = IsTrue (may_end (left_by WantsOperand ts) (opened ts))
+abbrev pub TokensMayEnd : List Token → Type 0
+TokensMayEnd ts = IsTrue (may_end_tokens (left_by WantsOperand ts) (open_parens ts))
 
 -- the depth of token i
-abbrev pub depth : List Token → ℕ → ℕ
-depth ts i = count_deepens WantsOperand (take i ts) - count_closes (take i ts)
+abbrev pub token_depth : List Token → ℕ → ℕ
+token_depth ts i = count_deepens WantsOperand (take i ts) - count_closes (take i ts)

@@ -18,9 +18,9 @@ members [] = NoMember
 members (e ∷ es) = Member e (members es)
 
 -- the members of a product
-abbrev pub factors : List (Scale × Syntax) → Factors
-factors [] = NoFactor
-factors (f ∷ fs) = Factor f.0 f.1 (factors fs)
+abbrev pub factors_syntax : List (Scale × Syntax) → Factors
+factors_syntax [] = NoFactor
+factors_syntax (f ∷ fs) = Factor f.0 f.1 (factors_syntax fs)
 
 -- the members of a sum
 abbrev pub terms : List (Sign × Syntax) → Terms
@@ -45,12 +45,12 @@ level (one.Sum ts) = Sum ts
 
 -- the meaning of a tree
 abbrev pub syntax : Tree → Syntax
-syntax = fold-Tree Syntax Factors Terms Members level (λ fs. factors fs.items.items) (λ ts. terms ts.items.items)
+syntax = fold-Tree Syntax Factors Terms Members level (λ fs. factors_syntax fs.items.items) (λ ts. terms ts.items.items)
     (λ es. members es.items.items)
 
 -- the meaning of a member of a product
-abbrev pub factor : Scale × Tree → Scale × Syntax
-factor f = (f.0, syntax f.1)
+abbrev pub factor_syntax : Scale × Tree → Scale × Syntax
+factor_syntax f = (f.0, syntax f.1)
 
 -- the meaning of a member of a sum
 abbrev pub term : Sign × Tree → Sign × Syntax
@@ -62,7 +62,7 @@ trees_of es = map syntax (out-Trees es).items.items
 
 -- the meanings of the members of a product
 abbrev pub factors_of : FactorList → List (Scale × Syntax)
-factors_of fs = map factor (out-Factors fs).items.items
+factors_of fs = map factor_syntax (out-Factors fs).items.items
 
 -- the meanings of the members of a sum
 abbrev pub terms_of : TermList → List (Sign × Syntax)

@@ -11,7 +11,7 @@ use Rattle.expr_tree.specs.declared.tree.Tree.TheVariants.{Number, Bar, Word, Ar
 use Rattle.expr_tree.specs.declared.tree.Tree.TheVariants.{Negate, Power, Juxtaposed, Product, Sum}
 use Rattle.expr_tree.specs.declared.tree.Trees.{Trees}
 use Rattle.expr_tree.specs.Syntax as tree
-use Rattle.expr_tree.specs.Trees.{syntax, members, factors, terms, trees_of, factors_of, terms_of}
+use Rattle.expr_tree.specs.Trees.{syntax, members, factors_syntax, terms, trees_of, factors_of, terms_of}
 
 -- law: the meaning of a tree of each kind, by the meanings of its parts
 pub record ViewLaw : Type 0 where
@@ -26,5 +26,5 @@ pub record ViewLaw : Type 0 where
   pub negate : (e : Box Tree) → syntax (Negate e) ≡ tree.Negate (syntax e.value)
   pub power : (e f : Box Tree) → syntax (Power e f) ≡ tree.Power (syntax e.value) (syntax f.value)
   pub juxtaposed : (es : Trees) → syntax (Juxtaposed es) ≡ tree.Juxtaposed (members (trees_of es))
-  pub product : (fs : Factors) → syntax (Product fs) ≡ tree.Product (factors (factors_of fs))
+  pub product : (fs : Factors) → syntax (Product fs) ≡ tree.Product (factors_syntax (factors_of fs))
   pub sum : (ts : Terms) → syntax (Sum ts) ≡ tree.Sum (terms (terms_of ts))

@@ -1,7 +1,8 @@
 //! Looks at the token at a place without consuming it.
 
 ghost use Rattle.std.specs.Prelude.{◌≡◌};
-ghost use Rattle.expr_tree.specs.Front.{begins, first_caret, first_denominator, first_scale, first_sign, tokens_from};
+ghost use Rattle.expr_tree.specs.Front.{can_begin_operand, first_caret, first_denominator, first_scale, first_sign};
+ghost use Rattle.expr_tree.specs.Front.{tokens_from};
 
 use crate::operator::{Scale, Sign};
 use crate::token::Token;
@@ -38,7 +39,7 @@ pub(crate) fn has_caret(tokens: &[Token], at: usize) -> bool
 
 // Whether the token at `at` can begin an operand.
 pub(crate) fn has_operand(tokens: &[Token], at: usize) -> bool
-    ensures { result ≡ begins (tokens_from tokens.now at) }
+    ensures { result ≡ can_begin_operand (tokens_from tokens.now at) }
 {
     match tokens.get(at) {
         Some(token) => token.begins_operand(),

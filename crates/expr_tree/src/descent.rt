@@ -3,21 +3,22 @@
 
 ghost use Rattle.std.specs.Prelude.{◌≡◌, ◌+◌, ◌<◌, ◌≤◌, ◌∷◌, true, IfOk, IfSome, Some, map};
 ghost use Rattle.std.specs.Option.{option_copied};
-ghost use Rattle.expr_tree.specs.Front.{AtomAt, ExponentAt, IsClosed, IsReadAt, JuxtapositionAt, PowerAt, ProductAt};
-ghost use Rattle.expr_tree.specs.Front.{SumAt, begins, tokens_from};
-ghost use Rattle.expr_tree.specs.Reading.{tree_of};
-ghost use Rattle.expr_tree.specs.Rules.{WantsHead, WantsOperand, fits};
-ghost use Rattle.expr_tree.specs.Seen.{seen};
+ghost use Rattle.expr_tree.specs.Front.{AtomAt, ExponentAt, IsReadAt, IsSumInParens, JuxtapositionAt, PowerAt};
+ghost use Rattle.expr_tree.specs.Front.{ProductAt};
+ghost use Rattle.expr_tree.specs.Front.{SumAt, can_begin_operand, tokens_from};
+ghost use Rattle.expr_tree.specs.TokenReading.{tree_of};
+ghost use Rattle.expr_tree.specs.Rules.{WantsHead, WantsOperand, tokens_fit};
+ghost use Rattle.expr_tree.specs.TokenViews.{token_view};
 ghost use Rattle.expr_tree.specs.Tokens.{Tilde};
 ghost use Rattle.expr_tree.specs.Trees.{syntax};
 
 use crate::ahead::{denominator_at, has_caret, has_operand, scale_at, sign_at};
-use crate::making::{
-    bar_tree, call_tree, inverse_tree, power_tree, scaled_tree, signed_tree, word_tree,
-};
 use crate::operator::{Scale, Sign};
 use crate::token::Token;
 use crate::tree::{Factors, Terms, Tree, Trees};
+use crate::tree_building::{
+    bar_tree, call_tree, inverse_tree, power_tree, scaled_tree, signed_tree, word_tree,
+};
 use std::alloc::{AllocError, Global};
 
 // Returns the tree of the tokens. Most expressions are a word, a numeral, or a numeral or fraction before a word.
@@ -27,8 +28,8 @@ pub(crate) fn tree_of_tokens(
     tokens: &[Token],
     binder: Option<&[u8]>,
 ) -> Result<Tree, AllocError>
-    requires { fits WantsOperand 0 (map seen tokens.now) ≡ true }
-    ensures { IfOk result (λ e. tree_of (option_copied binder.entry) (map seen tokens.now) ≡ Some (syntax e)) }
+    requires { tokens_fit WantsOperand 0 (map token_view tokens.now) ≡ true }
+    ensures { IfOk result (λ e. tree_of (option_copied binder.entry) (map token_view tokens.now) ≡ Some (syntax e)) }
 {
     match usual_tree(alloc, tokens, binder)? {
         Some(tree) => Ok(tree),
@@ -43,7 +44,7 @@ fn usual_tree(
     binder: Option<&[u8]>,
 ) -> Result<Option<Tree>, AllocError>
     ensures { IfOk result (λ found. IfSome found
-        (λ e. tree_of (option_copied binder.entry) (map seen tokens.now) ≡ Some (syntax e))) }
+        (λ e. tree_of (option_copied binder.entry) (map token_view tokens.now) ≡ Some (syntax e))) }
 {
     match tokens {
         [only] => match only {
@@ -71,8 +72,8 @@ fn usual_tree(
 
 // Returns the tree of the tokens by recursive descent.
 fn tree_of_sum(alloc: Global, tokens: &[Token], binder: Option<&[u8]>) -> Result<Tree, AllocError>
-    requires { fits WantsOperand 0 (map seen tokens.now) ≡ true }
-    ensures { IfOk result (λ e. tree_of (option_copied binder.entry) (map seen tokens.now) ≡ Some (syntax e)) }
+    requires { tokens_fit WantsOperand 0 (map token_view tokens.now) ≡ true }
+    ensures { IfOk result (λ e. tree_of (option_copied binder.entry) (map token_view tokens.now) ≡ Some (syntax e)) }
 {
     let (tree, _) = sum_at(alloc, tokens, 0, 0, binder)?;
     Ok(tree)
@@ -87,7 +88,7 @@ fn sum_at(
     binder: Option<&[u8]>,
 ) -> Result<(Tree, usize), AllocError>
     requires deep { opened ≤ at }
-    requires fit { fits WantsOperand opened (tokens_from tokens.now at) ≡ true }
+    requires fit { tokens_fit WantsOperand opened (tokens_from tokens.now at) ≡ true }
     ensures { IsReadAt (SumAt (option_copied binder.entry) opened) tokens.now at result }
 {
     let (first, mut next) = product_at(alloc, tokens, at, opened, binder)?;
@@ -113,7 +114,7 @@ fn product_at(
     binder: Option<&[u8]>,
 ) -> Result<(Tree, usize), AllocError>
     requires deep { opened ≤ at }
-    requires fit { fits WantsOperand opened (tokens_from tokens.now at) ≡ true }
+    requires fit { tokens_fit WantsOperand opened (tokens_from tokens.now at) ≡ true }
     ensures { IsReadAt (ProductAt (option_copied binder.entry) opened) tokens.now at result }
 {
     let (first, mut next) = juxtaposition_at(alloc, tokens, at, opened, binder)?;
@@ -139,7 +140,7 @@ fn juxtaposition_at(
     binder: Option<&[u8]>,
 ) -> Result<(Tree, usize), AllocError>
     requires deep { opened ≤ at }
-    requires fit { fits WantsOperand opened (tokens_from tokens.now at) ≡ true }
+    requires fit { tokens_fit WantsOperand opened (tokens_from tokens.now at) ≡ true }
     ensures { IsReadAt (JuxtapositionAt (option_copied binder.entry) opened) tokens.now at result }
 {
     match sign_at(tokens, at) {
@@ -161,8 +162,8 @@ fn powers_at(
     binder: Option<&[u8]>,
 ) -> Result<(Tree, usize), AllocError>
     requires deep { opened ≤ at }
-    requires fit { fits WantsOperand opened (tokens_from tokens.now at) ≡ true }
-    requires begun { begins (tokens_from tokens.now at) ≡ true }
+    requires fit { tokens_fit WantsOperand opened (tokens_from tokens.now at) ≡ true }
+    requires begun { can_begin_operand (tokens_from tokens.now at) ≡ true }
     ensures { IsReadAt (JuxtapositionAt (option_copied binder.entry) opened) tokens.now at result }
 {
     let (first, mut next) = power_at(alloc, tokens, at, opened, binder)?;
@@ -188,8 +189,8 @@ fn power_at(
     binder: Option<&[u8]>,
 ) -> Result<(Tree, usize), AllocError>
     requires deep { opened ≤ at }
-    requires fit { fits WantsOperand opened (tokens_from tokens.now at) ≡ true }
-    requires begun { begins (tokens_from tokens.now at) ≡ true }
+    requires fit { tokens_fit WantsOperand opened (tokens_from tokens.now at) ≡ true }
+    requires begun { can_begin_operand (tokens_from tokens.now at) ≡ true }
     ensures { IsReadAt (PowerAt (option_copied binder.entry) opened) tokens.now at result }
 {
     let (base, next) = atom_at(alloc, tokens, at, opened, binder)?;
@@ -209,7 +210,7 @@ fn exponent_at(
     binder: Option<&[u8]>,
 ) -> Result<(Tree, usize), AllocError>
     requires deep { opened ≤ at }
-    requires fit { fits WantsOperand opened (tokens_from tokens.now at) ≡ true }
+    requires fit { tokens_fit WantsOperand opened (tokens_from tokens.now at) ≡ true }
     ensures { IsReadAt (ExponentAt (option_copied binder.entry) opened) tokens.now at result }
 {
     match sign_at(tokens, at) {
@@ -230,8 +231,8 @@ fn atom_at(
     binder: Option<&[u8]>,
 ) -> Result<(Tree, usize), AllocError>
     requires deep { opened ≤ at }
-    requires fit { fits WantsOperand opened (tokens_from tokens.now at) ≡ true }
-    requires begun { begins (tokens_from tokens.now at) ≡ true }
+    requires fit { tokens_fit WantsOperand opened (tokens_from tokens.now at) ≡ true }
+    requires begun { can_begin_operand (tokens_from tokens.now at) ≡ true }
     ensures { IsReadAt (AtomAt (option_copied binder.entry) opened) tokens.now at result }
 {
     match tokens[at] {
@@ -272,7 +273,7 @@ fn inverse_at(
     binder: Option<&[u8]>,
 ) -> Result<(Tree, usize), AllocError>
     requires deep { opened < at }
-    requires fit { fits WantsHead opened (tokens_from tokens.now at) ≡ true }
+    requires fit { tokens_fit WantsHead opened (tokens_from tokens.now at) ≡ true }
     ensures { IsReadAt (λ ts. AtomAt (option_copied binder.entry) opened (Tilde ∷ ts)) tokens.now at result }
 {
     match tokens[at] {
@@ -294,8 +295,8 @@ fn closed_sum_at(
     binder: Option<&[u8]>,
 ) -> Result<(Tree, usize), AllocError>
     requires deep { opened < at }
-    requires fit { fits WantsOperand (opened + 1) (tokens_from tokens.now at) ≡ true }
-    ensures { IsReadAt (IsClosed (option_copied binder.entry) opened) tokens.now at result }
+    requires fit { tokens_fit WantsOperand (opened + 1) (tokens_from tokens.now at) ≡ true }
+    ensures { IsReadAt (IsSumInParens (option_copied binder.entry) opened) tokens.now at result }
 {
     let (sum, next) = sum_at(alloc, tokens, at, opened + 1, binder)?;
     Ok((sum, next + 1))

@@ -1,12 +1,12 @@
 //! Laws of the grammar and of the plain rules.
 
 ghost use Rattle.expr_tree.specs.Arguments.{FreeLaw};
-ghost use Rattle.expr_tree.specs.Examples.{ExamplesLaw};
-ghost use Rattle.expr_tree.specs.Formed.{FormedLaw};
+ghost use Rattle.expr_tree.specs.Examples.{TreeExamplesLaw};
+ghost use Rattle.expr_tree.specs.WellFormed.{FormedLaw};
 ghost use Rattle.expr_tree.specs.Grammar.{OneTreeLaw};
-ghost use Rattle.expr_tree.specs.Laws.{CompleteLaw, ToldLaw};
-ghost use Rattle.expr_tree.specs.Parsed.{ParsedLaw};
-ghost use Rattle.expr_tree.specs.Reading.{TreeOfLaw};
+ghost use Rattle.expr_tree.specs.Laws.{CompleteLaw, ParseMemoryLaw};
+ghost use Rattle.expr_tree.specs.ParseResult.{ParsedLaw};
+ghost use Rattle.expr_tree.specs.TokenReading.{TreeOfLaw};
 ghost use Rattle.expr_tree.specs.TextExamples.{TextExamplesLaw};
 ghost use Rattle.expr_tree.specs.Views.{ViewLaw};
 
@@ -32,7 +32,7 @@ pub fn parsed_law()
 
 /// A few token lists have the trees that were worked out by hand.
 pub fn examples_law()
-    ensures { ExamplesLaw }
+    ensures { TreeExamplesLaw }
 {}
 
 /// A text is parsed to a well-formed tree: no list in it is empty, the first member of a product multiplies, and the
@@ -57,6 +57,6 @@ pub fn text_examples_law()
 {}
 
 /// The specified result for a text is a tree or a fault of the text, never a lack of memory.
-pub fn told_law()
-    ensures { ToldLaw }
+pub fn parse_memory_law()
+    ensures { ParseMemoryLaw }
 {}

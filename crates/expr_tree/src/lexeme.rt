@@ -4,7 +4,7 @@ ghost use Rattle.std.specs.Prelude.{◌≡◌, ◌<◌, ◌≤◌, ◌+◌, ◌^
 ghost use Rattle.std.specs.List as lists;
 ghost use Rattle.expr_tree.specs.Lexemes as spec;
 ghost use Rattle.expr_tree.specs.Names as names;
-ghost use Rattle.expr_tree.specs.Seen.{seen_lexeme, seen_piece};
+ghost use Rattle.expr_tree.specs.TokenViews.{seen_lexeme, seen_piece};
 
 use crate::name::{has_power, is_name_word, is_refused, is_word_byte};
 use crate::operator::RootKind;
@@ -67,7 +67,7 @@ impl<'a> Piece<'a> {
 impl Lexeme<'_> {
     // Whether it is a numeral.
     pub(crate) fn is_numeral(&self) -> bool
-        ensures { result ≡ spec.is_numeral (seen_lexeme self.now) }
+        ensures { result ≡ spec.is_numeral_lexeme (seen_lexeme self.now) }
     {
         match self {
             Lexeme::TooLong => true,
@@ -122,7 +122,7 @@ fn word_len(bytes: &[u8]) -> usize
 
 // Whether the first byte is `(`.
 fn is_opened(text: &[u8]) -> bool
-    ensures is { result ≡ spec.is_opened text.now }
+    ensures is { result ≡ spec.has_paren text.now }
     ensures some { IsTrue result → 0 < length text.now }
 {
     !text.is_empty() && text[0] == b'('
@@ -207,7 +207,7 @@ fn mark_piece(text: &[u8]) -> Piece<'_>
 
 // Returns the token that the byte is by itself, or `Malformed`.
 fn mark(byte: u8) -> Lexeme<'static>
-    ensures { seen_lexeme result ≡ spec.mark byte }
+    ensures { seen_lexeme result ≡ spec.byte_lexeme byte }
 {
     match byte {
         b'+' => Lexeme::Whole(Token::Plus),

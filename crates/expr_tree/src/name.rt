@@ -93,7 +93,7 @@ fn is_power_byte(byte: u8) -> bool
 
 // Whether the bytes are a keyword.
 fn is_keyword(bytes: &[u8]) -> bool
-    ensures { result ≡ spec.is_among spec.keywords bytes.now }
+    ensures { result ≡ spec.is_word_among spec.keywords bytes.now }
 {
     matches!(bytes, b"per" | b"sqrt") || bytes == b"cuberoot".as_slice()
 }
@@ -132,7 +132,7 @@ fn may_begin(byte: u8) -> bool
 
 // Whether a name may end in the byte.
 fn may_end(byte: u8) -> bool
-    ensures { result ≡ spec.may_end byte }
+    ensures { result ≡ spec.may_end_name byte }
 {
     !matches!(byte, b'_' | b',' | b'.')
 }

@@ -3,9 +3,9 @@
 ghost use Rattle.std.specs.Prelude.{◌≡◌, ◌⊎◌, MatchResult, Ok, Err, Some, None};
 ghost use Rattle.std.specs.Option.{option_copied};
 ghost use Rattle.expr_tree.specs.Faults.{first_fault};
-ghost use Rattle.expr_tree.specs.Grammar.{Gives};
+ghost use Rattle.expr_tree.specs.Grammar.{GivesTree};
 ghost use Rattle.expr_tree.specs.Lexemes as spec;
-ghost use Rattle.expr_tree.specs.Parsed.{parsed};
+ghost use Rattle.expr_tree.specs.ParseResult.{parse_of};
 ghost use Rattle.expr_tree.specs.Trees.{syntax};
 
 use crate::descent::tree_of_tokens;
@@ -24,11 +24,11 @@ use std::alloc::Global;
 pub fn parse_expr(alloc: Global, text: &[u8], binder: Option<&[u8]>) -> Result<Tree, ParseFault>
     ensures exact { MatchResult result
         (λ tree. (first_fault text.now ≡ None)
-        × Gives (option_copied binder.entry) (spec.tokens text.now) (syntax tree))
+        × GivesTree (option_copied binder.entry) (spec.tokens text.now) (syntax tree))
         (λ fault. (fault ≡ ParseFault.OutOfMemory) ⊎ (first_fault text.now ≡ Some fault)) }
     ensures computed { MatchResult result
-        (λ tree. parsed (option_copied binder.entry) text.now ≡ Ok (syntax tree))
-        (λ fault. (fault ≡ ParseFault.OutOfMemory) ⊎ (parsed (option_copied binder.entry) text.now ≡ Err fault)) }
+        (λ tree. parse_of (option_copied binder.entry) text.now ≡ Ok (syntax tree))
+        (λ fault. (fault ≡ ParseFault.OutOfMemory) ⊎ (parse_of (option_copied binder.entry) text.now ≡ Err fault)) }
 {
     let tokens = scan(alloc, text)?;
     Ok(tree_of_tokens(alloc, &tokens, binder)?)

@@ -1,9 +1,9 @@
 //! The digit of a word with a power.
 
 ghost use Rattle.std.specs.Prelude.{◌≡◌, ◌-◌, IsTrue, Ok};
-ghost use Rattle.frac128.specs.Decimals.{read};
+ghost use Rattle.frac128.specs.Decimals.{numeral_reading};
 ghost use Rattle.expr_tree.specs.Names.{is_power_byte};
-ghost use Rattle.expr_tree.specs.Seen.{power_numeral, seen_digit};
+ghost use Rattle.expr_tree.specs.TokenViews.{power_numeral, seen_digit};
 
 use frac128::{Numeral, read_numeral};
 
@@ -51,7 +51,7 @@ impl PowerDigit {
 
     // Returns the digit as text.
     fn text(self) -> &'static [u8]
-        ensures { read result.now ≡ Ok (power_numeral self) }
+        ensures { numeral_reading result.now ≡ Ok (power_numeral self) }
     {
         match self {
             PowerDigit::Two => b"2",

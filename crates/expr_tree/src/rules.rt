@@ -3,7 +3,7 @@
 ghost use Rattle.std.specs.Prelude.{◌≡◌};
 ghost use Rattle.expr_tree.specs.Rules as spec;
 ghost use Rattle.expr_tree.specs.Faults.{takes_numeral};
-ghost use Rattle.expr_tree.specs.Seen.{seen};
+ghost use Rattle.expr_tree.specs.TokenViews.{token_view};
 
 use crate::token::Token;
 
@@ -27,7 +27,7 @@ pub(crate) enum After {
 impl After {
     // Returns the state after one more token.
     pub(crate) fn then(self, token: &Token) -> After
-        ensures { result ≡ spec.after (seen token.now) self }
+        ensures { result ≡ spec.after (token_view token.now) self }
     {
         match token {
             Token::Numeral(_) => match self {
@@ -50,7 +50,7 @@ impl After {
 
     // Whether a token may follow if `opened` parentheses are open.
     pub(crate) fn may(self, opened: usize, token: &Token) -> bool
-        ensures { result ≡ spec.may self opened (seen token.now) }
+        ensures { result ≡ spec.may self opened (token_view token.now) }
     {
         match token {
             Token::Numeral(_) => !matches!(self, After::WantsHead | After::WantsOpen),
@@ -75,14 +75,14 @@ impl After {
 
     // Whether an operand has ended.
     pub(crate) fn has_ended(self) -> bool
-        ensures { result ≡ spec.has_ended self }
+        ensures { result ≡ spec.operand_has_ended self }
     {
         matches!(self, After::EndsNumeral | After::EndsOperand)
     }
 
     // Whether the tokens after `token` are nested one level deeper than it.
     pub(crate) fn deepens(self, token: &Token) -> bool
-        ensures { result ≡ spec.deepens (seen token.now) self }
+        ensures { result ≡ spec.deepens (token_view token.now) self }
     {
         match token {
             Token::Caret | Token::Head(_) | Token::Open => true,
@@ -94,14 +94,14 @@ impl After {
 
 // Whether a token opens a parenthesis.
 pub(crate) fn opens(token: &Token) -> bool
-    ensures { result ≡ spec.opens (seen token.now) }
+    ensures { result ≡ spec.opens (token_view token.now) }
 {
     matches!(token, Token::Head(_) | Token::Open)
 }
 
 // Whether a token closes a parenthesis.
 pub(crate) fn closes(token: &Token) -> bool
-    ensures { result ≡ spec.closes (seen token.now) }
+    ensures { result ≡ spec.closes_paren (token_view token.now) }
 {
     matches!(token, Token::Close)
 }

@@ -3,7 +3,7 @@
 ghost use Rattle.std.specs.Prelude.{◌≡◌};
 ghost use Rattle.expr_tree.specs.Lexemes.{is_numeral_token};
 ghost use Rattle.expr_tree.specs.Rules.{begins_operand};
-ghost use Rattle.expr_tree.specs.Seen.{seen};
+ghost use Rattle.expr_tree.specs.TokenViews.{token_view};
 
 use crate::operator::RootKind;
 use crate::power_digit::PowerDigit;
@@ -31,7 +31,7 @@ pub(crate) enum Token<'a> {
 impl Token<'_> {
     // Whether an operand may begin with the token.
     pub(crate) fn begins_operand(&self) -> bool
-        ensures { result ≡ begins_operand (seen self.now) }
+        ensures { result ≡ begins_operand (token_view self.now) }
     {
         matches!(
             self,
@@ -47,7 +47,7 @@ impl Token<'_> {
 
     // Whether the token is a numeral.
     pub(crate) fn is_numeral(&self) -> bool
-        ensures { result ≡ is_numeral_token (seen self.now) }
+        ensures { result ≡ is_numeral_token (token_view self.now) }
     {
         matches!(self, Token::Numeral(_))
     }

@@ -2,7 +2,7 @@
 
 ghost use Rattle.std.specs.Prelude.{◌≡◌, ◌++◌, ◌∷◌, [], length, OnOk, OnErr, map, option_map, slice_get};
 ghost use Rattle.std.specs.Option.{option_copied};
-ghost use Rattle.expr_tree.specs.Trees.{factor, factors_of, syntax, term, terms_of, trees_of};
+ghost use Rattle.expr_tree.specs.Trees.{factor_syntax, factors_of, syntax, term, terms_of, trees_of};
 
 use crate::operator::{RootKind, Scale, Sign};
 use frac128::Numeral;
@@ -131,7 +131,7 @@ impl Factors {
 
     /// Appends a member. If that fails, the list is unchanged.
     pub fn push(&mut self, _alloc: Global, item: (Scale, Tree)) -> Result<(), AllocError>
-        ensures ok { OnOk result (factors_of self.new ≡ factors_of self.old ++ factor item ∷ []) }
+        ensures ok { OnOk result (factors_of self.new ≡ factors_of self.old ++ factor_syntax item ∷ []) }
         ensures err { OnErr result (factors_of self.new ≡ factors_of self.old) }
     {
         if self.items.is_empty() {
@@ -150,14 +150,14 @@ impl Factors {
 
     /// Returns the members as a slice.
     pub fn as_slice(&self) -> &[(Scale, Tree)]
-        ensures { map factor result.now ≡ factors_of self.now }
+        ensures { map factor_syntax result.now ≡ factors_of self.now }
     {
         self.items.as_slice()
     }
 
     /// Returns the member at index `i`, or `None` if `i` is out of bounds.
     pub fn get(&self, i: usize) -> Option<&(Scale, Tree)>
-        ensures { option_map factor (option_copied result) ≡ slice_get (factors_of self.now) i }
+        ensures { option_map factor_syntax (option_copied result) ≡ slice_get (factors_of self.now) i }
     {
         self.items.get(i)
     }

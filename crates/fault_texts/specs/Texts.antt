@@ -1,7 +1,7 @@
 -- The texts of faults, each one line with no tab before it and no line feed after it.
 use Rattle.std.specs.Prelude.{◌++◌, ℕ, List, [], ◌∷◌, codes, Option, Some, None}
 use Rattle.std.specs.List.{flat_map}
-use Rattle.frac128.specs.Faults.{fault_text as number_fault_text}
+use Rattle.frac128.specs.Faults.{frac_fault_text as number_fault_text}
 use Rattle.quantity.specs.Amount.{Amount}
 use Rattle.quantity.specs.Text.{amount_text}
 use Rattle.digits_print.specs.declared.style.Style.{Style}

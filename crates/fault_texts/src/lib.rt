@@ -2,7 +2,7 @@
 #![tactic(auto)]
 
 mod names;
-mod put;
+mod text_parts;
 mod values;
 
 pub use names::put_name_fault;

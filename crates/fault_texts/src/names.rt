@@ -5,7 +5,7 @@ ghost use Rattle.std.specs.List.{flat_map};
 ghost use Rattle.def_entry.specs.Keys.{key_text};
 ghost use Rattle.fault_texts.specs.Texts as spec;
 
-use crate::put::put_named;
+use crate::text_parts::put_named;
 use def_entry::{Key, put_key};
 use std::alloc::AllocError;
 use table_names::NameFault;

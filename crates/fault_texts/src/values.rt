@@ -5,7 +5,7 @@ ghost use Rattle.digits_print.specs.Styles.{IsStyle};
 ghost use Rattle.quantity.specs.Text.{amount_text};
 ghost use Rattle.fault_texts.specs.Texts as spec;
 
-use crate::put::put_named;
+use crate::text_parts::put_named;
 use quantity::{Quantity, Style};
 use std::alloc::{AllocError, Global};
 use tree_eval::ValueFault;

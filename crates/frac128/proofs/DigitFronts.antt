@@ -4,13 +4,14 @@ use Rattle.std.proofs.Common.{take, length, get_or, add-one, subst, Some, None, 
 use Rattle.std.specs.Prelude.{◌||◌, if◌then◌else◌}
 use Rattle.std.specs.List.{list_all}
 use Rattle.std.proofs.lemmas.Int.{ints}
-use Rattle.frac128.specs.declared.spelling.Kind.TheVariants.{Digit, Point, Mark, Sign, Other}
-use Rattle.frac128.specs.declared.spelling.Stage.{Stage}
-use Rattle.frac128.specs.declared.spelling.Stage.TheVariants.{Start, Whole, Pointed, Fraction, Marked, Signed, Exponent}
+use Rattle.frac128.specs.declared.numeral_syntax.Kind.TheVariants.{Digit, Point, Mark, Sign, Other}
+use Rattle.frac128.specs.declared.numeral_syntax.Stage.{Stage}
+use Rattle.frac128.specs.declared.numeral_syntax.Stage.TheVariants.{Start, Whole, Pointed, Fraction, Marked, Signed}
+use Rattle.frac128.specs.declared.numeral_syntax.Stage.TheVariants.{Exponent}
 use Rattle.frac128.specs.Decimals.{places}
-use Rattle.frac128.specs.Numerals.{greatest, is_digit, is_mark_byte, is_numeral, is_point_byte, is_sign_byte}
+use Rattle.frac128.specs.Numerals.{greatest_passing, is_digit, is_mark_byte, is_numeral, is_point_byte, is_sign_byte}
 use Rattle.frac128.specs.Numerals.{numeral_len_of}
-use Rattle.frac128.specs.Stages.{kind_of, may_end, stage_after}
+use Rattle.frac128.specs.Stages.{byte_kind, may_end, stage_after}
 use Rattle.frac128.proofs.Readings.{IsSplit}
 use Rattle.frac128.proofs.StageRuns.{IsReadTo, digit_no_mark, digit_no_point, read_end, read_more, read_start}
 use Rattle.frac128.proofs.WholeNumerals.{before_digits, both, digits_numeral, from_digits}
@@ -47,7 +48,7 @@ digits_more bytes i is low digit = record {
   digits = ap (λ n. list_all is_digit (take n bytes)) (add-one i) ∙ all_more bytes i is.digits low digit;
 }
   where
-    kind : is_digit (get_or bytes i 0) ≡ true → kind_of (get_or bytes i 0) ≡ Digit
+    kind : is_digit (get_or bytes i 0) ≡ true → byte_kind (get_or bytes i 0) ≡ Digit
     kind h = rw h refl
 
     next : (i : ℕ) → Some Whole ≡ stage_after (digits_stage i) Digit
@@ -64,7 +65,7 @@ pub digits_end : (bytes : List ℕ) (i : ℕ) → IsDigitsTo bytes i → i < len
     → 0 < i → i ≡ numeral_len_of bytes
 digits_end bytes zero is low other stops some = absurd (omega arith)
 digits_end bytes (suc i) is low other stops some =
-    read_end bytes (suc i) Whole (kind_of (get_or bytes (suc i) 0)) (suc i) is.read low refl
+    read_end bytes (suc i) Whole (byte_kind (get_or bytes (suc i) 0)) (suc i) is.read low refl
     (none (is_digit (get_or bytes (suc i) 0)) (is_point_byte (get_or bytes (suc i) 0))
     (is_mark_byte (get_or bytes (suc i) 0)) (is_sign_byte (get_or bytes (suc i) 0)) other stops)
   where
@@ -80,7 +81,7 @@ digits_end bytes (suc i) is low other stops some =
 -- if all bytes are digits, the longest numeral has all of them
 pub digits_all : (bytes : List ℕ) (i : ℕ) → IsDigitsTo bytes i → i ≡ length bytes → i ≡ numeral_len_of bytes
 digits_all bytes i is all =
-    is.read.longest ∙ ap (λ n. greatest (λ n. is_numeral (take n bytes)) n) all
+    is.read.longest ∙ ap (λ n. greatest_passing (λ n. is_numeral (take n bytes)) n) all
 
 -- after one more digit at a stage at which a numeral may end, the stage is the same and the longest numeral ends there
 pub ended_more : (bytes : List ℕ) (i : ℕ) (s : Stage) (len : ℕ) → IsReadTo bytes i s len → i < length bytes
@@ -88,7 +89,7 @@ pub ended_more : (bytes : List ℕ) (i : ℕ) (s : Stage) (len : ℕ) → IsRead
 ended_more bytes i s len is low digit ends =
     read_more bytes i s s Digit len (i + 1) is low (sym (kind digit)) (stays s ends) (rw ends refl)
   where
-    kind : is_digit (get_or bytes i 0) ≡ true → kind_of (get_or bytes i 0) ≡ Digit
+    kind : is_digit (get_or bytes i 0) ≡ true → byte_kind (get_or bytes i 0) ≡ Digit
     kind h = rw h refl
 
     stays : (s : Stage) → may_end s ≡ true → Some s ≡ stage_after s Digit

@@ -9,7 +9,7 @@ use Rattle.std.proofs.lemmas.List.{at_drop_all, at_drop_more}
 use Rattle.std.proofs.Math.Nat.{le-mul_of_pos_right, zero-mul, mul-one, mul_assoc, pow-suc}
 use Rattle.frac128.specs.Decimals.{coefficient_of, digits_of, end_zeros, exponent_size, is_zero_digit, most_exponent}
 use Rattle.frac128.specs.Decimals.{number}
-use Rattle.frac128.specs.Decimals.{short_coefficient, without_end_zeros}
+use Rattle.frac128.specs.Decimals.{digits_without_zeros, short_coefficient}
 use Rattle.frac128.specs.Fraction.{most}
 use Rattle.frac128.specs.Numerals.{is_digit}
 use Rattle.frac128.proofs.Powers.{pow_some}
@@ -29,13 +29,13 @@ abbrev all_zero : List ℕ → Bool
 all_zero ds = list_all is_zero_digit ds
 
 -- if all digits are 0, none is left without the end zeros
-without-all_zero : (ds : List ℕ) → all_zero ds ≡ true → without_end_zeros ds ≡ []
+without-all_zero : (ds : List ℕ) → all_zero ds ≡ true → digits_without_zeros ds ≡ []
 without-all_zero [] h = refl
 without-all_zero (d ∷ ds) h = rw h refl
 
 -- a digit is left if it or a later digit is not 0
 without-other : (d : ℕ) (ds : List ℕ) → all_zero (d ∷ ds) ≡ false
-    → without_end_zeros (d ∷ ds) ≡ d ∷ without_end_zeros ds
+    → digits_without_zeros (d ∷ ds) ≡ d ∷ digits_without_zeros ds
 without-other d ds h = rw h refl
 
 -- digits that are all 0 add to the zeros
@@ -66,13 +66,17 @@ one_less a = omega arith
 
 -- if some digit is not 0, the number gets the pending zeros and all digits but the end zeros
 collect-others : (n z : ℕ) (ds : List ℕ) → all_zero ds ≡ false
-    → collect n z ds ≡ (fold extend (n * 10 ^ z) (without_end_zeros ds), length ds - length (without_end_zeros ds))
+    → collect n z ds ≡ (
+      fold extend (n * 10 ^ z) (digits_without_zeros ds),
+      length ds - length
+          (digits_without_zeros ds),
+    )
 collect-others n z [] h = absurd (cc)
 collect-others n z (zero ∷ ds) h =
     collect-others n (z + 1) ds h
-    ∙ ap (λ m. (fold extend m (without_end_zeros ds), length ds - length (without_end_zeros ds))) (shifted n z)
-    ∙ ap (λ k. (fold extend (n * 10 ^ z * 10 + 0) (without_end_zeros ds), k))
-    (taken (length ds) (length (without_end_zeros ds)))
+    ∙ ap (λ m. (fold extend m (digits_without_zeros ds), length ds - length (digits_without_zeros ds))) (shifted n z)
+    ∙ ap (λ k. (fold extend (n * 10 ^ z * 10 + 0) (digits_without_zeros ds), k))
+    (taken (length ds) (length (digits_without_zeros ds)))
     ∙ ap (λ w. (fold extend (n * 10 ^ z) w, suc (length ds) - length w)) (sym (without-other zero ds h))
 collect-others n z (suc d ∷ ds) h =
     by_test (all_zero ds) refl (λ m k e. collect-others m k ds e)
@@ -80,11 +84,15 @@ collect-others n z (suc d ∷ ds) h =
   where
     by_test : (b : Bool) → all_zero ds ≡ b
         → ((m k : ℕ) → all_zero ds ≡ false
-        → collect m k ds ≡ (fold extend (m * 10 ^ k) (without_end_zeros ds), length ds - length (without_end_zeros ds)))
+        → collect m k ds ≡ (
+          fold extend (m * 10 ^ k) (digits_without_zeros ds),
+          length ds - length
+              (digits_without_zeros ds),
+        ))
         → collect (n * 10 ^ (z + 1) + suc d) 0 ds
         ≡ (
-          fold extend (n * 10 ^ z * 10 + suc d) (without_end_zeros ds),
-          suc (length ds) - suc (length (without_end_zeros ds)),
+          fold extend (n * 10 ^ z * 10 + suc d) (digits_without_zeros ds),
+          suc (length ds) - suc (length (digits_without_zeros ds)),
         )
     by_test true e others =
         rw (without-all_zero ds e)
@@ -92,18 +100,18 @@ collect-others n z (suc d ∷ ds) h =
         ∙ ap (λ k. (n * 10 ^ z * 10 + suc d, k)) (one_less (length ds)))
     by_test false e others =
         others (n * 10 ^ (z + 1) + suc d) 0 e
-        ∙ ap (λ m. (fold extend m (without_end_zeros ds), length ds - length (without_end_zeros ds)))
+        ∙ ap (λ m. (fold extend m (digits_without_zeros ds), length ds - length (digits_without_zeros ds)))
         (once (n * 10 ^ (z + 1) + suc d) ∙ ap (λ m. m + suc d) (power_more n z))
-        ∙ ap (λ k. (fold extend (n * 10 ^ z * 10 + suc d) (without_end_zeros ds), k))
-        (taken (length ds) (length (without_end_zeros ds)))
+        ∙ ap (λ k. (fold extend (n * 10 ^ z * 10 + suc d) (digits_without_zeros ds), k))
+        (taken (length ds) (length (digits_without_zeros ds)))
 
 -- the number and the end zeros of all digits
 collect-all : (ds : List ℕ)
-    → collect 0 0 ds ≡ (number (without_end_zeros ds), length ds - length (without_end_zeros ds))
+    → collect 0 0 ds ≡ (number (digits_without_zeros ds), length ds - length (digits_without_zeros ds))
 collect-all ds = by_test (all_zero ds) refl
   where
     by_test : (b : Bool) → all_zero ds ≡ b
-        → collect 0 0 ds ≡ (number (without_end_zeros ds), length ds - length (without_end_zeros ds))
+        → collect 0 0 ds ≡ (number (digits_without_zeros ds), length ds - length (digits_without_zeros ds))
     by_test true h = rw (without-all_zero ds h) (collect-zeros 0 0 ds h ∙ ap (λ k. (0, k)) (omega arith))
     by_test false h = collect-others 0 0 ds h
 
@@ -121,7 +129,7 @@ fold-zeros n (suc d ∷ ds) h = absurd (cc)
 
 -- if some digit is not 0, the end zeros multiply the number by a power of ten
 fold-without : (n : ℕ) (ds : List ℕ) → all_zero ds ≡ false
-    → fold extend n ds ≡ fold extend n (without_end_zeros ds) * 10 ^ (length ds - length (without_end_zeros ds))
+    → fold extend n ds ≡ fold extend n (digits_without_zeros ds) * 10 ^ (length ds - length (digits_without_zeros ds))
 fold-without n [] h = absurd (cc)
 fold-without n (d ∷ ds) h =
     by_test (all_zero ds) refl (λ m e. fold-without m ds e)
@@ -129,25 +137,27 @@ fold-without n (d ∷ ds) h =
   where
     by_test : (b : Bool) → all_zero ds ≡ b
         → ((m : ℕ) → all_zero ds ≡ false
-        → fold extend m ds ≡ fold extend m (without_end_zeros ds) * 10 ^ (length ds - length (without_end_zeros ds)))
+        → fold extend m ds ≡ fold extend m (digits_without_zeros ds) * 10 ^
+        (length ds - length (digits_without_zeros ds)))
         → fold extend (n * 10 + d) ds
-        ≡ fold extend (n * 10 + d) (without_end_zeros ds) * 10 ^ (suc (length ds) - suc (length (without_end_zeros ds)))
+        ≡ fold extend (n * 10 + d) (digits_without_zeros ds) * 10 ^
+        (suc (length ds) - suc (length (digits_without_zeros ds)))
     by_test true e others =
         rw (without-all_zero ds e)
         (fold-zeros (n * 10 + d) ds e
         ∙ ap (λ k. (n * 10 + d) * 10 ^ k) (sym (zero-add (length ds)) ∙ one_less (length ds)))
     by_test false e others =
         others (n * 10 + d) e
-        ∙ ap (λ k. fold extend (n * 10 + d) (without_end_zeros ds) * 10 ^ k)
-        (taken (length ds) (length (without_end_zeros ds)))
+        ∙ ap (λ k. fold extend (n * 10 + d) (digits_without_zeros ds) * 10 ^ k)
+        (taken (length ds) (length (digits_without_zeros ds)))
 
 -- a number is the number without its end zeros, times ten for each of them
 pub number-without : (ds : List ℕ)
-    → number ds ≡ number (without_end_zeros ds) * 10 ^ (length ds - length (without_end_zeros ds))
+    → number ds ≡ number (digits_without_zeros ds) * 10 ^ (length ds - length (digits_without_zeros ds))
 number-without ds = by_test (all_zero ds) refl
   where
     by_test : (b : Bool) → all_zero ds ≡ b
-        → number ds ≡ number (without_end_zeros ds) * 10 ^ (length ds - length (without_end_zeros ds))
+        → number ds ≡ number (digits_without_zeros ds) * 10 ^ (length ds - length (digits_without_zeros ds))
     by_test true e =
         rw (without-all_zero ds e)
         (fold-zeros 0 ds e ∙ zero-mul (10 ^ length ds) ∙ sym (zero-mul (10 ^ (length ds - 0))))

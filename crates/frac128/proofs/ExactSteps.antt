@@ -9,33 +9,34 @@ use Rattle.std.proofs.Math.IntN.{*ℤ-negsuc, *ℤ-zero, *ℤ_comm, neg_ℤ-neg_
 use Rattle.std.proofs.Math.Nat.{mul-div_cancel', mul-pos, mul-zero, mul_assoc, mul_comm}
 use Rattle.frac128.specs.declared.fault.FracFault.TheVariants.{Overflow}
 use Rattle.frac128.specs.Divisors.{gcd, lcm}
-use Rattle.frac128.specs.Exact.{StepsLaw, difference, sum}
-use Rattle.frac128.specs.Fraction.{Fraction, SameValue, fits, negated}
-use Rattle.frac128.specs.Sign.{differ, signed}
-use Rattle.frac128.specs.Steps.{fitting, ratio, reduced}
+use Rattle.frac128.specs.Exact.{ExactStepsLaw, difference, sum}
+use Rattle.frac128.specs.Fraction.{Fraction, SameValue, fits_most, negative_of}
+use Rattle.frac128.specs.Sign.{differ, number_with_sign}
+use Rattle.frac128.specs.Steps.{fit_or_overflow, lowest_terms, ratio}
 use Rattle.frac128.specs.Sums.{in_range, step_over, minus, numerator_over, plus}
 use Rattle.frac128.proofs.Euclid.{gcd_is}
 use Rattle.frac128.proofs.Multiples.{lcm-times}
-use Rattle.frac128.proofs.Reduced.{reduced-value}
+use Rattle.frac128.proofs.QuotientLaws.{reduced-value}
 use Rattle.frac128.proofs.Signs.{mul-signed, neg-times, signed_is}
 use Rattle.frac128.proofs.Sums.{lcm-div, minus-negated}
 
 -- if a step over a multiple has a result, this is the reduced quotient
-joined_ok : (step : ℤ → ℤ → ℤ) (m : ℕ) (l r : ℤ) (y : Fraction) → step_over step m l r ≡ Ok y → y ≡ reduced (step l r) m
+joined_ok : (step : ℤ → ℤ → ℤ) (m : ℕ) (l r : ℤ) (y : Fraction) → step_over step m l r ≡ Ok y
+    → y ≡ lowest_terms (step l r) m
 joined_ok step m l r y h = by_tests (in_range (pos m)) (in_range l) (in_range r) (in_range (step l r)) h
   where
     by_tests : (a b c d : Bool)
-        → (if a && b && c then (if d then Ok (reduced (step l r) m) else Err Overflow) else Err Overflow) ≡ Ok y
-        → y ≡ reduced (step l r) m
+        → (if a && b && c then (if d then Ok (lowest_terms (step l r) m) else Err Overflow) else Err Overflow) ≡ Ok y
+        → y ≡ lowest_terms (step l r) m
     by_tests true true true true e = cc
     by_tests true true true false e = absurd (cc)
     by_tests true true false d e = absurd (cc)
     by_tests true false c d e = absurd (cc)
     by_tests false b c d e = absurd (cc)
 
--- a result of `fitting` is the fraction itself
-fitting_ok : (x y : Fraction) → fitting x ≡ Ok y → y ≡ x
-fitting_ok x y h = by_test (fits x) h
+-- a result of `fit_or_overflow` is the fraction itself
+fitting_ok : (x y : Fraction) → fit_or_overflow x ≡ Ok y → y ≡ x
+fitting_ok x y h = by_test (fits_most x) h
   where
     by_test : (b : Bool) → (if b then Ok x else Err Overflow) ≡ Ok y → y ≡ x
     by_test true e = cc
@@ -48,10 +49,11 @@ mul-twice z a b =
     let n = unsigned_abs z in
     ap (λ k. k *ℤ pos a *ℤ pos b) (signed_is z) ∙ ap (λ k. k *ℤ pos b) (mul-signed s false n a)
     ∙ mul-signed (differ s false) false (n * a) b
-    ∙ plain s (n * a * b) ∙ ap (signed (differ s false)) (mul_assoc n a b)
+    ∙ plain s (n * a * b) ∙ ap (number_with_sign (differ s false)) (mul_assoc n a b)
     ∙ sym (ap (λ k. k *ℤ pos (a * b)) (signed_is z) ∙ mul-signed s false n (a * b))
   where
-    plain : (s : Bool) (k : ℕ) → signed (differ (differ s false) false) k ≡ signed (differ s false) k
+    plain : (s : Bool) (k : ℕ) → number_with_sign (differ (differ s false) false) k ≡ number_with_sign (differ s false)
+        k
     plain true k = refl
     plain false k = refl
 
@@ -82,7 +84,7 @@ plus_value x y z some_x some_y h =
     let m = lcm x.den y.den in
     let l = numerator_over x m in
     let r = numerator_over y m in
-    let is : z ≡ reduced (l +ℤ r) m = joined_ok ◌+ℤ◌ m l r z h in
+    let is : z ≡ lowest_terms (l +ℤ r) m = joined_ok ◌+ℤ◌ m l r z h in
     let same : SameValue z (record { num = l +ℤ r; den = m }) = rw is (reduced-value (l +ℤ r) m) in
     let parts = lcm-div x.den y.den some_x some_y in
     let left : l *ℤ pos g ≡ x.num *ℤ pos y.den =
@@ -100,7 +102,7 @@ plus_value x y z some_x some_y h =
 -- the value of a difference
 minus_value : (x y z : Fraction) → 0 < x.den → 0 < y.den → minus x y ≡ Ok z → SameValue z (difference x y)
 minus_value x y z some_x some_y h =
-    plus_value x (negated y) z some_x some_y (sym (minus-negated x y) ∙ h)
+    plus_value x (negative_of y) z some_x some_y (sym (minus-negated x y) ∙ h)
     ∙ ap (λ n. n *ℤ pos z.den)
     (ap (λ k. (x.num *ℤ pos y.den) +ℤ k) (sym (neg-times y.num x.den)) ∙ less (x.num *ℤ pos y.den) (y.num *ℤ pos x.den))
   where
@@ -111,7 +113,7 @@ minus_value x y z some_x some_y h =
 ratio_value : (n : ℤ) (d : ℕ) (z : Fraction) → 0 < d → ratio n (pos d) ≡ Ok z
     → SameValue z (record { num = n; den = d })
 ratio_value n zero z some h = absurd (omega arith)
-ratio_value n (suc d) z some h = rw (fitting_ok (reduced n (suc d)) z h) (reduced-value n (suc d))
+ratio_value n (suc d) z some h = rw (fitting_ok (lowest_terms n (suc d)) z h) (reduced-value n (suc d))
 
 -- the product of a quotient and its divisor has the value of the dividend
 over_value : (n m : ℤ) (b d : ℕ) (z : Fraction) → 0 < b → ratio (n *ℤ pos d) (pos b *ℤ m) ≡ Ok z
@@ -136,10 +138,10 @@ over_value n (negsuc k) b d z some h =
         → z.num *ℤ pos j ≡ neg_ℤ (n *ℤ pos d) *ℤ pos z.den
     below zero some h = absurd (omega arith)
     below (suc j) some h =
-        rw (fitting_ok (reduced (neg_ℤ (n *ℤ pos d)) (suc j)) z h) (reduced-value (neg_ℤ (n *ℤ pos d)) (suc j))
+        rw (fitting_ok (lowest_terms (neg_ℤ (n *ℤ pos d)) (suc j)) z h) (reduced-value (neg_ℤ (n *ℤ pos d)) (suc j))
 
 -- the law of the steps
-pub steps_law : StepsLaw
+pub steps_law : ExactStepsLaw
 steps_law x y z some_x some_y = (
   plus_value x y z some_x some_y,
   minus_value x y z some_x some_y,

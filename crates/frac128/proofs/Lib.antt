@@ -11,11 +11,11 @@ pub mod Lowest
 pub mod Multiples
 pub mod NearestWholes
 pub mod NumeralValues
-pub mod Ordered
+pub mod OrderLaws
 pub mod Powers
 pub mod Quotients
 pub mod Readings
-pub mod Reduced
+pub mod QuotientLaws
 pub mod RootSearch
 pub mod Roots
 pub mod Signs

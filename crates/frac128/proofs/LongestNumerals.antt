@@ -1,25 +1,26 @@
 -- The longest numeral that is a prefix of some bytes.
 use Rattle.std.proofs.Common.{◌≡◌, ◌<◌, ◌≤◌, ℕ, zero, suc, Bool, true, false, if◌then◌else◌, List, length, take, refl}
 use Rattle.std.proofs.Common.{arith}
-use Rattle.frac128.specs.Numerals.{greatest, is_numeral, numeral_len_of}
+use Rattle.frac128.specs.Numerals.{greatest_passing, is_numeral, numeral_len_of}
 
 -- the greatest number up to `n` that passes a test is at most `n`
-greatest-le : (test : ℕ → Bool) (n : ℕ) → greatest test n ≤ n
-unfolding greatest
+greatest-le : (test : ℕ → Bool) (n : ℕ) → greatest_passing test n ≤ n
+unfolding greatest_passing
 greatest-le test zero = omega arith
-greatest-le test (suc n) = elim (test (suc n)) as (λ b. (if b then suc n else greatest test n) ≤ suc n) [
+greatest-le test (suc n) = elim (test (suc n)) as (λ b. (if b then suc n else greatest_passing test n) ≤ suc n) [
   | true ↦ omega arith
   | false ↦ omega (arith, greatest-le test n)
 ]
 
 -- if the greatest number is above 0, it passes the test
-greatest-passes : (test : ℕ → Bool) (n : ℕ) → 0 < greatest test n → test (greatest test n) ≡ true
-unfolding greatest
+greatest-passes : (test : ℕ → Bool) (n : ℕ) → 0 < greatest_passing test n → test (greatest_passing test n) ≡ true
+unfolding greatest_passing
 greatest-passes test zero h = absurd (omega arith)
 greatest-passes test (suc n) h = go (greatest-passes test n) (test (suc n)) refl h
   where
-    go : (0 < greatest test n → test (greatest test n) ≡ true) → (b : Bool) → test (suc n) ≡ b
-        → 0 < (if b then suc n else greatest test n) → test (if b then suc n else greatest test n) ≡ true
+    go : (0 < greatest_passing test n → test (greatest_passing test n) ≡ true) → (b : Bool) → test (suc n) ≡ b
+        → 0 < (if b then suc n else greatest_passing test n)
+        → test (if b then suc n else greatest_passing test n) ≡ true
     go below true e some = e
     go below false e some = below some
 

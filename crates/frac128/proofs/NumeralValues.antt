@@ -8,9 +8,9 @@ use Rattle.std.proofs.lemmas.Bool.Decides.{nat_tests}
 use Rattle.std.proofs.lemmas.Int.{ints}
 use Rattle.std.proofs.lemmas.Nat.{pow-add}
 use Rattle.std.proofs.Math.Nat.{mul-pos, zero-mul}
-use Rattle.frac128.specs.Decimals.{NumeralLaw, coefficient_of, decimal, digits_of, end_zeros, exponent_of}
-use Rattle.frac128.specs.Decimals.{exponent_text, mantissa}
-use Rattle.frac128.specs.Decimals.{number, places, times_power, value_of}
+use Rattle.frac128.specs.Decimals.{NumeralLaw, coefficient_of, decimal, decimal_exponent, digits_of, end_zeros}
+use Rattle.frac128.specs.Decimals.{exponent_part, mantissa}
+use Rattle.frac128.specs.Decimals.{number, places, times_power, value_of_decimal}
 use Rattle.frac128.specs.Divisors.{IsLowest, gcd}
 use Rattle.frac128.specs.Steps.{ratio}
 use Rattle.frac128.proofs.Coprime.{coprime_is}
@@ -84,11 +84,11 @@ zeros-out c z (negsuc k) = elim (cases_lt k z) [
 
 -- the value of a mantissa times a power of ten
 decimal_value : (bytes : List ℕ) (power : ℤ)
-    → value_of (decimal bytes power) ≡ times_power (number (digits_of bytes)) (power -ℤ pos (places bytes))
+    → value_of_decimal (decimal bytes power) ≡ times_power (number (digits_of bytes)) (power -ℤ pos (places bytes))
 decimal_value bytes power = by_coefficient (coefficient_of bytes) (number-without (digits_of bytes))
   where
     by_coefficient : (c : ℕ) → number (digits_of bytes) ≡ c * 10 ^ end_zeros bytes
-        → value_of (if c == 0 then record { coefficient = 0; scale = pos 0 }
+        → value_of_decimal (if c == 0 then record { coefficient = 0; scale = pos 0 }
         else record { coefficient = c; scale = power -ℤ pos (places bytes) +ℤ pos (end_zeros bytes) })
         ≡ times_power (number (digits_of bytes)) (power -ℤ pos (places bytes))
     by_coefficient zero is = zero_power (pos 0)
@@ -104,7 +104,7 @@ decimal_value bytes power = by_coefficient (coefficient_of bytes) (number-withou
 -- the law of the values of numerals
 pub numeral_law : NumeralLaw
 numeral_law bytes is short = (
-  decimal (mantissa bytes) (exponent_of (exponent_text bytes)),
+  decimal (mantissa bytes) (decimal_exponent (exponent_part bytes)),
   rw (is, short) refl,
-  decimal_value (mantissa bytes) (exponent_of (exponent_text bytes)),
+  decimal_value (mantissa bytes) (decimal_exponent (exponent_part bytes)),
 )

@@ -5,9 +5,9 @@ use Rattle.std.proofs.Common.{arith, refl, sym, ap, ◌∙◌}
 use Rattle.std.specs.Prelude.{if◌then◌else◌, ◌==◌, nat_le, Ok, Err}
 use Rattle.std.proofs.lemmas.Bool.Decides.{nat_tests}
 use Rattle.frac128.specs.declared.numeral.NumeralFault.TheVariants.{TooLong}
-use Rattle.frac128.specs.Decimals.{coefficient_of, digits_of, end_zeros, exponent_of, exponent_size, exponent_text}
+use Rattle.frac128.specs.Decimals.{coefficient_of, decimal_exponent, digits_of, end_zeros, exponent_part, exponent_size}
 use Rattle.frac128.specs.Decimals.{mantissa, most_exponent, places}
-use Rattle.frac128.specs.Decimals.{read, short_coefficient}
+use Rattle.frac128.specs.Decimals.{numeral_reading, short_coefficient}
 use Rattle.frac128.specs.Fraction.{most}
 use Rattle.frac128.specs.Numerals.{before, from, is_digit, is_mark_byte, is_numeral}
 use Rattle.frac128.proofs.Comparisons.{le-false, le-true}
@@ -58,7 +58,7 @@ drop-before p (x ∷ xs) = by_test (p x) (drop-before p xs)
 pub record IsSplit (bytes m t : List ℕ) : Type 0 where
   pub numeral : is_numeral bytes ≡ true
   pub m_is : m ≡ mantissa bytes
-  pub t_is : t ≡ exponent_text bytes
+  pub t_is : t ≡ exponent_part bytes
 
 -- the parts, given the place of the mark
 pub split_by : (bytes m t : List ℕ) (n : ℕ) → n ≡ length (before is_mark_byte bytes) → m ≡ take n bytes
@@ -88,7 +88,8 @@ zeros-le bytes c z some =
     omega (arith, digits-le bytes)
 
 -- if the coefficient is too large, the result is `TooLong`
-pub read_wide : (bytes m t : List ℕ) → IsSplit bytes m t → None ≡ short_coefficient m → Err TooLong ≡ read bytes
+pub read_wide : (bytes m t : List ℕ) → IsSplit bytes m t → None ≡ short_coefficient m
+    → Err TooLong ≡ numeral_reading bytes
 read_wide bytes m t is none =
     let wide : nat_le (coefficient_of (mantissa bytes)) most ≡ false =
     rw (← is.m_is) (no_short (nat_le (coefficient_of m) most) (coefficient_of m, end_zeros m) none) in
@@ -96,23 +97,23 @@ read_wide bytes m t is none =
 
 -- if the exponent is too large, the result is `TooLong`
 pub read_long : (bytes m t : List ℕ) (c z : ℕ) → IsSplit bytes m t → Some (c, z) ≡ short_coefficient m
-    → (exponent_size t ≤ most_exponent → ⊥) → Err TooLong ≡ read bytes
+    → (exponent_size t ≤ most_exponent → ⊥) → Err TooLong ≡ numeral_reading bytes
 read_long bytes m t c z is some wide =
     let short = is_shortened (nat_le (coefficient_of m) most) (c, z) (coefficient_of m, end_zeros m) some in
     let fits : nat_le (coefficient_of (mantissa bytes)) most ≡ true = rw (← is.m_is) short.0 in
-    let long : nat_le (exponent_size (exponent_text bytes)) most_exponent ≡ false =
+    let long : nat_le (exponent_size (exponent_part bytes)) most_exponent ≡ false =
     rw (← is.t_is) (le-false (exponent_size t) most_exponent (omega (arith, wide))) in
     rw (is.numeral, fits, long) refl
 
 -- if neither is too large, the result is computed from the parts
 pub read_short : (bytes m t : List ℕ) (c z : ℕ) → IsSplit bytes m t → Some (c, z) ≡ short_coefficient m
     → exponent_size t ≤ most_exponent
-    → read bytes ≡ Ok (if c == 0 then record { coefficient = 0; scale = pos 0 }
-    else record { coefficient = c; scale = exponent_of t -ℤ pos (places m) +ℤ pos z })
+    → numeral_reading bytes ≡ Ok (if c == 0 then record { coefficient = 0; scale = pos 0 }
+    else record { coefficient = c; scale = decimal_exponent t -ℤ pos (places m) +ℤ pos z })
 read_short bytes m t c z is some low =
     let short = is_shortened (nat_le (coefficient_of m) most) (c, z) (coefficient_of m, end_zeros m) some in
     let fits : nat_le (coefficient_of (mantissa bytes)) most ≡ true = rw (← is.m_is) short.0 in
-    let near : nat_le (exponent_size (exponent_text bytes)) most_exponent ≡ true =
+    let near : nat_le (exponent_size (exponent_part bytes)) most_exponent ≡ true =
     rw (← is.t_is) (le-true (exponent_size t) most_exponent low) in
     let c_is : c ≡ coefficient_of m = ap (λ p. p.0) short.1 in
     let z_is : z ≡ end_zeros m = ap (λ p. p.1) short.1 in
@@ -122,14 +123,14 @@ read_short bytes m t c z is some low =
 pub read_zero : (bytes m t : List ℕ) (c z : ℕ) → IsSplit bytes m t → Some (c, z) ≡ short_coefficient m
     → exponent_size t ≤ most_exponent
     → c ≡ 0
-    → Ok (record { coefficient = 0; scale = pos 0 }) ≡ read bytes
+    → Ok (record { coefficient = 0; scale = pos 0 }) ≡ numeral_reading bytes
 read_zero bytes m t c z is some low c_is = sym (read_short bytes m t c z is some low ∙ rw c_is refl)
 
 -- if the coefficient is above 0, the result has the scale of the parts
 pub read_some : (bytes m t : List ℕ) (c z k : ℕ) (power : ℤ) → IsSplit bytes m t → Some (c, z) ≡ short_coefficient m
     → exponent_size t ≤ most_exponent → (c ≡ 0 → ⊥)
-    → power ≡ exponent_of t → k ≡ places m → Ok (record { coefficient = c; scale = power -ℤ pos k +ℤ pos z })
-    ≡ read bytes
+    → power ≡ decimal_exponent t → k ≡ places m → Ok (record { coefficient = c; scale = power -ℤ pos k +ℤ pos z })
+    ≡ numeral_reading bytes
 read_some bytes m t c z k power is some low other power_is k_is =
     let test : (c == 0) ≡ false = grind (arith, nat_tests) in
     sym (read_short bytes m t c z is some low ∙ rw (test, power_is, k_is) refl)

@@ -8,10 +8,10 @@ use Rattle.std.proofs.lemmas.Bool.{cases_order}
 use Rattle.std.proofs.lemmas.Int.{ints}
 use Rattle.std.proofs.Math.Nat.{pow-lt-pow_left, dvd-mul_left, pow-le-pow_right, pow-suc}
 use Rattle.frac128.specs.Fraction.{Fraction, most}
-use Rattle.frac128.specs.Powers.{raised}
+use Rattle.frac128.specs.Powers.{power_fraction}
 use Rattle.frac128.specs.Roots.{IsRoot, IsRootAnswer, RootLaw}
-use Rattle.frac128.specs.Sign.{signed}
-use Rattle.frac128.specs.Steps.{fitting}
+use Rattle.frac128.specs.Sign.{number_with_sign}
+use Rattle.frac128.specs.Steps.{fit_or_overflow}
 use Rattle.frac128.proofs.Coprime.{coprime_is, coprime-dvd, is_coprime}
 use Rattle.frac128.proofs.Powers.{IsMade, pow-signed, pow_some}
 use Rattle.frac128.proofs.RootSearch.{pow-one, zero-pow}
@@ -42,7 +42,8 @@ root_lowest m n q a b some first second h =
 
 -- a fraction whose parts are in range fits
 fitting_ok : (s : Bool) (top bottom : ℕ) → top ≤ most → bottom ≤ most
-    → fitting (record { num = signed s top; den = bottom }) ≡ Ok (record { num = signed s top; den = bottom })
+    → fit_or_overflow (record { num = number_with_sign s top; den = bottom }) ≡ Ok
+    (record { num = number_with_sign s top; den = bottom })
 fitting_ok s top bottom low high = rw (abs-signed s top, le-true top most low, le-true bottom most high) refl
 
 -- if a number below 0 has only roots of odd degree, the sign of the power is that of the root
@@ -56,18 +57,20 @@ odd_sign true q odd = is_one (q % 2) (omega arith) (odd refl)
     is_one (suc (suc r)) h other = absurd (omega arith)
 
 -- a root of even degree is not below 0
-plain_sign : (s : Bool) (top q : ℕ) → (s ≡ true → q % 2 ≡ 0 → ⊥) → q % 2 ≡ 0 → IsFalse (int_lt (signed s top) (pos 0))
+plain_sign : (s : Bool) (top q : ℕ) → (s ≡ true → q % 2 ≡ 0 → ⊥) → q % 2 ≡ 0
+    → IsFalse (int_lt (number_with_sign s top) (pos 0))
 plain_sign false top q odd even = grind (arith, ints)
 plain_sign true top q odd even = absurd (odd refl even)
 
 -- the root of a fraction, made from the roots of numerator and denominator
 pub root_by : (x : Fraction) (q : ℕ) (s : Bool) (a b top bottom : ℕ) → IsMade x s a b → 0 < q → top ^ q ≡ a
     → bottom ^ q ≡ b
-    → (s ≡ true → q % 2 ≡ 0 → ⊥) → IsRoot x q (record { num = signed s top; den = bottom })
+    → (s ≡ true → q % 2 ≡ 0 → ⊥) → IsRoot x q (record { num = number_with_sign s top; den = bottom })
 root_by x q s a b top bottom is some first second odd =
-    let num : int_pow (signed s top) q ≡ x.num =
-    pow-signed s top q ∙ ap (λ t. signed t (top ^ q)) (odd_sign s q odd) ∙ ap (signed s) (first ∙ is.a_is)
-    ∙ ap (λ t. signed t (unsigned_abs x.num)) is.s_is ∙ sym (signed_is x.num) in
+    let num : int_pow (number_with_sign s top) q ≡ x.num =
+    pow-signed s top q ∙ ap (λ t. number_with_sign t (top ^ q)) (odd_sign s q odd)
+    ∙ ap (number_with_sign s) (first ∙ is.a_is)
+    ∙ ap (λ t. number_with_sign t (unsigned_abs x.num)) is.s_is ∙ sym (signed_is x.num) in
     record {
       reduced = record {
         positive = root_some bottom q b some second is.some;
@@ -82,7 +85,8 @@ root_by x q s a b top bottom is some first second odd =
 pub root_made : (x : Fraction) (q : ℕ) (s : Bool) (a b top bottom : ℕ) → IsMade x s a b → 0 < q → top ^ q ≡ a
     → bottom ^ q ≡ b → a ≤ most
     → b ≤ most
-    → (s ≡ true → q % 2 ≡ 0 → ⊥) → IsRootAnswer x q (fitting (record { num = signed s top; den = bottom }))
+    → (s ≡ true → q % 2 ≡ 0 → ⊥)
+    → IsRootAnswer x q (fit_or_overflow (record { num = number_with_sign s top; den = bottom }))
 root_made x q s a b top bottom is some first second a_fits b_fits odd =
     let low : top ≤ most = under top a (subst (λ k. top ≤ k) first (le-pow top q some)) a_fits in
     let high : bottom ≤ most = under bottom b (subst (λ k. bottom ≤ k) second (le-pow bottom q some)) b_fits in
@@ -110,7 +114,7 @@ abs-pow z q =
     ∙ ap unsigned_abs (pow-signed (int_lt z (pos 0)) (unsigned_abs z) q) ∙ abs-signed _ (unsigned_abs z ^ q)
 
 -- a number other than 0 has its sign
-sign_of : (s : Bool) (m : ℕ) → 0 < m → int_lt (signed s m) (pos 0) ≡ s
+sign_of : (s : Bool) (m : ℕ) → 0 < m → int_lt (number_with_sign s m) (pos 0) ≡ s
 sign_of false m some = grind (arith, ints)
 sign_of true zero some = absurd (omega arith)
 sign_of true (suc m) some = refl
@@ -121,8 +125,9 @@ odd_pow z q some odd =
     let s = int_lt z (pos 0) in
     let m = unsigned_abs z in
     ap (λ n. int_lt n (pos 0))
-    (ap (λ n. int_pow n q) (signed_is z) ∙ pow-signed s m q ∙ ap (λ b. signed (s && b) (m ^ q)) (one_is (q % 2) odd)
-    ∙ ap (λ b. signed b (m ^ q)) (and-true s))
+    (ap (λ n. int_pow n q) (signed_is z) ∙ pow-signed s m q ∙ ap (λ b. number_with_sign (s && b) (m ^ q))
+    (one_is (q % 2) odd)
+    ∙ ap (λ b. number_with_sign b (m ^ q)) (and-true s))
     ∙ sign_of s (m ^ q) (pow_some m q some)
   where
     one_is : (r : ℕ) → r ≡ 1 → (r == 1) ≡ true
@@ -153,13 +158,13 @@ same_num m n q some e plain_m plain_n =
         let some_m : 0 < unsigned_abs m = omega arith in
         let some_n : 0 < unsigned_abs n = omega arith in
         let below : q % 2 < 2 = omega arith in
-        signed_is m ∙ ap (λ s. signed s (unsigned_abs m)) (sign (q % 2) refl below some_m some_n)
-        ∙ ap (signed (int_lt n (pos 0))) size ∙ sym (signed_is n)
+        signed_is m ∙ ap (λ s. number_with_sign s (unsigned_abs m)) (sign (q % 2) refl below some_m some_n)
+        ∙ ap (number_with_sign (int_lt n (pos 0))) size ∙ sym (signed_is n)
 
 -- two roots of a fraction are equal
 pub root_law : RootLaw
 root_law x q r s some is_r is_s =
-    let same : raised r q ≡ raised s q = is_r.power ∙ sym is_s.power in
+    let same : power_fraction r q ≡ power_fraction s q = is_r.power ∙ sym is_s.power in
     let num = same_num r.num s.num q some (ap (λ f. f.num) same) is_r.plain is_s.plain in
     let den = same_of_pow r.den s.den q some (ap (λ f. f.den) same) in
     ap (λ n. record { num = n; den = r.den }) num ∙ ap (λ d. record { num = s.num; den = d }) den

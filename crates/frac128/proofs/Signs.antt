@@ -11,36 +11,37 @@ use Rattle.frac128.specs.Fraction.{Fraction, most}
 use Rattle.frac128.specs.declared.fault.FracFault.TheVariants.{Overflow}
 use Rattle.std.specs.Prelude.{Err, nat_le, ◌⊎◌, ◌^◌}
 use Rattle.std.proofs.Common.{inl, inr}
-use Rattle.frac128.specs.Sign.{signed, differ, signs_differ}
-use Rattle.frac128.specs.Steps.{fitting, ratio, reduced, times, over}
+use Rattle.frac128.specs.Sign.{number_with_sign, differ, signs_differ}
+use Rattle.frac128.specs.Steps.{fit_or_overflow, ratio, lowest_terms, fraction_product, fraction_quotient}
 use Rattle.frac128.proofs.Comparisons.{and-false, le-false}
 
 -- the magnitude of a signed number
-pub abs-signed : (s : Bool) (a : ℕ) → unsigned_abs (signed s a) ≡ a
+pub abs-signed : (s : Bool) (a : ℕ) → unsigned_abs (number_with_sign s a) ≡ a
 abs-signed false a = refl
 abs-signed true zero = refl
 abs-signed true (suc a) = refl
 
 -- dividing by a number above 0 keeps the sign
-div-signed : (s : Bool) (a g : ℕ) → int_div (signed s a) (pos g) ≡ signed s (a / g)
+div-signed : (s : Bool) (a g : ℕ) → int_div (number_with_sign s a) (pos g) ≡ number_with_sign s (a / g)
 div-signed false a g = refl
 div-signed true zero g = ap pos (zero-div g) ∙ ap (λ n. neg_ℤ (pos n)) (sym (zero-div g))
 div-signed true (suc a) g = refl
 
 -- a signed number over a number above 0, in lowest terms
 pub reduced-signed : (s : Bool) (a b top bottom : ℕ) → IsLowest a b top bottom
-    → reduced (signed s a) b ≡ record { num = signed s top; den = bottom }
-unfolding reduced
+    → lowest_terms (number_with_sign s a) b ≡ record { num = number_with_sign s top; den = bottom }
+unfolding lowest_terms
 reduced-signed s a b top bottom low =
     rw (abs-signed s a, div-signed s a (gcd a b), low.top_is, low.bottom_is) refl
 
 -- each number has its sign and its magnitude
-pub signed_is : (n : ℤ) → n ≡ signed (int_lt n (pos 0)) (unsigned_abs n)
+pub signed_is : (n : ℤ) → n ≡ number_with_sign (int_lt n (pos 0)) (unsigned_abs n)
 signed_is (pos n) = let plus : int_lt (pos n) (pos 0) ≡ false = grind (arith, ints) in rw plus refl
 signed_is (negsuc n) = refl
 
 -- a product is negative if the signs differ
-pub mul-signed : (s t : Bool) (a c : ℕ) → signed s a *ℤ signed t c ≡ signed (differ s t) (a * c)
+pub mul-signed : (s t : Bool) (a c : ℕ) → number_with_sign s a *ℤ number_with_sign t c ≡ number_with_sign (differ s t)
+    (a * c)
 mul-signed false false a c = refl
 mul-signed false true a zero = rw (mul-zero a) refl
 mul-signed false true a (suc c) = pos-*ℤ-negsuc a c
@@ -54,7 +55,7 @@ mul-signed true true (suc a) zero = rw (mul-zero (suc a)) refl
 mul-signed true true (suc a) (suc c) = refl
 
 -- negation flips the sign
-pub neg-signed : (s : Bool) (a : ℕ) → neg_ℤ (signed s a) ≡ signed (not s) a
+pub neg-signed : (s : Bool) (a : ℕ) → neg_ℤ (number_with_sign s a) ≡ number_with_sign (not s) a
 neg-signed false a = refl
 neg-signed true zero = refl
 neg-signed true (suc a) = refl
@@ -73,9 +74,9 @@ neg-times (negsuc n) k = neg_ℤ-neg_ℤ (pos (suc n * k))
 
 -- the ratio of a signed number and a number above 0
 pub ratio-signed : (s : Bool) (a b top bottom : ℕ) → 0 < b → IsLowest a b top bottom
-    → ratio (signed s a) (pos b) ≡ fitting (record { num = signed s top; den = bottom })
+    → ratio (number_with_sign s a) (pos b) ≡ fit_or_overflow (record { num = number_with_sign s top; den = bottom })
 ratio-signed s a zero top bottom some low = absurd (omega arith)
-ratio-signed s a (suc b) top bottom some low = ap fitting (reduced-signed s a (suc b) top bottom low)
+ratio-signed s a (suc b) top bottom some low = ap fit_or_overflow (reduced-signed s a (suc b) top bottom low)
 
 -- a sign differs from plus if it is minus
 pub differ-false : (s : Bool) → differ s false ≡ s
@@ -89,53 +90,56 @@ differ-true false = refl
 
 -- the ratio of two numbers, computed from their signs and magnitudes
 pub ratio_is : (n d : ℤ) (top bottom : ℕ) → 0 < unsigned_abs d → IsLowest (unsigned_abs n) (unsigned_abs d) top bottom
-    → ratio n d ≡ fitting (record { num = signed (signs_differ n d) top; den = bottom })
+    → ratio n d ≡ fit_or_overflow (record { num = number_with_sign (signs_differ n d) top; den = bottom })
 ratio_is n (pos zero) top bottom some low = absurd (omega arith)
 ratio_is n (pos (suc d)) top bottom some low =
     let plus : int_lt (pos (suc d)) (pos 0) ≡ false = grind (arith, ints) in
     ap (λ z. ratio z (pos (suc d))) (signed_is n) ∙ ratio-signed _ _ (suc d) top bottom some low
-    ∙ ap (λ s. fitting (record { num = signed s top; den = bottom })) (sym (ap (differ _) plus ∙ differ-false _))
+    ∙ ap (λ s. fit_or_overflow (record { num = number_with_sign s top; den = bottom }))
+    (sym (ap (differ _) plus ∙ differ-false _))
 ratio_is n (negsuc d) top bottom some low =
     ap (λ z. ratio z (negsuc d)) (signed_is n)
-    ∙ ap (λ z. fitting (reduced z (suc d))) (neg-signed (int_lt n (pos 0)) (unsigned_abs n))
-    ∙ ap fitting (reduced-signed _ _ (suc d) top bottom low)
-    ∙ ap (λ s. fitting (record { num = signed s top; den = bottom })) (sym (differ-true _))
+    ∙ ap (λ z. fit_or_overflow (lowest_terms z (suc d))) (neg-signed (int_lt n (pos 0)) (unsigned_abs n))
+    ∙ ap fit_or_overflow (reduced-signed _ _ (suc d) top bottom low)
+    ∙ ap (λ s. fit_or_overflow (record { num = number_with_sign s top; den = bottom })) (sym (differ-true _))
 
 -- the product of two fractions, computed from their signs and magnitudes
 pub times_is : (x y : Fraction) (top bottom : ℕ) → 0 < x.den → 0 < y.den
     → IsLowest (unsigned_abs x.num * unsigned_abs y.num) (x.den * y.den) top bottom
-    → times x y ≡ fitting (record { num = signed (signs_differ x.num y.num) top; den = bottom })
+    → fraction_product x y ≡ fit_or_overflow
+    (record { num = number_with_sign (signs_differ x.num y.num) top; den = bottom })
 times_is x y top bottom some_x some_y low =
     ap (λ z. ratio z (pos (x.den * y.den))) (product_is x.num y.num)
     ∙ ratio-signed _ _ (x.den * y.den) top bottom (mul-pos some_x some_y) low
   where
-    product_is : (m n : ℤ) → m *ℤ n ≡ signed (signs_differ m n) (unsigned_abs m * unsigned_abs n)
-    product_is m n = ap (λ z. z *ℤ n) (signed_is m) ∙ ap (λ z. signed _ (unsigned_abs m) *ℤ z) (signed_is n)
+    product_is : (m n : ℤ) → m *ℤ n ≡ number_with_sign (signs_differ m n) (unsigned_abs m * unsigned_abs n)
+    product_is m n = ap (λ z. z *ℤ n) (signed_is m) ∙ ap (λ z. number_with_sign _ (unsigned_abs m) *ℤ z) (signed_is n)
         ∙ mul-signed _ _ (unsigned_abs m) (unsigned_abs n)
 
 -- a fraction with a part of more than 128 bits does not fit
 pub wide_over : (s : Bool) (top bottom : ℕ) → (2 ^ 128 ≤ top) ⊎ (2 ^ 128 ≤ bottom)
-    → fitting (record { num = signed s top; den = bottom }) ≡ Err Overflow
+    → fit_or_overflow (record { num = number_with_sign s top; den = bottom }) ≡ Err Overflow
 wide_over s top bottom (inl h) = rw (abs-signed s top, le-false top most (omega arith)) refl
 wide_over s top bottom (inr h) =
-    rw (le-false bottom most (omega arith), and-false (nat_le (unsigned_abs (signed s top)) most)) refl
+    rw (le-false bottom most (omega arith), and-false (nat_le (unsigned_abs (number_with_sign s top)) most)) refl
 
 -- if the product of two fractions is too wide, it overflows
 pub times_wide : (x y : Fraction) → 0 < x.den → 0 < y.den
     → IsWide (unsigned_abs x.num * unsigned_abs y.num) (x.den * y.den)
-    → times x y ≡ Err Overflow
+    → fraction_product x y ≡ Err Overflow
 times_wide x y some_x some_y wide = times_is x y _ _ some_x some_y (record { top_is = refl; bottom_is = refl })
     ∙ wide_over _ _ _ wide
 
 -- a fraction whose numerator is too large does not fit
 pub top_over : (s : Bool) (top bottom : ℕ) → most < top
-    → fitting (record { num = signed s top; den = bottom }) ≡ Err Overflow
+    → fit_or_overflow (record { num = number_with_sign s top; den = bottom }) ≡ Err Overflow
 top_over s top bottom h = rw (abs-signed s top, le-false top most h) refl
 
 -- a fraction whose denominator is too large does not fit
 pub bottom_over : (s : Bool) (top bottom : ℕ) → most < bottom
-    → fitting (record { num = signed s top; den = bottom }) ≡ Err Overflow
-bottom_over s top bottom h = rw (le-false bottom most h, and-false (nat_le (unsigned_abs (signed s top)) most)) refl
+    → fit_or_overflow (record { num = number_with_sign s top; den = bottom }) ≡ Err Overflow
+bottom_over s top bottom h =
+    rw (le-false bottom most h, and-false (nat_le (unsigned_abs (number_with_sign s top)) most)) refl
 
 -- no natural number is below 0
 pub not_below : (n : ℕ) → int_lt (pos n) (pos 0) ≡ false
@@ -158,18 +162,19 @@ sign_kept_left z d some = ap (λ m. int_lt m (pos 0)) (*ℤ_comm (pos d) z) ∙ 
 -- the quotient of two fractions, computed from their signs and magnitudes
 pub over_is : (x y : Fraction) (top bottom : ℕ) → 0 < x.den → 0 < y.den → 0 < unsigned_abs y.num
     → IsLowest (unsigned_abs x.num * y.den) (x.den * unsigned_abs y.num) top bottom
-    → over x y ≡ fitting (record { num = signed (signs_differ x.num y.num) top; den = bottom })
+    → fraction_quotient x y ≡ fit_or_overflow
+    (record { num = number_with_sign (signs_differ x.num y.num) top; den = bottom })
 over_is x y top bottom some_x some_y some low =
     ratio_is (x.num *ℤ pos y.den) (pos x.den *ℤ y.num) top bottom
     (rw (unsigned_abs-mul (pos x.den) y.num) (mul-pos some_x some))
     (rw (unsigned_abs-mul x.num (pos y.den), unsigned_abs-mul (pos x.den) y.num) low)
-    ∙ ap (λ s. fitting (record { num = signed s top; den = bottom }))
+    ∙ ap (λ s. fit_or_overflow (record { num = number_with_sign s top; den = bottom }))
     (ap (λ s. differ s (int_lt (pos x.den *ℤ y.num) (pos 0))) (sign_kept x.num y.den some_y)
     ∙ ap (differ (int_lt x.num (pos 0))) (sign_kept_left y.num x.den some_x))
 
 -- if the quotient of two fractions is too wide, it overflows
 pub over_wide : (x y : Fraction) → 0 < x.den → 0 < y.den → 0 < unsigned_abs y.num
-    → IsWide (unsigned_abs x.num * y.den) (x.den * unsigned_abs y.num) → over x y ≡ Err Overflow
+    → IsWide (unsigned_abs x.num * y.den) (x.den * unsigned_abs y.num) → fraction_quotient x y ≡ Err Overflow
 over_wide x y some_x some_y some wide = over_is x y _ _ some_x some_y some (record { top_is = refl; bottom_is = refl })
     ∙ wide_over _ _ _ wide
 

@@ -7,23 +7,25 @@ use Rattle.std.specs.List.{list_all}
 use Rattle.std.proofs.lemmas.Bool.{cases_lt}
 use Rattle.std.proofs.lemmas.Bool.Decides.{nat_tests}
 use Rattle.std.proofs.lemmas.List.{drop_more, take_all}
-use Rattle.frac128.specs.declared.spelling.Kind.{Kind}
-use Rattle.frac128.specs.declared.spelling.Stage.{Stage}
-use Rattle.frac128.specs.declared.spelling.Stage.TheVariants.{Start, Whole, Pointed, Fraction, Marked, Signed, Exponent}
-use Rattle.frac128.specs.Numerals.{before, behind_sign, from, greatest, is_digit, is_exponent, is_mark_byte, is_numeral}
+use Rattle.frac128.specs.declared.numeral_syntax.Kind.{Kind}
+use Rattle.frac128.specs.declared.numeral_syntax.Stage.{Stage}
+use Rattle.frac128.specs.declared.numeral_syntax.Stage.TheVariants.{Start, Whole, Pointed, Fraction, Marked, Signed}
+use Rattle.frac128.specs.declared.numeral_syntax.Stage.TheVariants.{Exponent}
+use Rattle.frac128.specs.Numerals.{before, behind_sign, from, greatest_passing, is_digit, is_exponent_text}
+use Rattle.frac128.specs.Numerals.{is_mark_byte, is_numeral}
 use Rattle.frac128.specs.Numerals.{is_point_byte}
-use Rattle.frac128.specs.Numerals.{is_pointed, is_sign_byte, is_whole, numeral_len_of}
-use Rattle.frac128.specs.Stages.{kind_of, may_end, stage_after}
+use Rattle.frac128.specs.Numerals.{are_digits, is_pointed, is_sign_byte, numeral_len_of}
+use Rattle.frac128.specs.Stages.{byte_kind, may_end, stage_after}
 use Rattle.frac128.proofs.Comparisons.{and-false}
 
 -- whether the bytes after a stage complete a numeral
 abbrev rest_of : Stage → List ℕ → Bool
 rest_of Start bs = is_numeral bs
-rest_of Whole bs = is_pointed (before is_mark_byte bs) && is_exponent (from is_mark_byte bs)
-rest_of Pointed bs = is_whole (before is_mark_byte bs) && is_exponent (from is_mark_byte bs)
-rest_of Fraction bs = list_all is_digit (before is_mark_byte bs) && is_exponent (from is_mark_byte bs)
-rest_of Marked bs = is_whole (behind_sign bs)
-rest_of Signed bs = is_whole bs
+rest_of Whole bs = is_pointed (before is_mark_byte bs) && is_exponent_text (from is_mark_byte bs)
+rest_of Pointed bs = are_digits (before is_mark_byte bs) && is_exponent_text (from is_mark_byte bs)
+rest_of Fraction bs = list_all is_digit (before is_mark_byte bs) && is_exponent_text (from is_mark_byte bs)
+rest_of Marked bs = are_digits (behind_sign bs)
+rest_of Signed bs = are_digits bs
 rest_of Exponent bs = list_all is_digit bs
 
 -- whether the bytes after an optional stage complete a numeral; no bytes do if there is no stage
@@ -100,10 +102,10 @@ tested b = by_tests (is_digit b) (is_point_byte b) (is_mark_byte b) (is_sign_byt
         IsOther (record { digit_is = d_is; point_is = p_is; mark_is = m_is; sign_is = s_is })
 
 -- one more byte leads to the stage after it
-rest_step : (s : Stage) (b : ℕ) (bs : List ℕ) → rest_of s (b ∷ bs) ≡ rest_of_some (stage_after s (kind_of b)) bs
+rest_step : (s : Stage) (b : ℕ) (bs : List ℕ) → rest_of s (b ∷ bs) ≡ rest_of_some (stage_after s (byte_kind b)) bs
 rest_step s b bs = by_tests s (tested b)
   where
-    by_tests : (s : Stage) → IsTested b → rest_of s (b ∷ bs) ≡ rest_of_some (stage_after s (kind_of b)) bs
+    by_tests : (s : Stage) → IsTested b → rest_of s (b ∷ bs) ≡ rest_of_some (stage_after s (byte_kind b)) bs
     by_tests Start (IsDigit t) = simp (t.digit_is, t.point_is, t.mark_is, t.sign_is)
     by_tests Start (IsPoint t) = simp (t.digit_is, t.point_is, t.mark_is, t.sign_is)
     by_tests Start (IsMark t) = simp (t.digit_is, t.point_is, t.mark_is, t.sign_is)
@@ -155,11 +157,11 @@ rest_end Exponent = refl
 pub record IsReadTo (bytes : List ℕ) (i : ℕ) (stage : Stage) (len : ℕ) : Type 0 where
   pub within : i ≤ length bytes
   pub rest : (n : ℕ) → is_numeral (take (i + n) bytes) ≡ rest_of stage (take n (drop i bytes))
-  pub longest : len ≡ greatest (λ n. is_numeral (take n bytes)) i
+  pub longest : len ≡ greatest_passing (λ n. is_numeral (take n bytes)) i
 
 -- before the first byte
 pub read_start : (bytes : List ℕ) → IsReadTo bytes 0 Start 0
-unfolding greatest
+unfolding greatest_passing
 read_start bytes = record {
   within = omega arith;
   rest = λ n. ap (λ k. is_numeral (take k bytes)) (plain n);
@@ -171,7 +173,7 @@ read_start bytes = record {
 
 -- the stage after one more byte decides whether more bytes complete a numeral
 rest_on : (bytes : List ℕ) (i len : ℕ) (s : Stage) (k : Kind) → IsReadTo bytes i s len → i < length bytes
-    → k ≡ kind_of (get_or bytes i 0)
+    → k ≡ byte_kind (get_or bytes i 0)
     → (n : ℕ) → is_numeral (take (i + 1 + n) bytes) ≡ rest_of_some (stage_after s k) (take n (drop (i + 1) bytes))
 rest_on bytes i len s k is h k_is n =
     ap (λ m. is_numeral (take m bytes)) (moved i n)
@@ -185,19 +187,20 @@ rest_on bytes i len s k is h k_is n =
 
 -- the greatest number up to `i + 1` that passes
 greatest_more : (test : ℕ → Bool) (i : ℕ) (b : Bool) → test (i + 1) ≡ b
-    → greatest test (i + 1) ≡ (if b then i + 1 else greatest test i)
-unfolding greatest
+    → greatest_passing test (i + 1) ≡ (if b then i + 1 else greatest_passing test i)
+unfolding greatest_passing
 greatest_more test i b e =
-    subst (λ n. test n ≡ b → greatest test n ≡ (if b then n else greatest test i)) (sym (add-one i))
+    subst (λ n. test n ≡ b → greatest_passing test n ≡ (if b then n else greatest_passing test i)) (sym (add-one i))
     (step (suc i) refl) e
   where
-    step : (n : ℕ) → n ≡ suc i → test (suc i) ≡ b → greatest test (suc i) ≡ (if b then suc i else greatest test i)
+    step : (n : ℕ) → n ≡ suc i → test (suc i) ≡ b
+        → greatest_passing test (suc i) ≡ (if b then suc i else greatest_passing test i)
     step n e h = rw h refl
 
 -- reading one more byte
 pub read_more : (bytes : List ℕ) (i : ℕ) (s next : Stage) (k : Kind) (len more : ℕ) → IsReadTo bytes i s len
     → i < length bytes
-    → k ≡ kind_of (get_or bytes i 0)
+    → k ≡ byte_kind (get_or bytes i 0)
     → Some next ≡ stage_after s k → more ≡ (if may_end next then i + 1 else len) → IsReadTo bytes (i + 1) next more
 read_more bytes i s next k len more is h k_is next_is more_is =
     let on : (n : ℕ) → is_numeral (take (i + 1 + n) bytes) ≡ rest_of next (take n (drop (i + 1) bytes)) =
@@ -216,18 +219,18 @@ read_more bytes i s next k len more is h k_is next_is more_is =
 
 -- if no number above `i` passes the test, the greatest one up to `n` is that up to `i`
 greatest-stays : (test : ℕ → Bool) (i n : ℕ) → i ≤ n → ((m : ℕ) → i < m → m ≤ n → test m ≡ false)
-    → greatest test n ≡ greatest test i
-unfolding greatest
-greatest-stays test i zero h none = let same : zero ≡ i = omega arith in ap (greatest test) same
+    → greatest_passing test n ≡ greatest_passing test i
+unfolding greatest_passing
+greatest-stays test i zero h none = let same : zero ≡ i = omega arith in ap (greatest_passing test) same
 greatest-stays test i (suc n) h none = elim (cases_lt i (suc n)) [
-  | inl low ↦ ap (λ b. if b then suc n else greatest test n) (none (suc n) low (omega arith))
+  | inl low ↦ ap (λ b. if b then suc n else greatest_passing test n) (none (suc n) low (omega arith))
       ∙ greatest-stays test i n (omega arith) (λ m p q. none m p (omega arith))
-  | inr high ↦ (let same : suc n ≡ i = omega arith in ap (greatest test) same)
+  | inr high ↦ (let same : suc n ≡ i = omega arith in ap (greatest_passing test) same)
 ]
 
 -- if no numeral continues with the next byte, the longest numeral is found
 pub read_end : (bytes : List ℕ) (i : ℕ) (s : Stage) (k : Kind) (len : ℕ) → IsReadTo bytes i s len → i < length bytes
-    → k ≡ kind_of (get_or bytes i 0)
+    → k ≡ byte_kind (get_or bytes i 0)
     → None ≡ stage_after s k → len ≡ numeral_len_of bytes
 read_end bytes i s k len is h k_is none =
     is.longest ∙ sym (greatest-stays (λ n. is_numeral (take n bytes)) i (length bytes) is.within (λ m p q. longer m p))
@@ -242,22 +245,23 @@ read_end bytes i s k len is h k_is none =
         parts m p = omega arith
 
 -- the greatest number that passes is at most the last number
-greatest-le : (test : ℕ → Bool) (n : ℕ) → greatest test n ≤ n
-unfolding greatest
+greatest-le : (test : ℕ → Bool) (n : ℕ) → greatest_passing test n ≤ n
+unfolding greatest_passing
 greatest-le test zero = omega arith
 greatest-le test (suc n) = by_test (test (suc n)) (greatest-le test n)
   where
-    by_test : (b : Bool) → greatest test n ≤ n → (if b then suc n else greatest test n) ≤ suc n
+    by_test : (b : Bool) → greatest_passing test n ≤ n → (if b then suc n else greatest_passing test n) ≤ suc n
     by_test true h = omega arith
     by_test false h = omega arith
 
 -- the last number is the greatest one that passes exactly if it passes
-greatest-whole : (test : ℕ → Bool) (n : ℕ) → 0 < n → nat_eq (greatest test n) n ≡ test n
-unfolding greatest
+greatest-whole : (test : ℕ → Bool) (n : ℕ) → 0 < n → nat_eq (greatest_passing test n) n ≡ test n
+unfolding greatest_passing
 greatest-whole test zero h = absurd (omega arith)
 greatest-whole test (suc n) h = by_test (test (suc n)) (greatest-le test n)
   where
-    by_test : (b : Bool) → greatest test n ≤ n → nat_eq (if b then suc n else greatest test n) (suc n) ≡ b
+    by_test : (b : Bool) → greatest_passing test n ≤ n → nat_eq (if b then suc n else greatest_passing test n)
+        (suc n) ≡ b
     by_test true h = grind (arith, nat_tests)
     by_test false h = grind (arith, nat_tests)
 

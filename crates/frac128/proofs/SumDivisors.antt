@@ -10,7 +10,7 @@ use Rattle.std.proofs.Math.IntN.{+ℤ_comm}
 use Rattle.std.proofs.Math.Nat.{dvd-add, dvd-add_iff_left, dvd-sub, mul-div_cancel', mul_assoc, mul_comm, one-dvd}
 use Rattle.std.proofs.Math.Nat.{dvd-mul_left}
 use Rattle.frac128.specs.Divisors.{gcd}
-use Rattle.frac128.specs.Sign.{signed}
+use Rattle.frac128.specs.Sign.{number_with_sign}
 use Rattle.frac128.proofs.BinarySteps.{gcd-coprime}
 use Rattle.frac128.proofs.Coprime.{IsCoprime, coprime-dvd, coprime-mul, coprime-quotients, coprime-swap, coprime_is}
 use Rattle.frac128.proofs.Coprime.{is_coprime}
@@ -30,7 +30,7 @@ dvd-difference x y k both h = elim (cases_lt x y) [
 ]
 
 -- a divisor of a signed sum and of its second number divides the first number
-dvd-signed : (s t : Bool) (x y k : ℕ) → k ∣ unsigned_abs (signed s x +ℤ signed t y) → k ∣ y → k ∣ x
+dvd-signed : (s t : Bool) (x y k : ℕ) → k ∣ unsigned_abs (number_with_sign s x +ℤ number_with_sign t y) → k ∣ y → k ∣ x
 dvd-signed false false x y k both h = (dvd-add_iff_left k h).1 both
 dvd-signed false true x y k both h = dvd-difference x y k (subst (λ n. k ∣ n) (abs-difference x y) both) h
 dvd-signed true false x y k both h = dvd-difference x y k (subst (λ n. k ∣ n) (turned x y) both) h
@@ -43,7 +43,8 @@ dvd-signed true true x y k both h = (dvd-add_iff_left k h).1 (subst (λ n. k ∣
     joined x y = omega (arith, ints)
 
 -- a sum of a number that is coprime to `n` and a multiple of `n` is coprime to `n`
-coprime-sum : (s t : Bool) (x y n : ℕ) → IsCoprime n x → n ∣ y → IsCoprime (unsigned_abs (signed s x +ℤ signed t y)) n
+coprime-sum : (s t : Bool) (x y n : ℕ) → IsCoprime n x → n ∣ y
+    → IsCoprime (unsigned_abs (number_with_sign s x +ℤ number_with_sign t y)) n
 coprime-sum s t x y n h divides = coprime_is _ n (
   one-dvd _,
   one-dvd n,
@@ -53,13 +54,14 @@ coprime-sum s t x y n h divides = coprime_is _ n (
 -- the numerator of a sum over the least common multiple shares only factors of the greatest common divisor of the
 -- denominators
 pub sum_shares : (s t : Bool) (a b c d : ℕ) → 0 < b → 0 < d → IsGcd a b 1 → IsGcd c d 1
-    → gcd (unsigned_abs (signed s (a * (d / gcd b d)) +ℤ signed t (c * (b / gcd b d)))) (b / gcd b d * d)
-    ≡ gcd (unsigned_abs (signed s (a * (d / gcd b d)) +ℤ signed t (c * (b / gcd b d)))) (gcd b d)
+    → gcd (unsigned_abs (number_with_sign s (a * (d / gcd b d)) +ℤ number_with_sign t (c * (b / gcd b d))))
+    (b / gcd b d * d)
+    ≡ gcd (unsigned_abs (number_with_sign s (a * (d / gcd b d)) +ℤ number_with_sign t (c * (b / gcd b d)))) (gcd b d)
 sum_shares s t a b c d some_b some_d ab cd =
     let g = gcd b d in
     let p = b / g in
     let q = d / g in
-    let z = unsigned_abs (signed s (a * q) +ℤ signed t (c * p)) in
+    let z = unsigned_abs (number_with_sign s (a * q) +ℤ number_with_sign t (c * p)) in
     let b_is : g * p ≡ b = mul-div_cancel' g (gcd_is b d).0 in
     let d_is : g * q ≡ d = mul-div_cancel' g (gcd_is b d).1 in
     let p_b : p ∣ b = subst (λ n. p ∣ n) b_is (dvd-mul_left p g) in
@@ -69,7 +71,7 @@ sum_shares s t a b c d some_b some_d ab cd =
     let q_c : IsCoprime q c = coprime-dvd d c q c (coprime-swap c d (coprime_is c d cd)) q_d (dvd_refl c) in
     let z_p : IsCoprime z p = coprime-sum s t (a * q) (c * p) p (coprime-mul p a q p_a p_q) (dvd-mul_left p c) in
     let z_q : IsCoprime z q =
-    rw (+ℤ_comm (signed s (a * q)) (signed t (c * p)))
+    rw (+ℤ_comm (number_with_sign s (a * q)) (number_with_sign t (c * p)))
     (coprime-sum t s (c * p) (a * q) q (coprime-mul q c p q_c (coprime-swap p q p_q)) (dvd-mul_left q a)) in
     let multiple : p * d ≡ p * q * g = ap (λ n. p * n) (sym d_is ∙ mul_comm g q) ∙ sym (mul_assoc p q g) in
     ap (gcd z) multiple ∙ gcd-coprime z (p * q) g (coprime-mul z p q z_p z_q)

@@ -8,13 +8,13 @@ use Rattle.std.proofs.Math.Nat.{mul_comm, mul-div_cancel', mul-div_cancel_left, 
 use Rattle.frac128.specs.declared.fault.FracFault.{FracFault}
 use Rattle.frac128.specs.declared.fault.FracFault.TheVariants.{Overflow}
 use Rattle.frac128.specs.Divisors.{gcd, lcm}
-use Rattle.frac128.specs.Fraction.{Fraction, fits, most, negated}
-use Rattle.frac128.specs.Sign.{signed}
-use Rattle.frac128.specs.Steps.{ratio, reduced}
+use Rattle.frac128.specs.Fraction.{Fraction, fits_most, most, negative_of}
+use Rattle.frac128.specs.Sign.{number_with_sign}
+use Rattle.frac128.specs.Steps.{lowest_terms, ratio}
 use Rattle.frac128.specs.Sums.{in_range, step_over, minus, numerator_over, plus, sum_over, within}
 use Rattle.frac128.proofs.Euclid.{gcd_is}
 use Rattle.frac128.proofs.Multiples.{lcm-left, lcm-right}
-use Rattle.frac128.proofs.Reduced.{reduced_is}
+use Rattle.frac128.proofs.QuotientLaws.{reduced_is}
 use Rattle.frac128.proofs.SumDivisors.{sum_shares}
 use Rattle.frac128.proofs.Signs.{abs-neg, abs-signed, differ-false, mul-signed, neg-times, signed_is}
 use Rattle.frac128.proofs.Comparisons.{le-true}
@@ -56,9 +56,9 @@ are_parts x y b_is d_is g_is p_is q_is some_b some_d top_is other_is = record {
 
 -- a numerator times a factor, with its sign and magnitude
 numerator-signed : (n : ℤ) (s : Bool) (a k : ℕ) → s ≡ int_lt n (pos 0) → a ≡ unsigned_abs n
-    → n *ℤ pos k ≡ signed s (a * k)
+    → n *ℤ pos k ≡ number_with_sign s (a * k)
 numerator-signed n s a k p q = ap (λ z. z *ℤ pos k) (signed_is n)
-    ∙ rw (← p, ← q) (mul-signed s false a k ∙ ap (λ t. signed t (a * k)) (differ-false s))
+    ∙ rw (← p, ← q) (mul-signed s false a k ∙ ap (λ t. number_with_sign t (a * k)) (differ-false s))
 
 -- if the result is a fault, it is `Overflow` and the test is false
 if_err : (b : Bool) (z : ℤ) (e : FracFault) → Err e ≡ (if b then Ok z else Err Overflow) → (b ≡ false) × (e ≡ Overflow)
@@ -79,7 +79,7 @@ pub within_ok : (n z : ℤ) → Ok n ≡ within z → (in_range z ≡ true) × (
 within_ok n z h = if_ok (in_range z) n z h
 
 -- a reduced quotient of numbers in range fits
-fits_reduced : (z : ℤ) (m : ℕ) → unsigned_abs z ≤ most → m ≤ most → fits (reduced z m) ≡ true
+fits_reduced : (z : ℤ) (m : ℕ) → unsigned_abs z ≤ most → m ≤ most → fits_most (lowest_terms z m) ≡ true
 fits_reduced z m top bottom =
     let g = gcd (unsigned_abs z) m in
     let low : unsigned_abs z / g ≤ most = omega (arith, div-le_self (unsigned_abs z) g) in
@@ -126,7 +126,7 @@ joined-sum step m l r n k j p q h =
 plus_by : (x y : Fraction) (b d g p q top other : ℕ) (s t : Bool) → IsParts x y b d g p q top other
     → s ≡ int_lt x.num (pos 0)
     → t ≡ int_lt y.num (pos 0)
-    → plus x y ≡ step_over ◌+ℤ◌ (p * d) (signed s (top * q)) (signed t (other * p))
+    → plus x y ≡ step_over ◌+ℤ◌ (p * d) (number_with_sign s (top * q)) (number_with_sign t (other * p))
 plus_by x y b d g p q top other s t is s_is t_is =
     rw (
       sym (numerator-signed x.num s top q s_is is.top_is),
@@ -165,49 +165,53 @@ pub plus-multiple : (x y : Fraction) (b d g p q top other : ℕ) (e : FracFault)
     → Err e ≡ within (pos (p * d)) → plus x y ≡ Err e
 plus-multiple x y b d g p q top other e is h =
     plus_by x y b d g p q top other _ _ is refl refl
-    ∙ joined-multiple ◌+ℤ◌ (p * d) (signed (int_lt x.num (pos 0)) (top * q))
-    (signed (int_lt y.num (pos 0)) (other * p)) e h
+    ∙ joined-multiple ◌+ℤ◌ (p * d) (number_with_sign (int_lt x.num (pos 0)) (top * q))
+    (number_with_sign (int_lt y.num (pos 0)) (other * p)) e h
 
 -- if the first numerator is out of range, the sum fails
 pub plus-left : (x y : Fraction) (b d g p q top other : ℕ) (s : Bool) (n : ℤ) (e : FracFault)
     → IsParts x y b d g p q top other
     → s ≡ int_lt x.num (pos 0)
-    → Ok n ≡ within (pos (p * d)) → Err e ≡ within (signed s (top * q)) → plus x y ≡ Err e
+    → Ok n ≡ within (pos (p * d)) → Err e ≡ within (number_with_sign s (top * q)) → plus x y ≡ Err e
 plus-left x y b d g p q top other s n e is s_is m h =
     plus_by x y b d g p q top other s _ is s_is refl
-    ∙ joined-left ◌+ℤ◌ (p * d) (signed s (top * q)) (signed (int_lt y.num (pos 0)) (other * p)) n e m h
+    ∙ joined-left ◌+ℤ◌ (p * d) (number_with_sign s (top * q)) (number_with_sign (int_lt y.num (pos 0)) (other * p)) n e
+    m h
 
 -- if the second numerator is out of range, the sum fails
 pub plus-right : (x y : Fraction) (b d g p q top other : ℕ) (s t : Bool) (n k : ℤ) (e : FracFault)
     → IsParts x y b d g p q top other
     → s ≡ int_lt x.num (pos 0) → t ≡ int_lt y.num (pos 0)
-    → Ok n ≡ within (pos (p * d)) → Ok k ≡ within (signed s (top * q)) → Err e ≡ within (signed t (other * p))
+    → Ok n ≡ within (pos (p * d)) → Ok k ≡ within (number_with_sign s (top * q))
+    → Err e ≡ within (number_with_sign t (other * p))
     → plus x y ≡ Err e
 plus-right x y b d g p q top other s t n k e is s_is t_is m l h =
     plus_by x y b d g p q top other s t is s_is t_is
-    ∙ joined-right ◌+ℤ◌ (p * d) (signed s (top * q)) (signed t (other * p)) n k e m l h
+    ∙ joined-right ◌+ℤ◌ (p * d) (number_with_sign s (top * q)) (number_with_sign t (other * p)) n k e m l h
 
 -- if all parts are in range, the sum is that of the numerators over the multiple
 pub plus-sum : (x y : Fraction) (b d g p q top other : ℕ) (s t : Bool) (n k j : ℤ) → IsParts x y b d g p q top other
     → s ≡ int_lt x.num (pos 0) → t ≡ int_lt y.num (pos 0)
-    → Ok n ≡ within (pos (p * d)) → Ok k ≡ within (signed s (top * q)) → Ok j ≡ within (signed t (other * p))
+    → Ok n ≡ within (pos (p * d)) → Ok k ≡ within (number_with_sign s (top * q))
+    → Ok j ≡ within (number_with_sign t (other * p))
     → plus x y ≡ sum_over (unsigned_abs n) (k +ℤ j)
 plus-sum x y b d g p q top other s t n k j is s_is t_is m l h =
     plus_by x y b d g p q top other s t is s_is t_is
-    ∙ joined-sum ◌+ℤ◌ (p * d) (signed s (top * q)) (signed t (other * p)) n k j m l h
+    ∙ joined-sum ◌+ℤ◌ (p * d) (number_with_sign s (top * q)) (number_with_sign t (other * p)) n k j m l h
 
 -- the common divisors of the sum and the multiple are those of the sum and the greatest common divisor of the
 -- denominators
 pub sum-shared : (x y : Fraction) (b d g p q top other : ℕ) (s t : Bool) (n k j : ℤ) → IsParts x y b d g p q top other
     → IsGcd top b 1
     → IsGcd other d 1
-    → Ok n ≡ within (pos (p * d)) → Ok k ≡ within (signed s (top * q)) → Ok j ≡ within (signed t (other * p))
+    → Ok n ≡ within (pos (p * d)) → Ok k ≡ within (number_with_sign s (top * q))
+    → Ok j ≡ within (number_with_sign t (other * p))
     → gcd (unsigned_abs (k +ℤ j)) g ≡ gcd (unsigned_abs (k +ℤ j)) (unsigned_abs n)
 sum-shared x y b d g p q top other s t n k j is first second m l h =
     rw (
       (within_ok n (pos (p * d)) m).1,
-      (within_ok k (signed s (top * q)) l).1,
-      (within_ok j (signed t (other * p)) h).1,
+      (within_ok k (number_with_sign s (top * q)) l).1,
+      (within_ok j (number_with_sign t (other * p)) h).1,
       is.p_is,
       is.q_is,
       is.g_is,
@@ -215,7 +219,7 @@ sum-shared x y b d g p q top other s t n k j is first second m l h =
     (sym (sum_shares s t top b other d is.some_b is.some_d first second))
 
 -- a difference is the sum with the negated second fraction
-pub minus-negated : (x y : Fraction) → minus x y ≡ plus x (negated y)
+pub minus-negated : (x y : Fraction) → minus x y ≡ plus x (negative_of y)
 minus-negated x y =
     let m = lcm x.den y.den in
     turned m (numerator_over x m) (numerator_over y m)

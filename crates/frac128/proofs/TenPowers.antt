@@ -14,8 +14,8 @@ use Rattle.frac128.specs.declared.fault.FracFault.{FracFault}
 use Rattle.frac128.specs.declared.fault.FracFault.TheVariants.{Overflow}
 use Rattle.frac128.specs.Decimals.{times_power}
 use Rattle.frac128.specs.Divisors.{IsLowest, gcd}
-use Rattle.frac128.specs.Fraction.{Fraction, fits, most, whole}
-use Rattle.frac128.specs.Steps.{fitting, over, ratio}
+use Rattle.frac128.specs.Fraction.{Fraction, fits_most, most, whole}
+use Rattle.frac128.specs.Steps.{fit_or_overflow, fraction_quotient, ratio}
 use Rattle.frac128.proofs.Coprime.{IsCoprime, coprime_is}
 use Rattle.frac128.proofs.Euclid.{gcd_is, gcd-mul, gcd_some}
 use Rattle.frac128.proofs.Lowest.{cross-lowest, lowest-cross, lowest_gcd, lowest_self, lowest_some}
@@ -40,12 +40,12 @@ digit_wide n z d other h low =
 
 -- the ratio of two numbers, given their lowest terms
 ratio_low : (a b top bottom : ℕ) → 0 < b → IsLowest a b top bottom
-    → ratio (pos a) (pos b) ≡ fitting (record { num = pos top; den = bottom })
+    → ratio (pos a) (pos b) ≡ fit_or_overflow (record { num = pos top; den = bottom })
 ratio_low a b top bottom some low = ratio-signed false a b top bottom some low
 
 -- the ratio of two numbers, computed with their greatest common divisor
 ratio_quotients : (a b : ℕ) → 0 < b
-    → ratio (pos a) (pos b) ≡ fitting (record { num = pos (a / gcd a b); den = b / gcd a b })
+    → ratio (pos a) (pos b) ≡ fit_or_overflow (record { num = pos (a / gcd a b); den = b / gcd a b })
 ratio_quotients a b some = ratio_low a b (a / gcd a b) (b / gcd a b) some (record { top_is = refl; bottom_is = refl })
 
 -- each number is coprime to 1
@@ -69,16 +69,16 @@ wide_up n k some none =
 
 -- a quotient by too large a power of ten overflows
 pub wide_down : (n k : ℕ) → 0 < n → n ≤ most → (k ≤ 38 → ⊥) → ratio (pos n) (pos (10 ^ (38 + k))) ≡ Err Overflow
-wide_down n k some fits none =
+wide_down n k some fits_most none =
     let more : 77 ≤ 38 + k = omega (arith, none) in
     let power : 10 ^ 77 ≤ 10 ^ (38 + k) = pow-le-pow_right {n = 10} (lit< tt) more in
     let big : 2 ^ 127 * 2 ^ 127 ≤ 10 ^ 77 = lit≤ tt in
     let some_power = pow_some 10 (38 + k) (lit< tt) in
     ratio_quotients n (10 ^ (38 + k)) some_power
-    ∙ bottom_over false _ _ (past n (10 ^ (38 + k)) some fits some_power (omega arith))
+    ∙ bottom_over false _ _ (past n (10 ^ (38 + k)) some fits_most some_power (omega arith))
   where
     past : (n d : ℕ) → 0 < n → n ≤ most → 0 < d → 2 ^ 127 * 2 ^ 127 ≤ d → most < d / gcd n d
-    past n d some fits some_d h =
+    past n d some fits_most some_d h =
         let low : gcd n d ≤ 2 ^ 127 = omega (arith, le_of_dvd some (gcd_is n d).0) in
         let times : 2 ^ 127 * gcd n d ≤ 2 ^ 127 * 2 ^ 127 =
         mul-le (2 ^ 127) (gcd n d) (2 ^ 127) (2 ^ 127) (omega arith) low in
@@ -143,7 +143,7 @@ twice_err : (n a b : ℕ) (e : FracFault) → n ≤ most → 0 < a → 0 < b →
     → ratio (pos n) (pos (a * b)) ≡ Err e
 twice_err n a b e low some_a some_b h =
     let x : Fraction = record { num = pos (n / gcd n a); den = a / gcd n a } in
-    let no = fit_err (fits x) x e (h ∙ ratio_quotients n a some_a) in
+    let no = fit_err (fits_most x) x e (h ∙ ratio_quotients n a some_a) in
     let past : most < a / gcd n a = high (n / gcd n a) (a / gcd n a) (omega (arith, div-le_self n (gcd n a))) no.0 in
     rw no.1 (ratio_quotients n (a * b) (mul-pos some_a some_b)
     ∙ bottom_over false (n / gcd n (a * b)) (a * b / gcd n (a * b))
@@ -154,7 +154,7 @@ twice_err n a b e low some_a some_b h =
 
 -- two divisions in turn are a division by the product
 twice_ok : (n a b : ℕ) (x : Fraction) → 0 < a → 0 < b → Ok x ≡ ratio (pos n) (pos a)
-    → over x (whole (pos b)) ≡ ratio (pos n) (pos (a * b))
+    → fraction_quotient x (whole (pos b)) ≡ ratio (pos n) (pos (a * b))
 twice_ok n a b x some_a some_b h =
     let p = n / gcd n a in
     let q = a / gcd n a in
@@ -163,7 +163,7 @@ twice_ok n a b x some_a some_b h =
     let second : IsLowest p (q * b) (p / gcd p (q * b)) (q * b / gcd p (q * b)) =
     record { top_is = refl; bottom_is = refl } in
     let some_qb = mul-pos (lowest_some n a p q some_a first) some_b in
-    ap (λ z. over z (whole (pos b))) (fit_ok (fits y) x y (h ∙ ratio_quotients n a some_a))
+    ap (λ z. fraction_quotient z (whole (pos b))) (fit_ok (fits_most y) x y (h ∙ ratio_quotients n a some_a))
     ∙ ap (λ m. ratio (pos m) (pos (q * b))) (mul-one p)
     ∙ ratio_low p (q * b) _ _ some_qb second
     ∙ sym (ratio_low n (a * b) _ _ (mul-pos some_a some_b) (lowest_twice n a b p q _ _ some_a some_b first second))
@@ -176,7 +176,7 @@ down_err n k e low h = ap (λ d. ratio (pos n) (pos d)) (pow-add 10 38 k)
 
 -- the two divisions that the code makes are one division
 pub down_ok : (n k : ℕ) (x : Fraction) → Ok x ≡ ratio (pos n) (pos (10 ^ 38))
-    → over x (whole (pos (10 ^ k))) ≡ ratio (pos n) (pos (10 ^ (38 + k)))
+    → fraction_quotient x (whole (pos (10 ^ k))) ≡ ratio (pos n) (pos (10 ^ (38 + k)))
 down_ok n k x h = twice_ok n (10 ^ 38) (10 ^ k) x (lit< tt) (pow_some 10 k (lit< tt)) h
     ∙ ap (λ d. ratio (pos n) (pos d)) (sym (pow-add 10 38 k))
 

@@ -7,9 +7,10 @@ use Rattle.std.specs.List.{list_all, list_any}
 use Rattle.std.proofs.lemmas.Bool.Decides.{nat_tests}
 use Rattle.std.proofs.lemmas.Int.{ints}
 use Rattle.std.proofs.Math.Nat.{le-mul_of_pos_right, zero-mul}
-use Rattle.frac128.specs.Decimals.{Decimal, DigitsLaw, coefficient_of, digits_of, end_zeros, number, places, value_of}
+use Rattle.frac128.specs.Decimals.{Decimal, DigitsLaw, coefficient_of, digits_of, end_zeros, number, places}
+use Rattle.frac128.specs.Decimals.{value_of_decimal}
 use Rattle.frac128.specs.Fraction.{most, whole}
-use Rattle.frac128.specs.Numerals.{before, from, is_digit, is_exponent, is_mantissa, is_mark_byte, is_numeral}
+use Rattle.frac128.specs.Numerals.{before, from, is_digit, is_exponent_text, is_mantissa, is_mark_byte, is_numeral}
 use Rattle.frac128.specs.Numerals.{is_point_byte}
 use Rattle.frac128.proofs.DigitRuns.{kept, number-without}
 use Rattle.frac128.proofs.Powers.{pow_some}
@@ -48,8 +49,8 @@ digits_numeral [] some h = absurd (omega arith)
 digits_numeral (b ∷ bs) some h =
     let ds = b ∷ bs in
     let parts = both (is_digit b) (list_all is_digit bs) h in
-    ap (λ xs. is_mantissa xs && is_exponent (from is_mark_byte ds)) (before_digits is_mark_byte ds digit_no_mark h)
-    ∙ ap (λ xs. is_mantissa ds && is_exponent xs) (from_digits is_mark_byte ds digit_no_mark h)
+    ap (λ xs. is_mantissa xs && is_exponent_text (from is_mark_byte ds)) (before_digits is_mark_byte ds digit_no_mark h)
+    ∙ ap (λ xs. is_mantissa ds && is_exponent_text xs) (from_digits is_mark_byte ds digit_no_mark h)
     ∙ ap (λ xs. (list_any is_digit ds && (list_all is_digit xs && list_all is_digit (drop 1 (from is_point_byte ds))))
     && true) (before_digits is_point_byte ds digit_no_point h)
     ∙ ap (λ xs. (list_any is_digit ds && (list_all is_digit ds && list_all is_digit (drop 1 xs))) && true)
@@ -61,7 +62,7 @@ digits_numeral (b ∷ bs) some h =
 value_zeros : (c z n : ℕ) → n ≡ c * 10 ^ z → n ≤ most
     → (x : Decimal) ×
     ((if c == 0 then record { coefficient = 0; scale = pos 0 } else record { coefficient = c; scale = pos z }) ≡ x)
-    × (value_of x ≡ Ok (whole (pos n)))
+    × (value_of_decimal x ≡ Ok (whole (pos n)))
 value_zeros zero z n e fits = (
   record { coefficient = 0; scale = pos 0 },
   refl,

@@ -8,7 +8,7 @@ use Rattle.frac128.specs.declared.numeral.NumeralFault.{NumeralFault}
 use Rattle.frac128.specs.declared.numeral.NumeralFault.TheVariants.{NotNumeral, TooLong}
 use Rattle.frac128.specs.Fraction.{Fraction, most, whole}
 use Rattle.frac128.specs.Numerals.{before, from, is_digit, is_mark_byte, is_minus_byte, is_numeral, is_point_byte}
-use Rattle.frac128.specs.Sign.{signed}
+use Rattle.frac128.specs.Sign.{number_with_sign}
 use Rattle.frac128.specs.Steps.{ratio}
 
 -- a coefficient times ten to the scale
@@ -35,17 +35,17 @@ is_zero_digit zero = true
 is_zero_digit (suc n) = false
 
 -- the digits without the zeros at their end
-abbrev pub without_end_zeros : List ℕ → List ℕ
-without_end_zeros [] = []
-without_end_zeros (d ∷ ds) = if list_all is_zero_digit (d ∷ ds) then [] else d ∷ without_end_zeros ds
+abbrev pub digits_without_zeros : List ℕ → List ℕ
+digits_without_zeros [] = []
+digits_without_zeros (d ∷ ds) = if list_all is_zero_digit (d ∷ ds) then [] else d ∷ digits_without_zeros ds
 
 -- the bytes before the `e` or `E`
 abbrev pub mantissa : List ℕ → List ℕ
 mantissa bytes = before is_mark_byte bytes
 
 -- the bytes from the `e` or `E` on
-abbrev pub exponent_text : List ℕ → List ℕ
-exponent_text bytes = from is_mark_byte bytes
+abbrev pub exponent_part : List ℕ → List ℕ
+exponent_part bytes = from is_mark_byte bytes
 
 -- the number of digits of a mantissa after the point
 abbrev pub places : List ℕ → ℕ
@@ -53,11 +53,11 @@ places bytes = length (from is_point_byte bytes) - 1
 
 -- the number that all digits of a mantissa write without the zeros at their end
 abbrev pub coefficient_of : List ℕ → ℕ
-coefficient_of bytes = number (without_end_zeros (digits_of bytes))
+coefficient_of bytes = number (digits_without_zeros (digits_of bytes))
 
 -- the number of zeros at the end of the digits of a mantissa
 abbrev pub end_zeros : List ℕ → ℕ
-end_zeros bytes = length (digits_of bytes) - length (without_end_zeros (digits_of bytes))
+end_zeros bytes = length (digits_of bytes) - length (digits_without_zeros (digits_of bytes))
 
 -- the coefficient and the number of these zeros, or `None` if the coefficient is too large
 abbrev pub short_coefficient : List ℕ → Option (ℕ × ℕ)
@@ -69,8 +69,8 @@ abbrev pub exponent_size : List ℕ → ℕ
 exponent_size text = number (digits_of text)
 
 -- the exponent, which is below 0 if there is a minus
-abbrev pub exponent_of : List ℕ → ℤ
-exponent_of text = signed (list_any is_minus_byte text) (exponent_size text)
+abbrev pub decimal_exponent : List ℕ → ℤ
+decimal_exponent text = number_with_sign (list_any is_minus_byte text) (exponent_size text)
 
 -- a mantissa times ten to a power
 abbrev pub decimal : List ℕ → ℤ → Decimal
@@ -86,15 +86,15 @@ decimal bytes power =
 abbrev pub is_short : List ℕ → Bool
 is_short bytes =
     nat_le (coefficient_of (mantissa bytes)) most
-    && nat_le (exponent_size (exponent_text bytes)) most_exponent
+    && nat_le (exponent_size (exponent_part bytes)) most_exponent
 
 -- the result of reading the bytes as a numeral
-abbrev pub read : List ℕ → Result Decimal NumeralFault
-read bytes =
+abbrev pub numeral_reading : List ℕ → Result Decimal NumeralFault
+numeral_reading bytes =
     if is_numeral bytes
     then (
     if is_short bytes
-    then Ok (decimal (mantissa bytes) (exponent_of (exponent_text bytes)))
+    then Ok (decimal (mantissa bytes) (decimal_exponent (exponent_part bytes)))
     else Err TooLong
     )
     else Err NotNumeral
@@ -105,20 +105,20 @@ times_power n (pos k) = ratio (pos (n * 10 ^ k)) (pos 1)
 times_power n (negsuc k) = ratio (pos n) (pos (10 ^ suc k))
 
 -- the value of a numeral
-abbrev pub value_of : Decimal → Result Fraction FracFault
-value_of x = times_power x.coefficient x.scale
+abbrev pub value_of_decimal : Decimal → Result Fraction FracFault
+value_of_decimal x = times_power x.coefficient x.scale
 
 -- law: digits alone are a numeral, and its value is the whole number that they write
 abbrev pub DigitsLaw : Type 0
 DigitsLaw = (bytes : List ℕ) → 0 < length bytes → IsTrue (list_all is_digit bytes)
     → number (digits_of bytes) ≤ most
-    → (x : Decimal) × (read bytes ≡ Ok x)
-    × (value_of x ≡ Ok (whole (pos (number (digits_of bytes)))))
+    → (x : Decimal) × (numeral_reading bytes ≡ Ok x)
+    × (value_of_decimal x ≡ Ok (whole (pos (number (digits_of bytes)))))
 
 -- law: a numeral within the limits has the value of the whole number of all its digits, times ten to the exponent less
 -- the number of digits after the point
 abbrev pub NumeralLaw : Type 0
 NumeralLaw = (bytes : List ℕ) → is_numeral bytes ≡ true → is_short bytes ≡ true
-    → (x : Decimal) × (read bytes ≡ Ok x)
-    × (value_of x ≡ times_power (number (digits_of (mantissa bytes)))
-    (exponent_of (exponent_text bytes) -ℤ pos (places (mantissa bytes))))
+    → (x : Decimal) × (numeral_reading bytes ≡ Ok x)
+    × (value_of_decimal x ≡ times_power (number (digits_of (mantissa bytes)))
+    (decimal_exponent (exponent_part bytes) -ℤ pos (places (mantissa bytes))))

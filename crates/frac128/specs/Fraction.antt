@@ -21,16 +21,16 @@ abbrev pub whole : ℤ → Fraction
 whole n = record { num = n; den = 1 }
 
 -- the fraction with the opposite sign
-abbrev pub negated : Fraction → Fraction
-negated x = record { num = neg_ℤ x.num; den = x.den }
+abbrev pub negative_of : Fraction → Fraction
+negative_of x = record { num = neg_ℤ x.num; den = x.den }
 
 -- the largest numerator and denominator
 abbrev pub most : ℕ
 most = 2 ^ 127 - 1
 
 -- the numerator is in -most..most and the denominator at most `most`
-abbrev pub fits : Fraction → Bool
-fits x = nat_le (unsigned_abs x.num) most && nat_le x.den most
+abbrev pub fits_most : Fraction → Bool
+fits_most x = nat_le (unsigned_abs x.num) most && nat_le x.den most
 
 -- the invariant of every fraction in the program
 pub record IsFrac (x : Fraction) : Type 0 where

@@ -34,8 +34,8 @@ abbrev pub is_sign_byte : ℕ → Bool
 is_sign_byte b = b == 43 || is_minus_byte b
 
 -- one digit or more, and nothing else
-abbrev pub is_whole : List ℕ → Bool
-is_whole bytes = list_any is_digit bytes && list_all is_digit bytes
+abbrev pub are_digits : List ℕ → Bool
+are_digits bytes = list_any is_digit bytes && list_all is_digit bytes
 
 -- digits, with at most one point before, among or after them
 abbrev pub is_pointed : List ℕ → Bool
@@ -53,19 +53,19 @@ behind_sign [] = []
 behind_sign (b ∷ bytes) = if is_sign_byte b then bytes else b ∷ bytes
 
 -- nothing, or a mark, an optional sign, and one digit or more
-abbrev pub is_exponent : List ℕ → Bool
-is_exponent [] = true
-is_exponent (mark ∷ bytes) = is_whole (behind_sign bytes)
+abbrev pub is_exponent_text : List ℕ → Bool
+is_exponent_text [] = true
+is_exponent_text (mark ∷ bytes) = are_digits (behind_sign bytes)
 
 -- the bytes are a numeral: a mantissa before the first mark, and an exponent from there on
 abbrev pub is_numeral : List ℕ → Bool
-is_numeral bytes = is_mantissa (before is_mark_byte bytes) && is_exponent (from is_mark_byte bytes)
+is_numeral bytes = is_mantissa (before is_mark_byte bytes) && is_exponent_text (from is_mark_byte bytes)
 
 -- the greatest number from 1 to n that passes the test, or 0 if none does
-unfoldable pub greatest : (ℕ → Bool) → ℕ → ℕ
-greatest test zero = 0
-greatest test (suc n) = if test (suc n) then suc n else greatest test n
+unfoldable pub greatest_passing : (ℕ → Bool) → ℕ → ℕ
+greatest_passing test zero = 0
+greatest_passing test (suc n) = if test (suc n) then suc n else greatest_passing test n
 
 -- the length of the longest numeral that is a prefix, or 0 if there is none
 abbrev pub numeral_len_of : List ℕ → ℕ
-numeral_len_of bytes = greatest (λ n. is_numeral (take n bytes)) (length bytes)
+numeral_len_of bytes = greatest_passing (λ n. is_numeral (take n bytes)) (length bytes)

@@ -6,8 +6,8 @@ use Rattle.frac128.specs.Fraction.{Fraction}
 use Rattle.frac128.specs.Steps.{ratio}
 
 -- numerator and denominator to the power n
-abbrev pub raised : Fraction → ℕ → Fraction
-raised x n = record { num = int_pow x.num n; den = x.den ^ n }
+abbrev pub power_fraction : Fraction → ℕ → Fraction
+power_fraction x n = record { num = int_pow x.num n; den = x.den ^ n }
 
 -- x to the power k: the quotient of the two powers, inverted if k is below 0
 abbrev pub power : Fraction → ℤ → Result Fraction FracFault

@@ -5,13 +5,13 @@ use Rattle.std.specs.List.{find}
 use Rattle.frac128.specs.declared.fault.FracFault.{FracFault}
 use Rattle.frac128.specs.declared.fault.FracFault.TheVariants.{NoExactRoot}
 use Rattle.frac128.specs.Fraction.{Fraction, IsReduced}
-use Rattle.frac128.specs.Powers.{raised}
-use Rattle.frac128.specs.Sign.{is_negative, signed}
+use Rattle.frac128.specs.Powers.{power_fraction}
+use Rattle.frac128.specs.Sign.{is_negative, number_with_sign}
 
 -- r to the power q is x, and r is not below 0 if q is even
 pub record IsRoot (x : Fraction) (q : ℕ) (r : Fraction) : Type 0 where
   pub reduced : IsReduced r
-  pub power : raised r q ≡ x
+  pub power : power_fraction r q ≡ x
   pub plain : q % 2 ≡ 0 → IsFalse (int_lt r.num (pos 0))
 
 -- the root, or the fault that no fraction is a root
@@ -34,7 +34,7 @@ whole_root n q = find (λ r. r ^ q == n) (down_from n)
 
 -- the fraction with this sign and two roots as numerator and denominator, if there are two
 abbrev pub root_over : Bool → Option ℕ → Option ℕ → Result Fraction FracFault
-root_over negative (Some top) (Some bottom) = Ok (record { num = signed negative top; den = bottom })
+root_over negative (Some top) (Some bottom) = Ok (record { num = number_with_sign negative top; den = bottom })
 root_over negative _ _ = Err NoExactRoot
 
 -- the root of a fraction: the root of the numerator over the root of the denominator, with the fraction's sign; a

@@ -1,14 +1,15 @@
 -- The stages of a numeral that is read byte by byte.
 use Rattle.std.specs.Prelude.{ℕ, Bool, true, false, Option, Some, None, if◌then◌else◌}
-use Rattle.frac128.specs.declared.spelling.Kind.{Kind}
-use Rattle.frac128.specs.declared.spelling.Kind.TheVariants.{Digit, Point, Mark, Sign, Other}
-use Rattle.frac128.specs.declared.spelling.Stage.{Stage}
-use Rattle.frac128.specs.declared.spelling.Stage.TheVariants.{Start, Whole, Pointed, Fraction, Marked, Signed, Exponent}
+use Rattle.frac128.specs.declared.numeral_syntax.Kind.{Kind}
+use Rattle.frac128.specs.declared.numeral_syntax.Kind.TheVariants.{Digit, Point, Mark, Sign, Other}
+use Rattle.frac128.specs.declared.numeral_syntax.Stage.{Stage}
+use Rattle.frac128.specs.declared.numeral_syntax.Stage.TheVariants.{Start, Whole, Pointed, Fraction, Marked, Signed}
+use Rattle.frac128.specs.declared.numeral_syntax.Stage.TheVariants.{Exponent}
 use Rattle.frac128.specs.Numerals.{is_digit, is_mark_byte, is_point_byte, is_sign_byte}
 
 -- the kind of a byte in a numeral
-abbrev pub kind_of : ℕ → Kind
-kind_of b =
+abbrev pub byte_kind : ℕ → Kind
+byte_kind b =
     if is_digit b then Digit
     else (if is_point_byte b then Point
     else (if is_mark_byte b then Mark

@@ -5,7 +5,7 @@ use Rattle.frac128.specs.declared.fault.FracFault.{FracFault}
 use Rattle.frac128.specs.declared.fault.FracFault.TheVariants.{Overflow}
 use Rattle.frac128.specs.Divisors.{lcm}
 use Rattle.frac128.specs.Fraction.{Fraction, most}
-use Rattle.frac128.specs.Steps.{reduced}
+use Rattle.frac128.specs.Steps.{lowest_terms}
 
 -- the number is in -most..most
 abbrev pub in_range : ℤ → Bool
@@ -21,7 +21,7 @@ numerator_over x multiple = x.num *ℤ pos (multiple / x.den)
 
 -- a sum over a denominator, or `Overflow` if it is out of range
 abbrev pub sum_over : ℕ → ℤ → Result Fraction FracFault
-sum_over multiple sum = if in_range sum then Ok (reduced sum multiple) else Err Overflow
+sum_over multiple sum = if in_range sum then Ok (lowest_terms sum multiple) else Err Overflow
 
 -- a step on the numerators of two fractions over a common multiple of their denominators:
 -- the multiple, both numerators and the result of the step must be in range

@@ -1,7 +1,7 @@
 //! Why a step on fractions has no answer.
 
 ghost use Rattle.std.specs.Prelude.{◌≡◌};
-ghost use Rattle.frac128.specs.Faults.{fault_text};
+ghost use Rattle.frac128.specs.Faults.{frac_fault_text};
 
 /// Why a step on fractions has no answer.
 #[derive(Clone, Copy, Debug, PartialEq, Eq)]
@@ -17,7 +17,7 @@ pub enum FracFault {
 impl FracFault {
     /// Returns the text of the fault: `overflow`, `division by zero` or `no exact root`.
     pub fn text(self) -> &'static [u8]
-        ensures { result.now ≡ fault_text self }
+        ensures { result.now ≡ frac_fault_text self }
     {
         match self {
             FracFault::Overflow => b"overflow",

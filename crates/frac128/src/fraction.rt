@@ -3,13 +3,13 @@
 ghost use Rattle.std.specs.Prelude.{◌≡◌, ◌<◌, ◌≤◌, ◌↔◌, pos, int_lt, unsigned_abs, IsTrue};
 ghost use Rattle.std.specs.Int.{IsGcd};
 ghost use Rattle.frac128.specs.Divisors as spec;
-ghost use Rattle.frac128.specs.Fraction.{IsFrac, IsReduced, most, negated, whole};
+ghost use Rattle.frac128.specs.Fraction.{IsFrac, IsReduced, most, negative_of, whole};
 ghost use Rattle.frac128.specs.Sign as sign;
-ghost use Rattle.frac128.specs.Steps.{fitting, ratio};
+ghost use Rattle.frac128.specs.Steps.{fit_or_overflow, ratio};
 
 use crate::divisors::{gcd, quotient};
 use crate::fault::FracFault;
-use crate::sign::{differ, signed};
+use crate::sign::{differ, with_sign};
 use std::marker::Model;
 
 // The largest numerator and denominator.
@@ -45,7 +45,7 @@ impl Frac {
         }
         let top = n.unsigned_abs();
         let bottom = d.unsigned_abs();
-        Frac::lowered(differ(n < 0, d < 0), top, bottom, gcd(top, bottom))
+        Frac::reduce_by(differ(n < 0, d < 0), top, bottom, gcd(top, bottom))
     }
 
     /// Returns the numerator, which has the fraction's sign.
@@ -72,7 +72,7 @@ impl Frac {
 
     /// Returns the fraction with the opposite sign.
     pub fn negate(&self) -> Frac
-        ensures { result ≡ negated self.now }
+        ensures { result ≡ negative_of self.now }
     {
         Frac {
             num: -self.num,
@@ -115,20 +115,24 @@ impl Frac {
     }
 
     // The fraction with this sign and these magnitudes, which are in lowest terms.
-    pub(crate) fn fitting(negative: bool, top: u128, bottom: u128) -> Result<Frac, FracFault>
+    pub(crate) fn of_lowest_terms(
+        negative: bool,
+        top: u128,
+        bottom: u128,
+    ) -> Result<Frac, FracFault>
         requires some { 0 < bottom }
         requires lowest { IsGcd top bottom 1 }
-        ensures { result ≡ fitting (record { num = sign.signed negative top; den = bottom }) }
+        ensures { result ≡ fit_or_overflow (record { num = sign.number_with_sign negative top; den = bottom }) }
     {
         if top > MOST || bottom > MOST {
             return Err(FracFault::Overflow);
         }
-        let num = signed(negative, top);
+        let num = with_sign(negative, top);
         Ok(Frac { num, den: bottom })
     }
 
     // The number of this sign and magnitude over another one, reduced by their greatest common divisor.
-    pub(crate) fn lowered(
+    pub(crate) fn reduce_by(
         negative: bool,
         top: u128,
         bottom: u128,
@@ -136,8 +140,8 @@ impl Frac {
     ) -> Result<Frac, FracFault>
         requires some { 0 < bottom }
         requires divisor { divisor ≡ spec.gcd top bottom }
-        ensures { result ≡ ratio (sign.signed negative top) (pos bottom) }
+        ensures { result ≡ ratio (sign.number_with_sign negative top) (pos bottom) }
     {
-        Frac::fitting(negative, quotient(top, divisor), quotient(bottom, divisor))
+        Frac::of_lowest_terms(negative, quotient(top, divisor), quotient(bottom, divisor))
     }
 }

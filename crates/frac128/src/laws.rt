@@ -2,7 +2,7 @@
 
 ghost use Rattle.frac128.specs.Decimals.{DigitsLaw, NumeralLaw};
 ghost use Rattle.frac128.specs.Divisors.{GcdLaw, LcmLaw};
-ghost use Rattle.frac128.specs.Exact.{StepsLaw};
+ghost use Rattle.frac128.specs.Exact.{ExactStepsLaw};
 ghost use Rattle.frac128.specs.Floor.{FloorLaw};
 ghost use Rattle.frac128.specs.Nearest.{NearestWholeLaw};
 ghost use Rattle.frac128.specs.Order.{ComparedLaw, OrderLaw};
@@ -27,7 +27,7 @@ pub fn reduced_law()
 
 /// Sums, differences, products and quotients have the values of the exact ones.
 pub fn steps_law()
-    ensures { StepsLaw }
+    ensures { ExactStepsLaw }
 {}
 
 /// Fractions are compared by their values.

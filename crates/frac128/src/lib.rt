@@ -7,13 +7,13 @@ mod floor;
 mod fraction;
 mod laws;
 mod numeral;
+mod numeral_reader;
+mod numeral_syntax;
 mod order;
 mod power;
 mod product;
-mod reading;
 mod root;
 mod sign;
-mod spelling;
 mod sum;
 
 pub use fault::FracFault;
@@ -23,5 +23,5 @@ pub use laws::{
     order_law, reduced_law, root_law, root_of_law, steps_law,
 };
 pub use numeral::{Numeral, NumeralFault};
-pub use reading::{read_longest, read_numeral};
-pub use spelling::numeral_len;
+pub use numeral_reader::{read_longest, read_numeral};
+pub use numeral_syntax::numeral_len;

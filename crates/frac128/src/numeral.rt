@@ -1,7 +1,7 @@
 //! Decimal numerals as a coefficient and a power of ten, and their values.
 
 ghost use Rattle.std.specs.Prelude.{◌≡◌, ◌+◌, ◌<◌, ◌≤◌, ◌*◌, ◌^◌, pos, unsigned_abs, SomeIff};
-ghost use Rattle.frac128.specs.Decimals.{value_of};
+ghost use Rattle.frac128.specs.Decimals.{value_of_decimal};
 ghost use Rattle.frac128.specs.Fraction.{most};
 ghost use Rattle.frac128.specs.Steps.{ratio};
 
@@ -108,7 +108,7 @@ impl Numeral {
 
     /// Returns the value, or `Overflow` if it does not fit.
     pub fn value(&self) -> Result<Frac, FracFault>
-        ensures { result ≡ value_of self.now }
+        ensures { result ≡ value_of_decimal self.now }
     {
         let coefficient = self.coefficient();
         if coefficient == 0 {

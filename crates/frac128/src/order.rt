@@ -3,7 +3,7 @@
 ghost use Rattle.std.specs.Prelude.{◌≡◌, ◌<◌, ◌*◌};
 ghost use Rattle.std.specs.Ordering.{nat_cmp};
 ghost use Rattle.frac128.specs.Fraction.{IsReduced};
-ghost use Rattle.frac128.specs.Order.{compared};
+ghost use Rattle.frac128.specs.Order.{order_of};
 
 use crate::fraction::Frac;
 use std::cmp::Ordering;
@@ -11,7 +11,7 @@ use std::cmp::Ordering;
 impl Frac {
     /// Compares the values of two fractions in lowest terms.
     pub fn cmp(&self, other: &Frac) -> Ordering
-        ensures order { result ≡ compared self.now other.now }
+        ensures order { result ≡ order_of self.now other.now }
         ensures reduced { IsReduced self.now × IsReduced other.now }
     {
         let (a, b) = (self.top(), self.bottom());

@@ -2,9 +2,9 @@
 
 ghost use Rattle.std.specs.Prelude.{◌≡◌, ◌<◌};
 ghost use Rattle.std.specs.Int.{IsGcd};
-ghost use Rattle.frac128.specs.Powers.{power, raised};
+ghost use Rattle.frac128.specs.Powers.{power, power_fraction};
 ghost use Rattle.frac128.specs.Sign as spec;
-ghost use Rattle.frac128.specs.Steps.{fitting};
+ghost use Rattle.frac128.specs.Steps.{fit_or_overflow};
 
 use crate::fault::FracFault;
 use crate::fraction::Frac;
@@ -19,24 +19,24 @@ impl Frac {
         let (top, bottom) = (self.top(), self.bottom());
         let times = k.unsigned_abs();
         if k >= 0 {
-            Frac::raised(self.is_negative(), top, bottom, times)
+            Frac::raise_parts(self.is_negative(), top, bottom, times)
         } else if top == 0 {
             Err(FracFault::DivisionByZero)
         } else {
-            Frac::raised(self.is_negative(), bottom, top, times)
+            Frac::raise_parts(self.is_negative(), bottom, top, times)
         }
     }
 
     // A fraction in lowest terms to a power.
-    fn raised(negative: bool, top: u128, bottom: u128, times: u32) -> Result<Frac, FracFault>
+    fn raise_parts(negative: bool, top: u128, bottom: u128, times: u32) -> Result<Frac, FracFault>
         requires some { 0 < bottom }
         requires lowest { IsGcd top bottom 1 }
         ensures { result
-            ≡ fitting (raised (record { num = spec.signed negative top; den = bottom }) times) }
+            ≡ fit_or_overflow (power_fraction (record { num = spec.number_with_sign negative top; den = bottom }) times) }
     {
         let negative = negative && times % 2 == 1;
         match (top.checked_pow(times), bottom.checked_pow(times)) {
-            (Some(top), Some(bottom)) => Frac::fitting(negative, top, bottom),
+            (Some(top), Some(bottom)) => Frac::of_lowest_terms(negative, top, bottom),
             _ => Err(FracFault::Overflow),
         }
     }

@@ -3,7 +3,7 @@
 ghost use Rattle.std.specs.Prelude.{◌≡◌, ◌<◌, ◌*◌, ◌/◌, ◌^◌, IfSome, IfNone, SomeIff};
 ghost use Rattle.std.specs.Int.{IsGcd};
 ghost use Rattle.frac128.specs.Divisors.{IsLowest, IsWide};
-ghost use Rattle.frac128.specs.Steps.{times, over};
+ghost use Rattle.frac128.specs.Steps.{fraction_product, fraction_quotient};
 
 use crate::divisors::{gcd, quotient};
 use crate::fault::FracFault;
@@ -13,11 +13,11 @@ use crate::sign::differ;
 impl Frac {
     /// Returns the product, or `Overflow` if it does not fit in lowest terms.
     pub fn mul(&self, other: &Frac) -> Result<Frac, FracFault>
-        ensures { result ≡ times self.now other.now }
+        ensures { result ≡ fraction_product self.now other.now }
     {
         let negative = differ(self.is_negative(), other.is_negative());
         match lowest_product(self.top(), self.bottom(), other.top(), other.bottom()) {
-            Some((top, bottom)) => Frac::fitting(negative, top, bottom),
+            Some((top, bottom)) => Frac::of_lowest_terms(negative, top, bottom),
             None => Err(FracFault::Overflow),
         }
     }
@@ -25,14 +25,14 @@ impl Frac {
     /// Returns the quotient: `DivisionByZero` if the other fraction is 0, and else `Overflow` if
     /// the quotient does not fit in lowest terms.
     pub fn div(&self, other: &Frac) -> Result<Frac, FracFault>
-        ensures { result ≡ over self.now other.now }
+        ensures { result ≡ fraction_quotient self.now other.now }
     {
         if other.is_zero() {
             return Err(FracFault::DivisionByZero);
         }
         let negative = differ(self.is_negative(), other.is_negative());
         match lowest_product(self.top(), self.bottom(), other.bottom(), other.top()) {
-            Some((top, bottom)) => Frac::fitting(negative, top, bottom),
+            Some((top, bottom)) => Frac::of_lowest_terms(negative, top, bottom),
             None => Err(FracFault::Overflow),
         }
     }

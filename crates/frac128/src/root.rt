@@ -30,7 +30,7 @@ impl Frac {
             return Err(FracFault::NoExactRoot);
         }
         match (whole_root(self.top(), q), whole_root(self.bottom(), q)) {
-            (Some(top), Some(bottom)) => Frac::fitting(negative, top, bottom),
+            (Some(top), Some(bottom)) => Frac::of_lowest_terms(negative, top, bottom),
             _ => Err(FracFault::NoExactRoot),
         }
     }

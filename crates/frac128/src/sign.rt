@@ -12,9 +12,9 @@ pub(crate) fn differ(a: bool, b: bool) -> bool
 }
 
 // The number of this sign and magnitude.
-pub(crate) fn signed(negative: bool, magnitude: u128) -> i128
+pub(crate) fn with_sign(negative: bool, magnitude: u128) -> i128
     requires { magnitude ≤ most }
-    ensures { result ≡ spec.signed negative magnitude }
+    ensures { result ≡ spec.number_with_sign negative magnitude }
 {
     if negative {
         -(magnitude as i128)

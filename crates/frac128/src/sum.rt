@@ -9,7 +9,7 @@ ghost use Rattle.frac128.specs.Sums.{minus, plus, sum_over, within};
 use crate::divisors::{gcd, quotient};
 use crate::fault::FracFault;
 use crate::fraction::{Frac, MOST};
-use crate::sign::signed;
+use crate::sign::with_sign;
 
 impl Frac {
     /// Returns the sum, or `Overflow` if the least common multiple of the denominators, one of the
@@ -49,7 +49,7 @@ impl Frac {
         match left.checked_add(right) {
             Some(sum) if sum != i128::MIN => {
                 let (top, bottom) = (sum.unsigned_abs(), multiple.unsigned_abs());
-                Frac::lowered(sum < 0, top, bottom, gcd(top, shared))
+                Frac::reduce_by(sum < 0, top, bottom, gcd(top, shared))
             }
             _ => Err(FracFault::Overflow),
         }
@@ -58,10 +58,10 @@ impl Frac {
 
 // The product with this sign, or `Overflow` if it is out of range.
 fn product(negative: bool, a: u128, b: u128) -> Result<i128, FracFault>
-    ensures { result ≡ within (sign.signed negative (a * b)) }
+    ensures { result ≡ within (sign.number_with_sign negative (a * b)) }
 {
     match a.checked_mul(b) {
-        Some(size) if size <= MOST => Ok(signed(negative, size)),
+        Some(size) if size <= MOST => Ok(with_sign(negative, size)),
         _ => Err(FracFault::Overflow),
     }
 }

@@ -1,7 +1,7 @@
 //! The answers to calls.
 
 ghost use Rattle.std.specs.Prelude.{◌≡◌, ◌<◌, IfOk};
-ghost use Rattle.edit_history.specs.Histories.{Follows};
+ghost use Rattle.edit_history.specs.Histories.{IsHistoryOf};
 ghost use Rattle.history_calls.specs.Answers as answers;
 
 use deck::{DeckFault, Settings};
@@ -72,8 +72,8 @@ pub(crate) fn drop_answer(
     table: &mut LiveTable,
     text: &[u8],
 ) -> Result<Text, AllocError>
-    requires { Follows history.old table.old.deck }
-    ensures { Follows history.new table.new.deck }
+    requires { IsHistoryOf history.old table.old.deck }
+    ensures { IsHistoryOf history.new table.new.deck }
 {
     match read_key(alloc, text) {
         Ok(key) => made_text(alloc, history.drop_last(alloc, table, &key)),
@@ -89,8 +89,8 @@ pub(crate) fn switch_answer(
     table: &mut LiveTable,
     locale: &[u8],
 ) -> Result<Text, AllocError>
-    requires { Follows history.old table.old.deck }
-    ensures { Follows history.new table.new.deck }
+    requires { IsHistoryOf history.old table.old.deck }
+    ensures { IsHistoryOf history.new table.new.deck }
 {
     let locale = Text::from_bytes(alloc, locale)?;
     let vars = Vars::new(alloc);

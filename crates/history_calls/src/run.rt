@@ -1,6 +1,6 @@
 //! A run: a load, and calls on the table of its deck and the history of its edits.
 
-ghost use Rattle.edit_history.specs.Histories.{Follows};
+ghost use Rattle.edit_history.specs.Histories.{IsHistoryOf};
 
 use crate::answers::{
     drop_answer, lines_answer, made_text, switch_answer, undone_text, value_answer,
@@ -55,7 +55,7 @@ fn add_answers<F: Files>(
     calls: &[u8],
     answers: &mut Vec<u8>,
 ) -> Result<(), AllocError>
-    requires { Follows history.old table.old.deck }
+    requires { IsHistoryOf history.old table.old.deck }
 {
     let mut rest = calls;
     while let Some((line, behind)) = cut_at(rest, b'\n') {
@@ -77,8 +77,8 @@ fn add_answer<F: Files>(
     line: &[u8],
     answers: &mut Vec<u8>,
 ) -> Result<(), AllocError>
-    requires { Follows history.old table.old.deck }
-    ensures { Follows history.new table.new.deck }
+    requires { IsHistoryOf history.old table.old.deck }
+    ensures { IsHistoryOf history.new table.new.deck }
 {
     let answer = answer_to(alloc, files, history, table, read_call(line))?;
     answers.extend_from_slice(answer.as_bytes())?;
@@ -94,8 +94,8 @@ fn answer_to<F: Files>(
     table: &mut LiveTable,
     call: Option<Call<'_>>,
 ) -> Result<Text, AllocError>
-    requires { Follows history.old table.old.deck }
-    ensures { Follows history.new table.new.deck }
+    requires { IsHistoryOf history.old table.old.deck }
+    ensures { IsHistoryOf history.new table.new.deck }
 {
     match call {
         Some(Call::Value(text)) => value_answer(alloc, table, text),

@@ -4,14 +4,14 @@ use Rattle.std.proofs.Common.{map}
 use Rattle.std.proofs.Common.{Option, Some, None, Result, Ok, Err, refl, ap, inl, inr}
 use Rattle.std.specs.List.{AllByRecursion}
 use Rattle.units_io.specs.FileMap.{FileMap, file_of, longest_file}
-use Rattle.units_io.specs.Fetching.{answer_of}
+use Rattle.units_io.specs.FetchResults.{answer_of}
 use Rattle.units_io.specs.declared.files.FetchFault.{FetchFault}
 use Rattle.units_io.specs.declared.files.FetchFault.TheVariants.{TooLong}
 use Rattle.def_lines.specs.declared.line.Line.{Line}
-use Rattle.def_lines.specs.Lines.{logical_lines, shown}
+use Rattle.def_lines.specs.Lines.{logical_lines, nonblank_lines}
 use Rattle.deck_lines.specs.Excerpts.{Included, NotRead, Read, blocks_behind_line, blocks_behind_role, closes_innermost}
 use Rattle.deck_lines.specs.Excerpts.{missing_end, outer_blocks, role_excerpt}
-use Rattle.deck_lines.specs.Includes.{beside, included_by, most_depth}
+use Rattle.deck_lines.specs.Includes.{included_by, included_name, most_depth}
 use Rattle.deck_lines.specs.Readings.{Defines, Faulty, Includes, Reading, Stands, reading_of}
 use Rattle.deck_lines.specs.declared.line.Block.{Block}
 use Rattle.deck_lines.specs.declared.line.DeckLine.{DeckLine}
@@ -129,28 +129,30 @@ module _ (files : FileMap) where
   each_file : (included : List ℕ → Included) (below : List ℕ → List FileLine)
       → ((word : List ℕ) → AllByRecursion (IsInItsFile files) (below word)) → (name bytes : List ℕ)
       → file_of files name ≡ Some bytes
-      → AllByRecursion (IsInItsFile files) (rest_lines included below name [] (shown (logical_lines bytes)))
+      → AllByRecursion (IsInItsFile files) (rest_lines included below name [] (nonblank_lines (logical_lines bytes)))
   each_file included below deeper name bytes e =
-      each_rest (IsInItsFile files) name (shown (logical_lines bytes)) (λ line h. (bytes, e, h)) included below deeper
-      [] tt (shown (logical_lines bytes)) (λ line i. i)
+      each_rest (IsInItsFile files) name (nonblank_lines (logical_lines bytes)) (λ line h. (bytes, e, h)) included below
+      deeper
+      [] tt (nonblank_lines (logical_lines bytes)) (λ line i. i)
 
   each_below : (depth : ℕ) (name : List ℕ) → AllByRecursion (IsInItsFile files) (lines_below files depth name)
   unfolding lines_below
   each_below zero name = tt
   each_below (suc depth) name =
-      by (λ word. each_below depth (beside name word)) (answer_of (file_of files name)) refl
+      by (λ word. each_below depth (included_name name word)) (answer_of (file_of files name)) refl
     where
-      by : ((word : List ℕ) → AllByRecursion (IsInItsFile files) (lines_below files depth (beside name word)))
+      by : ((word : List ℕ) → AllByRecursion (IsInItsFile files) (lines_below files depth (included_name name word)))
           → (answer : Result (List ℕ) FetchFault) → answer_of (file_of files name) ≡ answer
           → AllByRecursion (IsInItsFile files) (lines_of_answer (included_by files depth name)
-          (λ word. lines_below files depth (beside name word)) name answer)
+          (λ word. lines_below files depth (included_name name word)) name answer)
       by deeper (Ok bytes) e =
-          each_file (included_by files depth name) (λ word. lines_below files depth (beside name word)) deeper name
+          each_file (included_by files depth name) (λ word. lines_below files depth (included_name name word)) deeper
+          name
           bytes (read_is (file_of files name) bytes e)
       by deeper (Err fault) e = tt
 
   pub each_in_file : (name bytes : List ℕ) → file_of files name ≡ Some bytes
       → AllByRecursion (IsInItsFile files) (file_lines files name bytes)
   each_in_file name bytes e =
-      each_file (included_by files most_depth name) (λ word. lines_below files most_depth (beside name word))
-      (λ word. each_below most_depth (beside name word)) name bytes e
+      each_file (included_by files most_depth name) (λ word. lines_below files most_depth (included_name name word))
+      (λ word. each_below most_depth (included_name name word)) name bytes e

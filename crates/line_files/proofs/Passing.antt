@@ -5,19 +5,19 @@ use Rattle.std.proofs.Common.{Option, Some, None, Result, Ok, Err, OnOk, IfSome,
 use Rattle.std.specs.Map.Iter.{TakesFirst}
 use Rattle.std.proofs.lemmas.List.{append-nil, append_assoc, map-append, reverse-append}
 use Rattle.units_io.specs.FileMap.{FileMap, file_of}
-use Rattle.units_io.specs.Fetching.{answer_of}
+use Rattle.units_io.specs.FetchResults.{answer_of}
 use Rattle.units_io.specs.declared.files.FetchFault.{FetchFault}
 use Rattle.units_io.specs.declared.files.FetchFault.TheVariants.{Absent, TooLong, Failed, OutOfMemory}
 use Rattle.def_lines.specs.declared.line.Line.{Line}
 use Rattle.deck_lines.specs.Excerpts.{Included, blocks_behind_line, blocks_behind_role, closes_innermost}
 use Rattle.deck_lines.specs.Excerpts.{missing_end, role_excerpt}
-use Rattle.deck_lines.specs.Includes.{beside, included_below, included_by, of_answer}
+use Rattle.deck_lines.specs.Includes.{included_below, included_by, included_name, of_answer}
 use Rattle.deck_lines.specs.Readings.{Defines, Faulty, Includes, Reading, Stands, reading_of}
 use Rattle.deck_lines.specs.declared.line.Block.{Block}
 use Rattle.deck_lines.specs.declared.line.Role.{Role}
 use Rattle.deck_lines.specs.declared.line.Role.TheVariants.{Closes, Inside, Opens}
 use Rattle.line_files.specs.FileLines.{FileLine, all_in_file, file_names, in_file, include_lines, line_lines}
-use Rattle.line_files.specs.FileLines.{lines_above, lines_below, lines_of, lines_of_answer, rest_lines}
+use Rattle.line_files.specs.FileLines.{lines_above, lines_below, lines_of_answer, lines_of_line, rest_lines}
 use Rattle.line_files.specs.Steps.{role_in}
 
 -- the file of each missing end line is the file of its block
@@ -104,9 +104,9 @@ include_named files (suc depth) name file line = by (answer_of (file_of files na
   where
     by : (answer : Result (List ℕ) FetchFault)
         → file_names (include_lines file line (of_answer (included_by files depth name) name answer)
-        (lines_of_answer (included_by files depth name) (λ word. lines_below files depth (beside name word)) name
+        (lines_of_answer (included_by files depth name) (λ word. lines_below files depth (included_name name word)) name
         answer)) ≡ file ∷ file_names (lines_of_answer (included_by files depth name)
-        (λ word. lines_below files depth (beside name word)) name answer)
+        (λ word. lines_below files depth (included_name name word)) name answer)
     by (Ok bytes) = refl
     by (Err Absent) = refl
     by (Err TooLong) = refl
@@ -116,9 +116,9 @@ include_named files (suc depth) name file line = by (answer_of (file_of files na
 -- passing an include line and its file adds the files of all their lines
 pub include_passed : {E : Type 0} (r : Result (Unit {0}) E) (files : FileMap) (depth : ℕ) (file name word : List ℕ)
     (line : Line) (blocks : List Block) (before mid after : List (List ℕ)) →
-    reading_of line.text ≡ Includes word → mid ≡ before ++ file ∷ [] → name ≡ beside file word →
+    reading_of line.text ≡ Includes word → mid ≡ before ++ file ∷ [] → name ≡ included_name file word →
     OnOk r (after ≡ mid ++ file_names (lines_below files depth name))
-    → OnOk r (after ≡ before ++ file_names (lines_of files depth file blocks line))
+    → OnOk r (after ≡ before ++ file_names (lines_of_line files depth file blocks line))
 include_passed (Ok u) files depth file name word line blocks before mid after reading middle named told =
     told
     ∙ ap (λ ns. ns ++ file_names (lines_below files depth name)) middle
@@ -127,7 +127,7 @@ include_passed (Ok u) files depth file name word line blocks before mid after re
     ∙ ap (λ n. before ++ file_names
     (include_lines file line (included_below files depth n) (lines_below files depth n))) named
     ∙ ap (λ r. before ++ file_names (line_lines (included_by files depth file)
-    (λ w. lines_below files depth (beside file w)) file blocks line r)) (sym reading)
+    (λ w. lines_below files depth (included_name file w)) file blocks line r)) (sym reading)
 include_passed (Err e) files depth file name word line blocks before mid after reading middle named told = told
 
 -- at the maximum depth an include adds no lines
@@ -140,10 +140,11 @@ none_below files depth name e before =
 below_answer : (files : FileMap) (depth : ℕ) (name : List ℕ) (answer : Result (List ℕ) FetchFault)
     → answer_of (file_of files name) ≡ answer
     → lines_below files (suc depth) name ≡ lines_of_answer (included_by files depth name)
-    (λ word. lines_below files depth (beside name word)) name answer
+    (λ word. lines_below files depth (included_name name word)) name answer
 unfolding lines_below
 below_answer files depth name answer a =
-    ap (lines_of_answer (included_by files depth name) (λ word. lines_below files depth (beside name word)) name) a
+    ap (lines_of_answer (included_by files depth name) (λ word. lines_below files depth (included_name name word)) name)
+    a
 
 module _ (files : FileMap) (depth : ℕ) (name : List ℕ) (nonzero : depth ≡ 0 → ⊥) where
   deeper : suc (depth - 1) ≡ depth

@@ -1,12 +1,12 @@
 -- The lines of a deck with their files.
 use Rattle.std.specs.Prelude.{◌++◌, ℕ, zero, suc, List, [], ◌∷◌, map, Result, Ok, Err}
 use Rattle.units_io.specs.FileMap.{FileMap, file_of}
-use Rattle.units_io.specs.Fetching.{answer_of}
+use Rattle.units_io.specs.FetchResults.{answer_of}
 use Rattle.units_io.specs.declared.files.FetchFault.{FetchFault}
 use Rattle.def_lines.specs.declared.line.Line.{Line}
-use Rattle.def_lines.specs.Lines.{logical_lines, shown}
+use Rattle.def_lines.specs.Lines.{logical_lines, nonblank_lines}
 use Rattle.deck_lines.specs.Excerpts.{Excerpt, Included, Read, NotRead, blocks_behind_line, file_end, line_excerpt}
-use Rattle.deck_lines.specs.Includes.{beside, included_by, most_depth}
+use Rattle.deck_lines.specs.Includes.{included_by, included_name, most_depth}
 use Rattle.deck_lines.specs.Marks.{marked_line, plain_line}
 use Rattle.deck_lines.specs.Readings.{Reading, Stands, Defines, Includes, Faulty, reading_of}
 use Rattle.deck_lines.specs.declared.line.Block.{Block}
@@ -46,26 +46,28 @@ module _ (included : List ℕ → Included) (below : List ℕ → List FileLine)
 
 abbrev pub lines_of_answer : (List ℕ → Included) → (List ℕ → List FileLine) → List ℕ → Result (List ℕ) FetchFault
     → List FileLine
-lines_of_answer included below name (Ok bytes) = rest_lines included below name [] (shown (logical_lines bytes))
+lines_of_answer included below name (Ok bytes) = rest_lines included below name []
+    (nonblank_lines (logical_lines bytes))
 lines_of_answer included below name (Err fault) = []
 
 -- the lines of an included file and of the files below it, if files may be nested this deep, counting this file
 unfoldable pub lines_below : FileMap → ℕ → List ℕ → List FileLine
 lines_below files zero name = []
 lines_below files (suc depth) name =
-    lines_of_answer (included_by files depth name) (λ word. lines_below files depth (beside name word)) name
+    lines_of_answer (included_by files depth name) (λ word. lines_below files depth (included_name name word)) name
     (answer_of (file_of files name))
 
 -- the lines of a file with this name and these bytes, if files may be nested this deep below it
 abbrev pub lines_above : FileMap → ℕ → List ℕ → List ℕ → List FileLine
 lines_above files depth name bytes =
-    rest_lines (included_by files depth name) (λ word. lines_below files depth (beside name word)) name []
-    (shown (logical_lines bytes))
+    rest_lines (included_by files depth name) (λ word. lines_below files depth (included_name name word)) name []
+    (nonblank_lines (logical_lines bytes))
 
 -- the lines that one line of a file contributes
-abbrev pub lines_of : FileMap → ℕ → List ℕ → List Block → Line → List FileLine
-lines_of files depth name blocks line =
-    line_lines (included_by files depth name) (λ word. lines_below files depth (beside name word)) name blocks line
+abbrev pub lines_of_line : FileMap → ℕ → List ℕ → List Block → Line → List FileLine
+lines_of_line files depth name blocks line =
+    line_lines (included_by files depth name) (λ word. lines_below files depth (included_name name word)) name blocks
+    line
     (reading_of line.text)
 
 -- the lines of a file with this name and these bytes, and of the files that it includes

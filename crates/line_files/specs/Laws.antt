@@ -3,9 +3,9 @@ use Rattle.std.specs.Prelude.{◌≡◌, ◌⊎◌, ℕ, List, Contains, map, So
 use Rattle.std.specs.List.{AllByRecursion}
 use Rattle.units_io.specs.FileMap.{FileMap, file_of}
 use Rattle.def_lines.specs.declared.line.Line.{Line}
-use Rattle.def_lines.specs.Lines.{logical_lines, shown}
+use Rattle.def_lines.specs.Lines.{logical_lines, nonblank_lines}
 use Rattle.deck_lines.specs.Blocks.{end_text}
-use Rattle.deck_lines.specs.Includes.{deck_of}
+use Rattle.deck_lines.specs.Includes.{deck_of_file}
 use Rattle.deck_lines.specs.declared.line.DeckLine.{DeckLine}
 use Rattle.deck_lines.specs.declared.line.Ending.{Ending}
 use Rattle.line_files.specs.FileLines.{FileLine, file_lines}
@@ -21,11 +21,11 @@ pub record IsLineOf (lines : List Line) (line : DeckLine) : Type 0 where
 -- a line is in its file
 abbrev pub IsInItsFile : FileMap → FileLine → Type 0
 IsInItsFile files x =
-    (bytes : List ℕ) × (file_of files x.file ≡ Some bytes) × IsLineOf (shown (logical_lines bytes)) x.line
+    (bytes : List ℕ) × (file_of files x.file ≡ Some bytes) × IsLineOf (nonblank_lines (logical_lines bytes)) x.line
 
 -- law: without their files, `file_lines` are the lines of the deck, in order, and each is in its file
 pub record FileLinesLaw : Type 0 where
   pub lines : (files : FileMap) (name bytes : List ℕ)
-      → map (λ x. x.line) (file_lines files name bytes) ≡ (deck_of files name bytes).lines
+      → map (λ x. x.line) (file_lines files name bytes) ≡ (deck_of_file files name bytes).lines
   pub files : (files : FileMap) (name bytes : List ℕ) → file_of files name ≡ Some bytes
       → AllByRecursion (IsInItsFile files) (file_lines files name bytes)

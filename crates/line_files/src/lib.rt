@@ -3,13 +3,13 @@
 
 mod beside;
 mod fault;
-mod finding;
 mod laws;
 mod line_files;
 mod pass;
+mod second_pass;
 mod step;
 
 pub use fault::LineFilesFault;
-pub use finding::find_line_files;
 pub use laws::file_lines_law;
 pub use line_files::LineFiles;
+pub use second_pass::find_line_files;

@@ -7,14 +7,14 @@ use Rattle.def_entry.specs.declared.key.Kind.TheVariants as kind
 use Rattle.expr_tree.specs.Syntax.{Syntax}
 use Rattle.expr_tree.specs.declared.fault.ParseFault.{ParseFault}
 use Rattle.quantity.specs.Amount.{Amount}
-use Rattle.live_table.specs.Answers.{Answers, answer}
+use Rattle.live_table.specs.Answers.{IsQueryResult, answer}
 use Rattle.live_table.specs.declared.fault.QueryFault.{QueryFault}
 use Rattle.live_calls.specs.Answers.{inverse_at, inverse_text, query_text, value_text}
 
 -- the text of an answer is that of the wanted result
 pub told : {A : Type 0} (r : Result A AllocError) (items : A → List ℕ) (answered wanted : Result Amount QueryFault)
-    (shown : List ℕ) → IfOk r (λ x. (w : Result Amount QueryFault) → Answers answered w → items x ≡ query_text w)
-    → Answers answered wanted → query_text wanted ≡ shown → IfOk r (λ x. items x ≡ shown)
+    (shown : List ℕ) → IfOk r (λ x. (w : Result Amount QueryFault) → IsQueryResult answered w → items x ≡ query_text w)
+    → IsQueryResult answered wanted → query_text wanted ≡ shown → IfOk r (λ x. items x ≡ shown)
 told (Ok x) items answered wanted shown says answers is = says wanted answers ∙ is
 told (Err e) items answered wanted shown says answers is = tt
 

@@ -4,7 +4,7 @@ use Rattle.std.specs.declared.alloc.AllocError.{AllocError}
 use Rattle.deck.specs.Decks.{Contents}
 use Rattle.deck.specs.declared.fault.DeckFault.{DeckFault}
 use Rattle.live_table.specs.Edits.{IsEditOf}
-use Rattle.live_table.specs.Shown.{Shown}
+use Rattle.live_table.specs.TableView.{Shown}
 use Rattle.live_calls.specs.Edits.{IsEditText, edit_text, refusal_text}
 
 -- unless memory runs out, an edit is made exactly if its outcome is a deck

@@ -14,8 +14,8 @@ use Rattle.def_entry.specs.declared.key.Kind.TheVariants as kind
 use Rattle.fault_texts.specs.Texts.{name_fault_text, value_fault_text}
 use Rattle.deck.specs.Tables.{table}
 use Rattle.live_table.specs.Answers.{answer, inverse_answer}
-use Rattle.live_table.specs.Calls.{names_in}
-use Rattle.live_table.specs.Shown.{Shown}
+use Rattle.live_table.specs.Calls.{present_names}
+use Rattle.live_table.specs.TableView.{Shown}
 use Rattle.live_table.specs.declared.fault.QueryFault.{QueryFault}
 use Rattle.live_table.specs.declared.fault.QueryFault.TheVariants.{Name, Value, OutOfMemory}
 
@@ -49,5 +49,5 @@ inverse_text t name e =
 abbrev pub counts_text : Shown → List ℕ
 counts_text s =
     decimal (map_of.len s.kept) ++ codes " settled, "
-    ++ decimal (length (names_in (table s.deck))) ++ codes " names, "
+    ++ decimal (length (present_names (table s.deck))) ++ codes " names, "
     ++ decimal s.reductions ++ codes " reductions"

@@ -37,7 +37,7 @@ pub(crate) fn query_text(
     alloc: Global,
     answer: &Result<Quantity, QueryFault>,
 ) -> Result<Vec<u8>, AllocError>
-    ensures { IfOk result (λ text. (wanted : Result Amount QueryFault) → asked.Answers answer.now wanted
+    ensures { IfOk result (λ text. (wanted : Result Amount QueryFault) → asked.IsQueryResult answer.now wanted
         → text.items ≡ answers.query_text wanted) }
 {
     let mut text = Vec::new(alloc);

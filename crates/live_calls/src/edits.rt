@@ -1,7 +1,7 @@
 //! Edits of the deck, and their answers.
 
 ghost use Rattle.std.specs.Prelude.{◌≡◌, IfOk};
-ghost use Rattle.def_lines.specs.Blanks.{trimmed};
+ghost use Rattle.def_lines.specs.Blanks.{trim_of};
 ghost use Rattle.deck.specs.Edits as edits;
 ghost use Rattle.live_calls.specs.Edits as spec;
 
@@ -18,7 +18,7 @@ pub(crate) fn define_answer(
     live: &mut LiveTable,
     line: &[u8],
 ) -> Result<Vec<u8>, AllocError>
-    ensures { IfOk result (λ text. spec.IsEditText (edits.after_define (trimmed line.now) live.old.deck) text.items) }
+    ensures { IfOk result (λ text. spec.IsEditText (edits.after_define (trim_of line.now) live.old.deck) text.items) }
 {
     made_text(alloc, live.define(alloc, line))
 }

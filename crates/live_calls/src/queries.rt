@@ -5,7 +5,7 @@ ghost use Rattle.def_entry.specs.Keys as keys;
 ghost use Rattle.def_entry.specs.Tables.{is_present};
 ghost use Rattle.def_entry.specs.declared.key.Kind.TheVariants as kind;
 ghost use Rattle.deck.specs.Tables.{table};
-ghost use Rattle.expr_tree.specs.Parsed.{parsed};
+ghost use Rattle.expr_tree.specs.ParseResult.{parse_of};
 ghost use Rattle.expr_tree.specs.Trees.{syntax};
 ghost use Rattle.live_table.specs.Answers as asked;
 ghost use Rattle.live_calls.specs.Answers as answers;
@@ -28,7 +28,7 @@ pub(crate) fn value_answer(
 ) -> Result<Vec<u8>, AllocError>
     ensures deck { live.new.deck ≡ live.old.deck }
     ensures answer { IfOk result (λ line. line.items
-        ≡ answers.value_text (table live.old.deck) (parsed None text.now)) }
+        ≡ answers.value_text (table live.old.deck) (parse_of None text.now)) }
 {
     match parse_expr(alloc, text, None) {
         Ok(tree) => {
@@ -48,7 +48,7 @@ pub(crate) fn inverse_answer(
 ) -> Result<Vec<u8>, AllocError>
     ensures deck { live.new.deck ≡ live.old.deck }
     ensures answer { IfOk result (λ line. line.items
-        ≡ answers.inverse_text (table live.old.deck) name.now (parsed None text.now)) }
+        ≡ answers.inverse_text (table live.old.deck) name.now (parse_of None text.now)) }
 {
     if live.deck().entry(Kind::Func, name).is_none() {
         return line_of(alloc, b"no function");
@@ -79,7 +79,7 @@ fn inverse_at(
 ) -> Result<Quantity, QueryFault>
     requires { is_present (table live.old.deck) (keys.key kind.Func name.now) ≡ true }
     ensures deck { live.new.deck ≡ live.old.deck }
-    ensures answer { asked.Answers result
+    ensures answer { asked.IsQueryResult result
         (answers.inverse_at (table live.old.deck) name.now (asked.answer (table live.old.deck) (syntax tree.now))) }
 {
     match value_of::<Brand>(alloc, live, tree, Blank::new(1)) {
@@ -99,7 +99,7 @@ fn value_of<L: Ledger>(
     requires parts { blank.parts ≡ L.parts }
     requires some { 0 < blank.parts }
     ensures deck { live.new.deck ≡ live.old.deck }
-    ensures answer { asked.Answers result (asked.answer (table live.old.deck) (syntax tree.now)) }
+    ensures answer { asked.IsQueryResult result (asked.answer (table live.old.deck) (syntax tree.now)) }
 {
     let mut steps: Steps<L> = Steps::new(blank);
     live.value(alloc, tree, &mut steps)
@@ -118,7 +118,7 @@ fn inverse_of<L: Ledger>(
     requires some { 0 < blank.parts }
     requires present { is_present (table live.old.deck) (keys.key kind.Func name.now) ≡ true }
     ensures deck { live.new.deck ≡ live.old.deck }
-    ensures answer { asked.Answers result (asked.inverse_answer (table live.old.deck) name.now value.now) }
+    ensures answer { asked.IsQueryResult result (asked.inverse_answer (table live.old.deck) name.now value.now) }
 {
     let mut steps: Steps<L> = Steps::new(blank);
     live.unapply(alloc, name, value, &mut steps)

@@ -8,46 +8,46 @@ use Rattle.std.proofs.lemmas.List.{length-map}
 use Rattle.expr_tree.specs.declared.word_list.WordUse.{WordUse}
 use Rattle.def_entry.specs.declared.key.Key.{Key}
 use Rattle.def_entry.specs.Entries.{Entry}
-use Rattle.def_entry.specs.SameKeys.{is_among}
+use Rattle.def_entry.specs.SameKeys.{is_key_among}
 use Rattle.def_entry.specs.Tables.{Table, entry_at, is_present}
 use Rattle.deck.specs.Changes.{ChangedLaw, IsChange}
 use Rattle.deck.specs.Decks.{Contents}
 use Rattle.deck.specs.Tables.{table}
 use Rattle.name_lookup.specs.Plans.{Found}
-use Rattle.name_edges.specs.Affected.{AreAffected}
+use Rattle.name_edges.specs.AffectedNames.{AreAffected}
 use Rattle.name_edges.specs.NameGraphs.{NameGraph}
 use Rattle.name_edges.proofs.Cutting.{users_affected}
-use Rattle.name_numbers.specs.EdgeLaws.{AreEdges}
-use Rattle.name_numbers.specs.Numbered.{AreWords, ForOne, ForRefused, ForTwo, ForUnknown, IsWord}
+use Rattle.name_numbers.specs.EdgeLaws.{AreNameEdges}
+use Rattle.name_numbers.specs.NumberedNames.{AreWords, ForOne, ForRefused, ForTwo, ForUnknown, IsWord}
 use Rattle.name_numbers.proofs.AffectedNumbers.{affected_numbers_law}
 use Rattle.name_numbers.proofs.EdgeChanges.{edges_cut, looks_same, same_words}
 use Rattle.name_numbers.proofs.Reached.{lead_of_step}
 use Rattle.name_walk.specs.declared.step.Step.{Step}
-use Rattle.name_walk.specs.Closed.{IsSettled}
+use Rattle.name_walk.specs.ClosedNames.{IsSettled}
 use Rattle.name_walk.specs.Steps.{LeadsTo, steps}
 use Rattle.tree_eval.specs.declared.outcome.Outcome.{Outcome}
 use Rattle.table_names.specs.declared.fault.NameFault.{NameFault}
 use Rattle.table_names.specs.declared.fault.NameFault.TheVariants.{Unknown}
-use Rattle.table_names.specs.Affected.{IsAffected, is_affected}
-use Rattle.table_names.specs.Closed.{IsClosed}
+use Rattle.table_names.specs.AffectedKeys.{IsAffected, is_affected}
+use Rattle.table_names.specs.ClosedKeys.{IsClosed}
 use Rattle.table_names.specs.Edits.{IsAsBefore}
 use Rattle.table_names.specs.Leads.{at_once, word_lookup}
 use Rattle.table_names.specs.Words.{key_words}
-use Rattle.table_names.proofs.Affecting.{affected_law}
-use Rattle.table_names.proofs.Kept.{unaffected_law}
+use Rattle.table_names.proofs.AffectedKeys.{affected_law}
+use Rattle.table_names.proofs.UnchangedKeys.{unaffected_law}
 use Rattle.table_names.proofs.KeyLists.{among_member, member_among}
 use Rattle.table_names.proofs.Members.{member_first, member_later}
 use Rattle.live_table.specs.Callees.{HasRank}
-use Rattle.live_table.specs.Calls.{IsEdit}
-use Rattle.live_table.specs.Edged.{HasEdges, IsLinked, is_flagged}
+use Rattle.live_table.specs.Calls.{IsAcceptedEdit}
+use Rattle.live_table.specs.TableEdges.{HasEdges, IsLinked, is_flagged}
 use Rattle.live_table.specs.Forgotten.{AreForgotten}
 use Rattle.live_table.specs.Right as right_of
-use Rattle.live_table.specs.Shown.{IsRightTable, Shown, state}
-use Rattle.live_table.specs.Sound.{AreNodes, HasLooksOf, IsFaithful}
-use Rattle.live_table.specs.Stored.{Listed, kept_of, key_at, shown}
+use Rattle.live_table.specs.TableView.{IsRightTable, Shown, state_with_steps}
+use Rattle.live_table.specs.Sound.{AreNumberedNames, HasLooksOf, IsFaithful}
+use Rattle.live_table.specs.TableContents.{Listed, kept_of, key_at, shown_table}
 use Rattle.live_table.proofs.Edits.{edit_follows, left_in}
-use Rattle.live_table.proofs.Kept.{key_settled, marked_at}
-use Rattle.live_table.proofs.Left.{AreTaken, kept_left}
+use Rattle.live_table.proofs.OutcomesByKey.{key_settled, marked_at}
+use Rattle.live_table.proofs.OutcomesRemoved.{AreTaken, kept_left}
 use Rattle.live_table.proofs.Places.{some_same}
 
 -- ---- lists
@@ -102,7 +102,7 @@ module _ (before after : Table) (key : ℕ → Key) (dead_end : ℕ → Option K
 module _ (before after : Contents) (l m : Listed) (g h : NameGraph) (r : ℕ) (keys : List Key)
     (live : IsLinked before l g r) (change : IsChange before after keys) (f : AreForgotten (table after) keys l m g h)
   where
-    abbrev nodes : AreNodes (table before) l
+    abbrev nodes : AreNumberedNames (table before) l
     nodes = live.sound.numbers
 
     abbrev the_key : ℕ → Key
@@ -118,7 +118,7 @@ module _ (before after : Contents) (l m : Listed) (g h : NameGraph) (r : ℕ) (k
     now = is_flagged m.settled
 
     -- ---- by number and by name
-    key_was : (n : ℕ) → was n ≡ true → right_of.IsSettled (state (shown before l r) 0) (the_key n)
+    key_was : (n : ℕ) → was n ≡ true → right_of.IsKeySettled (state_with_steps (shown_table before l r) 0) (the_key n)
     key_was n e = key_settled before l r nodes n (flag_settled l.settled n e)
 
     closed : (n : ℕ) → was n ≡ true → IsClosed (table before) (the_key n)
@@ -185,7 +185,7 @@ module _ (before after : Contents) (l m : Listed) (g h : NameGraph) (r : ℕ) (k
     taken n None y s e d = left_none n y e d (stays (the_key n))
     taken n (Some o) y s e d = left_some n o y e d (is_affected (table before) keys (the_key n)) refl
 
-    shown_left : shown after m r ≡ left_in (shown before l r) after keys
+    shown_left : shown_table after m r ≡ left_in (shown_table before l r) after keys
     shown_left = λ i. record {
       deck = after;
       kept = (ap (λ (ks : List Key). kept_of ks m.outcomes) f.rest.keys
@@ -195,11 +195,11 @@ module _ (before after : Contents) (l m : Listed) (g h : NameGraph) (r : ℕ) (k
     }
 
     module _ (law : ChangedLaw) where
-      pub is_edit : IsEdit (shown before l r) (shown after m r)
-      is_edit = subst (λ (s : Shown). IsEdit (shown before l r) s) (sym shown_left)
-          (edit_follows law (shown before l r) after keys change.changed live.sound.right)
+      pub is_edit : IsAcceptedEdit (shown_table before l r) (shown_table after m r)
+      is_edit = subst (λ (s : Shown). IsAcceptedEdit (shown_table before l r) s) (sym shown_left)
+          (edit_follows law (shown_table before l r) after keys change.changed live.sound.right)
 
-      right_now : IsRightTable (shown after m r)
+      right_now : IsRightTable (shown_table after m r)
       right_now = (is_edit 0).right
 
     -- ---- nodes
@@ -219,7 +219,7 @@ module _ (before after : Contents) (l m : Listed) (g h : NameGraph) (r : ℕ) (k
     }
 
     flag_at : (n : ℕ) → n < length l.keys → slice_get m.present n ≡ Some (is_present (table after) (key_at l.keys n))
-    flag_at n s = elim (cases_Bool (is_among keys (the_key n))) [
+    flag_at n s = elim (cases_Bool (is_key_among keys (the_key n))) [
       | inl e ↦ f.present.changed n s (member_among keys (the_key n) e)
       | inr e ↦
           let off : Contains keys (the_key n) → ⊥ = λ c. true≢false (sym (among_member keys (the_key n) c) ∙ e) in
@@ -282,7 +282,7 @@ module _ (before after : Contents) (l m : Listed) (g h : NameGraph) (r : ℕ) (k
           once = o.once;
         }
 
-    nodes_later : AreNodes (table after) later
+    nodes_later : AreNumberedNames (table after) later
     nodes_later = record {
       step_count = nodes.step_count;
       outcome_count = f.left.outcome_count ∙ nodes.outcome_count;
@@ -314,7 +314,7 @@ module _ (before after : Contents) (l m : Listed) (g h : NameGraph) (r : ℕ) (k
     edges_later : HasEdges after later h
     edges_later = record {
       names = let a = live.edges.names in let e = f.edges.names in omega (arith, a, e);
-      are = subst (λ size. AreEdges (table after) the_key size now h) (sym f.edges.names)
+      are = subst (λ size. AreNameEdges (table after) the_key size now h) (sym f.edges.names)
           (edges_cut (table before) (table after) the_key g.names was now g h Affected live.edges.are f.edges marks
           (users_affected g f.numbers) as_before);
     }
@@ -322,7 +322,7 @@ module _ (before after : Contents) (l m : Listed) (g h : NameGraph) (r : ℕ) (k
     pub live_after : ChangedLaw → IsLinked after m h r
     live_after law = record {
       sound = record {
-        numbers = subst (AreNodes (table after)) later_is nodes_later;
+        numbers = subst (AreNumberedNames (table after)) later_is nodes_later;
         right = right_now law;
         few = live.sound.few;
       };

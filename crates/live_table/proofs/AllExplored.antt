@@ -5,21 +5,21 @@ use Rattle.std.specs.List.{slice_get}
 use Rattle.std.proofs.lemmas.Bool.{or_cases}
 use Rattle.def_entry.specs.Tables.{Table, is_present}
 use Rattle.name_walk.specs.declared.step.Step.TheVariants.{To}
-use Rattle.name_walk.specs.Faults.{on}
+use Rattle.name_walk.specs.Faults.{is_on_path}
 use Rattle.name_walk.specs.Lists.{In}
 use Rattle.name_walk.specs.Steps.{steps}
 use Rattle.name_walk.proofs.Lists.{In-on, on-In}
 use Rattle.table_names.specs.Words.{key_words}
-use Rattle.name_numbers.specs.Numbered.{AreWords}
+use Rattle.name_numbers.specs.NumberedNames.{AreWords}
 use Rattle.live_table.specs.declared.dead_end.DeadEnd.{DeadEnd}
-use Rattle.live_table.specs.Explored.{AreExplored, fault_at}
-use Rattle.live_table.specs.Exploring.{AreAllExplored, IsKnown, is_known, is_marked}
-use Rattle.live_table.specs.Sound.{AreNodes, HasLooksIfLed, HasStartsOf}
-use Rattle.live_table.specs.Stored.{Listed, key_at}
-use Rattle.live_table.proofs.Growing.{known_within}
+use Rattle.live_table.specs.ExploredNames.{AreExplored, fault_at}
+use Rattle.live_table.specs.Exploration.{AreAllExplored, IsKnown, is_known, is_some_true}
+use Rattle.live_table.specs.Sound.{AreNumberedNames, HasLooksIfLed, HasStartsOf}
+use Rattle.live_table.specs.TableContents.{Listed, key_at}
+use Rattle.live_table.proofs.AddedNames.{known_within}
 
 -- a mark that is set is present
-is_flag : (o : Option Bool) → is_marked o ≡ true → o ≡ Some true
+is_flag : (o : Option Bool) → is_some_true o ≡ true → o ≡ Some true
 is_flag None e = cc
 is_flag (Some b) e = ap Some e
 
@@ -37,9 +37,9 @@ or_right false b e = e
 pub from_known : (l : Listed) (before list : List ℕ) (n : ℕ) → is_known l.settled before list n ≡ true
     → IsKnown l before list n
 from_known l before list n k =
-    elim (or_cases (is_marked (slice_get l.settled n)) (on before n || on list n) k) [
+    elim (or_cases (is_some_true (slice_get l.settled n)) (is_on_path before n || is_on_path list n) k) [
       | inl e ↦ inl (is_flag (slice_get l.settled n) e)
-      | inr f ↦ elim (or_cases (on before n) (on list n) f)
+      | inr f ↦ elim (or_cases (is_on_path before n) (is_on_path list n) f)
           [ inl e ↦ inr (inl (on-In before n e)) | inr e ↦ inr (inr (on-In list n e)) ]
     ]
 
@@ -47,15 +47,15 @@ from_known l before list n k =
 pub to_known : (l : Listed) (before list : List ℕ) (n : ℕ) → IsKnown l before list n
     → is_known l.settled before list n ≡ true
 to_known l before list n (inl e) =
-    or_left (is_marked (slice_get l.settled n)) (on before n || on list n) (ap is_marked e)
+    or_left (is_some_true (slice_get l.settled n)) (is_on_path before n || is_on_path list n) (ap is_some_true e)
 to_known l before list n (inr (inl i)) =
-    or_right (is_marked (slice_get l.settled n)) (on before n || on list n)
-    (or_left (on before n) (on list n) (In-on before n i))
+    or_right (is_some_true (slice_get l.settled n)) (is_on_path before n || is_on_path list n)
+    (or_left (is_on_path before n) (is_on_path list n) (In-on before n i))
 to_known l before list n (inr (inr i)) =
-    or_right (is_marked (slice_get l.settled n)) (on before n || on list n)
-    (or_right (on before n) (on list n) (In-on list n i))
+    or_right (is_some_true (slice_get l.settled n)) (is_on_path before n || is_on_path list n)
+    (or_right (is_on_path before n) (is_on_path list n) (In-on list n i))
 
-module _ (t : Table) (l : Listed) (before list : List ℕ) (ends : List DeadEnd) (nodes : AreNodes t l)
+module _ (t : Table) (l : Listed) (before list : List ℕ) (ends : List DeadEnd) (nodes : AreNumberedNames t l)
     (s : AreAllExplored t l before list ends) where
   abbrev known : ℕ → Bool
   known = is_known l.settled before list
@@ -97,7 +97,7 @@ module _ (t : Table) (l : Listed) (before list : List ℕ) (ends : List DeadEnd)
 
   pub explored_all : AreExplored t l ends known
   explored_all = record {
-    numbered = record {
+    numbers_are = record {
       within = λ n k. let h : n < length l.keys = is_within n k in
           let c : length l.graph ≡ length l.keys = nodes.step_count in omega arith;
       below = λ n q k i. to_known l before list q (all_below n q (from_known l before list n k) i);

@@ -13,24 +13,24 @@ use Rattle.table_names.specs.declared.fault.NameFault.{NameFault}
 use Rattle.table_names.specs.Faults.{name_fault}
 use Rattle.table_names.specs.Leads.{WordsReach}
 use Rattle.table_names.specs.Reach.{reach}
-use Rattle.table_names.proofs.Reaching.{reach_law}
+use Rattle.table_names.proofs.ReachedKeys.{reach_law}
 use Rattle.deck.specs.Tables.{table}
-use Rattle.name_numbers.specs.Numbered.{AreWords, LeadToKnown, named}
+use Rattle.name_numbers.specs.NumberedNames.{AreWords, LeadToKnown, fault_by_name}
 use Rattle.name_numbers.specs.SettlingLaws.{AreNewKeys}
 use Rattle.live_table.specs.declared.dead_end.DeadEnd.{DeadEnd}
 use Rattle.live_table.specs.declared.fault.QueryFault.{QueryFault}
 use Rattle.live_table.specs.declared.fault.QueryFault.TheVariants.{Name}
-use Rattle.live_table.specs.Asked.{IsAnswered, IsAsked, fault_in}
-use Rattle.live_table.specs.Explored.{AreExplored, fault_at}
-use Rattle.live_table.specs.Exploring.{AreWritten}
+use Rattle.live_table.specs.QueryEffects.{IsAsked, IsQueryAnswered, fault_in}
+use Rattle.live_table.specs.ExploredNames.{AreExplored, fault_at}
+use Rattle.live_table.specs.Exploration.{AreWritten}
 use Rattle.live_table.specs.QueryWords.{AreCutAt, fault_before}
-use Rattle.live_table.specs.Shown.{Follows, IsRightTable, Shown}
+use Rattle.live_table.specs.TableView.{IsAfterEvents, IsRightTable, Shown}
 use Rattle.live_table.specs.Sound.{IsSound}
 use Rattle.live_table.specs.States.{AsksWords}
-use Rattle.live_table.specs.Stored.{Listed, key_at, shown}
-use Rattle.live_table.specs.Surrounded.{AreSettledWords}
+use Rattle.live_table.specs.TableContents.{Listed, key_at, shown_table}
+use Rattle.live_table.specs.EvalInvariants.{AreSettledWords}
 use Rattle.live_table.proofs.AllExplored.{to_known}
-use Rattle.live_table.proofs.Growing.{written_more}
+use Rattle.live_table.proofs.AddedNames.{written_more}
 use Rattle.live_table.proofs.GrownLive.{words_query}
 use Rattle.live_table.proofs.Queries.{are_marks, asked_fault, asked_none, fault_follows, is_kept, reached_settled}
 use Rattle.live_table.proofs.QuerySteps.{written_led}
@@ -73,23 +73,25 @@ module _ (s : Stages) (are : AreAllStages s) (us : List WordUse) (xs : List Step
   by_name : fault_in (table s.deck) s.explored s.more xs ≡ fault
   by_name =
       are.faults.words (table s.deck) (key_at s.explored.keys) (fault_at s.more) s.explored.graph (known_there s)
-      explored.numbered sound.numbers.net.range us xs words targets
+      explored.numbers_are sound.numbers.net.range us xs words targets
 
   new : fault ≡ None → (order : List ℕ) → AreNewlyClosed s.explored.graph s.explored.settled xs order
-      → AreNewKeys (is_kept (shown s.deck s.explored s.reductions).kept) (WordsReach (table s.deck) us)
+      → AreNewKeys (is_kept (shown_table s.deck s.explored s.reductions).kept) (WordsReach (table s.deck) us)
       (map (key_at s.explored.keys) order)
   new none order c =
       are.settles.words (table s.deck) (key_at s.explored.keys) (fault_at s.more) s.explored.graph (known_there s)
-      s.explored.settled (is_kept (shown s.deck s.explored s.reductions).kept) explored.numbered
+      s.explored.settled (is_kept (shown_table s.deck s.explored s.reductions).kept) explored.numbers_are
       (are_marks s.deck s.explored s.reductions s.more (known_there s) sound.numbers explored) us xs order words targets
       none c
 
   -- the result is lack of memory, or the fault of the words
   pub explored_fault : {A : Type 0} (Given : A → Type 0) (now : Shown) (old later : ℕ) → IsRightTable now
       → (f : QueryFault)
-      → IsAnswered (table s.deck) s.explored s.more xs (Err f) (shown s.deck s.explored s.reductions) now old later
+      → IsQueryAnswered (table s.deck) s.explored s.more xs (Err f) (shown_table s.deck s.explored s.reductions) now old
+      later
       → (result : Result A QueryFault) → result ≡ Err f
-      → IsAsked (AsksWords us) (name_fault (table s.deck) us) Given result (shown s.deck s.start s.reductions) now old
+      → IsAsked (AsksWords us) (name_fault (table s.deck) us) Given result (shown_table s.deck s.start s.reductions) now
+      old
       later
   explored_fault {A} Given now old later right f a result e =
       subst (λ (p : Shown × Result A QueryFault). IsAsked (AsksWords us) fault Given p.1 p.0 now old later)
@@ -102,19 +104,19 @@ module _ (s : Stages) (are : AreAllStages s) (us : List WordUse) (xs : List Step
   pub explored_settled : (now : Listed) (count old later : ℕ) → IsSettledAfter s xs now count old later
       → (v : SmallVec Step) → v.items ≡ xs
       → IsAsked (AsksWords us) (name_fault (table s.deck) us) (λ (x : SmallVec Step). AreSettledWords (table s.deck)
-      now us x.items) (Ok v) (shown s.deck s.start s.reductions) (shown s.deck now count) old later
+      now us x.items) (Ok v) (shown_table s.deck s.start s.reductions) (shown_table s.deck now count) old later
   explored_settled now count old later after v is =
       subst (λ (b : Shown). IsAsked (AsksWords us) fault (λ (x : SmallVec Step). AreSettledWords (table s.deck) now us
-      x.items) (Ok v) b (shown s.deck now count) old later) (same_start s are.stages)
+      x.items) (Ok v) b (shown_table s.deck now count) old later) (same_start s are.stages)
       (asked_none (AsksWords us) fault (reach (table s.deck) us) (WordsReach (table s.deck) us) s.deck s.explored
       s.reductions s.more xs sound (words_query (table s.deck) us) by_name (reach_law.listed (table s.deck) us) new
-      (λ (x : SmallVec Step). AreSettledWords (table s.deck) now us x.items) (shown s.deck now count) old later
+      (λ (x : SmallVec Step). AreSettledWords (table s.deck) now us x.items) (shown_table s.deck now count) old later
       after.sound.right v after.order after.closing after.all
       (subst (λ (ys : List Step). AreSettledWords (table s.deck) now us ys) (sym is) settled_words))
     where
       within : (m : ℕ) → In (To m) xs → m < length s.explored.keys
       within m i =
-          let a : m < length s.explored.graph = explored.numbered.within m (targets m i) in
+          let a : m < length s.explored.graph = explored.numbers_are.within m (targets m i) in
           let b : length s.explored.graph ≡ length s.explored.keys = sound.numbers.step_count in omega arith
 
       settled_words : AreSettledWords (table s.deck) now us xs
@@ -122,7 +124,7 @@ module _ (s : Stages) (are : AreAllStages s) (us : List WordUse) (xs : List Step
         dead_end = fault_at s.more;
         words = subst (λ (ks : List Key). AreWords (table s.deck) (key_at ks) (fault_at s.more) us xs) (sym after.keys)
             words;
-        closed = sym by_name ∙ ap (option_map (named (table s.deck) (key_at s.explored.keys) (fault_at s.more)))
+        closed = sym by_name ∙ ap (option_map (fault_by_name (table s.deck) (key_at s.explored.keys) (fault_at s.more)))
             after.closing.none;
         settled = λ m i. reached_settled s.deck s.explored now s.reductions count old later xs after.order sound
             after.sound.numbers after.keys after.closing.closes after.all m (within m i) (m, i, inl refl);
@@ -133,14 +135,15 @@ pub explored_cut : {A : Type 0} (Given : A → Type 0) (s : Stages) → AreAllSt
     (xs : List Step) (end : DeadEnd) (old : ℕ)
     → AreCutAt (table s.deck) s.led s.before s.list us xs end
     → (f : NameFault) → fault_before (fault_in (table s.deck) s.explored s.more xs) end ≡ Some f
-    → IsAsked (AsksWords us) (name_fault (table s.deck) us) Given (Err (Name f)) (shown s.deck s.start s.reductions)
-    (shown s.deck s.explored s.reductions) old old
+    → IsAsked (AsksWords us) (name_fault (table s.deck) us) Given (Err (Name f))
+    (shown_table s.deck s.start s.reductions)
+    (shown_table s.deck s.explored s.reductions) old old
 explored_cut Given s are us xs end old cut f e = (
   some,
-  subst (λ (now : Shown). Follows (AsksWords us ∷ []) (shown s.deck s.start s.reductions) now old old)
+  subst (λ (now : Shown). IsAfterEvents (AsksWords us ∷ []) (shown_table s.deck s.start s.reductions) now old old)
       (sym (same_start s are.stages))
       (fault_follows (AsksWords us) (name_fault (table s.deck) us) (reach (table s.deck) us)
-      (shown s.deck s.start s.reductions) old are.stages.sound.right (words_query (table s.deck) us) f some),
+      (shown_table s.deck s.start s.reductions) old are.stages.sound.right (words_query (table s.deck) us) f some),
 )
   where
     some : name_fault (table s.deck) us ≡ Some f

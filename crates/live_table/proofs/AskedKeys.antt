@@ -7,27 +7,27 @@ use Rattle.def_entry.specs.Tables.{Table}
 use Rattle.name_walk.specs.declared.step.Step.{Step}
 use Rattle.name_walk.specs.declared.step.Step.TheVariants.{Nowhere, To}
 use Rattle.name_walk.specs.NewlyClosed.{AreNewlyClosed}
-use Rattle.table_names.specs.Closed.{AreClosed, IsClosed}
+use Rattle.table_names.specs.ClosedKeys.{AreClosed, IsClosed}
 use Rattle.table_names.specs.Faults.{key_fault}
 use Rattle.table_names.specs.Leads.{Reaches}
 use Rattle.table_names.specs.Reach.{key_reach}
 use Rattle.table_names.specs.Words.{key_words}
-use Rattle.table_names.proofs.Closing.{closed_law}
+use Rattle.table_names.proofs.ClosedLaws.{closed_law}
 use Rattle.table_names.proofs.Members.{member_cases, member_first, member_later}
-use Rattle.table_names.proofs.Reaching.{reach_law}
+use Rattle.table_names.proofs.ReachedKeys.{reach_law}
 use Rattle.deck.specs.Tables.{table}
-use Rattle.name_numbers.specs.Numbered.{LeadToKnown}
+use Rattle.name_numbers.specs.NumberedNames.{LeadToKnown}
 use Rattle.name_numbers.specs.SettlingLaws.{AreNewKeys}
 use Rattle.live_table.specs.declared.fault.QueryFault.{QueryFault}
-use Rattle.live_table.specs.Asked.{IsAnswered, IsAsked, IsSettledKey, fault_in}
-use Rattle.live_table.specs.Explored.{AreExplored, fault_at}
-use Rattle.live_table.specs.Exploring.{IsKnown}
-use Rattle.live_table.specs.Shown.{IsRightTable, Shown}
+use Rattle.live_table.specs.QueryEffects.{IsAsked, IsQueryAnswered, IsSettledKey, fault_in}
+use Rattle.live_table.specs.ExploredNames.{AreExplored, fault_at}
+use Rattle.live_table.specs.Exploration.{IsKnown}
+use Rattle.live_table.specs.TableView.{IsRightTable, Shown}
 use Rattle.live_table.specs.Sound.{IsSound}
 use Rattle.live_table.specs.States.{AsksKey}
-use Rattle.live_table.specs.Stored.{Listed, key_at, shown}
+use Rattle.live_table.specs.TableContents.{Listed, key_at, shown_table}
 use Rattle.live_table.proofs.AllExplored.{to_known}
-use Rattle.live_table.proofs.Growing.{key_same, known_still, known_within}
+use Rattle.live_table.proofs.AddedNames.{key_same, known_still, known_within}
 use Rattle.live_table.proofs.GrownLive.{key_query}
 use Rattle.live_table.proofs.Queries.{are_marks, asked_fault, asked_none, is_kept, reached_settled}
 use Rattle.live_table.proofs.Stages.{AreAllStages, AreStages, IsSettledAfter, Stages, explored_there, known_there}
@@ -94,20 +94,23 @@ module _ (s : Stages) (are : AreAllStages s) (n : ℕ) (known : known_there s n 
   by_name : fault_in (table s.deck) s.explored s.more query ≡ key_fault (table s.deck) k
   by_name =
       are.faults.key (table s.deck) (key_at s.explored.keys) (fault_at s.more) s.explored.graph (known_there s)
-      explored.numbered sound.numbers.net.range n known
+      explored.numbers_are sound.numbers.net.range n known
 
   new : key_fault (table s.deck) k ≡ None → (order : List ℕ)
       → AreNewlyClosed s.explored.graph s.explored.settled query order
-      → AreNewKeys (is_kept (shown s.deck s.explored s.reductions).kept) Asked (map (key_at s.explored.keys) order)
+      → AreNewKeys (is_kept (shown_table s.deck s.explored s.reductions).kept) Asked
+      (map (key_at s.explored.keys) order)
   new none order c =
       are.settles.key (table s.deck) (key_at s.explored.keys) (fault_at s.more) s.explored.graph (known_there s)
-      s.explored.settled (is_kept (shown s.deck s.explored s.reductions).kept) explored.numbered
+      s.explored.settled (is_kept (shown_table s.deck s.explored s.reductions).kept) explored.numbers_are
       (are_marks s.deck s.explored s.reductions s.more (known_there s) sound.numbers explored) n order known none c
 
   known_fault : {A : Type 0} (Given : A → Type 0) (now : Shown) (old later : ℕ) → IsRightTable now
       → (f : QueryFault)
-      → IsAnswered (table s.deck) s.explored s.more query (Err f) (shown s.deck s.explored s.reductions) now old later
-      → IsAsked (AsksKey k) (key_fault (table s.deck) k) Given (Err f) (shown s.deck s.explored s.reductions) now old
+      → IsQueryAnswered (table s.deck) s.explored s.more query (Err f) (shown_table s.deck s.explored s.reductions) now
+      old later
+      → IsAsked (AsksKey k) (key_fault (table s.deck) k) Given (Err f) (shown_table s.deck s.explored s.reductions) now
+      old
       later
   known_fault Given now old later right f a =
       asked_fault (AsksKey k) (key_fault (table s.deck) k) (k ∷ key_reach (table s.deck) k) Asked s.deck s.explored
@@ -116,11 +119,12 @@ module _ (s : Stages) (are : AreAllStages s) (n : ℕ) (known : known_there s n 
 
   known_settled : (now : Listed) (count old later : ℕ) → IsSettledAfter s query now count old later
       → IsAsked (AsksKey k) (key_fault (table s.deck) k) (IsSettledKey now k) (Ok n)
-      (shown s.deck s.explored s.reductions) (shown s.deck now count) old later
+      (shown_table s.deck s.explored s.reductions) (shown_table s.deck now count) old later
   known_settled now count old later after =
       asked_none (AsksKey k) (key_fault (table s.deck) k) (k ∷ key_reach (table s.deck) k) Asked s.deck s.explored
       s.reductions s.more query sound (key_query (table s.deck) k) by_name (key_reached (table s.deck) k) new
-      (IsSettledKey now k) (shown s.deck now count) old later after.sound.right n after.order after.closing after.all (
+      (IsSettledKey now k) (shown_table s.deck now count) old later after.sound.right n after.order after.closing
+      after.all (
         ap (λ (ks : List Key). key_at ks n) (sym after.keys),
         reached_settled s.deck s.explored now s.reductions count old later query after.order sound after.sound.numbers
             after.keys after.closing.closes after.all n within (n, inl refl, inl refl),
@@ -128,7 +132,7 @@ module _ (s : Stages) (are : AreAllStages s) (n : ℕ) (known : known_there s n 
     where
       within : n < length s.explored.keys
       within =
-          let a : n < length s.explored.graph = explored.numbered.within n known in
+          let a : n < length s.explored.graph = explored.numbers_are.within n known in
           let b : length s.explored.graph ≡ length s.explored.keys = sound.numbers.step_count in omega arith
 
 -- ---- the key with this number
@@ -136,14 +140,16 @@ module _ (s : Stages) (are : AreAllStages s) (key : Key) (n : ℕ) (number : IsN
   -- the result is lack of memory, or the fault of the key
   pub key_explored_fault : {A : Type 0} (Given : A → Type 0) (now : Shown) (old later : ℕ) → IsRightTable now
       → (f : QueryFault)
-      → IsAnswered (table s.deck) s.explored s.more (To n ∷ []) (Err f) (shown s.deck s.explored s.reductions) now old
+      → IsQueryAnswered (table s.deck) s.explored s.more (To n ∷ []) (Err f)
+      (shown_table s.deck s.explored s.reductions) now old
       later
       → (result : Result A QueryFault) → result ≡ Err f
-      → IsAsked (AsksKey key) (key_fault (table s.deck) key) Given result (shown s.deck s.start s.reductions) now old
+      → IsAsked (AsksKey key) (key_fault (table s.deck) key) Given result (shown_table s.deck s.start s.reductions) now
+      old
       later
   key_explored_fault {A} Given now old later right f a result e =
       subst (λ (r : Result A QueryFault). IsAsked (AsksKey key) (key_fault (table s.deck) key) Given r
-      (shown s.deck s.start s.reductions) now old later) (sym e)
+      (shown_table s.deck s.start s.reductions) now old later) (sym e)
       (subst (λ (p : Shown × Key). IsAsked (AsksKey p.1) (key_fault (table s.deck) p.1) Given (Err f) p.0 now old later)
       (λ i. (same_start s are.stages i, key_is s are.stages key n number i))
       (known_fault s are n (number_known s are.stages key n number) Given now old later right f a))
@@ -151,9 +157,9 @@ module _ (s : Stages) (are : AreAllStages s) (key : Key) (n : ℕ) (number : IsN
   -- or the names that the key reaches are settled, and so is the key
   pub key_explored_settled : (now : Listed) (count old later : ℕ) → IsSettledAfter s (To n ∷ []) now count old later
       → IsAsked (AsksKey key) (key_fault (table s.deck) key) (IsSettledKey now key) (Ok n)
-      (shown s.deck s.start s.reductions) (shown s.deck now count) old later
+      (shown_table s.deck s.start s.reductions) (shown_table s.deck now count) old later
   key_explored_settled now count old later after =
       subst (λ (p : Shown × Key). IsAsked (AsksKey p.1) (key_fault (table s.deck) p.1) (IsSettledKey now p.1) (Ok n) p.0
-      (shown s.deck now count) old later)
+      (shown_table s.deck now count) old later)
       (λ i. (same_start s are.stages i, key_is s are.stages key n number i))
       (known_settled s are n (number_known s are.stages key n number) now count old later after)

@@ -15,16 +15,18 @@ use Rattle.deck.specs.Tables.{table}
 use Rattle.def_entry.specs.Tables.{AreChanged}
 use Rattle.live_table.specs.declared.fault.QueryFault.{QueryFault}
 use Rattle.live_table.specs.declared.fault.QueryFault.TheVariants as query_fault
-use Rattle.live_table.specs.Calls.{IsQuery, is_name_kind, names_among, queries_of}
+use Rattle.live_table.specs.Calls.{IsQuery, is_name_kind, key_queries, names_among}
 use Rattle.live_table.specs.KeptNames.{IsKeptByAll}
-use Rattle.live_table.specs.Right.{IsRight, IsSettled}
-use Rattle.live_table.specs.Shown.{Follows, IsRightTable, Shown, state}
-use Rattle.live_table.specs.States.{AllCanBe, AsksKey, Event, State, after, after_all, after_query}
+use Rattle.live_table.specs.Right.{IsKeySettled, IsRight}
+use Rattle.live_table.specs.TableView.{IsAfterEvents, IsRightTable, Shown, state_with_steps}
+use Rattle.live_table.specs.States.{AllCanBe, AsksKey, Event, TableState, after, after_all, after_query}
 use Rattle.live_table.proofs.DeckTables.{fits_kinds}
 use Rattle.live_table.proofs.KeptNames.{kept_law}
 use Rattle.live_table.proofs.Runs.{run_law}
-use Rattle.live_table.specs.CallLists.{AreCalls, AllComplete, Call, DeckKindsLaw, MadeCall, AcceptedEdit, EditsCanBeLaw, CallListLaw}
-use Rattle.live_table.specs.CallLists.{Unapply, IsCall, IsKeptSince, RefusedEdit, SettleAll, Value, all_events, events_in}
+use Rattle.live_table.specs.CallLists.{AreCalls, AllComplete, Call, DeckKindsLaw, MadeCall, AcceptedEdit, EditsCanBeLaw}
+use Rattle.live_table.specs.CallLists.{CallListLaw}
+use Rattle.live_table.specs.CallLists.{Unapply, IsCall, IsKeptSince, RefusedEdit, SettleAll, Value, all_events}
+use Rattle.live_table.specs.CallLists.{events_in}
 use Rattle.live_table.specs.CallLists.{has_answer, is_complete, last_shown, last_steps}
 
 -- the law of the kinds of the keys of a deck
@@ -34,26 +36,27 @@ deck_kinds_law = fits_kinds
 -- the law of possible edits
 pub edits_can_be_law : ChangedLaw → EditsCanBeLaw
 edits_can_be_law changed before later s is =
-    subst (λ (t : Table). AreChanged t (table later) (changed_keys t (table later))) (sym is) (changed before later).changed
+    subst (λ (t : Table). AreChanged t (table later) (changed_keys t (table later))) (sym is)
+    (changed before later).changed
 
 -- ---- events in turn
-can_both : (es fs : List Event) (s : State) → AllCanBe es s → AllCanBe fs (after_all es s) → AllCanBe (es ++ fs) s
+can_both : (es fs : List Event) (s : TableState) → AllCanBe es s → AllCanBe fs (after_all es s) → AllCanBe (es ++ fs) s
 can_both [] fs s a b = b
 can_both (e ∷ es) fs s a b = (a.0, can_both es fs (after e s) a.1 b)
 
 -- a query does not change the table
-query_table : (b : Bool) (keys : List Key) (s : State) → (after_query b keys s).table ≡ s.table
+query_table : (b : Bool) (keys : List Key) (s : TableState) → (after_query b keys s).table ≡ s.table
 query_table true keys s = refl
 query_table false keys s = refl
 
 -- queries of keys that have entries are possible
-names_can : (keys : List Key) (s : State) → ((k : Key) → Contains keys k → is_present s.table k ≡ true)
-    → AllCanBe (queries_of keys) s
+names_can : (keys : List Key) (s : TableState) → ((k : Key) → Contains keys k → is_present s.table k ≡ true)
+    → AllCanBe (key_queries keys) s
 names_can [] s h = tt
 names_can (k ∷ keys) s h =
     by (names_can keys behind there) (names_can keys s (λ m i. h m (member_later m k keys i))) (is_name_kind k.kind)
   where
-    behind : State
+    behind : TableState
     behind = after (AsksKey k) s
 
     there : (m : Key) → Contains keys m → is_present behind.table m ≡ true
@@ -61,7 +64,7 @@ names_can (k ∷ keys) s h =
         subst (λ (t : Table). is_present t m ≡ true)
         (sym (query_table (is_none (key_fault s.table k)) (k ∷ key_reach s.table k) s)) (h m (member_later m k keys i))
 
-    by : AllCanBe (queries_of keys) behind → AllCanBe (queries_of keys) s → (b : Bool)
+    by : AllCanBe (key_queries keys) behind → AllCanBe (key_queries keys) s → (b : Bool)
         → AllCanBe (map AsksKey (cond b (k ∷ names_among keys) (names_among keys))) s
     by asked left true = (h k (member_first k k keys refl), asked)
     by asked left false = left
@@ -69,7 +72,7 @@ names_can (k ∷ keys) s h =
 -- ---- one call
 -- a result that is not lack of memory
 with_answer : (event : Event) (r : Result Amount QueryFault) (s t : Shown) (n m : ℕ) → has_answer r ≡ true
-    → IsQuery event r s t n m → Follows (event ∷ []) s t n m
+    → IsQuery event r s t n m → IsAfterEvents (event ∷ []) s t n m
 with_answer event (Ok q) s t n m e h = h
 with_answer event (Err (query_fault.Name f)) s t n m e h = h
 with_answer event (Err (query_fault.Value f)) s t n m e h = h
@@ -91,41 +94,43 @@ call_right AcceptedEdit s t n m right h = (h.1 n).right
 call_right RefusedEdit s t n m right h = subst IsRightTable (sym h.1) right
 
 call_follows : (c : Call) (s t : Shown) (n m : ℕ) → IsRightTable s → IsCall c s t n m → is_complete c ≡ true
-    → Follows (events_in c s t) s t n m
+    → IsAfterEvents (events_in c s t) s t n m
 call_follows (Value e r) s t n m right h made = with_answer _ r s t n m made h.1
 call_follows (Unapply name r) s t n m right h made = with_answer _ r s t n m made h.2
 call_follows (SettleAll (Ok x)) s t n m right h made = h.1
 call_follows (SettleAll (Err x)) s t n m right h made = cc
 call_follows AcceptedEdit s t n m right h made =
-    subst (λ (k : ℕ). Follows (events_in AcceptedEdit s t) s t n k) (sym h.0) (h.1 n)
+    subst (λ (k : ℕ). IsAfterEvents (events_in AcceptedEdit s t) s t n k) (sym h.0) (h.1 n)
 call_follows RefusedEdit s t n m right h made =
-    subst (λ (x : Shown). Follows [] s x n m) (sym h.1)
-    (subst (λ (k : ℕ). Follows [] s s n k) (sym h.0) (run_law.none s n right))
+    subst (λ (x : Shown). IsAfterEvents [] s x n m) (sym h.1)
+    (subst (λ (k : ℕ). IsAfterEvents [] s s n k) (sym h.0) (run_law.none s n right))
 
 -- ---- several calls
-right_after : (ds : List MadeCall) (s : Shown) (n : ℕ) → IsRightTable s → AreCalls ds s n → IsRightTable (last_shown ds s)
+right_after : (ds : List MadeCall) (s : Shown) (n : ℕ) → IsRightTable s → AreCalls ds s n
+    → IsRightTable (last_shown ds s)
 right_after [] s n right h = right
 right_after (d ∷ ds) s n right h =
     right_after ds d.shown d.steps (call_right d.call s d.shown n d.steps right h.0) h.1
 
 module _ (edits : EditsCanBeLaw) (whole : WholeLaw) where
-  call_can : (c : Call) (s t : Shown) (n m : ℕ) → IsCall c s t n m → AllCanBe (events_in c s t) (state s n)
+  call_can : (c : Call) (s t : Shown) (n m : ℕ) → IsCall c s t n m → AllCanBe (events_in c s t) (state_with_steps s n)
   call_can (Value e r) s t n m h = (tt, tt)
   call_can (Unapply name r) s t n m h = (h.0, tt)
   call_can (SettleAll r) s t n m h =
-      names_can (table_keys (table s.deck)) (state s n) (λ k i.
+      names_can (table_keys (table s.deck)) (state_with_steps s n) (λ k i.
       sym ((whole (table s.deck)).all.each k) ∙ among_member (table_keys (table s.deck)) k i)
-  call_can AcceptedEdit s t n m h = (edits s.deck t.deck (state s n) refl, tt)
+  call_can AcceptedEdit s t n m h = (edits s.deck t.deck (state_with_steps s n) refl, tt)
   call_can RefusedEdit s t n m h = tt
 
   together : (ds : List MadeCall) (s : Shown) (n : ℕ) → IsRightTable s → AreCalls ds s n → AllComplete ds
-      → AllCanBe (all_events ds s) (state s n) × Follows (all_events ds s) s (last_shown ds s) n (last_steps ds n)
+      → AllCanBe (all_events ds s) (state_with_steps s n) × IsAfterEvents (all_events ds s) s (last_shown ds s) n
+      (last_steps ds n)
   together [] s n right h made = (tt, run_law.none s n right)
   together (d ∷ ds) s n right h made =
-      let f : Follows (events_in d.call s d.shown) s d.shown n d.steps =
+      let f : IsAfterEvents (events_in d.call s d.shown) s d.shown n d.steps =
       call_follows d.call s d.shown n d.steps right h.0 made.0 in
       let rest = together ds d.shown d.steps f.right h.1 made.1 in (
-        can_both (events_in d.call s d.shown) (all_events ds d.shown) (state s n)
+        can_both (events_in d.call s d.shown) (all_events ds d.shown) (state_with_steps s n)
             (call_can d.call s d.shown n d.steps h.0)
             (subst (AllCanBe (all_events ds d.shown)) f.stands rest.0),
         run_law.both (events_in d.call s d.shown) (all_events ds d.shown) s d.shown (last_shown ds d.shown)
@@ -133,7 +138,7 @@ module _ (edits : EditsCanBeLaw) (whole : WholeLaw) where
       )
 
   -- the outcomes are right whatever the counts
-  right_at : (s : Shown) (n : ℕ) → IsRightTable s → IsRight (state s n)
+  right_at : (s : Shown) (n : ℕ) → IsRightTable s → IsRight (state_with_steps s n)
   right_at s n r = record { present = r.present; closed = r.closed; below = r.below; right = r.right }
 
   kept_since : (ds : List MadeCall) (s : Shown) (n : ℕ) → IsRightTable s → AreCalls ds s n → AllComplete ds
@@ -142,8 +147,10 @@ module _ (edits : EditsCanBeLaw) (whole : WholeLaw) where
       let both = together ds s n right h made in record {
         follows = both.1;
         names = λ k.
-            subst (λ (x : State). IsSettled x k ↔ IsKeptByAll (all_events ds s) (table s.deck) (IsSettled (state s 0)) k)
-            (sym both.1.stands) ((kept_law (all_events ds s) (state s n) both.0 (right_at s n right)).names k);
+            subst (λ (x : TableState). IsKeySettled x k ↔ IsKeptByAll (all_events ds s) (table s.deck)
+            (IsKeySettled (state_with_steps s 0)) k)
+            (sym both.1.stands) ((kept_law (all_events ds s) (state_with_steps s n) both.0 (right_at s n right)).names
+            k);
         outcomes = both.1.right.right;
       }
 

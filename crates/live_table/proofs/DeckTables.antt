@@ -8,13 +8,13 @@ use Rattle.def_lines.specs.Kinds.{Kind, kind_of}
 use Rattle.def_entry.specs.declared.fault.EntryFault.{EntryFault}
 use Rattle.def_entry.specs.declared.key.Key.{Key}
 use Rattle.def_entry.specs.Entries.{Entry}
-use Rattle.def_entry.specs.Reading.{entry_of}
+use Rattle.def_entry.specs.EntryReading.{entry_of}
 use Rattle.def_entry.specs.SameKeys.{is_same}
 use Rattle.deck_lines.specs.declared.line.DeckLine.{DeckLine}
 use Rattle.deck_lines.specs.Readings.{defined_by, entry_in, of_entry, reading_by, reading_of}
 use Rattle.deck.specs.Active.{active_lines}
 use Rattle.deck.specs.Decks.{Contents}
-use Rattle.deck.specs.Tables.{Definitions, definition_by, definitions, definitions_from, entry_at, table}
+use Rattle.deck.specs.Tables.{Definitions, active_definitions, definition_by, definitions_from, entry_at, table}
 use Rattle.deck.specs.Tables.{table_of}
 use Rattle.table_names.specs.Kinds.{FitsKinds, may_say}
 use Rattle.table_names.proofs.KeyLists.{one_key}
@@ -103,6 +103,6 @@ found_fits (d ∷ ds) h k e q = by (found_fits ds h.1 k e) (is_same k d.0) refl
 
 -- all entries of a deck fit their keys
 pub fits_kinds : (d : Contents) → FitsKinds (table d)
-unfolding definitions
-fits_kinds d = found_fits (definitions d.settings d.lines) (all_reverse Fits _
+unfolding active_definitions
+fits_kinds d = found_fits (active_definitions d.settings d.lines) (all_reverse Fits _
     (from_fits 0 (active_lines d.settings d.lines) d.lines))

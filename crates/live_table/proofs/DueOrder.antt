@@ -9,27 +9,28 @@ use Rattle.def_entry.specs.declared.key.Key.{Key}
 use Rattle.def_entry.specs.Tables.{Table, entry_at, is_present}
 use Rattle.name_walk.specs.declared.step.Step.{Step}
 use Rattle.name_walk.specs.declared.step.Step.TheVariants.{Nowhere}
-use Rattle.name_walk.specs.Closed as walk
-use Rattle.name_walk.specs.Closed.{EndsWithin, IsDone, IsSettled}
+use Rattle.name_walk.specs.ClosedNames as walk
+use Rattle.name_walk.specs.ClosedNames.{EndsWithin, IsDone, IsSettled}
 use Rattle.name_walk.specs.Lists.{In}
 use Rattle.name_walk.specs.NewlyClosed.{AreNewlyClosed, AreOrdered, IsReached}
-use Rattle.name_walk.specs.Steps.{Graph, LeadsTo, Reaches, at_once, further, steps}
-use Rattle.name_walk.proofs.Closed.{closed_law_holds}
+use Rattle.name_walk.specs.Steps.{Graph, LeadsTo, NameReaches, at_once, further, steps}
+use Rattle.name_walk.proofs.ClosedPaths.{closed_law_holds}
 use Rattle.name_walk.proofs.Lists.{In-push, all_at}
 use Rattle.name_walk.proofs.Marks.{get_set_other, get_set_same}
 use Rattle.tree_eval.specs.declared.outcome.Outcome.{Outcome}
 use Rattle.table_names.specs.declared.fault.NameFault.{NameFault}
-use Rattle.table_names.specs.Closed.{IsClosed}
+use Rattle.table_names.specs.ClosedKeys.{IsClosed}
 use Rattle.table_names.specs.Words.{key_words}
 use Rattle.name_numbers.specs.FaultLaws.{NumberedFaultLaw}
-use Rattle.name_numbers.specs.Numbered.{AreWords, ForOne, ForRefused, ForTwo, ForUnknown, IsWord, LeadToKnown, named}
+use Rattle.name_numbers.specs.NumberedNames.{AreWords, ForOne, ForRefused, ForTwo, ForUnknown, IsWord, LeadToKnown}
+use Rattle.name_numbers.specs.NumberedNames.{fault_by_name}
 use Rattle.live_table.specs.declared.callee.Callee.{Callee}
 use Rattle.live_table.specs.declared.dead_end.DeadEnd.{DeadEnd}
 use Rattle.live_table.specs.Due.{AreDue, IsDue, with_outcome}
-use Rattle.live_table.specs.Explored.{AreExplored, fault_at}
+use Rattle.live_table.specs.ExploredNames.{AreExplored, fault_at}
 use Rattle.live_table.specs.Looks.{AreLooks}
-use Rattle.live_table.specs.Sound.{AreNodes, HasLooksOf, HasStartsOf, IsFaithful}
-use Rattle.live_table.specs.Stored.{Listed, Looks, key_at, looks_of}
+use Rattle.live_table.specs.Sound.{AreNumberedNames, HasLooksOf, HasStartsOf, IsFaithful}
+use Rattle.live_table.specs.TableContents.{Listed, Looks, key_at, looks_of}
 
 -- ---- steps that all lead somewhere are those of their words, whatever the dead ends
 module _ (t : Table) (key : ℕ → Key) (one other : ℕ → Option Key → NameFault) where
@@ -52,14 +53,14 @@ module _ (t : Table) (key : ℕ → Key) (one other : ℕ → Option Key → Nam
 -- a closed name has no step that leads nowhere
 no_end : (g : Graph) (k n b : ℕ) → EndsWithin g k n → In (Nowhere b) (steps g n) → ⊥
 no_end g zero n b e i = e
-no_end g (suc k) n b e i = all_at (walk.LeadsInto (EndsWithin g k)) (steps g n) (Nowhere b) e i
+no_end g (suc k) n b e i = all_at (walk.StepLeadsInto (EndsWithin g k)) (steps g n) (Nowhere b) e i
 
 -- ---- the facts known about each name of an order
 record IsReady (t : Table) (l : Listed) (n : ℕ) : Type 0 where
   pub within : n < length l.keys
   pub present : is_present t (key_at l.keys n) ≡ true
   pub closed : IsClosed t (key_at l.keys n)
-  pub ends : walk.IsClosed l.graph n
+  pub ends : walk.IsClosedName l.graph n
   pub faithful : IsFaithful t l n
   pub starts : HasStartsOf t l n
   pub looks : HasLooksOf t l n
@@ -90,7 +91,7 @@ module _ (t : Table) (l : Listed) where
         let b : n < length l.keys = r.within in omega arith) (s.fresh n (inl refl));
     present = subst (λ (ks : List Key). is_present t (key_at ks n) ≡ true) (sym s.keys) r.present;
     closed = subst (λ (ks : List Key). IsClosed t (key_at ks n)) (sym s.keys) r.closed;
-    ends = subst (λ (g : Graph). walk.IsClosed g n) (sym s.graph) r.ends;
+    ends = subst (λ (g : Graph). walk.IsClosedName g n) (sym s.graph) r.ends;
     below = λ m h. s.done m (below m (subst (λ (g : Graph). LeadsTo g n m) s.graph h));
     faithful = λ ends.
         subst (λ (p : List Key × Graph). AreWords t (key_at p.0) ends (key_words t (key_at p.0 n)) (steps p.1 n))
@@ -162,11 +163,11 @@ module _ (t : Table) (l : Listed) where
 
 module _ (law : NumberedFaultLaw) (t : Table) (l : Listed) (ends : List DeadEnd) (known : ℕ → Bool) (query : List Step)
     (order : List ℕ)
-    (nodes : AreNodes t l) (explored : AreExplored t l ends known) (targets : LeadToKnown known query)
+    (nodes : AreNumberedNames t l) (explored : AreExplored t l ends known) (targets : LeadToKnown known query)
     (closing : AreNewlyClosed l.graph l.settled query order) where
-  known_below : {n m : ℕ} → known n ≡ true → Reaches l.graph n m → known m ≡ true
-  known_below {n} {m} k (at_once h) = explored.numbered.below n m k h
-  known_below {n} {m} k (further {x = x} h r) = known_below (explored.numbered.below n x k h) r
+  known_below : {n m : ℕ} → known n ≡ true → NameReaches l.graph n m → known m ≡ true
+  known_below {n} {m} k (at_once h) = explored.numbers_are.below n m k h
+  known_below {n} {m} k (further {x = x} h r) = known_below (explored.numbers_are.below n x k h) r
 
   known_reached : (n : ℕ) → IsReached l.graph query n → known n ≡ true
   known_reached n (r, i, inl e) = subst (λ (x : ℕ). known x ≡ true) (sym e) (targets r i)
@@ -178,15 +179,15 @@ module _ (law : NumberedFaultLaw) (t : Table) (l : Listed) (ends : List DeadEnd)
   ready : (n : ℕ) → In n order → IsReady t l n
   ready n i = record {
     within = inside;
-    present = explored.numbered.present n is_known;
+    present = explored.numbers_are.present n is_known;
     closed =
-        sym (law.key t (key_at l.keys) (fault_at ends) l.graph known explored.numbered nodes.net.range n is_known)
-        ∙ ap (option_map (named t (key_at l.keys) (fault_at ends)))
-        ((closed_law_holds.faultless l.graph nodes.net.range n (explored.numbered.within n is_known)).0 is_closed);
+        sym (law.key t (key_at l.keys) (fault_at ends) l.graph known explored.numbers_are nodes.net.range n is_known)
+        ∙ ap (option_map (fault_by_name t (key_at l.keys) (fault_at ends)))
+        ((closed_law_holds.faultless l.graph nodes.net.range n (explored.numbers_are.within n is_known)).0 is_closed);
     ends = is_closed;
     faithful = λ other.
         any_words t (key_at l.keys) (fault_at ends) other (key_words t (key_at l.keys n)) (steps l.graph n)
-        (λ b j. no_end l.graph (length l.graph) n b is_closed j) (explored.numbered.faithful n is_known);
+        (λ b j. no_end l.graph (length l.graph) n b is_closed j) (explored.numbers_are.faithful n is_known);
     starts = explored.starts n is_known;
     looks = explored.looks n is_known (λ b j. no_end l.graph (length l.graph) n b is_closed j);
   }
@@ -194,11 +195,11 @@ module _ (law : NumberedFaultLaw) (t : Table) (l : Listed) (ends : List DeadEnd)
       is_known : known n ≡ true
       is_known = known_in_order n i
 
-      is_closed : walk.IsClosed l.graph n
+      is_closed : walk.IsClosedName l.graph n
       is_closed = closing.closed n i
 
       inside : n < length l.keys
-      inside = let a : n < length l.graph = explored.numbered.within n is_known in
+      inside = let a : n < length l.graph = explored.numbers_are.within n is_known in
           let b : length l.graph ≡ length l.keys = nodes.step_count in omega arith
 
   pub are_due : AreDue t l order

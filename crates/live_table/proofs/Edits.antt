@@ -5,17 +5,17 @@ use Rattle.std.specs.List.{list_any}
 use Rattle.std.specs.Prelude.{◌||◌}
 use Rattle.std.proofs.lemmas.Bool.{cases_Bool, true≢false}
 use Rattle.def_entry.specs.declared.key.Key.{Key}
-use Rattle.def_entry.specs.SameKeys.{is_among}
+use Rattle.def_entry.specs.SameKeys.{is_key_among}
 use Rattle.def_entry.specs.Tables.{Table}
 use Rattle.deck.specs.Changes.{ChangedLaw, changed_keys}
 use Rattle.deck.specs.Decks.{Contents}
 use Rattle.deck.specs.Tables.{table}
-use Rattle.table_names.specs.Affected.{is_affected}
+use Rattle.table_names.specs.AffectedKeys.{is_affected}
 use Rattle.table_names.specs.Edits.{AreChanged}
 use Rattle.table_names.specs.Reach.{key_looked_keys, key_reach}
-use Rattle.live_table.specs.Calls.{IsEdit}
+use Rattle.live_table.specs.Calls.{IsAcceptedEdit}
 use Rattle.live_table.specs.Right.{IsRight}
-use Rattle.live_table.specs.Shown.{IsRightTable, Shown, state}
+use Rattle.live_table.specs.TableView.{IsRightTable, Shown, state_with_steps}
 use Rattle.live_table.specs.States.{Becomes, after}
 use Rattle.live_table.proofs.Events.{one_step}
 
@@ -33,13 +33,13 @@ by_test t among n = among n || list_any (λ m. list_any among (key_looked_keys t
 
 module _ (before after : Table) (keys others : List Key) (changed : AreChanged before after keys)
     (same : AreChanged before after others) where
-  same_among : (k : Key) → is_among keys k ≡ is_among others k
-  same_among k = elim (cases_Bool (is_among keys k)) [
-    | inl e ↦ elim (cases_Bool (is_among others k)) [
+  same_among : (k : Key) → is_key_among keys k ≡ is_key_among others k
+  same_among k = elim (cases_Bool (is_key_among keys k)) [
+    | inl e ↦ elim (cases_Bool (is_key_among others k)) [
       | inl f ↦ e ∙ sym f
       | inr f ↦ absurd ((changed k).1 ((same k).0 (λ g. true≢false (sym g ∙ f))) e)
     ]
-    | inr e ↦ elim (cases_Bool (is_among others k)) [
+    | inr e ↦ elim (cases_Bool (is_key_among others k)) [
       | inl f ↦ absurd ((same k).1 ((changed k).0 (λ g. true≢false (sym g ∙ e))) f)
       | inr f ↦ e ∙ sym f
     ]
@@ -50,8 +50,9 @@ module _ (before after : Table) (keys others : List Key) (changed : AreChanged b
 
 module _ (law : ChangedLaw) (before : Shown) (deck : Contents) (keys : List Key)
     (changed : AreChanged (table before.deck) (table deck) keys) (right : IsRightTable before) where
-  stands : (steps : ℕ) → state (left_in before deck keys) steps ≡ after (Becomes (table deck)) (state before steps)
-  stands steps = λ i. record (state before steps) {
+  stands : (steps : ℕ) → state_with_steps (left_in before deck keys) steps ≡ after (Becomes (table deck))
+      (state_with_steps before steps)
+  stands steps = λ i. record (state_with_steps before steps) {
     table = table deck;
     kept = map_of.retain_keys before.kept (λ n. not (same_affected (table before.deck) (table deck) keys
         (changed_keys (table before.deck) (table deck)) changed (law before.deck deck).changed (table before.deck) n
@@ -59,9 +60,9 @@ module _ (law : ChangedLaw) (before : Shown) (deck : Contents) (keys : List Key)
   }
 
   -- an accepted edit meets its definition
-  pub edit_follows : IsEdit before (left_in before deck keys)
+  pub edit_follows : IsAcceptedEdit before (left_in before deck keys)
   edit_follows steps = record {
     stands = stands steps;
     right = subst IsRight (sym (stands 0))
-        (one_step (Becomes (table deck)) (state before 0) (law before.deck deck).changed right);
+        (one_step (Becomes (table deck)) (state_with_steps before 0) (law before.deck deck).changed right);
   }

@@ -5,26 +5,26 @@ use Rattle.std.specs.FinMap as map_of
 use Rattle.std.proofs.lemmas.Bool.{cases_Bool, cond-true, not-true, not_from_false, false_from_ne_true, true≢false}
 use Rattle.expr_tree.specs.declared.word_list.WordUse.{WordUse}
 use Rattle.def_entry.specs.declared.key.Key.{Key}
-use Rattle.def_entry.specs.SameKeys.{is_among}
+use Rattle.def_entry.specs.SameKeys.{is_key_among}
 use Rattle.def_entry.specs.Tables.{Table, is_present}
 use Rattle.tree_eval.specs.declared.outcome.Outcome.{Outcome}
-use Rattle.table_names.specs.Affected.{IsAffected, is_affected}
-use Rattle.table_names.specs.Closed.{AreClosed, IsClosed}
+use Rattle.table_names.specs.AffectedKeys.{IsAffected, is_affected}
+use Rattle.table_names.specs.ClosedKeys.{AreClosed, IsClosed}
 use Rattle.table_names.specs.Edits.{AreChanged, IsAsBefore}
 use Rattle.table_names.specs.Faults.{key_fault, name_fault}
 use Rattle.table_names.specs.Leads.{Reaches}
 use Rattle.table_names.specs.Meanings.{outcome}
 use Rattle.table_names.specs.Reach.{key_reach, reach}
 use Rattle.table_names.specs.Words.{key_words}
-use Rattle.table_names.proofs.Affecting.{affected_law}
-use Rattle.table_names.proofs.Closing.{closed_law}
-use Rattle.table_names.proofs.Kept.{unaffected_law}
+use Rattle.table_names.proofs.AffectedKeys.{affected_law}
+use Rattle.table_names.proofs.ClosedLaws.{closed_law}
+use Rattle.table_names.proofs.UnchangedKeys.{unaffected_law}
 use Rattle.table_names.proofs.KeyLists.{among_member, member_among}
 use Rattle.table_names.proofs.Members.{member_cases, member_later}
-use Rattle.table_names.proofs.Reaching.{reach_law}
+use Rattle.table_names.proofs.ReachedKeys.{reach_law}
 use Rattle.deck.specs.Changes.{changed_keys}
-use Rattle.live_table.specs.Right.{IsRight, IsSettled, RightLaw}
-use Rattle.live_table.specs.States.{AsksKey, AsksWords, Becomes, CanBe, Event, OrderLaw, State}
+use Rattle.live_table.specs.Right.{IsKeySettled, IsRight, RightLaw}
+use Rattle.live_table.specs.States.{AsksKey, AsksWords, Becomes, CanBe, Event, EventOrderLaw, TableState}
 use Rattle.live_table.specs.States.{after, after_edit, after_query, with_settled}
 use Rattle.live_table.proofs.Outcomes.{left_in, left_out, put_in}
 
@@ -71,23 +71,23 @@ module _ (t : Table) where
         | inr j ↦ whole.below m k j r
       ])
 
-module _ (s : State) (keys : List Key) (whole : AreWhole s.table keys) (h : IsRight s) where
-  abbrev grown : State
+module _ (s : TableState) (keys : List Key) (whole : AreWhole s.table keys) (h : IsRight s) where
+  abbrev grown : TableState
   grown = with_settled keys s
 
   either : (n : Key) → Contains keys n ⊎ (map_of.get grown.kept n ≡ map_of.get s.kept n)
-  either n = elim (cases_Bool (is_among keys n)) [
+  either n = elim (cases_Bool (is_key_among keys n)) [
     | inl e ↦ inl (member_among keys n e)
     | inr e ↦ inr (left_out s.table keys s.kept n (λ i. true≢false (sym (among_member keys n i) ∙ e)))
   ]
 
-  pub old_or_new : (n : Key) → IsSettled grown n → Contains keys n ⊎ IsSettled s n
+  pub old_or_new : (n : Key) → IsKeySettled grown n → Contains keys n ⊎ IsKeySettled s n
   old_or_new n i = elim (either n) [ inl j ↦ inl j | inr e ↦ inr (sym (ap is_some e) ∙ i) ]
 
-  pub new_in : (n : Key) → Contains keys n → IsSettled grown n
+  pub new_in : (n : Key) → Contains keys n → IsKeySettled grown n
   new_in n i = ap is_some (put_in s.table keys s.kept n (inl i))
 
-  pub old_in : (n : Key) → IsSettled s n → IsSettled grown n
+  pub old_in : (n : Key) → IsKeySettled s n → IsKeySettled grown n
   old_in n i = elim (either n) [ inl j ↦ new_in n j | inr e ↦ ap is_some e ∙ i ]
 
   grown_right : IsRight grown
@@ -106,7 +106,7 @@ module _ (s : State) (keys : List Key) (whole : AreWhole s.table keys) (h : IsRi
       some_same p o e = cc
 
 -- a query leaves all outcomes right
-query_right : (s : State) (keys : List Key) (b : Bool) → (b ≡ true → AreWhole s.table keys) → IsRight s
+query_right : (s : TableState) (keys : List Key) (b : Bool) → (b ≡ true → AreWhole s.table keys) → IsRight s
     → IsRight (after_query b keys s)
 query_right s keys true whole h = grown_right s keys (whole refl) h
 query_right s keys false whole h = h
@@ -126,22 +126,23 @@ left_is : (b : Bool) (o : Option Outcome) (x : Outcome) → cond b o None ≡ So
 left_is true o x e = e
 left_is false o x e = cc
 
-module _ (s : State) (table : Table) (keys : List Key) (changed : AreChanged s.table table keys) (h : IsRight s) where
-  abbrev left : State
+module _ (s : TableState) (table : Table) (keys : List Key) (changed : AreChanged s.table table keys)
+    (h : IsRight s) where
+  abbrev left : TableState
   left = after_edit table keys s
 
   abbrev stays : Key → Bool
   stays n = not (is_affected s.table keys n)
 
-  pub parts : (n : Key) → IsSettled left n → (stays n ≡ true) × IsSettled s n
+  pub parts : (n : Key) → IsKeySettled left n → (stays n ≡ true) × IsKeySettled s n
   parts n i = left_some (stays n) (map_of.get s.kept n) (sym (ap is_some (left_in s.kept stays n)) ∙ i)
 
-  pub free : (n : Key) → IsSettled left n → IsAffected s.table keys n → ⊥
+  pub free : (n : Key) → IsKeySettled left n → IsAffected s.table keys n → ⊥
   free n i a =
       true≢false (sym ((affected_law.computed s.table keys n (h.closed n (parts n i).1)).1 a)
       ∙ not-true (is_affected s.table keys n) (parts n i).0)
 
-  pub stays_in : (m : Key) → IsSettled s m → (IsAffected s.table keys m → ⊥) → IsSettled left m
+  pub stays_in : (m : Key) → IsKeySettled s m → (IsAffected s.table keys m → ⊥) → IsKeySettled left m
   stays_in m i f =
       let e : stays m ≡ true =
       not_from_false (is_affected s.table keys m)
@@ -149,10 +150,10 @@ module _ (s : State) (table : Table) (keys : List Key) (changed : AreChanged s.t
       (λ q. f ((affected_law.computed s.table keys m (h.closed m i)).0 q))) in
       ap is_some (left_in s.kept stays m ∙ cond-true (stays m) (map_of.get s.kept m) None e) ∙ i
 
-  as_before : (n : Key) → IsSettled left n → IsAsBefore s.table table n
+  as_before : (n : Key) → IsKeySettled left n → IsAsBefore s.table table n
   as_before n i = unaffected_law s.table table keys changed n (h.closed n (parts n i).1) (free n i)
 
-  below_still : (n m : Key) → IsSettled left n → Reaches table n m → IsSettled left m
+  below_still : (n m : Key) → IsKeySettled left n → Reaches table n m → IsKeySettled left m
   below_still n m i r =
       let before : Reaches s.table n m = ((as_before n i).reach m).1 r in
       stays_in m (h.below n m (parts n i).1 before) (λ a. free n i (affected_law.users s.table keys n m before a))
@@ -168,7 +169,7 @@ module _ (s : State) (table : Table) (keys : List Key) (changed : AreChanged s.t
   }
 
 -- ---- a single event, and a list of events
-pub one_step : (e : Event) (s : State) → CanBe e s → IsRight s → IsRight (after e s)
+pub one_step : (e : Event) (s : TableState) → CanBe e s → IsRight s → IsRight (after e s)
 one_step (AsksWords words) s can h =
     query_right s (reach s.table words) (is_none (name_fault s.table words))
     (λ e. words_whole s.table words (none_is (name_fault s.table words) e)) h
@@ -183,6 +184,6 @@ right_law [] s can h = h
 right_law (e ∷ es) s can h = right_law es (after e s) can.1 (one_step e s can.0 h)
 
 -- the law of events in turn
-pub order_law : OrderLaw
+pub order_law : EventOrderLaw
 order_law [] fs s = refl
 order_law (e ∷ es) fs s = order_law es fs (after e s)

@@ -8,10 +8,10 @@ use Rattle.std.proofs.lemmas.List.{length-set}
 use Rattle.std.proofs.lemmas.Option.{slice_get-get_or}
 use Rattle.std.proofs.lemmas.List.Elements.{Contains-append_cases, Contains-append_left, Contains-append_right}
 use Rattle.def_entry.specs.declared.key.Key.{Key}
-use Rattle.def_entry.specs.SameKeys.{is_among}
+use Rattle.def_entry.specs.SameKeys.{is_key_among}
 use Rattle.def_entry.specs.Tables.{Table, is_present}
-use Rattle.edge_links.specs.Reach.{IsCleared}
-use Rattle.name_edges.specs.Affected.{AreAffected, Forgets, IsAffected, IsCut}
+use Rattle.edge_links.specs.Reach.{AreMarksCleared}
+use Rattle.name_edges.specs.AffectedNames.{AreAffected, AreEdgesCut, ForgetsNames, IsAffectedName}
 use Rattle.name_edges.specs.NameGraphs.{NameGraph}
 use Rattle.name_edges.proofs.Cutting.{alone, both, cleared_on, cut_on, in_alone}
 use Rattle.name_numbers.specs.EdgeLaws.{AreNumbersOf}
@@ -19,10 +19,10 @@ use Rattle.name_walk.proofs.Marks.{get_set_other, get_set_same}
 use Rattle.table_names.proofs.KeyLists.{among_member, member_among}
 use Rattle.table_names.proofs.Members.{member_at, member_cases, member_first, no_member}
 use Rattle.tree_eval.specs.declared.outcome.Outcome.{Outcome}
-use Rattle.live_table.specs.Edged.{is_flagged}
+use Rattle.live_table.specs.TableEdges.{is_flagged}
 use Rattle.live_table.specs.Forgotten.{AreFlaggedAnew, AreForgotten, CanForget, IsRest}
-use Rattle.live_table.specs.Keeping.{IsLeft, left_at_first, left_on}
-use Rattle.live_table.specs.Stored.{Listed, key_at}
+use Rattle.live_table.specs.OutcomesLeft.{AreNumbersLeft, left_at_first, left_on}
+use Rattle.live_table.specs.TableContents.{Listed, key_at}
 use Rattle.live_table.proofs.Places.{get_lt, some_same}
 
 -- an empty change affects no name
@@ -31,10 +31,10 @@ no_key g n a = no_member a.0 a.1
 
 -- ---- no key
 module _ (t : Table) (l : Listed) (g : NameGraph) where
-  nothing_cut : IsCut (AreAffected g []) g.uses g.uses
+  nothing_cut : AreEdgesCut (AreAffected g []) g.uses g.uses
   nothing_cut = record { gone = λ x y a. absurd (no_key g x a); kept = λ x y free. refl }
 
-  nothing_looked : IsCut (AreAffected g []) g.looks g.looks
+  nothing_looked : AreEdgesCut (AreAffected g []) g.looks g.looks
   nothing_looked = record { gone = λ x y a. absurd (no_key g x a); kept = λ x y free. refl }
 
   same_rest : IsRest l l
@@ -78,7 +78,7 @@ module _ (t : Table) (keys others : List Key) (l mid new : Listed) (g gmid h : N
   }
 
   flags_at : (n : ℕ) → n < length l.keys → Contains (keys ++ others) (key_at l.keys n)
-      → (is_among others (key_at l.keys n) ≡ true) ⊎ (is_among others (key_at l.keys n) ≡ false)
+      → (is_key_among others (key_at l.keys n) ≡ true) ⊎ (is_key_among others (key_at l.keys n) ≡ false)
       → slice_get new.present n ≡ Some (is_present t (key_at l.keys n))
   flags_at n s i (inl e) =
       b.present.changed n (size_same n s)
@@ -94,7 +94,7 @@ module _ (t : Table) (keys others : List Key) (l mid new : Listed) (g gmid h : N
   flags_both : AreFlaggedAnew t (keys ++ others) l new
   flags_both = record {
     count = b.present.count ∙ a.present.count;
-    changed = λ n s i. flags_at n s i (cases_Bool (is_among others (key_at l.keys n)));
+    changed = λ n s i. flags_at n s i (cases_Bool (is_key_among others (key_at l.keys n)));
     others = λ n s free.
         b.present.others n (size_same n s)
         (λ c. free (Contains-append_right keys others (key_at l.keys n)
@@ -161,9 +161,9 @@ module _ (t : Table) (k : Key) (l : Listed) (n : ℕ) (found : slice_get l.keys 
 
     module _ (rest : IsRest l m) (g h : NameGraph) where
       -- the number has edges
-      pub one_forgotten : n < g.names → g.names ≤ length l.keys → Forgets (IsAffected g n) g h
-          → IsCleared (IsAffected g n) (is_flagged l.settled) (is_flagged m.settled)
-          → IsLeft l.settled m.settled l.count m.count l.outcomes m.outcomes → AreForgotten t (k ∷ []) l m g h
+      pub one_forgotten : n < g.names → g.names ≤ length l.keys → ForgetsNames (IsAffectedName g n) g h
+          → AreMarksCleared (IsAffectedName g n) (is_flagged l.settled) (is_flagged m.settled)
+          → AreNumbersLeft l.settled m.settled l.count m.count l.outcomes m.outcomes → AreForgotten t (k ∷ []) l m g h
       one_forgotten within few edges marks left = record {
         numbers = n ∷ [];
         of = record {
@@ -211,7 +211,8 @@ module _ (t : Table) (k : Key) (l : Listed) (n : ℕ) (found : slice_get l.keys 
           gone = λ x a. absurd (no_key g x a);
           kept = λ x free. ap (λ (bs : List Bool). is_flagged bs x) settled;
         };
-        left = subst (λ (p : List Bool × (ℕ × List (Option Outcome))). IsLeft l.settled p.0 l.count p.1.0 l.outcomes
+        left = subst (λ (p : List Bool × (ℕ × List (Option Outcome))). AreNumbersLeft l.settled p.0 l.count p.1.0
+            l.outcomes
             p.1.1)
             (λ i. (sym settled i, (sym count i, sym outcomes i))) (left_at_first l.settled l.count l.outcomes);
         present = flags_one;
@@ -220,7 +221,7 @@ module _ (t : Table) (k : Key) (l : Listed) (n : ℕ) (found : slice_get l.keys 
 
 -- ---- a key that has no number
 pub absent_forgotten : (t : Table) (k : Key) (l : Listed) (g : NameGraph) → g.names ≤ length l.keys
-    → is_among l.keys k ≡ false
+    → is_key_among l.keys k ≡ false
     → AreForgotten t (k ∷ []) l l g g
 absent_forgotten t k l g few absent = none_forgotten t l g (k ∷ []) none few
   where

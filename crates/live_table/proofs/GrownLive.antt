@@ -13,20 +13,20 @@ use Rattle.live_table.specs.declared.dead_end.DeadEnd.{DeadEnd}
 use Rattle.live_table.specs.declared.fault.QueryFault.{QueryFault}
 use Rattle.live_table.specs.declared.fault.QueryFault.TheVariants.{OutOfMemory}
 use Rattle.live_table.specs.declared.late_edges.LateEdges.{LateEdges}
-use Rattle.live_table.specs.Asked.{IsAsked}
-use Rattle.live_table.specs.Edged.{IsLive}
-use Rattle.live_table.specs.Exploring.{AreGrown}
-use Rattle.live_table.specs.Shown.{IsCutOff, IsRightTable, Shown}
+use Rattle.live_table.specs.QueryEffects.{IsAsked}
+use Rattle.live_table.specs.TableEdges.{IsLive}
+use Rattle.live_table.specs.Exploration.{AreGrown}
+use Rattle.live_table.specs.TableView.{IsCutOff, IsRightTable, Shown}
 use Rattle.live_table.specs.Sound.{IsSound}
 use Rattle.live_table.specs.States.{AsksKey, AsksWords, Event, after_query}
-use Rattle.live_table.specs.Stored.{Listed, shown}
+use Rattle.live_table.specs.TableContents.{Listed, shown_table}
 use Rattle.live_table.proofs.WaitingNames.{grown_edges}
 use Rattle.live_table.proofs.Queries.{IsQueryOf, cut_off}
 
 -- the visible state of a table that has grown is the same
 pub same_shown : (deck : Contents) (l m : Listed) (before here there : List ℕ) (ends more : List DeadEnd)
     (r : ℕ) → AreGrown (table deck) l m before here there ends more
-    → shown deck m r ≡ shown deck l r
+    → shown_table deck m r ≡ shown_table deck l r
 same_shown deck l m before here there ends more r g = λ i. record { deck = deck; kept = g.kept i; reductions = r }
 
 -- a table that has grown is sound
@@ -65,9 +65,10 @@ pub cut_short : {A : Type 0} (Given : A → Type 0) (event : Event) (fault : Opt
     → AreGrown (table deck) l m before here there ends more → IsSound deck l r
     → IsQueryOf event (table deck) fault reached
     → (result : Result A QueryFault) → result ≡ Err OutOfMemory
-    → IsAsked event fault Given result (shown deck l r) (shown deck m r) old old
+    → IsAsked event fault Given result (shown_table deck l r) (shown_table deck m r) old old
 cut_short {A} Given event fault reached deck l m before here there ends more r old g s is result e =
-    subst (λ (x : Result A QueryFault). IsAsked event fault Given x (shown deck l r) (shown deck m r) old old) (sym e)
-    (subst (λ (now : Shown). IsCutOff (event ∷ []) (shown deck l r) now old old)
+    subst (λ (x : Result A QueryFault). IsAsked event fault Given x (shown_table deck l r) (shown_table deck m r) old
+    old) (sym e)
+    (subst (λ (now : Shown). IsCutOff (event ∷ []) (shown_table deck l r) now old old)
     (sym (same_shown deck l m before here there ends more r g))
-    (cut_off event fault reached (shown deck l r) old s.right is))
+    (cut_off event fault reached (shown_table deck l r) old s.right is))

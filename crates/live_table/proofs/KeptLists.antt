@@ -1,24 +1,25 @@
 -- The stored names are those of the list.
-use Rattle.std.proofs.Common.{◌≡◌, ◌⊎◌, ◌↔◌, Bool, true, false, cond, not, List, [], ◌∷◌, ◌++◌, Contains, Option, Some, None}
+use Rattle.std.proofs.Common.{◌≡◌, ◌⊎◌, ◌↔◌, Bool, true, false, cond, not, List, [], ◌∷◌, ◌++◌, Contains, Option, Some}
+use Rattle.std.proofs.Common.{None}
 use Rattle.std.proofs.Common.{is_none, refl, sym, ◌∙◌, ap, subst, inl, inr}
 use Rattle.std.specs.List.{filter}
 use Rattle.std.proofs.lemmas.List.Elements.{Contains-append_cases, Contains-append_left, Contains-append_right}
 use Rattle.def_entry.specs.declared.key.Key.{Key}
 use Rattle.def_entry.specs.Tables.{Table}
-use Rattle.table_names.specs.Affected.{IsAffected, is_affected}
-use Rattle.table_names.specs.Closed.{AreClosed, IsClosed}
+use Rattle.table_names.specs.AffectedKeys.{IsAffected, is_affected}
+use Rattle.table_names.specs.ClosedKeys.{AreClosed, IsClosed}
 use Rattle.table_names.specs.Faults.{key_fault, name_fault}
 use Rattle.table_names.specs.Leads.{Reaches, WordsReach}
 use Rattle.table_names.specs.Reach.{key_reach, reach}
 use Rattle.table_names.specs.Words.{key_words}
-use Rattle.table_names.proofs.Affecting.{affected_law}
-use Rattle.table_names.proofs.Closing.{closed_law}
+use Rattle.table_names.proofs.AffectedKeys.{affected_law}
+use Rattle.table_names.proofs.ClosedLaws.{closed_law}
 use Rattle.table_names.proofs.Members.{member_cases, member_first, member_later, no_member}
-use Rattle.table_names.proofs.Reaching.{reach_law}
+use Rattle.table_names.proofs.ReachedKeys.{reach_law}
 use Rattle.deck.specs.Changes.{changed_keys}
 use Rattle.live_table.specs.KeptNames.{IsKeptBy, table_after}
-use Rattle.live_table.specs.Right.{IsRight, IsSettled}
-use Rattle.live_table.specs.States.{AsksKey, AsksWords, Becomes, Event, State, after, after_all}
+use Rattle.live_table.specs.Right.{IsKeySettled, IsRight}
+use Rattle.live_table.specs.States.{AsksKey, AsksWords, Becomes, Event, TableState, after, after_all}
 use Rattle.live_table.specs.States.{after_query}
 use Rattle.live_table.proofs.Events.{right_law}
 use Rattle.live_table.proofs.KeptNames.{kept_law}
@@ -63,11 +64,11 @@ not_false true h = absurd (h refl)
 not_false false h = refl
 
 -- ---- a single event
-module _ (s : State) (keys : List Key) (listed : (n : Key) → Contains keys n ↔ IsSettled s n) where
+module _ (s : TableState) (keys : List Key) (listed : (n : Key) → Contains keys n ↔ IsKeySettled s n) where
   -- a query
   query_listed : (more : List Key) (Closed : Type 0) (Reached : Key → Type 0)
       → (Closed → (n : Key) → Contains more n ↔ Reached n) → (b : Bool) → (b ≡ true → Closed) → (Closed → b ≡ true)
-      → (n : Key) → Contains (cond b (keys ++ more) keys) n ↔ (IsSettled s n ⊎ (Closed × Reached n))
+      → (n : Key) → Contains (cond b (keys ++ more) keys) n ↔ (IsKeySettled s n ⊎ (Closed × Reached n))
   query_listed more Closed Reached reached true is of n = (
     λ i. elim (Contains-append_cases keys more n i) [
       | inl j ↦ inl ((listed n).0 j)
@@ -101,10 +102,13 @@ module _ (s : State) (keys : List Key) (listed : (n : Key) → Contains keys n �
 
   -- an edit
   edit_listed : (later : Table) → IsRight s → (n : Key)
-      → Contains (kept_by (Becomes later) s.table keys) n ↔ IsKeptBy (Becomes later) s.table (IsSettled s) n
+      → Contains (kept_by (Becomes later) s.table keys) n ↔ IsKeptBy (Becomes later) s.table (IsKeySettled s) n
   edit_listed later right n = (
-    λ i. let r = passed stays keys n i in
-        ((listed n).0 r.0, λ a. not_true (is_affected s.table changed n) r.1 ((both (right.closed n ((listed n).0 r.0))).1 a)),
+    λ i. let r = passed stays keys n i in (
+      (listed n).0 r.0,
+      λ a. not_true (is_affected s.table changed n) r.1
+          ((both (right.closed n ((listed n).0 r.0))).1 a),
+    ),
     λ k. passes stays keys n ((listed n).1 k.0)
         (not_false (is_affected s.table changed n) (λ e. k.1 ((both (right.closed n k.0)).0 e))),
   )
@@ -120,7 +124,7 @@ module _ (s : State) (keys : List Key) (listed : (n : Key) → Contains keys n �
       both closed = affected_law.computed s.table (changed_keys s.table later) n closed
 
   event_listed : (e : Event) → IsRight s → (n : Key)
-      → Contains (kept_by e s.table keys) n ↔ IsKeptBy e s.table (IsSettled s) n
+      → Contains (kept_by e s.table keys) n ↔ IsKeptBy e s.table (IsKeySettled s) n
   event_listed (AsksWords words) right n =
       query_listed (reach s.table words) (AreClosed s.table words) (WordsReach s.table words)
       (reach_law.listed s.table words) (is_none (name_fault s.table words)) (none_is (name_fault s.table words))
@@ -131,11 +135,11 @@ module _ (s : State) (keys : List Key) (listed : (n : Key) → Contains keys n �
   event_listed (Becomes later) right n = edit_listed later right n
 
 -- ---- the table after an event
-query_table : (b : Bool) (keys : List Key) (s : State) → (after_query b keys s).table ≡ s.table
+query_table : (b : Bool) (keys : List Key) (s : TableState) → (after_query b keys s).table ≡ s.table
 query_table true keys s = refl
 query_table false keys s = refl
 
-event_table : (e : Event) (s : State) → (after e s).table ≡ table_after e s.table
+event_table : (e : Event) (s : TableState) → (after e s).table ≡ table_after e s.table
 event_table (AsksWords words) s = query_table (is_none (name_fault s.table words)) (reach s.table words) s
 event_table (AsksKey k) s = query_table (is_none (key_fault s.table k)) (k ∷ key_reach s.table k) s
 event_table (Becomes later) s = refl
@@ -144,7 +148,8 @@ event_table (Becomes later) s = refl
 pub kept_list_law : KeptListLaw
 kept_list_law [] s keys can right listed n = listed n
 kept_list_law (e ∷ es) s keys can right listed n =
-    subst (λ (t : Table). Contains (kept_list es t (kept_by e s.table keys)) n ↔ IsSettled (after_all es (after e s)) n)
+    subst (λ (t : Table). Contains (kept_list es t (kept_by e s.table keys)) n ↔ IsKeySettled (after_all es (after e s))
+    n)
     (event_table e s)
     (kept_list_law es (after e s) (kept_by e s.table keys) can.1 (right_law (e ∷ []) s (can.0, tt) right)
     (λ m. (

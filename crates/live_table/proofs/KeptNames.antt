@@ -5,26 +5,26 @@ use Rattle.std.proofs.lemmas.Bool.{true≢false}
 use Rattle.def_entry.specs.declared.key.Key.{Key}
 use Rattle.def_entry.specs.Tables.{Table}
 use Rattle.deck.specs.Changes.{changed_keys}
-use Rattle.table_names.specs.Closed.{AreClosed, IsClosed}
+use Rattle.table_names.specs.ClosedKeys.{AreClosed, IsClosed}
 use Rattle.table_names.specs.Faults.{key_fault, name_fault}
 use Rattle.table_names.specs.Leads.{Reaches, WordsReach}
 use Rattle.table_names.specs.Reach.{key_reach, reach}
 use Rattle.table_names.specs.Words.{key_words}
-use Rattle.table_names.proofs.Closing.{closed_law}
+use Rattle.table_names.proofs.ClosedLaws.{closed_law}
 use Rattle.table_names.proofs.Members.{member_cases, member_first, member_later}
-use Rattle.table_names.proofs.Reaching.{reach_law}
-use Rattle.live_table.specs.KeptNames.{IsKeptBy, IsKeptByAll, KeptLaw, table_after}
-use Rattle.live_table.specs.Right.{IsRight, IsSettled}
-use Rattle.live_table.specs.States.{AllCanBe, AsksKey, AsksWords, Becomes, CanBe, Event, State, after, after_all}
+use Rattle.table_names.proofs.ReachedKeys.{reach_law}
+use Rattle.live_table.specs.KeptNames.{IsKeptBy, IsKeptByAll, StoredNamesLaw, table_after}
+use Rattle.live_table.specs.Right.{IsKeySettled, IsRight}
+use Rattle.live_table.specs.States.{AllCanBe, AsksKey, AsksWords, Becomes, CanBe, Event, TableState, after, after_all}
 use Rattle.live_table.specs.States.{after_query}
 use Rattle.live_table.proofs.Events.{AreWhole, free, key_whole, new_in, none_is, old_in, old_or_new, one_step, parts}
 use Rattle.live_table.proofs.Events.{right_law, stays_in, words_whole}
 
 -- ---- a query
-module _ (s : State) (keys : List Key) (h : IsRight s) (Closed : Type 0) (Reached : Key → Type 0)
+module _ (s : TableState) (keys : List Key) (h : IsRight s) (Closed : Type 0) (Reached : Key → Type 0)
     (whole : Closed → AreWhole s.table keys) (listed : Closed → (n : Key) → Contains keys n ↔ Reached n) where
   query_kept : (b : Bool) → (b ≡ true → Closed) → (Closed → b ≡ true) → (n : Key)
-      → IsSettled (after_query b keys s) n ↔ (IsSettled s n ⊎ (Closed × Reached n))
+      → IsKeySettled (after_query b keys s) n ↔ (IsKeySettled s n ⊎ (Closed × Reached n))
   query_kept true is of n = (
     λ i. elim (old_or_new s keys (whole (is refl)) h n i) [
       | inl j ↦ inr (is refl, (listed (is refl) n).0 j)
@@ -53,8 +53,8 @@ key_listed table k closed n = (
     words = reach_law.listed table (key_words table k) ((closed_law.key table k).0 closed)
 
 -- the names that are stored after an event are those of `IsKeptBy`
-event_kept : (e : Event) (s : State) → CanBe e s → IsRight s → (n : Key)
-    → IsSettled (after e s) n ↔ IsKeptBy e s.table (IsSettled s) n
+event_kept : (e : Event) (s : TableState) → CanBe e s → IsRight s → (n : Key)
+    → IsKeySettled (after e s) n ↔ IsKeptBy e s.table (IsKeySettled s) n
 event_kept (AsksWords words) s can h =
     query_kept s (reach s.table words) h (AreClosed s.table words) (WordsReach s.table words)
     (words_whole s.table words) (reach_law.listed s.table words) (is_none (name_fault s.table words))
@@ -69,12 +69,12 @@ event_kept (Becomes later) s can h = λ n. (
 )
 
 -- a query does not change the table
-query_table : (b : Bool) (keys : List Key) (s : State) → (after_query b keys s).table ≡ s.table
+query_table : (b : Bool) (keys : List Key) (s : TableState) → (after_query b keys s).table ≡ s.table
 query_table true keys s = refl
 query_table false keys s = refl
 
 -- the table after an event is that of `table_after`
-event_table : (e : Event) (s : State) → (after e s).table ≡ table_after e s.table
+event_table : (e : Event) (s : TableState) → (after e s).table ≡ table_after e s.table
 event_table (AsksWords words) s = query_table (is_none (name_fault s.table words)) (reach s.table words) s
 event_table (AsksKey k) s = query_table (is_none (key_fault s.table k)) (k ∷ key_reach s.table k) s
 event_table (Becomes later) s = refl
@@ -95,20 +95,20 @@ same_by_all (e ∷ es) table A B f n k =
     same_by_all es (table_after e table) (IsKeptBy e table A) (IsKeptBy e table B) (same_by e table A B f) n k
 
 -- the names that are stored after events are those of `IsKeptByAll`
-names_kept : (es : List Event) (s : State) → AllCanBe es s → IsRight s → (n : Key)
-    → IsSettled (after_all es s) n ↔ IsKeptByAll es s.table (IsSettled s) n
+names_kept : (es : List Event) (s : TableState) → AllCanBe es s → IsRight s → (n : Key)
+    → IsKeySettled (after_all es s) n ↔ IsKeptByAll es s.table (IsKeySettled s) n
 names_kept [] s can h n = (λ i. i, λ i. i)
 names_kept (e ∷ es) s can h n =
     let rest = names_kept es (after e s) can.1 (one_step e s can.0 h) n in
     let one = event_kept e s can.0 h in (
-      λ i. subst (λ (t : Table). IsKeptByAll es t (IsKeptBy e s.table (IsSettled s)) n) (event_table e s)
-          (same_by_all es (after e s).table (IsSettled (after e s)) (IsKeptBy e s.table (IsSettled s))
+      λ i. subst (λ (t : Table). IsKeptByAll es t (IsKeptBy e s.table (IsKeySettled s)) n) (event_table e s)
+          (same_by_all es (after e s).table (IsKeySettled (after e s)) (IsKeptBy e s.table (IsKeySettled s))
           (λ m j. (one m).0 j) n (rest.0 i)),
-      λ i. rest.1 (same_by_all es (after e s).table (IsKeptBy e s.table (IsSettled s)) (IsSettled (after e s))
+      λ i. rest.1 (same_by_all es (after e s).table (IsKeptBy e s.table (IsKeySettled s)) (IsKeySettled (after e s))
           (λ m j. (one m).1 j) n
-          (subst (λ (t : Table). IsKeptByAll es t (IsKeptBy e s.table (IsSettled s)) n) (sym (event_table e s)) i)),
+          (subst (λ (t : Table). IsKeptByAll es t (IsKeptBy e s.table (IsKeySettled s)) n) (sym (event_table e s)) i)),
     )
 
 -- the law of stored names
-pub kept_law : KeptLaw
+pub kept_law : StoredNamesLaw
 kept_law es s can h = record { names = names_kept es s can h; outcomes = (right_law es s can h).right }

@@ -8,34 +8,35 @@ use Rattle.std.specs.List.{slice_get}
 use Rattle.std.proofs.lemmas.Bool.{cases_eq}
 use Rattle.def_entry.specs.Tables.{Table}
 use Rattle.name_walk.specs.declared.step.Step.{Step}
-use Rattle.name_walk.specs.Closed.{IsSettled}
+use Rattle.name_walk.specs.ClosedNames.{IsSettled}
 use Rattle.name_walk.specs.declared.fault.Fault.{Fault}
-use Rattle.name_walk.specs.Faults.{fault}
-use Rattle.name_walk.specs.Findings.{AreFromQuery, Found, IsFirstFaulty, IsNothing}
+use Rattle.name_walk.specs.Faults.{steps_fault}
+use Rattle.name_walk.specs.Findings.{AreFromQuery, IsFirstFaulty, IsNothing, WalkFindings}
 use Rattle.name_walk.specs.FindingsLaws.{FindingsLaw}
 use Rattle.name_walk.specs.Lists.{In}
 use Rattle.name_walk.specs.NewlyClosed.{IsReached}
-use Rattle.name_walk.specs.Steps.{Graph, LeadsTo, Reaches, at_once, further, steps}
+use Rattle.name_walk.specs.Steps.{Graph, LeadsTo, NameReaches, at_once, further, steps}
 use Rattle.name_walk.specs.Trails.{Faults}
 use Rattle.name_walk.specs.Walks.{IsWalked, fault_view}
 use Rattle.name_walk.proofs.Marks.{get_set_other, get_set_same}
 use Rattle.tree_eval.specs.declared.outcome.Outcome.{Outcome}
-use Rattle.name_numbers.specs.Numbered.{LeadToKnown}
+use Rattle.name_numbers.specs.NumberedNames.{LeadToKnown}
 use Rattle.live_table.specs.declared.callee.Callee.{Callee}
 use Rattle.live_table.specs.declared.dead_end.DeadEnd.{DeadEnd}
-use Rattle.live_table.specs.Asked.{IsClosing}
+use Rattle.live_table.specs.QueryEffects.{IsClosing}
 use Rattle.live_table.specs.Due.{with_outcome}
-use Rattle.live_table.specs.Exploring.{AreAdded, AreAllExplored, AreGrown, IsKnown, WereExplored, is_known}
+use Rattle.live_table.specs.Exploration.{AreAdded, AreAllExplored, AreGrown, IsKnown, WereExplored, is_known}
 use Rattle.live_table.specs.KnownFaults.{AreFaultsKnown, HaveSameSteps, IsFirstFault, IsLater}
-use Rattle.live_table.specs.Ranks.{ranked}
-use Rattle.live_table.specs.Sound.{AreNodes}
-use Rattle.live_table.specs.Stored.{Listed}
+use Rattle.live_table.specs.Ranks.{with_rank}
+use Rattle.live_table.specs.Sound.{AreNumberedNames}
+use Rattle.live_table.specs.TableContents.{Listed}
 use Rattle.live_table.proofs.AllExplored.{from_known}
-use Rattle.live_table.proofs.Growing.{more_length}
+use Rattle.live_table.proofs.AddedNames.{more_length}
 use Rattle.live_table.proofs.Places.{element, get_lt}
 
 -- without findings nothing is claimed
-pub known_nothing : FindingsLaw → (l : Listed) (names : List ℕ) (f : Found) → IsNothing f → AreFaultsKnown l names f
+pub known_nothing : FindingsLaw → (l : Listed) (names : List ℕ) (f : WalkFindings) → IsNothing f
+    → AreFaultsKnown l names f
 known_nothing law l names f none = record {
   right = law.nothing l.graph l.settled f none;
   among = λ n i. absurd (subst (λ (ns : List ℕ). In n ns) none.names i);
@@ -43,7 +44,7 @@ known_nothing law l names f none = record {
 
 -- the facts known about faults stay right when names are added and the explored ones have the same steps
 pub known_grown : FindingsLaw → (t : Table) (l m : Listed) (before here there : List ℕ) (ends more : List DeadEnd)
-    (f : Found) → AreNodes t l → AreGrown t l m before here there ends more → HaveSameSteps before l m
+    (f : WalkFindings) → AreNumberedNames t l → AreGrown t l m before here there ends more → HaveSameSteps before l m
     → AreFaultsKnown l before f → AreFaultsKnown m before f
 known_grown law t l m before here there ends more f nodes grown same known = record {
   right = law.still l.graph m.graph l.settled m.settled f known.right grown.nodes.net
@@ -60,7 +61,8 @@ pub added_same : (t : Table) (l m : Listed) (before here there : List ℕ) (ends
 added_same t l m before here there ends more added were n i = added.same.steps n (were.within n i) tt
 
 -- the facts known about faults stay right when more names are settled
-pub known_later : FindingsLaw → (t : Table) (l m : Listed) (names : List ℕ) (f : Found) → AreNodes t m → IsLater l m
+pub known_later : FindingsLaw → (t : Table) (l m : Listed) (names : List ℕ) (f : WalkFindings) → AreNumberedNames t m
+    → IsLater l m
     → AreFaultsKnown l names f → AreFaultsKnown m names f
 known_later law t l m names f nodes later known = record {
   right = law.still l.graph m.graph l.settled m.settled f known.right nodes.net
@@ -85,7 +87,7 @@ still_settled ss n m e = elim (cases_eq m n) [
 
 -- a name was settled, whatever the data of a function there
 pub settled_later : (l later : Listed) (n : ℕ) (o : Outcome) (rank : ℕ) → n < length l.callees
-    → ((c : Callee) → slice_get l.callees n ≡ Some c → later ≡ with_outcome n o (ranked rank c) l) → IsLater l later
+    → ((c : Callee) → slice_get l.callees n ≡ Some c → later ≡ with_outcome n o (with_rank rank c) l) → IsLater l later
 settled_later l later n o rank h put =
     let found : (c : Callee) × (slice_get l.callees n ≡ Some c) = element l.callees n h in
     subst (λ (x : Listed). IsLater l x) (sym (put found.0 found.1))
@@ -99,12 +101,12 @@ walked_none l query order walked = record { none = walked.0; closes = walked.1 }
 
 -- a walk after a search that found no fault
 walk_closing : (l : Listed) (query : List Step) (order : List ℕ) (r : Option Fault)
-    → fault l.graph [] query ≡ None → IsWalked l.graph l.settled query order r → IsClosing l query order
+    → steps_fault l.graph [] query ≡ None → IsWalked l.graph l.settled query order r → IsClosing l query order
 walk_closing l query order None none walked = walked_none l query order walked
 walk_closing l query order (Some f) none walked = let e : None ≡ Some (fault_view f) = sym none ∙ walked in cc
 
 pub walked_closing : (l : Listed) (query : List Step) (order : List ℕ) (r : Option Fault)
-    → fault l.graph [] query ≡ None → (g : Graph) (s : List Bool) → g ≡ l.graph → s ≡ l.settled
+    → steps_fault l.graph [] query ≡ None → (g : Graph) (s : List Bool) → g ≡ l.graph → s ≡ l.settled
     → IsWalked g s query order r → IsClosing l query order
 walked_closing l query order r none g s same_graph same_settled walked =
     walk_closing l query order r none
@@ -120,7 +122,7 @@ found_fault l query order fs (Ok (Some x)) f walked found = found
 found_fault l query order fs (Err e) f walked found = found
 
 -- ---- the names below a query were explored
-module _ (t : Table) (l : Listed) (before list : List ℕ) (ends : List DeadEnd) (nodes : AreNodes t l)
+module _ (t : Table) (l : Listed) (before list : List ℕ) (ends : List DeadEnd) (nodes : AreNumberedNames t l)
     (all : AreAllExplored t l before list ends) where
   wider : (m : ℕ) → IsKnown l before [] m → IsKnown l before list m
   wider m (inl e) = inl e
@@ -132,7 +134,7 @@ module _ (t : Table) (l : Listed) (before list : List ℕ) (ends : List DeadEnd)
   step_known n m (inr (inl i)) lead = wider m ((all.explored.written n i).steps.targets m lead)
   step_known n m (inr (inr i)) lead = (all.written n i).steps.targets m lead
 
-  below_known : (n m : ℕ) → IsKnown l before list n → Reaches l.graph n m → IsKnown l before list m
+  below_known : (n m : ℕ) → IsKnown l before list n → NameReaches l.graph n m → IsKnown l before list m
   below_known n m k (at_once lead) = step_known n m k lead
   below_known n m k (further lead r) = below_known _ m (step_known n _ k lead) r
 

@@ -6,19 +6,19 @@ use Rattle.def_entry.specs.Tables.{Table, is_present}
 use Rattle.name_walk.specs.declared.step.Step.{Step}
 use Rattle.name_walk.specs.declared.step.Step.TheVariants as step
 use Rattle.name_walk.specs.Lists.{In}
-use Rattle.name_numbers.specs.Numbered.{ForOne, ForTwo}
+use Rattle.name_numbers.specs.NumberedNames.{ForOne, ForTwo}
 use Rattle.live_table.specs.declared.dead_end.DeadEnd.{DeadEnd}
-use Rattle.live_table.specs.declared.leading.Lead.{Lead}
-use Rattle.live_table.specs.declared.leading.Lead.TheVariants.{Refused, Nowhere, One, Two}
-use Rattle.live_table.specs.declared.stepping.WordSteps.{WordSteps}
-use Rattle.live_table.specs.Exploring.{AreWritten, IsKnown}
-use Rattle.live_table.specs.Leading.{IsLead, IsQueryLead, is_refused_lead, numbers, steps_to}
+use Rattle.live_table.specs.declared.word_targets.Lead.{Lead}
+use Rattle.live_table.specs.declared.word_targets.Lead.TheVariants.{Refused, Nowhere, One, Two}
+use Rattle.live_table.specs.declared.word_steps.WordSteps.{WordSteps}
+use Rattle.live_table.specs.Exploration.{AreWritten, IsKnown}
+use Rattle.live_table.specs.WordTargets.{IsLead, IsQueryLead, is_refused_lead, numbers, steps_to}
 use Rattle.live_table.specs.Looks.{AreLooksPut}
-use Rattle.live_table.specs.Stored.{Listed, key_at}
-use Rattle.live_table.proofs.Looking.{looks_put, one_step, two_steps}
+use Rattle.live_table.specs.TableContents.{Listed, key_at}
+use Rattle.live_table.proofs.LookedKeys.{looks_put, one_step, two_steps}
 use Rattle.live_table.proofs.Places.{some_same}
-use Rattle.live_table.proofs.Written.{first_present, one_present, refused_written, second_present, two_written}
-use Rattle.live_table.proofs.Written.{unknown_written}
+use Rattle.live_table.proofs.WrittenSteps.{first_present, one_present, refused_written, second_present, two_written}
+use Rattle.live_table.proofs.WrittenSteps.{unknown_written}
 
 -- ---- targets
 -- the lead of a word of an entry is that of a word of a query

@@ -1,20 +1,22 @@
 -- The targets of a word are put on the agenda in turn.
 use Rattle.std.proofs.Common.{◌≡◌, ◌++◌, ◌∷◌, [], ℕ, List, cond, refl, sym, ◌∙◌, subst, inl, inr}
 use Rattle.std.proofs.lemmas.Bool.{cases_Bool, cond-false, cond-true}
-use Rattle.name_walk.specs.Faults.{on}
+use Rattle.name_walk.specs.Faults.{is_on_path}
 use Rattle.name_walk.specs.Lists.{In}
-use Rattle.live_table.specs.declared.leading.Lead.{Lead}
-use Rattle.live_table.specs.declared.leading.Lead.TheVariants.{One, Two}
-use Rattle.live_table.specs.Exploring.{IsKnown, IsMore}
-use Rattle.live_table.specs.Leading.{numbers}
-use Rattle.live_table.specs.Stored.{Listed}
-use Rattle.live_table.proofs.Growing.{in_more, push_more}
+use Rattle.live_table.specs.declared.word_targets.Lead.{Lead}
+use Rattle.live_table.specs.declared.word_targets.Lead.TheVariants.{One, Two}
+use Rattle.live_table.specs.Exploration.{IsKnown, IsMore}
+use Rattle.live_table.specs.WordTargets.{numbers}
+use Rattle.live_table.specs.TableContents.{Listed}
+use Rattle.live_table.proofs.AddedNames.{in_more, push_more}
 
 -- the numbers on the agenda stay there
-pub put_more : (list there : List ℕ) (n : ℕ) → there ≡ cond (on list n) list (list ++ n ∷ []) → IsMore list there
-put_more list there n e = elim (cases_Bool (on list n)) [
-  | inl q ↦ subst (IsMore list) (sym (e ∙ cond-true (on list n) list (list ++ n ∷ []) q)) (λ i x h. h)
-  | inr q ↦ subst (IsMore list) (sym (e ∙ cond-false (on list n) list (list ++ n ∷ []) q)) (push_more list (n ∷ []))
+pub put_more : (list there : List ℕ) (n : ℕ) → there ≡ cond (is_on_path list n) list (list ++ n ∷ [])
+    → IsMore list there
+put_more list there n e = elim (cases_Bool (is_on_path list n)) [
+  | inl q ↦ subst (IsMore list) (sym (e ∙ cond-true (is_on_path list n) list (list ++ n ∷ []) q)) (λ i x h. h)
+  | inr q ↦ subst (IsMore list) (sym (e ∙ cond-false (is_on_path list n) list (list ++ n ∷ []) q))
+      (push_more list (n ∷ []))
 ]
 
 -- the number of the only target of a word

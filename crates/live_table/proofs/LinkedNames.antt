@@ -13,24 +13,24 @@ use Rattle.deck.specs.Tables.{table}
 use Rattle.edge_links.specs.Edges.{edge, SameEdges}
 use Rattle.name_edges.specs.Laws.{LinkingLaw}
 use Rattle.name_edges.specs.NameGraphs.{NameGraph}
-use Rattle.name_numbers.specs.EdgeLaws.{AreEdges}
-use Rattle.name_numbers.specs.Numbered.{AreWords}
+use Rattle.name_numbers.specs.EdgeLaws.{AreNameEdges}
+use Rattle.name_numbers.specs.NumberedNames.{AreWords}
 use Rattle.name_numbers.proofs.EdgeChanges.{edges_grown, edges_linked}
 use Rattle.name_numbers.proofs.Reached.{lead_of_step}
 use Rattle.name_walk.specs.declared.step.Step.{Step}
 use Rattle.name_walk.specs.declared.step.Step.TheVariants.{To}
-use Rattle.name_walk.specs.Closed.{IsSettled}
+use Rattle.name_walk.specs.ClosedNames.{IsSettled}
 use Rattle.name_walk.specs.Lists.{In}
 use Rattle.name_walk.specs.Steps.{LeadsTo, steps}
-use Rattle.table_names.specs.Closed.{IsClosed}
+use Rattle.table_names.specs.ClosedKeys.{IsClosed}
 use Rattle.table_names.specs.Leads.{LooksAt, WordsLeadTo}
 use Rattle.table_names.specs.Words.{key_words}
 use Rattle.table_names.proofs.Members.{member_cases, member_first, member_later, no_member}
-use Rattle.live_table.specs.Edged.{HasLateEdges, is_linked}
+use Rattle.live_table.specs.TableEdges.{HasLateEdges, is_linked}
 use Rattle.live_table.specs.Sound.{HasLooksOf, IsSound}
-use Rattle.live_table.specs.Stored.{Listed, Looks, key_at, looks_of, numbers_in}
+use Rattle.live_table.specs.TableContents.{Listed, Looks, key_at, looks_of, numbers_in}
 use Rattle.live_table.proofs.AfterForgetting.{settled_flag}
-use Rattle.live_table.proofs.Kept.{key_settled, settled_within}
+use Rattle.live_table.proofs.OutcomesByKey.{key_settled, settled_within}
 use Rattle.live_table.proofs.WaitingNames.{dead_end, linked_facts, linked_where, not_waiting, number_of_lead}
 
 -- ---- members
@@ -64,7 +64,7 @@ module _ (deck : Contents) (l : Listed) (g h : NameGraph) (rest : h ≡ record g
   pub covered_edges : (waiting : List ℕ) → HasLateEdges deck l waiting g → HasLateEdges deck l waiting h
   covered_edges waiting edges = record {
     names = let a = edges.names in omega (arith, a, within);
-    are = subst (λ (x : NameGraph). AreEdges (table deck) (key_at l.keys) h.names now x) (sym rest)
+    are = subst (λ (x : NameGraph). AreNameEdges (table deck) (key_at l.keys) h.names now x) (sym rest)
         (renamed (edges_grown (table deck) (key_at l.keys) (key_at l.keys) g.names h.names now now g
         edges.are no_less (λ n t. refl) (λ n. ((λ e. e), (λ e. e)))));
     settled = edges.settled;
@@ -74,8 +74,8 @@ module _ (deck : Contents) (l : Listed) (g h : NameGraph) (rest : h ≡ record g
       now : ℕ → Bool
       now = is_linked l.settled waiting
 
-      renamed : AreEdges (table deck) (key_at l.keys) h.names now g
-          → AreEdges (table deck) (key_at l.keys) h.names now (record g { names = h.names })
+      renamed : AreNameEdges (table deck) (key_at l.keys) h.names now g
+          → AreNameEdges (table deck) (key_at l.keys) h.names now (record g { names = h.names })
       renamed a = record { within = a.within; below = a.below; beside = a.beside; used = a.used; looked = a.looked }
 
   -- the edges are still those of the settled names after a failure
@@ -174,7 +174,7 @@ module _ (law : LinkingLaw) (deck : Contents) (l : Listed) (r n : ℕ) (g h : Na
   pub linked_edges : HasLateEdges deck l rest h
   linked_edges = record {
     names = let a = edges.names in omega (arith, a, names);
-    are = subst (λ size. AreEdges (table deck) (key_at l.keys) size now h) (sym names)
+    are = subst (λ size. AreNameEdges (table deck) (key_at l.keys) size now h) (sym names)
         (edges_linked (table deck) (key_at l.keys) g.names was now g h n used looked
         edges.are room not_before marks
         (law n used g.uses h.uses uses) (law n looked g.looks h.looks looks)

@@ -10,20 +10,20 @@ use Rattle.std.specs.declared.alloc.AllocError.{AllocError}
 use Rattle.def_entry.specs.declared.key.Key.{Key}
 use Rattle.def_entry.specs.declared.key.Kind.{Kind}
 use Rattle.def_entry.specs.declared.key.Kind.TheVariants as kind
-use Rattle.def_entry.specs.SameKeys.{is_among, is_same}
+use Rattle.def_entry.specs.SameKeys.{is_key_among, is_same}
 use Rattle.def_entry.proofs.SameKeys.{same_keys}
 use Rattle.table_names.specs.declared.fault.NameFault.{NameFault}
 use Rattle.live_table.specs.declared.fault.QueryFault.{QueryFault}
 use Rattle.live_table.specs.declared.fault.QueryFault.TheVariants.{Name, Value, OutOfMemory}
-use Rattle.live_table.specs.Asked.{IsAsked}
-use Rattle.live_table.specs.Calls.{AreQueries, is_name_kind, names_among, queries_of}
-use Rattle.live_table.specs.Shown.{Follows, IsCutOff, IsRightTable, Shown, state}
+use Rattle.live_table.specs.QueryEffects.{IsAsked}
+use Rattle.live_table.specs.Calls.{AreQueries, is_name_kind, key_queries, names_among}
+use Rattle.live_table.specs.TableView.{IsAfterEvents, IsCutOff, IsRightTable, Shown, state_with_steps}
 use Rattle.live_table.specs.States.{AsksKey, Event}
-use Rattle.live_table.proofs.Following.{cut_both, follows_both, follows_none, steps_rise}
+use Rattle.live_table.proofs.QuerySequence.{cut_both, follows_both, follows_none, steps_rise}
 use Rattle.name_walk.proofs.Lists.{drop_at, take_at}
 
 -- ---- a single key
-pub list_asks_nothing : (k : Key) → k.kind ≡ kind.List → queries_of (k ∷ []) ≡ []
+pub list_asks_nothing : (k : Key) → k.kind ≡ kind.List → key_queries (k ∷ []) ≡ []
 list_asks_nothing k e = ap (λ (c : Kind). map AsksKey (if is_name_kind c then k ∷ [] else [])) e
 
 -- a key that is not a list is queried
@@ -35,7 +35,7 @@ name_asks k kind.Func h = refl
 name_asks k kind.List h = absurd (h refl)
 
 -- a key that is not a list is queried once
-pub asks_once : (k : Key) → (k.kind ≡ kind.List → ⊥) → queries_of (k ∷ []) ≡ AsksKey k ∷ []
+pub asks_once : (k : Key) → (k.kind ≡ kind.List → ⊥) → key_queries (k ∷ []) ≡ AsksKey k ∷ []
 asks_once k h = name_asks k k.kind h
 
 module _ {A : Type 0} (event : Event) (fault : Option NameFault) (Given : A → Type 0) (before now : Shown)
@@ -45,7 +45,7 @@ module _ {A : Type 0} (event : Event) (fault : Option NameFault) (Given : A → 
   asked_cut r e a = subst (λ (r : Result A QueryFault). IsAsked event fault Given r before now old new) e a
 
   pub asked_follows : (r : Result A QueryFault) → (r ≡ Err OutOfMemory → ⊥)
-      → IsAsked event fault Given r before now old new → Follows (event ∷ []) before now old new
+      → IsAsked event fault Given r before now old new → IsAfterEvents (event ∷ []) before now old new
   asked_follows (Ok x) h a = a.2
   asked_follows (Err (Name f)) h a = a.1
   asked_follows (Err (Value v)) h a = absurd a
@@ -53,46 +53,47 @@ module _ {A : Type 0} (event : Event) (fault : Option NameFault) (Given : A → 
 
   pub asked_queries : (k : Key) → event ≡ AsksKey k → (k.kind ≡ kind.List → ⊥) → (r : Result A QueryFault)
       → (q : Result (Unit {0}) AllocError) → OnOk q (r ≡ Err OutOfMemory → ⊥) → OnErr q (r ≡ Err OutOfMemory)
-      → IsAsked event fault Given r before now old new → AreQueries (queries_of (k ∷ [])) q before now old new
+      → IsAsked event fault Given r before now old new → AreQueries (key_queries (k ∷ [])) q before now old new
   asked_queries k is no_list r (Ok u) ok err a =
-      subst (λ (es : List Event). Follows es before now old new)
+      subst (λ (es : List Event). IsAfterEvents es before now old new)
       (ap (λ e. e ∷ []) is ∙ sym (asks_once k no_list)) (asked_follows r ok a)
   asked_queries k is no_list r (Err e) ok err a =
       subst (λ (es : List Event). IsCutOff es before now old new)
       (ap (λ e. e ∷ []) is ∙ sym (asks_once k no_list)) (asked_cut r err a)
 
 -- ---- several keys
-queries_both : (ks ls : List Key) → queries_of (ks ++ ls) ≡ queries_of ks ++ queries_of ls
+queries_both : (ks ls : List Key) → key_queries (ks ++ ls) ≡ key_queries ks ++ key_queries ls
 queries_both ks ls =
     ap (map AsksKey) (filter-append (λ (k : Key). is_name_kind k.kind) ks ls)
     ∙ map-append AsksKey (names_among ks) (names_among ls)
 
 -- the key at a place is among them
-pub is_here : (ks : List Key) (i : ℕ) (k : Key) → slice_get ks i ≡ Some k → is_among ks k ≡ true
+pub is_here : (ks : List Key) (i : ℕ) (k : Key) → slice_get ks i ≡ Some k → is_key_among ks k ≡ true
 is_here [] i k e = cc
-is_here (x ∷ ks) zero k e = let s : k ≡ x = cc in ap (λ b. b || is_among ks k) ((same_keys k x).1 s)
+is_here (x ∷ ks) zero k e = let s : k ≡ x = cc in ap (λ b. b || is_key_among ks k) ((same_keys k x).1 s)
 is_here (x ∷ ks) (suc i) k e = by (is_same k x) (is_here ks i k e)
   where
-    by : (b : Bool) → is_among ks k ≡ true → (b || is_among ks k) ≡ true
+    by : (b : Bool) → is_key_among ks k ≡ true → (b || is_key_among ks k) ≡ true
     by true h = refl
     by false h = h
 
 -- no key has been queried yet
 pub cut_at_once : (es : List Event) (s : Shown) (n : ℕ) → IsRightTable s → IsCutOff es s s n n
-cut_at_once es s n right = record { deck = refl; right = right; least = omega arith; most = steps_rise es (state s n) }
+cut_at_once es s n right =
+    record { deck = refl; right = right; least = omega arith; most = steps_rise es (state_with_steps s n) }
 
 -- the first of the keys were queried
 pub record IsAsking (keys : List Key) (i : ℕ) (before now : Shown) (old new : ℕ) : Type 0 where
   pub deck : now.deck ≡ before.deck
-  pub follows : Follows (queries_of (take i keys)) before now old new
+  pub follows : IsAfterEvents (key_queries (take i keys)) before now old new
 
 -- at the start no key has been queried
 pub asking_start : (keys : List Key) (s : Shown) (n : ℕ) → IsRightTable s → IsAsking keys 0 s s n n
 asking_start keys s n right = record { deck = refl; follows = follows_none s n right }
 
 module _ (keys : List Key) (i : ℕ) (before now : Shown) (old new : ℕ) (s : IsAsking keys i before now old new) where
-  pub asking_done : length keys ≤ i → Follows (queries_of keys) before now old new
-  asking_done h = subst (λ (ks : List Key). Follows (queries_of ks) before now old new) all s.follows
+  pub asking_done : length keys ≤ i → IsAfterEvents (key_queries keys) before now old new
+  asking_done h = subst (λ (ks : List Key). IsAfterEvents (key_queries ks) before now old new) all s.follows
     where
       all : take i keys ≡ keys
       all =
@@ -100,25 +101,26 @@ module _ (keys : List Key) (i : ℕ) (before now : Shown) (old new : ℕ) (s : I
           ∙ (ap (λ ks. take i keys ++ ks) (sym (drop_all i keys h)) ∙ take-append-drop i keys)
 
   module _ (k : Key) (at : slice_get keys i ≡ Some k) (later : Shown) (last : ℕ) where
-    pub asking_next : later.deck ≡ now.deck → Follows (queries_of (k ∷ [])) now later new last
+    pub asking_next : later.deck ≡ now.deck → IsAfterEvents (key_queries (k ∷ [])) now later new last
         → IsAsking keys (i + 1) before later old last
     asking_next same f = record {
       deck = same ∙ s.deck;
-      follows = subst (λ (es : List Event). Follows es before later old last)
-          (sym (ap queries_of (take_at keys i k at) ∙ queries_both (take i keys) (k ∷ [])))
-          (follows_both (queries_of (take i keys)) (queries_of (k ∷ [])) before now later old new last s.follows f);
+      follows = subst (λ (es : List Event). IsAfterEvents es before later old last)
+          (sym (ap key_queries (take_at keys i k at) ∙ queries_both (take i keys) (k ∷ [])))
+          (follows_both (key_queries (take i keys)) (key_queries (k ∷ [])) before now later old new last s.follows f);
     }
 
-    pub asking_cut : IsCutOff (queries_of (k ∷ [])) now later new last
-        → IsCutOff (queries_of keys) before later old last
+    pub asking_cut : IsCutOff (key_queries (k ∷ [])) now later new last
+        → IsCutOff (key_queries keys) before later old last
     asking_cut f =
         subst (λ (es : List Event). IsCutOff es before later old last) (sym all)
-        (cut_both (queries_of (take i keys)) (queries_of (k ∷ [])) (queries_of (drop (i + 1) keys)) before now later old
+        (cut_both (key_queries (take i keys)) (key_queries (k ∷ [])) (key_queries (drop (i + 1) keys)) before now later
+        old
         new last s.deck s.follows f)
       where
-        all : queries_of keys
-            ≡ queries_of (take i keys) ++ (queries_of (k ∷ []) ++ queries_of (drop (i + 1) keys))
+        all : key_queries keys
+            ≡ key_queries (take i keys) ++ (key_queries (k ∷ []) ++ key_queries (drop (i + 1) keys))
         all =
-            ap queries_of (sym (take-append-drop i keys) ∙ ap (λ ks. take i keys ++ ks) (drop_at keys i k at))
+            ap key_queries (sym (take-append-drop i keys) ∙ ap (λ ks. take i keys ++ ks) (drop_at keys i k at))
             ∙ (queries_both (take i keys) (k ∷ drop (i + 1) keys)
-            ∙ ap (λ es. queries_of (take i keys) ++ es) (queries_both (k ∷ []) (drop (i + 1) keys)))
+            ∙ ap (λ es. key_queries (take i keys) ++ es) (queries_both (k ∷ []) (drop (i + 1) keys)))

@@ -8,7 +8,7 @@ use Rattle.std.proofs.lemmas.Bool.{cases_Bool, cond-false, false_from_ne_true, t
 use Rattle.std.proofs.lemmas.List.Elements.{All-contains, All-from_recursion}
 use Rattle.def_entry.specs.declared.key.Key.{Key}
 use Rattle.def_entry.specs.KeyOrder.{key_cmp}
-use Rattle.def_entry.specs.SameKeys.{is_among, is_same}
+use Rattle.def_entry.specs.SameKeys.{is_key_among, is_same}
 use Rattle.def_entry.specs.Tables.{Table}
 use Rattle.def_entry.proofs.SameKeys.{key_order, same_keys}
 use Rattle.tree_eval.specs.declared.outcome.Outcome.{Outcome}
@@ -16,8 +16,8 @@ use Rattle.table_names.specs.Meanings.{outcome}
 use Rattle.table_names.proofs.KeyLists.{among_member, member_among}
 use Rattle.table_names.proofs.Members.{member_first, member_later}
 use Rattle.live_table.specs.New.{AreNew, NewLaw}
-use Rattle.live_table.specs.Right.{IsRight, IsSettled}
-use Rattle.live_table.specs.States.{Kept, State, with_outcomes, with_settled}
+use Rattle.live_table.specs.Right.{IsKeySettled, IsRight}
+use Rattle.live_table.specs.States.{Kept, TableState, with_outcomes, with_settled}
 use Rattle.live_table.proofs.Outcomes.{inserted, left_out, one_key, put_in}
 
 -- an option that is not empty, and has no other value, has this value
@@ -55,28 +55,28 @@ count table (k ∷ names) kept once new =
         (map_of.get kept n) (other n i))
         ∙ new n (member_later n k names i)
 
-module _ (s : State) (reached names : List Key) (h : IsRight s) (new : AreNew s reached names) where
+module _ (s : TableState) (reached names : List Key) (h : IsRight s) (new : AreNew s reached names) where
   kept_by : (n : Key) → map_of.get (with_outcomes s.table names s.kept) n ≡ map_of.get
       (with_outcomes s.table reached s.kept) n
-  kept_by n = elim (cases_Bool (is_among names n)) [
+  kept_by n = elim (cases_Bool (is_key_among names n)) [
     | inl e ↦
         let i : Contains names n = member_among names n e in
         put_in s.table names s.kept n (inl i) ∙ sym (put_in s.table reached s.kept n (inl ((new.exactly n).0 i).0))
     | inr e ↦
         let out : Contains names n → ⊥ = λ i. true≢false (sym (among_member names n i) ∙ e) in
-        left_out s.table names s.kept n out ∙ elim (cases_Bool (is_among reached n)) [
+        left_out s.table names s.kept n out ∙ elim (cases_Bool (is_key_among reached n)) [
           | inl q ↦ settled_before (member_among reached n q) (cases_settled (member_among reached n q) out)
           | inr q ↦ sym (left_out s.table reached s.kept n (λ i. true≢false (sym (among_member reached n i) ∙ q)))
         ]
   ]
     where
-      cases_settled : Contains reached n → (Contains names n → ⊥) → IsSettled s n
+      cases_settled : Contains reached n → (Contains names n → ⊥) → IsKeySettled s n
       cases_settled i out = elim (cases_Bool (is_some (map_of.get s.kept n))) [
         | inl e ↦ e
         | inr e ↦ absurd (out ((new.exactly n).1 (i, λ q. true≢false (sym q ∙ e))))
       ]
 
-      settled_before : Contains reached n → IsSettled s n → map_of.get s.kept n ≡ map_of.get
+      settled_before : Contains reached n → IsKeySettled s n → map_of.get s.kept n ≡ map_of.get
           (with_outcomes s.table reached s.kept) n
       settled_before i e = some_of (map_of.get s.kept n) (outcome s.table n) e (h.right n)
           ∙ sym (put_in s.table reached s.kept n (inl i))
@@ -90,7 +90,7 @@ module _ (s : State) (reached names : List Key) (h : IsRight s) (new : AreNew s 
       count s.table names s.kept new.once (λ n i. false_from_ne_true _ ((new.exactly n).0 i).1) in
       omega (arith, c)
 
-  abbrev stands : Kept → ℕ → State
+  abbrev stands : Kept → ℕ → TableState
   stands kept n = record s { kept = kept; reductions = min (2 ^ 64 - 1) (s.reductions + n); steps = s.steps + n }
 
   settles : with_settled reached s ≡ stands (with_outcomes s.table names s.kept) (length names)

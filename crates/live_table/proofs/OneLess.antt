@@ -9,7 +9,7 @@ use Rattle.std.proofs.lemmas.List.{length-set, map-set}
 use Rattle.std.proofs.lemmas.List.Sums.{length-filter}
 use Rattle.name_walk.proofs.Marks.{get_set_other, get_set_same}
 use Rattle.tree_eval.specs.declared.outcome.Outcome.{Outcome}
-use Rattle.live_table.specs.Keeping.{IsLeft}
+use Rattle.live_table.specs.OutcomesLeft.{AreNumbersLeft}
 use Rattle.live_table.proofs.Places.{get_lt}
 
 -- a flag that is cleared is one fewer
@@ -47,7 +47,7 @@ module _ (settled : List Bool) (count rest n : ℕ) (outcomes : List (Option Out
       size l q = let e : length (set outcomes n None) ≡ length outcomes = length-set outcomes n None in
           omega (arith, l, q, e)
 
-  pub one_less : IsLeft settled (set settled n false) count rest outcomes (set outcomes n None)
+  pub one_less : AreNumbersLeft settled (set settled n false) count rest outcomes (set outcomes n None)
   one_less = record {
     size = length-set settled n false;
     outcome_count = length-set outcomes n None;

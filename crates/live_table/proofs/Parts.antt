@@ -16,7 +16,7 @@ use Rattle.tree_eval.specs.Expansion.{inverted_word}
 use Rattle.tree_eval.proofs.Places.{get_left, get_right}
 use Rattle.table_names.specs.declared.fault.NameFault.{NameFault}
 use Rattle.table_names.specs.Words.{what_words}
-use Rattle.name_numbers.specs.Numbered.{AreWords, IsWord}
+use Rattle.name_numbers.specs.NumberedNames.{AreWords, IsWord}
 use Rattle.live_table.specs.Callees.{start_of}
 
 -- ---- the words of a part come after those of the parts before it

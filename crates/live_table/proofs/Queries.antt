@@ -8,52 +8,52 @@ use Rattle.std.proofs.lemmas.Bool.{false_from_ne_true, true≢false}
 use Rattle.def_entry.specs.declared.key.Key.{Key}
 use Rattle.def_entry.specs.Tables.{Table}
 use Rattle.name_walk.specs.declared.step.Step.{Step}
-use Rattle.name_walk.specs.Closed.{IsSettled}
+use Rattle.name_walk.specs.ClosedNames.{IsSettled}
 use Rattle.name_walk.specs.Faults as walk
 use Rattle.name_walk.specs.NewlyClosed.{AreNewlyClosed, IsReached}
-use Rattle.name_walk.proofs.Settled.{settled_law_holds}
+use Rattle.name_walk.proofs.DoneNames.{settled_law_holds}
 use Rattle.tree_eval.specs.declared.outcome.Outcome.{Outcome}
 use Rattle.table_names.specs.declared.fault.NameFault.{NameFault}
 use Rattle.table_names.specs.Meanings.{outcome}
 use Rattle.deck.specs.Decks.{Contents}
 use Rattle.deck.specs.Tables.{table}
-use Rattle.name_numbers.specs.Numbered.{named}
+use Rattle.name_numbers.specs.NumberedNames.{fault_by_name}
 use Rattle.name_numbers.specs.SettlingLaws.{AreMarks, AreNewKeys}
 use Rattle.name_numbers.proofs.NewKeys.{key_in}
 use Rattle.live_table.specs.declared.dead_end.DeadEnd.{DeadEnd}
 use Rattle.live_table.specs.declared.fault.QueryFault.{QueryFault}
 use Rattle.live_table.specs.declared.fault.QueryFault.TheVariants.{Name, Value, OutOfMemory}
-use Rattle.live_table.specs.Asked.{AreAllSettled, AreSomeSettled, IsAnswered, IsAsked, IsClosing}
-use Rattle.live_table.specs.Asked.{put_in}
-use Rattle.live_table.specs.Explored.{AreExplored, fault_at}
+use Rattle.live_table.specs.QueryEffects.{AreAllSettled, AreSomeSettled, IsAsked, IsClosing, IsQueryAnswered}
+use Rattle.live_table.specs.QueryEffects.{put_in}
+use Rattle.live_table.specs.ExploredNames.{AreExplored, fault_at}
 use Rattle.live_table.specs.New.{AreNew}
 use Rattle.live_table.specs.Right.{IsRight}
-use Rattle.live_table.specs.Shown.{Follows, IsCutOff, IsRightTable, Shown, state}
-use Rattle.live_table.specs.Sound.{AreNodes, IsSound}
-use Rattle.live_table.specs.States.{Event, Kept, State, after, after_all, after_query}
-use Rattle.live_table.specs.Stored.{Listed, key_at, shown}
-use Rattle.live_table.proofs.Kept.{key_settled, number_settled}
+use Rattle.live_table.specs.TableView.{IsAfterEvents, IsCutOff, IsRightTable, Shown, state_with_steps}
+use Rattle.live_table.specs.Sound.{AreNumberedNames, IsSound}
+use Rattle.live_table.specs.States.{Event, Kept, TableState, after, after_all, after_query}
+use Rattle.live_table.specs.TableContents.{Listed, key_at, shown_table}
+use Rattle.live_table.proofs.OutcomesByKey.{key_settled, number_settled}
 use Rattle.live_table.proofs.New.{new_law}
 use Rattle.live_table.proofs.Outcomes as outcomes
 
 -- outcomes that are right do not depend on the counts
-right_at : (s : Shown) (old : ℕ) → IsRightTable s → IsRight (state s old)
+right_at : (s : Shown) (old : ℕ) → IsRightTable s → IsRight (state_with_steps s old)
 right_at s old h = record { present = h.present; closed = h.closed; below = h.below; right = h.right }
 
 -- ---- no query lowers the count of steps or changes the deck
-query_rises : (b : Bool) (keys : List Key) (s : State) → s.steps ≤ (after_query b keys s).steps
+query_rises : (b : Bool) (keys : List Key) (s : TableState) → s.steps ≤ (after_query b keys s).steps
 query_rises true keys s = omega arith
 query_rises false keys s = omega arith
 
 -- a query by its name fault and the names that it reaches
 pub record IsQueryOf (event : Event) (t : Table) (fault : Option NameFault) (reached : List Key) : Type 0 where
-  pub after : (s : State) → s.table ≡ t → after event s ≡ after_query (is_none fault) reached s
+  pub after : (s : TableState) → s.table ≡ t → after event s ≡ after_query (is_none fault) reached s
 
 module _ (event : Event) (fault : Option NameFault) (reached : List Key) (before : Shown) (old : ℕ)
     (right : IsRightTable before)
     (is : IsQueryOf event (table before.deck) fault reached) where
-  abbrev was : State
-  was = state before old
+  abbrev was : TableState
+  was = state_with_steps before old
 
   then : after_all (event ∷ []) was ≡ after_query (is_none fault) reached was
   then = is.after was refl
@@ -63,10 +63,10 @@ module _ (event : Event) (fault : Option NameFault) (reached : List Key) (before
     deck = refl;
     right = right;
     least = omega arith;
-    most = subst (λ (s : State). old ≤ s.steps) (sym then) (query_rises (is_none fault) reached was);
+    most = subst (λ (s : TableState). old ≤ s.steps) (sym then) (query_rises (is_none fault) reached was);
   }
 
-  pub fault_follows : (f : NameFault) → fault ≡ Some f → Follows (event ∷ []) before before old old
+  pub fault_follows : (f : NameFault) → fault ≡ Some f → IsAfterEvents (event ∷ []) before before old old
   fault_follows f e = record {
     stands = sym (then ∙ ap (λ (o : Option NameFault). after_query (is_none o) reached was) e);
     right = right;
@@ -74,15 +74,15 @@ module _ (event : Event) (fault : Option NameFault) (reached : List Key) (before
 
   -- without a name fault the new names are settled
   module _ (none : fault ≡ None) (keys : List Key) (new : AreNew was reached keys) where
-    settles : after_all (event ∷ []) was ≡ state (put_in before keys) (old + length keys)
+    settles : after_all (event ∷ []) was ≡ state_with_steps (put_in before keys) (old + length keys)
     settles =
         then ∙ (ap (λ (o : Option NameFault). after_query (is_none o) reached was) none
         ∙ new_law was reached keys (right_at before old right) new)
 
     pub all_follow : (now : Shown) (then_steps : ℕ) → AreAllSettled keys before now old then_steps → IsRightTable now
-        → Follows (event ∷ []) before now old then_steps
+        → IsAfterEvents (event ∷ []) before now old then_steps
     all_follow now then_steps all right_now = record {
-      stands = (λ i. state (all.shown i) (all.steps i)) ∙ sym settles;
+      stands = (λ i. state_with_steps (all.shown i) (all.steps i)) ∙ sym settles;
       right = right_now;
     }
 
@@ -94,7 +94,7 @@ module _ (event : Event) (fault : Option NameFault) (reached : List Key) (before
       least = let a : old + some.count ≤ then_steps = some.least in omega arith;
       most =
           let a : then_steps ≤ old + length keys = some.most in
-          subst (λ (s : State). then_steps ≤ s.steps) (sym settles) a;
+          subst (λ (s : TableState). then_steps ≤ s.steps) (sym settles) a;
     }
 
 -- ---- the keys that are new by number are new by name
@@ -104,7 +104,7 @@ is_kept kept k = is_some (map_of.get kept k)
 -- the keys that a query newly settles
 pub are_new : (before : Shown) (old : ℕ) (Asked : Key → Type 0) (reached keys : List Key)
     → ((n : Key) → Contains reached n ↔ Asked n)
-    → AreNewKeys (is_kept before.kept) Asked keys → AreNew (state before old) reached keys
+    → AreNewKeys (is_kept before.kept) Asked keys → AreNew (state_with_steps before old) reached keys
 are_new before old Asked reached keys same new = record {
   exactly = λ n. (
     λ i. let h = (new.exactly n).0 i in ((same n).1 h.0, λ e. true≢false (sym e ∙ h.1)),
@@ -115,11 +115,11 @@ are_new before old Asked reached keys same new = record {
 
 -- the marks are those of the stored names
 pub are_marks : (deck : Contents) (l : Listed) (r : ℕ) (ends : List DeadEnd) (known : ℕ → Bool)
-    → AreNodes (table deck) l → AreExplored (table deck) l ends known
-    → AreMarks (key_at l.keys) known l.settled (is_kept (shown deck l r).kept)
+    → AreNumberedNames (table deck) l → AreExplored (table deck) l ends known
+    → AreMarks (key_at l.keys) known l.settled (is_kept (shown_table deck l r).kept)
 are_marks deck l r ends known nodes explored n k = (
   λ e. key_settled deck l r nodes n e,
-  λ e. number_settled deck l r nodes n (let a : n < length l.graph = explored.numbered.within n k in
+  λ e. number_settled deck l r nodes n (let a : n < length l.graph = explored.numbers_are.within n k in
       let b : length l.graph ≡ length l.keys = nodes.step_count in omega arith) e,
 )
 
@@ -127,33 +127,35 @@ are_marks deck l r ends known nodes explored n k = (
 module _ (event : Event) (fault : Option NameFault) (reached : List Key) (Asked : Key → Type 0) (deck : Contents)
     (l : Listed) (r : ℕ) (ends : List DeadEnd)
     (query : List Step) (sound : IsSound deck l r) (is : IsQueryOf event (table deck) fault reached)
-    (by_name : option_map (named (table deck) (key_at l.keys) (fault_at ends)) (walk.fault l.graph [] query) ≡ fault)
+    (by_name : option_map (fault_by_name (table deck) (key_at l.keys) (fault_at ends))
+    (walk.steps_fault l.graph [] query) ≡ fault)
     (same : fault ≡ None → (n : Key) → Contains reached n ↔ Asked n)
     (new : fault ≡ None → (order : List ℕ) → AreNewlyClosed l.graph l.settled query order
-    → AreNewKeys (is_kept (shown deck l r).kept) Asked (map (key_at l.keys) order)) where
+    → AreNewKeys (is_kept (shown_table deck l r).kept) Asked (map (key_at l.keys) order)) where
   abbrev start : Shown
-  start = shown deck l r
+  start = shown_table deck l r
 
-  no_fault : walk.fault l.graph [] query ≡ None → fault ≡ None
-  no_fault e = sym by_name ∙ ap (option_map (named (table deck) (key_at l.keys) (fault_at ends))) e
+  no_fault : walk.steps_fault l.graph [] query ≡ None → fault ≡ None
+  no_fault e = sym by_name ∙ ap (option_map (fault_by_name (table deck) (key_at l.keys) (fault_at ends))) e
 
-  new_names : (old : ℕ) (order : List ℕ) → IsClosing l query order → AreNew (state start old) reached
+  new_names : (old : ℕ) (order : List ℕ) → IsClosing l query order → AreNew (state_with_steps start old) reached
       (map (key_at l.keys) order)
   new_names old order c = are_new start old Asked reached (map (key_at l.keys) order) (same (no_fault c.none))
       (new (no_fault c.none) order c.closes)
 
   -- the same result with an additional part if there is no fault
   module _ {A : Type 0} (Given : A → Type 0) (now : Shown) (old then : ℕ) (right_now : IsRightTable now) where
-    pub asked_fault : (q : QueryFault) → IsAnswered (table deck) l ends query (Err q) start now old then
+    pub asked_fault : (q : QueryFault) → IsQueryAnswered (table deck) l ends query (Err q) start now old then
         → IsAsked event fault Given (Err q) start now old then
     asked_fault (Name f) (faulty, still) = (
       some,
-      subst (λ (p : Shown × ℕ). Follows (event ∷ []) start p.0 old p.1) (λ i. (sym still.shown i, sym still.steps i))
+      subst (λ (p : Shown × ℕ). IsAfterEvents (event ∷ []) start p.0 old p.1)
+          (λ i. (sym still.shown i, sym still.steps i))
           (fault_follows event fault reached start old sound.right is f some),
     )
       where
         some : fault ≡ Some f
-        some = sym by_name ∙ (ap (option_map (named (table deck) (key_at l.keys) (fault_at ends))) faulty.some
+        some = sym by_name ∙ (ap (option_map (fault_by_name (table deck) (key_at l.keys) (fault_at ends))) faulty.some
             ∙ ap Some (sym faulty.by_name))
     asked_fault (Value v) a = a
     asked_fault OutOfMemory (inl still) =
@@ -175,18 +177,18 @@ module _ (event : Event) (fault : Option NameFault) (reached : List Key) (Asked 
 
 -- the names that a query reaches are settled after it
 pub reached_settled : (deck : Contents) (l now : Listed) (r count old then : ℕ) (query : List Step) (order : List ℕ)
-    → IsSound deck l r → AreNodes (table deck) now
+    → IsSound deck l r → AreNumberedNames (table deck) now
     → now.keys ≡ l.keys → AreNewlyClosed l.graph l.settled query order
-    → AreAllSettled (map (key_at l.keys) order) (shown deck l r) (shown deck now count) old then
+    → AreAllSettled (map (key_at l.keys) order) (shown_table deck l r) (shown_table deck now count) old then
     → (n : ℕ) → n < length l.keys → IsReached l.graph query n → IsSettled now.settled n
 reached_settled deck l now r count old then query order sound nodes keys closing all n h reached =
     number_settled deck now count nodes n (let a : length now.keys ≡ length l.keys = ap length keys in
     omega arith) kept_now
   where
     place : Contains (map (key_at l.keys) order) (key_at l.keys n) ⊎
-        (map_of.get (shown deck l r).kept (key_at l.keys n) ≡ Some (outcome (table deck) (key_at l.keys n)))
+        (map_of.get (shown_table deck l r).kept (key_at l.keys n) ≡ Some (outcome (table deck) (key_at l.keys n)))
     place = elim (settled_law_holds.asked l.graph l.settled query order closing n reached) [
-      | inl e ↦ inr (some_of (map_of.get (shown deck l r).kept (key_at l.keys n))
+      | inl e ↦ inr (some_of (map_of.get (shown_table deck l r).kept (key_at l.keys n))
           (key_settled deck l r sound.numbers n e) (sound.right.right (key_at l.keys n)))
       | inr i ↦ inl (key_in (key_at l.keys) order n i)
     ]
@@ -197,7 +199,7 @@ reached_settled deck l now r count old then query order sound nodes keys closing
         some_of None e f = cc
         some_of (Some y) e f = ap Some (f y refl)
 
-    kept_now : is_some (map_of.get (shown deck now count).kept (key_at now.keys n)) ≡ true
+    kept_now : is_some (map_of.get (shown_table deck now count).kept (key_at now.keys n)) ≡ true
     kept_now =
         ap is_some ((λ i. map_of.get (all.shown i).kept (key_at (keys i) n))
-        ∙ outcomes.put_in (table deck) (map (key_at l.keys) order) (shown deck l r).kept (key_at l.keys n) place)
+        ∙ outcomes.put_in (table deck) (map (key_at l.keys) order) (shown_table deck l r).kept (key_at l.keys n) place)

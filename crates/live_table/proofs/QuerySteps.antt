@@ -10,17 +10,17 @@ use Rattle.name_walk.specs.declared.step.Step.{Step}
 use Rattle.name_walk.specs.Lists.{In}
 use Rattle.name_walk.proofs.Lists.{take_at}
 use Rattle.live_table.specs.declared.dead_end.DeadEnd.{DeadEnd}
-use Rattle.live_table.specs.declared.leading.Lead.{Lead}
-use Rattle.live_table.specs.declared.leading.Lead.TheVariants.{Refused, Nowhere, One, Two}
-use Rattle.live_table.specs.declared.stepping.WordSteps.{WordSteps}
-use Rattle.live_table.specs.Exploring.{AreAdded, AreListed, AreWritten, IsKnown}
-use Rattle.live_table.specs.Leading.{IsQueryLead, is_refused_lead, numbers, steps_to}
+use Rattle.live_table.specs.declared.word_targets.Lead.{Lead}
+use Rattle.live_table.specs.declared.word_targets.Lead.TheVariants.{Refused, Nowhere, One, Two}
+use Rattle.live_table.specs.declared.word_steps.WordSteps.{WordSteps}
+use Rattle.live_table.specs.Exploration.{AreAdded, AreListed, AreWritten, IsKnown}
+use Rattle.live_table.specs.WordTargets.{IsQueryLead, is_refused_lead, numbers, steps_to}
 use Rattle.live_table.specs.QueryWords.{AreCutAt, IsDeadEnd}
-use Rattle.live_table.specs.Sound.{AreNodes}
-use Rattle.live_table.specs.Stored.{Listed}
-use Rattle.live_table.proofs.Growing.{added_both, added_none, grown_none, written_more}
+use Rattle.live_table.specs.Sound.{AreNumberedNames}
+use Rattle.live_table.specs.TableContents.{Listed}
+use Rattle.live_table.proofs.AddedNames.{added_both, added_none, grown_none, written_more}
 use Rattle.live_table.proofs.LeadSteps.{steps_written}
-use Rattle.live_table.proofs.Written.{written_behind, written_none}
+use Rattle.live_table.proofs.WrittenSteps.{written_behind, written_none}
 
 -- ---- the state of the loop over words
 pub record IsStepping (t : Table) (old now : Listed) (before here list : List ℕ) (us : List WordUse) (xs : List Step)
@@ -29,7 +29,8 @@ pub record IsStepping (t : Table) (old now : Listed) (before here list : List �
   pub written : AreWritten t now before list [] (take i us) xs
 
 -- at the start there are no steps
-pub stepping_start : (t : Table) (l : Listed) (before list : List ℕ) (us : List WordUse) (xs : List Step) → AreNodes t l
+pub stepping_start : (t : Table) (l : Listed) (before list : List ℕ) (us : List WordUse) (xs : List Step)
+    → AreNumberedNames t l
     → AreListed t l before list → xs ≡ [] → IsStepping t l l before list list us xs 0
 stepping_start t l before list us xs nodes right e = record {
   added = λ ends. added_none t l before list ends ends nodes right (λ i x q. q);
@@ -109,7 +110,7 @@ module _ (t : Table) (old now m : Listed) (before here list there : List ℕ) (u
 -- ---- steps that all lead somewhere mean the same whatever the dead ends
 pub written_led : (t : Table) (l : Listed) (before list : List ℕ) (ends : List DeadEnd) (us : List WordUse)
     (xs : List Step)
-    → AreNodes t l → AreListed t l before list → AreWritten t l before list [] us xs
+    → AreNumberedNames t l → AreListed t l before list → AreWritten t l before list [] us xs
     → AreWritten t l before list ends us xs
 written_led t l before list ends us xs nodes right w =
     written_more t l l before list list [] ends nodes right

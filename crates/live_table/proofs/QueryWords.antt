@@ -7,16 +7,16 @@ use Rattle.expr_tree.specs.Names.{is_refused}
 use Rattle.def_entry.specs.declared.key.Key.{Key}
 use Rattle.def_entry.specs.Tables.{Table}
 use Rattle.name_walk.specs.declared.step.Step.{Step}
-use Rattle.name_numbers.specs.Numbered.{named}
+use Rattle.name_numbers.specs.NumberedNames.{fault_by_name}
 use Rattle.table_names.specs.declared.fault.NameFault.{NameFault}
 use Rattle.table_names.specs.declared.fault.NameFault.TheVariants.{Refused, Unknown}
-use Rattle.table_names.specs.Faults.{Deeper, fault_within, first, name_fault, targets_fault, word_fault}
+use Rattle.table_names.specs.Faults.{Deeper, first, key_fault_within, name_fault, targets_fault, word_fault}
 use Rattle.table_names.specs.Leads.{targets}
 use Rattle.live_table.specs.declared.dead_end.DeadEnd.{DeadEnd}
-use Rattle.live_table.specs.Asked.{IsClosing, IsFaulty, fault_in}
-use Rattle.live_table.specs.Explored.{fault_at, fault_of}
+use Rattle.live_table.specs.QueryEffects.{IsClosing, IsNamedFault, fault_in}
+use Rattle.live_table.specs.ExploredNames.{dead_end_fault, fault_at}
 use Rattle.live_table.specs.QueryWords.{IsDeadEnd, fault_before}
-use Rattle.live_table.specs.Stored.{Listed, key_at}
+use Rattle.live_table.specs.TableContents.{Listed, key_at}
 
 -- ---- the first of two lists
 or_assoc : {A : Type 0} (a b c : Option A) → option_or (option_or a b) c ≡ option_or a (option_or b c)
@@ -37,7 +37,7 @@ module _ (t : Table) (deeper : Deeper) (u : WordUse) where
   by_flag true ns h = refl
   by_flag false ns h = ap (targets_fault t deeper [] u) (h refl)
 
-  its_fault : (end : DeadEnd) → IsDeadEnd t u end → word_fault t deeper [] u ≡ Some (fault_of (Some end) None)
+  its_fault : (end : DeadEnd) → IsDeadEnd t u end → word_fault t deeper [] u ≡ Some (dead_end_fault (Some end) None)
   its_fault end d =
       by_flag (is_refused u.text) (targets t u) d.nowhere
       ∙ (λ i. Some (cond (sym d.refused i) (Refused (sym d.text i) None) (Unknown (sym d.text i) None)))
@@ -48,21 +48,22 @@ pub cut_words : (t : Table) (front rest : List WordUse) (u : WordUse) (end : Dea
 cut_words t front rest u end d = sym (first_of_both f front (u ∷ rest) ∙ ap (option_or (first f front)) own)
   where
     f : WordUse → Option NameFault
-    f = word_fault t (fault_within t (length t - 0)) []
+    f = word_fault t (key_fault_within t (length t - 0)) []
 
-    own : first f (u ∷ rest) ≡ Some (fault_of (Some end) None)
+    own : first f (u ∷ rest) ≡ Some (dead_end_fault (Some end) None)
     own = ap (λ (o : Option NameFault). option_or o (first f rest))
-        (its_fault t (fault_within t (length t - 0)) u end d)
+        (its_fault t (key_fault_within t (length t - 0)) u end d)
 
 -- ---- the result of a walk of the words before it
 module _ (t : Table) (l : Listed) (ends : List DeadEnd) (query : List Step) (end : DeadEnd) where
-  pub faulty_before : (f : NameFault) → IsFaulty t l ends query f → fault_before (fault_in t l ends query) end ≡ Some f
+  pub faulty_before : (f : NameFault) → IsNamedFault t l ends query f
+      → fault_before (fault_in t l ends query) end ≡ Some f
   faulty_before f w =
       ap (λ (o : Option NameFault). fault_before o end)
-      (ap (option_map (named t (key_at l.keys) (fault_at ends))) w.some ∙ ap Some (sym w.by_name))
+      (ap (option_map (fault_by_name t (key_at l.keys) (fault_at ends))) w.some ∙ ap Some (sym w.by_name))
 
-  pub closing_before : (f : NameFault) (order : List ℕ) → IsClosing l query order → f ≡ fault_of (Some end) None
+  pub closing_before : (f : NameFault) (order : List ℕ) → IsClosing l query order → f ≡ dead_end_fault (Some end) None
       → fault_before (fault_in t l ends query) end ≡ Some f
   closing_before f order w e =
       ap (λ (o : Option NameFault). fault_before o end)
-      (ap (option_map (named t (key_at l.keys) (fault_at ends))) w.none) ∙ ap Some (sym e)
+      (ap (option_map (fault_by_name t (key_at l.keys) (fault_at ends))) w.none) ∙ ap Some (sym e)

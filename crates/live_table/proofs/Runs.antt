@@ -6,16 +6,16 @@ use Rattle.std.proofs.lemmas.List.{append-nil}
 use Rattle.def_entry.specs.declared.key.Key.{Key}
 use Rattle.table_names.specs.Faults.{key_fault, name_fault}
 use Rattle.table_names.specs.Reach.{key_reach, reach}
-use Rattle.live_table.specs.Runs.{RunLaw, StepsLaw}
-use Rattle.live_table.specs.Shown.{Follows, IsCutOff, Shown, state}
-use Rattle.live_table.specs.States.{AsksKey, AsksWords, Becomes, Event, State, after, after_all, after_query}
+use Rattle.live_table.specs.Runs.{RunLaw, RunStepsLaw}
+use Rattle.live_table.specs.TableView.{IsAfterEvents, IsCutOff, Shown, state_with_steps}
+use Rattle.live_table.specs.States.{AsksKey, AsksWords, Becomes, Event, TableState, after, after_all, after_query}
 use Rattle.live_table.proofs.Events.{order_law}
-use Rattle.live_table.proofs.Following.{cut_both, follows_both, follows_none, steps_rise}
+use Rattle.live_table.proofs.QuerySequence.{cut_both, follows_both, follows_none, steps_rise}
 
 -- ---- events that are cut off among others
-steps_both : (es fs : List Event) (s : State)
+steps_both : (es fs : List Event) (s : TableState)
     → (after_all (es ++ fs) s).steps ≡ (after_all fs (after_all es s)).steps
-steps_both es fs s = ap (λ (s : State). s.steps) (order_law es fs s)
+steps_both es fs s = ap (λ (s : TableState). s.steps) (order_law es fs s)
 
 -- events that were cut off are a cut-off run with further events after them
 cut_before : (es fs : List Event) (a b : Shown) (n m : ℕ) → IsCutOff es a b n m → IsCutOff (es ++ fs) a b n m
@@ -24,30 +24,32 @@ cut_before es fs a b n m q = record {
   right = q.right;
   least = q.least;
   most =
-      let x : (after_all (es ++ fs) (state a n)).steps ≡ (after_all fs (after_all es (state a n))).steps =
-      steps_both es fs (state a n) in
-      let y : (after_all es (state a n)).steps ≤ (after_all fs (after_all es (state a n))).steps =
-      steps_rise fs (after_all es (state a n)) in
-      let z : m ≤ (after_all es (state a n)).steps = q.most in
+      let x : (after_all (es ++ fs) (state_with_steps a n)).steps
+      ≡ (after_all fs (after_all es (state_with_steps a n))).steps =
+      steps_both es fs (state_with_steps a n) in
+      let y : (after_all es (state_with_steps a n)).steps ≤ (after_all fs (after_all es (state_with_steps a n))).steps =
+      steps_rise fs (after_all es (state_with_steps a n)) in
+      let z : m ≤ (after_all es (state_with_steps a n)).steps = q.most in
       omega arith;
 }
 
 -- events that were cut off are a cut-off run with complete events before them
-cut_behind : (es fs : List Event) (a b c : Shown) (n m k : ℕ) → b.deck ≡ a.deck → Follows es a b n m
+cut_behind : (es fs : List Event) (a b c : Shown) (n m k : ℕ) → b.deck ≡ a.deck → IsAfterEvents es a b n m
     → IsCutOff fs b c m k → IsCutOff (es ++ fs) a c n k
 cut_behind es fs a b c n m k same p q =
     subst (λ (gs : List Event). IsCutOff (es ++ gs) a c n k) (append-nil fs) (cut_both es fs [] a b c n m k same p q)
 
 -- events that were made are a case of events that were cut off
-cut_after : (es : List Event) (a b : Shown) (n m : ℕ) → b.deck ≡ a.deck → Follows es a b n m → IsCutOff es a b n m
+cut_after : (es : List Event) (a b : Shown) (n m : ℕ) → b.deck ≡ a.deck → IsAfterEvents es a b n m → IsCutOff es a b n m
 cut_after es a b n m same p = record {
   deck = same;
   right = p.right;
   least =
-      let x : n ≤ (after_all es (state a n)).steps = steps_rise es (state a n) in
-      let y : m ≡ (after_all es (state a n)).steps = ap (λ (s : State). s.steps) p.stands in
+      let x : n ≤ (after_all es (state_with_steps a n)).steps = steps_rise es (state_with_steps a n) in
+      let y : m ≡ (after_all es (state_with_steps a n)).steps = ap (λ (s : TableState). s.steps) p.stands in
       omega arith;
-  most = let y : m ≡ (after_all es (state a n)).steps = ap (λ (s : State). s.steps) p.stands in omega arith;
+  most = let y : m ≡ (after_all es (state_with_steps a n)).steps = ap (λ (s : TableState). s.steps) p.stands in
+      omega arith;
 }
 
 -- the law of runs
@@ -62,11 +64,11 @@ run_law = record {
 
 -- ---- steps that were counted before
 -- a state with this number of additional steps
-abbrev later : ℕ → State → State
+abbrev later : ℕ → TableState → TableState
 later n s = record s { steps = n + s.steps }
 
 -- a query has the same effect at a later count
-query_later : (b : Bool) (keys : List Key) (n : ℕ) (s : State)
+query_later : (b : Bool) (keys : List Key) (n : ℕ) (s : TableState)
     → after_query b keys (later n s) ≡ later n (after_query b keys s)
 query_later true keys n s = ap (λ k. record (after_query true keys s) { steps = k }) (regroup n s.steps _)
   where
@@ -75,23 +77,23 @@ query_later true keys n s = ap (λ k. record (after_query true keys s) { steps =
 query_later false keys n s = refl
 
 -- an event has the same effect at a later count
-event_later : (e : Event) (n : ℕ) (s : State) → after e (later n s) ≡ later n (after e s)
+event_later : (e : Event) (n : ℕ) (s : TableState) → after e (later n s) ≡ later n (after e s)
 event_later (AsksWords words) n s = query_later (is_none (name_fault s.table words)) (reach s.table words) n s
 event_later (AsksKey k) n s = query_later (is_none (key_fault s.table k)) (k ∷ key_reach s.table k) n s
 event_later (Becomes t) n s = refl
 
 -- events have the same effect at a later count
-all_later : (es : List Event) (n : ℕ) (s : State) → after_all es (later n s) ≡ later n (after_all es s)
+all_later : (es : List Event) (n : ℕ) (s : TableState) → after_all es (later n s) ≡ later n (after_all es s)
 all_later [] n s = refl
 all_later (e ∷ es) n s = ap (after_all es) (event_later e n s) ∙ all_later es n (after e s)
 
 -- a state with previous steps is a state at a later count
-counted_before : (s : Shown) (n : ℕ) → state s n ≡ later n (state s 0)
-counted_before s n = ap (state s) (plain n)
+counted_before : (s : Shown) (n : ℕ) → state_with_steps s n ≡ later n (state_with_steps s 0)
+counted_before s n = ap (state_with_steps s) (plain n)
   where
     plain : (n : ℕ) → n ≡ n + 0
     plain n = omega arith
 
 -- the law of the count of steps
-pub steps_law : StepsLaw
-steps_law es s n = ap (after_all es) (counted_before s n) ∙ all_later es n (state s 0)
+pub steps_law : RunStepsLaw
+steps_law es s n = ap (after_all es) (counted_before s n) ∙ all_later es n (state_with_steps s 0)

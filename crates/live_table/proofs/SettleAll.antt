@@ -10,12 +10,12 @@ use Rattle.deck.specs.Tables.{table}
 use Rattle.tree_eval.specs.declared.outcome.Outcome.{Outcome}
 use Rattle.table_names.specs.Meanings.{outcome}
 use Rattle.live_table.specs.declared.callee.Callee.{Callee}
-use Rattle.live_table.specs.Asked.{put_in}
+use Rattle.live_table.specs.QueryEffects.{put_in}
 use Rattle.live_table.specs.Due.{AreDue, IsDue, with_outcome}
-use Rattle.live_table.specs.Shown.{Shown}
+use Rattle.live_table.specs.TableView.{Shown}
 use Rattle.live_table.specs.Sound.{IsSound}
 use Rattle.live_table.specs.States.{Kept, with_outcomes}
-use Rattle.live_table.specs.Stored.{Listed, key_at, shown}
+use Rattle.live_table.specs.TableContents.{Listed, key_at, shown_table}
 use Rattle.name_walk.proofs.Lists.{drop_at, take_at}
 
 -- ---- outcomes inserted in turn
@@ -55,7 +55,7 @@ pub record IsStanding (deck : Contents) (old now : Listed) (r count : ℕ) (orde
   pub sound : IsSound deck now count
   pub keys : now.keys ≡ old.keys
   pub due : AreDue (table deck) now (drop i order)
-  pub put : shown deck now count ≡ put_in (shown deck old r) (take i (map (key_at old.keys) order))
+  pub put : shown_table deck now count ≡ put_in (shown_table deck old r) (take i (map (key_at old.keys) order))
   pub steps : after ≡ before + i
 
 -- at the start no name is settled
@@ -66,7 +66,7 @@ standing_start deck old r order before sound due = record {
   sound = sound;
   keys = refl;
   due = due;
-  put = sym (put_none (shown deck old r) sound.few);
+  put = sym (put_none (shown_table deck old r) sound.few);
   steps = omega arith;
 }
 
@@ -82,7 +82,7 @@ module _ (deck : Contents) (old now : Listed) (r count : ℕ) (order : List ℕ)
   -- one more name is settled
   pub standing_next : (later : Listed) (counted then : ℕ) (o : Outcome) (c : Callee) → IsSound deck later counted
       → later ≡ with_outcome n o c now
-      → shown deck later counted ≡ put_in (shown deck now count) (key_at now.keys n ∷ []) → then ≡ after + 1
+      → shown_table deck later counted ≡ put_in (shown_table deck now count) (key_at now.keys n ∷ []) → then ≡ after + 1
       → IsStanding deck old later r counted order (i + 1) before then
   standing_next later counted then o c sound is put step = record {
     sound = sound;
@@ -90,8 +90,8 @@ module _ (deck : Contents) (old now : Listed) (r count : ℕ) (order : List ℕ)
     due = subst (λ (l : Listed). AreDue (table deck) l (drop (i + 1) order)) (sym is) (due_now.1 o c);
     put =
         put ∙ (ap (λ (x : Shown). put_in x (key_at now.keys n ∷ [])) s.put
-        ∙ (put_more (shown deck old r) (take i (map (key_at old.keys) order)) (key_at now.keys n)
-        ∙ ap (put_in (shown deck old r)) (sym all_more)));
+        ∙ (put_more (shown_table deck old r) (take i (map (key_at old.keys) order)) (key_at now.keys n)
+        ∙ ap (put_in (shown_table deck old r)) (sym all_more)));
     steps = let a : after ≡ before + i = s.steps in omega (arith, step, a);
   }
     where

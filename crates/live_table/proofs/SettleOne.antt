@@ -14,48 +14,48 @@ use Rattle.def_entry.specs.Entries.{Entry}
 use Rattle.def_entry.specs.Tables.{entry_at, is_present}
 use Rattle.deck.specs.Decks.{Contents}
 use Rattle.deck.specs.Tables.{table}
-use Rattle.name_walk.specs.Closed.{IsSettled}
-use Rattle.name_walk.specs.Closed as walk
+use Rattle.name_walk.specs.ClosedNames.{IsSettled}
+use Rattle.name_walk.specs.ClosedNames as walk
 use Rattle.name_walk.specs.Steps.{LeadsTo, steps}
 use Rattle.tree_eval.specs.declared.outcome.Outcome.{Outcome}
 use Rattle.tree_eval.specs.Entries.{rank_of_meaning}
-use Rattle.table_names.specs.Closed.{IsClosed}
+use Rattle.table_names.specs.ClosedKeys.{IsClosed}
 use Rattle.table_names.specs.Faults.{key_fault}
 use Rattle.table_names.specs.Leads.{WordsLeadTo, WordsReach, targets}
 use Rattle.table_names.specs.Leads as leads
 use Rattle.table_names.specs.Meanings.{key_meaning, outcome}
 use Rattle.table_names.specs.Reach.{key_reach}
 use Rattle.table_names.specs.Words.{key_words}
-use Rattle.table_names.proofs.Closing.{closed_law}
+use Rattle.table_names.proofs.ClosedLaws.{closed_law}
 use Rattle.table_names.proofs.Members.{member_cases, member_first, no_member}
-use Rattle.table_names.proofs.Reaching.{reach_law}
+use Rattle.table_names.proofs.ReachedKeys.{reach_law}
 use Rattle.live_table.specs.declared.callee.Callee.{Callee}
 use Rattle.live_table.specs.declared.surroundings.Asked.TheVariants.{Name}
-use Rattle.live_table.specs.Asked.{put_in}
+use Rattle.live_table.specs.QueryEffects.{put_in}
 use Rattle.live_table.specs.Callees.{HasRank, HasStarts}
 use Rattle.live_table.specs.Due.{IsDue, with_outcome}
 use Rattle.live_table.specs.New.{AreNew}
-use Rattle.live_table.specs.Ranks.{ranked}
+use Rattle.live_table.specs.Ranks.{with_rank}
 use Rattle.live_table.specs.Right.{IsRight}
 use Rattle.live_table.specs.Right as right_of
 use Rattle.live_table.specs.Scenes.{IsLed}
-use Rattle.live_table.specs.Shown.{IsRightTable, Shown, state}
-use Rattle.live_table.specs.Sound.{AreNodes, HasLooksOf, HasRankOf, HasStartsOf, IsFaithful, IsSound}
-use Rattle.live_table.specs.States.{AsksKey, State, after_query, with_settled}
-use Rattle.live_table.specs.Stored.{Listed, kept_of, key_at, shown}
-use Rattle.live_table.specs.Surrounded.{IsSurrounding, scene}
+use Rattle.live_table.specs.TableView.{IsRightTable, Shown, state_with_steps}
+use Rattle.live_table.specs.Sound.{AreNumberedNames, HasLooksOf, HasRankOf, HasStartsOf, IsFaithful, IsSound}
+use Rattle.live_table.specs.States.{AsksKey, TableState, after_query, with_settled}
+use Rattle.live_table.specs.TableContents.{Listed, kept_of, key_at, shown_table}
+use Rattle.live_table.specs.EvalInvariants.{IsSurrounding, scene}
 use Rattle.live_table.proofs.Flags.{count_set}
-use Rattle.live_table.proofs.Kept.{key_settled, no_outcome, number_settled, put_at}
+use Rattle.live_table.proofs.OutcomesByKey.{key_settled, no_outcome, number_settled, put_at}
 use Rattle.live_table.proofs.New.{new_law}
 use Rattle.live_table.proofs.Events.{one_step}
 use Rattle.name_walk.proofs.Marks.{get_set_other, get_set_same}
 use Rattle.live_table.proofs.Places.{element, get_lt, some_same}
-use Rattle.live_table.proofs.Telling.{at_hand_settled, key_settled_words, led_by}
+use Rattle.live_table.proofs.NodeReports.{at_hand_settled, key_settled_words, led_by}
 use Rattle.live_table.proofs.ToldWords.{IsLedBy}
 
 -- outcomes that are right do not depend on the counts
-pub right_anyhow : (deck : Contents) (l : Listed) (r q : ℕ) → IsRightTable (shown deck l r)
-    → IsRightTable (shown deck l q)
+pub right_anyhow : (deck : Contents) (l : Listed) (r q : ℕ) → IsRightTable (shown_table deck l r)
+    → IsRightTable (shown_table deck l q)
 right_anyhow deck l r q h = record { present = h.present; closed = h.closed; below = h.below; right = h.right }
 
 -- a settled number that is queried
@@ -70,24 +70,25 @@ function_surrounded deck l r sound n e = record {
 -- the data of a function do not change except for its rank
 pub put_is : (l : Listed) (n : ℕ) (o : Outcome) (rank : ℕ) (found : Callee) → found ≡ get_or l.callees n found
     → (c : Callee) → slice_get l.callees n ≡ Some c
-    → with_outcome n o (ranked rank found) l ≡ with_outcome n o (ranked rank c) l
+    → with_outcome n o (with_rank rank found) l ≡ with_outcome n o (with_rank rank c) l
 put_is l n o rank found at c e =
-    ap (λ (x : Callee). with_outcome n o (ranked rank x) l) (at ∙ get_or_from_slice_get l.callees n c found e)
+    ap (λ (x : Callee). with_outcome n o (with_rank rank x) l) (at ∙ get_or_from_slice_get l.callees n c found e)
 
 -- ---- by name: a closed key that leads only to settled names
 module _ (s : Shown) (k : Key) (right : IsRightTable s) (there : is_present (table s.deck) k ≡ true)
     (closed : IsClosed (table s.deck) k)
-    (below : (m : Key) → WordsLeadTo (table s.deck) (key_words (table s.deck) k) m → right_of.IsSettled (state s 0) m)
-    (fresh : right_of.IsSettled (state s 0) k → ⊥) where
-  abbrev before : State
-  before = state s 0
+    (below : (m : Key) → WordsLeadTo (table s.deck) (key_words (table s.deck) k) m
+    → right_of.IsKeySettled (state_with_steps s 0) m)
+    (fresh : right_of.IsKeySettled (state_with_steps s 0) k → ⊥) where
+  abbrev before : TableState
+  before = state_with_steps s 0
 
   abbrev reached : List Key
   reached = k ∷ key_reach (table s.deck) k
 
   all_reached : {words : List WordUse} {m : Key} → WordsReach (table s.deck) words m
-      → ((x : Key) → WordsLeadTo (table s.deck) words x → right_of.IsSettled before x)
-      → right_of.IsSettled before m
+      → ((x : Key) → WordsLeadTo (table s.deck) words x → right_of.IsKeySettled before x)
+      → right_of.IsKeySettled before m
   all_reached {m = m} (leads.at_once h) f = f m h
   all_reached {m = m} (leads.further {n = n} h r) f = right.below n m (f n h) r
 
@@ -95,17 +96,17 @@ module _ (s : Shown) (k : Key) (right : IsRightTable s) (there : is_present (tab
   unfolding IsDistinct
   is_new = record { exactly = λ m. (to m, from m); once = (tt, tt) }
     where
-      to : (m : Key) → Contains (k ∷ []) m → Contains reached m × (right_of.IsSettled before m → ⊥)
+      to : (m : Key) → Contains (k ∷ []) m → Contains reached m × (right_of.IsKeySettled before m → ⊥)
       to m i = elim (member_cases m k [] i) [
         | inl e ↦ (
           member_first m k (key_reach (table s.deck) k) e,
           λ h. fresh
-              (subst (λ (x : Key). right_of.IsSettled before x) e h),
+              (subst (λ (x : Key). right_of.IsKeySettled before x) e h),
         )
         | inr j ↦ absurd (no_member m j)
       ]
 
-      from : (m : Key) → Contains reached m × (right_of.IsSettled before m → ⊥) → Contains (k ∷ []) m
+      from : (m : Key) → Contains reached m × (right_of.IsKeySettled before m → ⊥) → Contains (k ∷ []) m
       from m h = elim (member_cases m k (key_reach (table s.deck) k) h.0) [
         | inl e ↦ member_first m k [] e
         | inr j ↦ absurd (h.1 (all_reached
@@ -127,7 +128,7 @@ pub record IsPut (deck : Contents) (l : Listed) (r n : ℕ) (o : Outcome) (rank 
   pub outcome_is : o ≡ outcome (table deck) (key_at l.keys n)
   pub rank_is : rank ≡ rank_of_meaning (key_meaning (table deck) (key_at l.keys n))
   pub counted : now ≡ min (2 ^ 64 - 1) (r + 1)
-  pub put : (c : Callee) → slice_get l.callees n ≡ Some c → later ≡ with_outcome n o (ranked rank c) l
+  pub put : (c : Callee) → slice_get l.callees n ≡ Some c → later ≡ with_outcome n o (with_rank rank c) l
 
 -- ---- a name that is due, by number
 module _ (deck : Contents) (l : Listed) (r n : ℕ) (sound : IsSound deck l r) (due : IsDue (table deck) l n) where
@@ -149,10 +150,10 @@ module _ (deck : Contents) (l : Listed) (r n : ℕ) (sound : IsSound deck l r) (
   }
 
   abbrev Settled : Key → Type 0
-  Settled k = right_of.IsSettled (state (shown deck l r) 0) k
+  Settled k = right_of.IsKeySettled (state_with_steps (shown_table deck l r) 0) k
 
   below_by_name : (m : Key) → WordsLeadTo (table deck) (key_words (table deck) the_key) m
-      → right_of.IsSettled (state (shown deck l r) 0) m
+      → right_of.IsKeySettled (state_with_steps (shown_table deck l r) 0) m
   below_by_name m (u, i, t) =
       let at : slice_get (key_words (table deck) the_key) i.0 ≡ Some u =
       slice_get-get_or (key_words (table deck) the_key) i.0 u i.1 ∙ ap Some i.2 in
@@ -176,7 +177,7 @@ module _ (deck : Contents) (l : Listed) (r n : ℕ) (sound : IsSound deck l r) (
             ]
           ]
 
-  not_settled : right_of.IsSettled (state (shown deck l r) 0) the_key → ⊥
+  not_settled : right_of.IsKeySettled (state_with_steps (shown_table deck l r) 0) the_key → ⊥
   not_settled e = let z : Some false ≡ Some true =
       sym due.fresh ∙ number_settled deck l r sound.numbers n due.within e in cc
 
@@ -190,7 +191,7 @@ module _ (deck : Contents) (l : Listed) (r n : ℕ) (sound : IsSound deck l r) (
     abbrev Known : ℕ → Type 0
     Known m = (m ≡ n) ⊎ ((m ≡ n → ⊥) × IsSettled l.settled m)
 
-    pub shown_after : shown deck (with_outcome n o c l) now ≡ put_in (shown deck l r) (the_key ∷ [])
+    pub shown_after : shown_table deck (with_outcome n o c l) now ≡ put_in (shown_table deck l r) (the_key ∷ [])
     shown_after = λ i. record {
       deck = deck;
       kept = (put_at l.keys l.outcomes n o sound.numbers.apart due.within
@@ -210,10 +211,11 @@ module _ (deck : Contents) (l : Listed) (r n : ℕ) (sound : IsSound deck l r) (
     set_from m e =
         elim (cases_eq m n) [ inl q ↦ inl q | inr ne ↦ inr (ne, sym (get_set_other l.settled n m true ne) ∙ e) ]
 
-    ends_of : (m : ℕ) → Known m → walk.IsClosed l.graph m × ((q : ℕ) → LeadsTo l.graph m q → IsSettled
+    ends_of : (m : ℕ) → Known m → walk.IsClosedName l.graph m × ((q : ℕ) → LeadsTo l.graph m q → IsSettled
         (set l.settled n true) q)
     ends_of m (inl e) =
-        subst (λ (x : ℕ). walk.IsClosed l.graph x × ((q : ℕ) → LeadsTo l.graph x q → IsSettled (set l.settled n true)
+        subst (λ (x : ℕ). walk.IsClosedName l.graph x
+        × ((q : ℕ) → LeadsTo l.graph x q → IsSettled (set l.settled n true)
         q)) (sym e)
         (due.ends, λ q h. set_there q (due.below q h))
     ends_of m (inr e) =
@@ -246,7 +248,7 @@ module _ (deck : Contents) (l : Listed) (r n : ℕ) (sound : IsSound deck l r) (
     looked_of m (inl e) = subst (HasLooksOf (table deck) l) (sym e) due.looks
     looked_of m (inr e) = sound.numbers.looked m e.1
 
-    nodes_after : AreNodes (table deck) (with_outcome n o c l)
+    nodes_after : AreNumberedNames (table deck) (with_outcome n o c l)
     nodes_after = record {
       step_count = sound.numbers.step_count;
       outcome_count = length-set l.outcomes n (Some o) ∙ sound.numbers.outcome_count;
@@ -274,7 +276,7 @@ module _ (deck : Contents) (l : Listed) (r n : ℕ) (sound : IsSound deck l r) (
     pub sound_after : IsSound deck (with_outcome n o c l) now
     sound_after = record {
       numbers = nodes_after;
-      right = subst IsRightTable (sym shown_after) (put_right (shown deck l r) the_key sound.right due.present
+      right = subst IsRightTable (sym shown_after) (put_right (shown_table deck l r) the_key sound.right due.present
           due.closed below_by_name not_settled);
       few = omega (arith, count);
     }
@@ -285,19 +287,19 @@ module _ (deck : Contents) (l : Listed) (r n : ℕ) (sound : IsSound deck l r) (
     old_callee = element l.callees n (let a : n < length l.keys = due.within in let b : length l.callees ≡ length
         l.keys = sound.numbers.callee_count in omega arith)
 
-    later_is : later ≡ with_outcome n o (ranked rank old_callee.0) l
+    later_is : later ≡ with_outcome n o (with_rank rank old_callee.0) l
     later_is = is.put old_callee.0 old_callee.1
 
-    starts_are : (e : Entry) → entry_at (table deck) the_key ≡ Some e → HasStarts e.what (ranked rank old_callee.0)
+    starts_are : (e : Entry) → entry_at (table deck) the_key ≡ Some e → HasStarts e.what (with_rank rank old_callee.0)
     starts_are e entry = due.starts e old_callee.0 entry old_callee.1
 
     pub settled_sound : IsSound deck later now
     settled_sound = subst (λ (x : Listed). IsSound deck x now) (sym later_is)
-        (sound_after o (ranked rank old_callee.0) now is.outcome_is starts_are is.rank_is is.counted)
+        (sound_after o (with_rank rank old_callee.0) now is.outcome_is starts_are is.rank_is is.counted)
 
     pub settled_nodes : (p : Outcome) × (c : Callee) × (later ≡ with_outcome n p c l)
-    settled_nodes = (o, ranked rank old_callee.0, later_is)
+    settled_nodes = (o, with_rank rank old_callee.0, later_is)
 
-    pub settled_shown : shown deck later now ≡ put_in (shown deck l r) (the_key ∷ [])
-    settled_shown = ap (λ (x : Listed). shown deck x now) later_is
-        ∙ shown_after o (ranked rank old_callee.0) now is.outcome_is starts_are is.rank_is is.counted
+    pub settled_shown : shown_table deck later now ≡ put_in (shown_table deck l r) (the_key ∷ [])
+    settled_shown = ap (λ (x : Listed). shown_table deck x now) later_is
+        ∙ shown_after o (with_rank rank old_callee.0) now is.outcome_is starts_are is.rank_is is.counted

@@ -9,20 +9,20 @@ use Rattle.deck.specs.Tables.{table}
 use Rattle.name_numbers.specs.FaultLaws.{NumberedFaultLaw}
 use Rattle.name_numbers.specs.SettlingLaws.{SettlingLaw}
 use Rattle.live_table.specs.declared.dead_end.DeadEnd.{DeadEnd}
-use Rattle.live_table.specs.declared.explored.Explored.{Explored}
+use Rattle.live_table.specs.declared.explored_names.Explored.{Explored}
 use Rattle.live_table.specs.declared.fault.QueryFault.{QueryFault}
 use Rattle.live_table.specs.declared.fault.QueryFault.TheVariants.{OutOfMemory}
 use Rattle.live_table.specs.declared.late_edges.LateEdges.{LateEdges}
 use Rattle.live_table.specs.declared.nodes.Nodes.{Nodes}
-use Rattle.live_table.specs.Asked.{AreAllSettled, IsAsked, IsClosing}
-use Rattle.live_table.specs.Edged.{IsLive}
-use Rattle.live_table.specs.Explored.{AreExplored}
-use Rattle.live_table.specs.Exploring.{AreAllExplored, AreGrown, is_known}
+use Rattle.live_table.specs.QueryEffects.{AreAllSettled, IsAsked, IsClosing}
+use Rattle.live_table.specs.TableEdges.{IsLive}
+use Rattle.live_table.specs.ExploredNames.{AreExplored}
+use Rattle.live_table.specs.Exploration.{AreAllExplored, AreGrown, is_known}
 use Rattle.live_table.specs.Sound.{IsSound}
 use Rattle.live_table.specs.States.{Event}
-use Rattle.live_table.specs.Stored.{Listed, key_at, listed, shown}
+use Rattle.live_table.specs.TableContents.{Listed, key_at, node_lists, shown_table}
 use Rattle.live_table.proofs.AllExplored.{explored_all}
-use Rattle.live_table.proofs.Growing.{grown_both}
+use Rattle.live_table.proofs.AddedNames.{grown_both}
 use Rattle.live_table.proofs.GrownLive.{cut_short, grown_live, grown_sound, same_shown}
 use Rattle.live_table.proofs.Queries.{IsQueryOf}
 
@@ -47,12 +47,12 @@ stages_of deck reductions before start led explored here list there more = recor
   deck = deck;
   reductions = reductions;
   before = before.names;
-  start = listed start;
+  start = node_lists start;
   here = here;
-  led = listed led;
+  led = node_lists led;
   list = list;
   ends = before.dead_ends.items;
-  explored = listed explored;
+  explored = node_lists explored;
   there = there;
   more = more;
 }
@@ -77,7 +77,8 @@ pub record IsSettledAfter (s : Stages) (query : List Step) (now : Listed) (count
   pub order : List ℕ
   pub closing : IsClosing s.explored query order
   pub all :
-      AreAllSettled (map (key_at s.explored.keys) order) (shown s.deck s.explored s.reductions) (shown s.deck now count)
+      AreAllSettled (map (key_at s.explored.keys) order) (shown_table s.deck s.explored s.reductions)
+      (shown_table s.deck now count)
       old later
 
 -- the names that are known in the last stage
@@ -92,7 +93,7 @@ module _ (s : Stages) (are : AreStages s) where
       are.second
 
   -- the visible state of the last stage is that of the first
-  pub same_start : shown s.deck s.explored s.reductions ≡ shown s.deck s.start s.reductions
+  pub same_start : shown_table s.deck s.explored s.reductions ≡ shown_table s.deck s.start s.reductions
   same_start = same_shown s.deck s.start s.explored s.before s.here s.there s.ends s.more s.reductions added
 
   -- the last stage is sound
@@ -109,7 +110,8 @@ module _ (s : Stages) (are : AreStages s) where
   pub cut_there : {A : Type 0} (Given : A → Type 0) (event : Event) (fault : Option NameFault) (reached : List Key)
       (old : ℕ) → IsQueryOf event (table s.deck) fault reached
       → (result : Result A QueryFault) → result ≡ Err OutOfMemory
-      → IsAsked event fault Given result (shown s.deck s.start s.reductions) (shown s.deck s.explored s.reductions) old
+      → IsAsked event fault Given result (shown_table s.deck s.start s.reductions)
+      (shown_table s.deck s.explored s.reductions) old
       old
   cut_there Given event fault reached old is result e =
       cut_short Given event fault reached s.deck s.start s.explored s.before s.here s.there s.ends s.more s.reductions

@@ -5,7 +5,7 @@ use Rattle.std.specs.List.{slice_get}
 use Rattle.std.proofs.lemmas.Bool.{cases_eq}
 use Rattle.def_entry.specs.declared.key.Key.{Key}
 use Rattle.def_entry.specs.Tables.{Table, is_present}
-use Rattle.name_walk.specs.Closed.{IsSettled}
+use Rattle.name_walk.specs.ClosedNames.{IsSettled}
 use Rattle.name_walk.specs.Lists.{In}
 use Rattle.name_walk.proofs.Marks.{get_set_other, get_set_same}
 use Rattle.tree_eval.specs.declared.outcome.Outcome.{Outcome}
@@ -13,13 +13,13 @@ use Rattle.live_table.specs.declared.callee.Callee.{Callee}
 use Rattle.live_table.specs.declared.dead_end.DeadEnd.{DeadEnd}
 use Rattle.live_table.specs.Callees.{HasStarts}
 use Rattle.live_table.specs.Due.{with_outcome}
-use Rattle.live_table.specs.Exploring.{AreAdded, AreAllExplored, IsKnown, IsWritten, WereExplored}
-use Rattle.live_table.specs.Ranks.{ranked}
-use Rattle.live_table.specs.Sound.{AreNodes, HasStartsOf}
-use Rattle.live_table.specs.Stored.{Listed}
-use Rattle.live_table.proofs.Growing.{grown_alone, key_same, none_listed}
+use Rattle.live_table.specs.Exploration.{AreAdded, AreAllExplored, HasOwnSteps, IsKnown, WereExplored}
+use Rattle.live_table.specs.Ranks.{with_rank}
+use Rattle.live_table.specs.Sound.{AreNumberedNames, HasStartsOf}
+use Rattle.live_table.specs.TableContents.{Listed}
+use Rattle.live_table.proofs.AddedNames.{grown_alone, key_same, none_listed}
 use Rattle.live_table.proofs.Places.{element, get_lt, some_same}
-use Rattle.live_table.proofs.Reached.{still_written}
+use Rattle.live_table.proofs.ReachedNames.{still_written}
 
 -- about no names nothing is claimed
 pub none_explored : (t : Table) (l : Listed) (names : List ℕ) (ends : List DeadEnd) → names ≡ []
@@ -30,8 +30,8 @@ none_explored t l names ends e =
 
 -- written steps stay written when more names are known
 pub written_wider : (t : Table) (l : Listed) (before list names more : List ℕ) (ends : List DeadEnd) (n : ℕ)
-    → ((m : ℕ) → IsKnown l before list m → IsKnown l names more m) → IsWritten t l before list ends n
-    → IsWritten t l names more ends n
+    → ((m : ℕ) → IsKnown l before list m → IsKnown l names more m) → HasOwnSteps t l before list ends n
+    → HasOwnSteps t l names more ends n
 written_wider t l before list names more ends n wider w = record {
   steps = record {
     words = w.steps.words;
@@ -43,7 +43,8 @@ written_wider t l before list names more ends n wider w = record {
 }
 
 -- explored names stay explored when names are added
-pub added_explored : (t : Table) (l m : Listed) (before here there : List ℕ) (ends more : List DeadEnd) → AreNodes t l
+pub added_explored : (t : Table) (l m : Listed) (before here there : List ℕ) (ends more : List DeadEnd)
+    → AreNumberedNames t l
     → AreAdded t l m before here there ends more → WereExplored t l before ends → WereExplored t m before more
 added_explored t l m before here there ends more nodes added were = record {
   within = added.grown.listed.gone;
@@ -60,7 +61,7 @@ added_explored t l m before here there ends more nodes added were = record {
 module _ (t : Table) (l : Listed) (n : ℕ) (o : Outcome) (rank : ℕ) (c : Callee) (at : slice_get l.callees n ≡ Some c)
     (before : List ℕ) (ends : List DeadEnd) (were : WereExplored t l before ends) where
   abbrev after : Listed
-  after = with_outcome n o (ranked rank c) l
+  after = with_outcome n o (with_rank rank c) l
 
   settled_still : (m : ℕ) → IsSettled l.settled m → IsSettled (set l.settled n true) m
   settled_still m e = elim (cases_eq m n) [
@@ -78,14 +79,14 @@ module _ (t : Table) (l : Listed) (n : ℕ) (o : Outcome) (rank : ℕ) (c : Call
   starts_after m h e callee entry is = elim (cases_eq m n) [
     | inl q ↦
         subst (HasStarts e.what)
-        (some_same (ranked rank c) callee
-        (sym (ap (slice_get (set l.callees n (ranked rank c))) q
-        ∙ get_set_same l.callees n (ranked rank c) (get_lt l.callees n c at)) ∙ is))
+        (some_same (with_rank rank c) callee
+        (sym (ap (slice_get (set l.callees n (with_rank rank c))) q
+        ∙ get_set_same l.callees n (with_rank rank c) (get_lt l.callees n c at)) ∙ is))
         (h e c entry (ap (slice_get l.callees) q ∙ at))
-    | inr ne ↦ h e callee entry (sym (get_set_other l.callees n m (ranked rank c) ne) ∙ is)
+    | inr ne ↦ h e callee entry (sym (get_set_other l.callees n m (with_rank rank c) ne) ∙ is)
   ]
 
-  written_after : (m : ℕ) → IsWritten t l before [] ends m → IsWritten t after before [] ends m
+  written_after : (m : ℕ) → HasOwnSteps t l before [] ends m → HasOwnSteps t after before [] ends m
   written_after m w = record {
     steps = record {
       words = w.steps.words;
@@ -96,7 +97,7 @@ module _ (t : Table) (l : Listed) (n : ℕ) (o : Outcome) (rank : ℕ) (c : Call
     looks = λ all. let own = w.looks all in record { looks = own.looks; once = own.once };
   }
 
-  explored_after : WereExplored t (with_outcome n o (ranked rank c) l) before ends
+  explored_after : WereExplored t (with_outcome n o (with_rank rank c) l) before ends
   explored_after = record {
     within = were.within;
     present = were.present;
@@ -105,7 +106,7 @@ module _ (t : Table) (l : Listed) (n : ℕ) (o : Outcome) (rank : ℕ) (c : Call
 
 -- explored names stay explored when a name is settled, whatever the data of a function there
 pub settled_explored : (t : Table) (l later : Listed) (n : ℕ) (o : Outcome) (rank : ℕ) → n < length l.callees
-    → ((c : Callee) → slice_get l.callees n ≡ Some c → later ≡ with_outcome n o (ranked rank c) l)
+    → ((c : Callee) → slice_get l.callees n ≡ Some c → later ≡ with_outcome n o (with_rank rank c) l)
     → (before : List ℕ) (ends : List DeadEnd) → WereExplored t l before ends → WereExplored t later before ends
 settled_explored t l later n o rank h put before ends were =
     let found : (c : Callee) × (slice_get l.callees n ≡ Some c) = element l.callees n h in

@@ -5,10 +5,10 @@ use Rattle.std.specs.declared.alloc.AllocError.{AllocError}
 use Rattle.quantity.specs.Amount.{Amount}
 use Rattle.def_entry.specs.Tables.{Table}
 use Rattle.name_walk.specs.declared.step.Step.{Step}
-use Rattle.name_walk.specs.Findings.{IsFaultOf, IsFaultyStep}
+use Rattle.name_walk.specs.Findings.{IsFaultyStep, IsQueryFault}
 use Rattle.name_walk.specs.Faults as walk
 use Rattle.name_walk.specs.Trails.{Faults}
-use Rattle.name_numbers.specs.Numbered.{named}
+use Rattle.name_numbers.specs.NumberedNames.{fault_by_name}
 use Rattle.tree_eval.specs.Steps.{Worth}
 use Rattle.table_names.specs.declared.fault.NameFault.{NameFault}
 use Rattle.live_table.specs.declared.dead_end.DeadEnd.{DeadEnd}
@@ -18,17 +18,17 @@ use Rattle.live_table.specs.declared.stop.Stop.{Stop}
 use Rattle.live_table.specs.declared.stop.Stop.TheVariants.{At, Below, OutOfMemory}
 use Rattle.live_table.specs.Answers.{by_names, value_in}
 use Rattle.live_table.specs.Answers as spec
-use Rattle.live_table.specs.Asked.{IsAnswered, IsAsked, fault_in}
+use Rattle.live_table.specs.QueryEffects.{IsAsked, IsQueryAnswered, fault_in}
 use Rattle.live_table.specs.Calls.{AreQueries, IsQuery}
-use Rattle.live_table.specs.Explored.{fault_at, fault_of}
+use Rattle.live_table.specs.ExploredNames.{dead_end_fault, fault_at}
 use Rattle.live_table.specs.QueryWords.{fault_before}
-use Rattle.live_table.specs.Shown.{Follows, Shown}
+use Rattle.live_table.specs.TableView.{IsAfterEvents, Shown}
 use Rattle.live_table.specs.States.{Event}
-use Rattle.live_table.specs.Stops.{HoldsByName, IsCutStop, IsFaultBelow, IsNamed, IsNamedResult}
-use Rattle.live_table.specs.Stored.{Listed, key_at}
-use Rattle.live_table.proofs.Answering.{fault_answer, fault_query}
+use Rattle.live_table.specs.Stops.{HoldsByName, IsCutStop, IsFaultBelow, IsNamedResult, IsStopFault}
+use Rattle.live_table.specs.TableContents.{Listed, key_at}
+use Rattle.live_table.proofs.QueryAnswers.{fault_answer, fault_query}
 use Rattle.live_table.proofs.Places.{some_same}
-use Rattle.live_table.proofs.Following.{query_answer}
+use Rattle.live_table.proofs.QuerySequence.{query_answer}
 
 module _ {A : Type 0} (t : Table) (l : Listed) (ends : List DeadEnd) (fs : Faults)
     (Holds : Result A QueryFault → Type 0) where
@@ -49,11 +49,11 @@ module _ {A : Type 0} (t : Table) (l : Listed) (ends : List DeadEnd) (fs : Fault
 
   -- the result is a stop that was named
   pub answers_err : (stop : Stop) → HoldsByName t l ends fs (Err stop) Holds
-      → (q : QueryFault) × IsNamed t l ends fs stop q × Holds (Err q)
+      → (q : QueryFault) × IsStopFault t l ends fs stop q × Holds (Err q)
   answers_err stop a = (a.named.0, a.named.1, subst Holds a.named.2 a.holds)
 
   pub answered_err : (result : Result A Stop) (stop : Stop) → result ≡ Err stop
-      → HoldsByName t l ends fs result Holds → (q : QueryFault) × IsNamed t l ends fs stop q × Holds (Err q)
+      → HoldsByName t l ends fs result Holds → (q : QueryFault) × IsStopFault t l ends fs stop q × Holds (Err q)
   answered_err result stop e a =
       answers_err stop (subst (λ (r : Result A Stop). HoldsByName t l ends fs r Holds) e a)
 
@@ -70,25 +70,25 @@ module _ {A : Type 0} (t : Table) (l : Listed) (ends : List DeadEnd) (fs : Fault
 
 -- ---- the fault of a step
 module _ (t : Table) (l : Listed) (ends : List DeadEnd) (fs : Faults) (query : List Step) (x : Step)
-    (of : IsFaultOf l.graph query x) (known : IsFaultyStep fs x) where
+    (of : IsQueryFault l.graph query x) (known : IsFaultyStep fs x) where
   abbrev name_there : NameFault
-  name_there = named t (key_at l.keys) (fault_at ends) of.fault_there
+  name_there = fault_by_name t (key_at l.keys) (fault_at ends) of.fault_there
 
   pub fault_below : IsFaultBelow t l ends fs x (fault.Name name_there)
   fault_below = record {
     known = known;
     name = name_there;
-    some = ap (option_map (named t (key_at l.keys) (fault_at ends))) of.of_step;
+    some = ap (option_map (fault_by_name t (key_at l.keys) (fault_at ends))) of.of_step;
     is = refl;
   }
 
   pub first_below : fault_in t l ends query ≡ Some name_there
-  first_below = ap (option_map (named t (key_at l.keys) (fault_at ends))) of.of_query
+  first_below = ap (option_map (fault_by_name t (key_at l.keys) (fault_at ends))) of.of_query
 
   -- a query that stops at the step
   pub stopped_below : (now : Shown) (n : ℕ)
       → HoldsByName t l ends fs (Err (Below x))
-      (λ (answer : Result (Unit {0}) QueryFault). IsAnswered t l ends query answer now now n n)
+      (λ (answer : Result (Unit {0}) QueryFault). IsQueryAnswered t l ends query answer now now n n)
   stopped_below now n = record {
     answer = Err (fault.Name name_there);
     named = (fault.Name name_there, fault_below, refl);
@@ -100,49 +100,50 @@ module _ (t : Table) (l : Listed) (ends : List DeadEnd) (fs : Faults) (query : L
 
 -- a query that stops at the step, from its fault by number
 pub by_number : (t : Table) (l : Listed) (ends : List DeadEnd) (x : Step) (w : walk.NameFault)
-    → walk.fault l.graph [] (x ∷ []) ≡ Some w → (r : Result NameFault AllocError)
-    → IfOk r (λ f. (t : Table) → f ≡ named t (key_at l.keys) (fault_at ends) w)
+    → walk.steps_fault l.graph [] (x ∷ []) ≡ Some w → (r : Result NameFault AllocError)
+    → IfOk r (λ f. (t : Table) → f ≡ fault_by_name t (key_at l.keys) (fault_at ends) w)
     → IfOk r (λ f. fault_in t l ends (x ∷ []) ≡ Some f)
 by_number t l ends x w e (Ok f) h =
-    ap (option_map (named t (key_at l.keys) (fault_at ends))) e ∙ ap Some (sym (h t))
+    ap (option_map (fault_by_name t (key_at l.keys) (fault_at ends))) e ∙ ap Some (sym (h t))
 by_number t l ends x w e (Err z) h = h
 
 -- ---- stops by name
 module _ (t : Table) (l : Listed) (ends : List DeadEnd) (fs : Faults) where
   pub at_named : (end : DeadEnd) (stop : Stop) → stop ≡ At end → (r : Result NameFault AllocError)
-      → IfOk r (λ f. f ≡ fault_of (Some end) None)
-      → IfOk r (λ f. (q : QueryFault) → IsNamed t l ends fs stop q → q ≡ fault.Name f)
+      → IfOk r (λ f. f ≡ dead_end_fault (Some end) None)
+      → IfOk r (λ f. (q : QueryFault) → IsStopFault t l ends fs stop q → q ≡ fault.Name f)
   at_named end stop e (Ok f) h =
-      λ q is. subst (λ (s : Stop). IsNamed t l ends fs s q) e is ∙ ap fault.Name (sym h)
+      λ q is. subst (λ (s : Stop). IsStopFault t l ends fs s q) e is ∙ ap fault.Name (sym h)
   at_named end stop e (Err x) h = h
 
-  pub below_known : (x : Step) (stop : Stop) → stop ≡ Below x → (q : QueryFault) → IsNamed t l ends fs stop q
+  pub below_known : (x : Step) (stop : Stop) → stop ≡ Below x → (q : QueryFault) → IsStopFault t l ends fs stop q
       → IsFaultyStep fs x
-  below_known x stop e q is = (subst (λ (s : Stop). IsNamed t l ends fs s q) e is).known
+  below_known x stop e q is = (subst (λ (s : Stop). IsStopFault t l ends fs s q) e is).known
 
   pub below_named : (x : Step) (stop : Stop) → stop ≡ Below x → (r : Result NameFault AllocError)
       → IfOk r (λ f. fault_in t l ends (x ∷ []) ≡ Some f)
-      → IfOk r (λ f. (q : QueryFault) → IsNamed t l ends fs stop q → q ≡ fault.Name f)
+      → IfOk r (λ f. (q : QueryFault) → IsStopFault t l ends fs stop q → q ≡ fault.Name f)
   below_named x stop e (Ok f) h =
-      λ q is. let below = subst (λ (s : Stop). IsNamed t l ends fs s q) e is in
+      λ q is. let below = subst (λ (s : Stop). IsStopFault t l ends fs s q) e is in
       below.is ∙ ap fault.Name (some_same below.name f (sym below.some ∙ h))
   below_named x stop e (Err z) h = h
 
 -- ---- a query that is cut before a word that leads nowhere
 pub cut_below : (t : Table) (l : Listed) (ends : List DeadEnd) (fs : Faults) (query : List Step) (end : DeadEnd)
-    (x : Step) → IsFaultOf l.graph query x → IsFaultyStep fs x → IsCutStop t l ends fs query end (Below x)
+    (x : Step) → IsQueryFault l.graph query x → IsFaultyStep fs x → IsCutStop t l ends fs query end (Below x)
 cut_below t l ends fs query end x of known = record {
-  name = named t (key_at l.keys) (fault_at ends) of.fault_there;
+  name = fault_by_name t (key_at l.keys) (fault_at ends) of.fault_there;
   named = fault_below t l ends fs query x of known;
   first = ap (λ (o : Option NameFault). fault_before o end) (first_below t l ends fs query x of known);
 }
 
 pub cut_at : (t : Table) (l : Listed) (ends : List DeadEnd) (fs : Faults) (query : List Step) (end : DeadEnd)
-    → walk.fault l.graph [] query ≡ None → IsCutStop t l ends fs query end (At end)
+    → walk.steps_fault l.graph [] query ≡ None → IsCutStop t l ends fs query end (At end)
 cut_at t l ends fs query end none = record {
-  name = fault_of (Some end) None;
+  name = dead_end_fault (Some end) None;
   named = refl;
-  first = ap (λ (o : Option walk.NameFault). fault_before (option_map (named t (key_at l.keys) (fault_at ends)) o) end)
+  first = ap (λ (o : Option walk.NameFault).
+      fault_before (option_map (fault_by_name t (key_at l.keys) (fault_at ends)) o) end)
       none;
 }
 
@@ -151,10 +152,10 @@ module _ {A : Type 0} (event : Event) (name : Option NameFault) (Given : A → T
     (old new : ℕ) (q : QueryFault) (asked : IsAsked event name Given (Err q) before now old new) where
   -- the result is the fault, or lack of memory
   pub named_answer : (worth : Worth) (r : QueryFault) → (r ≡ fault.OutOfMemory) ⊎ (r ≡ q)
-      → spec.Answers (Err r) (by_names name worth)
+      → spec.IsQueryResult (Err r) (by_names name worth)
   named_answer worth r (inl e) = inl (ap Err e)
   named_answer worth r (inr e) =
-      subst (λ (x : QueryFault). spec.Answers (Err x) (by_names name worth)) (sym e)
+      subst (λ (x : QueryFault). spec.IsQueryResult (Err x) (by_names name worth)) (sym e)
       (fault_answer event name Given before now old new worth q asked)
 
   cut_query : now.deck ≡ before.deck → (p : QueryFault) → IsAsked event name Given (Err p) before now old new
@@ -173,13 +174,13 @@ module _ {A : Type 0} (event : Event) (name : Option NameFault) (Given : A → T
 
 -- ---- lack of memory is distinguished
 named_memory : (t : Table) (l : Listed) (ends : List DeadEnd) (fs : Faults) (stop : Stop) (q : QueryFault)
-    → IsNamed t l ends fs stop q → q ≡ fault.OutOfMemory → stop ≡ OutOfMemory
+    → IsStopFault t l ends fs stop q → q ≡ fault.OutOfMemory → stop ≡ OutOfMemory
 named_memory t l ends fs (At end) q is e = let x : fault.Name _ ≡ fault.OutOfMemory = sym is ∙ e in cc
 named_memory t l ends fs (Below x) q is e = let y : fault.Name is.name ≡ fault.OutOfMemory = sym is.is ∙ e in cc
 named_memory t l ends fs OutOfMemory q is e = refl
 
 pub memory_named : (t : Table) (l : Listed) (ends : List DeadEnd) (fs : Faults) (stop : Stop) (q : QueryFault)
-    → IsNamed t l ends fs stop q → stop ≡ OutOfMemory → q ≡ fault.OutOfMemory
+    → IsStopFault t l ends fs stop q → stop ≡ OutOfMemory → q ≡ fault.OutOfMemory
 memory_named t l ends fs (At end) q is e = cc
 memory_named t l ends fs (Below x) q is e = cc
 memory_named t l ends fs OutOfMemory q is e = is
@@ -213,7 +214,7 @@ module _ {A : Type 0} (t : Table) (l : Listed) (ends : List DeadEnd) (fs : Fault
 
 -- ---- a stop alone
 module _ {A : Type 0} (t : Table) (l : Listed) (ends : List DeadEnd) (fs : Faults) (stop : Stop)
-    (done : Result A AllocError) (q : QueryFault) (is : IsNamed t l ends fs stop q) where
+    (done : Result A AllocError) (q : QueryFault) (is : IsStopFault t l ends fs stop q) where
   pub some_named : OnOk done (stop ≡ OutOfMemory → ⊥) → OnOk done (q ≡ fault.OutOfMemory → ⊥)
   some_named = by done
     where
@@ -255,13 +256,13 @@ module _ {A : Type 0} (event : Event) (name : Option NameFault) (Given : A → T
       subst (λ (x : QueryFault). IsAsked event name Given (Err x) before now old new) err a
 
   -- otherwise the value is that of the evaluation
-  pub value_queries : (done : Result (Option Amount) AllocError) → Follows (event ∷ []) before now old new
+  pub value_queries : (done : Result (Option Amount) AllocError) → IsAfterEvents (event ∷ []) before now old new
       → AreQueries (event ∷ []) done before now old new
   value_queries (Ok x) follows = follows
   value_queries (Err e) follows = query_answer event (Err fault.OutOfMemory) before now old new same follows
 
 pub some_value_in : (done : Result (Option Amount) AllocError) (r answer : Result Amount QueryFault)
-    → IfOk done (λ x. x ≡ value_in r) → OnOk done (r ≡ Err fault.OutOfMemory → ⊥) → spec.Answers r answer
+    → IfOk done (λ x. x ≡ value_in r) → OnOk done (r ≡ Err fault.OutOfMemory → ⊥) → spec.IsQueryResult r answer
     → IfOk done (λ x. x ≡ value_in answer)
 some_value_in (Ok x) r answer is some (inl e) = absurd (some e)
 some_value_in (Ok x) r answer is some (inr e) = is ∙ ap value_in e

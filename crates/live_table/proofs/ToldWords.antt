@@ -13,15 +13,15 @@ use Rattle.def_entry.specs.Entries.{What}
 use Rattle.deck.specs.Tables.{table}
 use Rattle.name_walk.specs.declared.step.Step.{Step}
 use Rattle.name_walk.specs.declared.step.Step.TheVariants.{To}
-use Rattle.name_walk.specs.Closed.{IsSettled}
+use Rattle.name_walk.specs.ClosedNames.{IsSettled}
 use Rattle.tree_eval.specs.declared.meaning.Meaning.TheVariants as told
 use Rattle.tree_eval.specs.declared.outcome.Outcome.{Outcome}
 use Rattle.tree_eval.specs.declared.outcome.Outcome.TheVariants as outcomes
 use Rattle.tree_eval.specs.Entries.{alias, meaning_of}
-use Rattle.tree_eval.specs.Environment.{IsTold}
-use Rattle.tree_eval.specs.Expanded.{Callable, Callee, Meaning, One, Two, name_of}
+use Rattle.tree_eval.specs.Environment.{IsMeaningTold}
+use Rattle.tree_eval.specs.Expansions.{Callable, Callee, Meaning, One, Two, callable_name}
 use Rattle.tree_eval.specs.Expansion.{inverted_word}
-use Rattle.tree_eval.specs.Outcomes.{kept, outcome_of}
+use Rattle.tree_eval.specs.Outcomes.{outcome_of, stored_outcome}
 use Rattle.tree_eval.specs.Steps.{Worth}
 use Rattle.tree_eval.specs.Value.{value}
 use Rattle.table_names.specs.Kinds.{ForOne, ForTwo, StandsForTargets, may_mean}
@@ -32,7 +32,7 @@ use Rattle.table_names.proofs.MeaningKinds.{kind_law}
 use Rattle.table_names.proofs.Members.{member_first}
 use Rattle.live_table.specs.Scenes.{IsLed, Scene, callee_at, callee_in, has_callee}
 use Rattle.live_table.specs.Scenes.{is_callee, is_settled, number_means, word_means}
-use Rattle.live_table.specs.Stored.{key_at}
+use Rattle.live_table.specs.TableContents.{key_at}
 use Rattle.live_table.proofs.DeckTables.{fits_kinds}
 use Rattle.live_table.proofs.Places.{element}
 
@@ -50,7 +50,7 @@ settled_to settled n h = ap (λ o. unwrap_or o false) h
 
 -- ---- the meanings that a key may have
 -- an outcome of an expression is never that of a function
-pub not_callable : (w : Worth) → kept w ≡ outcomes.Callable → ⊥
+pub not_callable : (w : Worth) → stored_outcome w ≡ outcomes.Callable → ⊥
 not_callable (Ok q) e = cc
 not_callable (Err fault) e = cc
 
@@ -67,20 +67,20 @@ pub not_both : {A : Type 0} (x y z : A) → x ∷ [] ≡ y ∷ z ∷ [] → ⊥
 not_both {A} x y z e = let n : 1 ≡ 2 = ap (λ (ws : List A). length ws) e in omega (arith, n)
 
 -- the name and the rank of a function are those of its key
-alias_name : (name : List ℕ) (m : Meaning) (g : Callable) → alias name m ≡ Callee g → name_of g ≡ name
+alias_name : (name : List ℕ) (m : Meaning) (g : Callable) → alias name m ≡ Callee g → callable_name g ≡ name
 alias_name name (One x) g e = cc
 alias_name name (Two x y) g e = cc
-alias_name name (Callee f) g e = sym (ap (λ m. name_of (callee_in m)) e)
+alias_name name (Callee f) g e = sym (ap (λ m. callable_name (callee_in m)) e)
 
 -- the function of an entry has the name of its key
 pub callee_name : (means : WordUse → Meaning) (name : List ℕ) (w : What) (g : Callable)
-    → meaning_of means name w ≡ Callee g → name_of g ≡ name
+    → meaning_of means name w ≡ Callee g → callable_name g ≡ name
 callee_name means name what.Primitive g e = cc
 callee_name means name what.Dimensionless g e = cc
 callee_name means name (what.Body x) g e = cc
 callee_name means name (what.ListOf parts) g e = cc
-callee_name means name (what.Function d) g e = sym (ap (λ m. name_of (callee_in m)) e)
-callee_name means name (what.Table d) g e = sym (ap (λ m. name_of (callee_in m)) e)
+callee_name means name (what.Function d) g e = sym (ap (λ m. callable_name (callee_in m)) e)
+callee_name means name (what.Table d) g e = sym (ap (λ m. callable_name (callee_in m)) e)
 callee_name means name (what.Alias target) g e = alias_name name (means (inverted_word target)) g e
 
 -- a meaning that is a function is the function that it has
@@ -156,11 +156,11 @@ module _ (v : Scene) (u : WordUse) (n m : ℕ) (led : IsLed v u n m) where
 
   pub told_two : (n ≡ m → ⊥) → (a b : Bor Outcome) → a.now ≡ outcome (table v.deck) first_key
       → b.now ≡ outcome (table v.deck) second_key
-      → IsTold (has_callee v) (callee_at v) (word_means v u) (told.Two a b)
+      → IsMeaningTold (has_callee v) (callee_at v) (word_means v u) (told.Two a b)
   told_two apart a b e f = elim led.are [ inl h ↦ absurd (apart h.1) | inr t ↦ by t stands ]
     where
       by : targets (table v.deck) u ≡ first_key ∷ second_key ∷ [] → StandsForTargets (table v.deck) u
-          → IsTold (has_callee v) (callee_at v) (word_means v u) (told.Two a b)
+          → IsMeaningTold (has_callee v) (callee_at v) (word_means v u) (told.Two a b)
       by t (ForOne k q means) = absurd (not_both k first_key second_key (sym q ∙ t))
       by t (ForTwo k j x y q prefix unit kx jy means) = (
         x,
@@ -201,12 +201,12 @@ module _ (v : Scene) (u : WordUse) (n m : ℕ) (led : IsLed v u n m) where
       (led.word.into first_key first_in)
 
   module _ (same : n ≡ m) (a : Bor Outcome) (e : a.now ≡ outcome (table v.deck) first_key) where
-    pub told_function : a.now ≡ outcomes.Callable → IsTold (has_callee v) (callee_at v) (word_means v u)
+    pub told_function : a.now ≡ outcomes.Callable → IsMeaningTold (has_callee v) (callee_at v) (word_means v u)
         (told.Function n)
     told_function c = by (key_meaning (table v.deck) first_key) refl
       where
         by : (x : Meaning) → key_meaning (table v.deck) first_key ≡ x
-            → IsTold (has_callee v) (callee_at v) (word_means v u) (told.Function n)
+            → IsMeaningTold (has_callee v) (callee_at v) (word_means v u) (told.Function n)
         by (One x) q = absurd (not_callable (value x None) (sym (ap outcome_of q) ∙ (sym e ∙ c)))
         by (Two x y) q = let z : false ≡ true = sym (ap (may_mean first_key.kind) q) ∙ target_means in cc
         by (Callee f) q = (
@@ -215,11 +215,12 @@ module _ (v : Scene) (u : WordUse) (n m : ℕ) (led : IsLed v u n m) where
           word_is same ∙ is_its_callee (number_means v n) (ap is_callee q),
         )
 
-    pub told_one : (a.now ≡ outcomes.Callable → ⊥) → IsTold (has_callee v) (callee_at v) (word_means v u) (told.One a)
+    pub told_one : (a.now ≡ outcomes.Callable → ⊥) → IsMeaningTold (has_callee v) (callee_at v) (word_means v u)
+        (told.One a)
     told_one c = by (key_meaning (table v.deck) first_key) refl
       where
         by : (x : Meaning) → key_meaning (table v.deck) first_key ≡ x
-            → IsTold (has_callee v) (callee_at v) (word_means v u) (told.One a)
+            → IsMeaningTold (has_callee v) (callee_at v) (word_means v u) (told.One a)
         by (One x) q = (x, word_is same ∙ q, e ∙ ap outcome_of q)
         by (Two x y) q = let z : false ≡ true = sym (ap (may_mean first_key.kind) q) ∙ target_means in cc
         by (Callee f) q = absurd (c (e ∙ ap outcome_of q))

@@ -6,35 +6,35 @@ use Rattle.expr_tree.specs.declared.word_list.WordKind.{WordKind}
 use Rattle.expr_tree.specs.declared.word_list.WordUse.{WordUse}
 use Rattle.expr_tree.specs.Names.{is_refused}
 use Rattle.def_entry.specs.declared.key.Key.{Key}
-use Rattle.def_entry.specs.SameKeys.{is_among}
+use Rattle.def_entry.specs.SameKeys.{is_key_among}
 use Rattle.def_entry.specs.Tables.{Table, keys_of}
 use Rattle.name_lookup.specs.declared.targets.Targets.{Targets}
 use Rattle.name_lookup.specs.Order.{plan}
 use Rattle.name_lookup.specs.Plans.{Found, run}
 use Rattle.name_lookup.specs.Targets.{AreFound, count, last_keys}
-use Rattle.name_walk.specs.Faults.{on}
+use Rattle.name_walk.specs.Faults.{is_on_path}
 use Rattle.name_walk.specs.Lists.{In}
 use Rattle.name_walk.proofs.Lists.{In-left, In-right, take_at}
 use Rattle.table_names.specs.Leads.{LookupLaw, looked_keys, targets, word_lookup}
 use Rattle.name_numbers.proofs.NewKeys.{key_in, number_in}
-use Rattle.live_table.specs.declared.leading.Lead.{Lead}
-use Rattle.live_table.specs.declared.leading.Lead.TheVariants.{Refused, Nowhere, One, Two}
+use Rattle.live_table.specs.declared.word_targets.Lead.{Lead}
+use Rattle.live_table.specs.declared.word_targets.Lead.TheVariants.{Refused, Nowhere, One, Two}
 use Rattle.live_table.specs.declared.dead_end.DeadEnd.{DeadEnd}
-use Rattle.live_table.specs.Exploring.{AreAdded, AreGrown, AreListed, IsMore}
-use Rattle.live_table.specs.Leading.{AreGathered, AreTargets, IsLead, IsQueryLead, LeadsTo}
-use Rattle.live_table.specs.Sound.{AreNodes}
-use Rattle.live_table.specs.Stored.{Listed, key_at}
-use Rattle.live_table.proofs.Gathering.{put_one}
-use Rattle.live_table.proofs.Growing.{added_both, added_none, key_read, key_same, more_length, none_listed}
+use Rattle.live_table.specs.Exploration.{AreAdded, AreGrown, AreListed, IsMore}
+use Rattle.live_table.specs.WordTargets.{AreGathered, AreTargets, IsLead, IsQueryLead, LeadsToKeys}
+use Rattle.live_table.specs.Sound.{AreNumberedNames}
+use Rattle.live_table.specs.TableContents.{Listed, key_at}
+use Rattle.live_table.proofs.GatheredNumbers.{put_one}
+use Rattle.live_table.proofs.AddedNames.{added_both, added_none, key_read, key_same, more_length, none_listed}
 use Rattle.live_table.proofs.KeyNumbers.{numbered_push, within_push}
-use Rattle.live_table.proofs.Looking.{in_both}
+use Rattle.live_table.proofs.LookedKeys.{in_both}
 
 -- ---- keys that are not targets
 -- at the start no number is gathered
 pub gathered_start : (keys others : List Key) (old : List ℕ) → others ≡ [] → AreGathered keys others old old
 gathered_start keys others old e = record {
   own = [];
-  numbered = e;
+  numbers_are = e;
   within = λ m i. absurd i;
   put = λ m. (λ i. inl i, λ h. elim h [ inl i ↦ i | inr z ↦ absurd z ]);
 }
@@ -44,7 +44,7 @@ gathered_more : (ks ls others : List Key) (old new : List ℕ) → IsMore ks ls 
     → AreGathered ls others old new
 gathered_more ks ls others old new more g = record {
   own = g.own;
-  numbered = g.numbered ∙ same g.own g.within;
+  numbers_are = g.numbers_are ∙ same g.own g.within;
   within = λ m i. let h : m < length ks = g.within m i in let b = more_length ks ls more in omega arith;
   put = g.put;
 }
@@ -59,12 +59,12 @@ gathered_more ks ls others old new more g = record {
 pub gathered_next : (ks ls tried : List Key) (old now next : List ℕ) (place n : ℕ) → IsMore ks ls
     → place < length tried → AreGathered ks (take place tried) old now
     → (n < length ls) × (key_at tried place ≡ key_at ls n)
-    → next ≡ cond (on now n) now (now ++ n ∷ []) → AreGathered ls (take (place + 1) tried) old next
+    → next ≡ cond (is_on_path now n) now (now ++ n ∷ []) → AreGathered ls (take (place + 1) tried) old next
 gathered_next ks ls tried old now next place n more h g p e = record {
   own = g.own ++ n ∷ [];
-  numbered =
+  numbers_are =
       take_at tried place (key_at tried place) (key_read tried place h)
-      ∙ ((λ i. g.numbered i ++ key_at tried place ∷ [])
+      ∙ ((λ i. g.numbers_are i ++ key_at tried place ∷ [])
       ∙ sym (numbered_push ks ls g.own n (key_at tried place) more g.within p.1));
   within = within_push ks ls g.own n more g.within p.0;
   put = λ m. (to m, from m);
@@ -91,7 +91,7 @@ AddsNames t l m = (before list : List ℕ) (ends : List DeadEnd) → AreListed t
     → AreAdded t l m before list list ends ends
 
 -- no name is added
-adds_none : (t : Table) (l : Listed) → AreNodes t l → AddsNames t l l
+adds_none : (t : Table) (l : Listed) → AreNumberedNames t l → AddsNames t l l
 adds_none t l nodes before list ends right = added_none t l before list ends ends nodes right (λ i x e. e)
 
 -- two additions of names are one
@@ -105,7 +105,7 @@ grown_names : (t : Table) (l m : Listed) → AddsNames t l m → AreGrown t l m 
 grown_names t l m a = (a [] [] [] (none_listed t l [] [] (λ n i. absurd i) refl)).grown
 
 -- after an addition the nodes are right
-pub added_nodes : (t : Table) (l m : Listed) → AddsNames t l m → AreNodes t m
+pub added_nodes : (t : Table) (l m : Listed) → AddsNames t l m → AreNumberedNames t m
 added_nodes t l m a = (grown_names t l m a).nodes
 
 -- after an addition each key has the same number
@@ -119,7 +119,7 @@ pub record AreFirstGathered (t : Table) (l m : Listed) (tried : List Key) (old n
     pub gathered : AreGathered m.keys (take place tried) old new
 
 -- at the start no key is gathered
-pub first_start : (t : Table) (l : Listed) (tried : List Key) (old : List ℕ) → AreNodes t l
+pub first_start : (t : Table) (l : Listed) (tried : List Key) (old : List ℕ) → AreNumberedNames t l
     → AreFirstGathered t l l tried old old 0
 first_start t l tried old nodes = record {
   added = adds_none t l nodes;
@@ -130,7 +130,7 @@ first_start t l tried old nodes = record {
 pub first_next : (t : Table) (l m k : Listed) (tried : List Key) (old now mid next : List ℕ) (place n : ℕ)
     → AreFirstGathered t l m tried old now place → AddsNames t m k → place < length tried
     → (n < length k.keys) × (key_at tried place ≡ key_at k.keys n) → mid ≡ now
-    → next ≡ cond (on mid n) mid (mid ++ n ∷ []) → AreFirstGathered t l k tried old next (place + 1)
+    → next ≡ cond (is_on_path mid n) mid (mid ++ n ∷ []) → AreFirstGathered t l k tried old next (place + 1)
 first_next t l m k tried old now mid next place n f a h p same e = record {
   added = adds_both t l m k f.added a;
   gathered =
@@ -157,7 +157,7 @@ two_last ks i j d e =
 pub leads_to_two : (ks ls tried : List Key) (i j n m : ℕ) → 2 ≤ length tried → i ≡ length tried - 2
     → j ≡ length tried - 1 → IsMore ks ls
     → (n < length ks) × (key_at tried i ≡ key_at ks n) → (m < length ls) × (key_at tried j ≡ key_at ls m)
-    → LeadsTo ls (last_keys 2 tried) (Two n m)
+    → LeadsToKeys ls (last_keys 2 tried) (Two n m)
 leads_to_two ks ls tried i j n m h e f more p q =
     let first : key_at tried i ≡ key_at ls n = p.1 ∙ sym (key_same ks ls n more p.0) in
     let below : n < length ls = let a = p.0 in let b = more_length ks ls more in omega arith in (
@@ -176,10 +176,10 @@ leads_to_two ks ls tried i j n m h e f more p q =
 pub found_by : (t : Table) (u : WordUse) (law : LookupLaw) (w : Targets) (before tried : List Key) (kind : WordKind)
     (text : List ℕ)
     → before ≡ [] → kind ≡ u.kind → text ≡ u.text
-    → AreFound w before tried (run (is_among (keys_of t)) (plan kind text)) → AreFound w [] tried (word_lookup t u)
+    → AreFound w before tried (run (is_key_among (keys_of t)) (plan kind text)) → AreFound w [] tried (word_lookup t u)
 found_by t u law w before tried kind text b k x f =
-    let same : run (is_among (keys_of t)) (plan kind text) ≡ word_lookup t u =
-    (λ i. run (is_among (keys_of t)) (plan (k i) (x i))) ∙ law t u in
+    let same : run (is_key_among (keys_of t)) (plan kind text) ≡ word_lookup t u =
+    (λ i. run (is_key_among (keys_of t)) (plan (k i) (x i))) ∙ law t u in
     subst (λ (p : List Key × Found). AreFound w p.0 tried p.1) (λ i. (b i, same i)) f
 
 none_there : (ks : List Key) → length ks ≡ 0 → ks ≡ []
@@ -206,7 +206,7 @@ module _ (t : Table) (u : WordUse) (w : Targets) (tried : List Key) (found : Are
 
     -- the lead of a word of a query
     pub is_query_lead : (keys : List Key) (lead : Lead) → is_refused u.text ≡ false
-        → LeadsTo keys (last_keys (count w) tried) lead → IsQueryLead t keys u lead
+        → LeadsToKeys keys (last_keys (count w) tried) lead → IsQueryLead t keys u lead
     is_query_lead keys Refused fine led = absurd led
     is_query_lead keys Nowhere fine led = (fine, targets_are ∙ led.0, led.1)
     is_query_lead keys (One n) fine led = (fine, targets_are ∙ led.0, led.1)
@@ -222,7 +222,7 @@ module _ (t : Table) (u : WordUse) (w : Targets) (tried : List Key) (found : Are
       all : map (key_at ls) (now.own ++ ns) ≡ looked_keys t u
       all =
           map-append (key_at ls) now.own ns
-          ∙ ((λ i. sym now.numbered i ++ sym led i)
+          ∙ ((λ i. sym now.numbers_are i ++ sym led i)
           ∙ (take-append-drop (length tried - count w) tried ∙ found.looked))
 
       to : (k : Key) → Contains (looked_keys t u) k → (m : ℕ) × (In m ns ⊎ In m now.own) × (k ≡ key_at ls m)
@@ -253,7 +253,7 @@ module _ (t : Table) (u : WordUse) (w : Targets) (tried : List Key) (found : Are
     -- the lead of a word of an entry
     pub is_lead : (ks ls : List Key) (more : IsMore ks ls) (old mid new : List ℕ) (lead : Lead)
         → is_refused u.text ≡ false
-        → LeadsTo ls (last_keys (count w) tried) lead
+        → LeadsToKeys ls (last_keys (count w) tried) lead
         → AreGathered ks (take (length tried - count w) tried) old mid → new ≡ mid
         → IsLead t ls u old new lead
     is_lead ks ls more old mid new Refused fine led g same = absurd led

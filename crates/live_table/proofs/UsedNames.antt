@@ -5,10 +5,10 @@ use Rattle.std.specs.List.{slice_get}
 use Rattle.std.proofs.lemmas.List.{take_all}
 use Rattle.name_walk.specs.declared.step.Step.{Step}
 use Rattle.name_walk.specs.declared.step.Step.TheVariants.{Nowhere, To}
-use Rattle.name_walk.specs.Faults.{on}
+use Rattle.name_walk.specs.Faults.{is_on_path}
 use Rattle.name_walk.specs.Lists.{In}
 use Rattle.name_walk.proofs.Lists.{In-left, In-push, In-right, take_at}
-use Rattle.live_table.proofs.Gathering.{put_one}
+use Rattle.live_table.proofs.GatheredNumbers.{put_one}
 
 -- numbers to which steps lead
 abbrev pub AreUsed : List ℕ → List Step → Type 0
@@ -23,7 +23,7 @@ same_to : (m n : ℕ) → To m ≡ To n → m ≡ n
 same_to m n e = cc
 
 -- a step to a number adds the number
-pub target_used : (old new : List ℕ) (n : ℕ) (x : Step) → x ≡ To n → new ≡ cond (on old n) old (old ++ n ∷ [])
+pub target_used : (old new : List ℕ) (n : ℕ) (x : Step) → x ≡ To n → new ≡ cond (is_on_path old n) old (old ++ n ∷ [])
     → IsUsed old new x
 target_used old new n x is e m = (
   λ i. elim ((put_one old new n e m).0 i) [ inl j ↦ inl j | inr q ↦ inr (is ∙ ap To (sym q)) ],

@@ -13,31 +13,32 @@ use Rattle.name_edges.specs.NameGraphs.{NameGraph}
 use Rattle.name_numbers.proofs.EdgeChanges.{edges_grown}
 use Rattle.name_numbers.proofs.Reached.{step_of_lead}
 use Rattle.name_walk.specs.declared.step.Step.TheVariants.{To}
-use Rattle.name_walk.specs.Closed.{IsSettled}
-use Rattle.name_walk.specs.Faults.{on}
+use Rattle.name_walk.specs.ClosedNames.{IsSettled}
+use Rattle.name_walk.specs.Faults.{is_on_path}
 use Rattle.name_walk.specs.Lists.{In}
 use Rattle.name_walk.specs.Steps.{steps}
 use Rattle.name_walk.proofs.Lists.{In-last, In-left, In-on, In-push, on-In}
 use Rattle.name_walk.proofs.Marks.{get_set_other, get_set_same}
 use Rattle.table_names.specs.declared.fault.NameFault.{NameFault}
 use Rattle.table_names.specs.declared.fault.NameFault.TheVariants.{Unknown}
-use Rattle.table_names.specs.Closed.{IsClosed}
+use Rattle.table_names.specs.ClosedKeys.{IsClosed}
 use Rattle.table_names.specs.Leads.{WordsLeadTo}
 use Rattle.table_names.specs.Words.{key_words}
-use Rattle.table_names.proofs.Closing.{closed_law}
+use Rattle.table_names.proofs.ClosedLaws.{closed_law}
 use Rattle.tree_eval.specs.declared.outcome.Outcome.{Outcome}
 use Rattle.live_table.specs.declared.callee.Callee.{Callee}
 use Rattle.live_table.specs.declared.dead_end.DeadEnd.{DeadEnd}
 use Rattle.live_table.specs.declared.late_edges.LateEdges.{LateEdges}
 use Rattle.live_table.specs.Due.{IsDue, with_outcome}
-use Rattle.live_table.specs.Edged.{AreInOrder, HasEdges, HasLateEdges, IsLinked, IsLive, is_flagged, is_linked}
-use Rattle.live_table.specs.Exploring.{AreGrown}
+use Rattle.live_table.specs.TableEdges.{AreTargetsFirst, HasEdges, HasLateEdges, IsLinked, IsLive, is_flagged}
+use Rattle.live_table.specs.TableEdges.{is_linked}
+use Rattle.live_table.specs.Exploration.{AreGrown}
 use Rattle.live_table.specs.Sound.{IsFaithful, IsSound}
 use Rattle.live_table.specs.States.{Kept}
-use Rattle.live_table.specs.Stored.{Listed, kept_of, key_at, no_names}
+use Rattle.live_table.specs.TableContents.{Listed, kept_of, key_at, no_nodes}
 use Rattle.live_table.proofs.AfterForgetting.{flag_settled, settled_flag}
-use Rattle.live_table.proofs.Growing.{key_same, more_length}
-use Rattle.live_table.proofs.Kept.{absent, key_settled, number_settled, settled_within}
+use Rattle.live_table.proofs.AddedNames.{key_same, more_length}
+use Rattle.live_table.proofs.OutcomesByKey.{absent, key_settled, number_settled, settled_within}
 use Rattle.live_table.proofs.Places.{get_lt}
 
 -- ---- a name has its edges if it is settled and does not wait
@@ -47,17 +48,17 @@ chosen false f e = (e, refl)
 
 -- a name with its edges is settled, and does not wait
 pub linked_facts : (settled : List Bool) (waiting : List ℕ) (n : ℕ) → is_linked settled waiting n ≡ true
-    → (is_flagged settled n ≡ true) × (on waiting n ≡ false)
-linked_facts settled waiting n e = chosen (on waiting n) (is_flagged settled n) e
+    → (is_flagged settled n ≡ true) × (is_on_path waiting n ≡ false)
+linked_facts settled waiting n e = chosen (is_on_path waiting n) (is_flagged settled n) e
 
 -- a number that is not found on a list is not in it
-pub not_waiting : (waiting : List ℕ) (n : ℕ) → on waiting n ≡ false → In n waiting → ⊥
+pub not_waiting : (waiting : List ℕ) (n : ℕ) → is_on_path waiting n ≡ false → In n waiting → ⊥
 not_waiting waiting n e i = true≢false (sym (In-on waiting n i) ∙ e)
 
 -- a settled name that does not wait has its edges
 pub linked_where : (settled : List Bool) (waiting : List ℕ) (n : ℕ) → is_flagged settled n ≡ true → (In n waiting → ⊥)
     → is_linked settled waiting n ≡ true
-linked_where settled waiting n e out = elim (cases_Bool (on waiting n)) [
+linked_where settled waiting n e out = elim (cases_Bool (is_on_path waiting n)) [
   | inl i ↦ absurd (out (on-In waiting n i))
   | inr o ↦ ap (λ b. if b then false else is_flagged settled n) o ∙ e
 ]
@@ -73,13 +74,13 @@ pub number_of_lead : (deck : Contents) (l : Listed) (n : ℕ) → IsClosed (tabl
 number_of_lead deck l n closed faithful k w =
     let us : List WordUse = key_words (table deck) (key_at l.keys n) in
     let fine = ((closed_law.words (table deck) us).0
-    ((closed_law.key (table deck) (key_at l.keys n)).0 closed) w.0 w.1).accepted in
+    ((closed_law.key (table deck) (key_at l.keys n)).0 closed) w.0 w.1).is_accepted in
     step_of_lead (table deck) (key_at l.keys) dead_end us (steps l.graph n) (faithful dead_end) w.0 w.1 fine k w.2
 
 -- ---- the order in which names wait
 module _ (t : Table) where
-  same_order : (key later : ℕ → Key) (ns : List ℕ) → ((n : ℕ) → In n ns → later n ≡ key n) → AreInOrder t key ns
-      → AreInOrder t later ns
+  same_order : (key later : ℕ → Key) (ns : List ℕ) → ((n : ℕ) → In n ns → later n ≡ key n) → AreTargetsFirst t key ns
+      → AreTargetsFirst t later ns
   same_order key later [] same o = o
   same_order key later (n ∷ ns) same o = (
     λ m i w. o.0 m i (subst (λ (p : Key × Key). WordsLeadTo t (key_words t p.0) p.1)
@@ -88,9 +89,9 @@ module _ (t : Table) where
     same_order key later ns (λ m i. same m (inr i)) o.2,
   )
 
-  push_order : (key : ℕ → Key) (ns : List ℕ) (n : ℕ) → AreInOrder t key ns → (In n ns → ⊥)
+  push_order : (key : ℕ → Key) (ns : List ℕ) (n : ℕ) → AreTargetsFirst t key ns → (In n ns → ⊥)
       → ((m : ℕ) → In m ns → WordsLeadTo t (key_words t (key m)) (key n) → ⊥)
-      → (WordsLeadTo t (key_words t (key n)) (key n) → ⊥) → AreInOrder t key (ns ++ n ∷ [])
+      → (WordsLeadTo t (key_words t (key n)) (key n) → ⊥) → AreTargetsFirst t key (ns ++ n ∷ [])
   push_order key [] n o out before own = (
     λ m i w. elim i [
       | inl e ↦ own (subst (λ x. WordsLeadTo t (key_words t (key n)) (key x)) e w)
@@ -239,7 +240,7 @@ module _ (deck : Contents) (l : Listed) (r n : ℕ) (sound : IsSound deck l r) (
     }
 
 -- ---- at the start
-no_edges : (deck : Contents) → HasLateEdges deck no_names [] (record { names = 0; uses = []; looks = [] })
+no_edges : (deck : Contents) → HasLateEdges deck no_nodes [] (record { names = 0; uses = []; looks = [] })
 no_edges deck = record {
   names = omega arith;
   are = record {
@@ -257,7 +258,7 @@ no_edges deck = record {
     none n e = true≢false (sym e)
 
 -- without names the edges are right
-pub start_edges : (deck : Contents) (l : Listed) (waiting : List ℕ) (g : NameGraph) → l ≡ no_names → waiting ≡ []
+pub start_edges : (deck : Contents) (l : Listed) (waiting : List ℕ) (g : NameGraph) → l ≡ no_nodes → waiting ≡ []
     → g ≡ record { names = 0; uses = []; looks = [] } → HasLateEdges deck l waiting g
 start_edges deck l waiting g e w f =
     subst (λ (p : Listed × List ℕ × NameGraph). HasLateEdges deck p.0 p.1 p.2) (λ i. (sym e i, sym w i, sym f i))

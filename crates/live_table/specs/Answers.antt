@@ -6,9 +6,9 @@ use Rattle.quantity.specs.Amount.{Amount}
 use Rattle.def_entry.specs.declared.key.Kind.TheVariants as kind
 use Rattle.def_entry.specs.Keys.{key}
 use Rattle.def_entry.specs.Tables.{Table}
-use Rattle.tree_eval.specs.Expanded.{Meaning, One, Two, Callee}
+use Rattle.tree_eval.specs.Expansions.{Meaning, One, Two, Callee}
 use Rattle.tree_eval.specs.Steps.{Worth, one}
-use Rattle.tree_eval.specs.Value.{unapplied, value}
+use Rattle.tree_eval.specs.Value.{inverse_value_at, value}
 use Rattle.table_names.specs.declared.fault.NameFault.{NameFault}
 use Rattle.table_names.specs.Faults.{key_fault, name_fault}
 use Rattle.table_names.specs.Meanings.{expansion, key_meaning}
@@ -27,7 +27,7 @@ answer table e = by_names (name_fault table (words_in e)) (value (expansion tabl
 
 -- the inverse of a key that is a function; any other key has none
 abbrev pub inverse_at : Meaning → Amount → Worth
-inverse_at (Callee f) b = unapplied f b
+inverse_at (Callee f) b = inverse_value_at f b
 inverse_at (One x) b = Ok one
 inverse_at (Two x y) b = Ok one
 
@@ -37,8 +37,8 @@ inverse_answer table name b =
     by_names (key_fault table (key kind.Func name)) (inverse_at (key_meaning table (key kind.Func name)) b)
 
 -- the result is this one, or memory ran out
-abbrev pub Answers : Result Amount QueryFault → Result Amount QueryFault → Type 0
-Answers result answer = (result ≡ Err OutOfMemory) ⊎ (result ≡ answer)
+abbrev pub IsQueryResult : Result Amount QueryFault → Result Amount QueryFault → Type 0
+IsQueryResult result answer = (result ≡ Err OutOfMemory) ⊎ (result ≡ answer)
 
 -- the value of a result, or `None` if it is a fault
 abbrev pub value_in : Result Amount QueryFault → Option Amount

@@ -16,11 +16,11 @@ use Rattle.deck.specs.Decks.{Contents}
 use Rattle.deck.specs.Tables.{table}
 use Rattle.live_table.specs.declared.fault.QueryFault.{QueryFault}
 use Rattle.live_table.specs.declared.fault.QueryFault.TheVariants.{OutOfMemory}
-use Rattle.live_table.specs.Calls.{AreQueries, IsEdit, IsQuery, all_names}
+use Rattle.live_table.specs.Calls.{AreQueries, IsAcceptedEdit, IsQuery, all_names}
 use Rattle.live_table.specs.KeptNames.{IsKeptByAll}
-use Rattle.live_table.specs.Right.{IsSettled}
-use Rattle.live_table.specs.Shown.{Follows, IsRightTable, Shown, state}
-use Rattle.live_table.specs.States.{AsksKey, AsksWords, Becomes, CanBe, Event, State}
+use Rattle.live_table.specs.Right.{IsKeySettled}
+use Rattle.live_table.specs.TableView.{IsAfterEvents, IsRightTable, Shown, state_with_steps}
+use Rattle.live_table.specs.States.{AsksKey, AsksWords, Becomes, CanBe, Event, TableState}
 
 -- a call of a live table, with its result: `value` of an expression, `unapply` of a function, `settle_all`, or any
 -- edit, accepted or refused
@@ -40,7 +40,7 @@ IsCall (Unapply name result) before after old new =
     × IsQuery (AsksKey (key kind.Func name)) result before after old new
 IsCall (SettleAll result) before after old new =
     (after.deck ≡ before.deck) × AreQueries (all_names (table before.deck)) result before after old new
-IsCall AcceptedEdit before after old new = (new ≡ old) × IsEdit before after
+IsCall AcceptedEdit before after old new = (new ≡ old) × IsAcceptedEdit before after
 IsCall RefusedEdit before after old new = (new ≡ old) × (after ≡ before)
 
 -- memory sufficed for the query
@@ -98,15 +98,15 @@ all_events (d ∷ ds) s = events_in d.call s d.shown ++ all_events ds d.shown
 -- after these calls a name is stored exactly if it was stored before or a query reached it, and no later edit affected
 -- it; its outcome is that of the present table
 pub record IsKeptSince (ds : List MadeCall) (s : Shown) (n : ℕ) : Type 0 where
-  pub follows : Follows (all_events ds s) s (last_shown ds s) n (last_steps ds n)
-  pub names : (k : Key) → IsSettled (state (last_shown ds s) 0) k
-      ↔ IsKeptByAll (all_events ds s) (table s.deck) (IsSettled (state s 0)) k
+  pub follows : IsAfterEvents (all_events ds s) s (last_shown ds s) n (last_steps ds n)
+  pub names : (k : Key) → IsKeySettled (state_with_steps (last_shown ds s) 0) k
+      ↔ IsKeptByAll (all_events ds s) (table s.deck) (IsKeySettled (state_with_steps s 0)) k
   pub outcomes : (k : Key) (o : Outcome) → map_of.get (last_shown ds s).kept k ≡ Some o
       → o ≡ outcome (table (last_shown ds s).deck) k
 
 -- law: an edit from any deck to any other is a possible event, whatever names are stored
 abbrev pub EditsCanBeLaw : Type 0
-EditsCanBeLaw = (before after : Contents) (s : State) → s.table ≡ table before → CanBe (Becomes (table after)) s
+EditsCanBeLaw = (before after : Contents) (s : TableState) → s.table ≡ table before → CanBe (Becomes (table after)) s
 
 -- law: in the table of every deck each entry fits the kind of its key
 abbrev pub DeckKindsLaw : Type 0
@@ -115,5 +115,7 @@ DeckKindsLaw = (deck : Contents) → FitsKinds (table deck)
 -- law: after any calls every stored outcome is right. If memory sufficed for all calls, the stored names are exactly
 -- those that the calls reached and no later call affected
 pub record CallListLaw : Type 0 where
-  pub right : (ds : List MadeCall) (s : Shown) (n : ℕ) → IsRightTable s → AreCalls ds s n → IsRightTable (last_shown ds s)
-  pub kept : (ds : List MadeCall) (s : Shown) (n : ℕ) → IsRightTable s → AreCalls ds s n → AllComplete ds → IsKeptSince ds s n
+  pub right : (ds : List MadeCall) (s : Shown) (n : ℕ) → IsRightTable s → AreCalls ds s n
+      → IsRightTable (last_shown ds s)
+  pub kept : (ds : List MadeCall) (s : Shown) (n : ℕ) → IsRightTable s → AreCalls ds s n → AllComplete ds
+      → IsKeptSince ds s n

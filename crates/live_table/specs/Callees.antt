@@ -9,7 +9,7 @@ use Rattle.expr_tree.specs.Words.{words_in}
 use Rattle.tree_eval.specs.declared.holder.Part.{Part}
 use Rattle.tree_eval.specs.declared.holder.Part.TheVariants as part
 use Rattle.tree_eval.specs.Entries.{rank_of_meaning, words_if}
-use Rattle.tree_eval.specs.Expanded.{Meaning}
+use Rattle.tree_eval.specs.Expansions.{Meaning}
 use Rattle.live_table.specs.declared.callee.Callee.{Callee}
 use Rattle.live_table.specs.declared.callee.PartStarts.{PartStarts}
 use Rattle.table_names.specs.Words.{key_words, what_words}

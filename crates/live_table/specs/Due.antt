@@ -1,14 +1,14 @@
 -- Names that can be settled next.
 use Rattle.std.specs.Prelude.{◌≡◌, ◌+◌, ◌<◌, ⊤, ℕ, true, false, List, [], ◌∷◌, length, Some, slice_get, slice_set}
 use Rattle.def_entry.specs.Tables.{Table, is_present}
-use Rattle.name_walk.specs.Closed.{IsSettled}
-use Rattle.name_walk.specs.Closed as walk
+use Rattle.name_walk.specs.ClosedNames.{IsSettled}
+use Rattle.name_walk.specs.ClosedNames as walk
 use Rattle.name_walk.specs.Steps.{LeadsTo}
-use Rattle.table_names.specs.Closed.{IsClosed}
+use Rattle.table_names.specs.ClosedKeys.{IsClosed}
 use Rattle.tree_eval.specs.declared.outcome.Outcome.{Outcome}
 use Rattle.live_table.specs.declared.callee.Callee.{Callee}
 use Rattle.live_table.specs.Sound.{HasLooksOf, HasStartsOf, IsFaithful}
-use Rattle.live_table.specs.Stored.{Listed, key_at}
+use Rattle.live_table.specs.TableContents.{Listed, key_at}
 
 -- the name has an entry, no name fault, the steps of its words and the keys at which they look; it is not settled, but
 -- the names to which it leads are
@@ -17,7 +17,7 @@ pub record IsDue (table : Table) (l : Listed) (n : ℕ) : Type 0 where
   pub fresh : slice_get l.settled n ≡ Some false
   pub present : is_present table (key_at l.keys n) ≡ true
   pub closed : IsClosed table (key_at l.keys n)
-  pub ends : walk.IsClosed l.graph n
+  pub ends : walk.IsClosedName l.graph n
   pub below : (m : ℕ) → LeadsTo l.graph n m → IsSettled l.settled m
   pub faithful : IsFaithful table l n
   pub starts : HasStartsOf table l n

@@ -2,13 +2,13 @@
 use Rattle.std.specs.Prelude.{◌≡◌, ◌<◌, ◌≤◌, ℕ, List, Some, length, slice_get, Contains}
 use Rattle.def_entry.specs.declared.key.Key.{Key}
 use Rattle.def_entry.specs.Tables.{Table, is_present}
-use Rattle.edge_links.specs.Reach.{IsCleared}
-use Rattle.name_edges.specs.Affected.{AreAffected, Forgets}
+use Rattle.edge_links.specs.Reach.{AreMarksCleared}
+use Rattle.name_edges.specs.AffectedNames.{AreAffected, ForgetsNames}
 use Rattle.name_edges.specs.NameGraphs.{NameGraph}
 use Rattle.name_numbers.specs.EdgeLaws.{AreNumbersOf}
-use Rattle.live_table.specs.Edged.{is_flagged}
-use Rattle.live_table.specs.Keeping.{IsLeft}
-use Rattle.live_table.specs.Stored.{Listed, key_at}
+use Rattle.live_table.specs.TableEdges.{is_flagged}
+use Rattle.live_table.specs.OutcomesLeft.{AreNumbersLeft}
+use Rattle.live_table.specs.TableContents.{Listed, key_at}
 
 -- the flags say of the changed keys whether they have an entry now
 pub record AreFlaggedAnew (t : Table) (keys : List Key) (l m : Listed) : Type 0 where
@@ -29,9 +29,9 @@ pub record IsRest (l m : Listed) : Type 0 where
 pub record AreForgotten (t : Table) (keys : List Key) (l m : Listed) (g h : NameGraph) : Type 0 where
   pub numbers : List ℕ
   pub of : AreNumbersOf (key_at l.keys) g.names keys numbers
-  pub edges : Forgets (AreAffected g numbers) g h
-  pub marks : IsCleared (AreAffected g numbers) (is_flagged l.settled) (is_flagged m.settled)
-  pub left : IsLeft l.settled m.settled l.count m.count l.outcomes m.outcomes
+  pub edges : ForgetsNames (AreAffected g numbers) g h
+  pub marks : AreMarksCleared (AreAffected g numbers) (is_flagged l.settled) (is_flagged m.settled)
+  pub left : AreNumbersLeft l.settled m.settled l.count m.count l.outcomes m.outcomes
   pub present : AreFlaggedAnew t keys l m
   pub rest : IsRest l m
 

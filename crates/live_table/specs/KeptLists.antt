@@ -3,13 +3,13 @@ use Rattle.std.specs.Prelude.{◌↔◌, not, List, [], ◌∷◌, ◌++◌, Con
 use Rattle.std.specs.List.{filter}
 use Rattle.def_entry.specs.declared.key.Key.{Key}
 use Rattle.def_entry.specs.Tables.{Table}
-use Rattle.table_names.specs.Affected.{is_affected}
+use Rattle.table_names.specs.AffectedKeys.{is_affected}
 use Rattle.table_names.specs.Faults.{key_fault, name_fault}
 use Rattle.table_names.specs.Reach.{key_reach, reach}
 use Rattle.deck.specs.Changes.{changed_keys}
 use Rattle.live_table.specs.KeptNames.{table_after}
-use Rattle.live_table.specs.Right.{IsRight, IsSettled}
-use Rattle.live_table.specs.States.{AllCanBe, AsksKey, AsksWords, Becomes, Event, State, after_all}
+use Rattle.live_table.specs.Right.{IsKeySettled, IsRight}
+use Rattle.live_table.specs.States.{AllCanBe, AsksKey, AsksWords, Becomes, Event, TableState, after_all}
 
 -- a query without a name fault adds the names that it reaches, and an edit removes the names that it affects
 abbrev pub kept_by : Event → Table → List Key → List Key
@@ -24,6 +24,6 @@ kept_list (e ∷ es) table keys = kept_list es (table_after e table) (kept_by e 
 
 -- law: if the list holds the settled names before some events, it holds them after the events too
 abbrev pub KeptListLaw : Type 0
-KeptListLaw = (es : List Event) (s : State) (keys : List Key) → AllCanBe es s → IsRight s
-    → ((n : Key) → Contains keys n ↔ IsSettled s n)
-    → (n : Key) → Contains (kept_list es s.table keys) n ↔ IsSettled (after_all es s) n
+KeptListLaw = (es : List Event) (s : TableState) (keys : List Key) → AllCanBe es s → IsRight s
+    → ((n : Key) → Contains keys n ↔ IsKeySettled s n)
+    → (n : Key) → Contains (kept_list es s.table keys) n ↔ IsKeySettled (after_all es s) n

@@ -4,13 +4,13 @@ use Rattle.std.specs.FinMap as map_of
 use Rattle.def_entry.specs.declared.key.Key.{Key}
 use Rattle.def_entry.specs.Tables.{Table}
 use Rattle.deck.specs.Changes.{changed_keys}
-use Rattle.table_names.specs.Affected.{IsAffected}
-use Rattle.table_names.specs.Closed.{AreClosed, IsClosed}
+use Rattle.table_names.specs.AffectedKeys.{IsAffected}
+use Rattle.table_names.specs.ClosedKeys.{AreClosed, IsClosed}
 use Rattle.table_names.specs.Leads.{Reaches, WordsReach}
 use Rattle.table_names.specs.Meanings.{outcome}
 use Rattle.tree_eval.specs.declared.outcome.Outcome.{Outcome}
-use Rattle.live_table.specs.Right.{IsRight, IsSettled}
-use Rattle.live_table.specs.States.{AllCanBe, AsksKey, AsksWords, Becomes, Event, State, after_all}
+use Rattle.live_table.specs.Right.{IsKeySettled, IsRight}
+use Rattle.live_table.specs.States.{AllCanBe, AsksKey, AsksWords, Becomes, Event, TableState, after_all}
 
 -- the table after an event
 abbrev pub table_after : Event → Table → Table
@@ -30,11 +30,11 @@ IsKeptByAll [] table Kept = Kept
 IsKeptByAll (e ∷ es) table Kept = IsKeptByAll es (table_after e table) (IsKeptBy e table Kept)
 
 -- after these events exactly those names are stored, each with its outcome in the present table
-pub record KeptAfter (es : List Event) (s : State) : Type 0 where
-  pub names : (n : Key) → IsSettled (after_all es s) n ↔ IsKeptByAll es s.table (IsSettled s) n
+pub record KeptAfter (es : List Event) (s : TableState) : Type 0 where
+  pub names : (n : Key) → IsKeySettled (after_all es s) n ↔ IsKeptByAll es s.table (IsKeySettled s) n
   pub outcomes : (n : Key) (o : Outcome) → map_of.get (after_all es s).kept n ≡ Some o
       → o ≡ outcome (after_all es s).table n
 
 -- law: `KeptAfter` holds after any queries and edits
-abbrev pub KeptLaw : Type 0
-KeptLaw = (es : List Event) (s : State) → AllCanBe es s → IsRight s → KeptAfter es s
+abbrev pub StoredNamesLaw : Type 0
+StoredNamesLaw = (es : List Event) (s : TableState) → AllCanBe es s → IsRight s → KeptAfter es s

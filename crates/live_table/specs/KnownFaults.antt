@@ -1,16 +1,16 @@
 -- The explored names that are known to have a fault.
 use Rattle.std.specs.Prelude.{◌≡◌, ℕ, List, Option, Some, None}
 use Rattle.name_walk.specs.declared.step.Step.{Step}
-use Rattle.name_walk.specs.Closed.{IsSettled}
-use Rattle.name_walk.specs.Findings.{AreRight, Found, IsFaultOf, IsFaultyStep}
+use Rattle.name_walk.specs.ClosedNames.{IsSettled}
+use Rattle.name_walk.specs.Findings.{AreRight, IsFaultyStep, IsQueryFault, WalkFindings}
 use Rattle.name_walk.specs.Lists.{In}
 use Rattle.name_walk.specs.Steps.{steps}
 use Rattle.name_walk.specs.Trails.{Faults}
-use Rattle.live_table.specs.Asked.{IsClosing}
-use Rattle.live_table.specs.Stored.{Listed}
+use Rattle.live_table.specs.QueryEffects.{IsClosing}
+use Rattle.live_table.specs.TableContents.{Listed}
 
 -- the findings are right, and each name with a finding was explored
-pub record AreFaultsKnown (l : Listed) (explored : List ℕ) (f : Found) : Type 0 where
+pub record AreFaultsKnown (l : Listed) (explored : List ℕ) (f : WalkFindings) : Type 0 where
   pub right : AreRight l.graph l.settled f
   pub among : (n : ℕ) → In n f.names → In n explored
 
@@ -26,4 +26,4 @@ pub record IsLater (l m : Listed) : Type 0 where
 -- a query has no fault and newly closes these names, or its first fault is that of this step, which is known
 abbrev pub IsFirstFault : Listed → List Step → List ℕ → Faults → Option Step → Type 0
 IsFirstFault l query order fs None = IsClosing l query order
-IsFirstFault l query order fs (Some x) = IsFaultOf l.graph query x × IsFaultyStep fs x
+IsFirstFault l query order fs (Some x) = IsQueryFault l.graph query x × IsFaultyStep fs x

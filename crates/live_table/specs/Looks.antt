@@ -7,7 +7,7 @@ use Rattle.name_walk.specs.declared.step.Step.{Step}
 use Rattle.name_walk.specs.declared.step.Step.TheVariants.{Nowhere, To}
 use Rattle.name_walk.specs.Lists.{In}
 use Rattle.table_names.specs.Leads.{looked_keys}
-use Rattle.live_table.specs.Stored.{key_at}
+use Rattle.live_table.specs.TableContents.{key_at}
 
 -- one of the words looks at the key
 abbrev pub WordsLookAt : Table → List WordUse → Key → Type 0

@@ -3,18 +3,18 @@ use Rattle.std.specs.Prelude.{◌≡◌, ◌↔◌, ◌+◌, ◌-◌, ◌^◌, m
 use Rattle.std.specs.List.{IsDistinct}
 use Rattle.def_entry.specs.declared.key.Key.{Key}
 use Rattle.def_entry.specs.SameKeys.{is_same}
-use Rattle.live_table.specs.Right.{IsRight, IsSettled}
-use Rattle.live_table.specs.States.{State, with_outcomes, with_settled}
+use Rattle.live_table.specs.Right.{IsKeySettled, IsRight}
+use Rattle.live_table.specs.States.{TableState, with_outcomes, with_settled}
 
 -- the distinct names among these that are not settled
-pub record AreNew (s : State) (reached names : List Key) : Type 0 where
-  pub exactly : (n : Key) → Contains names n ↔ (Contains reached n × (IsSettled s n → ⊥))
+pub record AreNew (s : TableState) (reached names : List Key) : Type 0 where
+  pub exactly : (n : Key) → Contains names n ↔ (Contains reached n × (IsKeySettled s n → ⊥))
   pub once : IsDistinct is_same names
 
 -- law: to settle the names that a query reaches is to add the outcomes of the new names, in any order, and to count
 -- them
 abbrev pub NewLaw : Type 0
-NewLaw = (s : State) (reached names : List Key) → IsRight s → AreNew s reached names
+NewLaw = (s : TableState) (reached names : List Key) → IsRight s → AreNew s reached names
     → with_settled reached s
     ≡ record s {
       kept = with_outcomes s.table names s.kept;

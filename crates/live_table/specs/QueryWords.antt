@@ -8,9 +8,9 @@ use Rattle.name_walk.specs.declared.step.Step.{Step}
 use Rattle.table_names.specs.Leads.{targets}
 use Rattle.table_names.specs.declared.fault.NameFault.{NameFault}
 use Rattle.live_table.specs.declared.dead_end.DeadEnd.{DeadEnd}
-use Rattle.live_table.specs.Explored.{fault_of}
-use Rattle.live_table.specs.Exploring.{AreWritten}
-use Rattle.live_table.specs.Stored.{Listed}
+use Rattle.live_table.specs.ExploredNames.{dead_end_fault}
+use Rattle.live_table.specs.Exploration.{AreWritten}
+use Rattle.live_table.specs.TableContents.{Listed}
 
 -- a word that leads nowhere: a refused name, or a name without targets
 pub record IsDeadEnd (table : Table) (u : WordUse) (end : DeadEnd) : Type 0 where
@@ -36,4 +36,4 @@ AreQuerySteps table l before list us xs (Some end) = AreCutAt table l before lis
 
 -- the first fault of the words before one that leads nowhere, or else its own
 abbrev pub fault_before : Option NameFault → DeadEnd → Option NameFault
-fault_before fault end = option_or fault (Some (fault_of (Some end) None))
+fault_before fault end = option_or fault (Some (dead_end_fault (Some end) None))

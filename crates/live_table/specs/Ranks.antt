@@ -18,5 +18,5 @@ greatest_step_rank callees [] = 0
 greatest_step_rank callees (x ∷ xs) = max (step_rank callees x) (greatest_step_rank callees xs)
 
 -- a callee with another rank
-abbrev pub ranked : ℕ → Callee → Callee
-ranked rank c = record { rank = rank; starts = c.starts }
+abbrev pub with_rank : ℕ → Callee → Callee
+with_rank rank c = record { rank = rank; starts = c.starts }

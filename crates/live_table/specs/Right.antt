@@ -5,23 +5,23 @@ use Rattle.std.specs.Option.{is_some}
 use Rattle.def_entry.specs.declared.key.Key.{Key}
 use Rattle.def_entry.specs.Tables.{is_present}
 use Rattle.tree_eval.specs.declared.outcome.Outcome.{Outcome}
-use Rattle.table_names.specs.Closed.{IsClosed}
+use Rattle.table_names.specs.ClosedKeys.{IsClosed}
 use Rattle.table_names.specs.Leads.{Reaches}
 use Rattle.table_names.specs.Meanings.{outcome}
-use Rattle.live_table.specs.States.{AllCanBe, Event, State, after_all}
+use Rattle.live_table.specs.States.{AllCanBe, Event, TableState, after_all}
 
 -- the name is settled
-abbrev pub IsSettled : State → Key → Type 0
-IsSettled s n = is_some (map_of.get s.kept n) ≡ true
+abbrev pub IsKeySettled : TableState → Key → Type 0
+IsKeySettled s n = is_some (map_of.get s.kept n) ≡ true
 
 -- each settled name has an entry and no name fault, the names that it reaches are settled, and its stored outcome is
 -- that of the present table
-pub record IsRight (s : State) : Type 0 where
-  pub present : (n : Key) → IsSettled s n → is_present s.table n ≡ true
-  pub closed : (n : Key) → IsSettled s n → IsClosed s.table n
-  pub below : (n m : Key) → IsSettled s n → Reaches s.table n m → IsSettled s m
+pub record IsRight (s : TableState) : Type 0 where
+  pub present : (n : Key) → IsKeySettled s n → is_present s.table n ≡ true
+  pub closed : (n : Key) → IsKeySettled s n → IsClosed s.table n
+  pub below : (n m : Key) → IsKeySettled s n → Reaches s.table n m → IsKeySettled s m
   pub right : (n : Key) (o : Outcome) → map_of.get s.kept n ≡ Some o → o ≡ outcome s.table n
 
 -- law: the stored outcomes are right after any queries and edits
 abbrev pub RightLaw : Type 0
-RightLaw = (es : List Event) (s : State) → AllCanBe es s → IsRight s → IsRight (after_all es s)
+RightLaw = (es : List Event) (s : TableState) → AllCanBe es s → IsRight s → IsRight (after_all es s)

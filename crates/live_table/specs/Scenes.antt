@@ -12,12 +12,12 @@ use Rattle.tree_eval.specs.declared.holder.Holder.{Holder}
 use Rattle.tree_eval.specs.declared.holder.Holder.TheVariants.{Of, Query}
 use Rattle.tree_eval.specs.declared.holder.Part.{Part}
 use Rattle.tree_eval.specs.Entries.{part_words}
-use Rattle.tree_eval.specs.Expanded.{Callable, Callee, Dimensionless, Meaning, Table}
-use Rattle.name_walk.specs.Closed.{IsSettled}
-use Rattle.table_names.specs.Closed.{IsClosed, LeadsInto}
+use Rattle.tree_eval.specs.Expansions.{Callable, Callee, Dimensionless, Meaning, Table}
+use Rattle.name_walk.specs.ClosedNames.{IsSettled}
+use Rattle.table_names.specs.ClosedKeys.{IsClosed, WordLeadsInto}
 use Rattle.table_names.specs.Leads.{targets}
 use Rattle.table_names.specs.Meanings.{key_meaning, word_meaning}
-use Rattle.live_table.specs.Stored.{key_at}
+use Rattle.live_table.specs.TableContents.{key_at}
 
 -- a deck, the keys of the numbers, which of them are settled, the words of the queried expression, and the queried name
 pub record Scene : Type 0 where
@@ -30,13 +30,13 @@ pub record Scene : Type 0 where
 abbrev pub is_settled : Scene → ℕ → Bool
 is_settled s n = unwrap_or (slice_get s.settled n) false
 
-abbrev pub is_name : Option ℕ → ℕ → Bool
-is_name None n = false
-is_name (Some m) n = nat_eq m n
+abbrev pub is_this_name : Option ℕ → ℕ → Bool
+is_this_name None n = false
+is_this_name (Some m) n = nat_eq m n
 
 -- the name is settled, or is the queried one
 abbrev pub is_at_hand : Scene → ℕ → Bool
-is_at_hand s n = is_settled s n || is_name s.name n
+is_at_hand s n = is_settled s n || is_this_name s.name n
 
 abbrev pub words_in_part : Option Entry → Part → List WordUse
 words_in_part None p = []
@@ -72,7 +72,7 @@ callee_at s n = callee_in (number_means s n)
 
 -- a word leads to settled names: to a single one, or to a prefix and a unit
 pub record IsLed (s : Scene) (u : WordUse) (n m : ℕ) : Type 0 where
-  pub word : LeadsInto (table s.deck) (IsClosed (table s.deck)) u
+  pub word : WordLeadsInto (table s.deck) (IsClosed (table s.deck)) u
   pub are : ((targets (table s.deck) u ≡ key_at s.keys n ∷ []) × (n ≡ m))
       ⊎ (targets (table s.deck) u ≡ key_at s.keys n ∷ key_at s.keys m ∷ [])
   pub first : IsSettled s.settled n

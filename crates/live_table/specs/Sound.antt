@@ -7,18 +7,18 @@ use Rattle.def_entry.specs.Entries.{Entry}
 use Rattle.def_entry.specs.Tables.{Table, entry_at, is_present}
 use Rattle.deck.specs.Decks.{Contents}
 use Rattle.deck.specs.Tables.{table}
-use Rattle.name_walk.specs.Closed.{IsSettled}
-use Rattle.name_walk.specs.Nets.{IsNet}
+use Rattle.name_walk.specs.ClosedNames.{IsSettled}
+use Rattle.name_walk.specs.Nets.{IsConsistentGraph}
 use Rattle.name_walk.specs.Steps.{steps}
 use Rattle.table_names.specs.declared.fault.NameFault.{NameFault}
 use Rattle.table_names.specs.Meanings.{key_meaning}
 use Rattle.table_names.specs.Words.{key_words}
-use Rattle.name_numbers.specs.Numbered.{AreWords}
+use Rattle.name_numbers.specs.NumberedNames.{AreWords}
 use Rattle.live_table.specs.declared.callee.Callee.{Callee}
 use Rattle.live_table.specs.Callees.{HasRank, HasStarts}
 use Rattle.live_table.specs.Looks.{AllLead, AreLooks}
-use Rattle.live_table.specs.Shown.{IsRightTable}
-use Rattle.live_table.specs.Stored.{Listed, key_at, looks_of, shown}
+use Rattle.live_table.specs.TableView.{IsRightTable}
+use Rattle.live_table.specs.TableContents.{Listed, key_at, looks_of, shown_table}
 
 -- the steps of a number are those of the words of its key, whatever the faults of the words that lead nowhere
 abbrev pub IsFaithful : Table → Listed → ℕ → Type 0
@@ -49,7 +49,7 @@ HasLooksIfLed table l n = AllLead (steps l.graph n) → HasLooksOf table l n
 -- each number has a key of its own, a flag that says whether the key has an entry, and steps; the names to which a
 -- settled name leads are settled, it has an entry, and its steps and the keys at which it looks are those of its words
 -- in the present table. The steps of any other name may be stale.
-pub record AreNodes (table : Table) (l : Listed) : Type 0 where
+pub record AreNumberedNames (table : Table) (l : Listed) : Type 0 where
   pub step_count : length l.graph ≡ length l.keys
   pub outcome_count : length l.outcomes ≡ length l.keys
   pub callee_count : length l.callees ≡ length l.keys
@@ -58,7 +58,7 @@ pub record AreNodes (table : Table) (l : Listed) : Type 0 where
   pub marked : l.settled ≡ map is_some l.outcomes
   pub counted : l.count ≡ count_by (λ b. b) l.settled
   pub apart : (n m : ℕ) → n < length l.keys → m < length l.keys → key_at l.keys n ≡ key_at l.keys m → n ≡ m
-  pub net : IsNet l.graph l.settled
+  pub net : IsConsistentGraph l.graph l.settled
   pub present : (n : ℕ) → IsSettled l.settled n → is_present table (key_at l.keys n) ≡ true
   pub faithful : (n : ℕ) → IsSettled l.settled n → IsFaithful table l n
   pub starts : (n : ℕ) → IsSettled l.settled n → HasStartsOf table l n
@@ -67,6 +67,6 @@ pub record AreNodes (table : Table) (l : Listed) : Type 0 where
 
 -- a live table: its nodes, and the right outcome of each settled name
 pub record IsSound (deck : Contents) (l : Listed) (reductions : ℕ) : Type 0 where
-  pub numbers : AreNodes (table deck) l
-  pub right : IsRightTable (shown deck l reductions)
+  pub numbers : AreNumberedNames (table deck) l
+  pub right : IsRightTable (shown_table deck l reductions)
   pub few : reductions ≤ 2 ^ 64 - 1

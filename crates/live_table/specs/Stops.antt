@@ -10,10 +10,10 @@ use Rattle.live_table.specs.declared.fault.QueryFault.{QueryFault}
 use Rattle.live_table.specs.declared.fault.QueryFault.TheVariants as fault
 use Rattle.live_table.specs.declared.stop.Stop.{Stop}
 use Rattle.live_table.specs.declared.stop.Stop.TheVariants.{At, Below, OutOfMemory}
-use Rattle.live_table.specs.Asked.{fault_in}
-use Rattle.live_table.specs.Explored.{fault_of}
+use Rattle.live_table.specs.QueryEffects.{fault_in}
+use Rattle.live_table.specs.ExploredNames.{dead_end_fault}
 use Rattle.live_table.specs.QueryWords.{fault_before}
-use Rattle.live_table.specs.Stored.{Listed}
+use Rattle.live_table.specs.TableContents.{Listed}
 
 -- the fault of a step that is known to have one
 pub record IsFaultBelow (table : Table) (l : Listed) (ends : List DeadEnd) (fs : Faults) (x : Step) (q : QueryFault)
@@ -24,17 +24,17 @@ pub record IsFaultBelow (table : Table) (l : Listed) (ends : List DeadEnd) (fs :
   pub is : q ≡ fault.Name name
 
 -- the fault of a query with this stop
-abbrev pub IsNamed : Table → Listed → List DeadEnd → Faults → Stop → QueryFault → Type 0
-IsNamed table l ends fs (At end) q = q ≡ fault.Name (fault_of (Some end) None)
-IsNamed table l ends fs (Below x) q = IsFaultBelow table l ends fs x q
-IsNamed table l ends fs OutOfMemory q = q ≡ fault.OutOfMemory
+abbrev pub IsStopFault : Table → Listed → List DeadEnd → Faults → Stop → QueryFault → Type 0
+IsStopFault table l ends fs (At end) q = q ≡ fault.Name (dead_end_fault (Some end) None)
+IsStopFault table l ends fs (Below x) q = IsFaultBelow table l ends fs x q
+IsStopFault table l ends fs OutOfMemory q = q ≡ fault.OutOfMemory
 
 -- a result with its stop named
 abbrev pub IsNamedResult : {A : Type 0} → Table → Listed → List DeadEnd → Faults → Result A Stop → Result A QueryFault
     → Type 0
 IsNamedResult table l ends fs (Ok x) answer = answer ≡ Ok x
 IsNamedResult table l ends fs (Err stop) answer =
-    (q : QueryFault) × IsNamed table l ends fs stop q × (answer ≡ Err q)
+    (q : QueryFault) × IsStopFault table l ends fs stop q × (answer ≡ Err q)
 
 -- the property holds of a result with its stop named
 pub record HoldsByName {A : Type 0} (table : Table) (l : Listed) (ends : List DeadEnd) (fs : Faults)
@@ -48,5 +48,5 @@ pub record HoldsByName {A : Type 0} (table : Table) (l : Listed) (ends : List De
 pub record IsCutStop (table : Table) (l : Listed) (ends : List DeadEnd) (fs : Faults) (query : List Step)
     (end : DeadEnd) (stop : Stop) : Type 0 where
   pub name : NameFault
-  pub named : IsNamed table l ends fs stop (fault.Name name)
+  pub named : IsStopFault table l ends fs stop (fault.Name name)
   pub first : fault_before (fault_in table l ends query) end ≡ Some name

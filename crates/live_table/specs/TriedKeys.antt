@@ -5,11 +5,11 @@ use Rattle.def_entry.specs.declared.key.Key.{Key}
 use Rattle.live_table.specs.declared.tried_keys.TriedKey.{TriedKey}
 
 -- the key whose name is at its range among the names
-abbrev pub key_in : (names : List ℕ) → TriedKey → Key
-key_in names tried = key tried.kind (take (tried.end - tried.start) (drop tried.start names))
+abbrev pub key_of_range : (names : List ℕ) → TriedKey → Key
+key_of_range names tried = key tried.kind (take (tried.end - tried.start) (drop tried.start names))
 
-abbrev pub keys_in : (names : List ℕ) → List TriedKey → List Key
-keys_in names tried = map (key_in names) tried
+abbrev pub keys_of_ranges : (names : List ℕ) → List TriedKey → List Key
+keys_of_ranges names tried = map (key_of_range names) tried
 
 -- each range is within the names
 pub record AreWithin (names : List ℕ) (tried : List TriedKey) : Type 0 where

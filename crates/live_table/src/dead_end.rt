@@ -1,11 +1,11 @@
 //! Words that lead nowhere.
 
 ghost use Rattle.std.specs.Prelude.{◌≡◌, IfOk};
-ghost use Rattle.live_table.specs.Leading.{is_refused_lead};
-ghost use Rattle.live_table.specs.Explored.{fault_of};
+ghost use Rattle.live_table.specs.WordTargets.{is_refused_lead};
+ghost use Rattle.live_table.specs.ExploredNames.{dead_end_fault};
 ghost use Rattle.std.specs.Option.{option_copied};
 
-use crate::leading::Lead;
+use crate::word_targets::Lead;
 use def_entry::Key;
 use expr_tree::WordUse;
 use std::alloc::{AllocError, Global};
@@ -32,7 +32,7 @@ impl DeadEnd {
     /// Returns the fault of the word in the entry of a key, or in the queried expression if `holder` is `None`. The
     /// only error is lack of memory.
     pub(crate) fn fault(&self, alloc: Global, holder: Option<Key>) -> Result<NameFault, AllocError>
-        ensures { IfOk result (λ fault. fault ≡ fault_of (Some self.now) holder) }
+        ensures { IfOk result (λ fault. fault ≡ dead_end_fault (Some self.now) holder) }
     {
         let text = self.text.copy(alloc)?;
         if self.is_refused {

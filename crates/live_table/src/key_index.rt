@@ -3,9 +3,9 @@
 ghost use Rattle.std.specs.Prelude.{◌≡◌, ◌<◌, [], Some, false, length, slice_get};
 ghost use Rattle.std.specs.Prelude.{IfOk, IfSome, MatchOption, OnErr};
 ghost use Rattle.def_entry.specs.Keys.{key};
-ghost use Rattle.def_entry.specs.SameKeys.{is_among};
-ghost use Rattle.live_table.specs.Indexed.{IsAdded, stored};
-ghost use Rattle.live_table.specs.Stored.{key_at};
+ghost use Rattle.def_entry.specs.SameKeys.{is_key_among};
+ghost use Rattle.live_table.specs.KeyIndex.{IsAdded, key_bytes};
+ghost use Rattle.live_table.specs.TableContents.{key_at};
 
 use crate::stored_keys::{StoredKey, is_short, kind_told, overwrite, store};
 use def_entry::{Key, Kind};
@@ -33,13 +33,13 @@ impl Model for KeyIndex {
     ghost use Rattle.std.specs.Prelude.{List};
     ghost use Rattle.std.specs.List.{All};
     ghost use Rattle.def_entry.specs.declared.key.Key.{Key};
-    ghost use Rattle.live_table.specs.Indexed.{IsStored, keys_in};
+    ghost use Rattle.live_table.specs.KeyIndex.{IsStoredKey, decoded_keys};
 
     ghost Value = { List Key };
 
-    ghost view = { λ x. keys_in x.keys.keys };
+    ghost view = { λ x. decoded_keys x.keys.keys };
 
-    ghost invariant = { λ x. All (IsStored x.wanted.capacity) x.keys.keys };
+    ghost invariant = { λ x. All (IsStoredKey x.wanted.capacity) x.keys.keys };
 }
 
 impl KeyIndex {
@@ -63,7 +63,7 @@ impl KeyIndex {
     /// Returns the number of a key, or `None` if it has none. It allocates no memory.
     pub(crate) fn number_of(&mut self, kind: Kind, name: &[u8]) -> Option<usize>
         ensures kept { self.new ≡ self.old }
-        ensures number { MatchOption result (is_among self.old (key kind name.now) ≡ false)
+        ensures number { MatchOption result (is_key_among self.old (key kind name.now) ≡ false)
             (λ n. slice_get self.old n ≡ Some (key kind name.now)) }
     {
         if self.wanted.capacity() <= name.len() {
@@ -80,7 +80,7 @@ impl KeyIndex {
         kind: Kind,
         name: &[u8],
     ) -> Result<Option<usize>, AllocError>
-        ensures { IfOk result (λ number. MatchOption number (is_among self.now (key kind name.now) ≡ false)
+        ensures { IfOk result (λ number. MatchOption number (is_key_among self.now (key kind name.now) ≡ false)
             (λ n. slice_get self.now n ≡ Some (key kind name.now))) }
     {
         let wanted = store(alloc, kind, name)?;
@@ -106,7 +106,7 @@ impl KeyIndex {
     // Returns the bytes of the key with number `n`.
     fn bytes(&self, n: usize) -> &[u8]
         requires { n < length self.now }
-        ensures { result.now ≡ stored (key_at self.now n) }
+        ensures { result.now ≡ key_bytes (key_at self.now n) }
     {
         self.keys.as_slice()[n].as_slice()
     }

@@ -2,7 +2,7 @@
 
 ghost use Rattle.std.specs.Prelude.{◌≡◌, []};
 
-use crate::agenda::Agenda;
+use crate::worklist::Worklist;
 use name_edges::NameEdges;
 use std::alloc::Global;
 use std::collections::VecDeque;
@@ -15,7 +15,7 @@ pub(crate) struct LateEdges {
     // the names without edges, in the order in which they were settled
     pub(crate) waiting: VecDeque<usize>,
     // the names to which the words of one name lead
-    pub(crate) targets: Agenda,
+    pub(crate) targets: Worklist,
 }
 
 impl LateEdges {
@@ -27,7 +27,7 @@ impl LateEdges {
         LateEdges {
             made: NameEdges::new(alloc),
             waiting: VecDeque::new(alloc),
-            targets: Agenda::new(alloc),
+            targets: Worklist::new(alloc),
         }
     }
 }

@@ -3,11 +3,11 @@
 ghost use Rattle.live_table.specs.CallLists.{CallListLaw, DeckKindsLaw, EditsCanBeLaw};
 ghost use Rattle.live_table.specs.EventExamples.{EventExamples};
 ghost use Rattle.live_table.specs.KeptLists.{KeptListLaw};
-ghost use Rattle.live_table.specs.KeptNames.{KeptLaw};
+ghost use Rattle.live_table.specs.KeptNames.{StoredNamesLaw};
 ghost use Rattle.live_table.specs.New.{NewLaw};
 ghost use Rattle.live_table.specs.Right.{RightLaw};
-ghost use Rattle.live_table.specs.Runs.{CountLaw, RunLaw, StepsLaw};
-ghost use Rattle.live_table.specs.States.{OrderLaw};
+ghost use Rattle.live_table.specs.Runs.{CountLaw, RunLaw, RunStepsLaw};
+ghost use Rattle.live_table.specs.States.{EventOrderLaw};
 
 use deck::{changes_are_computed, table_keys_are_whole};
 
@@ -18,7 +18,7 @@ pub fn right_law()
 
 /// The state after a list of events and then another is the state after their concatenation.
 pub fn order_law()
-    ensures { OrderLaw }
+    ensures { EventOrderLaw }
 {}
 
 /// Runs of events compose, even if the last one was cut off.
@@ -28,7 +28,7 @@ pub fn run_law()
 
 /// The state after events does not depend on the steps that were counted before.
 pub fn steps_law()
-    ensures { StepsLaw }
+    ensures { RunStepsLaw }
 {}
 
 /// The state after a query, in terms of the names that are new.
@@ -39,7 +39,7 @@ pub fn new_law()
 /// After any queries and edits the stored names are exactly those that the queries reached and no later edit affected,
 /// each with its outcome in the present table.
 pub fn kept_law()
-    ensures { KeptLaw }
+    ensures { StoredNamesLaw }
 {}
 
 /// Events never lower the count of newly settled names.

@@ -1,38 +1,38 @@
 //! A deck with the outcome of each name that was queried.
 #![tactic(auto)]
 
-mod agenda;
-mod asking;
 mod callee;
 mod counts;
 mod dead_end;
 mod deck_table;
+mod edge_creation;
 mod entry_words;
-mod evaluating;
-mod explored;
-mod exploring;
+mod evaluation;
+mod exploration;
+mod explored_names;
 mod fault;
-mod forgetting;
-mod keeping;
+mod fault_names;
+mod fault_search;
+mod invalidation;
 mod key_index;
 mod late_edges;
 mod laws;
-mod leading;
-mod linking;
 mod live_table;
-mod naming;
+mod name_queries;
 mod nodes;
-mod numbering;
+mod numbered_keys;
 mod query_words;
 mod scratch;
-mod searching;
-mod settling;
-mod stepping;
+mod settlement;
 mod stop;
 mod stored_keys;
+mod stored_outcomes;
 mod surroundings;
 mod tried_keys;
 mod tried_numbers;
+mod word_steps;
+mod word_targets;
+mod worklist;
 
 pub use counts::Counts;
 pub use fault::QueryFault;

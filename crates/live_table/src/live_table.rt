@@ -11,20 +11,20 @@ ghost use Rattle.deck.specs.Tables.{table};
 ghost use Rattle.live_table.specs.declared.fault.QueryFault.TheVariants as query_fault;
 ghost use Rattle.live_table.specs.declared.stop.Stop.TheVariants.{OutOfMemory};
 ghost use Rattle.live_table.specs.Answers as spec;
-ghost use Rattle.live_table.specs.Calls.{ArePresent, AreQueries, IsQuery, all_names, names_in, queries_of};
-ghost use Rattle.live_table.specs.Shown.{IsRightTable};
+ghost use Rattle.live_table.specs.Calls.{ArePresent, AreQueries, IsQuery, all_names, key_queries, present_names};
+ghost use Rattle.live_table.specs.TableView.{IsRightTable};
 ghost use Rattle.live_table.specs.States.{AsksKey, AsksWords};
 
-mod cached;
-mod editing;
-mod setting;
+mod cached_outcomes;
+mod deck_edits;
+mod setting_edits;
 
-use crate::asking::{ask_key, ask_words};
 use crate::counts::Counts;
-use crate::evaluating::{inverse_worth, worth};
-use crate::explored::Explored;
+use crate::evaluation::{evaluate_inverse, evaluate_tree};
+use crate::explored_names::Explored;
 use crate::fault::QueryFault;
 use crate::late_edges::LateEdges;
+use crate::name_queries::{ask_key, ask_words};
 use crate::nodes::Nodes;
 use crate::scratch::Scratch;
 use crate::stop::{Stop, fault_of_stop};
@@ -64,22 +64,22 @@ impl Drop for LiveTable {
 }
 
 impl Model for LiveTable {
-    ghost use Rattle.live_table.specs.Shown.{Shown, shown_code};
+    ghost use Rattle.live_table.specs.TableView.{Shown, shown_code};
     ghost use Rattle.deck.specs.Tables.{table};
-    ghost use Rattle.live_table.specs.Edged.{IsLive};
-    ghost use Rattle.live_table.specs.Exploring.{WereExplored};
+    ghost use Rattle.live_table.specs.TableEdges.{IsLive};
+    ghost use Rattle.live_table.specs.Exploration.{WereExplored};
     ghost use Rattle.live_table.specs.KnownFaults.{AreFaultsKnown};
-    ghost use Rattle.live_table.specs.Stored.{listed, shown};
+    ghost use Rattle.live_table.specs.TableContents.{node_lists, shown_table};
 
     ghost Value = { Shown };
 
     ghost coded = { shown_code };
 
-    ghost view = { λ t. shown t.deck (listed t.nodes) t.reductions };
+    ghost view = { λ t. shown_table t.deck (node_lists t.nodes) t.reductions };
 
-    ghost invariant = { λ t. IsLive t.deck (listed t.nodes) t.edges t.reductions
-        × (WereExplored (table t.deck) (listed t.nodes) t.explored.names t.explored.dead_ends.items
-        × AreFaultsKnown (listed t.nodes) t.explored.names t.explored.findings) };
+    ghost invariant = { λ t. IsLive t.deck (node_lists t.nodes) t.edges t.reductions
+        × (WereExplored (table t.deck) (node_lists t.nodes) t.explored.names t.explored.dead_ends.items
+        × AreFaultsKnown (node_lists t.nodes) t.explored.names t.explored.findings) };
 }
 
 impl LiveTable {
@@ -88,7 +88,7 @@ impl LiveTable {
         ensures { result ≡ record { deck = deck; kept = map_of.empty; reductions = 0 } }
     {
         findings_law();
-        let seed = deck.settings().vars.seed();
+        let seed = deck.settings().vars.table_seed();
         LiveTable {
             deck,
             nodes: Nodes::new(alloc, seed),
@@ -100,7 +100,7 @@ impl LiveTable {
     }
 
     /// A law of every live table: the cached outcomes are right.
-    pub fn kept_right(&self)
+    pub fn outcomes_are_right(&self)
         ensures { IsRightTable self.now }
     {
         let _ = &self.deck;
@@ -124,7 +124,7 @@ impl LiveTable {
         steps: &mut Steps<L>,
     ) -> Result<Quantity, QueryFault>
         ensures deck { self.new.deck ≡ self.old.deck }
-        ensures answer { spec.Answers result (spec.answer (table self.old.deck) (syntax tree.now)) }
+        ensures answer { spec.IsQueryResult result (spec.answer (table self.old.deck) (syntax tree.now)) }
         ensures after { IsQuery (AsksWords (words_in (syntax tree.now))) result
             self.old self.new steps.old steps.new }
     {
@@ -143,7 +143,7 @@ impl LiveTable {
         );
         let nodes = &self.nodes;
         match query {
-            Ok(query) => worth(alloc, deck, nodes, tree, &words, query.as_slice()),
+            Ok(query) => evaluate_tree(alloc, deck, nodes, tree, &words, query.as_slice()),
             Err(stop) => Err(fault_of_stop(alloc, deck, nodes, &self.explored, &stop)),
         }
     }
@@ -175,7 +175,14 @@ impl LiveTable {
             steps,
         );
         match query {
-            Ok(query) => value_of(worth(alloc, deck, &self.nodes, tree, &words, query.as_slice())),
+            Ok(query) => value_of(evaluate_tree(
+                alloc,
+                deck,
+                &self.nodes,
+                tree,
+                &words,
+                query.as_slice(),
+            )),
             Err(stop) => no_value(&stop),
         }
     }
@@ -191,7 +198,7 @@ impl LiveTable {
     ) -> Result<Quantity, QueryFault>
         requires { is_present (table self.old.deck) (key_spec.key kind.Func name.now) ≡ true }
         ensures deck { self.new.deck ≡ self.old.deck }
-        ensures answer { spec.Answers result (spec.inverse_answer (table self.old.deck) name.now value.now) }
+        ensures answer { spec.IsQueryResult result (spec.inverse_answer (table self.old.deck) name.now value.now) }
         ensures after { IsQuery (AsksKey (key_spec.key kind.Func name.now)) result
             self.old self.new steps.old steps.new }
     {
@@ -214,7 +221,7 @@ impl LiveTable {
                 return Err(fault_of_stop(alloc, &self.deck, nodes, &self.explored, &stop));
             }
         };
-        inverse_worth(alloc, &self.deck, nodes, n, value)
+        evaluate_inverse(alloc, &self.deck, nodes, n, value)
     }
 
     /// Queries each unit, prefix and function, in byte order of names. The only error is lack of memory.
@@ -241,7 +248,7 @@ impl LiveTable {
         requires right { IsRightTable self.old }
         requires present { ArePresent (table self.old.deck) keys.now }
         ensures deck { self.new.deck ≡ self.old.deck }
-        ensures after { AreQueries (queries_of keys.now) result self.old self.new steps.old steps.new }
+        ensures after { AreQueries (key_queries keys.now) result self.old self.new steps.old steps.new }
     {
         for key in keys {
             self.settle_key(alloc, key, steps)?;
@@ -259,7 +266,7 @@ impl LiveTable {
         requires right { IsRightTable self.old }
         requires present { is_present (table self.old.deck) key.now ≡ true }
         ensures deck { self.new.deck ≡ self.old.deck }
-        ensures after { AreQueries (queries_of (key.now ∷ [])) result self.old self.new steps.old steps.new }
+        ensures after { AreQueries (key_queries (key.now ∷ [])) result self.old self.new steps.old steps.new }
     {
         if let Kind::List = key.kind {
             return Ok(());
@@ -282,7 +289,7 @@ impl LiveTable {
     /// Returns the counts of the table.
     pub fn counts(&self) -> Counts
         ensures settled { result.settled ≡ map_of.len self.now.kept }
-        ensures names { result.names ≡ length (names_in (table self.now.deck)) }
+        ensures names { result.names ≡ length (present_names (table self.now.deck)) }
         ensures reductions { result.reductions ≡ self.now.reductions }
     {
         table_keys_are_whole();

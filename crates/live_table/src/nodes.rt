@@ -3,13 +3,13 @@
 ghost use Rattle.std.specs.Prelude.{◌≡◌, ◌<◌, IfOk, OnErr, length, slice_set};
 ghost use Rattle.std.specs.Option.{is_some};
 ghost use Rattle.def_entry.specs.Keys.{key};
-ghost use Rattle.def_entry.specs.SameKeys.{is_among};
-ghost use Rattle.live_table.specs.Numbering.{IsNumbered};
-ghost use Rattle.live_table.specs.Stored.{listed, no_names};
+ghost use Rattle.def_entry.specs.SameKeys.{is_key_among};
+ghost use Rattle.live_table.specs.KeyNumbers.{IsNumbered};
+ghost use Rattle.live_table.specs.TableContents.{no_nodes, node_lists};
 
-use crate::agenda::Agenda;
 use crate::callee::{Callee, PartStarts};
 use crate::key_index::KeyIndex;
+use crate::worklist::Worklist;
 use def_entry::Kind;
 use name_lookup::Present;
 use name_walk::StepList;
@@ -34,13 +34,13 @@ pub(crate) struct Nodes {
     // changed; an edit of other lines may have moved the entry since
     pub(crate) places: Vec<u32>,
     // the keys at which the words of one name have looked so far besides their targets
-    pub(crate) gathered: Agenda,
+    pub(crate) gathered: Worklist,
 }
 
 impl Nodes {
     /// Returns an empty list of names. The table of keys uses the seed.
     pub(crate) fn new(alloc: Global, seed: HashSeed) -> Nodes
-        ensures { listed result ≡ no_names }
+        ensures { node_lists result ≡ no_nodes }
     {
         Nodes {
             keys: KeyIndex::new(alloc, seed),
@@ -52,7 +52,7 @@ impl Nodes {
             settled: Vec::new(alloc),
             settled_count: 0,
             places: Vec::new(alloc),
-            gathered: Agenda::new(alloc),
+            gathered: Worklist::new(alloc),
         }
     }
 
@@ -65,9 +65,10 @@ impl Nodes {
         kind: Kind,
         name: &[u8],
     ) -> Result<usize, AllocError>
-        ensures ok { IfOk result (λ n. IsNumbered (key kind name.now) (is_among (P.keys table.now) (key kind name.now))
-            n (listed self.old) (listed self.new)) }
-        ensures err { OnErr result (listed self.new ≡ listed self.old) }
+        ensures ok { IfOk result (λ n. IsNumbered (key kind name.now)
+            (is_key_among (P.keys table.now) (key kind name.now))
+            n (node_lists self.old) (node_lists self.new)) }
+        ensures err { OnErr result (node_lists self.new ≡ node_lists self.old) }
         ensures gathered { self.new.gathered ≡ self.old.gathered }
     {
         self.present.reserve(1)?;
@@ -96,7 +97,7 @@ impl Nodes {
     pub(crate) fn note(&mut self, n: usize, place: Option<usize>)
         requires { n < length self.old.present.items }
         ensures present { self.new.present.items ≡ slice_set self.old.present.items n (is_some place) }
-        ensures rest { listed self.new ≡ record (listed self.old) { present = self.new.present.items } }
+        ensures rest { node_lists self.new ≡ record (node_lists self.old) { present = self.new.present.items } }
     {
         self.present[n] = place.is_some();
         if n < self.places.len() {
@@ -106,7 +107,7 @@ impl Nodes {
 
     /// Makes room for `count` names in total.
     pub(crate) fn make_room(&mut self, count: usize) -> Result<(), AllocError>
-        ensures listed { listed self.new ≡ listed self.old }
+        ensures listed { node_lists self.new ≡ node_lists self.old }
         ensures gathered { self.new.gathered ≡ self.old.gathered }
     {
         let more = count.saturating_sub(self.keys.len());

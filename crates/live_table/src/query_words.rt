@@ -3,17 +3,17 @@
 ghost use Rattle.std.specs.Prelude.{List, IfOk};
 ghost use Rattle.deck.specs.Tables.{table};
 ghost use Rattle.live_table.specs.declared.dead_end.DeadEnd.{DeadEnd};
-ghost use Rattle.live_table.specs.Exploring.{AreAdded, AreListed};
+ghost use Rattle.live_table.specs.Exploration.{AreAdded, AreListed};
 ghost use Rattle.live_table.specs.QueryWords.{AreQuerySteps};
-ghost use Rattle.live_table.specs.Sound.{AreNodes};
-ghost use Rattle.live_table.specs.Stored.{listed};
+ghost use Rattle.live_table.specs.Sound.{AreNumberedNames};
+ghost use Rattle.live_table.specs.TableContents.{node_lists};
 
-use crate::agenda::Agenda;
 use crate::dead_end::DeadEnd;
-use crate::leading::query_lead;
 use crate::nodes::Nodes;
-use crate::stepping::target_steps;
 use crate::tried_keys::TriedKeys;
+use crate::word_steps::target_steps;
+use crate::word_targets::query_lead;
+use crate::worklist::Worklist;
 use deck::Deck;
 use expr_tree::Words;
 use name_walk::StepList;
@@ -33,22 +33,23 @@ pub(crate) fn query_steps(
     alloc: Global,
     deck: &Deck,
     nodes: &mut Nodes,
-    explored: &Agenda,
-    agenda: &mut Agenda,
+    explored: &Worklist,
+    worklist: &mut Worklist,
     tried: &mut TriedKeys,
     words: &Words<'_>,
 ) -> Result<QuerySteps, AllocError>
-    requires nodes { AreNodes (table deck.now) (listed nodes.old) }
-    requires listed { AreListed (table deck.now) (listed nodes.old) explored.now agenda.old }
-    ensures added { (ends : List DeadEnd) → AreAdded (table deck.now) (listed nodes.old) (listed nodes.new)
-        explored.now agenda.old agenda.new ends ends }
-    ensures steps { IfOk result (λ query. AreQuerySteps (table deck.now) (listed nodes.new) explored.now agenda.new
+    requires nodes { AreNumberedNames (table deck.now) (node_lists nodes.old) }
+    requires listed { AreListed (table deck.now) (node_lists nodes.old) explored.now worklist.old }
+    ensures added { (ends : List DeadEnd) → AreAdded (table deck.now) (node_lists nodes.old) (node_lists nodes.new)
+        explored.now worklist.old worklist.new ends ends }
+    ensures steps { IfOk result (λ query. AreQuerySteps (table deck.now) (node_lists nodes.new) explored.now
+        worklist.new
         words.now query.steps.items query.end) }
 {
     let mut steps = StepList::new(alloc);
     for u in words.as_slice() {
         let lead = query_lead(alloc, deck, nodes, tried, u)?;
-        let Some(word) = target_steps(nodes, explored, agenda, lead)? else {
+        let Some(word) = target_steps(nodes, explored, worklist, lead)? else {
             let end = Some(DeadEnd::new(alloc, u, lead)?);
             return Ok(QuerySteps { steps, end });
         };

@@ -3,18 +3,18 @@
 ghost use Rattle.std.specs.Prelude.{◌≡◌, ◌⊎◌, ◌∷◌, [], Some, IfOk};
 ghost use Rattle.deck.specs.Tables.{table};
 ghost use Rattle.name_walk.specs.Findings.{IsFaultyStep};
-ghost use Rattle.live_table.specs.Asked.{fault_in};
+ghost use Rattle.live_table.specs.QueryEffects.{fault_in};
 ghost use Rattle.live_table.specs.declared.fault.QueryFault.{QueryFault};
 ghost use Rattle.live_table.specs.declared.fault.QueryFault.TheVariants as query_fault;
 ghost use Rattle.live_table.specs.KnownFaults.{AreFaultsKnown};
-ghost use Rattle.live_table.specs.Sound.{AreNodes};
-ghost use Rattle.live_table.specs.Stops.{IsNamed};
-ghost use Rattle.live_table.specs.Stored.{listed};
+ghost use Rattle.live_table.specs.Sound.{AreNumberedNames};
+ghost use Rattle.live_table.specs.Stops.{IsStopFault};
+ghost use Rattle.live_table.specs.TableContents.{node_lists};
 
 use crate::dead_end::DeadEnd;
-use crate::explored::Explored;
+use crate::explored_names::Explored;
 use crate::fault::QueryFault;
-use crate::naming::named_fault;
+use crate::fault_names::named_fault;
 use crate::nodes::Nodes;
 use deck::Deck;
 use name_walk::Step;
@@ -52,11 +52,11 @@ pub(crate) fn fault_of_stop(
     explored: &Explored,
     stop: &Stop,
 ) -> QueryFault
-    requires nodes { AreNodes (table deck.now) (listed nodes.now) }
-    requires faults { AreFaultsKnown (listed nodes.now) explored.now.names explored.now.findings }
-    requires named { (q : QueryFault) × IsNamed (table deck.now) (listed nodes.now) explored.now.dead_ends.items
+    requires nodes { AreNumberedNames (table deck.now) (node_lists nodes.now) }
+    requires faults { AreFaultsKnown (node_lists nodes.now) explored.now.names explored.now.findings }
+    requires named { (q : QueryFault) × IsStopFault (table deck.now) (node_lists nodes.now) explored.now.dead_ends.items
         explored.now.findings.faults stop.now q }
-    ensures { (q : QueryFault) → IsNamed (table deck.now) (listed nodes.now) explored.now.dead_ends.items
+    ensures { (q : QueryFault) → IsStopFault (table deck.now) (node_lists nodes.now) explored.now.dead_ends.items
         explored.now.findings.faults stop.now q → (result ≡ query_fault.OutOfMemory) ⊎ (result ≡ q) }
 {
     match named_stop(alloc, deck, nodes, explored, stop) {
@@ -73,11 +73,11 @@ fn named_stop(
     explored: &Explored,
     stop: &Stop,
 ) -> Result<NameFault, AllocError>
-    requires nodes { AreNodes (table deck.now) (listed nodes.now) }
-    requires faults { AreFaultsKnown (listed nodes.now) explored.now.names explored.now.findings }
-    requires named { (q : QueryFault) × IsNamed (table deck.now) (listed nodes.now) explored.now.dead_ends.items
+    requires nodes { AreNumberedNames (table deck.now) (node_lists nodes.now) }
+    requires faults { AreFaultsKnown (node_lists nodes.now) explored.now.names explored.now.findings }
+    requires named { (q : QueryFault) × IsStopFault (table deck.now) (node_lists nodes.now) explored.now.dead_ends.items
         explored.now.findings.faults stop.now q }
-    ensures { IfOk result (λ f. (q : QueryFault) → IsNamed (table deck.now) (listed nodes.now)
+    ensures { IfOk result (λ f. (q : QueryFault) → IsStopFault (table deck.now) (node_lists nodes.now)
         explored.now.dead_ends.items explored.now.findings.faults stop.now q → q ≡ query_fault.Name f) }
 {
     match stop {
@@ -95,10 +95,10 @@ fn fault_below(
     explored: &Explored,
     step: Step,
 ) -> Result<NameFault, AllocError>
-    requires nodes { AreNodes (table deck.now) (listed nodes.now) }
-    requires faults { AreFaultsKnown (listed nodes.now) explored.now.names explored.now.findings }
+    requires nodes { AreNumberedNames (table deck.now) (node_lists nodes.now) }
+    requires faults { AreFaultsKnown (node_lists nodes.now) explored.now.names explored.now.findings }
     requires known { IsFaultyStep explored.now.findings.faults step }
-    ensures { IfOk result (λ f. fault_in (table deck.now) (listed nodes.now) explored.now.dead_ends.items
+    ensures { IfOk result (λ f. fault_in (table deck.now) (node_lists nodes.now) explored.now.dead_ends.items
         (step ∷ []) ≡ Some f) }
 {
     let fault = explored.findings.fault(alloc, step)?;

@@ -7,7 +7,7 @@ ghost use Rattle.deck.specs.Tables.{table};
 ghost use Rattle.name_walk.specs.Steps.{steps};
 ghost use Rattle.live_table.specs.declared.callee.Callee.{Callee};
 ghost use Rattle.live_table.specs.Callees as callees;
-ghost use Rattle.live_table.specs.Stored.{key_at};
+ghost use Rattle.live_table.specs.TableContents.{key_at};
 
 use crate::nodes::Nodes;
 use deck::Deck;
@@ -39,12 +39,12 @@ impl<'a, 'w> Model for Surroundings<'a, 'w> {
 
     ghost Value = { Scene };
 
-    ghost use Rattle.live_table.specs.Stored.{listed};
-    ghost use Rattle.live_table.specs.Surrounded.{IsSurrounding, scene};
+    ghost use Rattle.live_table.specs.TableContents.{node_lists};
+    ghost use Rattle.live_table.specs.EvalInvariants.{IsSurrounding, scene};
 
-    ghost view = { λ s. scene s.deck.now (listed s.nodes.now) s.asked };
+    ghost view = { λ s. scene s.deck.now (node_lists s.nodes.now) s.asked };
 
-    ghost invariant = { λ s. IsSurrounding s.deck.now (listed s.nodes.now) s.asked };
+    ghost invariant = { λ s. IsSurrounding s.deck.now (node_lists s.nodes.now) s.asked };
 }
 
 impl<'a, 'w> Env for Surroundings<'a, 'w> {
@@ -59,7 +59,7 @@ impl<'a, 'w> Env for Surroundings<'a, 'w> {
     ghost callee = { scenes.callee_at };
 
     fn meaning(&self, holder: Holder, place: usize) -> Meaning<'_> {
-        self.told(self.targets(holder, place))
+        self.meaning_of_targets(self.targets(holder, place))
     }
 
     fn function(&self, id: usize) -> &What {
@@ -84,9 +84,9 @@ struct Targets {
 
 impl<'a, 'w> Surroundings<'a, 'w> {
     ghost use Rattle.expr_tree.specs.declared.word_list.WordUse.{WordUse};
-    ghost use Rattle.tree_eval.specs.Environment.{IsTold};
+    ghost use Rattle.tree_eval.specs.Environment.{IsMeaningTold};
     ghost use Rattle.table_names.specs.Meanings as names;
-    ghost use Rattle.name_walk.specs.Closed.{IsSettled};
+    ghost use Rattle.name_walk.specs.ClosedNames.{IsSettled};
     ghost use Rattle.live_table.specs.Scenes as scenes;
 
     // Returns the numbers of the targets of the word at a place.
@@ -111,11 +111,12 @@ impl<'a, 'w> Surroundings<'a, 'w> {
     }
 
     // Returns the meaning of a word, given the numbers of its targets.
-    fn told(&self, targets: Targets) -> Meaning<'_>
+    fn meaning_of_targets(&self, targets: Targets) -> Meaning<'_>
         requires first { IsSettled self.now.settled targets.first }
         requires second { IsSettled self.now.settled targets.second }
         ensures { (u : WordUse) → scenes.IsLed self.now u targets.first targets.second
-            → IsTold (scenes.has_callee self.now) (scenes.callee_at self.now) (scenes.word_means self.now u) result }
+            → IsMeaningTold (scenes.has_callee self.now) (scenes.callee_at self.now) (scenes.word_means self.now u)
+            result }
     {
         let outcome = self.outcome(targets.first);
         if targets.first != targets.second {
@@ -147,7 +148,7 @@ pub(crate) fn entry<'a>(deck: &'a Deck, nodes: &Nodes, n: usize) -> Entry<'a>
 {
     let kind = nodes.keys.kind(n);
     let name = nodes.keys.name(n);
-    deck.entry_near(nodes.place(n), kind, name).unwrap()
+    deck.entry_with_hint(nodes.place(n), kind, name).unwrap()
 }
 
 /// Borrows the steps of the name with number `n`.

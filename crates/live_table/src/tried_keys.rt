@@ -2,7 +2,7 @@
 
 ghost use Rattle.std.specs.Prelude.{◌≡◌, ◌<◌, ◌++◌, ◌∷◌, [], length, OnOk};
 ghost use Rattle.def_entry.specs.Keys.{key};
-ghost use Rattle.live_table.specs.Stored.{key_at};
+ghost use Rattle.live_table.specs.TableContents.{key_at};
 
 use def_entry::Kind;
 use name_lookup::{Looking, Present};
@@ -29,11 +29,11 @@ struct TriedKey {
 impl Model for TriedKeys {
     ghost use Rattle.std.specs.Prelude.{List};
     ghost use Rattle.def_entry.specs.declared.key.Key.{Key};
-    ghost use Rattle.live_table.specs.TriedKeys.{AreWithin, keys_in};
+    ghost use Rattle.live_table.specs.TriedKeys.{AreWithin, keys_of_ranges};
 
     ghost Value = { List Key };
 
-    ghost view = { λ t. keys_in t.names.items t.keys.items };
+    ghost view = { λ t. keys_of_ranges t.names.items t.keys.items };
 
     ghost invariant = { λ t. AreWithin t.names.items t.keys.items };
 }
@@ -102,8 +102,8 @@ impl TriedKeys {
         self.names.clear();
     }
 
-    // Appends a key. Each name is copied: a copy costs less than a comparison with the front of the word, and the names of
-    // one word, which has at most 256 bytes, take some 64 KiB at most. If memory runs out, part of the name may have
+    // Appends a key. Each name is copied: a copy costs less than a comparison with the front of the word, and the names
+    // of one word, which has at most 256 bytes, take some 64 KiB at most. If memory runs out, part of the name may have
     // been stored, but it belongs to no key.
     fn push(&mut self, kind: Kind, name: &[u8]) -> Result<(), AllocError>
         ensures { OnOk result (self.new ≡ self.old ++ key kind name.now ∷ []) }

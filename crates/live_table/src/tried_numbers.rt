@@ -4,16 +4,16 @@ ghost use Rattle.std.specs.Prelude.{◌≡◌, ◌<◌, ◌≤◌, ◌-◌, ℕ,
 ghost use Rattle.deck.specs.Tables.{table};
 ghost use Rattle.name_lookup.specs.Targets.{count, last_keys};
 ghost use Rattle.live_table.specs.declared.dead_end.DeadEnd.{DeadEnd};
-ghost use Rattle.live_table.specs.Exploring.{AreAdded, AreListed};
-ghost use Rattle.live_table.specs.Leading.{AreGathered, LeadsTo};
-ghost use Rattle.live_table.specs.Sound.{AreNodes};
-ghost use Rattle.live_table.specs.Stored.{key_at, listed};
+ghost use Rattle.live_table.specs.Exploration.{AreAdded, AreListed};
+ghost use Rattle.live_table.specs.WordTargets.{AreGathered, LeadsToKeys};
+ghost use Rattle.live_table.specs.Sound.{AreNumberedNames};
+ghost use Rattle.live_table.specs.TableContents.{key_at, node_lists};
 
 use crate::deck_table::DeckTable;
-use crate::leading::Lead;
 use crate::nodes::Nodes;
-use crate::numbering::number;
+use crate::numbered_keys::number;
 use crate::tried_keys::TriedKeys;
+use crate::word_targets::Lead;
 use deck::Deck;
 use name_lookup::Targets;
 use std::alloc::{AllocError, Global};
@@ -26,10 +26,10 @@ pub(crate) fn gather_others(
     tried: &TriedKeys,
     targets: Targets,
 ) -> Result<(), AllocError>
-    requires { AreNodes (table deck.now) (listed nodes.old) }
+    requires { AreNumberedNames (table deck.now) (node_lists nodes.old) }
     ensures added { (before list : List ℕ) (ends : List DeadEnd)
-        → AreListed (table deck.now) (listed nodes.old) before list
-        → AreAdded (table deck.now) (listed nodes.old) (listed nodes.new) before list list ends ends }
+        → AreListed (table deck.now) (node_lists nodes.old) before list
+        → AreAdded (table deck.now) (node_lists nodes.old) (node_lists nodes.new) before list list ends ends }
     ensures gathered { IfOk result (λ _. AreGathered nodes.new.keys (take (length tried.now - count targets) tried.now)
         nodes.old.gathered nodes.new.gathered) }
 {
@@ -49,13 +49,13 @@ pub(crate) fn number_targets(
     tried: &TriedKeys,
     targets: Targets,
 ) -> Result<Lead, AllocError>
-    requires nodes { AreNodes (table deck.now) (listed nodes.old) }
+    requires nodes { AreNumberedNames (table deck.now) (node_lists nodes.old) }
     requires enough { count targets ≤ length tried.now }
     ensures added { (before list : List ℕ) (ends : List DeadEnd)
-        → AreListed (table deck.now) (listed nodes.old) before list
-        → AreAdded (table deck.now) (listed nodes.old) (listed nodes.new) before list list ends ends }
+        → AreListed (table deck.now) (node_lists nodes.old) before list
+        → AreAdded (table deck.now) (node_lists nodes.old) (node_lists nodes.new) before list list ends ends }
     ensures gathered { nodes.new.gathered ≡ nodes.old.gathered }
-    ensures lead { IfOk result (LeadsTo nodes.new.keys (last_keys (count targets) tried.now)) }
+    ensures lead { IfOk result (LeadsToKeys nodes.new.keys (last_keys (count targets) tried.now)) }
 {
     match targets {
         Targets::Nowhere => Ok(Lead::Nowhere),
@@ -79,11 +79,11 @@ fn number_at(
     tried: &TriedKeys,
     place: usize,
 ) -> Result<usize, AllocError>
-    requires nodes { AreNodes (table deck.now) (listed nodes.old) }
+    requires nodes { AreNumberedNames (table deck.now) (node_lists nodes.old) }
     requires within { place < length tried.now }
     ensures added { (before list : List ℕ) (ends : List DeadEnd)
-        → AreListed (table deck.now) (listed nodes.old) before list
-        → AreAdded (table deck.now) (listed nodes.old) (listed nodes.new) before list list ends ends }
+        → AreListed (table deck.now) (node_lists nodes.old) before list
+        → AreAdded (table deck.now) (node_lists nodes.old) (node_lists nodes.new) before list list ends ends }
     ensures gathered { nodes.new.gathered ≡ nodes.old.gathered }
     ensures number { IfOk result (λ n. (n < length nodes.new.keys)
         × (key_at tried.now place ≡ key_at nodes.new.keys n)) }

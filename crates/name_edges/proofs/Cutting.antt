@@ -4,8 +4,8 @@ use Rattle.std.proofs.Common.{refl, sym, ◌∙◌, subst, inl, inr, arith}
 use Rattle.std.proofs.lemmas.Bool.{cases_eq, cases_Bool, true≢false}
 use Rattle.std.proofs.lemmas.List.Elements.{Contains-append_cases, Contains-append_left, Contains-append_right}
 use Rattle.edge_links.specs.Edges.{Edge, edge_count}
-use Rattle.edge_links.specs.Reach.{HasEdge, Reaches, at_once, further, IsCleared}
-use Rattle.name_edges.specs.Affected.{AreAffected, Forgets, IsAffected, IsCut, Needs}
+use Rattle.edge_links.specs.Reach.{HasEdge, NodeReaches, at_once, further, AreMarksCleared}
+use Rattle.name_edges.specs.AffectedNames.{AreAffected, AreEdgesCut, ForgetsNames, IsAffectedName, Needs}
 use Rattle.name_edges.specs.NameGraphs.{NameGraph}
 
 -- two cuts together cut the edges of these users
@@ -16,13 +16,13 @@ pub record IsBoth (A B D : ℕ → Type 0) : Type 0 where
 
 module _ (A B D : ℕ → Type 0) (both : IsBoth A B D) where
   -- an edge that the first cut removed is still absent after the second cut
-  gone_still : (old mid new : List Edge) → IsCut A old mid → IsCut B mid new → (x y : ℕ) → A x
+  gone_still : (old mid new : List Edge) → AreEdgesCut A old mid → AreEdgesCut B mid new → (x y : ℕ) → A x
       → (edge_count new x y ≡ 0 → ⊥) → ⊥
   gone_still old mid new a b x y h some =
       let free : B x → ⊥ = λ i. some (b.gone x y i) in
       some (b.kept x y free ∙ a.gone x y h)
 
-  pub cut_on : (old mid new : List Edge) → IsCut A old mid → IsCut B mid new → IsCut D old new
+  pub cut_on : (old mid new : List Edge) → AreEdgesCut A old mid → AreEdgesCut B mid new → AreEdgesCut D old new
   cut_on old mid new a b = record {
     gone = λ x y h. elim (cases_eq (edge_count new x y) 0) [
       | inl e ↦ e
@@ -31,7 +31,8 @@ module _ (A B D : ℕ → Type 0) (both : IsBoth A B D) where
     kept = λ x y free. b.kept x y (λ i. free (both.second x i)) ∙ a.kept x y (λ i. free (both.first x i));
   }
 
-  pub cleared_on : (marks then now : ℕ → Bool) → IsCleared A marks then → IsCleared B then now → IsCleared D marks now
+  pub cleared_on : (marks then now : ℕ → Bool) → AreMarksCleared A marks then → AreMarksCleared B then now
+      → AreMarksCleared D marks now
   cleared_on marks then now a b = record {
     gone = λ x h. elim (cases_Bool (now x)) [
       | inr e ↦ e
@@ -43,7 +44,7 @@ module _ (A B D : ℕ → Type 0) (both : IsBoth A B D) where
   }
 
 -- an edge after a cut existed before, and its user was not cut
-module _ (A : ℕ → Type 0) (old new : List Edge) (cut : IsCut A old new) where
+module _ (A : ℕ → Type 0) (old new : List Edge) (cut : AreEdgesCut A old new) where
   pub was_free : (x y : ℕ) → HasEdge new x y → A x → ⊥
   was_free x y h i = let z : edge_count new x y ≡ 0 = cut.gone x y i in omega (arith, h, z)
 
@@ -53,17 +54,17 @@ module _ (A : ℕ → Type 0) (old new : List Edge) (cut : IsCut A old new) wher
   pub stays_there : (x y : ℕ) → (A x → ⊥) → HasEdge old x y → HasEdge new x y
   stays_there x y free h = subst (λ k. 0 < k) (sym (cut.kept x y free)) h
 
-  pub reached_before : {x y : ℕ} → Reaches new x y → Reaches old x y
+  pub reached_before : {x y : ℕ} → NodeReaches new x y → NodeReaches old x y
   reached_before (at_once h) = at_once (was_there _ _ h)
   reached_before (further h r) = further (was_there _ _ h) (reached_before r)
 
   -- a way without a cut user still exists
   module _ (up : (x y : ℕ) → HasEdge old x y → A y → A x) where
-    pub reached_still : {x y : ℕ} → Reaches old x y → (A x → ⊥) → Reaches new x y
+    pub reached_still : {x y : ℕ} → NodeReaches old x y → (A x → ⊥) → NodeReaches new x y
     reached_still (at_once h) free = at_once (stays_there _ _ free h)
     reached_still (further h r) free = further (stays_there _ _ free h) (reached_still r (λ i. free (up _ _ h i)))
 
-    pub up_way : {x y : ℕ} → Reaches old x y → A y → A x
+    pub up_way : {x y : ℕ} → NodeReaches old x y → A y → A x
     up_way (at_once h) i = up _ _ h i
     up_way (further h r) i = up _ _ h (up_way r i)
 
@@ -74,15 +75,15 @@ module _ (g : NameGraph) where
   needs_more h (inr r) = inr (further h r)
 
   -- a name that uses an affected name is affected
-  pub user_affected : (key n m : ℕ) → HasEdge g.uses n m → IsAffected g key m → IsAffected g key n
+  pub user_affected : (key n m : ℕ) → HasEdge g.uses n m → IsAffectedName g key m → IsAffectedName g key n
   user_affected key n m h (inl i) = inl (needs_more h i)
   user_affected key n m h (inr (k, l, i)) = inr (k, l, needs_more h i)
 
   pub users_affected : (keys : List ℕ) (n m : ℕ) → HasEdge g.uses n m → AreAffected g keys m → AreAffected g keys n
   users_affected keys n m h (k, c, i) = (k, c, user_affected k n m h i)
 
-  pub alone : (key n : ℕ) → AreAffected g (key ∷ []) n → IsAffected g key n
-  alone key n (k, c, i) = subst (λ z. IsAffected g z n) (only c) i
+  pub alone : (key n : ℕ) → AreAffected g (key ∷ []) n → IsAffectedName g key n
+  alone key n (k, c, i) = subst (λ z. IsAffectedName g z n) (only c) i
     where
       only : {k : ℕ} → Contains (key ∷ []) k → k ≡ key
       only {k = k} (j, l, e) = sym (first j l e)
@@ -91,11 +92,11 @@ module _ (g : NameGraph) where
           first zero l e = e
           first (suc j) l e = absurd (omega (arith, l))
 
-  pub in_alone : (key n : ℕ) → IsAffected g key n → AreAffected g (key ∷ []) n
+  pub in_alone : (key n : ℕ) → IsAffectedName g key n → AreAffected g (key ∷ []) n
   in_alone key n i = (key, (0, omega arith, refl), i)
 
 -- other keys are forgotten in the remaining graph
-module _ (keys others : List ℕ) (old mid : NameGraph) (left : Forgets (AreAffected old keys) old mid) where
+module _ (keys others : List ℕ) (old mid : NameGraph) (left : ForgetsNames (AreAffected old keys) old mid) where
   abbrev Before : ℕ → Type 0
   Before = AreAffected old keys
 
@@ -103,7 +104,7 @@ module _ (keys others : List ℕ) (old mid : NameGraph) (left : Forgets (AreAffe
   needed_before (inl e) = inl e
   needed_before (inr r) = inr (reached_before Before old.uses mid.uses left.uses r)
 
-  affected_before : (key n : ℕ) → IsAffected mid key n → IsAffected old key n
+  affected_before : (key n : ℕ) → IsAffectedName mid key n → IsAffectedName old key n
   affected_before key n (inl i) = inl (needed_before i)
   affected_before key n (inr (m, l, i)) =
       inr (m, was_there Before old.looks mid.looks left.looks m key l, needed_before i)
@@ -116,7 +117,7 @@ module _ (keys others : List ℕ) (old mid : NameGraph) (left : Forgets (AreAffe
   free_below {n = n} {m = m} (inl e) free i = free (subst Before (sym e) i)
   free_below (inr r) free i = free (up_way Before old.uses mid.uses left.uses (users_affected old keys) r i)
 
-  affected_still : (key n : ℕ) → IsAffected old key n → (Before n → ⊥) → IsAffected mid key n
+  affected_still : (key n : ℕ) → IsAffectedName old key n → (Before n → ⊥) → IsAffectedName mid key n
   affected_still key n (inl i) free = inl (needed_still i free)
   affected_still key n (inr (m, l, i)) free =
       inr (m, stays_there Before old.looks mid.looks left.looks m key (free_below i free) l, needed_still i free)

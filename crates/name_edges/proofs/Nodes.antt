@@ -4,10 +4,10 @@ use Rattle.std.proofs.Common.{refl, sym, ◌∙◌, ap, subst, inl, inr, arith}
 use Rattle.std.proofs.lemmas.Bool.{cases_eq}
 use Rattle.std.proofs.Math.Nat.{mod-lt}
 use Rattle.std.specs.Prelude.{◌&&◌}
-use Rattle.edge_links.specs.Edges.{Edge, edge, edge_count, Graph}
-use Rattle.edge_links.specs.Reach.{HasEdge, IsCleared, Reaches, at_once, further}
+use Rattle.edge_links.specs.Edges.{Edge, edge, edge_count, EdgeGraph}
+use Rattle.edge_links.specs.Reach.{AreMarksCleared, HasEdge, NodeReaches, at_once, further}
 use Rattle.edge_links.specs.Reach as node
-use Rattle.name_edges.specs.Affected.{Forgets, IsAffected, IsCut, Needs}
+use Rattle.name_edges.specs.AffectedNames.{AreEdgesCut, ForgetsNames, IsAffectedName, Needs}
 use Rattle.name_edges.specs.NameGraphs.{NameGraph}
 use Rattle.name_edges.specs.Nodes.{AreNodes, edges_to, name_graph}
 use Rattle.name_edges.proofs.Cutting.{IsBoth, cleared_on, cut_on, reached_before, reached_still, was_there}
@@ -49,7 +49,7 @@ counted r l (e ∷ es) u k =
 pub counted_uses : (es : List Edge) (u k : ℕ) → edge_count (edges_to 0 es) u k ≡ edge_count es (u * 2) (k * 2)
 counted_uses es u k = counted 0 (omega arith) es u k ∙ ap (edge_count es (u * 2)) (plain k)
 
-module _ (g : Graph) (nodes : AreNodes g) where
+module _ (g : EdgeGraph) (nodes : AreNodes g) where
   abbrev names : NameGraph
   names = name_graph g
 
@@ -82,12 +82,12 @@ module _ (g : Graph) (nodes : AreNodes g) where
   look_there : (u k : ℕ) → HasEdge names.looks u k → HasEdge g.edges (u * 2) (k * 2 + 1)
   look_there u k h = subst (λ n. 0 < n) (counted 1 (omega arith) g.edges u k) h
 
-  starts : {a b : ℕ} → Reaches g.edges a b → a ≡ a / 2 * 2
+  starts : {a b : ℕ} → NodeReaches g.edges a b → a ≡ a / 2 * 2
   starts (at_once h) = user_is _ _ h
   starts (further h r) = user_is _ _ h
 
   -- ways between nodes are ways between names
-  way_shown : {a b : ℕ} → Reaches g.edges a b → (n k : ℕ) → a ≡ n * 2 → b ≡ k * 2 → Reaches names.uses n k
+  way_shown : {a b : ℕ} → NodeReaches g.edges a b → (n k : ℕ) → a ≡ n * 2 → b ≡ k * 2 → NodeReaches names.uses n k
   way_shown (at_once {y = y} h) n k e f =
       at_once (use_shown n k (subst (λ z. HasEdge g.edges (n * 2) z) f (subst (λ z. HasEdge g.edges z y) e h)))
   way_shown (further {y = y} h r) n k e f =
@@ -102,7 +102,7 @@ module _ (g : Graph) (nodes : AreNodes g) where
   needs_first n m k h (x, l, inl e) = (x, l, inr (at_once (subst (λ z. HasEdge names.uses n z) e h)))
   needs_first n m k h (x, l, inr r) = (x, l, inr (further h r))
 
-  look_way_shown : {a b : ℕ} → Reaches g.edges a b → (n k : ℕ) → a ≡ n * 2 → b ≡ k * 2 + 1 → Looked n k
+  look_way_shown : {a b : ℕ} → NodeReaches g.edges a b → (n k : ℕ) → a ≡ n * 2 → b ≡ k * 2 + 1 → Looked n k
   look_way_shown (at_once {y = y} h) n k e f =
       (n, look_shown n k (subst (λ z. HasEdge g.edges (n * 2) z) f (subst (λ z. HasEdge g.edges z y) e h)), inl refl)
   look_way_shown (further {y = y} h r) n k e f =
@@ -111,12 +111,12 @@ module _ (g : Graph) (nodes : AreNodes g) where
       (use_shown n (y / 2) (subst (λ z. HasEdge g.edges (n * 2) z) m (subst (λ z. HasEdge g.edges z y) e h)))
       (look_way_shown r (y / 2) k m f)
 
-  way_there : {n k : ℕ} → Reaches names.uses n k → Reaches g.edges (n * 2) (k * 2)
+  way_there : {n k : ℕ} → NodeReaches names.uses n k → NodeReaches g.edges (n * 2) (k * 2)
   way_there (at_once h) = at_once (use_there _ _ h)
   way_there (further h r) = further (use_there _ _ h) (way_there r)
 
-  look_way_there : {n m : ℕ} → Reaches names.uses n m → (k : ℕ) → HasEdge names.looks m k
-      → Reaches g.edges (n * 2) (k * 2 + 1)
+  look_way_there : {n m : ℕ} → NodeReaches names.uses n m → (k : ℕ) → HasEdge names.looks m k
+      → NodeReaches g.edges (n * 2) (k * 2 + 1)
   look_way_there (at_once h) k l = further (use_there _ _ h) (at_once (look_there _ k l))
   look_way_there (further h r) k l = further (use_there _ _ h) (look_way_there r k l)
 
@@ -127,16 +127,17 @@ module _ (g : Graph) (nodes : AreNodes g) where
   apart n k e = omega (arith, e)
 
   -- by the two nodes of the key
-  pub affected_shown : (key n : ℕ) → node.IsAffected g.edges (key * 2) (n * 2) ⊎ node.IsAffected g.edges (key * 2 + 1)
+  pub affected_shown : (key n : ℕ) → node.IsAffectedNode g.edges (key * 2) (n * 2) ⊎ node.IsAffectedNode g.edges
+      (key * 2 + 1)
       (n * 2)
-      → IsAffected names key n
+      → IsAffectedName names key n
   affected_shown key n (inl (inl e)) = inl (inl (half n key e))
   affected_shown key n (inl (inr r)) = inl (inr (way_shown r n key refl refl))
   affected_shown key n (inr (inl e)) = absurd (apart n key e)
   affected_shown key n (inr (inr r)) = inr (look_way_shown r n key refl refl)
 
-  pub affected_there : (key n : ℕ) → IsAffected names key n
-      → node.IsAffected g.edges (key * 2) (n * 2) ⊎ node.IsAffected g.edges (key * 2 + 1) (n * 2)
+  pub affected_there : (key n : ℕ) → IsAffectedName names key n
+      → node.IsAffectedNode g.edges (key * 2) (n * 2) ⊎ node.IsAffectedNode g.edges (key * 2 + 1) (n * 2)
   affected_there key n (inl (inl e)) = inl (inl (ap (λ z. z * 2) e))
   affected_there key n (inl (inr r)) = inl (inr (way_there r))
   affected_there key n (inr (m, l, inl e)) =
@@ -144,21 +145,21 @@ module _ (g : Graph) (nodes : AreNodes g) where
   affected_there key n (inr (m, l, inr r)) = inr (inr (look_way_there r key l))
 
 -- ---- both nodes of a key forgotten, one after the other
-module _ (g : Graph) (nodes : AreNodes g) (key : ℕ) (mid new : List Edge)
+module _ (g : EdgeGraph) (nodes : AreNodes g) (key : ℕ) (mid new : List Edge)
     (first : node.Forgets (key * 2) g.edges mid) (second : node.Forgets (key * 2 + 1) mid new) where
   abbrev First : ℕ → Type 0
-  First = node.IsAffected g.edges (key * 2)
+  First = node.IsAffectedNode g.edges (key * 2)
 
   abbrev Second : ℕ → Type 0
-  Second = node.IsAffected mid (key * 2 + 1)
+  Second = node.IsAffectedNode mid (key * 2 + 1)
 
   abbrev Either : ℕ → Type 0
-  Either x = node.IsAffected g.edges (key * 2) x ⊎ node.IsAffected g.edges (key * 2 + 1) x
+  Either x = node.IsAffectedNode g.edges (key * 2) x ⊎ node.IsAffectedNode g.edges (key * 2 + 1) x
 
-  cut_first : IsCut First g.edges mid
+  cut_first : AreEdgesCut First g.edges mid
   cut_first = record { gone = first.gone; kept = first.kept }
 
-  cut_second : IsCut Second mid new
+  cut_second : AreEdgesCut Second mid new
   cut_second = record { gone = second.gone; kept = second.kept }
 
   up : (x y : ℕ) → HasEdge g.edges x y → First y → First x
@@ -178,7 +179,7 @@ module _ (g : Graph) (nodes : AreNodes g) (key : ℕ) (mid new : List Edge)
     ];
   }
 
-  cut_both : IsCut Either g.edges new
+  cut_both : AreEdgesCut Either g.edges new
   cut_both = cut_on First Second Either both_nodes g.edges mid new cut_first cut_second
 
   -- no second node is a user afterwards
@@ -191,7 +192,7 @@ module _ (g : Graph) (nodes : AreNodes g) (key : ℕ) (mid new : List Edge)
         absurd (let z = nodes.users x y in omega (arith, h, z))
   ]
 
-  between : (r : ℕ) → r < 2 → IsCut (IsAffected (name_graph g) key) (edges_to r g.edges) (edges_to r new)
+  between : (r : ℕ) → r < 2 → AreEdgesCut (IsAffectedName (name_graph g) key) (edges_to r g.edges) (edges_to r new)
   between r l = record {
     gone = λ x y i. counted r l new x y ∙ cut_both.gone (x * 2) (y * 2 + r) (affected_there g nodes key x i);
     kept = λ x y free. counted r l new x y
@@ -199,25 +200,25 @@ module _ (g : Graph) (nodes : AreNodes g) (key : ℕ) (mid new : List Edge)
         ∙ sym (counted r l g.edges x y));
   }
 
-  pub forgotten : (h : Graph) → h.nodes ≡ g.nodes → h.edges ≡ new
-      → Forgets (IsAffected (name_graph g) key) (name_graph g)
+  pub forgotten : (h : EdgeGraph) → h.nodes ≡ g.nodes → h.edges ≡ new
+      → ForgetsNames (IsAffectedName (name_graph g) key) (name_graph g)
       (name_graph h)
   forgotten h same is = record {
     names = ap (λ n. n / 2) same;
-    uses = subst (λ es. IsCut (IsAffected (name_graph g) key) (edges_to 0 g.edges) (edges_to 0 es)) (sym is)
+    uses = subst (λ es. AreEdgesCut (IsAffectedName (name_graph g) key) (edges_to 0 g.edges) (edges_to 0 es)) (sym is)
         (between 0 (omega arith));
-    looks = subst (λ es. IsCut (IsAffected (name_graph g) key) (edges_to 1 g.edges) (edges_to 1 es)) (sym is)
+    looks = subst (λ es. AreEdgesCut (IsAffectedName (name_graph g) key) (edges_to 1 g.edges) (edges_to 1 es)) (sym is)
         (between 1 (omega arith));
   }
 
   -- the marks of names are those of their first nodes
   module _ (marks then now : ℕ → Bool) (old_names new_names : ℕ → Bool)
       (old_is : (n : ℕ) → marks (n * 2) ≡ old_names n) (new_is : (n : ℕ) → now (n * 2) ≡ new_names n)
-      (clear_first : IsCleared First marks then) (clear_second : IsCleared Second then now) where
-    clear_both : IsCleared Either marks now
+      (clear_first : AreMarksCleared First marks then) (clear_second : AreMarksCleared Second then now) where
+    clear_both : AreMarksCleared Either marks now
     clear_both = cleared_on First Second Either both_nodes marks then now clear_first clear_second
 
-    pub cleared : IsCleared (IsAffected (name_graph g) key) old_names new_names
+    pub cleared : AreMarksCleared (IsAffectedName (name_graph g) key) old_names new_names
     cleared = record {
       gone = λ n i. sym (new_is n) ∙ clear_both.gone (n * 2) (affected_there g nodes key n i);
       kept = λ n free. sym (new_is n)

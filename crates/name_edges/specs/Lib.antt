@@ -1,4 +1,4 @@
-pub mod Affected
+pub mod AffectedNames
 pub mod Laws
 pub mod NameGraphs
 pub mod Nodes

@@ -1,6 +1,6 @@
 -- The two nodes of each name.
 use Rattle.std.specs.Prelude.{◌≡◌, ◌&&◌, ℕ, ◌+◌, ◌*◌, ◌/◌, ◌%◌, ◌^◌, ◌≤◌, nat_eq, if◌then◌else◌, List, [], ◌∷◌}
-use Rattle.edge_links.specs.Edges.{Edge, edge, edge_count, Graph}
+use Rattle.edge_links.specs.Edges.{Edge, edge, edge_count, EdgeGraph}
 use Rattle.name_edges.specs.NameGraphs.{NameGraph}
 
 -- the edge from a node to the node of a key that has this remainder
@@ -16,10 +16,10 @@ edges_to remainder (e ∷ es) =
     else edges_to remainder es
 
 -- the graph of names; a last node without a partner belongs to no name yet
-abbrev pub name_graph : Graph → NameGraph
+abbrev pub name_graph : EdgeGraph → NameGraph
 name_graph g = record { names = g.nodes / 2; uses = edges_to 0 g.edges; looks = edges_to 1 g.edges }
 
 -- no second node is a user
-pub record AreNodes (g : Graph) : Type 0 where
+pub record AreNodes (g : EdgeGraph) : Type 0 where
   pub users : (x y : ℕ) → edge_count g.edges (x * 2 + 1) y ≡ 0
   pub fits : g.nodes ≤ 2 ^ 64

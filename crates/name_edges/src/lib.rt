@@ -3,9 +3,9 @@
 #![tactic(auto)]
 
 mod laws;
-mod linking;
 mod name_edges;
 mod node_marks;
+mod user_edges;
 
 pub use laws::{forgetting_law, linking_law};
 pub use name_edges::NameEdges;

@@ -2,11 +2,11 @@
 
 ghost use Rattle.std.specs.Prelude.{◌≡◌, ◌+◌, ◌<◌, ◌≤◌, ◌++◌, [], ℕ, map, max, Contains, OnOk, OnErr};
 ghost use Rattle.edge_links.specs.Edges.{edge, SameEdges};
-ghost use Rattle.edge_links.specs.Reach.{IsCleared};
-ghost use Rattle.name_edges.specs.Affected.{Forgets, IsAffected};
+ghost use Rattle.edge_links.specs.Reach.{AreMarksCleared};
+ghost use Rattle.name_edges.specs.AffectedNames.{ForgetsNames, IsAffectedName};
 
-use crate::linking::link_all;
 use crate::node_marks::NodeMarks;
+use crate::user_edges::link_all;
 use edge_links::{Links, Marks};
 use std::alloc::{AllocError, Global};
 use std::marker::Model;
@@ -99,8 +99,8 @@ impl NameEdges {
     /// no memory. The cost is proportional to the number of removed edges.
     pub fn forget<K: Marks>(&mut self, key: usize, names: K) -> K
         requires { key < self.old.names }
-        ensures edges { Forgets (IsAffected self.old key) self.old self.new }
-        ensures marks { IsCleared (IsAffected self.old key) (K.is_marked names) (K.is_marked result) }
+        ensures edges { ForgetsNames (IsAffectedName self.old key) self.old self.new }
+        ensures marks { AreMarksCleared (IsAffectedName self.old key) (K.is_marked names) (K.is_marked result) }
         ensures rest { K.stays names result }
     {
         let mut marks = NodeMarks { names };

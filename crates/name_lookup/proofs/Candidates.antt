@@ -6,20 +6,22 @@ use Rattle.def_entry.specs.declared.key.Key.{Key}
 use Rattle.def_entry.specs.declared.key.Kind.{Kind}
 use Rattle.def_entry.specs.declared.key.Kind.TheVariants as kind
 use Rattle.def_entry.specs.Keys.{key}
-use Rattle.name_lookup.specs.Candidates.{Found, all_looked_at, first_present, found, part_candidates, prefix_candidate}
+use Rattle.name_lookup.specs.Candidates.{Found, all_looked_at, first_present, found_targets, part_candidates}
+use Rattle.name_lookup.specs.Candidates.{prefix_candidate}
 use Rattle.name_lookup.specs.Candidates.{prefix_candidates, prefix_candidates_within, singular_candidates}
 use Rattle.name_lookup.specs.Laws.{CandidatesLaw}
 use Rattle.name_lookup.specs.Order.{try_key, try_kinds, try_parts, try_prefixes, try_stem, try_stem_if, with_prefix}
-use Rattle.name_lookup.specs.Plans.{Asks, Gives, Plan, after, run}
-use Rattle.name_lookup.specs.Plurals.{has_ending, without}
+use Rattle.name_lookup.specs.Plans.{Asks, Gives, LookupPlan, after, run}
+use Rattle.name_lookup.specs.Plurals.{has_ending, without_end}
 
 module _ (has : Key → Bool) where
   -- a plan has the result of these candidates
-  abbrev Tries : Plan → List (List Key) → Type 0
-  Tries p cs = run has p ≡ found has cs
+  abbrev Tries : LookupPlan → List (List Key) → Type 0
+  Tries p cs = run has p ≡ found_targets has cs
 
   -- a plan that tries one key tries it as the first candidate
-  key_tried : (k : Key) (next : Plan) (cs : List (List Key)) → Tries next cs → Tries (try_key k next) ((k ∷ []) ∷ cs)
+  key_tried : (k : Key) (next : LookupPlan) (cs : List (List Key)) → Tries next cs
+      → Tries (try_key k next) ((k ∷ []) ∷ cs)
   key_tried k next cs h = by (has k)
     where
       by : (b : Bool) → after k (cond b (record { targets = k ∷ []; looked = [] }) (run has next))
@@ -31,7 +33,7 @@ module _ (has : Key → Bool) where
       by false = ap (after k) h
 
   -- a plan that tries a prefix with the rest of its word tries the candidate of both
-  prefix_tried : (front rest : List ℕ) (next : Plan) (cs : List (List Key)) → Tries next cs
+  prefix_tried : (front rest : List ℕ) (next : LookupPlan) (cs : List (List Key)) → Tries next cs
       → Tries (Asks (key kind.Prefix front) (with_prefix (key kind.Prefix front) rest next) next)
       (prefix_candidate front rest ∷ cs)
   prefix_tried front [] next cs h = key_tried (key kind.Prefix front) next cs h
@@ -55,7 +57,7 @@ module _ (has : Key → Bool) where
       by false d = ap (after p) h
 
   -- a plan that tries the prefixes of a word tries their candidates
-  prefixes_tried : (k : ℕ) (word : List ℕ) (next : Plan) (cs : List (List Key)) → Tries next cs
+  prefixes_tried : (k : ℕ) (word : List ℕ) (next : LookupPlan) (cs : List (List Key)) → Tries next cs
       → Tries (try_prefixes k word next) (prefix_candidates_within k word ++ cs)
   prefixes_tried zero word next cs h = h
   prefixes_tried (suc k) word next cs h =
@@ -64,11 +66,11 @@ module _ (has : Key → Bool) where
       (prefixes_tried k word next cs h)
 
   -- tries stems one after another
-  abbrev try_each : List (List ℕ) → Plan → Plan
+  abbrev try_each : List (List ℕ) → LookupPlan → LookupPlan
   try_each [] next = next
   try_each (v ∷ vs) next = try_stem v (try_each vs next)
 
-  each_tried : (vs : List (List ℕ)) (next : Plan) (cs : List (List Key)) → Tries next cs
+  each_tried : (vs : List (List ℕ)) (next : LookupPlan) (cs : List (List Key)) → Tries next cs
       → Tries (try_each vs next) (flat_map singular_candidates vs ++ cs)
   each_tried [] next cs h = h
   each_tried (v ∷ vs) next cs h =
@@ -80,7 +82,7 @@ module _ (has : Key → Bool) where
       (each_tried vs next cs h)))
 
   -- a plan that tries up to three stems tries their candidates
-  three_tried : (a b c : Bool) (u v w : List ℕ) (next : Plan) (cs : List (List Key)) → Tries next cs
+  three_tried : (a b c : Bool) (u v w : List ℕ) (next : LookupPlan) (cs : List (List Key)) → Tries next cs
       → Tries (try_stem_if a u (try_stem_if b v (try_stem_if c w next)))
       (flat_map singular_candidates (cond a (u ∷ []) [] ++ cond b (v ∷ []) [] ++ cond c (w ∷ []) []) ++ cs)
   three_tried true true true u v w next cs h = each_tried (u ∷ v ∷ w ∷ []) next cs h
@@ -100,7 +102,8 @@ module _ (has : Key → Bool) where
       ((key two word ∷ []) ∷ part_candidates word)
       (key_tried (key two word) (try_parts word (Gives [])) (part_candidates word)
       (three_tried (has_ending 2 (codes "s") word) (has_ending 3 (codes "es") word) (has_ending 4 (codes "ies") word)
-      (without 1 word) (without 2 word) (without 3 word ++ codes "y") (try_prefixes (length word) word (Gives []))
+      (without_end 1 word) (without_end 2 word) (without_end 3 word ++ codes "y")
+      (try_prefixes (length word) word (Gives []))
       (prefix_candidates word)
       (subst (λ (x : List (List Key)). Tries (try_prefixes (length word) word (Gives [])) x)
       (append-nil (prefix_candidates word))

@@ -8,10 +8,10 @@ use Rattle.expr_tree.specs.declared.word_list.WordKind.{WordKind}
 use Rattle.def_entry.specs.declared.key.Key.{Key}
 use Rattle.name_lookup.specs.declared.targets.Targets.{Targets}
 use Rattle.name_lookup.specs.declared.targets.Targets.TheVariants.{Nowhere, Last, LastTwo}
-use Rattle.name_lookup.specs.Candidates.{Found, candidates, found}
+use Rattle.name_lookup.specs.Candidates.{Found, candidates, found_targets}
 use Rattle.name_lookup.specs.Order.{plan, try_word}
 use Rattle.name_lookup.specs.Plans.{Gives, run}
-use Rattle.name_lookup.specs.Steps.{IsTaken, behind, with_rest}
+use Rattle.name_lookup.specs.Steps.{IsTaken, behind, with_rest_result}
 use Rattle.name_lookup.specs.Targets.{AreFound, count, last_keys}
 use Rattle.name_lookup.proofs.Candidates.{candidates_law}
 
@@ -33,33 +33,41 @@ length_last n keys h = let l = length-drop (length keys - n) keys in omega arith
 
 -- if the targets are the last of the keys that were looked at, they are found
 ended :
-    (which : Targets) (n : ℕ) (before after : List Key) (found : Found) → count which ≡ n
+    (which : Targets) (n : ℕ) (before after : List Key) (found_targets : Found) → count which ≡ n
     → length before + n ≤ length after
-    → found.targets ≡ last_keys n after → before ++ found.looked ≡ after → AreFound which before after found
-ended which n before after found c enough t l =
-    let m = length-append before found.looked in
+    → found_targets.targets ≡ last_keys n after → before ++ found_targets.looked ≡ after
+    → AreFound which before after found_targets
+ended which n before after found_targets c enough t l =
+    let m = length-append before found_targets.looked in
     let a = ap length l in
-    let h : n ≤ length found.looked = omega arith in
-    let last : found.targets ≡ last_keys n found.looked =
-    t ∙ (ap (last_keys n) (sym l) ∙ last_behind n before found.looked h) in
+    let h : n ≤ length found_targets.looked = omega arith in
+    let last : found_targets.targets ≡ last_keys n found_targets.looked =
+    t ∙ (ap (last_keys n) (sym l) ∙ last_behind n before found_targets.looked h) in
     record {
       looked = sym l;
-      targets = last ∙ ap (λ k. last_keys k found.looked) (sym c);
-      many = ap length last ∙ (length_last n found.looked h ∙ sym c);
+      targets = last ∙ ap (λ k. last_keys k found_targets.looked) (sym c);
+      many = ap length last ∙ (length_last n found_targets.looked h ∙ sym c);
     }
 
 -- if a search ends with some targets, they are found
 found_by :
-    (which : Targets) (before after : List Key) (found : Found) → behind before found ≡ with_rest which after nothing
-    → length before + count which ≤ length after → AreFound which before after found
-found_by Nowhere before after found runs enough =
-    let t : found.targets ≡ [] = ap (λ (f : Found). f.targets) runs in
-    let l : before ++ found.looked ≡ after = ap (λ (f : Found). f.looked) runs ∙ append-nil after in
-    record { looked = sym l; targets = t ∙ sym (drop_of_length-le found.looked (omega arith)); many = ap length t }
-found_by Last before after found runs enough =
-    ended Last 1 before after found refl enough (ap (λ (f : Found). f.targets) runs) (ap (λ (f : Found). f.looked) runs)
-found_by LastTwo before after found runs enough =
-    ended LastTwo 2 before after found refl enough (ap (λ (f : Found). f.targets) runs)
+    (which : Targets) (before after : List Key) (found_targets : Found)
+    → behind before found_targets ≡ with_rest_result which after nothing
+    → length before + count which ≤ length after → AreFound which before after found_targets
+found_by Nowhere before after found_targets runs enough =
+    let t : found_targets.targets ≡ [] = ap (λ (f : Found). f.targets) runs in
+    let l : before ++ found_targets.looked ≡ after = ap (λ (f : Found). f.looked) runs ∙ append-nil after in
+    record {
+      looked = sym l;
+      targets = t ∙ sym (drop_of_length-le found_targets.looked (omega arith));
+      many =
+          ap length t;
+    }
+found_by Last before after found_targets runs enough =
+    ended Last 1 before after found_targets refl enough (ap (λ (f : Found). f.targets) runs)
+    (ap (λ (f : Found). f.looked) runs)
+found_by LastTwo before after found_targets runs enough =
+    ended LastTwo 2 before after found_targets refl enough (ap (λ (f : Found). f.targets) runs)
     (ap (λ (f : Found). f.looked) runs)
 
 -- a search by the plan of a word finds the result of the plan
@@ -75,7 +83,7 @@ all_found has kind word before after (Err e) h = h
 pub all_chosen :
     {E : Type 0} (has : Key → Bool) (kind : WordKind) (word : List ℕ) (before after : List Key) (r : Result Targets E)
     → IfOk r (λ which. IsTaken has (try_word kind word) before after which)
-    → IfOk r (λ which. AreFound which before after (found has (candidates kind word)))
+    → IfOk r (λ which. AreFound which before after (found_targets has (candidates kind word)))
 all_chosen {E} has kind word before after (Ok which) h =
     subst (AreFound which before after) (candidates_law has kind word)
     (all_found {E = E} has kind word before after (Ok which) h)

@@ -7,12 +7,12 @@ use Rattle.def_entry.specs.declared.key.Key.{Key}
 use Rattle.def_entry.specs.declared.key.Kind.{Kind}
 use Rattle.def_entry.specs.declared.key.Kind.TheVariants as kind
 use Rattle.def_entry.specs.Keys.{key}
-use Rattle.name_lookup.specs.Candidates.{Found, candidates, found}
+use Rattle.name_lookup.specs.Candidates.{Found, candidates, found_targets}
 use Rattle.name_lookup.specs.Laws.{SameLaw, TargetsLaw}
 use Rattle.name_lookup.specs.Order.{plan, try_key, try_kinds, try_prefixes, try_stem, try_stem_if, try_stems}
 use Rattle.name_lookup.specs.Order.{with_prefix}
-use Rattle.name_lookup.specs.Plans.{Plan, Gives, Asks, after, run}
-use Rattle.name_lookup.specs.Plurals.{has_ending, without}
+use Rattle.name_lookup.specs.Plans.{LookupPlan, Gives, Asks, after, run}
+use Rattle.name_lookup.specs.Plurals.{has_ending, without_end}
 use Rattle.name_lookup.proofs.Candidates.{candidates_law}
 
 -- the key is in the list, by recursion
@@ -34,7 +34,7 @@ contained (x ∷ xs) k (inr i) = let there : Contains xs k =
     contained xs k i in (suc there.0, omega (arith, there.1), there.2)
 
 -- a plan is honest after some present keys: each target that it gives was looked up and present
-abbrev IsHonest : List Key → Plan → Type 0
+abbrev IsHonest : List Key → LookupPlan → Type 0
 IsHonest ks (Gives ts) = (n : Key) → IsIn n ts → IsIn n ks
 IsHonest ks (Asks k present absent) = IsHonest (k ∷ ks) present × IsHonest ks absent
 
@@ -51,12 +51,12 @@ regroup A B C (inl (inr b)) = inl b
 regroup A B C (inr c) = inr (inr c)
 
 -- the result of the rest of a plan after the answer for a key
-abbrev rest_of : (Key → Bool) → Plan → Plan → Bool → Found
+abbrev rest_of : (Key → Bool) → LookupPlan → LookupPlan → Bool → Found
 rest_of has present absent b = if b then run has present else run has absent
 
 -- each target of an honest plan is present, and was looked up before the plan or by it
 targets_asked :
-    (has : Key → Bool) (ks : List Key) (p : Plan) → ((k : Key) → IsIn k ks → has k ≡ true) → IsHonest ks p
+    (has : Key → Bool) (ks : List Key) (p : LookupPlan) → ((k : Key) → IsIn k ks → has k ≡ true) → IsHonest ks p
     → (n : Key) → IsIn n (run has p).targets → (has n ≡ true) × (IsIn n ks ⊎ IsIn n (run has p).looked)
 targets_asked has ks (Gives ts) there h n i = (there n (h n i), inl (h n i))
 targets_asked has ks (Asks k present absent) there h n i =
@@ -74,7 +74,7 @@ targets_asked has ks (Asks k present absent) there h n i =
     ]) refl i
 
 -- a plan is sound if it is honest whatever keys were looked up before
-abbrev IsSound : Plan → Type 0
+abbrev IsSound : LookupPlan → Type 0
 IsSound p = (ks : List Key) → IsHonest ks p
 
 -- a plan without targets is sound
@@ -93,17 +93,17 @@ gives_both ks p u n (inr (inl e)) = inl e
 gives_both ks p u n (inr (inr e)) = absurd e
 
 -- trying a key before a sound plan is a sound plan
-key_sound : (k : Key) (next : Plan) → IsSound next → IsSound (try_key k next)
+key_sound : (k : Key) (next : LookupPlan) → IsSound next → IsSound (try_key k next)
 key_sound k next h ks = (gives_itself ks k, h ks)
 
 -- trying a unit after a present prefix, before a sound plan, is honest
-with_prefix_sound : (p : Key) (rest : List ℕ) (next : Plan) → IsSound next → (ks : List Key)
+with_prefix_sound : (p : Key) (rest : List ℕ) (next : LookupPlan) → IsSound next → (ks : List Key)
     → IsHonest (p ∷ ks) (with_prefix p rest next)
 with_prefix_sound p [] next h ks = gives_itself ks p
 with_prefix_sound p (b ∷ bs) next h ks = (gives_both ks p (key kind.Unit (b ∷ bs)), h (p ∷ ks))
 
 -- trying prefixes before a sound plan is a sound plan
-prefixes_sound : (k : ℕ) (w : List ℕ) (next : Plan) → IsSound next → IsSound (try_prefixes k w next)
+prefixes_sound : (k : ℕ) (w : List ℕ) (next : LookupPlan) → IsSound next → IsSound (try_prefixes k w next)
 prefixes_sound zero w next h ks = h ks
 prefixes_sound (suc k) w next h ks = (
   with_prefix_sound (key kind.Prefix (take (suc k) w)) (drop (suc k) w) (try_prefixes k w next)
@@ -112,22 +112,24 @@ prefixes_sound (suc k) w next h ks = (
 )
 
 -- trying a stem before a sound plan is a sound plan
-stem_sound : (v : List ℕ) (next : Plan) → IsSound next → IsSound (try_stem v next)
+stem_sound : (v : List ℕ) (next : LookupPlan) → IsSound next → IsSound (try_stem v next)
 stem_sound v next h = key_sound (key kind.Unit v) (try_prefixes (length v) v next) (prefixes_sound (length v) v next h)
 
 -- trying an optional stem before a sound plan is a sound plan
-stem_if_sound : (b : Bool) (v : List ℕ) (next : Plan) → IsSound next → IsSound (try_stem_if b v next)
+stem_if_sound : (b : Bool) (v : List ℕ) (next : LookupPlan) → IsSound next → IsSound (try_stem_if b v next)
 stem_if_sound true v next h = stem_sound v next h
 stem_if_sound false v next h = h
 
 -- trying the stems of a plural before a sound plan is a sound plan
-stems_sound : (w : List ℕ) (next : Plan) → IsSound next → IsSound (try_stems w next)
+stems_sound : (w : List ℕ) (next : LookupPlan) → IsSound next → IsSound (try_stems w next)
 stems_sound w next h =
-    let third = try_stem_if (has_ending 4 (codes "ies") w) (without 3 w ++ codes "y") next in
-    let second = try_stem_if (has_ending 3 (codes "es") w) (without 2 w) third in
-    let third_sound : IsSound third = stem_if_sound (has_ending 4 (codes "ies") w) (without 3 w ++ codes "y") next h in
-    let second_sound : IsSound second = stem_if_sound (has_ending 3 (codes "es") w) (without 2 w) third third_sound in
-    stem_if_sound (has_ending 2 (codes "s") w) (without 1 w) second second_sound
+    let third = try_stem_if (has_ending 4 (codes "ies") w) (without_end 3 w ++ codes "y") next in
+    let second = try_stem_if (has_ending 3 (codes "es") w) (without_end 2 w) third in
+    let third_sound : IsSound third = stem_if_sound (has_ending 4 (codes "ies") w) (without_end 3 w ++ codes "y") next h
+    in
+    let second_sound : IsSound second = stem_if_sound (has_ending 3 (codes "es") w) (without_end 2 w) third third_sound
+    in
+    stem_if_sound (has_ending 2 (codes "s") w) (without_end 1 w) second second_sound
 
 -- trying two kinds and then the parts of a word is a sound plan
 kinds_sound : (first second : Kind) (w : List ℕ) → IsSound (try_kinds first second w (Gives []))
@@ -159,13 +161,13 @@ planned_present has at w k i =
 -- the law of targets
 pub targets_are_present : TargetsLaw
 targets_are_present has at w k i =
-    let e : run has (plan at w) ≡ found has (candidates at w) = candidates_law has at w in
+    let e : run has (plan at w) ≡ found_targets has (candidates at w) = candidates_law has at w in
     subst (λ (f : Found). Contains f.looked k × (has k ≡ true)) e
     (planned_present has at w k (subst (λ (f : Found). Contains f.targets k) (sym e) i))
 
 -- equal answers after a key give equal results
 same_rest :
-    (has had : Key → Bool) (present absent : Plan) (b c : Bool) → b ≡ c
+    (has had : Key → Bool) (present absent : LookupPlan) (b c : Bool) → b ≡ c
     → (((k : Key) → IsIn k (run has present).looked → has k ≡ had k) → run has present ≡ run had present)
     → (((k : Key) → IsIn k (run has absent).looked → has k ≡ had k) → run has absent ≡ run had absent)
     → ((q : Key) → IsIn q (rest_of has present absent b).looked → has q ≡ had q)
@@ -176,7 +178,7 @@ same_rest has had present absent false true e f g h = cc
 same_rest has had present absent false false e f g h = g h
 
 -- equal answers to the keys that a plan looks at give equal results
-same_run : (has had : Key → Bool) (p : Plan) → ((k : Key) → IsIn k (run has p).looked → has k ≡ had k)
+same_run : (has had : Key → Bool) (p : LookupPlan) → ((k : Key) → IsIn k (run has p).looked → has k ≡ had k)
     → run has p ≡ run had p
 same_run has had (Gives ts) h = refl
 same_run has had (Asks k present absent) h =
@@ -186,7 +188,7 @@ same_run has had (Asks k present absent) h =
 -- the law of equal answers
 pub same_answers : SameLaw
 same_answers has had at w h =
-    let e : run has (plan at w) ≡ found has (candidates at w) = candidates_law has at w in
+    let e : run has (plan at w) ≡ found_targets has (candidates at w) = candidates_law has at w in
     sym e ∙ (same_run has had (plan at w)
     (λ k i. h k (subst (λ (f : Found). Contains f.looked k) e (contained _ k i)))
     ∙ candidates_law had at w)

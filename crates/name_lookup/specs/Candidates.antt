@@ -63,5 +63,5 @@ module _ (has : Key → Bool) where
   all_looked_at (c ∷ cs) = keys_looked_at c ++ (if list_all has c then [] else all_looked_at cs)
 
   -- the targets of a list of candidates, and the keys that are looked at to find them
-  abbrev pub found : List (List Key) → Found
-  found cs = record { targets = first_present cs; looked = all_looked_at cs }
+  abbrev pub found_targets : List (List Key) → Found
+  found_targets cs = record { targets = first_present cs; looked = all_looked_at cs }

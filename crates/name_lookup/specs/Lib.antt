@@ -1,6 +1,6 @@
 pub mod Candidates
 pub mod Examples
-pub mod Keeping
+pub mod LookupRelations
 pub mod Laws
 pub mod Order
 pub mod Plans

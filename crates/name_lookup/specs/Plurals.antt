@@ -4,8 +4,8 @@ use Rattle.std.specs.Prelude.{List, [], ◌∷◌, ◌++◌, length, take, drop,
 use Rattle.std.specs.Str.{bytes_eq}
 
 -- the word without its last k bytes
-abbrev pub without : ℕ → List ℕ → List ℕ
-without k word = take (length word - k) word
+abbrev pub without_end : ℕ → List ℕ → List ℕ
+without_end k word = take (length word - k) word
 
 -- the word has more than `more` bytes and ends in `ending`
 abbrev pub has_ending : ℕ → List ℕ → List ℕ → Bool
@@ -17,6 +17,6 @@ has_ending more ending word =
 -- this order
 abbrev pub singulars : List ℕ → List (List ℕ)
 singulars word =
-    (if has_ending 2 (codes "s") word then without 1 word ∷ [] else [])
-    ++ (if has_ending 3 (codes "es") word then without 2 word ∷ [] else [])
-    ++ (if has_ending 4 (codes "ies") word then (without 3 word ++ codes "y") ∷ [] else [])
+    (if has_ending 2 (codes "s") word then without_end 1 word ∷ [] else [])
+    ++ (if has_ending 3 (codes "es") word then without_end 2 word ∷ [] else [])
+    ++ (if has_ending 4 (codes "ies") word then (without_end 3 word ++ codes "y") ∷ [] else [])

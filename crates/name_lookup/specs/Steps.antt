@@ -4,7 +4,7 @@ use Rattle.def_entry.specs.declared.key.Key.{Key}
 use Rattle.name_lookup.specs.declared.targets.Targets.{Targets}
 use Rattle.name_lookup.specs.declared.targets.Targets.TheVariants.{Nowhere, Last, LastTwo}
 use Rattle.name_lookup.specs.Candidates.{Found}
-use Rattle.name_lookup.specs.Plans.{Plan, run}
+use Rattle.name_lookup.specs.Plans.{LookupPlan, run}
 use Rattle.name_lookup.specs.Targets.{count, last_keys}
 
 -- a result with the keys that were looked at earlier put before its own
@@ -13,12 +13,13 @@ behind before f = record { targets = f.targets; looked = before ++ f.looked }
 
 -- the overall result after these keys were looked at: the targets if there are any, or else the result of the rest of
 -- the plan
-abbrev pub with_rest : Targets → List Key → Found → Found
-with_rest Nowhere looked f = behind looked f
-with_rest Last looked f = record { targets = last_keys 1 looked; looked = looked }
-with_rest LastTwo looked f = record { targets = last_keys 2 looked; looked = looked }
+abbrev pub with_rest_result : Targets → List Key → Found → Found
+with_rest_result Nowhere looked f = behind looked f
+with_rest_result Last looked f = record { targets = last_keys 1 looked; looked = looked }
+with_rest_result LastTwo looked f = record { targets = last_keys 2 looked; looked = looked }
 
 -- a step was taken: the search has ended with these targets, or continues with the rest of the plan
-pub record IsTaken (has : Key → Bool) (step : Plan → Plan) (before after : List Key) (targets : Targets) : Type 0 where
-  pub runs : (next : Plan) → behind before (run has (step next)) ≡ with_rest targets after (run has next)
+pub record IsTaken (has : Key → Bool) (step : LookupPlan → LookupPlan) (before after : List Key)
+    (targets : Targets) : Type 0 where
+  pub runs : (next : LookupPlan) → behind before (run has (step next)) ≡ with_rest_result targets after (run has next)
   pub enough : length before + count targets ≤ length after

@@ -1,6 +1,6 @@
 //! Laws of lookup.
 
-ghost use Rattle.name_lookup.specs.Examples.{ExamplesLaw};
+ghost use Rattle.name_lookup.specs.Examples.{LookupExamplesLaw};
 ghost use Rattle.name_lookup.specs.Laws.{CandidatesLaw, SameLaw, TargetsLaw};
 
 /// The search for a word finds its first candidate whose keys are all present.
@@ -21,5 +21,5 @@ pub fn same_answers()
 
 /// The examples hold: some words have the singulars, candidates and targets that were worked out by hand.
 pub fn examples_law()
-    ensures { ExamplesLaw }
+    ensures { LookupExamplesLaw }
 {}

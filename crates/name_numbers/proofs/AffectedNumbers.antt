@@ -5,19 +5,19 @@ use Rattle.def_entry.specs.declared.key.Key.{Key}
 use Rattle.def_entry.specs.Tables.{Table}
 use Rattle.edge_links.specs.Reach.{HasEdge}
 use Rattle.edge_links.specs.Reach as edges
-use Rattle.name_edges.specs.Affected.{AreAffected, Needs}
-use Rattle.name_edges.specs.Affected as by_edges
+use Rattle.name_edges.specs.AffectedNames.{AreAffected, Needs}
+use Rattle.name_edges.specs.AffectedNames as by_edges
 use Rattle.name_edges.specs.NameGraphs.{NameGraph}
-use Rattle.table_names.specs.Affected.{HasLooked, IsAffected}
+use Rattle.table_names.specs.AffectedKeys.{HasLooked, IsAffected}
 use Rattle.table_names.specs.Leads.{Reaches, WordsLeadTo, WordsReach, at_once, further}
 use Rattle.table_names.specs.Words.{key_words}
-use Rattle.name_numbers.specs.EdgeLaws.{AffectedNumbersLaw, AreEdges, AreNumbersOf}
+use Rattle.name_numbers.specs.EdgeLaws.{AffectedNumbersLaw, AreNameEdges, AreNumbersOf}
 
 module _ (table : Table) (key : ℕ → Key) (size : ℕ) (settled : ℕ → Bool) (g : NameGraph)
-    (are : AreEdges table key size settled g)
+    (are : AreNameEdges table key size settled g)
     (keys : List Key) (numbers : List ℕ) (of : AreNumbersOf key size keys numbers) where
   -- ---- from edges to words
-  way_down : {n m : ℕ} → edges.Reaches g.uses n m → Reaches table (key n) (key m)
+  way_down : {n m : ℕ} → edges.NodeReaches g.uses n m → Reaches table (key n) (key m)
   way_down (edges.at_once {x = n} {y = m} h) = at_once ((are.used n (are.below n m h).0 (key m)).1 (m, h, refl))
   way_down (edges.further {x = n} {y = m} h r) =
       further ((are.used n (are.below n m h).0 (key m)).1 (m, h, refl)) (way_down r)
@@ -36,11 +36,11 @@ module _ (table : Table) (key : ℕ → Key) (size : ℕ) (settled : ℕ → Boo
   needs_onward h (inr r) = inr (edges.further h r)
 
   -- each way ends with an edge
-  last_edge : {n i : ℕ} → edges.Reaches g.uses n i → (m : ℕ) × Needs g n m × HasEdge g.uses m i
+  last_edge : {n i : ℕ} → edges.NodeReaches g.uses n i → (m : ℕ) × Needs g n m × HasEdge g.uses m i
   last_edge (edges.at_once {x = n} h) = (n, inl refl, h)
   last_edge (edges.further h r) = let l = last_edge r in (l.0, needs_onward h l.1, l.2)
 
-  by_words : (n i : ℕ) → Contains numbers i → by_edges.IsAffected g i n → IsAffected table keys (key n)
+  by_words : (n i : ℕ) → Contains numbers i → by_edges.IsAffectedName g i n → IsAffected table keys (key n)
   by_words n i c (inl (inl e)) = inl (subst (λ x. Contains keys (key x)) (sym e) (of.of_keys i c))
   by_words n i c (inl (inr r)) =
       let l = last_edge r in by_needs l.1 (looked_by l.0 i (inl l.2) (are.below l.0 i l.2).0 c)
@@ -49,7 +49,7 @@ module _ (table : Table) (key : ℕ → Key) (size : ℕ) (settled : ℕ → Boo
   -- ---- from words to edges
   way_up : {words : List WordUse} {k : Key} → WordsReach table words k → (n : ℕ) → settled n ≡ true
       → words ≡ key_words table (key n)
-      → (m : ℕ) × edges.Reaches g.uses n m × (k ≡ key m)
+      → (m : ℕ) × edges.NodeReaches g.uses n m × (k ≡ key m)
   way_up {k = k} (at_once l) n s e =
       let u = (are.used n s k).0 (subst (λ (us : List WordUse). WordsLeadTo table us k) e l) in
       (u.0, edges.at_once u.1, u.2)
@@ -58,7 +58,7 @@ module _ (table : Table) (key : ℕ → Key) (size : ℕ) (settled : ℕ → Boo
       let w = way_up r u.0 (are.below n u.0 u.1).1 (ap (key_words table) u.2) in
       (w.0, edges.further u.1 w.1, w.2)
 
-  ends : {n m : ℕ} → edges.Reaches g.uses n m → settled m ≡ true
+  ends : {n m : ℕ} → edges.NodeReaches g.uses n m → settled m ≡ true
   ends (edges.at_once {x = n} {y = m} h) = (are.below n m h).1
   ends (edges.further h r) = ends r
 
@@ -66,7 +66,7 @@ module _ (table : Table) (key : ℕ → Key) (size : ℕ) (settled : ℕ → Boo
   needs_use {i = i} (inl e) h = inr (edges.at_once (subst (λ x. HasEdge g.uses x i) (sym e) h))
   needs_use (inr r) h = inr (behind r h)
     where
-      behind : {n m i : ℕ} → edges.Reaches g.uses n m → HasEdge g.uses m i → edges.Reaches g.uses n i
+      behind : {n m i : ℕ} → edges.NodeReaches g.uses n m → HasEdge g.uses m i → edges.NodeReaches g.uses n i
       behind (edges.at_once h) l = edges.further h (edges.at_once l)
       behind (edges.further h r) l = edges.further h (behind r l)
 

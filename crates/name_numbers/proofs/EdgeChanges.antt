@@ -6,17 +6,17 @@ use Rattle.def_entry.specs.declared.key.Key.{Key}
 use Rattle.def_entry.specs.Tables.{Table}
 use Rattle.name_lookup.specs.Plans.{Found}
 use Rattle.edge_links.specs.Reach.{HasEdge}
-use Rattle.name_edges.specs.Affected.{Forgets}
+use Rattle.name_edges.specs.AffectedNames.{ForgetsNames}
 use Rattle.name_edges.specs.NameGraphs.{NameGraph}
 use Rattle.name_edges.proofs.Cutting.{stays_there, was_free, was_there}
 use Rattle.table_names.specs.Edits.{IsAsBefore}
 use Rattle.table_names.specs.Leads.{LooksAt, WordsLeadTo}
 use Rattle.table_names.specs.Words.{entry_words, key_words}
-use Rattle.name_numbers.specs.EdgeLaws.{AreEdges}
+use Rattle.name_numbers.specs.EdgeLaws.{AreNameEdges}
 
 -- ---- names are added
 module _ (table : Table) (key later : ℕ → Key) (size more : ℕ) (settled now : ℕ → Bool) (g : NameGraph)
-    (are : AreEdges table key size settled g) (grown : size ≤ more) (same : (n : ℕ) → n < size → later n ≡ key n)
+    (are : AreNameEdges table key size settled g) (grown : size ≤ more) (same : (n : ℕ) → n < size → later n ≡ key n)
     (marks : (n : ℕ) → (now n ≡ true) ↔ (settled n ≡ true)) where
   to_later : (n m : ℕ) → HasEdge g.uses n m ⊎ HasEdge g.looks n m → later m ≡ key m
   to_later n m (inl h) = same m (are.within m (are.below n m h).1)
@@ -25,7 +25,7 @@ module _ (table : Table) (key later : ℕ → Key) (size more : ℕ) (settled no
   own : (n : ℕ) → now n ≡ true → later n ≡ key n
   own n e = same n (are.within n ((marks n).0 e))
 
-  pub edges_grown : AreEdges table later more now g
+  pub edges_grown : AreNameEdges table later more now g
   edges_grown = record {
     within = λ n e. let l = are.within n ((marks n).0 e) in omega (arith, l, grown);
     below = λ n m h. ((marks n).1 (are.below n m h).0, (marks m).1 (are.below n m h).1);
@@ -50,7 +50,7 @@ module _ (table : Table) (key later : ℕ → Key) (size more : ℕ) (settled no
 -- ---- one more name is settled, with edges to these names and keys
 module _ (table : Table) (key : ℕ → Key) (size : ℕ) (settled now : ℕ → Bool) (g h : NameGraph) (n : ℕ)
     (used looked : List ℕ)
-    (are : AreEdges table key size settled g) (there : n < size) (fresh : settled n ≡ true → ⊥)
+    (are : AreNameEdges table key size settled g) (there : n < size) (fresh : settled n ≡ true → ⊥)
     (marks : (m : ℕ) → (now m ≡ true) ↔ ((m ≡ n) ⊎ (settled m ≡ true)))
     (uses : (x y : ℕ) → HasEdge h.uses x y ↔ (((x ≡ n) × Contains used y) ⊎ HasEdge g.uses x y))
     (looks : (x y : ℕ) → HasEdge h.looks x y ↔ (((x ≡ n) × Contains looked y) ⊎ HasEdge g.looks x y))
@@ -127,7 +127,7 @@ module _ (table : Table) (key : ℕ → Key) (size : ℕ) (settled now : ℕ →
           (u.0, elim u.1 [ inl i ↦ inl (use_of_old x u.0 s i) | inr i ↦ inr (look_of_old x u.0 s i) ], u.2),
     )
 
-    pub edges_linked : AreEdges table key size now h
+    pub edges_linked : AreNameEdges table key size now h
     edges_linked = record {
       within = now_in;
       below = λ x y e. new_use x y ((uses x y).0 e);
@@ -170,7 +170,7 @@ module _ (before after : Table) (k : Key) (is : IsAsBefore before after k) where
 -- ---- affected names are forgotten, and the other names are as before
 module _ (before after : Table) (key : ℕ → Key) (size : ℕ) (settled now : ℕ → Bool) (g h : NameGraph)
     (Affected : ℕ → Type 0)
-    (are : AreEdges before key size settled g) (cut : Forgets Affected g h)
+    (are : AreNameEdges before key size settled g) (cut : ForgetsNames Affected g h)
     (marks : (n : ℕ) → (now n ≡ true) ↔ ((settled n ≡ true) × (Affected n → ⊥)))
     (up : (n m : ℕ) → HasEdge g.uses n m → Affected m → Affected n)
     (is : (n : ℕ) → now n ≡ true → IsAsBefore before after (key n)) where
@@ -190,7 +190,7 @@ module _ (before after : Table) (key : ℕ → Key) (size : ℕ) (settled now : 
   look_is : (n m : ℕ) → now n ≡ true → HasEdge g.looks n m → HasEdge h.looks n m
   look_is n m e = stays_there Affected g.looks h.looks cut.looks n m ((marks n).0 e).1
 
-  pub edges_cut : AreEdges after key size now h
+  pub edges_cut : AreNameEdges after key size now h
   edges_cut = record {
     within = λ n e. are.within n ((marks n).0 e).0;
     below = λ n m e.

@@ -8,16 +8,16 @@ use Rattle.def_entry.specs.SameKeys.{SameKeysLaw}
 use Rattle.def_entry.specs.Tables.{Table}
 use Rattle.name_walk.specs.declared.step.Step.{Step}
 use Rattle.name_walk.specs.declared.step.Step.TheVariants.{To}
-use Rattle.name_walk.specs.Closed.{IsSettled}
+use Rattle.name_walk.specs.ClosedNames.{IsSettled}
 use Rattle.name_walk.specs.Lists.{In}
 use Rattle.name_walk.specs.NewlyClosed.{AreNewlyClosed, IsReached}
 use Rattle.name_walk.specs.Steps.{Graph}
 use Rattle.table_names.specs.declared.fault.NameFault.{NameFault}
-use Rattle.table_names.specs.Closed.{AreClosed, IsClosed}
-use Rattle.table_names.specs.ClosedLaws.{ClosedLaw}
+use Rattle.table_names.specs.ClosedKeys.{AreClosed, IsClosed}
+use Rattle.table_names.specs.ClosedLaws.{ClosedWordLaw}
 use Rattle.table_names.specs.Leads.{Reaches, WordsReach}
 use Rattle.table_names.proofs.Members.{member_cases, member_first, member_later, no_member}
-use Rattle.name_numbers.specs.Numbered.{AreNumbered, AreWords, LeadToKnown}
+use Rattle.name_numbers.specs.NumberedNames.{AreNumbered, AreWords, LeadToKnown}
 use Rattle.name_numbers.specs.SettlingLaws.{AreMarks, AreNewKeys, SettlingLaw}
 use Rattle.name_numbers.proofs.Paths.{AllKnown, distinct_keys}
 use Rattle.name_numbers.proofs.Reached.{key_reached, key_way, known_reached, number_below, number_reached}
@@ -41,7 +41,7 @@ all_known : (known : ℕ → Bool) (ns : List ℕ) → ((n : ℕ) → In n ns �
 all_known known [] h = tt
 all_known known (n ∷ ns) h = (h n (inl refl), all_known known ns (λ m i. h m (inr i)))
 
-module _ (same_keys : SameKeysLaw) (closed_law : ClosedLaw) (table : Table) (key : ℕ → Key)
+module _ (same_keys : SameKeysLaw) (closed_law : ClosedWordLaw) (table : Table) (key : ℕ → Key)
     (dead_end : ℕ → Option Key → NameFault) (g : Graph) (known : ℕ → Bool) (marks : List Bool) (settled : Key → Bool)
     (numbered : AreNumbered table key dead_end g known) (are_marks : AreMarks key known marks settled) where
   all_reached : (xs : List Step) → LeadToKnown known xs → (n : ℕ) → IsReached g xs n → known n ≡ true
@@ -117,7 +117,7 @@ module _ (same_keys : SameKeysLaw) (closed_law : ClosedLaw) (table : Table) (key
       to_number m (inr r) = number_below table key dead_end g known numbered closed_law n k e m r
 
 -- the law of newly settled keys
-pub settling_law : SameKeysLaw → ClosedLaw → SettlingLaw
+pub settling_law : SameKeysLaw → ClosedWordLaw → SettlingLaw
 settling_law same_keys closed_law = record {
   words = words_settle same_keys closed_law;
   key = key_settles same_keys closed_law;

@@ -6,11 +6,11 @@ use Rattle.std.specs.Prelude.{option_map}
 use Rattle.std.proofs.lemmas.Bool.{cases_eq, eq-eqb, false_from_ne_true, ne_eqb}
 use Rattle.std.proofs.lemmas.List.{map-append}
 use Rattle.def_entry.specs.declared.key.Key.{Key}
-use Rattle.def_entry.specs.SameKeys.{SameKeysLaw, is_among, is_same}
-use Rattle.name_walk.specs.Faults.{from_name, on}
+use Rattle.def_entry.specs.SameKeys.{SameKeysLaw, is_key_among, is_same}
+use Rattle.name_walk.specs.Faults.{from_name, is_on_path}
 use Rattle.name_walk.specs.Lists as walk
 use Rattle.table_names.specs.Faults as names
-use Rattle.table_names.specs.Faults.{chain}
+use Rattle.table_names.specs.Faults.{cycle_chain}
 
 -- all numbers of a list are known
 abbrev pub AllKnown : (ℕ → Bool) → List ℕ → Type 0
@@ -48,13 +48,14 @@ module _ (same_keys : SameKeysLaw) (key : ℕ → Key) (known : ℕ → Bool)
     | inr ne ↦ false_from_ne_true _ (λ e. ne (apart n m kn km ((same_keys (key n) (key m)).0 e))) ∙ sym (ne_eqb n m ne)
   ]
 
-  pub same_on : (p : List ℕ) (n : ℕ) → AllKnown known p → known n ≡ true → is_among (map key p) (key n) ≡ on p n
+  pub same_on : (p : List ℕ) (n : ℕ) → AllKnown known p → known n ≡ true
+      → is_key_among (map key p) (key n) ≡ is_on_path p n
   same_on [] n ks k = refl
   same_on (m ∷ p) n ks k = λ i. same_test n m k ks.0 i || same_on p n ks.1 k i
 
   pub same_chain :
       (p : List ℕ) (n : ℕ) → AllKnown known p → known n ≡ true
-      → map key (from_name n p ++ n ∷ []) ≡ chain (key n) (map key p)
+      → map key (from_name n p ++ n ∷ []) ≡ cycle_chain (key n) (map key p)
   same_chain [] n ks k = refl
   same_chain (m ∷ p) n ks k =
       by (nat_eq m n)

@@ -9,7 +9,7 @@ use Rattle.expr_tree.specs.Words.{words_in}
 use Rattle.table_names.specs.Leads.{targets}
 use Rattle.table_names.specs.Meanings.{entry_meaning, meaning_within, targets_meaning, word_meaning_by}
 use Rattle.tree_eval.specs.Entries.{alias, function_words, greatest_rank, meaning_of, rank_of_meaning}
-use Rattle.tree_eval.specs.Expanded.{Callee, Meaning, One, Two}
+use Rattle.tree_eval.specs.Expansions.{Callee, Meaning, One, Two}
 use Rattle.tree_eval.specs.Expansion.{inverted_word}
 use Rattle.name_numbers.specs.RankLaws.{RankLaw}
 

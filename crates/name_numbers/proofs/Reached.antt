@@ -12,13 +12,13 @@ use Rattle.name_walk.specs.NewlyClosed.{IsReached}
 use Rattle.name_walk.specs.Steps as walk
 use Rattle.name_walk.specs.Steps.{Graph, LeadsTo, steps}
 use Rattle.table_names.specs.declared.fault.NameFault.{NameFault}
-use Rattle.table_names.specs.Closed.{AreClosed, IsClosed, LeadsInto}
-use Rattle.table_names.specs.ClosedLaws.{ClosedLaw}
+use Rattle.table_names.specs.ClosedKeys.{AreClosed, IsClosed, WordLeadsInto}
+use Rattle.table_names.specs.ClosedLaws.{ClosedWordLaw}
 use Rattle.table_names.specs.Leads.{Reaches, WordsLeadTo, WordsReach, at_once, further, targets}
 use Rattle.table_names.specs.Words.{key_words}
 use Rattle.table_names.proofs.Members.{member_cases, member_first, member_later, no_member}
-use Rattle.name_numbers.specs.Numbered.{AreNumbered, AreWords, LeadToKnown}
-use Rattle.name_numbers.specs.Numbered.{ForOne, ForRefused, ForTwo, ForUnknown, IsWord}
+use Rattle.name_numbers.specs.NumberedNames.{AreNumbered, AreWords, LeadToKnown}
+use Rattle.name_numbers.specs.NumberedNames.{ForOne, ForRefused, ForTwo, ForUnknown, IsWord}
 
 module _ (table : Table) (key : ℕ → Key) (dead_end : ℕ → Option Key → NameFault) where
   -- ---- one word, and its two steps
@@ -91,7 +91,7 @@ module _ (table : Table) (key : ℕ → Key) (dead_end : ℕ → Option Key → 
 
   module _ (g : Graph) (known : ℕ → Bool) (numbered : AreNumbered table key dead_end g known) where
     -- ---- known numbers
-    known_below : {n m : ℕ} → walk.Reaches g n m → known n ≡ true → known m ≡ true
+    known_below : {n m : ℕ} → walk.NameReaches g n m → known n ≡ true → known m ≡ true
     known_below {n} {m} (walk.at_once l) k = numbered.below n m k l
     known_below {n} {m} (walk.further {x = x} l r) k = known_below r (numbered.below n x k l)
 
@@ -105,12 +105,12 @@ module _ (table : Table) (key : ℕ → Key) (dead_end : ℕ → Option Key → 
     key_lead : (n m : ℕ) → known n ≡ true → LeadsTo g n m → WordsLeadTo table (key_words table (key n)) (key m)
     key_lead n m k l = lead_of_step (key_words table (key n)) (steps g n) (numbered.faithful n k) m l
 
-    way_of_keys : {n m : ℕ} → walk.Reaches g n m → known n ≡ true → Reaches table (key n) (key m)
+    way_of_keys : {n m : ℕ} → walk.NameReaches g n m → known n ≡ true → Reaches table (key n) (key m)
     way_of_keys {n} {m} (walk.at_once l) k = at_once (key_lead n m k l)
     way_of_keys {n} {m} (walk.further {x = x} l r) k =
         further (key_lead n x k l) (way_of_keys r (numbered.below n x k l))
 
-    pub key_way : (n m : ℕ) → known n ≡ true → walk.Reaches g n m → Reaches table (key n) (key m)
+    pub key_way : (n m : ℕ) → known n ≡ true → walk.NameReaches g n m → Reaches table (key n) (key m)
     key_way n m k r = way_of_keys r k
 
     pub key_reached :
@@ -134,19 +134,19 @@ module _ (table : Table) (key : ℕ → Key) (dead_end : ℕ → Option Key → 
       ]),
     )
 
-    module _ (closed_law : ClosedLaw) where
+    module _ (closed_law : ClosedWordLaw) where
       closed_lead :
           (us : List WordUse) (xs : List Step) → AreWords table key dead_end us xs → AreClosed table us
           → (k : Key) → WordsLeadTo table us k → (n : ℕ) × (k ≡ key n) × In (To n) xs
       closed_lead us xs w closed k l =
-          let u : LeadsInto table (IsClosed table) l.0 = (closed_law.words table us).0 closed l.0 l.1 in
-          step_of_lead us xs w l.0 l.1 u.accepted k l.2
+          let u : WordLeadsInto table (IsClosed table) l.0 = (closed_law.words table us).0 closed l.0 l.1 in
+          step_of_lead us xs w l.0 l.1 u.is_accepted k l.2
 
       closed_target :
           (us : List WordUse) → AreClosed table us → (k : Key) → WordsLeadTo table us k
           → AreClosed table (key_words table k)
       closed_target us closed k l =
-          let u : LeadsInto table (IsClosed table) l.0 = (closed_law.words table us).0 closed l.0 l.1 in
+          let u : WordLeadsInto table (IsClosed table) l.0 = (closed_law.words table us).0 closed l.0 l.1 in
           (closed_law.key table k).0 (u.into k l.2)
 
       reached :

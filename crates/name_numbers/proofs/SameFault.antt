@@ -8,27 +8,27 @@ use Rattle.std.proofs.lemmas.Bool.{cond-false, cond-true}
 use Rattle.expr_tree.specs.declared.word_list.WordUse.{WordUse}
 use Rattle.expr_tree.specs.Names.{is_refused}
 use Rattle.def_entry.specs.declared.key.Key.{Key}
-use Rattle.def_entry.specs.SameKeys.{SameKeysLaw, is_among}
+use Rattle.def_entry.specs.SameKeys.{SameKeysLaw, is_key_among}
 use Rattle.def_entry.specs.Tables.{Table}
 use Rattle.name_walk.specs.declared.step.Step.{Step}
 use Rattle.name_walk.specs.declared.step.Step.TheVariants.{Nowhere, To}
-use Rattle.name_walk.specs.FaultLaws.{FaultLaw as WalkFaultLaw}
+use Rattle.name_walk.specs.FaultLaws.{StepsFaultLaw as WalkFaultLaw}
 use Rattle.name_walk.specs.Faults as walk
-use Rattle.name_walk.specs.Faults.{at_name, at_step, from_name, on}
+use Rattle.name_walk.specs.Faults.{at_name, at_step, from_name, is_on_path}
 use Rattle.name_walk.specs.Lists as lists
 use Rattle.name_walk.specs.Lists.{In}
-use Rattle.name_walk.specs.Paths.{IsPath as IsWalkPath, PathLaw as WalkPathLaw}
+use Rattle.name_walk.specs.Paths.{IsNamePath as IsWalkPath, NamePathLaw as WalkPathLaw}
 use Rattle.name_walk.specs.Steps.{Graph, InRange, steps}
 use Rattle.table_names.specs.declared.fault.NameFault.{NameFault}
 use Rattle.table_names.specs.declared.fault.NameFault.TheVariants.{Unknown, Refused, Cycle}
-use Rattle.table_names.specs.FaultLaws.{FaultLaw, IsPath, PathLaw}
+use Rattle.table_names.specs.FaultLaws.{IsKeyPath, KeyPathLaw, WordsFaultLaw}
 use Rattle.table_names.specs.Faults as names
-use Rattle.table_names.specs.Faults.{Deeper, chain, first, target_fault, targets_fault, word_fault}
+use Rattle.table_names.specs.Faults.{Deeper, cycle_chain, first, target_fault, targets_fault, word_fault}
 use Rattle.table_names.specs.Leads.{targets}
 use Rattle.table_names.specs.Words.{key_words}
 use Rattle.name_numbers.specs.FaultLaws.{NumberedFaultLaw}
-use Rattle.name_numbers.specs.Numbered.{AreNumbered, AreWords, LeadToKnown, named}
-use Rattle.name_numbers.specs.Numbered.{ForOne, ForRefused, ForTwo, ForUnknown, IsWord}
+use Rattle.name_numbers.specs.NumberedNames.{AreNumbered, AreWords, LeadToKnown, fault_by_name}
+use Rattle.name_numbers.specs.NumberedNames.{ForOne, ForRefused, ForTwo, ForUnknown, IsWord}
 use Rattle.name_numbers.proofs.Paths.{AllKnown, known_push, map_push, same_chain, same_last, same_on}
 
 -- an option or else `None` is the option
@@ -39,14 +39,14 @@ or_none (Some x) = refl
 module _ (same_keys : SameKeysLaw) (table : Table) (key : ℕ → Key) (dead_end : ℕ → Option Key → NameFault)
     (g : Graph) (known : ℕ → Bool) (numbered : AreNumbered table key dead_end g known) where
   abbrev by_name : Option walk.NameFault → Option NameFault
-  by_name = option_map (named table key dead_end)
+  by_name = option_map (fault_by_name table key dead_end)
 
-  on_keys : (p : List ℕ) (n : ℕ) → AllKnown known p → known n ≡ true → is_among (map key p) (key n) ≡ on p n
+  on_keys : (p : List ℕ) (n : ℕ) → AllKnown known p → known n ≡ true → is_key_among (map key p) (key n) ≡ is_on_path p n
   on_keys = same_on same_keys key known numbered.apart
 
   chain_of_keys :
       (p : List ℕ) (n : ℕ) → AllKnown known p → known n ≡ true
-      → map key (from_name n p ++ n ∷ []) ≡ chain (key n) (map key p)
+      → map key (from_name n p ++ n ∷ []) ≡ cycle_chain (key n) (map key p)
   chain_of_keys = same_chain same_keys key known numbered.apart
 
   -- the second step to a target adds no fault
@@ -66,16 +66,16 @@ module _ (same_keys : SameKeysLaw) (table : Table) (key : ℕ → Key) (dead_end
 
   -- ---- after one path, given the faults deeper down
   module _ (p : List ℕ) (on_path : AllKnown known p) (f : List ℕ → ℕ → Option walk.NameFault) (deeper : Deeper)
-      (same : (n : ℕ) → known n ≡ true → on p n ≡ false
+      (same : (n : ℕ) → known n ≡ true → is_on_path p n ≡ false
       → by_name (f (p ++ n ∷ []) n) ≡ deeper (map key p ++ key n ∷ []) (key n)) where
     same_target : (n : ℕ) → known n ≡ true → by_name (at_name f p n) ≡ target_fault table deeper (map key p) (key n)
     same_target n k =
-        chosen (on p n) refl
+        chosen (is_on_path p n) refl
         ∙ (λ i. cond (sym (on_keys p n on_path k) i) (Some (Cycle (chain_of_keys p n on_path k i)))
         (deeper (map key p ++ key n ∷ []) (key n)))
       where
         chosen :
-            (b : Bool) → on p n ≡ b
+            (b : Bool) → is_on_path p n ≡ b
             → by_name (cond b (Some (walk.Cycle (from_name n p ++ n ∷ []))) (f (p ++ n ∷ []) n))
             ≡ cond b (Some (Cycle (map key (from_name n p ++ n ∷ [])))) (deeper (map key p ++ key n ∷ []) (key n))
         chosen true e = refl
@@ -134,37 +134,37 @@ module _ (same_keys : SameKeysLaw) (table : Table) (key : ℕ → Key) (dead_end
         ∙ ap (option_or (fault_of_word u)) (same_words us xs w.1 (λ n i. k n (inr (inr i))))
 
   -- ---- after all paths, by the number of names that are not on them
-  module _ (range : InRange g) (walk_fault : WalkFaultLaw) (walk_path : WalkPathLaw) (name_fault : FaultLaw)
-      (name_path : PathLaw) where
+  module _ (range : InRange g) (walk_fault : WalkFaultLaw) (walk_path : WalkPathLaw) (name_fault : WordsFaultLaw)
+      (name_path : KeyPathLaw) where
     path_of_keys :
-        (p : List ℕ) (n : ℕ) → IsPath table (map key p) → AllKnown known p → known n ≡ true → on p n ≡ false
-        → IsPath table (map key (p ++ n ∷ []))
+        (p : List ℕ) (n : ℕ) → IsKeyPath table (map key p) → AllKnown known p → known n ≡ true → is_on_path p n ≡ false
+        → IsKeyPath table (map key (p ++ n ∷ []))
     path_of_keys p n are on_path k off =
-        subst (λ (q : List Key). IsPath table q) (sym (map_push key p n))
+        subst (λ (q : List Key). IsKeyPath table q) (sym (map_push key p n))
         (name_path.longer table (map key p) (key n) are (on_keys p n on_path k ∙ off) (numbered.present n k))
 
     by_room :
         (k : ℕ) (p : List ℕ) (us : List WordUse) (xs : List Step)
-        → AllKnown known p → IsWalkPath g p → IsPath table (map key p)
+        → AllKnown known p → IsWalkPath g p → IsKeyPath table (map key p)
         → AreWords table key dead_end us xs → LeadToKnown known xs → length p + k ≡ length g + 1
-        → by_name (walk.fault g p xs) ≡ names.fault table (map key p) us
+        → by_name (walk.steps_fault g p xs) ≡ names.words_fault table (map key p) us
     by_room zero p us xs on_path is are w ks room =
         absurd (let l : length p ≤ length g = walk_path.short g p is in omega arith)
     by_room (suc k) p us xs on_path is are w ks room =
         ap by_name (walk_fault.is g range p xs is (λ n i. numbered.within n (ks n i)))
-        ∙ (same_words p on_path (λ longer n. walk.fault g longer (steps g n))
-        (λ longer n. names.fault table longer (key_words table n)) (λ n kn off.
+        ∙ (same_words p on_path (λ longer n. walk.steps_fault g longer (steps g n))
+        (λ longer n. names.words_fault table longer (key_words table n)) (λ n kn off.
         by_room k (p ++ n ∷ []) (key_words table (key n)) (steps g n) (known_push known p n on_path kn)
         (walk_path.longer g p n is off (numbered.within n kn)) (path_of_keys p n are on_path kn off)
         (numbered.faithful n kn) (λ m l. numbered.below n m kn l) (omega (arith, length-append p (n ∷ [])))
-        ∙ ap (λ q. names.fault table q (key_words table (key n))) (map_push key p n)) us xs w ks
+        ∙ ap (λ q. names.words_fault table q (key_words table (key n))) (map_push key p n)) us xs w ks
         ∙ sym (name_fault.is table (map key p) us are))
 
     same_fault :
         (p : List ℕ) (us : List WordUse) (xs : List Step)
-        → AllKnown known p → IsWalkPath g p → IsPath table (map key p)
+        → AllKnown known p → IsWalkPath g p → IsKeyPath table (map key p)
         → AreWords table key dead_end us xs → LeadToKnown known xs
-        → by_name (walk.fault g p xs) ≡ names.fault table (map key p) us
+        → by_name (walk.steps_fault g p xs) ≡ names.words_fault table (map key p) us
     same_fault p us xs on_path is are w ks =
         let l : length p ≤ length g = walk_path.short g p is in
         let room : length p + (length g + 1 - length p) ≡ length g + 1 = omega arith in
@@ -172,10 +172,11 @@ module _ (same_keys : SameKeysLaw) (table : Table) (key : ℕ → Key) (dead_end
 
     pub words_fault :
         (us : List WordUse) (xs : List Step) → AreWords table key dead_end us xs → LeadToKnown known xs
-        → by_name (walk.fault g [] xs) ≡ names.name_fault table us
+        → by_name (walk.steps_fault g [] xs) ≡ names.name_fault table us
     words_fault us xs w ks = same_fault [] us xs tt (walk_path.empty g) (name_path.empty table) w ks
 
-    pub number_fault : (n : ℕ) → known n ≡ true → by_name (walk.fault g [] (To n ∷ [])) ≡ names.key_fault table (key n)
+    pub number_fault : (n : ℕ) → known n ≡ true → by_name (walk.steps_fault g [] (To n ∷ [])) ≡ names.key_fault table
+        (key n)
     number_fault n k =
         ap by_name (walk_fault.is g range [] (To n ∷ []) (walk_path.empty g) there ∙ or_none _)
         ∙ same_fault (n ∷ []) (key_words table (key n)) (steps g n) (k, tt)
@@ -188,7 +189,7 @@ module _ (same_keys : SameKeysLaw) (table : Table) (key : ℕ → Key) (dead_end
         there m (inr i) = absurd i
 
 -- the law of faults by number
-pub numbered_fault_law : SameKeysLaw → WalkFaultLaw → WalkPathLaw → FaultLaw → PathLaw → NumberedFaultLaw
+pub numbered_fault_law : SameKeysLaw → WalkFaultLaw → WalkPathLaw → WordsFaultLaw → KeyPathLaw → NumberedFaultLaw
 numbered_fault_law same_keys walk_fault walk_path name_fault name_path = record {
   words = λ table key dead_end g known numbered range.
       words_fault same_keys table key dead_end g known numbered range walk_fault walk_path name_fault name_path;

@@ -3,15 +3,15 @@ use Rattle.std.specs.Prelude.{◌≡◌, ◌⊎◌, ◌↔◌, ◌<◌, ℕ, Boo
 use Rattle.def_entry.specs.declared.key.Key.{Key}
 use Rattle.def_entry.specs.Tables.{Table}
 use Rattle.edge_links.specs.Reach.{HasEdge}
-use Rattle.name_edges.specs.Affected.{AreAffected}
+use Rattle.name_edges.specs.AffectedNames.{AreAffected}
 use Rattle.name_edges.specs.NameGraphs.{NameGraph}
-use Rattle.table_names.specs.Affected.{IsAffected}
+use Rattle.table_names.specs.AffectedKeys.{IsAffected}
 use Rattle.table_names.specs.Leads.{LooksAt, WordsLeadTo}
 use Rattle.table_names.specs.Words.{key_words}
 
 -- each settled number has an edge to each name that its words lead to, and to each other key that they look at; a
 -- number that is not settled has no edge
-pub record AreEdges (table : Table) (key : ℕ → Key) (size : ℕ) (settled : ℕ → Bool) (g : NameGraph) : Type 0 where
+pub record AreNameEdges (table : Table) (key : ℕ → Key) (size : ℕ) (settled : ℕ → Bool) (g : NameGraph) : Type 0 where
   pub within : (n : ℕ) → settled n ≡ true → n < size
   pub below : (n m : ℕ) → HasEdge g.uses n m → (settled n ≡ true) × (settled m ≡ true)
   pub beside : (n m : ℕ) → HasEdge g.looks n m → (settled n ≡ true) × (m < size)
@@ -28,5 +28,5 @@ pub record AreNumbersOf (key : ℕ → Key) (size : ℕ) (keys : List Key) (numb
 -- law: a change of these keys affects a settled name by its edges exactly if it affects the name by its words
 abbrev pub AffectedNumbersLaw : Type 0
 AffectedNumbersLaw = (table : Table) (key : ℕ → Key) (size : ℕ) (settled : ℕ → Bool) (g : NameGraph)
-    → AreEdges table key size settled g → (keys : List Key) (numbers : List ℕ) → AreNumbersOf key size keys numbers
+    → AreNameEdges table key size settled g → (keys : List Key) (numbers : List ℕ) → AreNumbersOf key size keys numbers
     → (n : ℕ) → settled n ≡ true → AreAffected g numbers n ↔ IsAffected table keys (key n)

@@ -9,14 +9,14 @@ use Rattle.name_walk.specs.Faults as walk
 use Rattle.name_walk.specs.Steps.{Graph, InRange}
 use Rattle.table_names.specs.declared.fault.NameFault.{NameFault}
 use Rattle.table_names.specs.Faults.{key_fault, name_fault}
-use Rattle.name_numbers.specs.Numbered.{AreNumbered, AreWords, LeadToKnown, named}
+use Rattle.name_numbers.specs.NumberedNames.{AreNumbered, AreWords, LeadToKnown, fault_by_name}
 
 -- law: the first fault by number of the steps of words, or of a known number, is the name fault
 pub record NumberedFaultLaw : Type 0 where
   pub words : (table : Table) (key : ℕ → Key) (dead_end : ℕ → Option Key → NameFault) (g : Graph) (known : ℕ → Bool)
       → AreNumbered table key dead_end g known → InRange g
       → (us : List WordUse) (xs : List Step) → AreWords table key dead_end us xs → LeadToKnown known xs
-      → option_map (named table key dead_end) (walk.fault g [] xs) ≡ name_fault table us
+      → option_map (fault_by_name table key dead_end) (walk.steps_fault g [] xs) ≡ name_fault table us
   pub key : (table : Table) (key : ℕ → Key) (dead_end : ℕ → Option Key → NameFault) (g : Graph) (known : ℕ → Bool)
       → AreNumbered table key dead_end g known → InRange g → (n : ℕ) → known n ≡ true
-      → option_map (named table key dead_end) (walk.fault g [] (To n ∷ [])) ≡ key_fault table (key n)
+      → option_map (fault_by_name table key dead_end) (walk.steps_fault g [] (To n ∷ [])) ≡ key_fault table (key n)

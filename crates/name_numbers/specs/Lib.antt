@@ -1,6 +1,6 @@
 pub mod EdgeLaws
 pub mod FaultLaws
 pub mod LookupLaws
-pub mod Numbered
+pub mod NumberedNames
 pub mod RankLaws
 pub mod SettlingLaws

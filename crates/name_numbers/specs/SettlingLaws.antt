@@ -7,13 +7,13 @@ use Rattle.def_entry.specs.SameKeys.{is_same}
 use Rattle.def_entry.specs.Tables.{Table}
 use Rattle.name_walk.specs.declared.step.Step.{Step}
 use Rattle.name_walk.specs.declared.step.Step.TheVariants.{To}
-use Rattle.name_walk.specs.Closed.{IsSettled}
+use Rattle.name_walk.specs.ClosedNames.{IsSettled}
 use Rattle.name_walk.specs.NewlyClosed.{AreNewlyClosed}
 use Rattle.name_walk.specs.Steps.{Graph}
 use Rattle.table_names.specs.declared.fault.NameFault.{NameFault}
-use Rattle.table_names.specs.Closed.{AreClosed, IsClosed}
+use Rattle.table_names.specs.ClosedKeys.{AreClosed, IsClosed}
 use Rattle.table_names.specs.Leads.{Reaches, WordsReach}
-use Rattle.name_numbers.specs.Numbered.{AreNumbered, AreWords, LeadToKnown}
+use Rattle.name_numbers.specs.NumberedNames.{AreNumbered, AreWords, LeadToKnown}
 
 -- a known number is marked exactly if its key is settled
 abbrev pub AreMarks : (ℕ → Key) → (ℕ → Bool) → List Bool → (Key → Bool) → Type 0

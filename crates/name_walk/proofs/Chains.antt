@@ -3,7 +3,7 @@ use Rattle.std.proofs.Common.{◌≡◌, ℕ, Bool, true, false, cond, ◌||◌,
 use Rattle.std.proofs.Common.{inl, inr, nat_eq, append_assoc}
 use Rattle.std.proofs.lemmas.Bool.{eqb-true, eq-eqb, or_cases}
 use Rattle.name_walk.specs.declared.traces.Frame.{Frame}
-use Rattle.name_walk.specs.Faults.{from_name, on}
+use Rattle.name_walk.specs.Faults.{from_name, is_on_path}
 use Rattle.name_walk.specs.Traces.{path}
 
 -- if one of two tests holds, the first value is chosen
@@ -33,7 +33,7 @@ module _ (again last : ℕ) where
   -- `again` is met, it is still ahead
   pub record IsChaining (all : List ℕ) (names : List ℕ) (is_below : Bool) (rest : List Frame) : Type 0 where
     pub whole : names ++ cond is_below (path rest last) (from_name again (path rest last)) ≡ all
-    pub ahead : (is_below || on (path rest last) again) ≡ true
+    pub ahead : (is_below || is_on_path (path rest last) again) ≡ true
 
   pub chaining_keep : (all names more : List ℕ) (b : Bool) (f : Frame) (rest : List Frame)
       → IsChaining all names b (f ∷ rest)
@@ -66,10 +66,10 @@ module _ (again last : ℕ) where
           let not : nat_eq f.name again ≡ false = false_right b (nat_eq f.name again) unmet in
           cc
 
-      still_ahead : on (path rest last) again ≡ true
-      still_ahead = elim (or_cases b (on (path (f ∷ rest) last) again) h.ahead) [
+      still_ahead : is_on_path (path rest last) again ≡ true
+      still_ahead = elim (or_cases b (is_on_path (path (f ∷ rest) last) again) h.ahead) [
         | inl q ↦ absurd (let n : b ≡ false = false_left b (nat_eq f.name again) unmet in cc)
-        | inr q ↦ elim (or_cases (nat_eq again f.name) (on (path rest last) again) q)
+        | inr q ↦ elim (or_cases (nat_eq again f.name) (is_on_path (path rest last) again) q)
             [ inl o ↦ absurd (other o) | inr o ↦ o ]
       ]
 

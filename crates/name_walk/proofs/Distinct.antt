@@ -3,7 +3,7 @@ use Rattle.std.proofs.Common.{◌≡◌, ◌⊎◌, ℕ, zero, suc, true, false,
 use Rattle.std.proofs.Common.{inl, inr, nat_eq}
 use Rattle.std.specs.List.{AllByRecursion, IsDistinct}
 use Rattle.std.proofs.lemmas.Bool.{cases_Bool, eqb-false, ne_eqb}
-use Rattle.name_walk.specs.Faults.{on}
+use Rattle.name_walk.specs.Faults.{is_on_path}
 use Rattle.name_walk.specs.Lists.{In, last}
 use Rattle.name_walk.proofs.Lists.{In-on, In-right, all_append, all_at, on-In}
 
@@ -21,9 +21,9 @@ take_In (suc k) (y ∷ xs) x (inr i) = inr (take_In k xs x i)
 
 -- a number is a member or not
 pub member_or : (xs : List ℕ) (n : ℕ) → In n xs ⊎ (In n xs → ⊥)
-member_or xs n = elim (cases_Bool (on xs n)) [
+member_or xs n = elim (cases_Bool (is_on_path xs n)) [
   | inl t ↦ inl (on-In xs n t)
-  | inr f ↦ inr (λ i. let t : on xs n ≡ true = In-on xs n i in cc)
+  | inr f ↦ inr (λ i. let t : is_on_path xs n ≡ true = In-on xs n i in cc)
 ]
 
 -- the parts of a list before a member and after it

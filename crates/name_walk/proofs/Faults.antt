@@ -7,23 +7,25 @@ use Rattle.std.proofs.lemmas.Map.Keys.{IsDistinct-push}
 use Rattle.std.proofs.lemmas.Map.Steps.{length-le_from_distinct_below}
 use Rattle.name_walk.specs.declared.step.Step.{Step}
 use Rattle.name_walk.specs.declared.step.Step.TheVariants.{Nowhere, To}
-use Rattle.name_walk.specs.FaultLaws.{FaultLaw, IsFault}
-use Rattle.name_walk.specs.Paths.{IsPath, PathLaw}
-use Rattle.name_walk.specs.Faults.{Cycle, NameFault, at_name, at_step, fault, fault_within, from_name, on}
+use Rattle.name_walk.specs.FaultLaws.{IsStepsFault, StepsFaultLaw}
+use Rattle.name_walk.specs.Paths.{IsNamePath, NamePathLaw}
+use Rattle.name_walk.specs.Faults.{Cycle, NameFault, at_name, at_step, from_name, is_on_path, name_fault_within}
+use Rattle.name_walk.specs.Faults.{steps_fault}
 use Rattle.name_walk.specs.Lists.{In, first}
-use Rattle.name_walk.specs.Steps.{AreKnown, Graph, InRange, steps}
+use Rattle.name_walk.specs.Steps.{Graph, InRange, StayInGraph, steps}
 use Rattle.name_walk.proofs.Lists.{In-on, In-push, first_same, nothing_twice, on-In}
 
 -- a path has no more names than the graph
-pub path_length : (g : Graph) (p : List ℕ) → IsPath g p → length p ≤ length g
+pub path_length : (g : Graph) (p : List ℕ) → IsNamePath g p → length p ≤ length g
 path_length g p h = length-le_from_distinct_below p (length g) h.once h.there
 
 -- the empty list is a path
-pub empty_path : (g : Graph) → IsPath g []
+pub empty_path : (g : Graph) → IsNamePath g []
 empty_path g = record { once = nothing_twice; there = λ q e. cc }
 
 -- a path with one more name that is not on it is a path
-pub path_push : (g : Graph) (p : List ℕ) (n : ℕ) → IsPath g p → on p n ≡ false → n < length g → IsPath g (p ++ n ∷ [])
+pub path_push : (g : Graph) (p : List ℕ) (n : ℕ) → IsNamePath g p → is_on_path p n ≡ false → n < length g
+    → IsNamePath g (p ++ n ∷ [])
 path_push g p n h new there = record {
   once = IsDistinct-push nat_eq_equiv p n h.once new;
   there = λ q e. elim (In-push p n q (on-In (p ++ n ∷ []) q e)) [
@@ -33,37 +35,37 @@ path_push g p n h new there = record {
 }
 
 -- the room after a path with one more name is one less
-pub room_left : (g : Graph) (p : List ℕ) (n : ℕ) → IsPath g p → on p n ≡ false → n < length g
+pub room_left : (g : Graph) (p : List ℕ) (n : ℕ) → IsNamePath g p → is_on_path p n ≡ false → n < length g
     → length g - length p ≡ suc (length g - length (p ++ n ∷ []))
 room_left g p n path new there =
     let short : length (p ++ n ∷ []) ≤ length g = path_length g (p ++ n ∷ []) (path_push g p n path new there) in
     omega (arith, length-append p (n ∷ []))
 
 -- the fault in the steps of a name that is not on the path
-pub deeper_is : (g : Graph) (p : List ℕ) (n : ℕ) → IsPath g p → on p n ≡ false → n < length g
-    → fault_within g (length g - length p) (p ++ n ∷ []) n ≡ fault g (p ++ n ∷ []) (steps g n)
-deeper_is g p n path new there = ap (λ k. fault_within g k (p ++ n ∷ []) n) (room_left g p n path new there)
+pub deeper_is : (g : Graph) (p : List ℕ) (n : ℕ) → IsNamePath g p → is_on_path p n ≡ false → n < length g
+    → name_fault_within g (length g - length p) (p ++ n ∷ []) n ≡ steps_fault g (p ++ n ∷ []) (steps g n)
+deeper_is g p n path new there = ap (λ k. name_fault_within g k (p ++ n ∷ []) n) (room_left g p n path new there)
 
 -- the fault at a name is that of its steps after the path with the name appended
-pub name_is : (g : Graph) (p : List ℕ) (n : ℕ) → IsPath g p → on p n ≡ false → n < length g
-    → at_name (fault_within g (length g - length p)) p n ≡ fault g (p ++ n ∷ []) (steps g n)
-name_is g p n path new there = cond-false (on p n) _ _ new ∙ deeper_is g p n path new there
+pub name_is : (g : Graph) (p : List ℕ) (n : ℕ) → IsNamePath g p → is_on_path p n ≡ false → n < length g
+    → at_name (name_fault_within g (length g - length p)) p n ≡ steps_fault g (p ++ n ∷ []) (steps g n)
+name_is g p n path new there = cond-false (is_on_path p n) _ _ new ∙ deeper_is g p n path new there
 
 -- the faults at a name agree if the faults deeper down agree
 same_name : (f h : List ℕ → ℕ → Option NameFault) (p : List ℕ) (n : ℕ)
-    → (on p n ≡ false → f (p ++ n ∷ []) n ≡ h (p ++ n ∷ []) n)
+    → (is_on_path p n ≡ false → f (p ++ n ∷ []) n ≡ h (p ++ n ∷ []) n)
     → at_name f p n ≡ at_name h p n
 same_name f h p n same =
-    elim (cases_Bool (on p n)) [
-      | inl t ↦ cond-true (on p n) (Some (Cycle (from_name n p ++ n ∷ []))) (f (p ++ n ∷ []) n) t
-          ∙ sym (cond-true (on p n) (Some (Cycle (from_name n p ++ n ∷ []))) (h (p ++ n ∷ []) n) t)
-      | inr t ↦ cond-false (on p n) (Some (Cycle (from_name n p ++ n ∷ []))) (f (p ++ n ∷ []) n) t
-          ∙ (same t ∙ sym (cond-false (on p n) (Some (Cycle (from_name n p ++ n ∷ []))) (h (p ++ n ∷ []) n) t))
+    elim (cases_Bool (is_on_path p n)) [
+      | inl t ↦ cond-true (is_on_path p n) (Some (Cycle (from_name n p ++ n ∷ []))) (f (p ++ n ∷ []) n) t
+          ∙ sym (cond-true (is_on_path p n) (Some (Cycle (from_name n p ++ n ∷ []))) (h (p ++ n ∷ []) n) t)
+      | inr t ↦ cond-false (is_on_path p n) (Some (Cycle (from_name n p ++ n ∷ []))) (f (p ++ n ∷ []) n) t
+          ∙ (same t ∙ sym (cond-false (is_on_path p n) (Some (Cycle (from_name n p ++ n ∷ []))) (h (p ++ n ∷ []) n) t))
     ]
 
 module _ (g : Graph) (range : InRange g) where
-  same_steps : (f h : List ℕ → ℕ → Option NameFault) (p : List ℕ) (xs : List Step) → AreKnown g xs
-      → ((n : ℕ) → on p n ≡ false → n < length g → f (p ++ n ∷ []) n ≡ h (p ++ n ∷ []) n)
+  same_steps : (f h : List ℕ → ℕ → Option NameFault) (p : List ℕ) (xs : List Step) → StayInGraph g xs
+      → ((n : ℕ) → is_on_path p n ≡ false → n < length g → f (p ++ n ∷ []) n ≡ h (p ++ n ∷ []) n)
       → first (at_step f p) xs ≡ first (at_step h p) xs
   same_steps f h p xs known same = first_same (at_step f p) (at_step h p) xs each
     where
@@ -71,34 +73,34 @@ module _ (g : Graph) (range : InRange g) where
       each (Nowhere w) i = refl
       each (To n) i = same_name f h p n (λ new. same n new (known n i))
 
-  fault_is : IsFault g (fault g)
+  fault_is : IsStepsFault g (steps_fault g)
   fault_is p xs path known =
-      same_steps (fault_within g (length g - length p)) (λ longer n. fault g longer (steps g n)) p xs known
+      same_steps (name_fault_within g (length g - length p)) (λ longer n. steps_fault g longer (steps g n)) p xs known
       (λ n new there. deeper_is g p n path new there)
 
-  one_by_room : (f : List ℕ → List Step → Option NameFault) → IsFault g f
-      → (k : ℕ) (p : List ℕ) (xs : List Step) → IsPath g p → AreKnown g xs → length p + k ≡ length g + 1
-      → f p xs ≡ fault g p xs
+  one_by_room : (f : List ℕ → List Step → Option NameFault) → IsStepsFault g f
+      → (k : ℕ) (p : List ℕ) (xs : List Step) → IsNamePath g p → StayInGraph g xs → length p + k ≡ length g + 1
+      → f p xs ≡ steps_fault g p xs
   one_by_room f is zero p xs path known room =
       absurd (let l : length p ≤ length g = path_length g p path in omega arith)
   one_by_room f is (suc k) p xs path known room =
       is p xs path known
-      ∙ (same_steps (λ longer n. f longer (steps g n)) (λ longer n. fault g longer (steps g n)) p xs known
+      ∙ (same_steps (λ longer n. f longer (steps g n)) (λ longer n. steps_fault g longer (steps g n)) p xs known
       (λ n new there. one_by_room f is k (p ++ n ∷ []) (steps g n) (path_push g p n path new there) (range n)
       (omega (arith, length-append p (n ∷ []))))
       ∙ sym (fault_is p xs path known))
 
-  one_is : (f : List ℕ → List Step → Option NameFault) → IsFault g f
-      → (p : List ℕ) (xs : List Step) → IsPath g p → AreKnown g xs → f p xs ≡ fault g p xs
+  one_is : (f : List ℕ → List Step → Option NameFault) → IsStepsFault g f
+      → (p : List ℕ) (xs : List Step) → IsNamePath g p → StayInGraph g xs → f p xs ≡ steps_fault g p xs
   one_is f is p xs path known =
       let short : length p ≤ length g = path_length g p path in
       let room : length p + (length g + 1 - length p) ≡ length g + 1 = omega arith in
       one_by_room f is (length g + 1 - length p) p xs path known room
 
 -- the law of paths
-pub path_law_holds : PathLaw
+pub path_law_holds : NamePathLaw
 path_law_holds = record { empty = empty_path; longer = path_push; short = path_length }
 
 -- the law of the first fault
-pub fault_law_holds : FaultLaw
+pub fault_law_holds : StepsFaultLaw
 fault_law_holds = record { is = fault_is; one = one_is }

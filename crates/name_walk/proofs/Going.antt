@@ -10,24 +10,24 @@ use Rattle.name_walk.specs.declared.mark.Mark.TheVariants.{Closed, OnPath, Open}
 use Rattle.name_walk.specs.declared.step.Step.{Step}
 use Rattle.name_walk.specs.declared.step.Step.TheVariants.{Nowhere, To}
 use Rattle.name_walk.specs.declared.traces.Frame.{Frame}
-use Rattle.name_walk.specs.Closed.{IsClosed, IsDone, IsSettled, LeadsInto}
-use Rattle.name_walk.specs.Faults.{Cycle, DeadEnd, at_name, fault, fault_within, from_name, on}
+use Rattle.name_walk.specs.ClosedNames.{IsClosedName, IsDone, IsSettled, StepLeadsInto}
+use Rattle.name_walk.specs.Faults.{Cycle, DeadEnd, at_name, from_name, is_on_path, name_fault_within, steps_fault}
 use Rattle.name_walk.specs.Lists.{In}
-use Rattle.name_walk.specs.Nets.{IsNet}
-use Rattle.name_walk.specs.Paths.{IsPath}
-use Rattle.name_walk.specs.Steps.{Graph, LeadsTo, Reaches, at_once, steps}
+use Rattle.name_walk.specs.Nets.{IsConsistentGraph}
+use Rattle.name_walk.specs.Paths.{IsNamePath}
+use Rattle.name_walk.specs.Steps.{Graph, LeadsTo, NameReaches, at_once, steps}
 use Rattle.name_walk.specs.Traces.{Trace, path}
 use Rattle.name_walk.specs.Visits.{AreOrdering, IsBelow, IsFaultless}
-use Rattle.name_walk.proofs.Closed.{any_depth, into_map, name_closed, onward}
+use Rattle.name_walk.proofs.ClosedPaths.{any_depth, into_map, name_closed, onward}
 use Rattle.name_walk.proofs.Faults.{empty_path, name_is, path_push}
 use Rattle.name_walk.proofs.Links.{AreDone, AreLinked, are_done_more, head, head_more, frame, last_path, linked_more}
 use Rattle.name_walk.proofs.Links.{linked_pop, linked_push, linked_reach, name_In, path_more}
 use Rattle.name_walk.proofs.Lists.{In-last, In-left, In-on, all_append, all_at, all_front, all_map, distinct_front}
 use Rattle.name_walk.proofs.Lists.{distinct_last, get_In, on-In, or_none, take_at}
 use Rattle.name_walk.proofs.Marks.{AreMarked, marked_pop, marked_push, other_mark}
-use Rattle.name_walk.proofs.Ordering.{either_new, ordering_close, ordering_enter}
-use Rattle.name_walk.proofs.Pending.{enter_pending, fault_pending, leave_pending, pass_pending, pending}
-use Rattle.name_walk.proofs.Settled.{done_closed}
+use Rattle.name_walk.proofs.WalkOrder.{either_new, ordering_close, ordering_enter}
+use Rattle.name_walk.proofs.PendingFault.{enter_pending, fault_pending, leave_pending, pass_pending, pending}
+use Rattle.name_walk.proofs.DoneNames.{done_closed}
 
 -- the place of each frame can be passed
 abbrev pub HaveRoom : List Frame → Type 0
@@ -36,8 +36,8 @@ HaveRoom fs = AllByRecursion (λ (f : Frame). f.place + 1 < 2 ^ 64) fs
 -- the invariant of the frames, the current name and the place of its next step
 pub record IsOnWay (g : Graph) (s : List Bool) (start : ℕ) (ms : List Mark) (os : List ℕ) (fs : List Frame)
     (name place : ℕ) : Type 0 where
-  pub answer : pending g [] fs name place ≡ fault g [] (To start ∷ [])
-  pub is_path : IsPath g (path fs name)
+  pub answer : pending g [] fs name place ≡ steps_fault g [] (To start ∷ [])
+  pub is_path : IsNamePath g (path fs name)
   pub begins : head fs name ≡ start
   pub linked : AreLinked g s os fs name
   pub passed : AreDone s os (take place (steps g name))
@@ -50,11 +50,11 @@ pub record IsOnWay (g : Graph) (s : List Bool) (start : ℕ) (ms : List Mark) (o
 pub record IsGoing (g : Graph) (s : List Bool) (start : ℕ) (before : List ℕ)
     (ms : List Mark) (es os : List ℕ) (fs : List Frame) (name place : ℕ) : Type 0 where
   pub way : IsOnWay g s start ms os fs name place
-  pub ordering : AreOrdering g s ms es os
+  pub in_target_order : AreOrdering g s ms es os
   pub from : (n : ℕ) → In n os → In n before ⊎ IsBelow g start n
   pub kept : (n : ℕ) → In n before → In n os
 
-module _ (g : Graph) (s : List Bool) (net : IsNet g s) (start : ℕ) (before : List ℕ) where
+module _ (g : Graph) (s : List Bool) (net : IsConsistentGraph g s) (start : ℕ) (before : List ℕ) where
   -- ---- the start
   pub begin : (ms : List Mark) (es : List ℕ) → AreOrdering g s ms es before
       → ((n : ℕ) → slice_get ms n ≡ Some OnPath → ⊥)
@@ -78,7 +78,7 @@ module _ (g : Graph) (s : List Bool) (net : IsNet g s) (start : ℕ) (before : L
           ];
           room = tt;
         };
-        ordering = ordering_enter g s ms es before start h is_open;
+        in_target_order = ordering_enter g s ms es before start h is_open;
         from = λ n i. inl i;
         kept = λ n i. i;
       }
@@ -95,7 +95,7 @@ module _ (g : Graph) (s : List Bool) (net : IsNet g s) (start : ℕ) (before : L
     name_below =
         elim (linked_reach g s os fs name go.way.linked (head fs name) (head_on fs)) [
           | inl e ↦ inl (sym e ∙ go.way.begins)
-          | inr r ↦ inr (subst (λ (x : ℕ). Reaches g x name) go.way.begins r)
+          | inr r ↦ inr (subst (λ (x : ℕ). NameReaches g x name) go.way.begins r)
         ]
       where
         head_on : (hs : List Frame) → In (head hs name) (path hs name)
@@ -107,11 +107,12 @@ module _ (g : Graph) (s : List Bool) (net : IsNet g s) (start : ℕ) (before : L
         → IsGoing g s start before ms es os fs name (place + 1)
     pass m e d =
         let leads : LeadsTo g name m = get_In _ _ _ e in
-        let none : at_name (fault_within g (length g - length (path fs name))) (path fs name) m ≡ None =
-        name_closed g net.range (length g) (path fs name) m (done_closed g s net.settled os go.ordering.closed m d)
+        let none : at_name (name_fault_within g (length g - length (path fs name))) (path fs name) m ≡ None =
+        name_closed g net.range (length g) (path fs name) m
+        (done_closed g s net.settled os go.in_target_order.closed m d)
         (net.range name m leads) go.way.is_path
         (λ q i. elim (linked_reach g s os fs name go.way.linked q i) [
-          | inl f ↦ subst (λ (x : ℕ). Reaches g x m) (sym f) (at_once leads)
+          | inl f ↦ subst (λ (x : ℕ). NameReaches g x m) (sym f) (at_once leads)
           | inr r ↦ onward r (at_once leads)
         ]) in
         let short : place < length (steps g name) = slice_get_within _ _ _ e in
@@ -122,13 +123,14 @@ module _ (g : Graph) (s : List Bool) (net : IsNet g s) (start : ℕ) (before : L
             begins = go.way.begins;
             linked = go.way.linked;
             passed = subst (λ (xs : List Step). AreDone s os xs) (sym (take_at (steps g name) place (To m) e))
-                (all_append (LeadsInto (IsDone s os)) (take place (steps g name)) (To m ∷ []) go.way.passed (d, tt));
+                (all_append (StepLeadsInto (IsDone s os)) (take place (steps g name)) (To m ∷ []) go.way.passed
+                (d, tt));
             within = omega arith;
             on_path = go.way.on_path;
             fresh_path = go.way.fresh_path;
             room = go.way.room;
           };
-          ordering = go.ordering;
+          in_target_order = go.in_target_order;
           from = go.from;
           kept = go.kept;
         }
@@ -144,14 +146,14 @@ module _ (g : Graph) (s : List Bool) (net : IsNet g s) (start : ℕ) (before : L
         let here : m < length ms = slice_get_within ms m Open is_open in
         let apart : In m (path fs name)
         → ⊥ = other_mark OnPath Open ms (path fs name) go.way.on_path (λ q. cc) m is_open in
-        let new : on (path fs name) m ≡ false = false_from_ne_true _ (λ f. apart (on-In (path fs name) m f)) in
+        let new : is_on_path (path fs name) m ≡ false = false_from_ne_true _ (λ f. apart (on-In (path fs name) m f)) in
         let p : path (fs ++ frame name place ∷ []) m ≡ path fs name ++ m ∷ [] = path_more fs (frame name place) m in
         record {
           way = record {
             answer = sym (enter_pending g [] (path fs name) fs name place m refl e
                 (name_is g (path fs name) m go.way.is_path new there))
                 ∙ go.way.answer;
-            is_path = subst (λ (q : List ℕ). IsPath g q) (sym p)
+            is_path = subst (λ (q : List ℕ). IsNamePath g q) (sym p)
                 (path_push g (path fs name) m go.way.is_path new there);
             begins = head_more fs (frame name place) m ∙ go.way.begins;
             linked = linked_push g s os fs (frame name place) m go.way.linked e go.way.passed;
@@ -163,46 +165,46 @@ module _ (g : Graph) (s : List Bool) (net : IsNet g s) (start : ℕ) (before : L
                 (either_new {P = λ n. IsSettled s n → ⊥} (path fs name) m go.way.fresh_path (λ t. cc));
             room = all_append (λ (f : Frame). f.place + 1 < 2 ^ 64) fs (frame name place ∷ []) go.way.room (fits, tt);
           };
-          ordering = ordering_enter g s ms es os m go.ordering is_open;
+          in_target_order = ordering_enter g s ms es os m go.in_target_order is_open;
           from = go.from;
           kept = go.kept;
         }
 
     -- ---- meeting a fault
     pub dead_end : (w : ℕ) → slice_get (steps g name) place ≡ Some (Nowhere w)
-        → fault g [] (To start ∷ []) ≡ Some (DeadEnd w (Some name))
+        → steps_fault g [] (To start ∷ []) ≡ Some (DeadEnd w (Some name))
     dead_end w e =
         sym go.way.answer
         ∙ fault_pending g [] (path fs name) fs name place (Nowhere w) (DeadEnd w (Some name)) refl e
         (ap (λ o. Some (DeadEnd w o)) (last_path [] fs name))
 
-    pub is_on : (m : ℕ) → slice_get ms m ≡ Some OnPath → on (path fs name) m ≡ true
+    pub is_on : (m : ℕ) → slice_get ms m ≡ Some OnPath → is_on_path (path fs name) m ≡ true
     is_on m marked = In-on (path fs name) m ((go.way.on_path m).0 marked)
 
     pub cycle : (m : ℕ) → slice_get (steps g name) place ≡ Some (To m) → slice_get ms m ≡ Some OnPath
-        → fault g [] (To start ∷ []) ≡ Some (Cycle (from_name m (path fs name) ++ m ∷ []))
+        → steps_fault g [] (To start ∷ []) ≡ Some (Cycle (from_name m (path fs name) ++ m ∷ []))
     cycle m e marked =
         sym go.way.answer
         ∙ fault_pending g [] (path fs name) fs name place (To m) (Cycle (from_name m (path fs name) ++ m ∷ [])) refl e
-        (cond-true (on (path fs name) m) _ _ (is_on m marked))
+        (cond-true (is_on_path (path fs name) m) _ _ (is_on m marked))
 
     -- ---- after all steps of the name are passed
     module _ (full : length (steps g name) ≤ place) where
       all_done : AreDone s os (steps g name)
       all_done = subst (λ (xs : List Step). AreDone s os xs) (take_all place (steps g name) full) go.way.passed
 
-      name_closes : IsClosed g name
+      name_closes : IsClosedName g name
       name_closes =
           any_depth g net.range (suc (length g)) name name_there
-          (all_map (LeadsInto (IsDone s os)) (LeadsInto (IsClosed g))
-          (into_map (IsDone s os) (IsClosed g) (done_closed g s net.settled os go.ordering.closed))
+          (all_map (StepLeadsInto (IsDone s os)) (StepLeadsInto (IsClosedName g))
+          (into_map (IsDone s os) (IsClosedName g) (done_closed g s net.settled os go.in_target_order.closed))
           (steps g name) all_done)
 
       pub ordering_after : AreOrdering g s (set ms name Closed) es (os ++ name ∷ [])
       ordering_after =
-          ordering_close g s ms es os name go.ordering name_marked name_closes
+          ordering_close g s ms es os name go.in_target_order name_marked name_closes
           (go.way.fresh_path name (name_In fs name))
-          (λ m l. all_at (LeadsInto (IsDone s os)) (steps g name) (To m) all_done l)
+          (λ m l. all_at (StepLeadsInto (IsDone s os)) (steps g name) (To m) all_done l)
 
       from_after : (n : ℕ) → In n (os ++ name ∷ []) → In n before ⊎ IsBelow g start n
       from_after = either_new {P = λ n. In n before ⊎ IsBelow g start n} os name go.from (inr name_below)
@@ -240,7 +242,7 @@ module _ (g : Graph) (s : List Bool) (net : IsNet g s) (start : ℕ) (before : L
           linked = linked_more g s os name fs f.name pop.0;
           passed = subst (λ (xs : List Step). AreDone s (os ++ name ∷ []) xs)
               (sym (take_at (steps g f.name) f.place (To name) pop.1))
-              (all_append (LeadsInto (IsDone s (os ++ name ∷ []))) (take f.place (steps g f.name)) (To name ∷ [])
+              (all_append (StepLeadsInto (IsDone s (os ++ name ∷ []))) (take f.place (steps g f.name)) (To name ∷ [])
               (are_done_more s os name _ pop.2) (inr (In-last os name), tt));
           within = omega arith;
           on_path = marked_pop ms name here OnPath Closed (path fs f.name)
@@ -248,7 +250,7 @@ module _ (g : Graph) (s : List Bool) (net : IsNet g s) (start : ℕ) (before : L
           fresh_path = λ n i. go.way.fresh_path n (up n i);
           room = all_front (λ (f : Frame). f.place + 1 < 2 ^ 64) fs (f ∷ []) go.way.room;
         };
-        ordering = ordering_after ms es os (fs ++ f ∷ []) name place go full;
+        in_target_order = ordering_after ms es os (fs ++ f ∷ []) name place go full;
         from = from_after ms es os (fs ++ f ∷ []) name place go full;
         kept = kept_after ms es os (fs ++ f ∷ []) name place go full;
       }
@@ -263,9 +265,10 @@ module _ (g : Graph) (s : List Bool) (net : IsNet g s) (start : ℕ) (before : L
       let off : AreMarked OnPath (set ms name Closed) [] =
       marked_pop ms name here OnPath Closed [] go.way.on_path (λ q. cc) (λ i. i) in
       record {
-        none = sym go.way.answer ∙ ap (λ xs. fault g (name ∷ []) xs) (nothing_left ms es os [] name place go full);
+        none = sym go.way.answer ∙ ap (λ xs. steps_fault g (name ∷ []) xs)
+            (nothing_left ms es os [] name place go full);
         between = record {
-          ordering = ordering_after ms es os [] name place go full;
+          in_target_order = ordering_after ms es os [] name place go full;
           off_path = λ n e. (off n).0 e;
           frames = refl;
         };

@@ -1,26 +1,26 @@
 mod Chains
-mod Clearing
-pub mod Closed
-mod Covering
+mod ClearedFaults
+pub mod ClosedPaths
+mod UnknownNames
 mod Distinct
 mod Faults
 mod Going
-mod Keeping
+mod StableFindings
 mod Links
 pub mod Lists
 pub mod Marks
 mod Moves
-mod Noting
-mod Ordering
-mod Passed
+mod PathFaultRecords
+mod WalkOrder
+mod QueryPasses
 mod PathFaults
-mod Pending
-mod Ringing
+mod PendingFault
+mod RingPass
 mod Rings
-pub mod Settled
+pub mod DoneNames
 mod SearchMarks
 mod SearchMoves
-mod Searching
-mod Seeking
+mod SearchPasses
+mod SearchInvariant
 mod Trails
 mod Weights

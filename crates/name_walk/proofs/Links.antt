@@ -4,13 +4,13 @@ use Rattle.std.specs.List.{AllByRecursion, slice_get}
 use Rattle.name_walk.specs.declared.step.Step.{Step}
 use Rattle.name_walk.specs.declared.step.Step.TheVariants.{To}
 use Rattle.name_walk.specs.declared.traces.Frame.{Frame}
-use Rattle.name_walk.specs.Closed.{IsDone, LeadsInto}
+use Rattle.name_walk.specs.ClosedNames.{IsDone, StepLeadsInto}
 use Rattle.name_walk.specs.Lists.{In, last}
 use Rattle.name_walk.specs.Traces.{path}
-use Rattle.name_walk.specs.Steps.{Graph, Reaches, at_once, further, steps}
-use Rattle.name_walk.proofs.Closed.{into_map}
+use Rattle.name_walk.specs.Steps.{Graph, NameReaches, at_once, further, steps}
+use Rattle.name_walk.proofs.ClosedPaths.{into_map}
 use Rattle.name_walk.proofs.Lists.{all_map, get_In}
-use Rattle.name_walk.proofs.Settled.{done_more}
+use Rattle.name_walk.proofs.DoneNames.{done_more}
 
 -- the outermost name of a path
 abbrev pub head : List Frame → ℕ → ℕ
@@ -52,13 +52,13 @@ name_In (f ∷ fs) name = inr (name_In fs name)
 
 -- each step leads to a name that is done
 abbrev pub AreDone : List Bool → List ℕ → List Step → Type 0
-AreDone s order xs = AllByRecursion (LeadsInto (IsDone s order)) xs
+AreDone s order xs = AllByRecursion (StepLeadsInto (IsDone s order)) xs
 
 -- steps that are done stay done after one more name is closed
 pub are_done_more : (s : List Bool) (order : List ℕ) (n : ℕ) (xs : List Step) → AreDone s order xs
     → AreDone s (order ++ n ∷ []) xs
 are_done_more s order n xs h =
-    all_map (LeadsInto (IsDone s order)) (LeadsInto (IsDone s (order ++ n ∷ [])))
+    all_map (StepLeadsInto (IsDone s order)) (StepLeadsInto (IsDone s (order ++ n ∷ [])))
     (into_map (IsDone s order) (IsDone s (order ++ n ∷ [])) (done_more s order n)) xs h
 
 module _ (g : Graph) (s : List Bool) where
@@ -90,13 +90,13 @@ module _ (g : Graph) (s : List Bool) where
 
   -- each name of the path leads to the last one
   pub linked_reach : (order : List ℕ) (fs : List Frame) (name : ℕ) → AreLinked order fs name
-      → (q : ℕ) → In q (path fs name) → (q ≡ name) ⊎ Reaches g q name
+      → (q : ℕ) → In q (path fs name) → (q ≡ name) ⊎ NameReaches g q name
   linked_reach order [] name l q (inl e) = inl e
   linked_reach order [] name l q (inr i) = absurd i
   linked_reach order (f ∷ fs) name l q (inr i) = linked_reach order fs name l.2 q i
   linked_reach order (f ∷ fs) name l q (inl e) =
-      inr (subst (λ (x : ℕ). Reaches g x name) (sym e)
+      inr (subst (λ (x : ℕ). NameReaches g x name) (sym e)
       (elim (linked_reach order fs name l.2 (head fs name) (head_In fs name)) [
-        | inl d ↦ subst (λ (x : ℕ). Reaches g f.name x) d (at_once (get_In _ _ _ l.0))
+        | inl d ↦ subst (λ (x : ℕ). NameReaches g f.name x) d (at_once (get_In _ _ _ l.0))
         | inr r ↦ further (get_In _ _ _ l.0) r
       ]))

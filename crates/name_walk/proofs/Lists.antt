@@ -5,7 +5,7 @@ use Rattle.std.specs.List.{AllByRecursion, IsDistinct, slice_get}
 use Rattle.std.specs.Option.{option_or}
 use Rattle.std.proofs.lemmas.Bool.{or_cases, or_left, or_right, or_from, eqb-true, eq-eqb, ne_eqb, eqb-false}
 use Rattle.std.proofs.lemmas.List.Folds.{list_any-append}
-use Rattle.name_walk.specs.Faults.{on}
+use Rattle.name_walk.specs.Faults.{is_on_path}
 use Rattle.name_walk.specs.Lists.{In, first}
 
 -- ---- properties of all elements
@@ -60,19 +60,20 @@ In-push (y ∷ xs) x a (inl e) = inl (inl e)
 In-push (y ∷ xs) x a (inr h) = elim (In-push xs x a h) [ inl i ↦ inl (inr i) | inr e ↦ inr e ]
 
 -- the test for a member is true
-pub In-on : (ks : List ℕ) (k : ℕ) → In k ks → on ks k ≡ true
+pub In-on : (ks : List ℕ) (k : ℕ) → In k ks → is_on_path ks k ≡ true
 In-on [] k h = absurd h
 In-on (x ∷ ks) k (inl e) = or_left _ _ (eq-eqb k x e)
 In-on (x ∷ ks) k (inr h) = or_right _ _ (In-on ks k h)
 
 -- if the test is true, the number is a member
-pub on-In : (ks : List ℕ) (k : ℕ) → on ks k ≡ true → In k ks
+pub on-In : (ks : List ℕ) (k : ℕ) → is_on_path ks k ≡ true → In k ks
 on-In [] k h = cc
 on-In (x ∷ ks) k h =
-    elim (or_cases (nat_eq k x) (on ks k) h) [ inl e ↦ inl (eqb-true k x e) | inr e ↦ inr (on-In ks k e) ]
+    elim (or_cases (nat_eq k x) (is_on_path ks k) h) [ inl e ↦ inl (eqb-true k x e) | inr e ↦ inr (on-In ks k e) ]
 
 -- a number that is not a member, and is not the appended number, is not a member afterwards
-pub on-push_false : (ks : List ℕ) (x k : ℕ) → on ks k ≡ false → (k ≡ x → ⊥) → on (ks ++ x ∷ []) k ≡ false
+pub on-push_false : (ks : List ℕ) (x k : ℕ) → is_on_path ks k ≡ false → (k ≡ x → ⊥)
+    → is_on_path (ks ++ x ∷ []) k ≡ false
 on-push_false ks x k h ne = list_any-append (nat_eq k) ks (x ∷ [])
     ∙ or_from _ _ h (or_from (nat_eq k x) false (ne_eqb k x ne) refl)
 

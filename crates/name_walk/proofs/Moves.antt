@@ -6,11 +6,11 @@ use Rattle.std.proofs.lemmas.Option.{slice_get_within}
 use Rattle.name_walk.specs.declared.mark.Mark.TheVariants.{Closed, OnPath, Open}
 use Rattle.name_walk.specs.declared.step.Step.TheVariants.{Nowhere, To}
 use Rattle.name_walk.specs.declared.traces.Frame.{Frame}
-use Rattle.name_walk.specs.Faults.{Cycle, DeadEnd, fault, from_name, on}
-use Rattle.name_walk.specs.Nets.{IsNet}
+use Rattle.name_walk.specs.Faults.{Cycle, DeadEnd, from_name, is_on_path, steps_fault}
+use Rattle.name_walk.specs.Nets.{IsConsistentGraph}
 use Rattle.name_walk.specs.Steps.{Graph, steps}
 use Rattle.name_walk.specs.Traces.{AreEntered, Trace, path, with_closed, with_entered, with_frame}
-use Rattle.name_walk.specs.Visits.{IsBetween, IsFaultless, IsFound}
+use Rattle.name_walk.specs.Visits.{IsBetween, IsFaultless, IsMarkFound}
 use Rattle.name_walk.proofs.Going.{HaveRoom, IsGoing, begin, cycle, dead_end, enter, finish, is_on, leave, name_marked}
 use Rattle.name_walk.proofs.Going.{name_there, ordering_after, pass}
 use Rattle.name_walk.proofs.Links.{frame}
@@ -25,14 +25,15 @@ IsGoingAt g s start before t name place = IsGoing g s start before t.marks t.ent
 abbrev pub weight_at : Graph → Trace → ℕ → ℕ → ℕ
 weight_at g t name place = weight g t.marks t.frames name place
 
-module _ {g : Graph} {s : List Bool} (net : IsNet g s) {start : ℕ} where
-  pub begin_at : (t new : Trace) → IsBetween g s t → IsFound s t.marks start Open → new ≡ with_entered t start
+module _ {g : Graph} {s : List Bool} (net : IsConsistentGraph g s) {start : ℕ} where
+  pub begin_at : (t new : Trace) → IsBetween g s t → IsMarkFound s t.marks start Open → new ≡ with_entered t start
       → IsGoingAt g s start t.order new start 0
   begin_at t new b fresh e =
       let going : List Frame → Type 0 =
       λ fs. IsGoing g s start t.order (set t.marks start OnPath) (t.entered ++ start ∷ []) t.order fs start 0 in
       subst (λ (x : Trace). IsGoingAt g s start t.order x start 0) (sym e)
-      (subst going (sym b.frames) (begin g s net start t.order t.marks t.entered b.ordering b.off_path fresh.0 fresh.1))
+      (subst going (sym b.frames)
+      (begin g s net start t.order t.marks t.entered b.in_target_order b.off_path fresh.0 fresh.1))
 
   module _ {before : List ℕ} {t : Trace} {name place : ℕ} (go : IsGoingAt g s start before t name place) where
     on_path : slice_get t.marks name ≡ Some OnPath
@@ -51,35 +52,35 @@ module _ {g : Graph} {s : List Bool} (net : IsNet g s) {start : ℕ} where
         let there : m < length g = net.range name m (get_In _ _ _ e) in (
           there,
           subst (λ (k : ℕ). m < k) (sym net.size) there,
-          subst (λ (k : ℕ). m < k) (sym go.ordering.size) there,
+          subst (λ (k : ℕ). m < k) (sym go.in_target_order.size) there,
         )
 
     pub dead_end_at : (w : ℕ) → slice_get (steps g name) place ≡ Some (Nowhere w)
-        → fault g [] (To start ∷ []) ≡ Some (DeadEnd w (Some name))
+        → steps_fault g [] (To start ∷ []) ≡ Some (DeadEnd w (Some name))
     dead_end_at w e = dead_end g s net start before t.marks t.entered t.order t.frames name place go w e
 
     pub is_on_at : (m : ℕ) (fs : List Frame) → slice_get t.marks m ≡ Some OnPath → fs ≡ t.frames
-        → on (path fs name) m ≡ true
+        → is_on_path (path fs name) m ≡ true
     is_on_at m fs found e =
-        subst (λ (hs : List Frame). on (path hs name) m ≡ true) (sym e)
+        subst (λ (hs : List Frame). is_on_path (path hs name) m ≡ true) (sym e)
         (is_on g s net start before t.marks t.entered t.order t.frames name place go m found)
 
     pub cycle_at : (m : ℕ) (fs : List Frame) (names : List ℕ) → slice_get (steps g name) place ≡ Some (To m)
         → slice_get t.marks m ≡ Some OnPath → fs ≡ t.frames → names ≡ from_name m (path fs name) ++ m ∷ []
-        → fault g [] (To start ∷ []) ≡ Some (Cycle names)
+        → steps_fault g [] (To start ∷ []) ≡ Some (Cycle names)
     cycle_at m fs names e found same chain =
         cycle g s net start before t.marks t.entered t.order t.frames name place go m e found
         ∙ ap (λ xs. Some (Cycle xs))
         (ap (λ (hs : List Frame). from_name m (path hs name) ++ m ∷ []) (sym same) ∙ sym chain)
 
-    pub pass_at : (m : ℕ) → slice_get (steps g name) place ≡ Some (To m) → IsFound s t.marks m Closed
+    pub pass_at : (m : ℕ) → slice_get (steps g name) place ≡ Some (To m) → IsMarkFound s t.marks m Closed
         → IsGoingAt g s start before t name (place + 1)
     pass_at m e found =
         pass g s net start before t.marks t.entered t.order t.frames name place go m e
-        (elim found [ inl d ↦ inl d | inr d ↦ inr ((go.ordering.marked m).0 d) ])
+        (elim found [ inl d ↦ inl d | inr d ↦ inr ((go.in_target_order.marked m).0 d) ])
 
     pub enter_at : (m : ℕ) (pushed new : Trace) → slice_get (steps g name) place ≡ Some (To m)
-        → IsFound s t.marks m Open
+        → IsMarkFound s t.marks m Open
         → place + 1 < 2 ^ 64 → pushed ≡ with_frame t (frame name place) → new ≡ with_entered pushed m
         → IsGoingAt g s start before new m 0 × (weight_at g new m 0 < weight_at g t name place)
     enter_at m pushed new e found fits push entering =

@@ -9,12 +9,13 @@ use Rattle.name_walk.specs.declared.traces.Frame.{Frame}
 use Rattle.name_walk.specs.declared.trail.Ending.{Ending}
 use Rattle.name_walk.specs.declared.trail.Ending.TheVariants.{At, Ring}
 use Rattle.name_walk.specs.declared.trail.FaultyStep.{FaultyStep}
-use Rattle.name_walk.specs.Faults.{on}
+use Rattle.name_walk.specs.Faults.{is_on_path}
 use Rattle.name_walk.specs.Lists.{In, last}
-use Rattle.name_walk.specs.Noted.{AreNoted, above, end_for, passed, step_down}
+use Rattle.name_walk.specs.PathRecords.{AreNoted, above, end_for, ending_above, step_down}
 use Rattle.name_walk.specs.Steps.{Graph}
 use Rattle.name_walk.specs.Traces.{path}
-use Rattle.name_walk.specs.Trails.{AreFindings, AreTrails, EndsAt, Faults, Follows, GoesBy, IsFaulty, IsFirst, IsTrail}
+use Rattle.name_walk.specs.Trails.{AreFindings, AreTrails, EndsAt, Faults, FollowsFaults, GoesBy, IsFaulty, IsFirst}
+use Rattle.name_walk.specs.Trails.{IsTrail}
 use Rattle.name_walk.proofs.Distinct.{distinct_append, distinct_apart, distinct_back, last_back, member_or, split_at}
 use Rattle.name_walk.proofs.Links.{AreLinked, head}
 use Rattle.name_walk.proofs.Lists.{In-on, In-right, distinct_front, on-In}
@@ -29,26 +30,26 @@ to_name a b e = cc
 -- ---- endings
 above_at : (e : ℕ) (below : List ℕ) → above (At e) below ≡ At e
 above_at e [] = refl
-above_at e (n ∷ below) = ap (λ d. passed d n) (above_at e below)
+above_at e (n ∷ below) = ap (λ d. ending_above d n) (above_at e below)
 
 above_out : (m : ℕ) (below : List ℕ) → (In m below → ⊥) → above (Ring m) below ≡ Ring m
 above_out m [] out = refl
 above_out m (n ∷ below) out =
-    ap (λ d. passed d n) (above_out m below (λ i. out (inr i)))
+    ap (λ d. ending_above d n) (above_out m below (λ i. out (inr i)))
     ∙ cond-false (nat_eq n m) (At m) (Ring m) (ne_eqb n m (λ e. out (inl (sym e))))
 
 above_in : (m : ℕ) (below : List ℕ) → In m below → above (Ring m) below ≡ At m
 above_in m [] i = absurd i
-above_in m (n ∷ below) i = elim (cases_Bool (on below m)) [
-  | inl t ↦ ap (λ d. passed d n) (above_in m below (on-In below m t))
-  | inr f ↦ ap (λ d. passed d n) (above_out m below (not_below f))
+above_in m (n ∷ below) i = elim (cases_Bool (is_on_path below m)) [
+  | inl t ↦ ap (λ d. ending_above d n) (above_in m below (on-In below m t))
+  | inr f ↦ ap (λ d. ending_above d n) (above_out m below (not_below f))
       ∙ cond-true (nat_eq n m) (At m) (Ring m) (eq-eqb n m (is_head f i))
 ]
   where
-    not_below : on below m ≡ false → In m below → ⊥
-    not_below f j = let t : on below m ≡ true = In-on below m j in cc
+    not_below : is_on_path below m ≡ false → In m below → ⊥
+    not_below f j = let t : is_on_path below m ≡ true = In-on below m j in cc
 
-    is_head : on below m ≡ false → In m (n ∷ below) → n ≡ m
+    is_head : is_on_path below m ≡ false → In m (n ∷ below) → n ≡ m
     is_head f (inl e) = sym e
     is_head f (inr j) = absurd (not_below f j)
 
@@ -65,7 +66,7 @@ module _ (hs : Faults) (ending : Ending) (x : Step) where
       (record { step = step_down x ns; end = end_for (above ending ns) k }, h.0)
   noted_faulty (k ∷ ns) h n (inr i) = noted_faulty ns h.1 n i
 
-  noted_follows : (n : ℕ) (below : List ℕ) → AreNoted hs ending x (n ∷ below) → Follows hs n below x
+  noted_follows : (n : ℕ) (below : List ℕ) → AreNoted hs ending x (n ∷ below) → FollowsFaults hs n below x
   noted_follows n [] h = (record { step = x; end = end_for ending n }, h.0, refl)
   noted_follows n (m ∷ below) h = (
     (record { step = To m; end = end_for (above ending (m ∷ below)) n }, h.0, refl),
@@ -166,7 +167,7 @@ module _ (fs hs : Faults) (ending : Ending) (x : Step) (ns : List ℕ) (noted : 
     back_once : IsDistinct nat_eq (n ∷ back)
     back_once = distinct_back front (n ∷ back) here_once
 
-    here_follows : Follows hs n back x
+    here_follows : FollowsFaults hs n back x
     here_follows = noted_follows hs ending x n back here_noted
 
     here_ends : (c : FaultyStep) → slice_get hs n ≡ Some (Some c) → c.end ≡ end_for (above ending back) n
@@ -182,7 +183,7 @@ module _ (fs hs : Faults) (ending : Ending) (x : Step) (ns : List ℕ) (noted : 
     to_dead_end w e is final = record {
       names = back;
       step = Nowhere w;
-      follows = subst (λ (y : Step). Follows hs n back y) is here_follows;
+      follows = subst (λ (y : Step). FollowsFaults hs n back y) is here_follows;
       once = back_once;
       ends = sym (last_back front n back) ∙ (ap last (sym whole) ∙ final);
     }
@@ -195,11 +196,12 @@ module _ (fs hs : Faults) (ending : Ending) (x : Step) (ns : List ℕ) (noted : 
 
     to_known : (m e : ℕ) → x ≡ To m → IsTrail fs m e → IsTrail hs n e
     to_known m e is t =
-        let new : Follows hs m t.names t.step = follows_same fs hs still m t.names t.step t.follows in
+        let new : FollowsFaults hs m t.names t.step = follows_same fs hs still m t.names t.step t.follows in
         record {
           names = back ++ m ∷ t.names;
           step = t.step;
-          follows = follows_join hs n back m t.names t.step (subst (λ (y : Step). Follows hs n back y) is here_follows)
+          follows = follows_join hs n back m t.names t.step
+              (subst (λ (y : Step). FollowsFaults hs n back y) is here_follows)
               new;
           once = distinct_append (n ∷ back) (m ∷ t.names) back_once t.once
               (λ k i j. fresh k (in_whole k (In-right front (n ∷ back) k i))
@@ -212,7 +214,7 @@ module _ (fs hs : Faults) (ending : Ending) (x : Step) (ns : List ℕ) (noted : 
     to_ring m is i = record {
       names = back;
       step = To m;
-      follows = subst (λ (y : Step). Follows hs n back y) is here_follows;
+      follows = subst (λ (y : Step). FollowsFaults hs n back y) is here_follows;
       once = back_once;
       ends = (refl, i);
     }
@@ -220,9 +222,10 @@ module _ (fs hs : Faults) (ending : Ending) (x : Step) (ns : List ℕ) (noted : 
   -- the way of a name in a ring, below the first name of the ring
   in_ring : (m n : ℕ) (a b back : List ℕ) → x ≡ To m → ns ≡ a ++ m ∷ (b ++ n ∷ back) → IsTrail hs n n
   in_ring m n a b back is whole =
-      let all : Follows hs m (b ++ n ∷ back) (To m) =
-      subst (λ (y : Step). Follows hs m (b ++ n ∷ back) y) is (here_follows a m (b ++ n ∷ back) whole) in
-      let parts : Follows hs m b (To n) × Follows hs n back (To m) = follows_split hs m b n back (To m) all in
+      let all : FollowsFaults hs m (b ++ n ∷ back) (To m) =
+      subst (λ (y : Step). FollowsFaults hs m (b ++ n ∷ back) y) is (here_follows a m (b ++ n ∷ back) whole) in
+      let parts : FollowsFaults hs m b (To n) × FollowsFaults hs n back (To m) = follows_split hs m b n back
+      (To m) all in
       let apart : IsDistinct nat_eq ((m ∷ b) ++ n ∷ back) = back_once a m (b ++ n ∷ back) whole in
       record {
         names = back ++ m ∷ b;

@@ -7,12 +7,12 @@ use Rattle.std.proofs.lemmas.Option.{slice_get_within}
 use Rattle.name_walk.specs.declared.step.Step.{Step}
 use Rattle.name_walk.specs.declared.step.Step.TheVariants.{Nowhere, To}
 use Rattle.name_walk.specs.declared.trail.FaultyStep.{FaultyStep}
-use Rattle.name_walk.specs.Faults.{Cycle, DeadEnd, fault, from_name}
+use Rattle.name_walk.specs.Faults.{Cycle, DeadEnd, from_name, steps_fault}
 use Rattle.name_walk.specs.Lists.{In, last}
-use Rattle.name_walk.specs.Nets.{IsNet}
-use Rattle.name_walk.specs.Rings.{IsRing, IsWay}
+use Rattle.name_walk.specs.Nets.{IsConsistentGraph}
+use Rattle.name_walk.specs.Rings.{IsFaultRing, IsWay}
 use Rattle.name_walk.specs.Steps.{Graph}
-use Rattle.name_walk.specs.Trails.{AreFindings, AreTrails, EndsAt, Faults, Follows, GoesBy, IsFaulty, IsTrail}
+use Rattle.name_walk.specs.Trails.{AreFindings, AreTrails, EndsAt, Faults, FollowsFaults, GoesBy, IsFaulty, IsTrail}
 use Rattle.name_walk.proofs.Distinct.{distinct_apart, distinct_back, split_at}
 use Rattle.name_walk.proofs.Trails.{all_faulty, dead_end_fault, follows_split, one_step, ring_fault}
 
@@ -39,16 +39,17 @@ from_split (n ∷ front) e back out =
 -- the faulty steps of some names lead from the first to the last, and then to e
 abbrev LeadInto : Faults → ℕ → List ℕ → Type 0
 LeadInto fs e [] = ⊥
-LeadInto fs e (k ∷ ks) = Follows fs k ks (To e)
+LeadInto fs e (k ∷ ks) = FollowsFaults fs k ks (To e)
 
 module _ (fs : Faults) where
   -- the last name of a way takes its last step
-  last_goes : (n : ℕ) (ms : List ℕ) (x : Step) (e : ℕ) → Follows fs n ms x → last (n ∷ ms) ≡ Some e → GoesBy fs e x
+  last_goes : (n : ℕ) (ms : List ℕ) (x : Step) (e : ℕ) → FollowsFaults fs n ms x → last (n ∷ ms) ≡ Some e
+      → GoesBy fs e x
   last_goes n [] x e h l = subst (λ (k : ℕ). GoesBy fs k x) (one_name n e l) h
   last_goes n (m ∷ ms) x e h l = last_goes m ms x e h.1 l
 
   -- each name of a way into a ring leads to a name
-  each_leads : (n : ℕ) (ms : List ℕ) (y : ℕ) → Follows fs n ms (To y) → (k : ℕ) → In k (n ∷ ms)
+  each_leads : (n : ℕ) (ms : List ℕ) (y : ℕ) → FollowsFaults fs n ms (To y) → (k : ℕ) → In k (n ∷ ms)
       → (m : ℕ) × GoesBy fs k (To m)
   each_leads n [] y h k (inl e) = (y, subst (λ (j : ℕ). GoesBy fs j (To y)) (sym e) h)
   each_leads n [] y h k (inr i) = absurd i
@@ -56,7 +57,7 @@ module _ (fs : Faults) where
   each_leads n (m ∷ ms) y h k (inr i) = each_leads m ms y h.1 k i
 
   -- a way to a name that it does not go through, from the name to which the first step leads
-  way_of : (e n : ℕ) (ms : List ℕ) (here : ℕ) → Follows fs n ms (To e) → GoesBy fs n (To here) → (In e ms → ⊥)
+  way_of : (e n : ℕ) (ms : List ℕ) (here : ℕ) → FollowsFaults fs n ms (To e) → GoesBy fs n (To here) → (In e ms → ⊥)
       → IsWay fs e here ms
   way_of e n [] here h goes out = one_target here e (one_step fs n (To here) (To e) goes h)
   way_of e n (m ∷ ms) here h goes out =
@@ -80,12 +81,13 @@ module _ (fs : Faults) where
       λ i. same i ∷ rest i
 
   -- a way into a ring, from the first name of the ring on
-  ring_part : (front : List ℕ) (e : ℕ) (back : List ℕ) → LeadInto fs e (front ++ e ∷ back) → Follows fs e back (To e)
+  ring_part : (front : List ℕ) (e : ℕ) (back : List ℕ) → LeadInto fs e (front ++ e ∷ back)
+      → FollowsFaults fs e back (To e)
   ring_part [] e back h = h
   ring_part (k ∷ front) e back h = (follows_split fs k front e back (To e) h).1
 
   from_ring : (n : ℕ) (names front : List ℕ) (e : ℕ) (back : List ℕ) → n ∷ names ≡ front ++ e ∷ back
-      → Follows fs n names (To e) → Follows fs e back (To e)
+      → FollowsFaults fs n names (To e) → FollowsFaults fs e back (To e)
   from_ring n names front e back same h = ring_part front e back (subst (λ (ns : List ℕ). LeadInto fs e ns) same h)
 
   -- the name at which a fault occurs has a fault
@@ -102,40 +104,40 @@ module _ (fs : Faults) where
             all_faulty fs n t.names t.step t.follows e ends.1
 
     -- a name whose word leads nowhere ends the way
-    dead_end_is : (w : ℕ) → GoesBy fs e (Nowhere w) → (g : Graph) (s : List Bool) (os : List ℕ) → IsNet g s
-        → AreFindings g s os fs → fault g [] (To n ∷ []) ≡ Some (DeadEnd w (Some e))
+    dead_end_is : (w : ℕ) → GoesBy fs e (Nowhere w) → (g : Graph) (s : List Bool) (os : List ℕ) → IsConsistentGraph g s
+        → AreFindings g s os fs → steps_fault g [] (To n ∷ []) ≡ Some (DeadEnd w (Some e))
     dead_end_is w goes g s os net are = by_step t.step refl
       where
-        by_step : (x : Step) → t.step ≡ x → fault g [] (To n ∷ []) ≡ Some (DeadEnd w (Some e))
+        by_step : (x : Step) → t.step ≡ x → steps_fault g [] (To n ∷ []) ≡ Some (DeadEnd w (Some e))
         by_step (Nowhere v) q =
             let ends : last (n ∷ t.names) ≡ Some e = subst (λ (y : Step). EndsAt (n ∷ t.names) y e) q t.ends in
-            let follows : Follows fs n t.names (Nowhere v) =
-            subst (λ (y : Step). Follows fs n t.names y) q t.follows in
+            let follows : FollowsFaults fs n t.names (Nowhere v) =
+            subst (λ (y : Step). FollowsFaults fs n t.names y) q t.follows in
             let same : Nowhere v ≡ Nowhere w =
             one_step fs e (Nowhere v) (Nowhere w) (last_goes n t.names (Nowhere v) e follows ends) goes in
             dead_end_fault g s net os fs are n t.names w e
-            (subst (λ (y : Step). Follows fs n t.names y) same follows) t.once ends
+            (subst (λ (y : Step). FollowsFaults fs n t.names y) same follows) t.once ends
         by_step (To m) q =
             let ends : (m ≡ e) × In e (n ∷ t.names) = subst (λ (y : Step). EndsAt (n ∷ t.names) y e) q t.ends in
             let leads : (j : ℕ) × GoesBy fs e (To j) =
-            each_leads n t.names m (subst (λ (y : Step). Follows fs n t.names y) q t.follows) e ends.1 in
+            each_leads n t.names m (subst (λ (y : Step). FollowsFaults fs n t.names y) q t.follows) e ends.1 in
             let same : To leads.0 ≡ Nowhere w = one_step fs e (To leads.0) (Nowhere w) leads.1 goes in
             absurd (cc)
 
 -- a way from a name into a ring that begins with another name
 pub record LeadsToRing (fs : Faults) (n e here : ℕ) : Type 0 where
   pub rest : List ℕ
-  pub ring : IsRing fs e here rest
-  pub is_fault : (g : Graph) (s : List Bool) (os : List ℕ) → IsNet g s → AreFindings g s os fs
-      → fault g [] (To n ∷ []) ≡ Some (Cycle ((e ∷ rest) ++ e ∷ []))
+  pub ring : IsFaultRing fs e here rest
+  pub is_fault : (g : Graph) (s : List Bool) (os : List ℕ) → IsConsistentGraph g s → AreFindings g s os fs
+      → steps_fault g [] (To n ∷ []) ≡ Some (Cycle ((e ∷ rest) ++ e ∷ []))
 
 module _ (fs : Faults) (n e : ℕ) (t : IsTrail fs n e) (here : ℕ) (goes : GoesBy fs e (To here)) where
-  ring_from : Follows fs n t.names (To e) → (front back : List ℕ) → n ∷ t.names ≡ front ++ e ∷ back
+  ring_from : FollowsFaults fs n t.names (To e) → (front back : List ℕ) → n ∷ t.names ≡ front ++ e ∷ back
       → LeadsToRing fs n e here
   ring_from follows front back whole =
       let once : IsDistinct nat_eq (front ++ e ∷ back) = subst (λ (ns : List ℕ). IsDistinct nat_eq ns) whole t.once in
       let own : IsDistinct nat_eq (e ∷ back) = distinct_back front (e ∷ back) once in
-      let round : Follows fs e back (To e) = from_ring fs n t.names front e back whole follows in
+      let round : FollowsFaults fs e back (To e) = from_ring fs n t.names front e back whole follows in
       let named : from_name e (n ∷ t.names) ≡ e ∷ back =
       ap (from_name e) whole
       ∙ from_split front e back (λ i. distinct_apart front (e ∷ back) once e i (inl refl)) in
@@ -162,15 +164,15 @@ module _ (fs : Faults) (n e : ℕ) (t : IsTrail fs n e) (here : ℕ) (goes : Goe
       by_step : (x : Step) → t.step ≡ x → LeadsToRing fs n e here
       by_step (Nowhere v) q =
           let ends : last (n ∷ t.names) ≡ Some e = subst (λ (y : Step). EndsAt (n ∷ t.names) y e) q t.ends in
-          let follows : Follows fs n t.names (Nowhere v) =
-          subst (λ (y : Step). Follows fs n t.names y) q t.follows in
+          let follows : FollowsFaults fs n t.names (Nowhere v) =
+          subst (λ (y : Step). FollowsFaults fs n t.names y) q t.follows in
           let same : Nowhere v ≡ To here =
           one_step fs e (Nowhere v) (To here) (last_goes fs n t.names (Nowhere v) e follows ends) goes in
           absurd (cc)
       by_step (To m) q =
           let ends : (m ≡ e) × In e (n ∷ t.names) = subst (λ (y : Step). EndsAt (n ∷ t.names) y e) q t.ends in
-          let follows : Follows fs n t.names (To e) =
-          subst (λ (y : Step). Follows fs n t.names y) (q ∙ ap To ends.0) t.follows in
+          let follows : FollowsFaults fs n t.names (To e) =
+          subst (λ (y : Step). FollowsFaults fs n t.names y) (q ∙ ap To ends.0) t.follows in
           let r = split_at (n ∷ t.names) e ends.1 in
           ring_from follows r.front r.back r.whole
 
@@ -180,8 +182,8 @@ module _ (fs : Faults) (trails : AreTrails fs) (n : ℕ) (c : FaultyStep) (is : 
   end_of = end_faulty fs n c.end (trails.trails n c is)
 
   module _ (d : FaultyStep) (end_is : slice_get fs c.end ≡ Some (Some d)) where
-    pub dead_end_of : (w : ℕ) → d.step ≡ Nowhere w → (g : Graph) (s : List Bool) (os : List ℕ) → IsNet g s
-        → AreFindings g s os fs → fault g [] (To n ∷ []) ≡ Some (DeadEnd w (Some c.end))
+    pub dead_end_of : (w : ℕ) → d.step ≡ Nowhere w → (g : Graph) (s : List Bool) (os : List ℕ) → IsConsistentGraph g s
+        → AreFindings g s os fs → steps_fault g [] (To n ∷ []) ≡ Some (DeadEnd w (Some c.end))
     dead_end_of w q g s os net are =
         dead_end_is fs n c.end (trails.trails n c is) w (d, end_is, q) g s os net are
 
@@ -190,8 +192,9 @@ module _ (fs : Faults) (trails : AreTrails fs) (n : ℕ) (c : FaultyStep) (is : 
 
 -- the names of the ring are those of its only way
 pub ring_named : (fs : Faults) (n e here : ℕ) (rest names : List ℕ) → LeadsToRing fs n e here → IsWay fs e here rest
-    → names ≡ (e ∷ rest) ++ e ∷ [] → (g : Graph) (s : List Bool) (os : List ℕ) → IsNet g s → AreFindings g s os fs
-    → fault g [] (To n ∷ []) ≡ Some (Cycle names)
+    → names ≡ (e ∷ rest) ++ e ∷ [] → (g : Graph) (s : List Bool) (os : List ℕ) → IsConsistentGraph g s
+    → AreFindings g s os fs
+    → steps_fault g [] (To n ∷ []) ≡ Some (Cycle names)
 ring_named fs n e here rest names r way is g s os net are =
     let same : r.rest ≡ rest = way_one fs e here r.rest rest r.ring.way way in
     r.is_fault g s os net are

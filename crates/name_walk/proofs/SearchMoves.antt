@@ -11,21 +11,21 @@ use Rattle.name_walk.specs.declared.traces.Frame.{Frame}
 use Rattle.name_walk.specs.declared.trail.Ending.{Ending}
 use Rattle.name_walk.specs.Findings.{CanClear}
 use Rattle.name_walk.specs.Lists.{In}
-use Rattle.name_walk.specs.Nets.{IsNet}
-use Rattle.name_walk.specs.Noted.{AreNoted}
+use Rattle.name_walk.specs.Nets.{IsConsistentGraph}
+use Rattle.name_walk.specs.PathRecords.{AreNoted}
 use Rattle.name_walk.specs.Searches.{IsBetween, IsEnding, IsOpen, IsSearched}
 use Rattle.name_walk.specs.Steps.{Graph, steps}
 use Rattle.name_walk.specs.Traces.{Trace, path, with_closed, with_entered, with_frame, without_frames}
 use Rattle.name_walk.specs.Trails.{Faults}
-use Rattle.name_walk.specs.Visits.{IsFound}
+use Rattle.name_walk.specs.Visits.{IsMarkFound}
 use Rattle.name_walk.proofs.Going.{HaveRoom}
 use Rattle.name_walk.proofs.Links.{frame, name_In}
 use Rattle.name_walk.proofs.Lists.{In-on, get_In}
 use Rattle.name_walk.proofs.Moves.{weight_at}
 use Rattle.name_walk.proofs.SearchMarks.{marks_clear}
-use Rattle.name_walk.proofs.Seeking.{IsSeeking, close_clear, fault_clear, seek_begin}
-use Rattle.name_walk.proofs.Seeking.{seek_enter, seek_fault, seek_finish}
-use Rattle.name_walk.proofs.Seeking.{seek_leave, seek_pass, seek_there}
+use Rattle.name_walk.proofs.SearchInvariant.{IsSeeking, close_clear, fault_clear, seek_begin}
+use Rattle.name_walk.proofs.SearchInvariant.{seek_enter, seek_fault, seek_finish}
+use Rattle.name_walk.proofs.SearchInvariant.{seek_leave, seek_pass, seek_there}
 use Rattle.name_walk.proofs.Weights.{enter_less, leave_less, pass_less, weight}
 
 -- a search is at a step of a name
@@ -33,7 +33,7 @@ abbrev pub IsSeekingAt : Graph → List Bool → ℕ → Trace → Trace → Fau
 IsSeekingAt g s start old t fs name place =
     IsSeeking g s start old t.marks t.entered t.order fs t.frames name place
 
-module _ {g : Graph} {s : List Bool} (net : IsNet g s) {start : ℕ} {old : Trace} {fs : Faults} where
+module _ {g : Graph} {s : List Bool} (net : IsConsistentGraph g s) {start : ℕ} {old : Trace} {fs : Faults} where
   pub begin_seek : (new : Trace) → IsBetween g s old fs → IsOpen s old.marks fs start → new ≡ with_entered old start
       → IsSeekingAt g s start old new fs start 0
   begin_seek new b o e =
@@ -46,7 +46,7 @@ module _ {g : Graph} {s : List Bool} (net : IsNet g s) {start : ℕ} {old : Trac
     pub name_there : name < length g
     name_there = seek_there g s net start old fs t.marks t.entered t.order t.frames name place go
 
-    pub pass_seek : (m : ℕ) → slice_get (steps g name) place ≡ Some (To m) → IsFound s t.marks m Closed
+    pub pass_seek : (m : ℕ) → slice_get (steps g name) place ≡ Some (To m) → IsMarkFound s t.marks m Closed
         → IsSeekingAt g s start old t fs name (place + 1)
     pass_seek m e found =
         seek_pass g s net start old fs t.marks t.entered t.order t.frames name place go m e

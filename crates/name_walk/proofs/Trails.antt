@@ -6,19 +6,20 @@ use Rattle.std.proofs.lemmas.Bool.{cond-true, false_from_ne_true}
 use Rattle.name_walk.specs.declared.step.Step.{Step}
 use Rattle.name_walk.specs.declared.step.Step.TheVariants.{Nowhere, To}
 use Rattle.name_walk.specs.declared.trail.FaultyStep.{FaultyStep}
-use Rattle.name_walk.specs.Closed.{IsClosed, IsDone, LeadsInto}
-use Rattle.name_walk.specs.Faults.{Cycle, DeadEnd, NameFault, at_step, fault, fault_within, from_name, on}
+use Rattle.name_walk.specs.ClosedNames.{IsClosedName, IsDone, StepLeadsInto}
+use Rattle.name_walk.specs.Faults.{Cycle, DeadEnd, NameFault, at_step, from_name, is_on_path, name_fault_within}
+use Rattle.name_walk.specs.Faults.{steps_fault}
 use Rattle.name_walk.specs.Lists.{In, last}
-use Rattle.name_walk.specs.Nets.{IsNet}
-use Rattle.name_walk.specs.Paths.{IsPath}
-use Rattle.name_walk.specs.Steps.{Graph, LeadsTo, Reaches, at_once, steps}
-use Rattle.name_walk.specs.Trails.{AreFindings, Faults, Follows, GoesBy, IsFaulty, IsFirst}
-use Rattle.name_walk.proofs.Closed.{name_closed, onward}
+use Rattle.name_walk.specs.Nets.{IsConsistentGraph}
+use Rattle.name_walk.specs.Paths.{IsNamePath}
+use Rattle.name_walk.specs.Steps.{Graph, LeadsTo, NameReaches, at_once, steps}
+use Rattle.name_walk.specs.Trails.{AreFindings, Faults, FollowsFaults, GoesBy, IsFaulty, IsFirst}
+use Rattle.name_walk.proofs.ClosedPaths.{name_closed, onward}
 use Rattle.name_walk.proofs.Distinct.{take_In}
 use Rattle.name_walk.proofs.Faults.{name_is}
 use Rattle.name_walk.proofs.Lists.{In-left, In-on, In-push, all_at, distinct_front, distinct_last, first_at, get_In}
 use Rattle.name_walk.proofs.Lists.{none_from, on-In, or_none}
-use Rattle.name_walk.proofs.Settled.{done_closed}
+use Rattle.name_walk.proofs.DoneNames.{done_closed}
 
 some_same : {A : Type 0} (a b : A) → Some (Some a) ≡ Some (Some b) → a ≡ b
 some_same a b e = cc
@@ -39,18 +40,18 @@ module _ (fs : Faults) where
       sym a.2 ∙ (ap (λ (c : FaultyStep). c.step) (some_same a.0 b.0 (sym a.1 ∙ b.1)) ∙ b.2)
 
   -- two ways can be joined
-  pub follows_join : (n : ℕ) (xs : List ℕ) (m : ℕ) (ys : List ℕ) (x : Step) → Follows fs n xs (To m)
-      → Follows fs m ys x → Follows fs n (xs ++ m ∷ ys) x
+  pub follows_join : (n : ℕ) (xs : List ℕ) (m : ℕ) (ys : List ℕ) (x : Step) → FollowsFaults fs n xs (To m)
+      → FollowsFaults fs m ys x → FollowsFaults fs n (xs ++ m ∷ ys) x
   follows_join n [] m ys x a b = (a, b)
   follows_join n (k ∷ xs) m ys x a b = (a.0, follows_join k xs m ys x a.1 b)
 
-  pub follows_split : (n : ℕ) (xs : List ℕ) (m : ℕ) (ys : List ℕ) (x : Step) → Follows fs n (xs ++ m ∷ ys) x
-      → Follows fs n xs (To m) × Follows fs m ys x
+  pub follows_split : (n : ℕ) (xs : List ℕ) (m : ℕ) (ys : List ℕ) (x : Step) → FollowsFaults fs n (xs ++ m ∷ ys) x
+      → FollowsFaults fs n xs (To m) × FollowsFaults fs m ys x
   follows_split n [] m ys x h = h
   follows_split n (k ∷ xs) m ys x h = let r = follows_split k xs m ys x h.1 in ((h.0, r.0), r.1)
 
   -- each name on a way has a fault
-  pub all_faulty : (n : ℕ) (ms : List ℕ) (x : Step) → Follows fs n ms x → (k : ℕ) → In k (n ∷ ms) → IsFaulty fs k
+  pub all_faulty : (n : ℕ) (ms : List ℕ) (x : Step) → FollowsFaults fs n ms x → (k : ℕ) → In k (n ∷ ms) → IsFaulty fs k
   all_faulty n [] x h k (inl e) = subst (λ (j : ℕ). IsFaulty fs j) (sym e) (h.0, h.1)
   all_faulty n [] x h k (inr i) = absurd i
   all_faulty n (m ∷ ms) x h k (inl e) = subst (λ (j : ℕ). IsFaulty fs j) (sym e) (h.0.0, h.0.1)
@@ -58,21 +59,22 @@ module _ (fs : Faults) where
 
 -- a way stays a way if the faulty steps that were known stay
 pub follows_same : (fs hs : Faults) → ((n : ℕ) (c : FaultyStep) → slice_get fs n ≡ Some (Some c)
-    → slice_get hs n ≡ Some (Some c)) → (n : ℕ) (ms : List ℕ) (x : Step) → Follows fs n ms x → Follows hs n ms x
+    → slice_get hs n ≡ Some (Some c)) → (n : ℕ) (ms : List ℕ) (x : Step) → FollowsFaults fs n ms x
+    → FollowsFaults hs n ms x
 follows_same fs hs same n [] x h = (h.0, same n h.0 h.1, h.2)
 follows_same fs hs same n (m ∷ ms) x h = ((h.0.0, same n h.0.0 h.0.1, h.0.2), follows_same fs hs same m ms x h.1)
 
 -- the front of a path is a path
-pub path_front : (g : Graph) (p q : List ℕ) → IsPath g (p ++ q) → IsPath g p
+pub path_front : (g : Graph) (p q : List ℕ) → IsNamePath g (p ++ q) → IsNamePath g p
 path_front g p q h = record {
   once = distinct_front p q h.once;
   there = λ n e. h.there n (In-on (p ++ q) n (In-left p q n (on-In p n e)));
 }
 
-module _ (g : Graph) (s : List Bool) (net : IsNet g s) (os : List ℕ) (fs : Faults)
+module _ (g : Graph) (s : List Bool) (net : IsConsistentGraph g s) (os : List ℕ) (fs : Faults)
     (are : AreFindings g s os fs) where
   -- a name that is done is closed
-  pub is_closed : (n : ℕ) → IsDone s os n → IsClosed g n
+  pub is_closed : (n : ℕ) → IsDone s os n → IsClosedName g n
   is_closed n d = done_closed g s net.settled os (λ m i. (are.sound m i).0) n d
 
   -- a name with a fault is in the graph
@@ -83,74 +85,76 @@ module _ (g : Graph) (s : List Bool) (net : IsNet g s) (os : List ℕ) (fs : Fau
   pub first_step : (n : ℕ) (x : Step) → GoesBy fs n x → IsFirst g s os n x
   first_step n x b = subst (λ (y : Step). IsFirst g s os n y) b.2 (are.first n b.0 b.1)
 
-  module _ (p : List ℕ) (n : ℕ) (path : IsPath g (p ++ n ∷ [])) (reach : (q : ℕ) → In q p → Reaches g q n) where
-    longer_reach : (m : ℕ) → LeadsTo g n m → (q : ℕ) → In q (p ++ n ∷ []) → Reaches g q m
+  module _ (p : List ℕ) (n : ℕ) (path : IsNamePath g (p ++ n ∷ [])) (reach : (q : ℕ) → In q p → NameReaches g q n) where
+    longer_reach : (m : ℕ) → LeadsTo g n m → (q : ℕ) → In q (p ++ n ∷ []) → NameReaches g q m
     longer_reach m l q i = elim (In-push p n q i) [
       | inl j ↦ onward (reach q j) (at_once l)
-      | inr e ↦ subst (λ (k : ℕ). Reaches g k m) (sym e) (at_once l)
+      | inr e ↦ subst (λ (k : ℕ). NameReaches g k m) (sym e) (at_once l)
     ]
 
     -- a step before the first faulty step has no fault on the path
-    none_before : (x : Step) → In x (steps g n) → LeadsInto (IsDone s os) x
-        → at_step (fault_within g (length g - length (p ++ n ∷ []))) (p ++ n ∷ []) x ≡ None
+    none_before : (x : Step) → In x (steps g n) → StepLeadsInto (IsDone s os) x
+        → at_step (name_fault_within g (length g - length (p ++ n ∷ []))) (p ++ n ∷ []) x ≡ None
     none_before (Nowhere w) i h = absurd h
     none_before (To m) i h =
         name_closed g net.range (length g) (p ++ n ∷ []) m (is_closed m h) (net.range n m i) path (longer_reach m i)
 
     -- the fault of a name is that of its first step with a fault
     at_first : (x : Step) (f : NameFault) → IsFirst g s os n x
-        → at_step (fault_within g (length g - length (p ++ n ∷ []))) (p ++ n ∷ []) x ≡ Some f
-        → fault g p (To n ∷ []) ≡ Some f
+        → at_step (name_fault_within g (length g - length (p ++ n ∷ []))) (p ++ n ∷ []) x ≡ Some f
+        → steps_fault g p (To n ∷ []) ≡ Some f
     at_first x f a h =
-        let new : on p n ≡ false =
-        false_from_ne_true (on p n) (λ e. distinct_last p n path.once (on-In p n e)) in
+        let new : is_on_path p n ≡ false =
+        false_from_ne_true (is_on_path p n) (λ e. distinct_last p n path.once (on-In p n e)) in
         or_none _
         ∙ (name_is g p n (path_front g p (n ∷ []) path) new (has_steps g n a.place x a.at)
-        ∙ first_at (at_step (fault_within g (length g - length (p ++ n ∷ []))) (p ++ n ∷ [])) (steps g n) a.place x f
-        (none_from (at_step (fault_within g (length g - length (p ++ n ∷ []))) (p ++ n ∷ [])) (take a.place (steps g n))
+        ∙ first_at (at_step (name_fault_within g (length g - length (p ++ n ∷ []))) (p ++ n ∷ [])) (steps g n) a.place x
+        f
+        (none_from (at_step (name_fault_within g (length g - length (p ++ n ∷ []))) (p ++ n ∷ []))
+        (take a.place (steps g n))
         (λ y i. none_before y (take_In a.place (steps g n) y i)
-        (all_at (LeadsInto (IsDone s os)) (take a.place (steps g n)) y a.before i)))
+        (all_at (StepLeadsInto (IsDone s os)) (take a.place (steps g n)) y a.before i)))
         a.at h)
 
   -- the fault of a name is the one at the end of its way
-  pub way_fault : (p : List ℕ) (n : ℕ) (ms : List ℕ) (x : Step) (f : NameFault) → IsPath g (p ++ n ∷ ms)
-      → ((q : ℕ) → In q p → Reaches g q n) → Follows fs n ms x
+  pub way_fault : (p : List ℕ) (n : ℕ) (ms : List ℕ) (x : Step) (f : NameFault) → IsNamePath g (p ++ n ∷ ms)
+      → ((q : ℕ) → In q p → NameReaches g q n) → FollowsFaults fs n ms x
       → ((deeper : List ℕ → ℕ → Option NameFault) → at_step deeper (p ++ n ∷ ms) x ≡ Some f)
-      → fault g p (To n ∷ []) ≡ Some f
+      → steps_fault g p (To n ∷ []) ≡ Some f
   way_fault p n [] x f path reach h gives =
       at_first p n path reach x f (first_step n x h)
-      (gives (fault_within g (length g - length (p ++ n ∷ []))))
+      (gives (name_fault_within g (length g - length (p ++ n ∷ []))))
   way_fault p n (m ∷ ms) x f path reach h gives =
       let a : IsFirst g s os n (To m) = first_step n (To m) h.0 in
       let same : (p ++ n ∷ []) ++ m ∷ ms ≡ p ++ n ∷ m ∷ ms = append_assoc p (n ∷ []) (m ∷ ms) in
-      let long : IsPath g ((p ++ n ∷ []) ++ m ∷ ms) = subst (λ (q : List ℕ). IsPath g q) (sym same) path in
-      let short : IsPath g (p ++ n ∷ []) = path_front g (p ++ n ∷ []) (m ∷ ms) long in
+      let long : IsNamePath g ((p ++ n ∷ []) ++ m ∷ ms) = subst (λ (q : List ℕ). IsNamePath g q) (sym same) path in
+      let short : IsNamePath g (p ++ n ∷ []) = path_front g (p ++ n ∷ []) (m ∷ ms) long in
       at_first p n short reach (To m) f a
       (sym (or_none _)
       ∙ way_fault (p ++ n ∷ []) m ms x f long (longer_reach p n short reach m (get_In _ _ _ a.at)) h.1
       (λ deeper. subst (λ (q : List ℕ). at_step deeper q x ≡ Some f) (sym same) (gives deeper)))
 
   -- the names of a way are a path
-  pub way_path : (n : ℕ) (ms : List ℕ) (x : Step) → Follows fs n ms x → IsDistinct nat_eq (n ∷ ms)
-      → IsPath g (n ∷ ms)
+  pub way_path : (n : ℕ) (ms : List ℕ) (x : Step) → FollowsFaults fs n ms x → IsDistinct nat_eq (n ∷ ms)
+      → IsNamePath g (n ∷ ms)
   way_path n ms x h once = record {
     once = once;
     there = λ k e. faulty_there k (all_faulty fs n ms x h k (on-In (n ∷ ms) k e));
   }
 
   -- a way to a word that leads nowhere gives a dead end
-  pub dead_end_fault : (n : ℕ) (ms : List ℕ) (w e : ℕ) → Follows fs n ms (Nowhere w) → IsDistinct nat_eq (n ∷ ms)
-      → last (n ∷ ms) ≡ Some e → fault g [] (To n ∷ []) ≡ Some (DeadEnd w (Some e))
+  pub dead_end_fault : (n : ℕ) (ms : List ℕ) (w e : ℕ) → FollowsFaults fs n ms (Nowhere w) → IsDistinct nat_eq (n ∷ ms)
+      → last (n ∷ ms) ≡ Some e → steps_fault g [] (To n ∷ []) ≡ Some (DeadEnd w (Some e))
   dead_end_fault n ms w e h once is =
       way_fault [] n ms (Nowhere w) (DeadEnd w (Some e)) (way_path n ms (Nowhere w) h once) (λ q i. absurd i) h
       (λ deeper. ap (λ (o : Option ℕ). Some (DeadEnd w o)) is)
 
   -- a way into a ring gives a cycle
-  pub ring_fault : (n : ℕ) (ms : List ℕ) (e : ℕ) → Follows fs n ms (To e) → IsDistinct nat_eq (n ∷ ms)
-      → In e (n ∷ ms) → fault g [] (To n ∷ []) ≡ Some (Cycle (from_name e (n ∷ ms) ++ e ∷ []))
+  pub ring_fault : (n : ℕ) (ms : List ℕ) (e : ℕ) → FollowsFaults fs n ms (To e) → IsDistinct nat_eq (n ∷ ms)
+      → In e (n ∷ ms) → steps_fault g [] (To n ∷ []) ≡ Some (Cycle (from_name e (n ∷ ms) ++ e ∷ []))
   ring_fault n ms e h once i =
       way_fault [] n ms (To e) (Cycle (from_name e (n ∷ ms) ++ e ∷ [])) (way_path n ms (To e) h once)
       (λ q j. absurd j) h
-      (λ deeper. cond-true (on (n ∷ ms) e) (Some (Cycle (from_name e (n ∷ ms) ++ e ∷ [])))
+      (λ deeper. cond-true (is_on_path (n ∷ ms) e) (Some (Cycle (from_name e (n ∷ ms) ++ e ∷ [])))
       (deeper ((n ∷ ms) ++ e ∷ []) e)
       (In-on (n ∷ ms) e i))

@@ -13,8 +13,8 @@ pub data NameFault : Type 0 where
   Cycle : List ℕ → NameFault
 
 -- a name is on a path
-abbrev pub on : List ℕ → ℕ → Bool
-on p n = is_member nat_eq p n
+abbrev pub is_on_path : List ℕ → ℕ → Bool
+is_on_path p n = is_member nat_eq p n
 
 -- the part of a path from the first place of a name on
 abbrev pub from_name : ℕ → List ℕ → List ℕ
@@ -26,7 +26,7 @@ from_name n (k ∷ ks) = if nat_eq k n then k ∷ ks else from_name n ks
 
 -- a name that is on the path closes a cycle; any other name is entered
 abbrev pub at_name : (List ℕ → ℕ → Option NameFault) → List ℕ → ℕ → Option NameFault
-at_name deeper p n = if on p n then Some (Cycle (from_name n p ++ n ∷ [])) else deeper (p ++ n ∷ []) n
+at_name deeper p n = if is_on_path p n then Some (Cycle (from_name n p ++ n ∷ [])) else deeper (p ++ n ∷ []) n
 
 -- a word that leads nowhere is a fault of the last name of the path
 abbrev pub at_step : (List ℕ → ℕ → Option NameFault) → List ℕ → Step → Option NameFault
@@ -34,11 +34,11 @@ at_step deeper p (Nowhere w) = Some (DeadEnd w (last p))
 at_step deeper p (To n) = at_name deeper p n
 
 -- the first fault in the steps of the last name of a path, if at most `room` more names may be entered
-abbrev pub fault_within : Graph → ℕ → List ℕ → ℕ → Option NameFault
-fault_within g zero p n = Some (Cycle p)
-fault_within g (suc room) p n = first (at_step (fault_within g room) p) (steps g n)
+abbrev pub name_fault_within : Graph → ℕ → List ℕ → ℕ → Option NameFault
+name_fault_within g zero p n = Some (Cycle p)
+name_fault_within g (suc room) p n = first (at_step (name_fault_within g room) p) (steps g n)
 
 -- the first fault of steps after a path: no name occurs twice in a path, so the number of names of the graph that are
 -- not on it is room enough
-abbrev pub fault : Graph → List ℕ → List Step → Option NameFault
-fault g p xs = first (at_step (fault_within g (length g - length p)) p) xs
+abbrev pub steps_fault : Graph → List ℕ → List Step → Option NameFault
+steps_fault g p xs = first (at_step (name_fault_within g (length g - length p)) p) xs

@@ -4,8 +4,8 @@ use Rattle.name_walk.specs.declared.mark.Mark.{Mark}
 use Rattle.name_walk.specs.declared.mark.Mark.TheVariants.{Closed, OnPath}
 use Rattle.name_walk.specs.declared.step.Step.{Step}
 use Rattle.name_walk.specs.declared.step.Step.TheVariants.{Nowhere, To}
-use Rattle.name_walk.specs.Closed.{IsSettled}
-use Rattle.name_walk.specs.Faults.{NameFault, fault}
+use Rattle.name_walk.specs.ClosedNames.{IsSettled}
+use Rattle.name_walk.specs.Faults.{NameFault, steps_fault}
 use Rattle.name_walk.specs.Lists.{In}
 use Rattle.name_walk.specs.NewlyClosed.{IsReached}
 use Rattle.name_walk.specs.Steps.{Graph}
@@ -14,13 +14,13 @@ use Rattle.name_walk.specs.Trails.{AreFindings, AreTrails, Faults, IsFaulty}
 
 -- the names that are known to be sound, what is known about the names with a fault, and all names about which
 -- something is known
-pub record Found : Type 0 where
+pub record WalkFindings : Type 0 where
   pub sound : List ℕ
   pub faults : Faults
   pub names : List ℕ
 
 -- what is known about names is true, and `f.names` are all the names about which something is known
-pub record AreRight (g : Graph) (s : List Bool) (f : Found) : Type 0 where
+pub record AreRight (g : Graph) (s : List Bool) (f : WalkFindings) : Type 0 where
   pub are : AreFindings g s f.sound f.faults
   pub sound_named : (n : ℕ) → In n f.sound → In n f.names
   pub faulty_named : (n : ℕ) → IsFaulty f.faults n → In n f.names
@@ -41,7 +41,7 @@ pub record IsConsistent (t : Trace) (fs : Faults) : Type 0 where
   pub frames : t.frames ≡ []
 
 -- nothing is known about any name
-pub record IsNothing (f : Found) : Type 0 where
+pub record IsNothing (f : WalkFindings) : Type 0 where
   pub sound : f.sound ≡ []
   pub faultless : (n : ℕ) → IsFaulty f.faults n → ⊥
   pub names : f.names ≡ []
@@ -52,15 +52,15 @@ IsFaultyStep fs (Nowhere w) = ⊤
 IsFaultyStep fs (To n) = IsFaulty fs n
 
 -- the first fault of a query is that of one of its steps
-pub record IsFaultOf (g : Graph) (query : List Step) (x : Step) : Type 0 where
+pub record IsQueryFault (g : Graph) (query : List Step) (x : Step) : Type 0 where
   pub fault_there : NameFault
-  pub of_step : fault g [] (x ∷ []) ≡ Some fault_there
-  pub of_query : fault g [] query ≡ Some fault_there
+  pub of_step : steps_fault g [] (x ∷ []) ≡ Some fault_there
+  pub of_query : steps_fault g [] query ≡ Some fault_there
 
 -- a query has no fault, or its first fault is that of this step
 abbrev pub IsFirstFaulty : Graph → List Step → Faults → Option Step → Type 0
-IsFirstFaulty g query fs None = fault g [] query ≡ None
-IsFirstFaulty g query fs (Some x) = IsFaultOf g query x × IsFaultyStep fs x
+IsFirstFaulty g query fs None = steps_fault g [] query ≡ None
+IsFirstFaulty g query fs (Some x) = IsQueryFault g query x × IsFaultyStep fs x
 
 -- each name about which something is now known was known before, or is reached by the query and not settled
 abbrev pub AreFromQuery : Graph → List Bool → List Step → List ℕ → List ℕ → Type 0

@@ -1,15 +1,16 @@
 -- Laws of findings.
 use Rattle.std.specs.Prelude.{◌≡◌, ◌≤◌, ℕ, Bool, List, length}
-use Rattle.name_walk.specs.Closed.{IsSettled}
-use Rattle.name_walk.specs.Findings.{AreRight, Found, IsNothing}
+use Rattle.name_walk.specs.ClosedNames.{IsSettled}
+use Rattle.name_walk.specs.Findings.{AreRight, IsNothing, WalkFindings}
 use Rattle.name_walk.specs.Lists.{In}
-use Rattle.name_walk.specs.Nets.{IsNet}
+use Rattle.name_walk.specs.Nets.{IsConsistentGraph}
 use Rattle.name_walk.specs.Steps.{Graph, steps}
 
 -- law: findings about no name are right for all graphs. Findings stay right when names are added and more names are
 -- settled, as long as the steps of the names about which something is known do not change.
 pub record FindingsLaw : Type 0 where
-  pub nothing : (g : Graph) (s : List Bool) (f : Found) → IsNothing f → AreRight g s f
-  pub still : (g h : Graph) (s r : List Bool) (f : Found) → AreRight g s f → IsNet h r → length g ≤ length h
+  pub nothing : (g : Graph) (s : List Bool) (f : WalkFindings) → IsNothing f → AreRight g s f
+  pub still : (g h : Graph) (s r : List Bool) (f : WalkFindings) → AreRight g s f → IsConsistentGraph h r
+      → length g ≤ length h
       → ((n : ℕ) → IsSettled s n → IsSettled r n) → ((n : ℕ) → In n f.names → steps h n ≡ steps g n)
       → AreRight h r f

@@ -1,4 +1,4 @@
-pub mod Closed
+pub mod ClosedNames
 pub mod ClosedLaws
 pub mod FaultLaws
 pub mod Faults
@@ -7,7 +7,7 @@ pub mod FindingsLaws
 pub mod Lists
 pub mod Nets
 pub mod NewlyClosed
-pub mod Noted
+pub mod PathRecords
 pub mod Paths
 pub mod Rings
 pub mod Searches

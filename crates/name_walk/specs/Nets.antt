@@ -1,11 +1,11 @@
 -- The preconditions of a walk on its names.
 use Rattle.std.specs.Prelude.{◌≡◌, Bool, List, length}
-use Rattle.name_walk.specs.Closed.{AreSettled}
+use Rattle.name_walk.specs.ClosedNames.{AreSettled}
 use Rattle.name_walk.specs.Steps.{Graph, InRange}
 
 -- each step leads to a name of the graph or nowhere, settled names are closed, and the names that they lead to are
 -- settled
-pub record IsNet (g : Graph) (marks : List Bool) : Type 0 where
+pub record IsConsistentGraph (g : Graph) (marks : List Bool) : Type 0 where
   pub range : InRange g
   pub size : length marks ≡ length g
   pub settled : AreSettled g marks

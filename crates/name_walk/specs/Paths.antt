@@ -1,17 +1,18 @@
 -- Paths of names.
 use Rattle.std.specs.Prelude.{◌≡◌, ◌<◌, ◌≤◌, ℕ, true, false, List, [], ◌∷◌, ◌++◌, length, nat_eq}
 use Rattle.std.specs.List.{IsDistinct}
-use Rattle.name_walk.specs.Faults.{on}
+use Rattle.name_walk.specs.Faults.{is_on_path}
 use Rattle.name_walk.specs.Steps.{Graph}
 
 -- a path consists of distinct names of the graph
-pub record IsPath (g : Graph) (p : List ℕ) : Type 0 where
+pub record IsNamePath (g : Graph) (p : List ℕ) : Type 0 where
   pub once : IsDistinct nat_eq p
-  pub there : (n : ℕ) → on p n ≡ true → n < length g
+  pub there : (n : ℕ) → is_on_path p n ≡ true → n < length g
 
 -- law: the empty list is a path, a path can be extended by each name of the graph that is not on it, and no path has
 -- more names than the graph
-pub record PathLaw : Type 0 where
-  pub empty : (g : Graph) → IsPath g []
-  pub longer : (g : Graph) (p : List ℕ) (n : ℕ) → IsPath g p → on p n ≡ false → n < length g → IsPath g (p ++ n ∷ [])
-  pub short : (g : Graph) (p : List ℕ) → IsPath g p → length p ≤ length g
+pub record NamePathLaw : Type 0 where
+  pub empty : (g : Graph) → IsNamePath g []
+  pub longer : (g : Graph) (p : List ℕ) (n : ℕ) → IsNamePath g p → is_on_path p n ≡ false → n < length g
+      → IsNamePath g (p ++ n ∷ [])
+  pub short : (g : Graph) (p : List ℕ) → IsNamePath g p → length p ≤ length g

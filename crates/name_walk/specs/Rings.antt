@@ -12,7 +12,7 @@ IsWay fs last here (n ∷ ns) =
     (here ≡ n) × (n ≡ last → ⊥) × ((m : ℕ) × GoesBy fs n (To m) × IsWay fs last m ns)
 
 -- from `here` the faulty steps lead back to `name`, through no name twice
-pub record IsRing (fs : Faults) (name here : ℕ) (rest : List ℕ) : Type 0 where
+pub record IsFaultRing (fs : Faults) (name here : ℕ) (rest : List ℕ) : Type 0 where
   pub way : IsWay fs name here rest
   pub once : IsDistinct nat_eq (name ∷ rest)
   pub there : (n : ℕ) → In n (name ∷ rest) → n < length fs

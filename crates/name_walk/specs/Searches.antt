@@ -9,17 +9,17 @@ use Rattle.name_walk.specs.declared.step.Step.TheVariants.{Nowhere, To}
 use Rattle.name_walk.specs.declared.trail.Ending.{Ending}
 use Rattle.name_walk.specs.declared.trail.Ending.TheVariants.{At, Ring}
 use Rattle.name_walk.specs.declared.trail.FaultyStep.{FaultyStep}
-use Rattle.name_walk.specs.Closed.{IsDone, IsSettled}
+use Rattle.name_walk.specs.ClosedNames.{IsDone, IsSettled}
 use Rattle.name_walk.specs.Findings.{IsConsistent}
 use Rattle.name_walk.specs.Lists.{In}
 use Rattle.name_walk.specs.Steps.{Graph}
 use Rattle.name_walk.specs.Traces.{AreEntered, Trace}
 use Rattle.name_walk.specs.Trails.{AreFindings, Faults, IsFaulty}
-use Rattle.name_walk.specs.Visits.{IsBelow, IsFound}
+use Rattle.name_walk.specs.Visits.{IsBelow, IsMarkFound}
 
 -- nothing is known about a name
 pub record IsOpen (s : List Bool) (ms : List Mark) (fs : Faults) (n : ℕ) : Type 0 where
-  pub unsettled : slice_get s n ≡ Some false
+  pub not_settled : slice_get s n ≡ Some false
   pub mark : slice_get ms n ≡ Some Open
   pub faultless : IsFaulty fs n → ⊥
 
@@ -35,7 +35,7 @@ IsEnding ms fs name (To m) (Ring k) = (k ≡ m) × (slice_get ms m ≡ Some OnPa
 
 -- the finding for a step of `name`
 abbrev pub IsFinding : List Bool → List Mark → Faults → ℕ → Step → Finding → Type 0
-IsFinding s ms fs name x found.Sound = (m : ℕ) × (x ≡ To m) × IsFound s ms m Closed
+IsFinding s ms fs name x found.Sound = (m : ℕ) × (x ≡ To m) × IsMarkFound s ms m Closed
 IsFinding s ms fs name x (found.Open m) = (x ≡ To m) × IsOpen s ms fs m
 IsFinding s ms fs name x (found.Faulty ending) = IsEnding ms fs name x ending
 
@@ -62,7 +62,7 @@ pub record IsSearched (g : Graph) (s : List Bool) (start : ℕ) (old new : Trace
     : Type 0 where
   pub between : IsBetween g s new hs
   pub more : AreMore g s start old new fs hs
-  pub decided : IsDecided s new.order hs start is_faulty
+  pub decision : IsDecided s new.order hs start is_faulty
 
 -- there may be marks for more names, and the new marks are open
 pub record AreMarksCovered (old new : Trace) : Type 0 where

@@ -1,16 +1,16 @@
 -- Laws of settled names.
 use Rattle.std.specs.Prelude.{◌≡◌, ◌↔◌, ◌≤◌, ℕ, Bool, List, length}
 use Rattle.name_walk.specs.declared.step.Step.{Step}
-use Rattle.name_walk.specs.Closed.{AreSettled, IsDone, IsSettled}
+use Rattle.name_walk.specs.ClosedNames.{AreSettled, IsDone, IsSettled}
 use Rattle.name_walk.specs.NewlyClosed.{AreNewlyClosed, IsReached}
-use Rattle.name_walk.specs.Steps.{Graph, Reaches, steps}
+use Rattle.name_walk.specs.Steps.{Graph, NameReaches, steps}
 
 -- law: every name that a settled name reaches is settled. Every name that a query reaches is settled or among the
 -- names that the query newly closes, and the settled names together with these may be settled. Adding names, and
 -- changing the steps of names that are not settled, does not matter.
 pub record SettledLaw : Type 0 where
   pub below : (g : Graph) (settled : List Bool) → AreSettled g settled
-      → (n m : ℕ) → IsSettled settled n → Reaches g n m → IsSettled settled m
+      → (n m : ℕ) → IsSettled settled n → NameReaches g n m → IsSettled settled m
   pub asked : (g : Graph) (settled : List Bool) (query : List Step) (names : List ℕ)
       → AreNewlyClosed g settled query names → (n : ℕ) → IsReached g query n → IsDone settled names n
   pub grown : (g : Graph) (old new : List Bool) (query : List Step) (names : List ℕ)

@@ -22,14 +22,14 @@ abbrev pub LeadsTo : Graph → ℕ → ℕ → Type 0
 LeadsTo g n m = In (To m) (steps g n)
 
 -- the name n leads to m by one or more steps
-pub data Reaches (g : Graph) : ℕ → ℕ → Type 0 where
-  at_once : {n m : ℕ} → LeadsTo g n m → Reaches g n m
-  further : {n x m : ℕ} → LeadsTo g n x → Reaches g x m → Reaches g n m
+pub data NameReaches (g : Graph) : ℕ → ℕ → Type 0 where
+  at_once : {n m : ℕ} → LeadsTo g n m → NameReaches g n m
+  further : {n x m : ℕ} → LeadsTo g n x → NameReaches g x m → NameReaches g n m
 
 -- the steps lead only to names of the graph, or nowhere
-abbrev pub AreKnown : Graph → List Step → Type 0
-AreKnown g xs = (m : ℕ) → In (To m) xs → m < length g
+abbrev pub StayInGraph : Graph → List Step → Type 0
+StayInGraph g xs = (m : ℕ) → In (To m) xs → m < length g
 
 -- all steps of the graph lead only to names of the graph, or nowhere
 abbrev pub InRange : Graph → Type 0
-InRange g = (n : ℕ) → AreKnown g (steps g n)
+InRange g = (n : ℕ) → StayInGraph g (steps g n)

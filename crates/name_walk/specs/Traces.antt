@@ -23,8 +23,8 @@ path [] n = n ∷ []
 path (f ∷ fs) n = f.name ∷ path fs n
 
 -- marks for `count` names; new names are open
-abbrev pub with_names : ℕ → Trace → Trace
-with_names count t = record t { marks = take count t.marks ++ replicate (count - length t.marks) Open }
+abbrev pub trace_with_names : ℕ → Trace → Trace
+trace_with_names count t = record t { marks = take count t.marks ++ replicate (count - length t.marks) Open }
 
 -- a name is put on the path
 abbrev pub with_entered : Trace → ℕ → Trace

@@ -5,7 +5,7 @@ use Rattle.std.specs.List.{AllByRecursion, IsDistinct}
 use Rattle.name_walk.specs.declared.step.Step.{Step}
 use Rattle.name_walk.specs.declared.step.Step.TheVariants.{Nowhere, To}
 use Rattle.name_walk.specs.declared.trail.FaultyStep.{FaultyStep}
-use Rattle.name_walk.specs.Closed.{IsClosed, IsDone, LeadsInto}
+use Rattle.name_walk.specs.ClosedNames.{IsClosedName, IsDone, StepLeadsInto}
 use Rattle.name_walk.specs.Lists.{In, last}
 use Rattle.name_walk.specs.Steps.{Graph, LeadsTo, steps}
 
@@ -22,9 +22,9 @@ abbrev pub GoesBy : Faults → ℕ → Step → Type 0
 GoesBy fs n x = (c : FaultyStep) × (slice_get fs n ≡ Some (Some c)) × (c.step ≡ x)
 
 -- from n the faulty steps lead through some names, and the faulty step of the last one is x
-abbrev pub Follows : Faults → ℕ → List ℕ → Step → Type 0
-Follows fs n [] x = GoesBy fs n x
-Follows fs n (m ∷ ms) x = GoesBy fs n (To m) × Follows fs m ms x
+abbrev pub FollowsFaults : Faults → ℕ → List ℕ → Step → Type 0
+FollowsFaults fs n [] x = GoesBy fs n x
+FollowsFaults fs n (m ∷ ms) x = GoesBy fs n (To m) × FollowsFaults fs m ms x
 
 -- names on a way to a fault end at e: the last name if the step leads nowhere, or else the name among them to which
 -- the step leads back
@@ -36,7 +36,7 @@ EndsAt names (To m) e = (m ≡ e) × In e names
 pub record IsTrail (fs : Faults) (n e : ℕ) : Type 0 where
   pub names : List ℕ
   pub step : Step
-  pub follows : Follows fs n names step
+  pub follows : FollowsFaults fs n names step
   pub once : IsDistinct nat_eq (n ∷ names)
   pub ends : EndsAt (n ∷ names) step e
 
@@ -44,7 +44,7 @@ pub record IsTrail (fs : Faults) (n e : ℕ) : Type 0 where
 pub record IsFirst (g : Graph) (s : List Bool) (sound : List ℕ) (n : ℕ) (x : Step) : Type 0 where
   pub place : ℕ
   pub at : slice_get (steps g n) place ≡ Some x
-  pub before : AllByRecursion (LeadsInto (IsDone s sound)) (take place (steps g n))
+  pub before : AllByRecursion (StepLeadsInto (IsDone s sound)) (take place (steps g n))
 
 -- each faulty step to a name leads to a name with a fault, and each name with a fault has a way to it
 pub record AreTrails (fs : Faults) : Type 0 where
@@ -54,5 +54,5 @@ pub record AreTrails (fs : Faults) : Type 0 where
 -- what is known about names is true: sound names are closed and lead only to settled and sound names, and each name
 -- with a fault comes to it by the first of its steps that has a fault
 pub record AreFindings (g : Graph) (s : List Bool) (names : List ℕ) (fs : Faults) : Type 0 where
-  pub sound : (n : ℕ) → In n names → IsClosed g n × ((m : ℕ) → LeadsTo g n m → IsDone s names m)
+  pub sound : (n : ℕ) → In n names → IsClosedName g n × ((m : ℕ) → LeadsTo g n m → IsDone s names m)
   pub first : (n : ℕ) (c : FaultyStep) → slice_get fs n ≡ Some (Some c) → IsFirst g s names n c.step

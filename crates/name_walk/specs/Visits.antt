@@ -6,26 +6,26 @@ use Rattle.name_walk.specs.declared.fault.Fault.{Fault}
 use Rattle.name_walk.specs.declared.mark.Mark.{Mark}
 use Rattle.name_walk.specs.declared.mark.Mark.TheVariants.{Closed, OnPath, Open}
 use Rattle.name_walk.specs.declared.step.Step.TheVariants.{To}
-use Rattle.name_walk.specs.Closed.{IsClosed, IsSettled}
-use Rattle.name_walk.specs.Faults.{fault}
+use Rattle.name_walk.specs.ClosedNames.{IsClosedName, IsSettled}
+use Rattle.name_walk.specs.Faults.{steps_fault}
 use Rattle.name_walk.specs.Lists.{In}
 use Rattle.name_walk.specs.NewlyClosed.{AreOrdered}
-use Rattle.name_walk.specs.Steps.{Graph, Reaches}
+use Rattle.name_walk.specs.Steps.{Graph, NameReaches}
 use Rattle.name_walk.specs.Traces.{AreEntered, Trace}
 use Rattle.name_walk.specs.Walks.{fault_view}
 
 -- the mark found for a name; a settled name counts as closed
-abbrev pub IsFound : List Bool → List Mark → ℕ → Mark → Type 0
-IsFound settled marks n Closed = IsSettled settled n ⊎ (slice_get marks n ≡ Some Closed)
-IsFound settled marks n OnPath = slice_get marks n ≡ Some OnPath
-IsFound settled marks n Open = (slice_get settled n ≡ Some false) × (slice_get marks n ≡ Some Open)
+abbrev pub IsMarkFound : List Bool → List Mark → ℕ → Mark → Type 0
+IsMarkFound settled marks n Closed = IsSettled settled n ⊎ (slice_get marks n ≡ Some Closed)
+IsMarkFound settled marks n OnPath = slice_get marks n ≡ Some OnPath
+IsMarkFound settled marks n Open = (slice_get settled n ≡ Some false) × (slice_get marks n ≡ Some Open)
 
 -- the names in `order` are exactly those marked as closed; all are closed names, none was settled before, and they are
 -- distinct, with targets before users
 pub record AreOrdering (g : Graph) (settled : List Bool) (marks : List Mark) (names order : List ℕ) : Type 0 where
   pub size : length marks ≡ length g
   pub marked : (n : ℕ) → (slice_get marks n ≡ Some Closed) ↔ In n order
-  pub closed : (n : ℕ) → In n order → IsClosed g n
+  pub closed : (n : ℕ) → In n order → IsClosedName g n
   pub fresh : (n : ℕ) → In n order → IsSettled settled n → ⊥
   pub once : IsDistinct nat_eq order
   pub ordered : AreOrdered g settled [] order
@@ -33,13 +33,13 @@ pub record AreOrdering (g : Graph) (settled : List Bool) (marks : List Mark) (na
 
 -- the order is right, and no name is on a path
 pub record IsBetween (g : Graph) (settled : List Bool) (t : Trace) : Type 0 where
-  pub ordering : AreOrdering g settled t.marks t.entered t.order
+  pub in_target_order : AreOrdering g settled t.marks t.entered t.order
   pub off_path : (n : ℕ) → slice_get t.marks n ≡ Some OnPath → ⊥
   pub frames : t.frames ≡ []
 
 -- n is the name `start` or a name that it reaches
 abbrev pub IsBelow : Graph → ℕ → ℕ → Type 0
-IsBelow g start n = (n ≡ start) ⊎ Reaches g start n
+IsBelow g start n = (n ≡ start) ⊎ NameReaches g start n
 
 -- the name `start` was closed, together with some of the names that it reaches
 pub record AddsBelow (g : Graph) (start : ℕ) (old new : List ℕ) : Type 0 where
@@ -49,11 +49,11 @@ pub record AddsBelow (g : Graph) (start : ℕ) (old new : List ℕ) : Type 0 whe
 
 -- the result of a visit that finds no fault: the name is closed
 pub record IsFaultless (g : Graph) (settled : List Bool) (start : ℕ) (old new : Trace) : Type 0 where
-  pub none : fault g [] (To start ∷ []) ≡ None
+  pub none : steps_fault g [] (To start ∷ []) ≡ None
   pub between : IsBetween g settled new
   pub adds : AddsBelow g start old.order new.order
 
 abbrev pub IsVisited : Graph → List Bool → ℕ → Trace → Trace → Option Fault → Type 0
 IsVisited g settled start old new result =
     MatchOption result (IsFaultless g settled start old new)
-    (λ f. fault g [] (To start ∷ []) ≡ Some (fault_view f))
+    (λ f. steps_fault g [] (To start ∷ []) ≡ Some (fault_view f))

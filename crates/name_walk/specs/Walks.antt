@@ -3,7 +3,7 @@ use Rattle.std.specs.Prelude.{◌≡◌, ℕ, Bool, List, [], Option, Some, None
 use Rattle.name_walk.specs.declared.fault.Fault.{Fault}
 use Rattle.name_walk.specs.declared.fault.Fault.TheVariants as made
 use Rattle.name_walk.specs.declared.step.Step.{Step}
-use Rattle.name_walk.specs.Faults.{Cycle, DeadEnd, NameFault, fault}
+use Rattle.name_walk.specs.Faults.{Cycle, DeadEnd, NameFault, steps_fault}
 use Rattle.name_walk.specs.NewlyClosed.{AreNewlyClosed}
 use Rattle.name_walk.specs.Steps.{Graph}
 
@@ -16,5 +16,5 @@ fault_view (made.Cycle names) = Cycle names.items
 abbrev pub IsWalked : Graph → List Bool → List Step → List ℕ → Option Fault → Type 0
 IsWalked g settled query order result =
     MatchOption result
-    ((fault g [] query ≡ None) × AreNewlyClosed g settled query order)
-    (λ f. fault g [] query ≡ Some (fault_view f))
+    ((steps_fault g [] query ≡ None) × AreNewlyClosed g settled query order)
+    (λ f. steps_fault g [] query ≡ Some (fault_view f))

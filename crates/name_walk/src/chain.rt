@@ -1,7 +1,7 @@
 //! The chain of a cycle.
 
 ghost use Rattle.std.specs.Prelude.{◌≡◌, true, ◌∷◌, [], ◌++◌, IfOk};
-ghost use Rattle.name_walk.specs.Faults.{from_name, on};
+ghost use Rattle.name_walk.specs.Faults.{from_name, is_on_path};
 ghost use Rattle.name_walk.specs.Traces.{path};
 
 use crate::traces::Frame;
@@ -15,7 +15,7 @@ pub(crate) fn chain(
     last: usize,
     again: usize,
 ) -> Result<Vec<usize>, AllocError>
-    requires { on (path frames.now last) again ≡ true }
+    requires { is_on_path (path frames.now last) again ≡ true }
     ensures { IfOk result (λ names. names.items ≡ from_name again (path frames.now last) ++ again ∷ []) }
 {
     let mut names = Vec::new(alloc);

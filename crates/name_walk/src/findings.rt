@@ -1,15 +1,15 @@
 //! The results of searches, remembered for each name.
 
 ghost use Rattle.std.specs.Prelude.{◌≡◌, ◌↔◌, ◌∷◌, [], Bool, List, Some, IfOk, IsTrue, OnErr};
-ghost use Rattle.name_walk.specs.Faults.{fault};
+ghost use Rattle.name_walk.specs.Faults.{steps_fault};
 ghost use Rattle.name_walk.specs.Findings as spec;
-ghost use Rattle.name_walk.specs.Nets.{IsNet};
-ghost use Rattle.name_walk.specs.Steps.{AreKnown, Graph};
+ghost use Rattle.name_walk.specs.Nets.{IsConsistentGraph};
+ghost use Rattle.name_walk.specs.Steps.{Graph, StayInGraph};
 ghost use Rattle.name_walk.specs.Walks.{fault_view};
 
 use crate::fault::Fault;
-use crate::naming::name_fault;
-use crate::net::Net;
+use crate::known_faults::name_fault;
+use crate::net::WalkGraph;
 use crate::search::{clear, search_from};
 use crate::step::Step;
 use crate::traces::Traces;
@@ -28,9 +28,9 @@ pub struct Findings {
 }
 
 impl Model for Findings {
-    ghost use Rattle.name_walk.specs.Findings.{Found, IsConsistent};
+    ghost use Rattle.name_walk.specs.Findings.{IsConsistent, WalkFindings};
 
-    ghost Value = { Found };
+    ghost Value = { WalkFindings };
 
     ghost view = { λ f. record {
       sound = f.traces.order;
@@ -56,7 +56,7 @@ impl Findings {
     pub fn is_empty(&self) -> bool
         ensures { IsTrue result ↔ (self.now.names ≡ []) }
     {
-        self.traces.entered().is_empty()
+        self.traces.entered_names().is_empty()
     }
 
     /// Forgets everything. The cost is proportional to the number of names about which something is known.
@@ -76,11 +76,11 @@ impl Findings {
     pub fn find(
         &mut self,
         alloc: Global,
-        net: &Net,
+        net: &WalkGraph,
         query: &[Step],
     ) -> Result<Option<Step>, AllocError>
-        requires net { IsNet net.now.steps.now net.now.settled.now }
-        requires query { AreKnown net.now.steps.now query.now }
+        requires net { IsConsistentGraph net.now.steps.now net.now.settled.now }
+        requires query { StayInGraph net.now.steps.now query.now }
         requires right { spec.AreRight net.now.steps.now net.now.settled.now self.old }
         ensures right { spec.AreRight net.now.steps.now net.now.settled.now self.new }
         ensures names { spec.AreFromQuery net.now.steps.now net.now.settled.now query.now self.old.names
@@ -101,8 +101,8 @@ impl Findings {
     /// number of names in the fault. The only error is running out of memory.
     pub fn fault(&self, alloc: Global, step: Step) -> Result<Fault, AllocError>
         requires known { spec.IsFaultyStep self.now.faults step }
-        ensures { IfOk result (λ f. (g : Graph) (s : List Bool) → IsNet g s → spec.AreRight g s self.now
-            → fault g [] (step ∷ []) ≡ Some (fault_view f)) }
+        ensures { IfOk result (λ f. (g : Graph) (s : List Bool) → IsConsistentGraph g s → spec.AreRight g s self.now
+            → steps_fault g [] (step ∷ []) ≡ Some (fault_view f)) }
     {
         match step {
             Step::Nowhere(word) => Ok(Fault::DeadEnd(word, None)),

@@ -1,26 +1,26 @@
 //! Laws of the definitions that the contracts cite.
 
-ghost use Rattle.name_walk.specs.ClosedLaws.{ClosedLaw};
-ghost use Rattle.name_walk.specs.FaultLaws.{FaultLaw};
+ghost use Rattle.name_walk.specs.ClosedLaws.{ClosedNameLaw};
+ghost use Rattle.name_walk.specs.FaultLaws.{StepsFaultLaw};
 ghost use Rattle.name_walk.specs.FindingsLaws.{FindingsLaw};
-ghost use Rattle.name_walk.specs.Paths.{PathLaw};
+ghost use Rattle.name_walk.specs.Paths.{NamePathLaw};
 ghost use Rattle.name_walk.specs.SettledLaws.{SettledLaw};
 
 /// The empty list of names is a path, a path can be extended by each name that is not on it, and no path has more
 /// names than the graph.
 pub fn path_law()
-    ensures { PathLaw }
+    ensures { NamePathLaw }
 {}
 
 /// The fault of some steps is the first of the faults of each of them, and this determines it uniquely.
 pub fn fault_law()
-    ensures { FaultLaw }
+    ensures { StepsFaultLaw }
 {}
 
 /// A name is closed exactly if it has no fault, whatever the path that leads to it. Every name that a closed name
 /// reaches is closed, and a closed name does not reach itself.
 pub fn closed_law()
-    ensures { ClosedLaw }
+    ensures { ClosedNameLaw }
 {}
 
 /// Every name that a settled name reaches is settled. This stays true when the names that a query newly closes are

@@ -4,9 +4,9 @@
 mod chain;
 mod fault;
 mod findings;
+mod known_faults;
 mod laws;
 mod mark;
-mod naming;
 mod net;
 mod search;
 mod step;
@@ -18,6 +18,6 @@ mod walk;
 pub use fault::Fault;
 pub use findings::Findings;
 pub use laws::{closed_law, fault_law, findings_law, path_law, settled_law};
-pub use net::Net;
+pub use net::WalkGraph;
 pub use step::{Step, StepList};
 pub use walk::Walker;

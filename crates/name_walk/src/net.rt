@@ -8,14 +8,14 @@ use crate::step::{Step, StepList};
 
 /// Numbered names, borrowed from their owner.
 #[derive(Clone, Copy)]
-pub struct Net<'a> {
+pub struct WalkGraph<'a> {
     /// The steps of each name, in the order of its words.
     pub steps: &'a [StepList],
     /// Whether each name is settled, that is, known to its owner to be closed.
     pub settled: &'a [bool],
 }
 
-impl<'a> Net<'a> {
+impl<'a> WalkGraph<'a> {
     // Returns the step of `name` at `place`, or `None` if the name has no step there.
     pub(crate) fn step(&self, name: usize, place: usize) -> Option<Step>
         requires { name < length self.now.steps.now }

@@ -2,14 +2,14 @@
 
 ghost use Rattle.std.specs.Prelude.{◌≡◌, ◌<◌, ◌≤◌, [], ℕ, length, IfOk};
 ghost use Rattle.name_walk.specs.Findings.{AreFromQuery, CanClear, IsConsistent, IsFirstFaulty};
-ghost use Rattle.name_walk.specs.Nets.{IsNet};
+ghost use Rattle.name_walk.specs.Nets.{IsConsistentGraph};
 ghost use Rattle.name_walk.specs.Searches as spec;
-ghost use Rattle.name_walk.specs.Steps.{AreKnown};
+ghost use Rattle.name_walk.specs.Steps.{StayInGraph};
 ghost use Rattle.name_walk.specs.Traces.{IsIdle};
 ghost use Rattle.name_walk.specs.Trails.{AreFindings, IsFaulty};
 
 use crate::mark::Mark;
-use crate::net::Net;
+use crate::net::WalkGraph;
 use crate::step::Step;
 use crate::traces::{Frame, Traces};
 use crate::trail::{Ending, FaultyStep, note_path};
@@ -28,7 +28,7 @@ enum Finding {
 
 // Classifies a step of `name`, which is the last name on the path.
 fn step_finding(
-    net: &Net,
+    net: &WalkGraph,
     traces: &Traces,
     faults: &[Option<FaultyStep>],
     name: usize,
@@ -56,12 +56,12 @@ fn step_finding(
 // have answers.
 #[tactic(none)]
 fn search_name(
-    net: &Net,
+    net: &WalkGraph,
     start: usize,
     traces: &mut Traces,
     faults: &mut Vec<Option<FaultyStep>>,
 ) -> Result<bool, AllocError>
-    requires net { IsNet net.now.steps.now net.now.settled.now }
+    requires net { IsConsistentGraph net.now.steps.now net.now.settled.now }
     requires between { spec.IsBetween net.now.steps.now net.now.settled.now traces.old faults.old.items }
     requires fresh { spec.IsOpen net.now.settled.now traces.old.marks faults.old.items start }
     ensures can_clear { CanClear traces.new.marks traces.new.entered faults.new.items }
@@ -96,13 +96,13 @@ fn search_name(
 
 // Returns the first step of a query that has a fault.
 pub(crate) fn search_query(
-    net: &Net,
+    net: &WalkGraph,
     query: &[Step],
     traces: &mut Traces,
     faults: &mut Vec<Option<FaultyStep>>,
 ) -> Result<Option<Step>, AllocError>
-    requires net { IsNet net.now.steps.now net.now.settled.now }
-    requires query { AreKnown net.now.steps.now query.now }
+    requires net { IsConsistentGraph net.now.steps.now net.now.settled.now }
+    requires query { StayInGraph net.now.steps.now query.now }
     requires between { spec.IsBetween net.now.steps.now net.now.settled.now traces.old faults.old.items }
     ensures can_clear { CanClear traces.new.marks traces.new.entered faults.new.items }
     ensures between { IfOk result
@@ -125,12 +125,12 @@ pub(crate) fn search_query(
 
 // Returns whether a name has a fault, searching it first if nothing is known about it.
 fn is_faulty(
-    net: &Net,
+    net: &WalkGraph,
     name: usize,
     traces: &mut Traces,
     faults: &mut Vec<Option<FaultyStep>>,
 ) -> Result<bool, AllocError>
-    requires net { IsNet net.now.steps.now net.now.settled.now }
+    requires net { IsConsistentGraph net.now.steps.now net.now.settled.now }
     requires name { name < length net.now.steps.now }
     requires between { spec.IsBetween net.now.steps.now net.now.settled.now traces.old faults.old.items }
     ensures can_clear { CanClear traces.new.marks traces.new.entered faults.new.items }
@@ -148,13 +148,13 @@ fn is_faulty(
 
 // Makes room for the names that are new since the last search, and returns the first step of a query that has a fault.
 pub(crate) fn search_from(
-    net: &Net,
+    net: &WalkGraph,
     query: &[Step],
     traces: &mut Traces,
     faults: &mut Vec<Option<FaultyStep>>,
 ) -> Result<Option<Step>, AllocError>
-    requires net { IsNet net.now.steps.now net.now.settled.now }
-    requires query { AreKnown net.now.steps.now query.now }
+    requires net { IsConsistentGraph net.now.steps.now net.now.settled.now }
+    requires query { StayInGraph net.now.steps.now query.now }
     requires consistent { IsConsistent traces.old faults.old.items }
     requires right { AreFindings net.now.steps.now net.now.settled.now traces.old.order faults.old.items }
     ensures can_clear { CanClear traces.new.marks traces.new.entered faults.new.items }
@@ -200,7 +200,7 @@ pub(crate) fn clear(alloc: Global, traces: &mut Traces, faults: &mut Vec<Option<
     ensures order { traces.new.order ≡ [] }
     ensures faults { (n : ℕ) → IsFaulty faults.new.items n → ⊥ }
 {
-    for name in traces.entered() {
+    for name in traces.entered_names() {
         faults[*name] = None;
     }
     traces.clean(alloc);

@@ -2,7 +2,8 @@
 
 ghost use Rattle.std.specs.Prelude.{◌≡◌, ◌+◌, ◌^◌, ◌<◌, [], length, slice_get, Some};
 ghost use Rattle.std.specs.Prelude.{MatchOption, OnOk, OnErr};
-ghost use Rattle.name_walk.specs.Traces.{AreEntered, no_traces, with_names, with_entered, with_closed, with_frame};
+ghost use Rattle.name_walk.specs.Traces.{AreEntered, no_traces, trace_with_names, with_entered, with_closed};
+ghost use Rattle.name_walk.specs.Traces.{with_frame};
 ghost use Rattle.name_walk.specs.Traces.{IsCleared, without_order};
 
 use crate::mark::Mark;
@@ -74,7 +75,7 @@ impl Traces {
 
     // Makes room for the marks of exactly `names` names. New names are open. On an error nothing changes.
     pub(crate) fn cover(&mut self, names: usize) -> Result<(), AllocError>
-        ensures ok { OnOk result (self.new ≡ with_names names self.old) }
+        ensures ok { OnOk result (self.new ≡ trace_with_names names self.old) }
         ensures err { OnErr result (self.new ≡ self.old) }
     {
         self.marks.resize(names, Mark::Open)
@@ -96,7 +97,7 @@ impl Traces {
     }
 
     // Returns the names that were entered. All names with a mark other than open are among them.
-    pub(crate) fn entered(&self) -> &[usize]
+    pub(crate) fn entered_names(&self) -> &[usize]
         ensures { result.now ≡ self.now.entered }
     {
         &self.entered

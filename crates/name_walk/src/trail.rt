@@ -4,7 +4,7 @@ ghost use Rattle.std.specs.Prelude.{◌≡◌, ◌<◌, length, ℕ, slice_get};
 ghost use Rattle.std.specs.Prelude.{nat_eq};
 ghost use Rattle.std.specs.List.{IsDistinct};
 ghost use Rattle.name_walk.specs.Lists.{In};
-ghost use Rattle.name_walk.specs.Noted.{AreNoted, end_for, passed};
+ghost use Rattle.name_walk.specs.PathRecords.{AreNoted, end_for, ending_above};
 ghost use Rattle.name_walk.specs.Traces.{path, without_frames};
 
 use crate::step::Step;
@@ -40,7 +40,7 @@ impl Ending {
 
     // Returns how the names above `name` come to the fault.
     fn above(self, name: usize) -> Ending
-        ensures { result ≡ passed self name }
+        ensures { result ≡ ending_above self name }
     {
         match self {
             Ending::At(end) => Ending::At(end),

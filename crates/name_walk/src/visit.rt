@@ -1,24 +1,24 @@
 //! The visit of one name and everything that it reaches.
 
 ghost use Rattle.std.specs.Prelude.{◌≡◌, ◌<◌, length, IfOk};
-ghost use Rattle.name_walk.specs.Nets.{IsNet};
+ghost use Rattle.name_walk.specs.Nets.{IsConsistentGraph};
 ghost use Rattle.name_walk.specs.Traces.{AreEntered};
-ghost use Rattle.name_walk.specs.Visits.{IsBetween, IsFound, IsVisited};
+ghost use Rattle.name_walk.specs.Visits.{IsBetween, IsMarkFound, IsVisited};
 ghost use Rattle.name_walk.specs.declared.mark.Mark.TheVariants.{Open};
 
 use crate::chain::chain;
 use crate::fault::Fault;
 use crate::mark::Mark;
-use crate::net::Net;
+use crate::net::WalkGraph;
 use crate::step::Step;
 use crate::traces::{Frame, Traces};
 use std::alloc::{AllocError, Global};
 
 // Returns the mark of a name. A settled name counts as closed.
-pub(crate) fn mark_of(net: &Net, traces: &Traces, name: usize) -> Mark
+pub(crate) fn mark_of(net: &WalkGraph, traces: &Traces, name: usize) -> Mark
     requires settled { name < length net.now.settled.now }
     requires marked { name < length traces.now.marks }
-    ensures { IsFound net.now.settled.now traces.now.marks name result }
+    ensures { IsMarkFound net.now.settled.now traces.now.marks name result }
 {
     if net.settled[name] {
         return Mark::Closed;
@@ -31,13 +31,13 @@ pub(crate) fn mark_of(net: &Net, traces: &Traces, name: usize) -> Mark
 // no list.
 pub(crate) fn visit(
     alloc: Global,
-    net: &Net,
+    net: &WalkGraph,
     start: usize,
     traces: &mut Traces,
 ) -> Result<Option<Fault>, AllocError>
-    requires net { IsNet net.now.steps.now net.now.settled.now }
+    requires net { IsConsistentGraph net.now.steps.now net.now.settled.now }
     requires between { IsBetween net.now.steps.now net.now.settled.now traces.old }
-    requires fresh { IsFound net.now.settled.now traces.old.marks start Open }
+    requires fresh { IsMarkFound net.now.settled.now traces.old.marks start Open }
     ensures entered { AreEntered traces.new.marks traces.new.entered }
     ensures size { length traces.new.marks ≡ length traces.old.marks }
     ensures visited { IfOk result (IsVisited net.now.steps.now net.now.settled.now start traces.old traces.new) }

@@ -1,15 +1,15 @@
 //! The walk of a query.
 
 ghost use Rattle.std.specs.Prelude.{◌≡◌, ◌+◌, [], length, IfOk, OnOk, OnErr};
-ghost use Rattle.name_walk.specs.Nets.{IsNet};
-ghost use Rattle.name_walk.specs.Steps.{AreKnown};
+ghost use Rattle.name_walk.specs.Nets.{IsConsistentGraph};
+ghost use Rattle.name_walk.specs.Steps.{StayInGraph};
 ghost use Rattle.name_walk.specs.Traces.{AreEntered};
 ghost use Rattle.name_walk.specs.Visits.{IsBetween};
 ghost use Rattle.name_walk.specs.Walks.{IsWalked};
 
 use crate::fault::Fault;
 use crate::mark::Mark;
-use crate::net::Net;
+use crate::net::WalkGraph;
 use crate::step::Step;
 use crate::traces::Traces;
 use crate::visit::{mark_of, visit};
@@ -61,11 +61,11 @@ impl Walker {
     pub fn walk(
         &mut self,
         alloc: Global,
-        net: &Net,
+        net: &WalkGraph,
         query: &[Step],
     ) -> Result<Option<Fault>, AllocError>
-        requires net { IsNet net.now.steps.now net.now.settled.now }
-        requires query { AreKnown net.now.steps.now query.now }
+        requires net { IsConsistentGraph net.now.steps.now net.now.settled.now }
+        requires query { StayInGraph net.now.steps.now query.now }
         ensures walked { IfOk result
             (IsWalked net.now.steps.now net.now.settled.now query.now self.new) }
     {
@@ -80,12 +80,12 @@ impl Walker {
 // Goes through the steps of a query, in order, and returns the first fault.
 fn visit_each(
     alloc: Global,
-    net: &Net,
+    net: &WalkGraph,
     query: &[Step],
     traces: &mut Traces,
 ) -> Result<Option<Fault>, AllocError>
-    requires net { IsNet net.now.steps.now net.now.settled.now }
-    requires query { AreKnown net.now.steps.now query.now }
+    requires net { IsConsistentGraph net.now.steps.now net.now.settled.now }
+    requires query { StayInGraph net.now.steps.now query.now }
     requires between { IsBetween net.now.steps.now net.now.settled.now traces.old }
     requires nothing { traces.old.order ≡ [] }
     ensures entered { AreEntered traces.new.marks traces.new.entered }

@@ -3,7 +3,7 @@
 ghost use Rattle.std.specs.Prelude.{◌≡◌, IfOk};
 ghost use Rattle.std.specs.Fmt.{decimal};
 ghost use Rattle.number_calls.specs.Answers as spec;
-ghost use Rattle.frac128.specs.Decimals.{read};
+ghost use Rattle.frac128.specs.Decimals.{numeral_reading};
 ghost use Rattle.frac128.specs.Numerals.{numeral_len_of};
 
 use crate::call::{Call, Step};
@@ -76,7 +76,7 @@ fn length_answer(alloc: Global, bytes: &[u8]) -> Result<Text, AllocError>
 
 // Returns the text of the value of a numeral, or of a fault.
 fn numeral_answer(alloc: Global, bytes: &[u8]) -> Result<Text, AllocError>
-    ensures { IfOk result (λ text. text ≡ spec.numeral_text (read bytes.now)) }
+    ensures { IfOk result (λ text. text ≡ spec.numeral_text (numeral_reading bytes.now)) }
 {
     match read_numeral(bytes) {
         Ok(numeral) => fraction_answer(alloc, numeral.value()),

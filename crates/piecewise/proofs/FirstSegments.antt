@@ -8,10 +8,11 @@ use Rattle.std.specs.List.Sorted.{IsPartitionPoint, IsPartitionedBy}
 use Rattle.std.specs.Ordering.{is_le, is_lt, ordering_reverse}
 use Rattle.std.proofs.lemmas.List.Elements.{All-get_or, All-head, All-more, All-nil, All-tail}
 use Rattle.frac128.specs.Fraction.{Fraction}
-use Rattle.frac128.specs.Order.{OrderLaw, compared}
+use Rattle.frac128.specs.Order.{OrderLaw, order_of}
 use Rattle.piecewise.specs.Lines.{Point}
 use Rattle.piecewise.specs.Points.{ArePoints, rises}
-use Rattle.piecewise.specs.Tables.{are_around, holds_x, holds_y, segments, x_at, x_on, y_at, y_on, given_by, numbered}
+use Rattle.piecewise.specs.Tables.{are_around, holds_x, holds_y, segments, x_at, x_on, y_at, y_on, number_or_fault}
+use Rattle.piecewise.specs.Tables.{value_on}
 use Rattle.piecewise.specs.declared.fault.TableFault.TheVariants.{OutsideTable}
 use Rattle.std.proofs.lemmas.List.{get_or_default, get_or_read}
 use Rattle.piecewise.proofs.Neighbours.{AreNeighbours, both, between-around, compared-reverse, drop-left, drop-right}
@@ -33,7 +34,7 @@ segments-last (p ∷ q ∷ points) (suc i) h = segments-last (q ∷ points) i (o
 
 -- the search for y continues after neighbours that are not around it
 pub find-y_more : (points : List Point) (i : ℕ) (p q : Point) (y : Fraction) → AreNeighbours points i p q
-    → are_around (compared p.1 y) (compared q.1 y) ≡ false
+    → are_around (order_of p.1 y) (order_of q.1 y) ≡ false
     → find (holds_y y) (segments (drop (i - 1) points)) ≡ find (holds_y y) (segments (drop i points))
 find-y_more points i p q y are other =
     ap (find (holds_y y)) (segments-left points i p q are)
@@ -42,7 +43,7 @@ find-y_more points i p q y are other =
 
 -- the search for y ends at neighbours that are around it
 pub find-y_here : (points : List Point) (i : ℕ) (p q : Point) (y : Fraction) → AreNeighbours points i p q
-    → are_around (compared p.1 y) (compared q.1 y) ≡ true
+    → are_around (order_of p.1 y) (order_of q.1 y) ≡ true
     → find (holds_y y) (segments (drop (i - 1) points)) ≡ Some (record { left = p; right = q })
 find-y_here points i p q y are around =
     ap (find (holds_y y)) (segments-left points i p q are)
@@ -61,8 +62,8 @@ less_is Equal h = absurd (cc)
 less_is Greater h = absurd (cc)
 
 -- the test for at most is the negation of the test for less with the numbers exchanged
-le-less : (a b : Fraction) (t : Bool) → is_lt (compared b a) ≡ not t → is_le (compared a b) ≡ t
-le-less a b t h = ap is_le (compared-reverse a b) ∙ by_order (compared b a) t h
+le-less : (a b : Fraction) (t : Bool) → is_lt (order_of b a) ≡ not t → is_le (order_of a b) ≡ t
+le-less a b t h = ap is_le (compared-reverse a b) ∙ by_order (order_of b a) t h
   where
     by_order : (o : Ordering) (t : Bool) → is_lt o ≡ not t → is_le (ordering_reverse o) ≡ t
     by_order Less true h = absurd (cc)
@@ -104,14 +105,14 @@ rising-tail p (q ∷ points) are =
     record { rise = (both _ _ are.rise).1; denominators = All-tail IsKnown p (q ∷ points) are.denominators }
 
 -- if points are increasing, the first is less than the second
-rising-next : (p q : Point) (points : List Point) → AreRising (p ∷ q ∷ points) → compared p.0 q.0 ≡ Less
+rising-next : (p q : Point) (points : List Point) → AreRising (p ∷ q ∷ points) → order_of p.0 q.0 ≡ Less
 unfolding rises
 rising-next p q points are = less_is _ (both _ _ are.rise).0
 
 -- if points are increasing, the first is less than each other one
 rising-first : OrderLaw → (p : Point) (points : List Point) → AreRising (p ∷ points) → (j : ℕ) (d : Point)
     → j < length points
-    → compared p.0 (get_or points j d).0 ≡ Less
+    → order_of p.0 (get_or points j d).0 ≡ Less
 rising-first law p [] are j d h = absurd (omega arith)
 rising-first law p (q ∷ points) are zero d h = rising-next p q points are
 rising-first law p (q ∷ points) are (suc j) d h =
@@ -125,7 +126,7 @@ rising-first law p (q ∷ points) are (suc j) d h =
 
 -- the x of a point is less than x
 abbrev pub is_left : Fraction → Point → Bool
-is_left x p = is_lt (compared p.0 x)
+is_left x p = is_lt (order_of p.0 x)
 
 -- the points with a lesser x precede all others
 pub rising-partitioned : OrderLaw → (x : Fraction) → 0 < x.den → (points : List Point) → AreRising points
@@ -144,15 +145,15 @@ rising-partitioned law x some (p ∷ points) are (suc i) (suc j) d low within le
 
 -- no segment contains a number below the first x
 find-x_before : OrderLaw → (x : Fraction) → 0 < x.den → (p : Point) (points : List Point) → AreRising (p ∷ points)
-    → compared x p.0 ≡ Less → find (holds_x x) (segments (p ∷ points)) ≡ None
+    → order_of x p.0 ≡ Less → find (holds_x x) (segments (p ∷ points)) ≡ None
 find-x_before law x some p [] are h = refl
 find-x_before law x some p (q ∷ points) are h =
     let rest = rising-tail p (q ∷ points) are in
-    let low : is_le (compared p.0 x) ≡ false = le-less p.0 x false (ap is_lt h) in
+    let low : is_le (order_of p.0 x) ≡ false = le-less p.0 x false (ap is_lt h) in
     let next =
     law.1 x p.0 q.0 some (All-head IsKnown p (q ∷ points) are.denominators)
     (All-head IsKnown q points rest.denominators) h (rising-next p q points are) in
-    ap (λ b. cond (b && is_le (compared x q.0)) (Some (record { left = p; right = q }))
+    ap (λ b. cond (b && is_le (order_of x q.0)) (Some (record { left = p; right = q }))
     (find (holds_x x) (segments (q ∷ points)))) low
     ∙ find-x_before law x some q points rest next
 
@@ -161,7 +162,7 @@ find-x_more : (x : Fraction) (p q : Point) (points : List Point) → is_left x q
     → find (holds_x x) (segments (p ∷ q ∷ points)) ≡ find (holds_x x) (segments (q ∷ points))
 find-x_more x p q points left =
     ap (λ b. cond b (Some (record { left = p; right = q })) (find (holds_x x) (segments (q ∷ points))))
-    (and-false (is_le (compared p.0 x)) (is_le (compared x q.0)) (le-less x q.0 false left))
+    (and-false (is_le (order_of p.0 x)) (is_le (order_of x q.0)) (le-less x q.0 false left))
 
 -- if all x but the first are less than a number, no segment contains it
 find-x_past : (x : Fraction) (d : Point) (points : List Point)
@@ -177,7 +178,7 @@ find-x_past x d (p ∷ q ∷ points) left =
 record IsFirst (x : Fraction) (d : Point) (points : List Point) (r : ℕ) : Type 0 where
   within : suc r < length points
   left : (k : ℕ) → 0 < k → k < suc r → is_left x (get_or points k d) ≡ true
-  low : is_lt (compared x (get_or points r d).0) ≡ false
+  low : is_lt (order_of x (get_or points r d).0) ≡ false
   high : is_left x (get_or points (suc r) d) ≡ false
 
 -- the search finds the segment of the points at r and r + 1 if it is the first that contains x
@@ -186,7 +187,7 @@ find-x_here : (x : Fraction) (d : Point) (points : List Point) (r : ℕ) → IsF
 find-x_here x d [] r is = let h = is.within in absurd (omega arith)
 find-x_here x d (p ∷ []) r is = let h = is.within in absurd (omega arith)
 find-x_here x d (p ∷ q ∷ points) zero is =
-    ap (λ b. cond (b && is_le (compared x q.0)) (Some (record { left = p; right = q }))
+    ap (λ b. cond (b && is_le (order_of x q.0)) (Some (record { left = p; right = q }))
     (find (holds_x x) (segments (q ∷ points)))) (le-less p.0 x true is.low)
     ∙ ap (λ b. cond b (Some (record { left = p; right = q })) (find (holds_x x) (segments (q ∷ points))))
     (le-less x q.0 true is.high)
@@ -213,27 +214,27 @@ pub y_at-past : (x : Fraction) (points : List Point) (count place : ℕ) → IsP
 unfolding y_at
 y_at-past x [] count place is last = absurd (omega arith)
 y_at-past x (p ∷ points) count place is last =
-    sym (ap (given_by (y_on x))
+    sym (ap (value_on (y_on x))
     (find-x_past x p (p ∷ points) (λ k some within. is.parted.0 k p (omega arith) (omega arith))))
 
 -- if the number is less than the x of the left point, it is outside the table
 pub y_at-before : OrderLaw → (x : Fraction) → 0 < x.den → (points : List Point) (count place : ℕ) (left : Point)
     → AreRising points → IsPlace x points count place
-    → left ≡ get_or points (place - 1) left → is_lt (compared x left.0) ≡ true → place ≤ length points
+    → left ≡ get_or points (place - 1) left → is_lt (order_of x left.0) ≡ true → place ≤ length points
     → Err OutsideTable ≡ y_at points x
 unfolding y_at
 y_at-before law x some [] count place left are is left_is h within = absurd (omega arith)
 y_at-before law x some (p ∷ points) zero place left are is left_is h within =
     let first : left ≡ p = left_is ∙ ap (λ k. get_or (p ∷ points) k left) (zero_is place is.place_is) in
-    sym (ap (given_by (y_on x))
-    (find-x_before law x some p points are (ap (λ q. compared x q.0) (sym first) ∙ less_is _ h)))
+    sym (ap (value_on (y_on x))
+    (find-x_before law x some p points are (ap (λ q. order_of x q.0) (sym first) ∙ less_is _ h)))
   where
     zero_is : (place : ℕ) → place ≡ max 0 1 → place - 1 ≡ 0
     zero_is place e = omega arith
 y_at-before law x some (p ∷ points) (suc count) place left are is left_is h within =
     let at : is_left x left ≡ true = ap (is_left x) left_is
     ∙ is.parted.0 (place - 1) left (omega arith) (omega arith) in
-    absurd (clash (compared x left.0) (less_is _ h) (compared-reverse x left.0 ∙ ap ordering_reverse (less_is _ at)))
+    absurd (clash (order_of x left.0) (less_is _ h) (compared-reverse x left.0 ∙ ap ordering_reverse (less_is _ at)))
   where
     clash : (o : Ordering) → o ≡ Less → o ≡ Greater → ⊥
     clash o a b = cc
@@ -242,7 +243,8 @@ y_at-before law x some (p ∷ points) (suc count) place left are is left_is h wi
 pub y_at-here : (x : Fraction) (points : List Point) (count place : ℕ) (left right : Point)
     → IsPlace x points count place
     → AreNeighbours points place left right
-    → is_lt (compared x left.0) ≡ false → y_at points x ≡ numbered (y_on x (record { left = left; right = right }))
+    → is_lt (order_of x left.0) ≡ false → y_at points x ≡ number_or_fault
+    (y_on x (record { left = left; right = right }))
 unfolding y_at
 y_at-here x points count place left right is are low =
     let shift : suc (place - 1) ≡ place = shifted place are.some in
@@ -253,11 +255,11 @@ y_at-here x points count place left right is are low =
     let found = find-x_here x right points (place - 1) (record {
       within = rw shift are.within;
       left = λ k some within. is.parted.0 k right (omega arith) (omega arith);
-      low = ap (λ p. is_lt (compared x p.0)) (sym left_is) ∙ low;
+      low = ap (λ p. is_lt (order_of x p.0)) (sym left_is) ∙ low;
       high = ap (is_left x) (sym right_is) ∙ ap (is_left x) are.right
           ∙ is.parted.1 place right (omega arith) (omega arith);
     }) in
-    ap (given_by (y_on x))
+    ap (value_on (y_on x))
     (found ∙ ap (λ p. Some (record { left = p; right = get_or points (suc (place - 1)) right })) (sym left_is)
     ∙ ap (λ p. Some (record { left = left; right = p })) (sym right_is))
   where
@@ -269,13 +271,13 @@ y_at-here x points count place left right is are low =
 
 -- the search for y has reached the index i, and its result from there on is that of all points
 pub record IsSearched (points : List Point) (y : Fraction) (i : ℕ) (before : Ordering) : Type 0 where
-  pub before_is : (p : Point) → before ≡ compared (get_or points (i - 1) p).1 y
+  pub before_is : (p : Point) → before ≡ order_of (get_or points (i - 1) p).1 y
   pub rest : find (holds_y y) (segments (drop (i - 1) points)) ≡ find (holds_y y) (segments points)
 
 -- the search continues after neighbours that are not around y
 pub x_at-more : (points : List Point) (y : Fraction) (i : ℕ) (before after : Ordering) (right : Point)
     → IsSearched points y i before → 0 < i → i < length points
-    → right ≡ get_or points i right → after ≡ compared right.1 y → are_around before after ≡ false
+    → right ≡ get_or points i right → after ≡ order_of right.1 y → are_around before after ≡ false
     → IsSearched points y (i + 1) after
 x_at-more points y i before after right is some within right_is after_is other =
     let left = get_or points (i - 1) right in
@@ -285,11 +287,11 @@ x_at-more points y i before after right is some within right_is after_is other =
       left = get_or_default points (i - 1) right left (before_within i (length points) within);
       right = right_is;
     } in
-    let same : are_around before after ≡ are_around (compared left.1 y) (compared right.1 y) =
-    ap (λ o. are_around o after) (is.before_is right) ∙ ap (are_around (compared left.1 y)) after_is in
+    let same : are_around before after ≡ are_around (order_of left.1 y) (order_of right.1 y) =
+    ap (λ o. are_around o after) (is.before_is right) ∙ ap (are_around (order_of left.1 y)) after_is in
     record {
-      before_is = λ p. after_is ∙ ap (λ r. compared r.1 y) (get_or_read points i right within right_is p)
-          ∙ ap (λ k. compared (get_or points k p).1 y) (sym (back i));
+      before_is = λ p. after_is ∙ ap (λ r. order_of r.1 y) (get_or_read points i right within right_is p)
+          ∙ ap (λ k. order_of (get_or points k p).1 y) (sym (back i));
       rest = ap (λ k. find (holds_y y) (segments (drop k points))) (back i)
           ∙ sym (find-y_more points i left right y are (sym same ∙ other)) ∙ is.rest;
     }
@@ -303,18 +305,18 @@ x_at-more points y i before after right is some within right_is after_is other =
 -- the search ends at neighbours that are around y
 pub x_at-here : (points : List Point) (y : Fraction) (i : ℕ) (before after : Ordering) (left right : Point)
     → IsSearched points y i before → AreNeighbours points i left right
-    → after ≡ compared right.1 y → are_around before after ≡ true
-    → x_at points y ≡ numbered (x_on y (record { left = left; right = right }))
+    → after ≡ order_of right.1 y → are_around before after ≡ true
+    → x_at points y ≡ number_or_fault (x_on y (record { left = left; right = right }))
 unfolding x_at
 x_at-here points y i before after left right is are after_is around =
-    let same : are_around before after ≡ are_around (compared left.1 y) (compared right.1 y) =
-    ap (λ o. are_around o after) (is.before_is left ∙ ap (λ p. compared p.1 y) (sym are.left))
-    ∙ ap (are_around (compared left.1 y)) after_is in
-    ap (given_by (x_on y)) (sym is.rest ∙ find-y_here points i left right y are (sym same ∙ around))
+    let same : are_around before after ≡ are_around (order_of left.1 y) (order_of right.1 y) =
+    ap (λ o. are_around o after) (is.before_is left ∙ ap (λ p. order_of p.1 y) (sym are.left))
+    ∙ ap (are_around (order_of left.1 y)) after_is in
+    ap (value_on (x_on y)) (sym is.rest ∙ find-y_here points i left right y are (sym same ∙ around))
 
 -- the search ends after the last point
 pub x_at-past : (points : List Point) (y : Fraction) (i : ℕ) (before : Ordering) → IsSearched points y i before
     → length points ≡ i - 1 + 1 → Err OutsideTable ≡ x_at points y
 unfolding x_at
 x_at-past points y i before is last =
-    ap (given_by (x_on y)) (ap (find (holds_y y)) (sym (segments-last points (i - 1) last)) ∙ is.rest)
+    ap (value_on (x_on y)) (ap (find (holds_y y)) (sym (segments-last points (i - 1) last)) ∙ is.rest)

@@ -9,7 +9,7 @@ use Rattle.std.proofs.lemmas.List.{drop_more}
 use Rattle.std.proofs.lemmas.Bool.Decides.{nat_tests}
 use Rattle.std.proofs.lemmas.Cmp.{int_cmp_total}
 use Rattle.frac128.specs.Fraction.{Fraction}
-use Rattle.frac128.specs.Order.{compared}
+use Rattle.frac128.specs.Order.{order_of}
 use Rattle.piecewise.specs.Lines.{Point}
 use Rattle.piecewise.specs.Points.{is_table, rises}
 use Rattle.piecewise.specs.Tables.{are_around, is_from_to}
@@ -48,21 +48,21 @@ drop-left points i p q are =
 
 -- the points are increasing from a point on if it is less than the next and they are increasing from there on
 pub rises-left : (points : List Point) (i : ℕ) (p q : Point) → AreNeighbours points i p q
-    → rises (drop (i - 1) points) ≡ (is_lt (compared p.0 q.0) && rises (drop i points))
+    → rises (drop (i - 1) points) ≡ (is_lt (order_of p.0 q.0) && rises (drop i points))
 unfolding rises
 rises-left points i p q are =
     ap rises (drop-left points i p q are)
-    ∙ sym (ap (λ xs. is_lt (compared p.0 q.0) && rises xs) (drop-right points i p q are))
+    ∙ sym (ap (λ xs. is_lt (order_of p.0 q.0) && rises xs) (drop-right points i p q are))
 
 -- the order of the neighbours is that of the points at their indices
 same_order : {points : List Point} {i : ℕ} {p q : Point} → AreNeighbours points i p q
-    → compared p.0 q.0 ≡ compared (get_or points (i - 1) p).0 (get_or points i q).0
-same_order {points} {i} {p} {q} are = ap (λ r. compared r.0 q.0) are.left
-    ∙ ap (λ r. compared (get_or points (i - 1) p).0 r.0) are.right
+    → order_of p.0 q.0 ≡ order_of (get_or points (i - 1) p).0 (get_or points i q).0
+same_order {points} {i} {p} {q} are = ap (λ r. order_of r.0 q.0) are.left
+    ∙ ap (λ r. order_of (get_or points (i - 1) p).0 r.0) are.right
 
 -- if a point is not less than the next one, the points are not increasing
 pub rises-stop : (points : List Point) (i : ℕ) (p q : Point) (less : Bool) → AreNeighbours points i p q
-    → less ≡ is_lt (compared (get_or points (i - 1) p).0 (get_or points i q).0)
+    → less ≡ is_lt (order_of (get_or points (i - 1) p).0 (get_or points i q).0)
     → less ≡ false → rises (drop (i - 1) points) ≡ rises points → false ≡ rises points
 rises-stop points i p q less are less_is none rest =
     ap (λ b. b && rises (drop i points)) (sym none ∙ less_is ∙ sym (ap is_lt (same_order are)))
@@ -70,7 +70,7 @@ rises-stop points i p q less are less_is none rest =
 
 -- if a point is less than the next one, the points are increasing if they are from the next one on
 pub rises-on : (points : List Point) (i : ℕ) (p q : Point) (less : Bool) → AreNeighbours points i p q
-    → less ≡ is_lt (compared (get_or points (i - 1) p).0 (get_or points i q).0)
+    → less ≡ is_lt (order_of (get_or points (i - 1) p).0 (get_or points i q).0)
     → less ≡ true → rises (drop (i - 1) points) ≡ rises points → rises (drop (i + 1 - 1) points) ≡ rises points
 rises-on points i p q less are less_is some rest =
     ap (λ k. rises (drop k points)) (back i)
@@ -90,13 +90,13 @@ rises-last (p ∷ q ∷ points) zero h = absurd (omega arith)
 rises-last (p ∷ q ∷ points) (suc i) h = rises-last (q ∷ points) i (omega arith)
 
 -- exchanging two numbers reverses their order
-pub compared-reverse : (a b : Fraction) → compared a b ≡ ordering_reverse (compared b a)
+pub compared-reverse : (a b : Fraction) → order_of a b ≡ ordering_reverse (order_of b a)
 compared-reverse a b = int_cmp_total.antisymm (a.num *ℤ pos b.den) (b.num *ℤ pos a.den)
 
 -- a number is between two others if and only if they are around it
 pub between-around : (a b y : Fraction)
-    → (is_from_to a b y || is_from_to b a y) ≡ are_around (compared a y) (compared b y)
-between-around a b y = rw (compared-reverse y b, compared-reverse y a) (by_order (compared a y) (compared b y))
+    → (is_from_to a b y || is_from_to b a y) ≡ are_around (order_of a y) (order_of b y)
+between-around a b y = rw (compared-reverse y b, compared-reverse y a) (by_order (order_of a y) (order_of b y))
   where
     by_order : (left right : Ordering)
         → (is_le left && is_le (ordering_reverse right) || is_le right && is_le (ordering_reverse left))

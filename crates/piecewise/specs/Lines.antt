@@ -2,7 +2,7 @@
 use Rattle.std.specs.Prelude.{Result}
 use Rattle.frac128.specs.declared.fault.FracFault.{FracFault}
 use Rattle.frac128.specs.Fraction.{Fraction}
-use Rattle.frac128.specs.Steps.{◌>>=◌, over, times}
+use Rattle.frac128.specs.Steps.{◌>>=◌, fraction_product, fraction_quotient}
 use Rattle.frac128.specs.Sums.{minus, plus}
 
 -- a point, by its x and its y
@@ -14,11 +14,11 @@ unfoldable pub on_line : Point → Point → Fraction → Result Fraction FracFa
 on_line p q x = do
   rise ← minus q.1 p.1
   run ← minus x p.0
-  product ← times rise run
+  product ← fraction_product rise run
   width ← minus q.0 p.0
-  part ← over product width
+  part ← fraction_quotient product width
   plus p.1 part
 
 -- the point with x and y exchanged
-abbrev pub exchanged : Point → Point
-exchanged p = (p.1, p.0)
+abbrev pub swapped_point : Point → Point
+swapped_point p = (p.1, p.0)

@@ -2,14 +2,14 @@
 use Rattle.std.specs.Prelude.{◌≡◌, ◌<◌, ◌&&◌, Bool, true, IsTrue, IsFalse, nat_le, List, ◌∷◌, length, All}
 use Rattle.std.specs.Prelude.{Result, Ok, Err}
 use Rattle.std.specs.Ordering.{is_lt}
-use Rattle.frac128.specs.Order.{compared}
+use Rattle.frac128.specs.Order.{order_of}
 use Rattle.piecewise.specs.Lines.{Point}
 use Rattle.piecewise.specs.declared.fault.PointsFault.{PointsFault}
 use Rattle.piecewise.specs.declared.fault.PointsFault.TheVariants.{BadPoints, OutOfMemory}
 
 -- each x is less than the next one
 unfoldable pub rises : List Point → Bool
-rises (p ∷ q ∷ points) = is_lt (compared p.0 q.0) && rises (q ∷ points)
+rises (p ∷ q ∷ points) = is_lt (order_of p.0 q.0) && rises (q ∷ points)
 rises _ = true
 
 -- from 2 to 1,000 points with strictly increasing x
@@ -22,7 +22,7 @@ pub record ArePoints (points : List Point) : Type 0 where
   pub denominators : All (λ p. 0 < p.0.den) points
 
 -- the result of making a table from a list of points
-abbrev pub IsMade : List Point → Result (List Point) PointsFault → Type 0
-IsMade points (Ok made) = IsTrue (is_table points) × (made ≡ points)
-IsMade points (Err BadPoints) = IsFalse (is_table points)
-IsMade points (Err OutOfMemory) = IsTrue (is_table points)
+abbrev pub IsPointsResult : List Point → Result (List Point) PointsFault → Type 0
+IsPointsResult points (Ok made) = IsTrue (is_table points) × (made ≡ points)
+IsPointsResult points (Err BadPoints) = IsFalse (is_table points)
+IsPointsResult points (Err OutOfMemory) = IsTrue (is_table points)

@@ -6,8 +6,8 @@ use Rattle.std.specs.declared.cmp.Ordering.TheVariants.{Less, Greater}
 use Rattle.std.specs.Ordering.{is_eq, is_le}
 use Rattle.frac128.specs.declared.fault.FracFault.{FracFault}
 use Rattle.frac128.specs.Fraction.{Fraction}
-use Rattle.frac128.specs.Order.{compared}
-use Rattle.piecewise.specs.Lines.{Point, exchanged, on_line}
+use Rattle.frac128.specs.Order.{order_of}
+use Rattle.piecewise.specs.Lines.{Point, on_line, swapped_point}
 use Rattle.piecewise.specs.declared.fault.TableFault.{TableFault}
 use Rattle.piecewise.specs.declared.fault.TableFault.TheVariants.{OutsideTable, Number}
 
@@ -23,7 +23,7 @@ segments _ = []
 
 -- a is between low and high, inclusive
 abbrev pub is_from_to : Fraction → Fraction → Fraction → Bool
-is_from_to low high a = is_le (compared low a) && is_le (compared a high)
+is_from_to low high a = is_le (order_of low a) && is_le (order_of a high)
 
 -- x is between the two x of the segment, inclusive
 abbrev pub holds_x : Fraction → Segment → Bool
@@ -46,25 +46,25 @@ y_on x s = on_line s.left s.right x
 -- the x at y on the segment, or the x of its left end if the segment is flat
 abbrev pub x_on : Fraction → Segment → Result Fraction FracFault
 x_on y s =
-    if is_eq (compared s.left.1 s.right.1)
+    if is_eq (order_of s.left.1 s.right.1)
     then Ok s.left.0
-    else on_line (exchanged s.left) (exchanged s.right) y
+    else on_line (swapped_point s.left) (swapped_point s.right) y
 
 -- the number, or the fault of the operation that failed
-abbrev pub numbered : Result Fraction FracFault → Result Fraction TableFault
-numbered (Ok x) = Ok x
-numbered (Err fault) = Err (Number fault)
+abbrev pub number_or_fault : Result Fraction FracFault → Result Fraction TableFault
+number_or_fault (Ok x) = Ok x
+number_or_fault (Err fault) = Err (Number fault)
 
 -- the value on the segment, or `OutsideTable` if there is no segment
-abbrev pub given_by : (Segment → Result Fraction FracFault) → Option Segment
+abbrev pub value_on : (Segment → Result Fraction FracFault) → Option Segment
     → Result Fraction TableFault
-given_by value None = Err OutsideTable
-given_by value (Some s) = numbered (value s)
+value_on value None = Err OutsideTable
+value_on value (Some s) = number_or_fault (value s)
 
 -- the y at x, on the first segment that contains x
 unfoldable pub y_at : List Point → Fraction → Result Fraction TableFault
-y_at points x = given_by (y_on x) (find (holds_x x) (segments points))
+y_at points x = value_on (y_on x) (find (holds_x x) (segments points))
 
 -- the x at y, on the first segment that contains y
 unfoldable pub x_at : List Point → Fraction → Result Fraction TableFault
-x_at points y = given_by (x_on y) (find (holds_y y) (segments points))
+x_at points y = value_on (x_on y) (find (holds_y y) (segments points))

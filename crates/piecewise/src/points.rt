@@ -3,7 +3,7 @@
 ghost use Rattle.std.specs.Prelude.{◌≡◌, ◌<◌, IfOk, All, length};
 ghost use Rattle.std.specs.Bool.{OnTrue};
 ghost use Rattle.std.specs.Ordering.{is_lt};
-ghost use Rattle.frac128.specs.Order.{compared};
+ghost use Rattle.frac128.specs.Order.{order_of};
 ghost use Rattle.piecewise.specs.Points as point_spec;
 ghost use Rattle.piecewise.specs.Tables as spec;
 
@@ -45,7 +45,7 @@ impl Points {
     /// Creates a table of these points, each an x and its y. The error is `BadPoints` if there are fewer than 2 points
     /// or more than 1,000, or if the x are not strictly increasing.
     pub fn new(alloc: Global, pairs: &[(Frac, Frac)]) -> Result<Points, PointsFault>
-        ensures { point_spec.IsMade pairs.now result }
+        ensures { point_spec.IsPointsResult pairs.now result }
     {
         if pairs.len() < FEWEST || pairs.len() > MOST || !rises(pairs) {
             return Err(PointsFault::BadPoints);
@@ -116,7 +116,7 @@ fn rises(points: &[Point]) -> bool
 
 // Reports whether one number is less than another. The denominators are those of fractions.
 fn is_less(left: &Frac, right: &Frac) -> bool
-    ensures order { result ≡ is_lt (compared left.now right.now) }
+    ensures order { result ≡ is_lt (order_of left.now right.now) }
     ensures denominators { (0 < left.now.den) × (0 < right.now.den) }
 {
     left.cmp(right).is_lt()
@@ -134,7 +134,7 @@ fn encloses(left: Ordering, right: Ordering) -> bool
 
 // Returns the y at x on the segment.
 fn y_on(left: &Point, right: &Point, x: &Frac) -> Result<Frac, TableFault>
-    ensures { result ≡ spec.numbered (spec.y_on x.now (record { left = left.now; right = right.now })) }
+    ensures { result ≡ spec.number_or_fault (spec.y_on x.now (record { left = left.now; right = right.now })) }
 {
     let line = Line {
         x0: &left.0,
@@ -147,7 +147,7 @@ fn y_on(left: &Point, right: &Point, x: &Frac) -> Result<Frac, TableFault>
 
 // Returns the x at y on the segment, or the x of its left end if it is flat.
 fn x_on(left: &Point, right: &Point, y: &Frac) -> Result<Frac, TableFault>
-    ensures { result ≡ spec.numbered (spec.x_on y.now (record { left = left.now; right = right.now })) }
+    ensures { result ≡ spec.number_or_fault (spec.x_on y.now (record { left = left.now; right = right.now })) }
 {
     if left.1.cmp(&right.1).is_eq() {
         return Ok(left.0);

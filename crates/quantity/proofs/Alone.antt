@@ -7,7 +7,7 @@ use Rattle.std.specs.Ordering.{match_ordering}
 use Rattle.frac128.specs.Fraction.{Fraction, IsReduced}
 use Rattle.frac128.specs.Sign.{is_zero}
 use Rattle.quantity.specs.Exponents.{exponent_sum}
-use Rattle.quantity.specs.Merges.{Powers, are_exponents, as_exponent, merged, put_some, power_by}
+use Rattle.quantity.specs.Merges.{Powers, are_exponents, as_exponent, merge_of, put_some, power_by}
 use Rattle.quantity.proofs.Joins.{as_none, as_some}
 use Rattle.quantity.proofs.Ranges.{fault_stays}
 use Rattle.quantity.proofs.Names.{Name, by_bytes}
@@ -41,10 +41,10 @@ alone_one name e v es answer stays one =
 
 -- two powers of the same name merge to their sum
 pub one_both : (step : Fraction → Fraction) (p o : Name × Fraction) → p.0 ≡ o.0
-    → merged step (p ∷ []) (o ∷ []) ≡ put_some (p.0, exponent_sum p.1 (step o.1)) []
+    → merge_of step (p ∷ []) (o ∷ []) ≡ put_some (p.0, exponent_sum p.1 (step o.1)) []
 one_both step p o same =
-    ap (λ r. match_ordering r (p ∷ merged step [] (o ∷ [])) (put_some (p.0, exponent_sum p.1 (step o.1)) [])
-    (power_by step o ∷ merged step (p ∷ []) []))
+    ap (λ r. match_ordering r (p ∷ merge_of step [] (o ∷ [])) (put_some (p.0, exponent_sum p.1 (step o.1)) [])
+    (power_by step o ∷ merge_of step (p ∷ []) []))
     (sym (ap (by_bytes p.0) same) ∙ tied_itself nat_list_cmp_total p.0)
 
 -- one more power is copied as the step takes it

@@ -8,11 +8,11 @@ use Rattle.frac128.specs.Fraction.{Fraction}
 use Rattle.frac128.specs.Steps.{ReducedLaw}
 use Rattle.quantity.specs.Exponents.{Exponents, IsPower}
 use Rattle.quantity.specs.Factors.{exponent_in, exponents_with}
-use Rattle.quantity.specs.Merges.{AreInOrder, ArePowers, Powers, are_exponents, exponents_in, merged, power_by}
+use Rattle.quantity.specs.Merges.{AreInOrder, ArePowers, Powers, are_exponents, exponents_in, merge_of, power_by}
 use Rattle.quantity.specs.Products.{product_exponents}
 use Rattle.quantity.specs.declared.factor.Factor.{Factor}
 use Rattle.quantity.specs.declared.factor.Factor.TheVariants.{Plain}
-use Rattle.quantity.proofs.Merged.{IsStep}
+use Rattle.quantity.proofs.MergedPowers.{IsStep}
 use Rattle.quantity.proofs.Ranges.{exponent_passes}
 use Rattle.quantity.proofs.Single.{list_of, no_power}
 use Rattle.quantity.proofs.Steps.{factor_step, product_ok}
@@ -36,24 +36,24 @@ taken_plain [] = refl
 taken_plain (o ∷ os) = ap (λ es. o ∷ es) (taken_plain os)
 
 -- merging an empty list into powers does not change them
-pub merged_nothing : (step : Fraction → Fraction) (ps : Powers) → merged step ps [] ≡ ps
+pub merged_nothing : (step : Fraction → Fraction) (ps : Powers) → merge_of step ps [] ≡ ps
 merged_nothing step [] = refl
 merged_nothing step (p ∷ ps) = ap (λ es. p ∷ es) (merged_nothing step ps)
 
 -- powers merged with an empty list are the merge
 pub left_alone : (step : Fraction → Fraction) (ps os : Powers) → All IsPower ps → os ≡ []
-    → ArePowers (λ (ds : Powers). ds) (Ok ps) (merged step ps os)
+    → ArePowers (λ (ds : Powers). ds) (Ok ps) (merge_of step ps os)
 left_alone step ps os all none =
-    let is : merged step ps os ≡ ps = ap (merged step ps) none ∙ merged_nothing step ps in
+    let is : merge_of step ps os ≡ ps = ap (merge_of step ps) none ∙ merged_nothing step ps in
     (sym is, ap are_exponents is ∙ all_fit ps all)
 
 -- powers merged into an empty list are their copies
 pub right_alone : (factor : Factor) (ps os es : Powers) → All IsPower os → ps ≡ []
     → es ≡ map (power_by (exponent_in factor)) os
-    → ArePowers (λ (ds : Powers). ds) (Ok es) (merged (exponent_in factor) ps os)
+    → ArePowers (λ (ds : Powers). ds) (Ok es) (merge_of (exponent_in factor) ps os)
 right_alone factor ps os es all none copied =
-    let is : merged (exponent_in factor) ps os ≡ map (power_by (exponent_in factor)) os =
-    ap (λ ds. merged (exponent_in factor) ds os) none in
+    let is : merge_of (exponent_in factor) ps os ≡ map (power_by (exponent_in factor)) os =
+    ap (λ ds. merge_of (exponent_in factor) ds os) none in
     (copied ∙ sym is, ap are_exponents is ∙ taken_fit (exponent_in factor) (factor_step factor) os ∙ all_fit os all)
 
 -- an empty list of powers is in order

@@ -6,8 +6,8 @@ use Rattle.std.specs.Prelude.{unwrap_or}
 use Rattle.std.proofs.lemmas.Bool.Decides.{nat_tests}
 use Rattle.std.proofs.Math.Nat.{dvd_antisymm, dvd_refl, dvd-zero, one-dvd}
 use lib.IntN.{one, *ℤ-one, zero-*ℤ, +ℤ_idl, +ℤ_idr}
-use Rattle.frac128.specs.Fraction.{Fraction, IsReduced, SameValue, negated, whole}
-use Rattle.frac128.specs.Steps.{ReducedLaw, reduced}
+use Rattle.frac128.specs.Fraction.{Fraction, IsReduced, SameValue, negative_of, whole}
+use Rattle.frac128.specs.Steps.{ReducedLaw, lowest_terms}
 use Rattle.frac128.specs.Sign.{is_zero}
 use Rattle.quantity.specs.Exponents.{exponent_product, exponent_sum}
 
@@ -34,12 +34,12 @@ abs-neg (pos (suc n)) = refl
 abs-neg (negsuc n) = refl
 
 -- negating a fraction preserves lowest terms
-pub negated_reduced : (e : Fraction) → IsReduced e → IsReduced (negated e)
+pub negated_reduced : (e : Fraction) → IsReduced e → IsReduced (negative_of e)
 negated_reduced e is =
     record { positive = is.positive; lowest = subst (λ n. IsGcd n e.den 1) (sym (abs-neg e.num)) is.lowest }
 
 -- negating an exponent preserves whether it is 0
-pub negated_zero : (e : Fraction) → is_zero (negated e) ≡ is_zero e
+pub negated_zero : (e : Fraction) → is_zero (negative_of e) ≡ is_zero e
 negated_zero e = ap (λ n. n == 0) (abs-neg e.num)
 
 -- a reduced fraction that is 0 is the exponent of an absent name
@@ -84,7 +84,8 @@ module _ (law : ReducedLaw) where
       let num : (a.num *ℤ pos 1) +ℤ (pos 0 *ℤ pos a.den) ≡ a.num =
       ap (λ z. (a.num *ℤ pos 1) +ℤ z) (zero-*ℤ (pos a.den)) ∙ +ℤ_idr _ ∙ *ℤ-one a.num in
       let den : a.den * 1 ≡ a.den = omega arith in
-      ap (λ z. reduced z (a.den * 1)) num ∙ ap (reduced a.num) den ∙ sym ((law a.num a.den is.positive).2 a is refl)
+      ap (λ z. lowest_terms z (a.den * 1)) num ∙ ap (lowest_terms a.num) den
+      ∙ sym ((law a.num a.den is.positive).2 a is refl)
 
   pub sum_right : (b : Fraction) → IsReduced b → exponent_sum nothing b ≡ b
   unfolding one
@@ -92,10 +93,11 @@ module _ (law : ReducedLaw) where
       let num : (pos 0 *ℤ pos b.den) +ℤ (b.num *ℤ pos 1) ≡ b.num =
       ap (λ z. z +ℤ (b.num *ℤ pos 1)) (zero-*ℤ (pos b.den)) ∙ +ℤ_idl _ ∙ *ℤ-one b.num in
       let den : 1 * b.den ≡ b.den = omega arith in
-      ap (λ z. reduced z (1 * b.den)) num ∙ ap (reduced b.num) den ∙ sym ((law b.num b.den is.positive).2 b is refl)
+      ap (λ z. lowest_terms z (1 * b.den)) num ∙ ap (lowest_terms b.num) den
+      ∙ sym ((law b.num b.den is.positive).2 b is refl)
 
   -- a whole number over 1 reduces to that whole number
-  pub whole_is : (n : ℤ) → reduced n 1 ≡ whole n
+  pub whole_is : (n : ℤ) → lowest_terms n 1 ≡ whole n
   whole_is n = sym ((law n 1 (omega arith)).2 (whole n) (whole_reduced n) refl)
 
   -- the product of 0 and a fraction is 0
@@ -104,5 +106,5 @@ module _ (law : ReducedLaw) where
       let num : pos 0 *ℤ by.num ≡ pos 0 = zero-*ℤ by.num in
       let den : 1 * by.den ≡ by.den = omega arith in
       let same : SameValue nothing (record { num = pos 0; den = by.den }) = zero-*ℤ (pos by.den) in
-      ap (λ z. reduced z (1 * by.den)) num ∙ ap (reduced (pos 0)) den
+      ap (λ z. lowest_terms z (1 * by.den)) num ∙ ap (lowest_terms (pos 0)) den
       ∙ sym ((law (pos 0) by.den some).2 nothing nothing_reduced same)

@@ -11,14 +11,15 @@ use Rattle.frac128.specs.Steps.{ReducedLaw}
 use Rattle.frac128.specs.Sign.{is_zero}
 use Rattle.quantity.specs.Exponents.{IsPower, exponent_sum, is_exponent}
 use Rattle.quantity.specs.Factors.{exponent_in}
-use Rattle.quantity.specs.Merges.{AreInOrder, IsFaultOf, Powers, are_exponents, as_exponent, exponents_in, merged}
+use Rattle.quantity.specs.Merges.{AreInOrder, IsPowersFault, Powers, are_exponents, as_exponent, exponents_in, merge_of}
 use Rattle.quantity.specs.declared.factor.Factor.{Factor}
 use Rattle.quantity.specs.declared.fault.ExponentFault.{ExponentFault}
 use Rattle.quantity.specs.declared.fault.ExponentFault.TheVariants.{Range, OutOfMemory}
 use Rattle.quantity.proofs.Copies.{all_fit, merged_nothing}
 use Rattle.quantity.proofs.Fractions.{kept, nothing, some_kept, sum_left, sum_reduced, sum_right, unwrap_kept, zero_is}
-use Rattle.quantity.proofs.Listed.{at, found_exponent, found_fault, kept_value, some_same}
-use Rattle.quantity.proofs.Merged.{IsStep, at-below, at-past, at_own, at_reduced, find-at, find-merged, sorted-merged}
+use Rattle.quantity.proofs.OrderedPowers.{at, found_exponent, found_fault, kept_value, some_same}
+use Rattle.quantity.proofs.MergedPowers.{IsStep, at-below, at-past, at_own, at_reduced, find-at, find-merged}
+use Rattle.quantity.proofs.MergedPowers.{sorted-merged}
 use Rattle.quantity.proofs.Ranges.{exponent_passes}
 use Rattle.quantity.proofs.Names.{Name, by_bytes, first, is_itself, is_name, one_or_two, same_name, second}
 use Rattle.quantity.proofs.Single.{IsListOf, list_of}
@@ -90,13 +91,13 @@ module _ (law : ReducedLaw) (factor : Factor) where
 
   -- the result of a lookup in a merge
   found : (es os : Powers) (q : Name) → AreInOrder es → AreInOrder os
-      → find by_bytes q (merged (exponent_in factor) es os) ≡ kept (total es os q)
+      → find by_bytes q (merge_of (exponent_in factor) es os) ≡ kept (total es os q)
   found es os q left right =
       find-merged law (exponent_in factor) is es os q (each es left) (each os right) left.sorted right.sorted
 
   -- the exponent of a name in a merge
   at-merged : (es os : Powers) (q : Name) → AreInOrder es → AreInOrder os
-      → at (merged (exponent_in factor) es os) q ≡ total es os q
+      → at (merge_of (exponent_in factor) es os) q ≡ total es os q
   at-merged es os q left right =
       ap (λ v. unwrap_or v nothing) (found es os q left right)
       ∙ unwrap_kept (total es os q) (total_reduced es os q left right)
@@ -111,7 +112,7 @@ module _ (law : ReducedLaw) (factor : Factor) where
   -- merges that give the same exponent to each name are equal
   same_merges : (es os ds ns : Powers) → AreInOrder es → AreInOrder os → AreInOrder ds → AreInOrder ns
       → ((q : Name) → total es os q ≡ total ds ns q)
-      → merged (exponent_in factor) es os ≡ merged (exponent_in factor) ds ns
+      → merge_of (exponent_in factor) es os ≡ merge_of (exponent_in factor) ds ns
   same_merges es os ds ns left right left2 right2 same =
       same_entries by_bytes nat_list_cmp_total same_name _ _
       (sorted-merged (exponent_in factor) es os left.sorted right.sorted)
@@ -120,8 +121,8 @@ module _ (law : ReducedLaw) (factor : Factor) where
 
   -- a merge in range is in order
   pub merged_order : (es os : Powers) → AreInOrder es → AreInOrder os
-      → IsTrue (are_exponents (merged (exponent_in factor) es os))
-      → AreInOrder (merged (exponent_in factor) es os)
+      → IsTrue (are_exponents (merge_of (exponent_in factor) es os))
+      → AreInOrder (merge_of (exponent_in factor) es os)
   merged_order es os left right fits =
       product_order law factor (exponents_in es) (exponents_in os) es os _ (own_list es left) (own_list os right)
       (refl, fits)
@@ -138,17 +139,17 @@ module _ (law : ReducedLaw) (factor : Factor) where
 
   -- if the exponent of a name in a merge is out of range, the merge has a fault
   merged_fault : (es os : Powers) (q : Name) → AreInOrder es → AreInOrder os → is_exponent (total es os q) ≡ false
-      → are_exponents (merged (exponent_in factor) es os) ≡ false
-  merged_fault es os q left right fails = go (are_exponents (merged (exponent_in factor) es os)) refl
+      → are_exponents (merge_of (exponent_in factor) es os) ≡ false
+  merged_fault es os q left right fails = go (are_exponents (merge_of (exponent_in factor) es os)) refl
     where
-      there : find by_bytes q (merged (exponent_in factor) es os) ≡ Some (total es os q)
+      there : find by_bytes q (merge_of (exponent_in factor) es os) ≡ Some (total es os q)
       there = found es os q left right
           ∙ some_kept (total es os q) (not_zero (total es os q) (total_reduced es os q left right) fails)
 
-      go : (b : Bool) → are_exponents (merged (exponent_in factor) es os) ≡ b → b ≡ false
+      go : (b : Bool) → are_exponents (merge_of (exponent_in factor) es os) ≡ b → b ≡ false
       go true all =
           let fits : is_exponent (total es os q) ≡ true =
-          found_exponent (merged (exponent_in factor) es os) q (total es os q) all there in
+          found_exponent (merge_of (exponent_in factor) es os) q (total es os q) all there in
           absurd (cc)
       go false some = refl
 
@@ -166,14 +167,14 @@ module _ (law : ReducedLaw) (factor : Factor) where
     total_other q other = total_left es (alone o) q left (at-past q o.0 o.1 [] other)
 
     -- if the new exponent is in range, all exponents of the merge are
-    pub one_fits : is_exponent sum ≡ true → are_exponents (merged (exponent_in factor) es (alone o)) ≡ true
-    one_fits fits = go (are_exponents (merged (exponent_in factor) es (alone o))) refl
+    pub one_fits : is_exponent sum ≡ true → are_exponents (merge_of (exponent_in factor) es (alone o)) ≡ true
+    one_fits fits = go (are_exponents (merge_of (exponent_in factor) es (alone o))) refl
       where
         old : (q : Name) (v : Fraction) → kept (at es q) ≡ Some v → is_exponent v ≡ true
         old q v there = found_exponent es q v (all_fit es left.kept) (find-at es q (each es left) ∙ there)
 
         in_range : (q : Name) (v : Fraction)
-            → find by_bytes q (merged (exponent_in factor) es (alone o)) ≡ Some v → is_exponent v ≡ true
+            → find by_bytes q (merge_of (exponent_in factor) es (alone o)) ≡ Some v → is_exponent v ≡ true
         in_range q v there = elim (one_or_two q o.0) [
           | inl same ↦ new v (ap kept (sym (total_own q same)) ∙ sym (found es (alone o) q left right) ∙ there)
           | inr other ↦ old q v
@@ -183,23 +184,23 @@ module _ (law : ReducedLaw) (factor : Factor) where
             new : (v : Fraction) → kept sum ≡ Some v → is_exponent v ≡ true
             new v is = ap is_exponent (sym (kept_value sum v is)) ∙ fits
 
-        go : (b : Bool) → are_exponents (merged (exponent_in factor) es (alone o)) ≡ b → b ≡ true
+        go : (b : Bool) → are_exponents (merge_of (exponent_in factor) es (alone o)) ≡ b → b ≡ true
         go true all = refl
         go false some =
-            let fault = found_fault (merged (exponent_in factor) es (alone o))
+            let fault = found_fault (merge_of (exponent_in factor) es (alone o))
             (sorted-merged (exponent_in factor) es (alone o) left.sorted right.sorted) some in
             let fits = in_range fault.0 fault.1 fault.2 in
             let fails = fault.3 in
             absurd (cc)
 
     -- if the new exponent is out of range, so is one of the merge
-    pub one_fails : is_exponent sum ≡ false → are_exponents (merged (exponent_in factor) es (alone o)) ≡ false
+    pub one_fails : is_exponent sum ≡ false → are_exponents (merge_of (exponent_in factor) es (alone o)) ≡ false
     one_fails fails = merged_fault es (alone o) o.0 left right (ap is_exponent (total_own o.0 refl) ∙ fails)
 
     -- a list in order with the new exponent for this name and the old ones for all others is the merge
     pub one_joined : (new : Powers) (v : Option Fraction) → T (is_sorted by_bytes new)
         → ((q : Name) → find by_bytes q new ≡ cond (is_name o.0 q) v (find by_bytes q es)) → v ≡ kept sum
-        → new ≡ merged (exponent_in factor) es (alone o)
+        → new ≡ merge_of (exponent_in factor) es (alone o)
     one_joined new v sorted updated value =
         same_entries by_bytes nat_list_cmp_total same_name new _ sorted
         (sorted-merged (exponent_in factor) es (alone o) left.sorted right.sorted)
@@ -234,8 +235,8 @@ module _ (law : ReducedLaw) (factor : Factor) where
     pub joined_new : (new : Powers) (x : Fraction) → x ≡ exponent_in factor o.1 → find by_bytes o.0 es ≡ None
         → T (is_sorted by_bytes new)
         → ((q : Name) → find by_bytes q new ≡ cond (is_name o.0 q) (Some x) (find by_bytes q es))
-        → (new ≡ merged (exponent_in factor) es (alone o))
-        × IsTrue (are_exponents (merged (exponent_in factor) es (alone o)))
+        → (new ≡ merge_of (exponent_in factor) es (alone o))
+        × IsTrue (are_exponents (merge_of (exponent_in factor) es (alone o)))
     joined_new new x taken none sorted updated =
         let same : sum ≡ exponent_in factor o.1 = new_sum none in
         let some : is_zero sum ≡ false = ap is_zero same ∙ is.zero o.1 ∙ power.some in
@@ -246,8 +247,8 @@ module _ (law : ReducedLaw) (factor : Factor) where
     pub joined_sum : (new : Powers) (e x v : Fraction) → x ≡ exponent_in factor o.1 → find by_bytes o.0 es ≡ Some e
         → Some v ≡ as_exponent (exponent_sum e x) → is_zero v ≡ false → T (is_sorted by_bytes new)
         → ((q : Name) → find by_bytes q new ≡ cond (is_name o.0 q) (Some v) (find by_bytes q es))
-        → (new ≡ merged (exponent_in factor) es (alone o))
-        × IsTrue (are_exponents (merged (exponent_in factor) es (alone o)))
+        → (new ≡ merge_of (exponent_in factor) es (alone o))
+        × IsTrue (are_exponents (merge_of (exponent_in factor) es (alone o)))
     joined_sum new e x v taken there answer some sorted updated =
         let same : sum ≡ v = old_sum e x there taken ∙ sym (as_some (exponent_sum e x) v answer).0 in
         let fits : is_exponent sum ≡ true = ap is_exponent (old_sum e x there taken)
@@ -258,8 +259,8 @@ module _ (law : ReducedLaw) (factor : Factor) where
     pub joined_zero : (new : Powers) (e x v : Fraction) → x ≡ exponent_in factor o.1 → find by_bytes o.0 es ≡ Some e
         → Some v ≡ as_exponent (exponent_sum e x) → is_zero v ≡ true → T (is_sorted by_bytes new)
         → ((q : Name) → find by_bytes q new ≡ cond (is_name o.0 q) None (find by_bytes q es))
-        → (new ≡ merged (exponent_in factor) es (alone o))
-        × IsTrue (are_exponents (merged (exponent_in factor) es (alone o)))
+        → (new ≡ merge_of (exponent_in factor) es (alone o))
+        × IsTrue (are_exponents (merge_of (exponent_in factor) es (alone o)))
     joined_zero new e x v taken there answer zero sorted updated =
         let same : sum ≡ v = old_sum e x there taken ∙ sym (as_some (exponent_sum e x) v answer).0 in
         let fits : is_exponent sum ≡ true = ap is_exponent (old_sum e x there taken)
@@ -271,23 +272,23 @@ module _ (law : ReducedLaw) (factor : Factor) where
     -- a sum out of range is a fault of the merge
     pub joined_fault : (e x : Fraction) → x ≡ exponent_in factor o.1 → find by_bytes o.0 es ≡ Some e
         → None ≡ as_exponent (exponent_sum e x)
-        → IsFalse (are_exponents (merged (exponent_in factor) es (alone o)))
+        → IsFalse (are_exponents (merge_of (exponent_in factor) es (alone o)))
     joined_fault e x taken there answer =
         one_fails (ap is_exponent (old_sum e x there taken) ∙ as_none (exponent_sum e x) answer)
 
     -- merging the rest of a factor after one of its powers merges the whole factor
     pub merged_next : (more : Powers) → AreInOrder (o ∷ more)
-        → IsTrue (are_exponents (merged (exponent_in factor) es (alone o)))
-        → merged (exponent_in factor) (merged (exponent_in factor) es (alone o)) more
-        ≡ merged (exponent_in factor) es (o ∷ more)
+        → IsTrue (are_exponents (merge_of (exponent_in factor) es (alone o)))
+        → merge_of (exponent_in factor) (merge_of (exponent_in factor) es (alone o)) more
+        ≡ merge_of (exponent_in factor) es (o ∷ more)
     merged_next more all fits =
-        same_merges (merged (exponent_in factor) es (alone o)) more es (o ∷ more)
+        same_merges (merge_of (exponent_in factor) es (alone o)) more es (o ∷ more)
         (merged_order es (alone o) left right fits) (order_tail o more all) left all totals
       where
         totals : (q : Name)
-            → total (merged (exponent_in factor) es (alone o)) more q ≡ total es (o ∷ more) q
+            → total (merge_of (exponent_in factor) es (alone o)) more q ≡ total es (o ∷ more) q
         totals q = elim (one_or_two q o.0) [
-          | inl same ↦ total_left (merged (exponent_in factor) es (alone o)) more q
+          | inl same ↦ total_left (merge_of (exponent_in factor) es (alone o)) more q
               (merged_order es (alone o) left right fits)
               (at-below q more (subst (λ n. T (below_all by_bytes n more)) (sym same) (first _ _ all.sorted)))
               ∙ at-merged es (alone o) q left right ∙ total_own q same
@@ -299,11 +300,11 @@ module _ (law : ReducedLaw) (factor : Factor) where
 
     -- a fault of one power is a fault of the whole factor
     pub next_fault : (more : Powers) → AreInOrder (o ∷ more)
-        → IsFalse (are_exponents (merged (exponent_in factor) es (alone o)))
-        → IsFalse (are_exponents (merged (exponent_in factor) es (o ∷ more)))
+        → IsFalse (are_exponents (merge_of (exponent_in factor) es (alone o)))
+        → IsFalse (are_exponents (merge_of (exponent_in factor) es (o ∷ more)))
     next_fault more all some = go (is_exponent sum) refl
       where
-        go : (b : Bool) → is_exponent sum ≡ b → are_exponents (merged (exponent_in factor) es (o ∷ more)) ≡ false
+        go : (b : Bool) → is_exponent sum ≡ b → are_exponents (merge_of (exponent_in factor) es (o ∷ more)) ≡ false
         go true fits = let all = one_fits fits in absurd (cc)
         go false fails =
             merged_fault es (o ∷ more) o.0 left all
@@ -314,31 +315,31 @@ module _ (law : ReducedLaw) (factor : Factor) where
 
 -- merging the rest into the result so far gives the merge of all powers
 pub record IsJoining (factor : Factor) (ps os es rest : Powers) : Type 0 where
-  pub done : merged (exponent_in factor) es rest ≡ merged (exponent_in factor) ps os
+  pub done : merge_of (exponent_in factor) es rest ≡ merge_of (exponent_in factor) ps os
   pub left : AreInOrder es
   pub right : AreInOrder rest
 
 -- if no power is left, the result is the merge of all powers
 pub joining_end : (factor : Factor) (ps os es rest : Powers) → IsJoining factor ps os es rest → rest ≡ []
-    → (es ≡ merged (exponent_in factor) ps os) × IsTrue (are_exponents (merged (exponent_in factor) ps os))
+    → (es ≡ merge_of (exponent_in factor) ps os) × IsTrue (are_exponents (merge_of (exponent_in factor) ps os))
 joining_end factor ps os es rest is none =
-    let all : es ≡ merged (exponent_in factor) ps os =
-    sym (merged_nothing (exponent_in factor) es) ∙ ap (merged (exponent_in factor) es) (sym none) ∙ is.done in
+    let all : es ≡ merge_of (exponent_in factor) ps os =
+    sym (merged_nothing (exponent_in factor) es) ∙ ap (merge_of (exponent_in factor) es) (sym none) ∙ is.done in
     (all, sym (ap are_exponents all) ∙ all_fit es is.left.kept)
 
 -- one more power is merged
 pub joining_next : ReducedLaw → (factor : Factor) (ps os es rest new more : Powers) (o : Name × Fraction)
     → IsJoining factor ps os es rest → rest ≡ o ∷ more
-    → (new ≡ merged (exponent_in factor) es (alone o))
-    × IsTrue (are_exponents (merged (exponent_in factor) es (alone o)))
+    → (new ≡ merge_of (exponent_in factor) es (alone o))
+    × IsTrue (are_exponents (merge_of (exponent_in factor) es (alone o)))
     → IsJoining factor ps os new more
 joining_next law factor ps os es rest new more o is parts joined =
     let all : AreInOrder (o ∷ more) = subst AreInOrder parts is.right in
     let right = order_head o more all in
     record {
-      done = ap (λ ds. merged (exponent_in factor) ds more) joined.0
+      done = ap (λ ds. merge_of (exponent_in factor) ds more) joined.0
           ∙ merged_next law factor es o is.left right more all joined.1
-          ∙ ap (merged (exponent_in factor) es) (sym parts) ∙ is.done;
+          ∙ ap (merge_of (exponent_in factor) es) (sym parts) ∙ is.done;
       left = subst AreInOrder (sym joined.0) (merged_order law factor es (alone o) is.left right joined.1);
       right = order_tail o more all;
     }
@@ -352,16 +353,16 @@ joining_power factor ps os es rest more o is parts =
 -- a fault of one power is a fault of the whole merge
 pub joining_fault : ReducedLaw → (factor : Factor) (ps os es rest more : Powers) (o : Name × Fraction)
     → IsJoining factor ps os es rest → rest ≡ o ∷ more
-    → IsFalse (are_exponents (merged (exponent_in factor) es (alone o)))
-    → IsFalse (are_exponents (merged (exponent_in factor) ps os))
+    → IsFalse (are_exponents (merge_of (exponent_in factor) es (alone o)))
+    → IsFalse (are_exponents (merge_of (exponent_in factor) ps os))
 joining_fault law factor ps os es rest more o is parts fails =
     let all : AreInOrder (o ∷ more) = subst AreInOrder parts is.right in
-    ap are_exponents (sym (ap (merged (exponent_in factor) es) (sym parts) ∙ is.done))
+    ap are_exponents (sym (ap (merge_of (exponent_in factor) es) (sym parts) ∙ is.done))
     ∙ next_fault law factor es o is.left (order_head o more all) more all fails
 
 -- a fault is passed on
-pub handed_over : (part all : Powers) (fault : ExponentFault) → IsFaultOf fault part
-    → (IsFalse (are_exponents part) → IsFalse (are_exponents all)) → IsFaultOf fault all
+pub handed_over : (part all : Powers) (fault : ExponentFault) → IsPowersFault fault part
+    → (IsFalse (are_exponents part) → IsFalse (are_exponents all)) → IsPowersFault fault all
 handed_over part all Range h show = show h
 handed_over part all OutOfMemory h show = tt
 

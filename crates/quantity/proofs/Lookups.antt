@@ -5,8 +5,8 @@ use Rattle.std.specs.FinMap.Entries.{find}
 use lib.Dec.{eqb}
 use Rattle.frac128.specs.Fraction.{Fraction}
 use Rattle.quantity.specs.Merges.{Powers}
-use Rattle.quantity.proofs.Listed.{past}
-use Rattle.quantity.proofs.Merged.{here_own}
+use Rattle.quantity.proofs.OrderedPowers.{past}
+use Rattle.quantity.proofs.MergedPowers.{here_own}
 use Rattle.quantity.proofs.Names.{Name, by_bytes, is_name, one_or_two}
 
 -- if the first power has the name, a lookup finds it

@@ -10,16 +10,16 @@ use Rattle.std.specs.declared.cmp.Ordering.TheVariants.{Less, Equal, Greater}
 use Rattle.frac128.specs.Fraction.{Fraction}
 use Rattle.frac128.specs.Sign.{is_zero}
 use Rattle.quantity.specs.Exponents.{IsPower, exponent_sum, is_exponent}
-use Rattle.quantity.specs.Merges.{Powers, are_exponents, as_exponent, merged, put_some, power_by}
-use Rattle.quantity.specs.Places.{place_in}
-use Rattle.quantity.specs.declared.merging.Place.TheVariants.{At, Before}
+use Rattle.quantity.specs.Merges.{Powers, are_exponents, as_exponent, merge_of, put_some, power_by}
+use Rattle.quantity.specs.Places.{power_place}
+use Rattle.quantity.specs.declared.power_merge.Place.TheVariants.{At, Before}
 use Rattle.std.proofs.lemmas.List.Elements.{All-head, All-tail}
 use Rattle.frac128.specs.Steps.{ReducedLaw}
 use Rattle.quantity.proofs.Copies.{merged_nothing}
 use Rattle.quantity.proofs.Fractions.{sum_reduced}
 use Rattle.quantity.proofs.Joins.{as_none, as_some}
 use Rattle.quantity.proofs.Ranges.{fault_stays}
-use Rattle.quantity.proofs.Merged.{IsStep}
+use Rattle.quantity.proofs.MergedPowers.{IsStep}
 use Rattle.quantity.proofs.Names.{Name, by_bytes}
 
 -- ---- lists in two parts
@@ -96,7 +96,7 @@ pub record IsAt (step : Fraction → Fraction) (o : Name × Fraction) (es : Powe
   pub rest : Powers
   pub parts : es ≡ front ++ power ∷ rest
   pub place : n + length front ≡ i
-  pub merge : merged step es (o ∷ []) ≡ front ++ put_some (power.0, exponent_sum power.1 (step o.1)) rest
+  pub merge : merge_of step es (o ∷ []) ≡ front ++ put_some (power.0, exponent_sum power.1 (step o.1)) rest
 
 -- no power has the name, and the merge has one more power
 pub record IsBefore (step : Fraction → Fraction) (o : Name × Fraction) (es : Powers) (n i : ℕ) : Type 0 where
@@ -104,7 +104,7 @@ pub record IsBefore (step : Fraction → Fraction) (o : Name × Fraction) (es : 
   pub rest : Powers
   pub parts : es ≡ front ++ rest
   pub place : n + length front ≡ i
-  pub merge : merged step es (o ∷ []) ≡ front ++ power_by step o ∷ rest
+  pub merge : merge_of step es (o ∷ []) ≡ front ++ power_by step o ∷ rest
 
 -- equal places have equal indices
 same_place : (n i : ℕ) → At n ≡ At i → n + 0 ≡ i
@@ -117,17 +117,18 @@ module _ (step : Fraction → Fraction) (o : Name × Fraction) where
   -- the merge, determined by the order of the first name and the new one
   abbrev by_order : Ordering → Name × Fraction → Powers → Powers
   by_order r p ps =
-      match_ordering r (p ∷ merged step ps (o ∷ []))
-      (put_some (p.0, exponent_sum p.1 (step o.1)) (merged step ps []))
-      (power_by step o ∷ merged step (p ∷ ps) [])
+      match_ordering r (p ∷ merge_of step ps (o ∷ []))
+      (put_some (p.0, exponent_sum p.1 (step o.1)) (merge_of step ps []))
+      (power_by step o ∷ merge_of step (p ∷ ps) [])
 
   -- if the name is at an index, the merge changes the power at that index
-  pub found_at : (es : Powers) (n i : ℕ) → place_in n o.0 es ≡ At i → IsAt step o es n i
+  pub found_at : (es : Powers) (n i : ℕ) → power_place n o.0 es ≡ At i → IsAt step o es n i
   found_at [] n i h = absurd (cc)
   found_at (p ∷ ps) n i h = go (by_bytes p.0 o.0) refl h (found_at ps (suc n) i)
     where
-      go : (r : Ordering) → by_bytes p.0 o.0 ≡ r → match_ordering r (place_in (suc n) o.0 ps) (At n) (Before n) ≡ At i
-          → (place_in (suc n) o.0 ps ≡ At i → IsAt step o ps (suc n) i) → IsAt step o (p ∷ ps) n i
+      go : (r : Ordering) → by_bytes p.0 o.0 ≡ r → match_ordering r (power_place (suc n) o.0 ps) (At n)
+          (Before n) ≡ At i
+          → (power_place (suc n) o.0 ps ≡ At i → IsAt step o ps (suc n) i) → IsAt step o (p ∷ ps) n i
       go Less is h rest =
           let more = rest h in
           let place = more.place in
@@ -151,7 +152,7 @@ module _ (step : Fraction → Fraction) (o : Name × Fraction) where
       go Greater is h rest = absurd (cc)
 
   -- if the name belongs before an index, the merge inserts the power at that index
-  pub found_before : (es : Powers) (n i : ℕ) → place_in n o.0 es ≡ Before i → IsBefore step o es n i
+  pub found_before : (es : Powers) (n i : ℕ) → power_place n o.0 es ≡ Before i → IsBefore step o es n i
   found_before [] n i h = record {
     front = [];
     rest = [];
@@ -162,8 +163,8 @@ module _ (step : Fraction → Fraction) (o : Name × Fraction) where
   found_before (p ∷ ps) n i h = go (by_bytes p.0 o.0) refl h (found_before ps (suc n) i)
     where
       go : (r : Ordering) → by_bytes p.0 o.0 ≡ r
-          → match_ordering r (place_in (suc n) o.0 ps) (At n) (Before n) ≡ Before i
-          → (place_in (suc n) o.0 ps ≡ Before i → IsBefore step o ps (suc n) i) → IsBefore step o (p ∷ ps) n i
+          → match_ordering r (power_place (suc n) o.0 ps) (At n) (Before n) ≡ Before i
+          → (power_place (suc n) o.0 ps ≡ Before i → IsBefore step o ps (suc n) i) → IsBefore step o (p ∷ ps) n i
       go Less is h rest =
           let more = rest h in
           let place = more.place in
@@ -187,7 +188,7 @@ module _ (step : Fraction → Fraction) (o : Name × Fraction) where
 
   module _ (es : Powers) (i : ℕ) where
     -- inserting a power with an absent name
-    module _ (h : place_in 0 o.0 es ≡ Before i) where
+    module _ (h : power_place 0 o.0 es ≡ Before i) where
       before : IsBefore step o es 0 i
       before = found_before es 0 i h
 
@@ -200,7 +201,7 @@ module _ (step : Fraction → Fraction) (o : Name × Fraction) where
 
       pub put_before : (new : Powers) (x : Name × Fraction) → new ≡ take i es ++ x ∷ drop i es
           → x ≡ power_by step o → are_exponents es ≡ true → is_exponent (step o.1) ≡ true
-          → (new ≡ merged step es (o ∷ [])) × IsTrue (are_exponents (merged step es (o ∷ [])))
+          → (new ≡ merge_of step es (o ∷ [])) × IsTrue (are_exponents (merge_of step es (o ∷ [])))
       put_before new x put same all fits =
           let front : take i es ≡ before.front =
           ap₂ take (sym before_length) before.parts ∙ take_front before.front before.rest in
@@ -216,7 +217,7 @@ module _ (step : Fraction → Fraction) (o : Name × Fraction) where
           )
 
     -- replacing the exponent of a name that is present by a sum
-    module _ (h : place_in 0 o.0 es ≡ At i) where
+    module _ (h : power_place 0 o.0 es ≡ At i) where
       there : IsAt step o es 0 i
       there = found_at es 0 i h
 
@@ -242,13 +243,13 @@ module _ (step : Fraction → Fraction) (o : Name × Fraction) where
         abbrev sum : Fraction
         sum = exponent_sum q.1 x
 
-        merge_is : merged step es (o ∷ []) ≡ there.front ++ put_some (q.0, sum) there.rest
+        merge_is : merge_of step es (o ∷ []) ≡ there.front ++ put_some (q.0, sum) there.rest
         merge_is = there.merge
             ∙ ap₂ (λ p e. there.front ++ put_some (p.0, exponent_sum p.1 e) there.rest) (sym (power_is q at_place))
             (sym taken)
 
         merge_fits : are_exponents es ≡ true → is_exponent sum ≡ true
-            → are_exponents (merged step es (o ∷ [])) ≡ true
+            → are_exponents (merge_of step es (o ∷ [])) ≡ true
         merge_fits all fits =
             let parts = sym (ap are_exponents there.parts) ∙ all in
             ap are_exponents merge_is
@@ -259,7 +260,7 @@ module _ (step : Fraction → Fraction) (o : Name × Fraction) where
 
         pub put_zero : (new : Powers) (v : Fraction) → new ≡ take i es ++ drop (suc i) es
             → Some v ≡ as_exponent sum → is_zero v ≡ true → are_exponents es ≡ true
-            → (new ≡ merged step es (o ∷ [])) × IsTrue (are_exponents (merged step es (o ∷ [])))
+            → (new ≡ merge_of step es (o ∷ [])) × IsTrue (are_exponents (merge_of step es (o ∷ [])))
         put_zero new v put answer zero all =
             let front : take i es ≡ there.front = ap₂ take (sym there_length) there.parts
             ∙ take_front there.front (there.power ∷ there.rest) in
@@ -276,7 +277,7 @@ module _ (step : Fraction → Fraction) (o : Name × Fraction) where
 
         pub put_sum : (new : Powers) (v : Fraction) → new ≡ slice_set es i (q.0, v)
             → Some v ≡ as_exponent sum → is_zero v ≡ false → are_exponents es ≡ true
-            → (new ≡ merged step es (o ∷ [])) × IsTrue (are_exponents (merged step es (o ∷ [])))
+            → (new ≡ merge_of step es (o ∷ [])) × IsTrue (are_exponents (merge_of step es (o ∷ [])))
         put_sum new v put answer stays all =
             let some = as_some sum v answer in (
               put
@@ -290,7 +291,7 @@ module _ (step : Fraction → Fraction) (o : Name × Fraction) where
             )
 
         pub put_fault : ReducedLaw → IsStep step → All IsPower es → IsPower o → None ≡ as_exponent sum
-            → IsFalse (are_exponents (merged step es (o ∷ [])))
+            → IsFalse (are_exponents (merge_of step es (o ∷ [])))
         put_fault law known all last answer =
             let own : IsPower there.power =
             all_behind there.front there.power there.rest (subst (All IsPower) there.parts all) in

@@ -7,7 +7,7 @@ use Rattle.std.proofs.lemmas.List.{append-nil}
 use Rattle.frac128.specs.Fraction.{Fraction, IsReduced}
 use Rattle.frac128.specs.Sign.{is_zero}
 use Rattle.quantity.specs.Exponents.{IsExponent, is_exponent}
-use Rattle.quantity.specs.Merges.{IsFaultOf, IsPut, Powers, are_exponents, put_some}
+use Rattle.quantity.specs.Merges.{IsPowersFault, IsPut, Powers, are_exponents, put_some}
 use Rattle.quantity.specs.declared.fault.ExponentFault.{ExponentFault}
 use Rattle.quantity.specs.declared.fault.ExponentFault.TheVariants.{Range, OutOfMemory}
 use Rattle.quantity.proofs.Fractions.{zero_is}
@@ -74,6 +74,6 @@ put_then p rest = go (is_zero p.1)
 -- a fault of appending a power is a fault of the list
 pub handed_on : (out new expected : Powers) (power : Name × Fraction) (fault : ExponentFault)
     → IsPut (Err fault) out new power
-    → (IsFalse (is_exponent power.1) → IsFalse (are_exponents expected)) → IsFaultOf fault expected
+    → (IsFalse (is_exponent power.1) → IsFalse (are_exponents expected)) → IsPowersFault fault expected
 handed_on out new expected power Range h show = show h
 handed_on out new expected power OutOfMemory h show = tt

@@ -8,8 +8,8 @@ use Rattle.std.proofs.lemmas.List.Elements.{All-from_recursion}
 use Rattle.frac128.specs.Fraction.{Fraction, whole}
 use Rattle.quantity.specs.Exponents.{AreExponents, Exponents, IsExponent, IsPower, exponent_of}
 use Rattle.quantity.specs.Merges.{AreInOrder, Powers, exponents_in}
-use Rattle.quantity.proofs.Listed.{at}
-use Rattle.quantity.proofs.Matched.{exponent_at}
+use Rattle.quantity.proofs.OrderedPowers.{at}
+use Rattle.quantity.proofs.MatchedPowers.{exponent_at}
 use Rattle.quantity.proofs.Names.{Name, by_bytes, same_name}
 
 -- the map of no powers is empty

@@ -5,13 +5,14 @@ use Rattle.std.specs.Prelude.{unwrap_or}
 use Rattle.std.specs.FinMap as map_of
 use Rattle.std.specs.List.{list_all, list_any}
 use Rattle.std.proofs.lemmas.List.Elements.{All-from_recursion, recursion_from_All}
-use Rattle.frac128.specs.Fraction.{Fraction, IsReduced, negated}
+use Rattle.frac128.specs.Fraction.{Fraction, IsReduced, negative_of}
 use Rattle.frac128.specs.Steps.{ReducedLaw}
-use Rattle.quantity.specs.Answers.{AreThose, ranged}
+use Rattle.quantity.specs.Answers.{AreThose, exponents_in_range}
 use Rattle.quantity.specs.Exponents.{AreExponents, Exponents, IsPower, exponent_of, exponent_product, exponent_sum}
-use Rattle.quantity.specs.Exponents.{exponents_by, is_exponent, names_of}
+use Rattle.quantity.specs.Exponents.{exponents_by, is_exponent, names_of_both}
 use Rattle.quantity.specs.Factors.{exponent_in, exponents_with}
-use Rattle.quantity.specs.Merges.{AreInOrder, ArePowers, IsFaultOf, Powers, are_exponents, exponents_in, merged, scaled}
+use Rattle.quantity.specs.Merges.{AreInOrder, ArePowers, IsPowersFault, Powers, are_exponents, exponents_in, merge_of}
+use Rattle.quantity.specs.Merges.{scaled_powers}
 use Rattle.quantity.specs.Powers.{power_exponents}
 use Rattle.quantity.specs.Products.{ProductLaw, product_exponents, quotient_exponents}
 use Rattle.quantity.specs.declared.factor.Factor.{Factor}
@@ -20,30 +21,32 @@ use Rattle.quantity.specs.declared.fault.ExponentFault.{ExponentFault}
 use Rattle.quantity.specs.declared.fault.ExponentFault.TheVariants.{Range, OutOfMemory}
 use Rattle.quantity.proofs.Fractions.{abs-neg, kept, negated_reduced, negated_zero, nothing, product_reduced}
 use Rattle.quantity.proofs.Fractions.{product_zero, sum_left, sum_reduced, nothing_reduced}
-use Rattle.quantity.proofs.Listed.{GivesNames, Lists, all_kept, exponent_of-exponents_by, listed_map, listed_range}
-use Rattle.quantity.proofs.Matched.{exponent_at}
-use Rattle.quantity.proofs.Merged.{IsStep, at_reduced, find-merged, sorted-merged}
+use Rattle.quantity.proofs.OrderedPowers.{GivesNames, Lists, all_kept, exponent_of-exponents_by, listed_map}
+use Rattle.quantity.proofs.OrderedPowers.{listed_range}
+use Rattle.quantity.proofs.MatchedPowers.{exponent_at}
+use Rattle.quantity.proofs.MergedPowers.{IsStep, at_reduced, find-merged, sorted-merged}
 use Rattle.quantity.proofs.Names.{Name, is_name}
 use Rattle.quantity.proofs.Single.{IsListOf}
-use Rattle.quantity.proofs.Scaled.{find-scaled, sorted-scaled}
+use Rattle.quantity.proofs.ScaledPowers.{find-scaled, sorted-scaled}
 
--- ---- the result of `ranged`
+-- ---- the result of `exponents_in_range`
 
 -- if each exponent is in range, the result is a map
 ranged_ok : (f : Name → Fraction) (names : List Name) → list_all (λ q. is_exponent (f q)) names ≡ true
-    → ranged f names ≡ Some (exponents_by f names)
-unfolding ranged
+    → exponents_in_range f names ≡ Some (exponents_by f names)
+unfolding exponents_in_range
 ranged_ok f names h = ap (λ b. cond b (Some (exponents_by f names)) None) h
 
 -- if an exponent is out of range, the result is `None`
 ranged_none : (f : Name → Fraction) (names : List Name) → list_all (λ q. is_exponent (f q)) names ≡ false
-    → ranged f names ≡ None
-unfolding ranged
+    → exponents_in_range f names ≡ None
+unfolding exponents_in_range
 ranged_none f names h = ap (λ b. cond b (Some (exponents_by f names)) None) h
 
 -- a map in range is the map of the function
-some_is : (f : Name → Fraction) (names : List Name) (r : Exponents) → ranged f names ≡ Some r → exponents_by f names ≡ r
-unfolding ranged
+some_is : (f : Name → Fraction) (names : List Name) (r : Exponents) → exponents_in_range f names ≡ Some r
+    → exponents_by f names ≡ r
+unfolding exponents_in_range
 some_is f names r h = go (list_all (λ q. is_exponent (f q)) names) h
   where
     go : (b : Bool) → cond b (Some (exponents_by f names)) None ≡ Some r → exponents_by f names ≡ r
@@ -65,23 +68,23 @@ listed_order f names es is all =
           All-from_recursion IsPower es (all_kept f names es is.gives is.lists all);
     }
 
--- if all exponents of the list are in range, `ranged` gives the map of the list
+-- if all exponents of the list are in range, `exponents_in_range` gives the map of the list
 pub listed_ok : (f : Name → Fraction) (names : List Name) (es : Powers) → IsRanged f names es
     → IsTrue (are_exponents es)
-    → Some (exponents_in es) ≡ ranged f names
+    → Some (exponents_in es) ≡ exponents_in_range f names
 listed_ok f names es is all =
     ap Some (listed_map f names es is.gives is.lists)
     ∙ sym (ranged_ok f names (sym (listed_range f names es is.gives is.lists) ∙ all))
 
--- if an exponent of the list is out of range, `ranged` gives `None`
+-- if an exponent of the list is out of range, `exponents_in_range` gives `None`
 pub listed_none : (f : Name → Fraction) (names : List Name) (es : Powers) → IsRanged f names es
     → IsFalse (are_exponents es)
-    → None ≡ ranged f names
+    → None ≡ exponents_in_range f names
 listed_none f names es is some = sym (ranged_none f names (sym (listed_range f names es is.gives is.lists) ∙ some))
 
 -- a fault of the list is that of the map
 pub listed_fault : (f : Name → Fraction) (names : List Name) (es : Powers) (fault : ExponentFault) → IsRanged f names es
-    → IsFaultOf fault es → AreThose (Err fault) (ranged f names)
+    → IsPowersFault fault es → AreThose (Err fault) (exponents_in_range f names)
 listed_fault f names es Range is listed = listed_none f names es is listed
 listed_fault f names es OutOfMemory is listed = tt
 
@@ -128,7 +131,7 @@ pub plain_step : IsStep (λ e. e)
 plain_step = record { reduced = λ e is. is; zero = λ e. refl; nothing = refl; fits = λ e. refl }
 
 -- negating an exponent is a step
-pub inverse_step : IsStep negated
+pub inverse_step : IsStep negative_of
 inverse_step = record {
   reduced = negated_reduced;
   zero = negated_zero;
@@ -149,7 +152,7 @@ total step p o q = exponent_sum (exponent_of p q) (step (exponent_of o q))
 -- only names in one of the two maps have a nonzero exponent
 total_gives : ReducedLaw → (step : Fraction → Fraction) (p o : Exponents) → IsStep step → AreExponents p
     → AreExponents o
-    → GivesNames (total step p o) (names_of p o)
+    → GivesNames (total step p o) (names_of_both p o)
 total_gives law step p o is all all_o = record {
   reduced = λ q. sum_reduced law (exponent_of p q) (step (exponent_of o q)) (exponent_reduced p q all).positive
       (is.reduced _ (exponent_reduced o q all_o)).positive;
@@ -166,7 +169,7 @@ total_gives law step p o is all all_o = record {
 -- merged powers have these exponents
 pub merged_ranged : ReducedLaw → (step : Fraction → Fraction) (p o : Exponents) → IsStep step → AreExponents p
     → AreExponents o
-    → IsRanged (total step p o) (names_of p o) (merged step (map_of.entries p) (map_of.entries o))
+    → IsRanged (total step p o) (names_of_both p o) (merge_of step (map_of.entries p) (map_of.entries o))
 merged_ranged law step p o is all all_o = record {
   gives = total_gives law step p o is all all_o;
   lists = record {
@@ -180,28 +183,28 @@ merged_ranged law step p o is all all_o = record {
 
 -- the powers merged with those of a factor have these exponents
 factor_ranged : ReducedLaw → (factor : Factor) (p o : Exponents) (ps os : Powers) → IsListOf p ps → IsListOf o os
-    → IsRanged (total (exponent_in factor) p o) (names_of p o) (merged (exponent_in factor) ps os)
+    → IsRanged (total (exponent_in factor) p o) (names_of_both p o) (merge_of (exponent_in factor) ps os)
 factor_ranged law factor p o ps os left right =
-    subst (IsRanged (total (exponent_in factor) p o) (names_of p o))
-    (ap₂ (merged (exponent_in factor)) (sym left.same) (sym right.same))
+    subst (IsRanged (total (exponent_in factor) p o) (names_of_both p o))
+    (ap₂ (merge_of (exponent_in factor)) (sym left.same) (sym right.same))
     (merged_ranged law (exponent_in factor) p o (factor_step factor) left.kept right.kept)
 
 -- exponents in range are those of the product or the quotient
 with_is : (factor : Factor) (p o : Exponents)
-    → ranged (total (exponent_in factor) p o) (names_of p o) ≡ exponents_with factor p o
+    → exponents_in_range (total (exponent_in factor) p o) (names_of_both p o) ≡ exponents_with factor p o
 unfolding product_exponents quotient_exponents
 with_is Plain p o = refl
 with_is Inverse p o = refl
 
 -- a merge without a fault is in order
 pub product_order : ReducedLaw → (factor : Factor) (p o : Exponents) (ps os es : Powers) → IsListOf p ps → IsListOf o os
-    → ArePowers (λ (ds : Powers). ds) (Ok es) (merged (exponent_in factor) ps os) → AreInOrder es
+    → ArePowers (λ (ds : Powers). ds) (Ok es) (merge_of (exponent_in factor) ps os) → AreInOrder es
 product_order law factor p o ps os es left right listed =
     subst AreInOrder (sym listed.0) (listed_order _ _ _ (factor_ranged law factor p o ps os left right) listed.1)
 
 -- a merge without a fault gives the map of the product
 pub product_ok : ReducedLaw → (factor : Factor) (p o : Exponents) (ps os es : Powers) → IsListOf p ps → IsListOf o os
-    → ArePowers (λ (ds : Powers). ds) (Ok es) (merged (exponent_in factor) ps os)
+    → ArePowers (λ (ds : Powers). ds) (Ok es) (merge_of (exponent_in factor) ps os)
     → Some (exponents_in es) ≡ exponents_with factor p o
 product_ok law factor p o ps os es left right listed =
     ap (λ ds. Some (exponents_in ds)) listed.0
@@ -211,7 +214,7 @@ product_ok law factor p o ps os es left right listed =
 pub product_fault : ReducedLaw → (factor : Factor) (p o : Exponents) (ps os : Powers) (fault : ExponentFault)
     → IsListOf p ps
     → IsListOf o os
-    → IsFaultOf fault (merged (exponent_in factor) ps os) → AreThose (Err fault) (exponents_with factor p o)
+    → IsPowersFault fault (merge_of (exponent_in factor) ps os) → AreThose (Err fault) (exponents_with factor p o)
 product_fault law factor p o ps os fault left right listed =
     subst (AreThose (Err fault)) (with_is factor p o)
     (listed_fault _ _ _ fault (factor_ranged law factor p o ps os left right) listed)
@@ -223,14 +226,14 @@ product_law law p o r all all_o = (
   λ h q. ap (λ m. exponent_of m q) (sym (some_is _ _ r h))
       ∙ exponent_of-exponents_by _ _ q (total_gives law (λ e. e) p o plain_step all all_o),
   λ h q. ap (λ m. exponent_of m q) (sym (some_is _ _ r h))
-      ∙ exponent_of-exponents_by _ _ q (total_gives law negated p o inverse_step all all_o),
+      ∙ exponent_of-exponents_by _ _ q (total_gives law negative_of p o inverse_step all all_o),
 )
 
 -- ---- powers
 
 -- scaled powers have the exponents times a fraction
 pub scaled_ranged : ReducedLaw → (p : Exponents) (by : Fraction) → 0 < by.den → AreExponents p
-    → IsRanged (λ q. exponent_product (exponent_of p q) by) (map_of.keys p) (scaled by (map_of.entries p))
+    → IsRanged (λ q. exponent_product (exponent_of p q) by) (map_of.keys p) (scaled_powers by (map_of.entries p))
 scaled_ranged law p by some all = record {
   gives = record {
     reduced = λ q. product_reduced law (exponent_of p q) by (exponent_reduced p q all).positive some;
@@ -245,20 +248,21 @@ scaled_ranged law p by some all = record {
 
 -- the scaled powers of a list have the exponents times a fraction
 power_ranged : ReducedLaw → (p : Exponents) (by : Fraction) (ps : Powers) → 0 < by.den → IsListOf p ps
-    → IsRanged (λ q. exponent_product (exponent_of p q) by) (map_of.keys p) (scaled by ps)
+    → IsRanged (λ q. exponent_product (exponent_of p q) by) (map_of.keys p) (scaled_powers by ps)
 power_ranged law p by ps some list =
-    subst (IsRanged (λ q. exponent_product (exponent_of p q) by) (map_of.keys p)) (ap (scaled by) (sym list.same))
+    subst (IsRanged (λ q. exponent_product (exponent_of p q) by) (map_of.keys p))
+    (ap (scaled_powers by) (sym list.same))
     (scaled_ranged law p by some list.kept)
 
 -- a scaled list without a fault is in order
 pub power_order : ReducedLaw → (p : Exponents) (by : Fraction) (ps es : Powers) → 0 < by.den → IsListOf p ps
-    → ArePowers (λ (ds : Powers). ds) (Ok es) (scaled by ps) → AreInOrder es
+    → ArePowers (λ (ds : Powers). ds) (Ok es) (scaled_powers by ps) → AreInOrder es
 power_order law p by ps es some list listed =
     subst AreInOrder (sym listed.0) (listed_order _ _ _ (power_ranged law p by ps some list) listed.1)
 
 -- a scaled list without a fault gives the map of the power
 pub power_ok : ReducedLaw → (p : Exponents) (by : Fraction) (ps es : Powers) → 0 < by.den → IsListOf p ps
-    → ArePowers (λ (ds : Powers). ds) (Ok es) (scaled by ps) → Some (exponents_in es) ≡ power_exponents p by
+    → ArePowers (λ (ds : Powers). ds) (Ok es) (scaled_powers by ps) → Some (exponents_in es) ≡ power_exponents p by
 unfolding power_exponents
 power_ok law p by ps es some list listed =
     ap (λ ds. Some (exponents_in ds)) listed.0 ∙ listed_ok _ _ _ (power_ranged law p by ps some list) listed.1
@@ -266,6 +270,6 @@ power_ok law p by ps es some list listed =
 -- a fault of a scaled list is a fault of the power
 pub power_fault : ReducedLaw → (p : Exponents) (by : Fraction) (ps : Powers) (fault : ExponentFault) → 0 < by.den
     → IsListOf p ps
-    → IsFaultOf fault (scaled by ps) → AreThose (Err fault) (power_exponents p by)
+    → IsPowersFault fault (scaled_powers by ps) → AreThose (Err fault) (power_exponents p by)
 unfolding power_exponents
 power_fault law p by ps fault some list listed = listed_fault _ _ _ fault (power_ranged law p by ps some list) listed

@@ -4,7 +4,7 @@ use Rattle.std.specs.Cmp.Lexicographic.{pointwise}
 use Rattle.std.specs.Coded.{Coded, code_by, coded×, coded_list, coded_ℕ, coded_ℤ}
 use Rattle.std.specs.FinMap as map_of
 use Rattle.std.specs.Ordering.{int_eq}
-use Rattle.frac128.specs.Fraction.{Fraction, negated}
+use Rattle.frac128.specs.Fraction.{Fraction, negative_of}
 use Rattle.quantity.specs.Exponents.{AreExponents, Exponents, exponent_of}
 
 -- a number with exponents
@@ -44,13 +44,14 @@ conform p o = matches (λ e. e) (map_of.entries p) (map_of.entries o)
 
 -- each exponent of one map is the negative of the exponent in the other
 abbrev pub are_reciprocal : Exponents → Exponents → Bool
-are_reciprocal p o = matches negated (map_of.entries p) (map_of.entries o)
+are_reciprocal p o = matches negative_of (map_of.entries p) (map_of.entries o)
 
 -- law: two maps of the program conform if and only if each name has the same exponent in both, and they are reciprocal
 -- if and only if the exponents of each name differ exactly in sign
 pub record AreCompared (p o : Exponents) : Type 0 where
-  pub conforming : IsTrue (conform p o) ↔ ((name : List ℕ) → exponent_of p name ≡ exponent_of o name)
-  pub reciprocal : IsTrue (are_reciprocal p o) ↔ ((name : List ℕ) → exponent_of p name ≡ negated (exponent_of o name))
+  pub conforms_iff : IsTrue (conform p o) ↔ ((name : List ℕ) → exponent_of p name ≡ exponent_of o name)
+  pub reciprocal : IsTrue (are_reciprocal p o) ↔
+      ((name : List ℕ) → exponent_of p name ≡ negative_of (exponent_of o name))
 
 abbrev pub ConformLaw : Type 0
 ConformLaw = (p o : Exponents) → AreExponents p → AreExponents o → AreCompared p o

@@ -27,13 +27,13 @@ AreThose (Err exponent.Range) expected = None ≡ expected
 AreThose (Err exponent.OutOfMemory) expected = ⊤
 
 -- the fault of an operation on exponents as one of an operation on quantities
-abbrev pub fault_of : ExponentFault → QuantityFault
-fault_of exponent.Range = ExponentRange
-fault_of exponent.OutOfMemory = OutOfMemory
+abbrev pub exponent_fault : ExponentFault → QuantityFault
+exponent_fault exponent.Range = ExponentRange
+exponent_fault exponent.OutOfMemory = OutOfMemory
 
 -- the exponents that f gives to these names, or `None` if one of them is out of range
-unfoldable pub ranged : (List ℕ → Fraction) → List (List ℕ) → Option Exponents
-ranged f names =
+unfoldable pub exponents_in_range : (List ℕ → Fraction) → List (List ℕ) → Option Exponents
+exponents_in_range f names =
     if list_all (λ name. is_exponent (f name)) names
     then Some (exponents_by f names)
     else None

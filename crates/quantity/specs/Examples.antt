@@ -3,7 +3,7 @@ use Rattle.std.specs.Prelude.{◌≡◌, ◌∷◌, [], ℕ, ℤ, pos, negsuc, f
 use Rattle.frac128.specs.Fraction.{Fraction, whole}
 use Rattle.frac128.specs.declared.fault.FracFault.TheVariants.{DivisionByZero, NoExactRoot}
 use Rattle.quantity.specs.Degrees.{is_degree}
-use Rattle.quantity.specs.Powers.{powered}
+use Rattle.quantity.specs.Powers.{rational_power}
 use Rattle.quantity.specs.Text.{listed_text}
 
 -- a quotient in lowest terms
@@ -16,13 +16,13 @@ power name e = (name, e)
 
 -- some numbers raised to fractions: the power of a root, or no result
 pub record PowersLaw : Type 0 where
-  pub root : powered (quotient (pos 4) 9) (quotient (pos 1) 2) ≡ Ok (quotient (pos 2) 3)
-  pub turned_round : powered (quotient (pos 8) 27) (quotient (negsuc 1) 3) ≡ Ok (quotient (pos 9) 4)
-  pub odd_root : powered (whole (negsuc 7)) (quotient (pos 2) 3) ≡ Ok (whole (pos 4))
-  pub no_power : powered (whole (pos 7)) (whole (pos 0)) ≡ Ok (whole (pos 1))
-  pub no_root : powered (whole (pos 2)) (quotient (pos 1) 2) ≡ Err NoExactRoot
-  pub below_zero : powered (whole (negsuc 3)) (quotient (pos 1) 2) ≡ Err NoExactRoot
-  pub by_zero : powered (whole (pos 0)) (whole (negsuc 0)) ≡ Err DivisionByZero
+  pub root : rational_power (quotient (pos 4) 9) (quotient (pos 1) 2) ≡ Ok (quotient (pos 2) 3)
+  pub turned_round : rational_power (quotient (pos 8) 27) (quotient (negsuc 1) 3) ≡ Ok (quotient (pos 9) 4)
+  pub odd_root : rational_power (whole (negsuc 7)) (quotient (pos 2) 3) ≡ Ok (whole (pos 4))
+  pub no_power : rational_power (whole (pos 7)) (whole (pos 0)) ≡ Ok (whole (pos 1))
+  pub no_root : rational_power (whole (pos 2)) (quotient (pos 1) 2) ≡ Err NoExactRoot
+  pub below_zero : rational_power (whole (negsuc 3)) (quotient (pos 1) 2) ≡ Err NoExactRoot
+  pub by_zero : rational_power (whole (pos 0)) (whole (negsuc 0)) ≡ Err DivisionByZero
   pub out_of_range : is_degree (whole (pos 32768)) ≡ false
 
 -- the texts of some names with exponents
@@ -36,6 +36,6 @@ pub record TextsLaw : Type 0 where
   pub root : listed_text (power (codes "V") (quotient (pos 3) 2) ∷ []) ≡ codes " V^3|2"
 
 -- law: the powers and the texts are those found by hand
-pub record ExamplesLaw : Type 0 where
+pub record QuantityExamplesLaw : Type 0 where
   pub powers : PowersLaw
-  pub texts : TextsLaw
+  pub text_examples : TextsLaw

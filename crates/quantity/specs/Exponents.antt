@@ -6,9 +6,9 @@ use Rattle.std.specs.FinMap as map_of
 use Rattle.std.specs.List.{filter}
 use Rattle.std.specs.Ordering.{nat_cmp}
 use Rattle.frac128.specs.Exact.{product, sum}
-use Rattle.frac128.specs.Fraction.{Fraction, IsReduced, negated, whole}
+use Rattle.frac128.specs.Fraction.{Fraction, IsReduced, negative_of, whole}
 use Rattle.frac128.specs.Sign.{is_zero}
-use Rattle.frac128.specs.Steps.{reduced}
+use Rattle.frac128.specs.Steps.{lowest_terms}
 
 -- a reduced fraction with a numerator in -32,767..32,767 and a denominator of at most 60
 pub record IsExponent (e : Fraction) : Type 0 where
@@ -38,8 +38,8 @@ abbrev pub exponent_of : Exponents → List ℕ → Fraction
 exponent_of exponents name = unwrap_or (map_of.get exponents name) (whole (pos 0))
 
 -- the names in either of two maps
-abbrev pub names_of : Exponents → Exponents → List (List ℕ)
-names_of p o = map_of.keys p ++ map_of.keys o
+abbrev pub names_of_both : Exponents → Exponents → List (List ℕ)
+names_of_both p o = map_of.keys p ++ map_of.keys o
 
 -- the exponents that f gives to these names, without those that are 0
 unfoldable pub exponents_by : (List ℕ → Fraction) → List (List ℕ) → Exponents
@@ -48,7 +48,7 @@ exponents_by f names =
 
 -- a fraction in lowest terms
 abbrev pub lowest : Fraction → Fraction
-lowest x = reduced x.num x.den
+lowest x = lowest_terms x.num x.den
 
 -- the sum of two exponents in lowest terms
 abbrev pub exponent_sum : Fraction → Fraction → Fraction
@@ -56,7 +56,7 @@ exponent_sum a b = lowest (sum a b)
 
 -- the difference of two exponents in lowest terms
 abbrev pub exponent_difference : Fraction → Fraction → Fraction
-exponent_difference a b = exponent_sum a (negated b)
+exponent_difference a b = exponent_sum a (negative_of b)
 
 -- an exponent times a fraction, in lowest terms
 abbrev pub exponent_product : Fraction → Fraction → Fraction

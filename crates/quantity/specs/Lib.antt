@@ -11,4 +11,4 @@ pub mod Products
 pub mod Stores
 pub mod Sums
 pub mod Text
-pub mod Told
+pub mod OperationFaults

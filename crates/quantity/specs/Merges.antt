@@ -42,32 +42,32 @@ merged_into step p rest (o ∷ os) =
 
 -- two ordered lists as one: the exponents of a name in both lists are added, and names whose exponents cancel are
 -- dropped
-abbrev pub merged : (Fraction → Fraction) → Powers → Powers → Powers
-merged step [] os = map (power_by step) os
-merged step (p ∷ ps) os = merged_into step p (merged step ps) os
+abbrev pub merge_of : (Fraction → Fraction) → Powers → Powers → Powers
+merge_of step [] os = map (power_by step) os
+merge_of step (p ∷ ps) os = merged_into step p (merge_of step ps) os
 
 -- a reduced fraction as an exponent, if it is one
 abbrev pub as_exponent : Fraction → Option Fraction
 as_exponent e = if is_exponent e then Some e else None
 
 -- the powers with each exponent multiplied, without those that become 0
-abbrev pub scaled : Fraction → Powers → Powers
-scaled by [] = []
-scaled by (p ∷ ps) = put_some (p.0, exponent_product p.1 by) (scaled by ps)
+abbrev pub scaled_powers : Fraction → Powers → Powers
+scaled_powers by [] = []
+scaled_powers by (p ∷ ps) = put_some (p.0, exponent_product p.1 by) (scaled_powers by ps)
 
 -- the exponent of each power is in range
 abbrev pub are_exponents : Powers → Bool
 are_exponents = list_all (λ power. is_exponent power.1)
 
 -- the reason why there are no such powers: an exponent is out of range, or memory ran out
-abbrev pub IsFaultOf : ExponentFault → Powers → Type 0
-IsFaultOf OutOfMemory expected = ⊤
-IsFaultOf Range expected = IsFalse (are_exponents expected)
+abbrev pub IsPowersFault : ExponentFault → Powers → Type 0
+IsPowersFault OutOfMemory expected = ⊤
+IsPowersFault Range expected = IsFalse (are_exponents expected)
 
 -- the answer has these powers, all with exponents in range, or a fault says why not
 abbrev pub ArePowers : {A : Type 0} → (A → Powers) → Result A ExponentFault → Powers → Type 0
 ArePowers powers_of (Ok answer) expected = (powers_of answer ≡ expected) × IsTrue (are_exponents expected)
-ArePowers powers_of (Err fault) expected = IsFaultOf fault expected
+ArePowers powers_of (Err fault) expected = IsPowersFault fault expected
 
 -- the power is appended unless its exponent is 0; otherwise its exponent is out of range, or memory ran out
 abbrev pub IsPut : Result (Unit {0}) ExponentFault → Powers → Powers → List ℕ × Fraction → Type 0

@@ -24,17 +24,17 @@ abbrev pub power_text : List ℕ × Fraction → List ℕ
 power_text e = codes " " ++ e.0 ++ exponent_text (unsigned_abs e.1.num) e.1.den
 
 -- the power is written before the slash
-abbrev pub is_positive : List ℕ × Fraction → Bool
-is_positive e = sign.is_positive e.1
+abbrev pub is_before_slash : List ℕ × Fraction → Bool
+is_before_slash e = sign.is_positive e.1
 
 -- the power is written after the slash
-abbrev pub is_negative : List ℕ × Fraction → Bool
-is_negative e = sign.is_negative e.1
+abbrev pub is_after_slash : List ℕ × Fraction → Bool
+is_after_slash e = sign.is_negative e.1
 
 -- the powers on one side of the slash
-abbrev pub sided : Side → List ℕ × Fraction → Bool
-sided Above e = is_positive e
-sided Below e = is_negative e
+abbrev pub is_on_side : Side → List ℕ × Fraction → Bool
+is_on_side Above e = is_before_slash e
+is_on_side Below e = is_after_slash e
 
 -- the names after the slash, with the slash, or nothing if there are none
 abbrev pub divisor_text : List (List ℕ × Fraction) → List ℕ
@@ -43,7 +43,7 @@ divisor_text (e ∷ es) = codes " /" ++ flat_map power_text (e ∷ es)
 
 -- the names with positive exponents in order and, after a slash, those with negative ones
 abbrev pub listed_text : List (List ℕ × Fraction) → List ℕ
-listed_text powers = flat_map power_text (filter is_positive powers) ++ divisor_text (filter is_negative powers)
+listed_text powers = flat_map power_text (filter is_before_slash powers) ++ divisor_text (filter is_after_slash powers)
 
 abbrev pub powers_text : Exponents → List ℕ
 powers_text exponents = listed_text (map_of.entries exponents)

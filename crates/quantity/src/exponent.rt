@@ -2,7 +2,7 @@
 
 ghost use Rattle.std.specs.Prelude.{◌≡◌, ◌<◌, ◌≤◌, ◌*◌, ◌*ℤ◌, pos, unsigned_abs};
 ghost use Rattle.frac128.specs.Fraction as fraction_spec;
-ghost use Rattle.frac128.specs.Steps.{reduced};
+ghost use Rattle.frac128.specs.Steps.{lowest_terms};
 ghost use Rattle.frac128.specs.Sign as sign;
 ghost use Rattle.quantity.specs.Exponents.{IsExponent, exponent_product, exponent_sum};
 ghost use Rattle.quantity.specs.Merges.{as_exponent};
@@ -63,7 +63,7 @@ impl Exponent {
     }
 
     pub(crate) fn negate(&self) -> Exponent
-        ensures { result ≡ fraction_spec.negated self.now }
+        ensures { result ≡ fraction_spec.negative_of self.now }
     {
         Exponent {
             num: -self.num,
@@ -75,8 +75,8 @@ impl Exponent {
     pub(crate) fn add(&self, other: &Exponent) -> Option<Exponent>
         ensures { result ≡ as_exponent (exponent_sum self.now other.now) }
     {
-        let left = widened(self.num, other.den);
-        let right = widened(other.num, self.den);
+        let left = widen(self.num, other.den);
+        let right = widen(other.num, self.den);
         lowest(left + right, self.den * other.den)
     }
 
@@ -89,7 +89,7 @@ impl Exponent {
 }
 
 // Returns the numerator of an exponent for a denominator that is `times` times as large.
-fn widened(num: i32, times: u32) -> i32
+fn widen(num: i32, times: u32) -> i32
     requires num { unsigned_abs num ≤ 32767 }
     requires times { times ≤ 60 }
     ensures value { result ≡ num *ℤ pos times }
@@ -101,14 +101,14 @@ fn widened(num: i32, times: u32) -> i32
 // Returns num / den in lowest terms, or `None` if it is out of range.
 fn lowest(num: i32, den: u32) -> Option<Exponent>
     requires { 0 < den }
-    ensures { result ≡ as_exponent (reduced num den) }
+    ensures { result ≡ as_exponent (lowest_terms num den) }
 {
     if den == 1 {
         reduced_law();
         return whole(num);
     }
     match Frac::new(i128::from(num), i128::from(den)) {
-        Ok(fraction) => fitting(&fraction),
+        Ok(fraction) => to_exponent(&fraction),
         Err(_) => None,
     }
 }
@@ -125,7 +125,7 @@ fn whole(num: i32) -> Option<Exponent>
 }
 
 // Returns the fraction as an exponent, or `None` if it is out of range.
-fn fitting(fraction: &Frac) -> Option<Exponent>
+fn to_exponent(fraction: &Frac) -> Option<Exponent>
     ensures { result ≡ as_exponent fraction.now }
 {
     let (num, den) = (fraction.num(), fraction.den());

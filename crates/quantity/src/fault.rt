@@ -32,9 +32,9 @@ impl From<FracFault> for QuantityFault {
 
 impl From<ExponentFault> for QuantityFault {
     ghost use Rattle.std.specs.Prelude.{◌≡◌};
-    ghost use Rattle.quantity.specs.Answers.{fault_of};
+    ghost use Rattle.quantity.specs.Answers.{exponent_fault};
 
-    ghost from_gives = { λ exponent fault. fault ≡ fault_of exponent };
+    ghost from_gives = { λ exponent fault. fault ≡ exponent_fault exponent };
 
     fn from(fault: ExponentFault) -> QuantityFault {
         match fault {

@@ -1,10 +1,10 @@
 //! Laws of the definitions that the contracts cite.
 
 ghost use Rattle.quantity.specs.Amount.{ConformLaw};
-ghost use Rattle.quantity.specs.Examples.{ExamplesLaw};
+ghost use Rattle.quantity.specs.Examples.{QuantityExamplesLaw};
 ghost use Rattle.quantity.specs.Exponents.{SameExponentsLaw};
 ghost use Rattle.quantity.specs.Products.{ProductLaw};
-ghost use Rattle.quantity.specs.Told.{ToldLaw};
+ghost use Rattle.quantity.specs.OperationFaults.{QuantityMemoryLaw};
 
 use frac128::reduced_law;
 
@@ -27,11 +27,11 @@ pub fn product_law()
 }
 
 /// No operation results in an out-of-memory fault.
-pub fn told_law()
-    ensures { ToldLaw }
+pub fn quantity_memory_law()
+    ensures { QuantityMemoryLaw }
 {}
 
 /// Some powers and some texts equal those that were found by hand.
 pub fn examples_law()
-    ensures { ExamplesLaw }
+    ensures { QuantityExamplesLaw }
 {}

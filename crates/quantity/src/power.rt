@@ -48,7 +48,7 @@ impl Power {
     }
 
     // Returns the power with this exponent instead of its own.
-    pub(crate) fn changed(self, exponent: Exponent) -> Power
+    pub(crate) fn with_exponent(self, exponent: Exponent) -> Power
         ensures { result ≡ (self.0, exponent) }
     {
         Power {

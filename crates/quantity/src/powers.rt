@@ -2,7 +2,7 @@
 
 ghost use Rattle.std.specs.Prelude.{◌≡◌, ◌==◌, ◌++◌, ◌↔◌, ℕ, List, pos, IfOk, IsTrue, OnOk, Some};
 ghost use Rattle.std.specs.FinMap as map;
-ghost use Rattle.frac128.specs.Fraction.{negated, whole};
+ghost use Rattle.frac128.specs.Fraction.{negative_of, whole};
 ghost use Rattle.quantity.specs.Amount.{are_reciprocal, conform};
 ghost use Rattle.quantity.specs.Answers.{AreThose};
 ghost use Rattle.quantity.specs.Exponents.{AreExponents, exponent_of};
@@ -15,8 +15,8 @@ use crate::degree::Degree;
 use crate::exponent::Exponent;
 use crate::factor::Factor;
 use crate::fault::ExponentFault;
-use crate::matching::exponent_in;
 use crate::power::Power;
+use crate::power_lookup::exponent_in;
 use crate::store::Store;
 use frac128::reduced_law;
 use std::alloc::{AllocError, Global};
@@ -71,7 +71,7 @@ impl Powers {
     pub(crate) fn copy(&self, alloc: Global) -> Result<Powers, AllocError>
         ensures { IfOk result (λ powers. powers ≡ self.now) }
     {
-        let store = self.store.taken(alloc, Factor::Plain)?;
+        let store = self.store.copy_powers(alloc, Factor::Plain)?;
         Ok(Powers { store })
     }
 
@@ -109,7 +109,7 @@ impl Powers {
     pub(crate) fn are_reciprocal(&self, other: &Powers) -> bool
         ensures value { result ≡ are_reciprocal self.now other.now }
         ensures opposite { IsTrue result ↔ ((name : List ℕ)
-            → exponent_of self.now name ≡ negated (exponent_of other.now name)) }
+            → exponent_of self.now name ≡ negative_of (exponent_of other.now name)) }
     {
         self.store.matches(&other.store, Factor::Inverse)
     }
@@ -125,7 +125,7 @@ impl Powers {
     {
         reduced_law();
         let Powers { store: own } = self;
-        let store = own.merged(alloc, &other.store, factor)?;
+        let store = own.merge_store(alloc, &other.store, factor)?;
         Ok(Powers { store })
     }
 
@@ -151,13 +151,13 @@ impl Powers {
     }
 
     // Returns the exponents of a power.
-    pub(crate) fn raised(self, alloc: Global, degree: &Degree) -> Result<Powers, ExponentFault>
+    pub(crate) fn into_power(self, alloc: Global, degree: &Degree) -> Result<Powers, ExponentFault>
         ensures { AreThose result (power_exponents self degree.now) }
     {
         reduced_law();
         degree.denominator_facts();
         let Powers { store: own } = self;
-        let store = own.scaled(alloc, degree)?;
+        let store = own.scale_powers(alloc, degree)?;
         Ok(Powers { store })
     }
 

@@ -2,7 +2,7 @@
 
 ghost use Rattle.std.specs.Prelude.{◌≡◌, pos, IfOk};
 ghost use Rattle.std.specs.FinMap as map;
-ghost use Rattle.frac128.specs.Fraction.{IsFrac, negated, whole};
+ghost use Rattle.frac128.specs.Fraction.{IsFrac, negative_of, whole};
 ghost use Rattle.quantity.specs.Amount as spec;
 ghost use Rattle.quantity.specs.Exponents.{AreExponents, exponent_of};
 
@@ -73,14 +73,14 @@ impl Quantity {
 
     /// Returns the quantity with the sign of its number changed. Fails only if memory runs out.
     pub fn negate(&self, alloc: Global) -> Result<Quantity, AllocError>
-        ensures { IfOk result (λ q. q ≡ record self.now { value = negated self.now.value }) }
+        ensures { IfOk result (λ q. q ≡ record self.now { value = negative_of self.now.value }) }
     {
-        Ok(self.copy(alloc)?.negated())
+        Ok(self.copy(alloc)?.into_negative())
     }
 
     /// Same as `negate`, but takes ownership of the quantity and copies nothing of it.
-    pub fn negated(self) -> Quantity
-        ensures { result ≡ record self { value = negated self.value } }
+    pub fn into_negative(self) -> Quantity
+        ensures { result ≡ record self { value = negative_of self.value } }
     {
         Quantity {
             value: self.value.negate(),

@@ -5,7 +5,8 @@ ghost use Rattle.quantity.specs.Amount.{matches};
 ghost use Rattle.frac128.specs.Fraction.{Fraction, IsReduced};
 ghost use Rattle.quantity.specs.Exponents.{IsPower};
 ghost use Rattle.quantity.specs.Factors.{exponent_in};
-ghost use Rattle.quantity.specs.Merges.{AreInOrder, ArePowers, as_exponent, merged, power_by, put_some, scaled};
+ghost use Rattle.quantity.specs.Merges.{AreInOrder, ArePowers, as_exponent, merge_of, power_by, put_some};
+ghost use Rattle.quantity.specs.Merges.{scaled_powers};
 ghost use Rattle.quantity.specs.Stores.{powers_of, rest_of};
 ghost use Rattle.quantity.specs.Text.{listed_text};
 
@@ -13,12 +14,12 @@ use crate::degree::Degree;
 use crate::exponent::Exponent;
 use crate::factor::Factor;
 use crate::fault::ExponentFault;
-use crate::joining::join_all;
-use crate::matching::{same_lists, same_powers};
-use crate::merging::{copies, merge};
 use crate::name::Name;
 use crate::power::Power;
-use crate::scaling::scale;
+use crate::power_join::join_all;
+use crate::power_lookup::{same_lists, same_powers};
+use crate::power_merge::{copies, merge};
+use crate::power_scale::scale;
 use crate::text::put_powers;
 use crate::walk::Walk;
 use frac128::reduced_law;
@@ -59,7 +60,7 @@ impl Store {
         if exponent.is_zero() {
             return Ok(Store::new(alloc));
         }
-        Ok(Store::One(power.changed(exponent)))
+        Ok(Store::One(power.with_exponent(exponent)))
     }
 
     pub(crate) fn is_empty(&self) -> bool
@@ -108,7 +109,7 @@ impl Store {
     }
 
     // Returns copies of the powers as the factor uses them.
-    pub(crate) fn taken(&self, alloc: Global, factor: Factor) -> Result<Store, AllocError>
+    pub(crate) fn copy_powers(&self, alloc: Global, factor: Factor) -> Result<Store, AllocError>
         ensures { IfOk result (λ store. powers_of store
             ≡ map (power_by (exponent_in factor)) (powers_of self.now)) }
     {
@@ -117,12 +118,12 @@ impl Store {
                 Store::One(power.with(alloc, factor.exponent(power.exponent()))?)
             }
             Store::Few(items) => Store::Few(copies(alloc, items.as_slice(), factor)?),
-            Store::Many(tree) => Store::Few(listed(alloc, tree, factor)?),
+            Store::Many(tree) => Store::Few(list_powers(alloc, tree, factor)?),
         })
     }
 
     // Merges the powers with those of a factor.
-    pub(crate) fn merged(
+    pub(crate) fn merge_store(
         self,
         alloc: Global,
         other: &Store,
@@ -131,13 +132,13 @@ impl Store {
         requires left { AreInOrder (powers_of self) }
         requires right { AreInOrder (powers_of other.now) }
         ensures { ArePowers powers_of result
-            (merged (exponent_in factor) (powers_of self) (powers_of other.now)) }
+            (merge_of (exponent_in factor) (powers_of self) (powers_of other.now)) }
     {
         if other.is_empty() {
             return Ok(self);
         }
         if self.is_empty() {
-            return Ok(other.taken(alloc, factor)?);
+            return Ok(other.copy_powers(alloc, factor)?);
         }
         match self {
             Store::One(left) => merge_one(alloc, left, other, factor),
@@ -150,9 +151,9 @@ impl Store {
     }
 
     // Returns the powers with each exponent multiplied by the exponent of a power, without those that become 0.
-    pub(crate) fn scaled(self, alloc: Global, degree: &Degree) -> Result<Store, ExponentFault>
+    pub(crate) fn scale_powers(self, alloc: Global, degree: &Degree) -> Result<Store, ExponentFault>
         requires { All IsPower (powers_of self) }
-        ensures { ArePowers powers_of result (scaled degree.now (powers_of self)) }
+        ensures { ArePowers powers_of result (scaled_powers degree.now (powers_of self)) }
     {
         let items = match self {
             Store::One(power) => {
@@ -162,7 +163,7 @@ impl Store {
                 return Store::of(alloc, power, product);
             }
             Store::Few(items) => items,
-            Store::Many(tree) => listed(alloc, &tree, Factor::Plain)?,
+            Store::Many(tree) => list_powers(alloc, &tree, Factor::Plain)?,
         };
         Ok(Store::Few(scale(alloc, items, degree)?))
     }
@@ -175,7 +176,7 @@ impl Store {
             Store::One(power) => put_powers(alloc, text, slice::from_ref(power)),
             Store::Few(items) => put_powers(alloc, text, items.as_slice()),
             Store::Many(tree) => {
-                let items = listed(alloc, tree, Factor::Plain)?;
+                let items = list_powers(alloc, tree, Factor::Plain)?;
                 put_powers(alloc, text, items.as_slice())
             }
         }
@@ -183,7 +184,7 @@ impl Store {
 }
 
 // Returns copies of the powers of a tree as the factor uses them.
-fn listed(
+fn list_powers(
     alloc: Global,
     tree: &BTreeMap<Name, Exponent>,
     factor: Factor,
@@ -206,7 +207,7 @@ fn merge_one(
 ) -> Result<Store, ExponentFault>
     requires left { AreInOrder (left ∷ []) }
     requires right { AreInOrder (powers_of other.now) }
-    ensures { ArePowers powers_of result (merged (exponent_in factor) (left ∷ []) (powers_of other.now)) }
+    ensures { ArePowers powers_of result (merge_of (exponent_in factor) (left ∷ []) (powers_of other.now)) }
 {
     reduced_law();
     if let Store::One(right) = other {
@@ -229,7 +230,7 @@ fn merge_list(
 ) -> Result<Store, ExponentFault>
     requires left { AreInOrder left.items }
     requires right { AreInOrder (powers_of other.now) }
-    ensures { ArePowers powers_of result (merged (exponent_in factor) left.items (powers_of other.now)) }
+    ensures { ArePowers powers_of result (merge_of (exponent_in factor) left.items (powers_of other.now)) }
 {
     if let Some(right) = other.list() {
         if left.len() <= MOST_MERGED && right.len() <= MOST_MERGED {
@@ -237,13 +238,13 @@ fn merge_list(
             return Ok(Store::Few(items));
         }
     }
-    let left = planted(alloc, left.as_slice())?;
+    let left = plant_tree(alloc, left.as_slice())?;
     let tree = join_all(alloc, left, other.walk(), factor)?;
     Ok(Store::Many(tree))
 }
 
 // Creates a tree from copies of these powers. Fails only if memory runs out.
-fn planted(alloc: Global, powers: &[Power]) -> Result<BTreeMap<Name, Exponent>, ExponentFault>
+fn plant_tree(alloc: Global, powers: &[Power]) -> Result<BTreeMap<Name, Exponent>, ExponentFault>
     requires { AreInOrder powers.now }
     ensures { ArePowers (λ tree. tree.entries) result powers.now }
 {

@@ -2,7 +2,7 @@
 
 ghost use Rattle.std.specs.Prelude.{◌≡◌, ◌++◌, OnOk, unsigned_abs};
 ghost use Rattle.std.specs.List.{filter, flat_map, list_any};
-ghost use Rattle.quantity.specs.Text.{exponent_text, listed_text, power_text, sided};
+ghost use Rattle.quantity.specs.Text.{exponent_text, is_on_side, listed_text, power_text};
 
 use crate::exponent::Exponent;
 use crate::power::Power;
@@ -18,7 +18,7 @@ enum Side {
 impl Side {
     // Reports whether a power is written on this side.
     fn has(self, power: &Power) -> bool
-        ensures { result ≡ sided self power.now }
+        ensures { result ≡ is_on_side self power.now }
     {
         match self {
             Side::Above => power.exponent().num > 0,
@@ -35,30 +35,30 @@ pub(crate) fn put_powers(
 ) -> Result<(), AllocError>
     ensures { OnOk result (text.new.items ≡ text.old.items ++ listed_text powers.now) }
 {
-    put_side(alloc, text, powers, Side::Above)?;
-    if has_side(powers, Side::Below) {
+    put_part(alloc, text, powers, Side::Above)?;
+    if has_part(powers, Side::Below) {
         text.extend_from_slice(b" /".as_slice())?;
-        put_side(alloc, text, powers, Side::Below)?;
+        put_part(alloc, text, powers, Side::Below)?;
     }
     Ok(())
 }
 
 // Reports whether any power is written on this side.
-fn has_side(powers: &[Power], side: Side) -> bool
-    ensures { result ≡ list_any (sided side) powers.now }
+fn has_part(powers: &[Power], side: Side) -> bool
+    ensures { result ≡ list_any (is_on_side side) powers.now }
 {
     powers.iter().any(|power| side.has(power))
 }
 
 // Appends the names of one side to a text.
-fn put_side(
+fn put_part(
     alloc: Global,
     text: &mut Vec<u8>,
     powers: &[Power],
     side: Side,
 ) -> Result<(), AllocError>
     ensures { OnOk result (text.new.items
-        ≡ text.old.items ++ flat_map power_text (filter (sided side) powers.now)) }
+        ≡ text.old.items ++ flat_map power_text (filter (is_on_side side) powers.now)) }
 {
     for power in powers {
         if side.has(power) {

@@ -4,7 +4,7 @@ use Rattle.deck_lines.proofs.Entries.{reads}
 use Rattle.deck_lines.specs.declared.line.DeckLine.{DeckLine}
 use Rattle.deck_lines.specs.Readings.{entry_in}
 use Rattle.deck.specs.Decks.{Contents}
-use Rattle.deck.specs.Tables.{TableLaw, table}
+use Rattle.deck.specs.Tables.{DeckTableLaw, table}
 use Rattle.frac128.specs.Steps.{ReducedLaw}
 use Rattle.table_names.specs.Meanings.{expansion}
 use Rattle.reply.specs.TextValues.{DenominatorLaw}
@@ -12,10 +12,10 @@ use Rattle.reply.proofs.PositivePoints.{HasTablePoints, line-says}
 use Rattle.reply.proofs.PositiveValues.{gives-value}
 use Rattle.reply.proofs.SoundExpansions.{HasPointsOf, sound-expansion}
 
-module _ (law : ReducedLaw) (tables : TableLaw) where
+module _ (law : ReducedLaw) (tables : DeckTableLaw) where
   deck-points : (d : Contents) → HasPointsOf (table d)
   deck-points d k e is =
-      let found = tables.given d k e is in
+      let found = tables.gives_each d k e is in
       go (slice_get d.lines found.0) found.1
     where
       go : (o : Option DeckLine) → option_and_then entry_in o ≡ Some (k, e) → HasTablePoints e.what

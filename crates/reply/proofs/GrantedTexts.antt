@@ -8,16 +8,16 @@ use Rattle.std.specs.FinMap as map_of
 use Rattle.std.specs.FinMap.Entries.{find, put}
 use Rattle.std.specs.Fmt.{digits}
 use Rattle.std.specs.Ordering.{nat_cmp}
-use Rattle.digits_print.specs.Rounding.{digit_count, first_power, rounded, rounded_at}
+use Rattle.digits_print.specs.RatioRounding.{digit_count, first_power, rounded_at, rounding_of}
 use Rattle.frac128.specs.Divisors.{gcd, gcd_within, lcm}
-use Rattle.frac128.specs.Fraction.{Fraction, negated, whole}
-use Rattle.frac128.specs.Numerals.{greatest}
+use Rattle.frac128.specs.Fraction.{Fraction, negative_of, whole}
+use Rattle.frac128.specs.Numerals.{greatest_passing}
 use Rattle.frac128.specs.Sign.{is_positive}
-use Rattle.frac128.specs.Steps.{over, reduced}
+use Rattle.frac128.specs.Steps.{fraction_quotient, lowest_terms}
 use Rattle.piecewise.specs.Lines.{Point, on_line}
 use Rattle.piecewise.specs.Tables.{x_at}
 use Rattle.quantity.specs.Amount.{Amount, are_reciprocal, conform, matches}
-use Rattle.quantity.specs.Answers.{amount_from, ranged}
+use Rattle.quantity.specs.Answers.{amount_from, exponents_in_range}
 use Rattle.quantity.specs.Exponents.{Exponents, exponent_difference, exponent_of, exponent_sum, exponents_by}
 use Rattle.quantity.specs.Merges.{Powers}
 use Rattle.quantity.specs.Products.{product_exponents, quotient_exponents}
@@ -26,25 +26,26 @@ use Rattle.unit_list.specs.Splits.{counts_of, last_of}
 use Rattle.units_io.specs.Outcomes as outcome
 use Rattle.expr_tree.specs.Faults.{fault_from}
 use Rattle.expr_tree.specs.Lexemes.{lexemes_from, tokens_in}
-use Rattle.expr_tree.specs.Parsed.{parsed}
-use Rattle.expr_tree.specs.Reading.{tree_of}
+use Rattle.expr_tree.specs.ParseResult.{parse_of}
+use Rattle.expr_tree.specs.TokenReading.{tree_of}
 use Rattle.expr_tree.specs.Syntax.{Word}
 use Rattle.tree_eval.specs.declared.fault.ValueFault.TheVariants as fault
 use Rattle.tree_eval.specs.declared.step.Step.TheVariants.{Multiply}
-use Rattle.tree_eval.specs.Expanded.{Named, Primitive, Table}
+use Rattle.tree_eval.specs.Expansions.{Named, Primitive, Table}
 use Rattle.tree_eval.specs.Steps.{Worth, amount, number, plain_number, step_worth}
 use Rattle.tree_eval.specs.Value.{looked_up}
 use Rattle.reply.specs.declared.options.Options.{Options}
 use Rattle.reply.specs.declared.reply.Reply.{Reply}
 use Rattle.reply.specs.declared.target.Target.TheVariants.{Function, Parts, Unit}
-use Rattle.reply.specs.Examples.{default, fraction, granted, refused}
-use Rattle.reply.specs.GrantExamples.{GrantExamplesLaw, measures, number_of, numeral, reply_to, strictly}
-use Rattle.reply.specs.Options.{form_of}
+use Rattle.reply.specs.Examples.{default, example_fraction, granted_reply, refused_reply}
+use Rattle.reply.specs.GrantExamples.{GrantExamplesLaw, example_reply, measures, multiple_syntax, numeral_syntax}
+use Rattle.reply.specs.GrantExamples.{strictly}
+use Rattle.reply.specs.Options.{reply_form}
 use Rattle.reply.specs.Replies.{as_conversion}
-use Rattle.reply.specs.Targets.{target}
+use Rattle.reply.specs.Targets.{conversion_target}
 use Rattle.reply.specs.TextValues.{IsValueOf}
-use Rattle.def_lines.specs.Blanks.{trimmed}
-use Rattle.reply.proofs.Granting.{of-function, of-parts, target-reply, unit-reply}
+use Rattle.def_lines.specs.Blanks.{trim_of}
+use Rattle.reply.proofs.GrantedReplies.{of-function, of-parts, target-reply, unit-reply}
 use Rattle.reply.proofs.UnitConversions.{conversion_by}
 
 -- ---- maps of one name
@@ -81,22 +82,23 @@ module _ (p o : Exponents) (ps os : Powers) (left : map_of.entries p ≡ ps) (ri
       ∙ ap (λ es. in_list es name) right
 
   product-is : product_exponents p o
-      ≡ ranged (λ name. exponent_sum (in_list ps name) (in_list os name)) (names_in ps ++ names_in os)
+      ≡ exponents_in_range (λ name. exponent_sum (in_list ps name) (in_list os name)) (names_in ps ++ names_in os)
   unfolding product_exponents
-  product-is = λ i. ranged (λ name. exponent_sum (exponent-left name i) (exponent-right name i))
+  product-is = λ i. exponents_in_range (λ name. exponent_sum (exponent-left name i) (exponent-right name i))
       (names_in (left i) ++ names_in (right i))
 
   quotient-is : quotient_exponents p o
-      ≡ ranged (λ name. exponent_difference (in_list ps name) (in_list os name)) (names_in ps ++ names_in os)
+      ≡ exponents_in_range (λ name. exponent_difference (in_list ps name) (in_list os name))
+      (names_in ps ++ names_in os)
   unfolding quotient_exponents
-  quotient-is = λ i. ranged (λ name. exponent_difference (exponent-left name i) (exponent-right name i))
+  quotient-is = λ i. exponents_in_range (λ name. exponent_difference (exponent-left name i) (exponent-right name i))
       (names_in (left i) ++ names_in (right i))
 
   conform-is : conform p o ≡ matches (λ e. e) ps os
   conform-is = ap₂ (matches (λ e. e)) left right
 
-  reciprocal-is : are_reciprocal p o ≡ matches negated ps os
-  reciprocal-is = ap₂ (matches negated) left right
+  reciprocal-is : are_reciprocal p o ≡ matches negative_of ps os
+  reciprocal-is = ap₂ (matches negative_of) left right
 
 -- ---- the units
 abbrev m : List ℕ
@@ -121,16 +123,16 @@ abbrev per_second : Fraction → Amount
 per_second x = record { value = x; exponents = single s minus_one }
 
 number-m : product_exponents map_of.empty (single m one) ≡ Some (single m one)
-unfolding ranged exponents_by reduced gcd gcd_within
+unfolding exponents_in_range exponents_by lowest_terms gcd gcd_within
 number-m = product-is map_of.empty (single m one) [] ((m, one) ∷ []) no-entries (one-entry m one) ∙ refl
 
 number-per-s : product_exponents map_of.empty (single s minus_one) ≡ Some (single s minus_one)
-unfolding ranged exponents_by reduced gcd gcd_within
+unfolding exponents_in_range exponents_by lowest_terms gcd gcd_within
 number-per-s = product-is map_of.empty (single s minus_one) [] ((s, minus_one) ∷ []) no-entries (one-entry s minus_one)
     ∙ refl
 
 one-over-s : quotient_exponents map_of.empty (single s one) ≡ Some (single s minus_one)
-unfolding ranged exponents_by reduced gcd gcd_within
+unfolding exponents_in_range exponents_by lowest_terms gcd gcd_within
 one-over-s = quotient-is map_of.empty (single s one) [] ((s, one) ∷ []) no-entries (one-entry s one) ∙ refl
 
 -- ---- the values of the texts
@@ -145,45 +147,45 @@ abbrev times_by : Fraction → Worth → Worth
 times_by x w = after w (λ v. last (step_worth Multiply (plain_number x) v))
 
 value-m : IsValueOf measures (codes "m") (meters one)
-unfolding greatest fault_from lexemes_from tokens_in parsed tree_of
+unfolding greatest_passing fault_from lexemes_from tokens_in parse_of tree_of
 value-m = record { tree = Word m; parses = refl; names = refl; evaluates = refl }
 
 value-s : IsValueOf measures (codes "s") (seconds one)
-unfolding greatest fault_from lexemes_from tokens_in parsed tree_of
+unfolding greatest_passing fault_from lexemes_from tokens_in parse_of tree_of
 value-s = record { tree = Word s; parses = refl; names = refl; evaluates = refl }
 
 value-4-m : IsValueOf measures (codes "4 m") (meters (whole (pos 4)))
-unfolding greatest fault_from lexemes_from tokens_in parsed tree_of gcd gcd_within reduced
+unfolding greatest_passing fault_from lexemes_from tokens_in parse_of tree_of gcd gcd_within lowest_terms
 value-4-m = record {
-  tree = number_of (numeral 4 (pos 0)) m;
+  tree = multiple_syntax (numeral_syntax 4 (pos 0)) m;
   parses = refl;
   names = refl;
   evaluates = ap (λ o. last (amount (amount_from (Ok (whole (pos 4))) o))) number-m;
 }
 
 value-0-m : IsValueOf measures (codes "0 m") (meters (whole (pos 0)))
-unfolding greatest fault_from lexemes_from tokens_in parsed tree_of gcd gcd_within reduced
+unfolding greatest_passing fault_from lexemes_from tokens_in parse_of tree_of gcd gcd_within lowest_terms
 value-0-m = record {
-  tree = number_of (numeral 0 (pos 0)) m;
+  tree = multiple_syntax (numeral_syntax 0 (pos 0)) m;
   parses = refl;
   names = refl;
   evaluates = ap (λ o. last (amount (amount_from (Ok (whole (pos 0))) o))) number-m;
 }
 
-value-yards : IsValueOf measures (codes "yards") (meters (fraction 1143 1250))
-unfolding greatest fault_from lexemes_from tokens_in parsed tree_of gcd gcd_within reduced
+value-yards : IsValueOf measures (codes "yards") (meters (example_fraction 1143 1250))
+unfolding greatest_passing fault_from lexemes_from tokens_in parse_of tree_of gcd gcd_within lowest_terms
 value-yards = record {
   tree = Word (codes "yards");
   parses = refl;
   names = refl;
-  evaluates = ap (λ o. last (amount (amount_from (Ok (fraction 1143 1250)) o))) number-m;
+  evaluates = ap (λ o. last (amount (amount_from (Ok (example_fraction 1143 1250)) o))) number-m;
 }
 
 -- the value of a prefix and a unit
 value-2-km : IsValueOf measures (codes "2 km") (meters (whole (pos 2000)))
-unfolding greatest fault_from lexemes_from tokens_in parsed tree_of gcd gcd_within reduced
+unfolding greatest_passing fault_from lexemes_from tokens_in parse_of tree_of gcd gcd_within lowest_terms
 value-2-km = record {
-  tree = number_of (numeral 2 (pos 0)) (codes "km");
+  tree = multiple_syntax (numeral_syntax 2 (pos 0)) (codes "km");
   parses = refl;
   names = refl;
   evaluates = ap (λ o. times_by (whole (pos 2)) (amount (amount_from (Ok (whole (pos 1000))) o))) number-m
@@ -191,9 +193,9 @@ value-2-km = record {
 }
 
 value-2-Hz : IsValueOf measures (codes "2 Hz") (per_second (whole (pos 2)))
-unfolding greatest fault_from lexemes_from tokens_in parsed tree_of gcd gcd_within reduced
+unfolding greatest_passing fault_from lexemes_from tokens_in parse_of tree_of gcd gcd_within lowest_terms
 value-2-Hz = record {
-  tree = number_of (numeral 2 (pos 0)) (codes "Hz");
+  tree = multiple_syntax (numeral_syntax 2 (pos 0)) (codes "Hz");
   parses = refl;
   names = refl;
   evaluates = ap (λ o. times_by (whole (pos 2)) (last (amount (amount_from (Ok one) o)))) one-over-s
@@ -203,15 +205,15 @@ value-2-Hz = record {
 -- ---- the replies
 -- the reply to two texts that are units, by the tests of their values
 by-units : (options : Options) (from to : List ℕ) (x y : Amount) (conforming opposite : Bool)
-    → target measures (trimmed to) ≡ Unit
-    → IsValueOf measures (trimmed from) x → IsValueOf measures (trimmed to) y
+    → conversion_target measures (trim_of to) ≡ Unit
+    → IsValueOf measures (trim_of from) x → IsValueOf measures (trim_of to) y
     → conform x.exponents y.exponents ≡ conforming → are_reciprocal x.exponents y.exponents ≡ opposite
-    → reply_to options from to
-    ≡ as_conversion (form_of options) (trimmed from) (trimmed to)
+    → example_reply options from to
+    ≡ as_conversion (reply_form options) (trim_of from) (trim_of to)
     (conversion_by x y conforming opposite options.strict)
 by-units options from to x y conforming opposite unit v w a o =
     unit-reply measures options from to unit x y v w
-    ∙ ap₂ (λ b c. as_conversion (form_of options) (trimmed from) (trimmed to)
+    ∙ ap₂ (λ b c. as_conversion (reply_form options) (trim_of from) (trim_of to)
     (conversion_by x y b c options.strict)) a o
 
 m-m : conform (single m one) (single m one) ≡ true
@@ -232,16 +234,18 @@ per-s = conform-is (single s minus_one) (single s one) _ _ (one-entry s minus_on
 per-s-opposite : are_reciprocal (single s minus_one) (single s one) ≡ true
 per-s-opposite = reciprocal-is (single s minus_one) (single s one) _ _ (one-entry s minus_one) (one-entry s one) ∙ refl
 
-linear : reply_to default (codes "2 km") (codes " yards ") ≡ granted (codes "\t* 2187.2266\n\t/ 0.0004572\n")
-unfolding digits digit_count first_power rounded rounded_at gcd gcd_within reduced
+linear : example_reply default (codes "2 km") (codes " yards ") ≡ granted_reply (codes "\t* 2187.2266\n\t/ 0.0004572\n")
+unfolding digits digit_count first_power rounding_of rounded_at gcd gcd_within lowest_terms
 linear =
-    by-units default (codes "2 km") (codes " yards ") (meters (whole (pos 2000))) (meters (fraction 1143 1250)) true
+    by-units default (codes "2 km") (codes " yards ") (meters (whole (pos 2000))) (meters (example_fraction 1143 1250))
+    true
     false
     refl value-2-km value-yards m-m m-m-opposite
     ∙ refl
 
-reciprocal : reply_to default (codes "2 Hz") (codes "s") ≡ granted (codes "\treciprocal conversion\n\t* 0.5\n\t/ 2\n")
-unfolding digits digit_count first_power rounded rounded_at gcd gcd_within reduced
+reciprocal : example_reply default (codes "2 Hz") (codes "s") ≡ granted_reply
+    (codes "\treciprocal conversion\n\t* 0.5\n\t/ 2\n")
+unfolding digits digit_count first_power rounding_of rounded_at gcd gcd_within lowest_terms
 reciprocal =
     by-units default (codes "2 Hz") (codes "s") (per_second (whole (pos 2))) (seconds one) false true refl value-2-Hz
     value-s per-s per-s-opposite
@@ -250,27 +254,28 @@ reciprocal =
 -- two quantities that do not conform, by the lists of their names
 abbrev unlike_reply : (x y : List ℕ) (ps os : Powers) → Reply
 unlike_reply x y ps os =
-    refused ((codes "conformability error\n" ++ ((codes "\t" ++ x ++ listed_text ps) ++ codes "\n"))
+    refused_reply ((codes "conformability error\n" ++ ((codes "\t" ++ x ++ listed_text ps) ++ codes "\n"))
     ++ ((codes "\t" ++ y ++ listed_text os) ++ codes "\n"))
 
-strict : reply_to strictly (codes "2 Hz") (codes "s") ≡ refused (codes "conformability error\n\t2 / s\n\t1 s\n")
-unfolding digits digit_count first_power rounded rounded_at gcd gcd_within reduced
+strict : example_reply strictly (codes "2 Hz") (codes "s") ≡ refused_reply
+    (codes "conformability error\n\t2 / s\n\t1 s\n")
+unfolding digits digit_count first_power rounding_of rounded_at gcd gcd_within lowest_terms
 strict =
     by-units strictly (codes "2 Hz") (codes "s") (per_second (whole (pos 2))) (seconds one) false true refl value-2-Hz
     value-s per-s per-s-opposite
     ∙ ap₂ (unlike_reply (codes "2") (codes "1")) (one-entry s minus_one) (one-entry s one)
     ∙ refl
 
-unlike : reply_to default (codes "m") (codes "s") ≡ refused (codes "conformability error\n\t1 m\n\t1 s\n")
-unfolding digits digit_count first_power rounded rounded_at gcd gcd_within reduced
+unlike : example_reply default (codes "m") (codes "s") ≡ refused_reply (codes "conformability error\n\t1 m\n\t1 s\n")
+unfolding digits digit_count first_power rounding_of rounded_at gcd gcd_within lowest_terms
 unlike =
     by-units default (codes "m") (codes "s") (meters one) (seconds one) false false refl value-m value-s m-s
     m-s-opposite
     ∙ ap₂ (unlike_reply (codes "1") (codes "1")) (one-entry m one) (one-entry s one)
     ∙ refl
 
-zero : reply_to default (codes "m") (codes "0 m") ≡ refused (codes "division by zero\n")
-unfolding gcd gcd_within reduced
+zero : example_reply default (codes "m") (codes "0 m") ≡ refused_reply (codes "division by zero\n")
+unfolding gcd gcd_within lowest_terms
 zero =
     by-units default (codes "m") (codes "0 m") (meters one) (meters (whole (pos 0))) true false refl value-m value-0-m
     m-m
@@ -278,17 +283,17 @@ zero =
     ∙ refl
 
 abbrev both_units : List Amount
-both_units = meters (fraction 1143 1250) ∷ meters one ∷ []
+both_units = meters (example_fraction 1143 1250) ∷ meters one ∷ []
 
 abbrev counts : List Fraction
-counts = whole (pos 2187) ∷ fraction 259 1250 ∷ []
+counts = whole (pos 2187) ∷ example_fraction 259 1250 ∷ []
 
-split : reply_to default (codes "2 km") (codes "yards;m") ≡ granted (codes "\t2187 yards + 0.2072 m\n")
-unfolding digits digit_count first_power rounded rounded_at gcd gcd_within lcm reduced counts_of last_of
+split : example_reply default (codes "2 km") (codes "yards;m") ≡ granted_reply (codes "\t2187 yards + 0.2072 m\n")
+unfolding digits digit_count first_power rounding_of rounded_at gcd gcd_within lcm lowest_terms counts_of last_of
 split =
     target-reply measures default (codes "2 km") (codes "yards;m") (Parts (codes "yards;m")) refl
     (meters (whole (pos 2000))) value-2-km
-    ∙ ap (as_conversion (form_of default) (codes "2 km") (codes "yards;m"))
+    ∙ ap (as_conversion (reply_form default) (codes "2 km") (codes "yards;m"))
     (of-parts measures default (codes "yards;m") (meters (whole (pos 2000))) (codes "yards;m") (codes "yards;m") counts
     refl (record {
       units = both_units;
@@ -306,46 +311,48 @@ points = (whole (pos 1), whole (pos 2)) ∷ (whole (pos 3), whole (pos 6)) ∷ [
 -- the number that the table yields for a quantity that conforms to its unit
 abbrev looked_up_if : Bool → Worth
 looked_up_if conforming =
-    after (if conforming then number (over (whole (pos 4)) one) else Err (fault.WrongArgument (codes "gauge")))
+    after (if conforming then number (fraction_quotient (whole (pos 4)) one) else Err
+    (fault.WrongArgument (codes "gauge")))
     (λ y. looked_up (codes "gauge") (x_at points y.value))
 
-inverse : reply_to default (codes "4 m") (codes "gauge") ≡ granted (codes "\t2\n")
-unfolding digits digit_count first_power rounded rounded_at gcd gcd_within lcm reduced x_at on_line
+inverse : example_reply default (codes "4 m") (codes "gauge") ≡ granted_reply (codes "\t2\n")
+unfolding digits digit_count first_power rounding_of rounded_at gcd gcd_within lcm lowest_terms x_at on_line
 inverse =
     target-reply measures default (codes "4 m") (codes "gauge") Function refl (meters (whole (pos 4))) value-4-m
-    ∙ ap (as_conversion (form_of default) (codes "4 m") (codes "gauge"))
+    ∙ ap (as_conversion (reply_form default) (codes "4 m") (codes "gauge"))
     (of-function measures default (codes "gauge") (meters (whole (pos 4))) (plain_number (whole (pos 2))) (record {
       names = refl;
       function = Table (codes "gauge") 1 (Named (Primitive m)) points;
       meaning = refl;
       evaluates = ap looked_up_if m-m;
     }))
-    ∙ ap (λ es. granted (codes "\t2" ++ listed_text es ++ codes "\n")) no-entries
+    ∙ ap (λ es. granted_reply (codes "\t2" ++ listed_text es ++ codes "\n")) no-entries
     ∙ refl
 
 -- ---- a quotient that does not fit
 value-1e30-m : IsValueOf measures (codes "1e30 m") (meters (whole (pos (10 ^ 30))))
-unfolding greatest fault_from lexemes_from tokens_in parsed tree_of gcd gcd_within reduced
+unfolding greatest_passing fault_from lexemes_from tokens_in parse_of tree_of gcd gcd_within lowest_terms
 value-1e30-m = record {
-  tree = number_of (numeral 1 (pos 30)) m;
+  tree = multiple_syntax (numeral_syntax 1 (pos 30)) m;
   parses = refl;
   names = refl;
   evaluates = ap (λ o. last (amount (amount_from (Ok (whole (pos (10 ^ 30)))) o))) number-m;
 }
 
-value-1e-30-m : IsValueOf measures (codes "1e-30 m") (meters (fraction 1 (10 ^ 30)))
-unfolding greatest fault_from lexemes_from tokens_in parsed tree_of gcd gcd_within reduced
+value-1e-30-m : IsValueOf measures (codes "1e-30 m") (meters (example_fraction 1 (10 ^ 30)))
+unfolding greatest_passing fault_from lexemes_from tokens_in parse_of tree_of gcd gcd_within lowest_terms
 value-1e-30-m = record {
-  tree = number_of (numeral 1 (negsuc 29)) m;
+  tree = multiple_syntax (numeral_syntax 1 (negsuc 29)) m;
   parses = refl;
   names = refl;
-  evaluates = ap (λ o. last (amount (amount_from (Ok (fraction 1 (10 ^ 30))) o))) number-m;
+  evaluates = ap (λ o. last (amount (amount_from (Ok (example_fraction 1 (10 ^ 30))) o))) number-m;
 }
 
-too-large : reply_to default (codes "1e30 m") (codes "1e-30 m") ≡ refused (codes "overflow\n")
-unfolding gcd gcd_within reduced
+too-large : example_reply default (codes "1e30 m") (codes "1e-30 m") ≡ refused_reply (codes "overflow\n")
+unfolding gcd gcd_within lowest_terms
 too-large =
-    by-units default (codes "1e30 m") (codes "1e-30 m") (meters (whole (pos (10 ^ 30)))) (meters (fraction 1 (10 ^ 30)))
+    by-units default (codes "1e30 m") (codes "1e-30 m") (meters (whole (pos (10 ^ 30))))
+    (meters (example_fraction 1 (10 ^ 30)))
     true false refl value-1e30-m value-1e-30-m m-m m-m-opposite
     ∙ refl
 

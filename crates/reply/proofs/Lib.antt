@@ -1,19 +1,19 @@
-pub mod Composing
-mod Converting
+pub mod InquirySequence
+mod ConversionCalls
 mod Denominators
-mod Dividing
+mod ExactDivision
 mod Examples
 pub mod Fronts
 mod FurtherCounts
 mod GrantedTexts
-mod Granting
-mod Inquiring
+mod GrantedReplies
+mod InquiryResults
 mod ListConversions
-mod Parsing
+mod TextTrees
 mod PositivePoints
 mod PositiveSteps
 mod PositiveValues
-mod Replying
+mod ReplyResults
 pub mod Runs
 mod SoundExpansions
 mod Targets

@@ -10,12 +10,12 @@ use Rattle.frac128.specs.Sign.{is_positive}
 use Rattle.quantity.specs.Amount.{Amount, conform}
 use Rattle.unit_list.specs.declared.fault.SplitFault.{SplitFault}
 use Rattle.unit_list.specs.declared.fault.SplitFault.TheVariants as split
-use Rattle.unit_list.specs.Amounts.{checked, counts_in, is_not_positive, is_unlike, numbers_of, place_fault}
+use Rattle.unit_list.specs.Amounts.{counts_in, fault_or_counts, is_not_positive, is_unlike, numbers_of, place_fault}
 use Rattle.unit_list.specs.Splits.{number_counts}
 use Rattle.reply.specs.declared.conversion.Conversion.{Conversion}
 use Rattle.reply.specs.declared.conversion.Conversion.TheVariants.{Split}
 use Rattle.reply.specs.Conversions.{is_granted, split_conversion}
-use Rattle.reply.proofs.Inquiring.{no-ok, ok-same}
+use Rattle.reply.proofs.InquiryResults.{no-ok, ok-same}
 
 -- ---- no element passes a test if none has the first place
 module _ {A : Type 0} (test : A → Bool) where
@@ -74,7 +74,7 @@ module _ (round : Bool) (x : Amount) (units : List Amount) where
     where
       go : (p : Option ℕ) → position (is_unlike x) units ≡ p → (q : Option ℕ) → position is_not_positive units ≡ q
           → (r : Result (List Fraction) FracFault) → number_counts round x.value (numbers_of units) ≡ r
-          → checked (place_fault p q) r ≡ Ok counts → HasCounts counts
+          → fault_or_counts (place_fault p q) r ≡ Ok counts → HasCounts counts
       go None a None b (Ok counted) e h = record {
         conformable = all-pass (λ unit. conform x.exponents unit.exponents) units a;
         positive = all-pass (λ unit. is_positive unit.value) units b;
@@ -87,10 +87,10 @@ module _ (round : Bool) (x : Amount) (units : List Amount) where
   pub of-counts : (counts : List Fraction) → HasCounts counts → counts_in round x units ≡ Ok counts
   unfolding counts_in
   of-counts counts h =
-      ap₂ (λ p q. checked (place_fault p q) (number_counts round x.value (numbers_of units)))
+      ap₂ (λ p q. fault_or_counts (place_fault p q) (number_counts round x.value (numbers_of units)))
       (none-fails (λ unit. conform x.exponents unit.exponents) units h.conformable)
       (none-fails (λ unit. is_positive unit.value) units h.positive)
-      ∙ ap (checked None) h.counted
+      ∙ ap (fault_or_counts None) h.counted
 
   module _ (list : List ℕ) (c : Conversion) where
     -- the conversion has counts of the units

@@ -6,12 +6,12 @@ use Rattle.std.specs.Result.{result_ok}
 use Rattle.units_io.specs.Outcomes.{◌>>=◌}
 use Rattle.frac128.specs.declared.fault.FracFault.{FracFault}
 use Rattle.frac128.specs.declared.numeral.NumeralFault.{NumeralFault}
-use Rattle.frac128.specs.Decimals.{Decimal, read, value_of}
-use Rattle.frac128.specs.Fraction.{Fraction, negated}
-use Rattle.frac128.specs.Steps.{ReducedLaw, over}
+use Rattle.frac128.specs.Decimals.{Decimal, numeral_reading, value_of_decimal}
+use Rattle.frac128.specs.Fraction.{Fraction, negative_of}
+use Rattle.frac128.specs.Steps.{ReducedLaw, fraction_quotient}
 use Rattle.piecewise.specs.Lines.{Point}
 use Rattle.piecewise.specs.Points.{is_table}
-use Rattle.def_lines.specs.Blanks.{after_blanks, trimmed}
+use Rattle.def_lines.specs.Blanks.{after_blanks, trim_of}
 use Rattle.def_lines.specs.Words.{words_of}
 use Rattle.def_entry.specs.declared.fault.EntryFault.{EntryFault}
 use Rattle.def_entry.specs.declared.fault.EntryFault.TheVariants.{BadForm, BadTable}
@@ -22,15 +22,17 @@ use Rattle.def_entry.specs.Cuts.{cut_at}
 use Rattle.def_entry.specs.Entries as what
 use Rattle.def_entry.specs.Entries.{Entry, What}
 use Rattle.def_entry.specs.Forms.{form_of}
-use Rattle.def_entry.specs.Headings.{Heading, heading}
+use Rattle.def_entry.specs.Headings.{Heading, head_of_line}
 use Rattle.def_entry.specs.Keys.{key}
 use Rattle.def_entry.specs.Marks.{bar_mark, minus_mark, plus_mark}
-use Rattle.def_entry.specs.Numbers.{number_of, numeral_value, parted_value, quotient_value, unsigned_value, value_read}
-use Rattle.def_entry.specs.Outcomes.{named, or_fault, tree_in}
-use Rattle.def_entry.specs.PointLists.{behind_no_error, is_comma, pairs_of, points_between, points_of, some_pairs}
+use Rattle.def_entry.specs.Numbers.{numeral_value, parted_value, quotient_value, text_number, unsigned_value}
+use Rattle.def_entry.specs.Numbers.{value_read}
+use Rattle.def_entry.specs.Outcomes.{entry_tree, name_or_fault, or_fault}
+use Rattle.def_entry.specs.PointLists.{behind_no_error, is_comma, points_between, points_of, points_of_words}
+use Rattle.def_entry.specs.PointLists.{some_pairs}
 use Rattle.def_entry.specs.PointLists.{table_points}
-use Rattle.def_entry.specs.Reading as read
-use Rattle.def_entry.specs.Reading.{entry_of, what_in, what_of}
+use Rattle.def_entry.specs.EntryReading as read
+use Rattle.def_entry.specs.EntryReading.{entry_of, what_in, what_of}
 use Rattle.def_entry.specs.Steps as option
 use Rattle.reply.proofs.PositiveSteps.{HasPositive, IsPositive, over-positive, value-positive}
 
@@ -48,9 +50,9 @@ positive-some : (r : Result Fraction FracFault) → IsPositive r → IsPositiveI
 positive-some (Ok x) h y e = h y (ap Ok (some-same x y e))
 positive-some (Err fault) h y e = absurd (cc)
 
-positive-negated : (o : Option Fraction) → IsPositiveIf o → IsPositiveIf (option_map negated o)
+positive-negated : (o : Option Fraction) → IsPositiveIf o → IsPositiveIf (option_map negative_of o)
 positive-negated None h y e = absurd (cc)
-positive-negated (Some x) h y e = subst (λ (z : Fraction). 0 < z.den) (some-same (negated x) y e) (h x refl)
+positive-negated (Some x) h y e = subst (λ (z : Fraction). 0 < z.den) (some-same (negative_of x) y e) (h x refl)
 
 positive-either : (b : Bool) (o p : Option Fraction) → IsPositiveIf o → IsPositiveIf p
     → IsPositiveIf (if b then o else p)
@@ -59,17 +61,18 @@ positive-either false o p h k = k
 
 module _ (law : ReducedLaw) where
   positive-read : (r : Result Decimal NumeralFault) → IsPositiveIf (value_read r)
-  positive-read (Ok d) = positive-some (value_of d) (value-positive law d)
+  positive-read (Ok d) = positive-some (value_of_decimal d) (value-positive law d)
   positive-read (Err fault) = none-positive
 
   positive-numeral : (bytes : List ℕ) → IsPositiveIf (numeral_value bytes)
-  positive-numeral bytes = positive-read (read bytes)
+  positive-numeral bytes = positive-read (numeral_reading bytes)
 
   positive-quotient : (above below : List ℕ) → IsPositiveIf (quotient_value above below)
   positive-quotient above below = go (numeral_value above) (numeral_value below)
     where
-      go : (a b : Option Fraction) → IsPositiveIf (option.◌>>=◌ a (λ x. option.◌>>=◌ b (λ y. result_ok (over x y))))
-      go (Some x) (Some y) = positive-some (over x y) (over-positive law x y)
+      go : (a b : Option Fraction)
+          → IsPositiveIf (option.◌>>=◌ a (λ x. option.◌>>=◌ b (λ y. result_ok (fraction_quotient x y))))
+      go (Some x) (Some y) = positive-some (fraction_quotient x y) (over-positive law x y)
       go (Some x) None = none-positive
       go None b = none-positive
 
@@ -80,11 +83,11 @@ module _ (law : ReducedLaw) where
   positive-unsigned : (text : List ℕ) → IsPositiveIf (unsigned_value text)
   positive-unsigned text = positive-parted (cut_at bar_mark text) text
 
-  positive-number : (text : List ℕ) → IsPositiveIf (number_of text)
-  unfolding number_of
+  positive-number : (text : List ℕ) → IsPositiveIf (text_number text)
+  unfolding text_number
   positive-number [] = none-positive
   positive-number (b ∷ text) =
-      positive-either (b == minus_mark) (option_map negated (unsigned_value text))
+      positive-either (b == minus_mark) (option_map negative_of (unsigned_value text))
       (if b == plus_mark then unsigned_value text else unsigned_value (b ∷ text))
       (positive-negated (unsigned_value text) (positive-unsigned text))
       (positive-either (b == plus_mark) (unsigned_value text) (unsigned_value (b ∷ text))
@@ -107,9 +110,9 @@ each-append (p ∷ front) points h k = (h.0, each-append front points h.1 k)
 
 module _ (law : ReducedLaw) where
   pair-points : (x y : List ℕ) (rest : Option (List Point)) → ArePositiveIf rest
-      → ArePositiveIf (option.◌>>=◌ (number_of x) (λ a. option.◌>>=◌ (number_of y) (λ b. option.◌>>=◌ rest
+      → ArePositiveIf (option.◌>>=◌ (text_number x) (λ a. option.◌>>=◌ (text_number y) (λ b. option.◌>>=◌ rest
       (λ points. Some ((a, b) ∷ points)))))
-  pair-points x y rest h = go (number_of x) (positive-number law x) (number_of y) rest h
+  pair-points x y rest h = go (text_number x) (positive-number law x) (text_number y) rest h
     where
       go : (m : Option Fraction) → IsPositiveIf m → (n : Option Fraction) (o : Option (List Point)) → ArePositiveIf o
           → ArePositiveIf (option.◌>>=◌ m
@@ -119,10 +122,10 @@ module _ (law : ReducedLaw) where
       go (Some a) h None o k = no-points
       go None h n o k = no-points
 
-  pairs-points : (words : List (List ℕ)) → ArePositiveIf (pairs_of words)
+  pairs-points : (words : List (List ℕ)) → ArePositiveIf (points_of_words words)
   pairs-points [] = some-points [] tt
   pairs-points (x ∷ []) = no-points
-  pairs-points (x ∷ y ∷ words) = pair-points x y (pairs_of words) (pairs-points words)
+  pairs-points (x ∷ y ∷ words) = pair-points x y (points_of_words words) (pairs-points words)
 
   some_pairs-points : (words : List (List ℕ)) → ArePositiveIf (some_pairs words)
   some_pairs-points [] = no-points
@@ -172,7 +175,8 @@ says-if false r s h k = k
 
 body-says : (text : List ℕ) → Says (read.body_in text)
 body-says text =
-    says-then (read.wanted text) _ (λ body e. says-then (tree_in None body) _ (λ tree i. says-ok (what.Body tree) tt))
+    says-then (read.nonempty_text text) _
+    (λ body e. says-then (entry_tree None body) _ (λ tree i. says-ok (what.Body tree) tt))
 
 unit-says : (text : List ℕ) → Says (read.unit_in text)
 unit-says text =
@@ -180,21 +184,22 @@ unit-says text =
 
 alias-says : (text : List ℕ) → Says (read.alias_in text)
 alias-says text =
-    says-then (read.wanted (read.without_call (trimmed text))) _ (λ target e.
-    says-then (named target) _ (λ name i. says-ok (what.Alias name) tt))
+    says-then (read.nonempty_text (read.without_call (trim_of text))) _ (λ target e.
+    says-then (name_or_fault target) _ (λ name i. says-ok (what.Alias name) tt))
 
 call-says : (name inside rest : List ℕ) → Says (read.call_in name inside rest)
 call-says name [] rest = alias-says rest
 call-says name (b ∷ bytes) rest =
-    says-then (named (b ∷ bytes)) _ (λ parameter e.
+    says-then (name_or_fault (b ∷ bytes)) _ (λ parameter e.
     says-then (or_fault BadForm (form_of rest)) _ (λ form i.
     says-then (read.units_in form.options.units) _ (λ units j.
-    says-then (tree_in (Some parameter) form.forward) _ (λ forward k.
+    says-then (entry_tree (Some parameter) form.forward) _ (λ forward k.
     says-then (read.inverse_in name form.inverse) _ (λ inverse l.
     says-ok (read.function form units forward inverse) tt)))))
 
 module _ (law : ReducedLaw) where
-  in-points : (text : List ℕ) (points : List Point) → read.points_in text ≡ Ok points → Each HasPositive points
+  in-points : (text : List ℕ) (points : List Point) → read.points_in text ≡ Ok points
+      → Each HasPositive points
   in-points text points h = go (points_of text) (text-points law text) h
     where
       of-table : (all : List Point) → Each HasPositive all → (b : Bool)
@@ -210,21 +215,23 @@ module _ (law : ReducedLaw) where
 
   table-says : (text rest : List ℕ) → Says (read.table_in text rest)
   table-says text rest =
-      says-then (read.wanted text) _ (λ unit e. says-then (read.points_in rest) _ (λ points i.
-      says-then (tree_in None unit) _ (λ tree j.
+      says-then (read.nonempty_text text) _
+      (λ unit e. says-then (read.points_in rest) _ (λ points i.
+      says-then (entry_tree None unit) _ (λ tree j.
       says-ok (what.Table (record { unit = tree; points = points })) (in-points rest points i))))
 
   func-says : (name text : List ℕ) → Says (read.func_in name text)
   func-says name [] = says-err _
   func-says name (b ∷ text) =
       says-if _ _ _
-      (says-then (or_fault BadForm (cut_at _ text)) _ (λ parts e. call-says name (trimmed parts.0) parts.1))
-      (says-then (or_fault BadForm (cut_at _ text)) _ (λ parts e. table-says (trimmed parts.0) parts.1))
+      (says-then (or_fault BadForm (cut_at _ text)) _ (λ parts e. call-says name (trim_of parts.0) parts.1))
+      (says-then (or_fault BadForm (cut_at _ text)) _ (λ parts e. table-says (trim_of parts.0) parts.1))
 
   list-says : (text : List ℕ) → Says (read.list_in text)
   list-says text =
-      says-then (read.wanted text) _ (λ parts e.
-      says-then (read.trees_in (slice_split read.is_semicolon parts)) _ (λ trees i. says-ok (what.ListOf trees) tt))
+      says-then (read.nonempty_text text) _ (λ parts e.
+      says-then (read.entry_trees (slice_split read.is_semicolon parts)) _
+      (λ trees i. says-ok (what.ListOf trees) tt))
 
   kind-says : (k : Kind) (name text : List ℕ) → Says (what_in k name text)
   kind-says kind.Unit name text = unit-says text
@@ -241,11 +248,11 @@ module _ (law : ReducedLaw) where
   entry_for h w = (key h.kind h.name, record { text = h.text; what = w })
 
   pub line-says : (line : List ℕ) (k : Key) (e : Entry) → entry_of line ≡ Ok (k, e) → HasTablePoints e.what
-  line-says line k e h = go (what_of (heading line)) (heading-says (heading line)) h
+  line-says line k e h = go (what_of (head_of_line line)) (heading-says (head_of_line line)) h
     where
-      go : (r : Result What EntryFault) → Says r → (r >>= (λ w. Ok (entry_for (heading line) w))) ≡ Ok (k, e)
+      go : (r : Result What EntryFault) → Says r → (r >>= (λ w. Ok (entry_for (head_of_line line) w))) ≡ Ok (k, e)
           → HasTablePoints e.what
       go (Ok w) s i =
-          let same : entry_for (heading line) w ≡ (k, e) = cc in
+          let same : entry_for (head_of_line line) w ≡ (k, e) = cc in
           subst (λ (p : Key × Entry). HasTablePoints p.1.what) same (s w refl)
       go (Err fault) s i = absurd (cc)

@@ -9,19 +9,19 @@ use Rattle.std.specs.Int.{int_pow}
 use Rattle.std.specs.Ordering.{is_eq}
 use Rattle.frac128.specs.declared.fault.FracFault.{FracFault}
 use Rattle.frac128.specs.declared.fault.FracFault.TheVariants.{Overflow}
-use Rattle.frac128.specs.Decimals.{Decimal, value_of}
+use Rattle.frac128.specs.Decimals.{Decimal, value_of_decimal}
 use Rattle.frac128.specs.Divisors.{gcd, lcm}
-use Rattle.frac128.specs.Fraction.{Fraction, fits}
-use Rattle.frac128.specs.Order.{compared}
+use Rattle.frac128.specs.Fraction.{Fraction, fits_most}
+use Rattle.frac128.specs.Order.{order_of}
 use Rattle.frac128.specs.Powers.{power}
 use Rattle.frac128.specs.Roots.{root_of}
 use Rattle.frac128.specs.Steps as step
-use Rattle.frac128.specs.Steps.{ReducedLaw, fitting, over, ratio, reduced, times}
+use Rattle.frac128.specs.Steps.{ReducedLaw, fit_or_overflow, fraction_product, fraction_quotient, lowest_terms, ratio}
 use Rattle.frac128.specs.Sums.{in_range, minus, numerator_over, plus, step_over, sum_over}
 use Rattle.frac128.proofs.Multiples.{lcm-times}
-use Rattle.piecewise.specs.Lines.{Point, exchanged, on_line}
-use Rattle.piecewise.specs.Tables.{Segment, given_by, holds_y, segments, x_at, x_on}
-use Rattle.quantity.specs.Powers.{power_of_root, powered}
+use Rattle.piecewise.specs.Lines.{Point, on_line, swapped_point}
+use Rattle.piecewise.specs.Tables.{Segment, holds_y, segments, value_on, x_at, x_on}
+use Rattle.quantity.specs.Powers.{power_of_root, rational_power}
 
 -- the denominator of a result, if there is one, is above 0
 abbrev pub IsPositive : {E : Type 0} → Result Fraction E → Type 0
@@ -65,28 +65,28 @@ abbrev pub HasPositive : Point → Type 0
 HasPositive p = 0 < p.0.den
 
 module _ (law : ReducedLaw) where
-  reduced-positive : (n : ℤ) (d : ℕ) → 0 < d → 0 < (reduced n d).den
+  reduced-positive : (n : ℤ) (d : ℕ) → 0 < d → 0 < (lowest_terms n d).den
   reduced-positive n d some = (law n d some).0.positive
 
-  fitting-positive : (x : Fraction) → 0 < x.den → IsPositive (fitting x)
-  fitting-positive x h = if-positive (fits x) (Ok x) (Err Overflow) (ok-positive x h) (err-positive Overflow)
+  fitting-positive : (x : Fraction) → 0 < x.den → IsPositive (fit_or_overflow x)
+  fitting-positive x h = if-positive (fits_most x) (Ok x) (Err Overflow) (ok-positive x h) (err-positive Overflow)
 
   pub ratio-positive : (n d : ℤ) → IsPositive (ratio n d)
   ratio-positive n (pos zero) = err-positive _
-  ratio-positive n (pos (suc d)) = fitting-positive (reduced n (suc d)) (reduced-positive n (suc d) (omega arith))
+  ratio-positive n (pos (suc d)) = fitting-positive (lowest_terms n (suc d)) (reduced-positive n (suc d) (omega arith))
   ratio-positive n (negsuc d) =
-      fitting-positive (reduced (neg_ℤ n) (suc d)) (reduced-positive (neg_ℤ n) (suc d) (omega arith))
+      fitting-positive (lowest_terms (neg_ℤ n) (suc d)) (reduced-positive (neg_ℤ n) (suc d) (omega arith))
 
-  pub over-positive : (x y : Fraction) → IsPositive (over x y)
+  pub over-positive : (x y : Fraction) → IsPositive (fraction_quotient x y)
   over-positive x y = ratio-positive (x.num *ℤ pos y.den) (pos x.den *ℤ y.num)
 
-  pub times-positive : (x y : Fraction) → IsPositive (times x y)
+  pub times-positive : (x y : Fraction) → IsPositive (fraction_product x y)
   times-positive x y = ratio-positive (x.num *ℤ y.num) (pos (x.den * y.den))
 
-  pub value-positive : (d : Decimal) → IsPositive (value_of d)
+  pub value-positive : (d : Decimal) → IsPositive (value_of_decimal d)
   value-positive d = go d.coefficient d.scale
     where
-      go : (n : ℕ) (k : ℤ) → IsPositive (value_of (record { coefficient = n; scale = k }))
+      go : (n : ℕ) (k : ℤ) → IsPositive (value_of_decimal (record { coefficient = n; scale = k }))
       go n (pos k) = ratio-positive (pos (n * 10 ^ k)) (pos 1)
       go n (negsuc k) = ratio-positive (pos n) (pos (10 ^ suc k))
 
@@ -98,14 +98,14 @@ module _ (law : ReducedLaw) where
   root-positive (Ok root) k = power-positive root k
   root-positive (Err fault) k = err-positive fault
 
-  pub powered-positive : (x by : Fraction) → IsPositive (powered x by)
+  pub powered-positive : (x by : Fraction) → IsPositive (rational_power x by)
   powered-positive x by = root-positive (root_of x by.den) by.num
 
   sum-positive : (step : ℤ → ℤ → ℤ) (m : ℕ) (l r : ℤ) → 0 < m → IsPositive (step_over step m l r)
   sum-positive step m l r some =
       if-positive (in_range (pos m) && in_range l && in_range r) (sum_over m (step l r)) (Err Overflow)
-      (if-positive (in_range (step l r)) (Ok (reduced (step l r) m)) (Err Overflow)
-      (ok-positive (reduced (step l r) m) (reduced-positive (step l r) m some)) (err-positive Overflow))
+      (if-positive (in_range (step l r)) (Ok (lowest_terms (step l r) m)) (Err Overflow)
+      (ok-positive (lowest_terms (step l r) m) (reduced-positive (step l r) m some)) (err-positive Overflow))
       (err-positive Overflow)
 
   pub plus-positive : (x y : Fraction) → 0 < x.den → 0 < y.den → IsPositive (plus x y)
@@ -132,15 +132,15 @@ module _ (law : ReducedLaw) where
   line-positive p q x some =
       then-positive (minus q.1 p.1) _ (λ rise.
       then-positive (minus x p.0) _ (λ run.
-      then-positive (times rise run) _ (λ product.
+      then-positive (fraction_product rise run) _ (λ product.
       then-positive (minus q.0 p.0) _ (λ width.
-      added-positive p.1 some (over product width) (over-positive product width)))))
+      added-positive p.1 some (fraction_quotient product width) (over-positive product width)))))
 
   segment-positive : (y : Fraction) (s : Segment) → 0 < s.left.0.den → IsPositive (x_on y s)
   segment-positive y s some =
-      if-positive (is_eq (compared s.left.1 s.right.1)) (Ok s.left.0)
-      (on_line (exchanged s.left) (exchanged s.right) y) (ok-positive s.left.0 some)
-      (line-positive (exchanged s.left) (exchanged s.right) y some)
+      if-positive (is_eq (order_of s.left.1 s.right.1)) (Ok s.left.0)
+      (on_line (swapped_point s.left) (swapped_point s.right) y) (ok-positive s.left.0 some)
+      (line-positive (swapped_point s.left) (swapped_point s.right) y some)
 
   segments-positive : (points : List Point) → Each HasPositive points
       → Each (λ (s : Segment). 0 < s.left.0.den) (segments points)
@@ -149,16 +149,16 @@ module _ (law : ReducedLaw) where
   segments-positive (p ∷ q ∷ points) h = (h.0, segments-positive (q ∷ points) h.1)
 
   found-positive : (test : Segment → Bool) (all : List Segment) → Each (λ (s : Segment). 0 < s.left.0.den) all
-      → (y : Fraction) → IsPositive (given_by (x_on y) (find test all))
+      → (y : Fraction) → IsPositive (value_on (x_on y) (find test all))
   found-positive test [] h y = err-positive _
   found-positive test (s ∷ all) h y = go (test s) (found-positive test all h.1 y)
     where
-      numbered-positive : (r : Result Fraction FracFault) → IsPositive r → IsPositive (given_by (λ z. r) (Some s))
+      numbered-positive : (r : Result Fraction FracFault) → IsPositive r → IsPositive (value_on (λ z. r) (Some s))
       numbered-positive (Ok x) k = ok-positive x (k x refl)
       numbered-positive (Err fault) k = err-positive _
 
-      go : (b : Bool) → IsPositive (given_by (x_on y) (find test all))
-          → IsPositive (given_by (x_on y) (cond b (Some s) (find test all)))
+      go : (b : Bool) → IsPositive (value_on (x_on y) (find test all))
+          → IsPositive (value_on (x_on y) (cond b (Some s) (find test all)))
       go true rest = numbered-positive (x_on y s) (segment-positive y s h.0)
       go false rest = rest
 

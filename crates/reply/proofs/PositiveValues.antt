@@ -7,9 +7,9 @@ use Rattle.expr_tree.specs.declared.operator.RootKind.{RootKind}
 use Rattle.expr_tree.specs.Syntax.{degree}
 use Rattle.def_entry.specs.declared.entry.Span.{Span}
 use Rattle.frac128.specs.declared.fault.FracFault.{FracFault}
-use Rattle.frac128.specs.Decimals.{Decimal, value_of}
+use Rattle.frac128.specs.Decimals.{Decimal, value_of_decimal}
 use Rattle.frac128.specs.Fraction.{Fraction}
-use Rattle.frac128.specs.Steps.{ReducedLaw, over, ratio, times}
+use Rattle.frac128.specs.Steps.{ReducedLaw, fraction_product, fraction_quotient, ratio}
 use Rattle.frac128.specs.Sums.{minus, plus}
 use Rattle.piecewise.specs.declared.fault.TableFault.{TableFault}
 use Rattle.piecewise.specs.declared.fault.TableFault.TheVariants as table
@@ -19,20 +19,21 @@ use Rattle.quantity.specs.Amount.{Amount, conform, is_number}
 use Rattle.quantity.specs.Answers.{amount_from}
 use Rattle.quantity.specs.Degrees.{is_degree}
 use Rattle.quantity.specs.Exponents.{Exponents}
-use Rattle.quantity.specs.Powers.{power_exponents, power_of, powered}
+use Rattle.quantity.specs.Powers.{power_exponents, power_of, rational_power}
 use Rattle.quantity.specs.Products.{product_exponents, quotient_exponents}
 use Rattle.quantity.specs.Sums.{of_conforming}
 use Rattle.unit_list.specs.Amounts.{HasDenominator}
 use Rattle.tree_eval.specs.declared.fault.ValueFault.{ValueFault}
 use Rattle.tree_eval.specs.declared.step.Step.{Step}
 use Rattle.tree_eval.specs.declared.step.Step.TheVariants.{Add, Divide, Multiply, Subtract}
-use Rattle.tree_eval.specs.Expanded.{Expanded, Number, Bar, Argument, Primitive, Dimensionless, Named, Prefixed}
-use Rattle.tree_eval.specs.Expanded.{Uncalled, Applied, Unapplied, Root, Group, Negated, Power, Chain}
-use Rattle.tree_eval.specs.Expanded.{Links, NoLink, Link, Callable, Function, Alias, Table, Given, Absent, Present}
-use Rattle.tree_eval.specs.Steps.{Worth, amount, number, numeral_quotient, opposite, plain_number, root, step_worth}
-use Rattle.tree_eval.specs.Tests.{conforming, inside, is_within, number_in, tested}
-use Rattle.tree_eval.specs.Value.{applied, as_number, chained, in_unit_of, looked_up, most_rank, shallow}
-use Rattle.tree_eval.specs.Value.{unapplied, unit_value, value}
+use Rattle.tree_eval.specs.Expansions.{Expanded, Number, Bar, Argument, Primitive, Dimensionless, Named, Prefixed}
+use Rattle.tree_eval.specs.Expansions.{Uncalled, Applied, Unapplied, Root, Group, Negated, Power, Chain}
+use Rattle.tree_eval.specs.Expansions.{Links, NoLink, Link, Callable, Function, Alias, Table, Given, Absent, Present}
+use Rattle.tree_eval.specs.Steps.{Worth, amount, negative_amount, number, numeral_quotient, plain_number, root}
+use Rattle.tree_eval.specs.Steps.{step_worth}
+use Rattle.tree_eval.specs.Tests.{end_test, inside, is_within, number_in, unit_check}
+use Rattle.tree_eval.specs.Value.{as_number, chain_value, in_unit_of, looked_up, most_rank, shallow, value_at}
+use Rattle.tree_eval.specs.Value.{inverse_value_at, optional_unit_value, value}
 use Rattle.reply.proofs.PositiveSteps.{HasPositive, IsPositive, err-positive, minus-positive, over-positive}
 use Rattle.reply.proofs.PositiveSteps.{plus-positive}
 use Rattle.reply.proofs.PositiveSteps.{powered-positive, times-positive, value-positive, x-positive}
@@ -117,19 +118,19 @@ gives-inside outside unit (Some span) q h =
     gives-then (number_in unit q) _ (λ x e. gives-if (is_within span x) (Ok q) _ (gives-ok q h) (gives-err _))
 
 gives-tested : (wrong outside : ValueFault) (unit : Result (Option Amount) ValueFault) (span : Option Span) (q : Amount)
-    → HasDenominator q → GivesPositive (tested wrong outside unit span q)
+    → HasDenominator q → GivesPositive (end_test wrong outside unit span q)
 gives-tested wrong outside unit span q h =
-    gives-then unit _ (λ u e. gives-then (conforming wrong u span q) _ (λ x i. gives-inside outside u span q h))
+    gives-then unit _ (λ u e. gives-then (unit_check wrong u span q) _ (λ x i. gives-inside outside u span q h))
 
 module _ (law : ReducedLaw) where
   gives-power : (x by : Amount) → GivesPositive (amount (power_of x by))
   gives-power x by = go (not (is_number by)) (not (is_degree by.value))
     where
       go : (a b : Bool) → GivesPositive (amount (if a then Err ExponentNotNumber else (if b then Err ExponentRange
-          else amount_from (powered x.value by.value) (power_exponents x.exponents by.value))))
+          else amount_from (rational_power x.value by.value) (power_exponents x.exponents by.value))))
       go true b = gives-err _
       go false true = gives-err _
-      go false false = gives-amount (powered x.value by.value) (power_exponents x.exponents by.value)
+      go false false = gives-amount (rational_power x.value by.value) (power_exponents x.exponents by.value)
           (powered-positive law x.value by.value)
 
   gives-conforming : (r : Result Fraction FracFault) (x y : Amount) → IsPositive r
@@ -142,17 +143,19 @@ module _ (law : ReducedLaw) where
       go false = gives-err _
 
   gives-step : (step : Step) (x y : Amount) → HasDenominator x → HasDenominator y → GivesPositive (step_worth step x y)
-  gives-step Multiply x y h k = gives-amount (times x.value y.value) (product_exponents x.exponents y.exponents)
+  gives-step Multiply x y h k = gives-amount (fraction_product x.value y.value)
+      (product_exponents x.exponents y.exponents)
       (times-positive law x.value y.value)
-  gives-step Divide x y h k = gives-amount (over x.value y.value) (quotient_exponents x.exponents y.exponents)
+  gives-step Divide x y h k = gives-amount (fraction_quotient x.value y.value)
+      (quotient_exponents x.exponents y.exponents)
       (over-positive law x.value y.value)
   gives-step Add x y h k = gives-conforming (plus x.value y.value) x y (plus-positive law x.value y.value h k)
   gives-step Subtract x y h k = gives-conforming (minus x.value y.value) x y (minus-positive law x.value y.value h k)
 
   gives-quotient : (x y : Decimal) → GivesPositive (number (numeral_quotient x y))
-  gives-quotient x y = gives-number (numeral_quotient x y) (go (value_of x) (value_of y))
+  gives-quotient x y = gives-number (numeral_quotient x y) (go (value_of_decimal x) (value_of_decimal y))
     where
-      go : (p q : Result Fraction FracFault) → IsPositive (p >>= (λ a. q >>= (λ b. over a b)))
+      go : (p q : Result Fraction FracFault) → IsPositive (p >>= (λ a. q >>= (λ b. fraction_quotient a b)))
       go (Ok a) (Ok b) = over-positive law a b
       go (Ok a) (Err f) = err-positive f
       go (Err f) q = err-positive f
@@ -162,13 +165,13 @@ module _ (law : ReducedLaw) where
 
   gives-in_unit : (name : List ℕ) (unit x : Amount) → GivesPositive (in_unit_of name unit x)
   gives-in_unit name unit x =
-      gives-if (conform x.exponents unit.exponents) (number (over x.value unit.value)) _
-      (gives-number (over x.value unit.value) (over-positive law x.value unit.value)) (gives-err _)
+      gives-if (conform x.exponents unit.exponents) (number (fraction_quotient x.value unit.value)) _
+      (gives-number (fraction_quotient x.value unit.value) (over-positive law x.value unit.value)) (gives-err _)
 
   -- ---- values
   mutual
     pub gives-value : (e : Expanded) (a : Option Amount) → IsSound e → HasDenominatorIf a → GivesPositive (value e a)
-    gives-value (Number d) a s h = gives-number (value_of d) (value-positive law d)
+    gives-value (Number d) a s h = gives-number (value_of_decimal d) (value-positive law d)
     gives-value (Bar x y) a s h = gives-quotient x y
     gives-value Argument (Some x) s h = gives-ok x h
     gives-value Argument None s h = gives-ok _ (omega arith)
@@ -177,7 +180,7 @@ module _ (law : ReducedLaw) where
     gives-value (Named x) a s h = gives-value x None s tt
     gives-value (Prefixed x y) a s h =
         gives-then (value x None) _ (λ p e. gives-then (value y None) _ (λ u i.
-        gives-amount (times p.value u.value) (product_exponents p.exponents u.exponents)
+        gives-amount (fraction_product p.value u.value) (product_exponents p.exponents u.exponents)
         (times-positive law p.value u.value)))
     gives-value (Uncalled f) a s h = gives-err _
     gives-value (Applied f x) a s h =
@@ -187,7 +190,7 @@ module _ (law : ReducedLaw) where
     gives-value (Root kind x) a s h = gives-then (value x a) _ (λ v e. gives-root kind v)
     gives-value (Group x) a s h = gives-value x a s h
     gives-value (Negated x) a s h =
-        gives-then (value x a) _ (λ v e. gives-ok (opposite v) (gives-value x a s h v e))
+        gives-then (value x a) _ (λ v e. gives-ok (negative_amount v) (gives-value x a s h v e))
     gives-value (Power x y) a s h =
         gives-then (value x a) _ (λ base e. gives-then (value y a) _ (λ exponent i. gives-power base exponent))
     gives-value (Chain x links) a s h =
@@ -195,31 +198,32 @@ module _ (law : ReducedLaw) where
 
     gives-chained : (v : Amount) (links : Links) (a : Option Amount) → HasDenominator v → AreSound links
         → HasDenominatorIf a
-        → GivesPositive (chained v links a)
+        → GivesPositive (chain_value v links a)
     gives-chained v NoLink a p s h = gives-ok v p
     gives-chained v (Link step x links) a p s h =
         gives-then (value x a) _ (λ w e. gives-then (step_worth step v w) _ (λ next i.
         gives-chained next links a (gives-step step v w p (gives-value x a s.0 h w e) next i) s.1 h))
 
-    gives-applied : (f : Callable) (a : Amount) → IsSoundCall f → HasDenominator a → GivesPositive (applied f a)
+    gives-applied : (f : Callable) (a : Amount) → IsSoundCall f → HasDenominator a → GivesPositive (value_at f a)
     gives-applied (Function name rank in_unit out_unit domain range forward inverse) a s h =
-        gives-shallow rank name _ (gives-then (tested _ _ (unit_value in_unit) domain a) _ (λ t e.
+        gives-shallow rank name _ (gives-then (end_test _ _ (optional_unit_value in_unit) domain a) _ (λ t e.
         gives-then (value forward (Some a)) _ (λ result i.
-        gives-tested _ _ (unit_value out_unit) range result (gives-value forward (Some a) s.0 h result i))))
+        gives-tested _ _ (optional_unit_value out_unit) range result (gives-value forward (Some a) s.0 h result i))))
     gives-applied (Alias name rank target) a s h = gives-shallow rank name _ (gives-applied target a s h)
     gives-applied (Table name rank unit points) a s h =
         gives-shallow rank name _ (gives-then (as_number name a) _ (λ x e. gives-then (value unit None) _ (λ u i.
         gives-then (looked_up name (y_at points x.value)) _ (λ y j.
-        gives-amount (times y.value u.value) (product_exponents y.exponents u.exponents)
+        gives-amount (fraction_product y.value u.value) (product_exponents y.exponents u.exponents)
         (times-positive law y.value u.value)))))
 
-    gives-unapplied : (f : Callable) (b : Amount) → IsSoundCall f → HasDenominator b → GivesPositive (unapplied f b)
+    gives-unapplied : (f : Callable) (b : Amount) → IsSoundCall f → HasDenominator b
+        → GivesPositive (inverse_value_at f b)
     gives-unapplied (Function name rank in_unit out_unit domain range forward Absent) b s h =
         gives-shallow rank name _ (gives-err _)
     gives-unapplied (Function name rank in_unit out_unit domain range forward (Present inverse)) b s h =
-        gives-shallow rank name _ (gives-then (tested _ _ (unit_value out_unit) range b) _ (λ t e.
+        gives-shallow rank name _ (gives-then (end_test _ _ (optional_unit_value out_unit) range b) _ (λ t e.
         gives-then (value inverse (Some b)) _ (λ result i.
-        gives-tested _ _ (unit_value in_unit) domain result (gives-value inverse (Some b) s.1 h result i))))
+        gives-tested _ _ (optional_unit_value in_unit) domain result (gives-value inverse (Some b) s.1 h result i))))
     gives-unapplied (Alias name rank target) b s h = gives-shallow rank name _ (gives-unapplied target b s h)
     gives-unapplied (Table name rank unit points) b s h =
         gives-shallow rank name _ (gives-then (value unit None) _ (λ u e.

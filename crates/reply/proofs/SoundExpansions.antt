@@ -9,8 +9,9 @@ use Rattle.def_entry.specs.Entries as what
 use Rattle.def_entry.specs.Entries.{Entry, What}
 use Rattle.def_entry.specs.Tables.{Table, entry_at}
 use Rattle.tree_eval.specs.Entries.{alias, meaning_of}
-use Rattle.tree_eval.specs.Expanded.{Callee, Expanded, Meaning, One, Two}
-use Rattle.tree_eval.specs.Expansion.{called, called_word, expand, expand_if, factor_links, inverted, inverted_word}
+use Rattle.tree_eval.specs.Expansions.{Callee, Expanded, Meaning, One, Two}
+use Rattle.tree_eval.specs.Expansion.{call_expansion, called_word, expand, expand_if, factor_links, inverse_expansion}
+use Rattle.tree_eval.specs.Expansion.{inverted_word}
 use Rattle.tree_eval.specs.Expansion.{member_links, plain, plain_word, term_links}
 use Rattle.table_names.specs.Leads.{targets}
 use Rattle.table_names.specs.Meanings.{entry_meaning, expansion, meaning_within, targets_meaning, word_meaning_by}
@@ -28,12 +29,12 @@ sound-plain (One x) h = h
 sound-plain (Two x y) h = h
 sound-plain (Callee f) h = h
 
-sound-called : (m : Meaning) (y : Expanded) → IsSoundMeaning m → IsSound y → IsSound (called m y)
+sound-called : (m : Meaning) (y : Expanded) → IsSoundMeaning m → IsSound y → IsSound (call_expansion m y)
 sound-called (Callee f) y h k = (h, k)
 sound-called (One x) y h k = (h, (k, tt))
 sound-called (Two x z) y h k = (h, (k, tt))
 
-sound-inverted : (m : Meaning) (y : Expanded) → IsSoundMeaning m → IsSound y → IsSound (inverted m y)
+sound-inverted : (m : Meaning) (y : Expanded) → IsSoundMeaning m → IsSound y → IsSound (inverse_expansion m y)
 sound-inverted (Callee f) y h k = (h, k)
 sound-inverted (One x) y h k = (h, (k, tt))
 sound-inverted (Two x z) y h k = (h, (k, tt))

@@ -5,13 +5,14 @@ use Rattle.std.specs.Prelude.{Option, Some, None, if◌then◌else◌}
 use Rattle.def_entry.specs.declared.key.Kind.TheVariants as kind
 use Rattle.def_entry.specs.Entries.{Entry}
 use Rattle.def_entry.specs.Keys.{key}
-use Rattle.def_entry.specs.Reading.{is_semicolon}
+use Rattle.def_entry.specs.EntryReading.{is_semicolon}
 use Rattle.def_entry.specs.Tables.{Table, entry_at, is_present}
 use Rattle.reply.specs.declared.target.Target.TheVariants.{Function, Parts, Unit}
-use Rattle.reply.specs.Targets.{parts_or_unit, target}
+use Rattle.reply.specs.Targets.{conversion_target, parts_or_unit}
 
 -- a function target is the name of a function
-pub function-present : (t : Table) (to : List ℕ) → target t to ≡ Function → is_present t (key kind.Func to) ≡ true
+pub function-present : (t : Table) (to : List ℕ) → conversion_target t to ≡ Function
+    → is_present t (key kind.Func to) ≡ true
 function-present t to e = go (is_present t (key kind.Func to)) e
   where
     none : (semicolon : Bool) → (if semicolon then Parts to else Unit) ≡ Function → ⊥

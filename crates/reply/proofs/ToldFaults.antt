@@ -4,14 +4,14 @@ use Rattle.std.specs.Prelude.{⊤, ◌&&◌, not, None, Option, Some, Result, Ok
 use Rattle.units_io.specs.Outcomes.{◌>>=◌}
 use Rattle.expr_tree.specs.declared.fault.ParseFault.{ParseFault}
 use Rattle.expr_tree.specs.declared.fault.ParseFault.TheVariants as parse
-use Rattle.expr_tree.specs.Laws.{ToldLaw}
-use Rattle.expr_tree.specs.Parsed.{parsed}
+use Rattle.expr_tree.specs.Laws.{ParseMemoryLaw}
+use Rattle.expr_tree.specs.ParseResult.{parse_of}
 use Rattle.expr_tree.specs.Syntax.{Syntax}
 use Rattle.expr_tree.specs.Words.{words_in}
 use Rattle.frac128.specs.declared.fault.FracFault.{FracFault}
 use Rattle.frac128.specs.Fraction.{Fraction}
 use Rattle.quantity.specs.Amount.{Amount, are_reciprocal, conform}
-use Rattle.unit_list.specs.Amounts.{checked, counts_in, is_not_positive, is_unlike, numbers_of, place_fault}
+use Rattle.unit_list.specs.Amounts.{counts_in, fault_or_counts, is_not_positive, is_unlike, numbers_of, place_fault}
 use Rattle.unit_list.specs.Splits.{number_counts}
 use Rattle.std.specs.Prelude.{position}
 use Rattle.def_entry.specs.Tables.{Table}
@@ -24,15 +24,16 @@ use Rattle.tree_eval.specs.Steps.{Worth}
 use Rattle.tree_eval.specs.Value.{value}
 use Rattle.live_table.specs.Answers.{by_names, inverse_answer, inverse_at}
 use Rattle.live_table.specs.States.{AsksKey}
-use Rattle.reply.specs.declared.conversion.Conversion.TheVariants.{Inverse, Unlike}
+use Rattle.reply.specs.declared.conversion.Conversion.TheVariants.{Inverse, NonConforming}
 use Rattle.reply.specs.declared.fault.ReplyFault.{ReplyFault}
 use Rattle.reply.specs.declared.options.Options.{Options}
 use Rattle.reply.specs.declared.ratio.Ratio.{Ratio}
 use Rattle.reply.specs.declared.target.Target.{Target}
 use Rattle.reply.specs.declared.target.Target.TheVariants as target
-use Rattle.reply.specs.Conversions.{compared, conversion, converted_to, split_conversion, linear, reciprocal}
-use Rattle.reply.specs.Faults.{is_told}
-use Rattle.reply.specs.Inquiries.{Inquiry, as_answer, asking, followed, given, text_worth, worth, worths}
+use Rattle.reply.specs.Conversions.{conversion_between, conversion, converted_to, split_conversion, linear, reciprocal}
+use Rattle.reply.specs.Faults.{is_reportable}
+use Rattle.reply.specs.Inquiries.{Inquiry, after_query, as_answer, single_query, text_worth, tree_value}
+use Rattle.reply.specs.Inquiries.{without_queries, worths}
 use Rattle.reply.specs.Ratios.{ratio_of, reciprocal_ratio}
 use Rattle.reply.specs.Targets as targets
 use Rattle.reply.specs.Trees.{as_parsed, tree_in, trees_in}
@@ -40,14 +41,14 @@ use Rattle.reply.specs.Trees.{as_parsed, tree_in, trees_in}
 -- the result is not lack of memory
 abbrev pub IsTold : {A : Type 0} → Result A ReplyFault → Type 0
 IsTold (Ok x) = ⊤
-IsTold (Err fault) = is_told fault ≡ true
+IsTold (Err fault) = is_reportable fault ≡ true
 
 -- if neither an inquiry nor its continuation lacks memory, their composition does not
 followed-told : {A B : Type 0} (m : Inquiry A) (next : A → Inquiry B) → IsTold m.answer
-    → ((x : A) → IsTold (next x).answer) → IsTold (followed m.events m.answer next).answer
+    → ((x : A) → IsTold (next x).answer) → IsTold (after_query m.events m.answer next).answer
 followed-told {A = A} m next told h = go m.answer told
   where
-    go : (said : Result A ReplyFault) → IsTold said → IsTold (followed m.events said next).answer
+    go : (said : Result A ReplyFault) → IsTold said → IsTold (after_query m.events said next).answer
     go (Ok x) told = h x
     go (Err fault) told = told
 
@@ -67,10 +68,10 @@ answer-told None (Err fault) = refl
 worths-told : (t : Table) (trees : List Syntax) → IsTold (worths t trees).answer
 worths-told t [] = tt
 worths-told t (tree ∷ trees) =
-    followed-told (worth t tree)
-    (λ x. followed (worths t trees).events (worths t trees).answer (λ xs. given (Ok (x ∷ xs))))
+    followed-told (tree_value t tree)
+    (λ x. after_query (worths t trees).events (worths t trees).answer (λ xs. without_queries (Ok (x ∷ xs))))
     (answer-told (name_fault t (words_in tree)) (value (expansion t tree) None))
-    (λ x. followed-told (worths t trees) (λ xs. given (Ok (x ∷ xs))) (worths-told t trees) (λ xs. tt))
+    (λ x. followed-told (worths t trees) (λ xs. without_queries (Ok (x ∷ xs))) (worths-told t trees) (λ xs. tt))
 
 -- the result of a linear conversion is not lack of memory
 linear-told : (r : Result Ratio FracFault) → IsTold (linear r)
@@ -88,15 +89,15 @@ if-told true p q h k = h
 if-told false p q h k = k
 
 -- the result of converting two quantities is not lack of memory
-pub compared-told : (strict : Bool) (x y : Amount) → IsTold (compared strict x y)
+pub compared-told : (strict : Bool) (x y : Amount) → IsTold (conversion_between strict x y)
 compared-told strict x y =
     if-told (conform x.exponents y.exponents) (linear (ratio_of x.value y.value))
     (if are_reciprocal x.exponents y.exponents && not strict
     then reciprocal (reciprocal_ratio x.value y.value)
-    else Ok (Unlike x y))
+    else Ok (NonConforming x y))
     (linear-told (ratio_of x.value y.value))
     (if-told (are_reciprocal x.exponents y.exponents && not strict) (reciprocal (reciprocal_ratio x.value y.value))
-    (Ok (Unlike x y)) (reciprocal-told (reciprocal_ratio x.value y.value)) tt)
+    (Ok (NonConforming x y)) (reciprocal-told (reciprocal_ratio x.value y.value)) tt)
 
 -- the result of counting the units of a list is not lack of memory
 counted-told : (round : Bool) (x : Amount) (list : List ℕ) (units : List Amount)
@@ -107,15 +108,15 @@ counted-told round x list units =
     (number_counts round x.value (numbers_of units))
   where
     go : (p q : Option ℕ) (counts : Result (List Fraction) FracFault)
-        → IsTold (split_conversion x list units (checked (place_fault p q) counts))
+        → IsTold (split_conversion x list units (fault_or_counts (place_fault p q) counts))
     go (Some place) q counts = tt
     go None (Some place) counts = refl
     go None None (Ok counts) = tt
     go None None (Err fault) = refl
 
-module _ (law : ToldLaw) where
+module _ (law : ParseMemoryLaw) where
   tree-told : (text : List ℕ) → IsTold (tree_in text)
-  tree-told text = go (parsed None text) (law None text)
+  tree-told text = go (parse_of None text) (law None text)
     where
       go : (r : Result Syntax ParseFault) → r ≢ Err parse.OutOfMemory → IsTold (as_parsed r)
       go (Ok tree) h = tt
@@ -132,28 +133,29 @@ module _ (law : ToldLaw) where
 
   pub text-told : (t : Table) (text : List ℕ) → IsTold (text_worth t text).answer
   text-told t text =
-      followed-told (given (tree_in text)) (worth t) (tree-told text)
+      followed-told (without_queries (tree_in text)) (tree_value t) (tree-told text)
       (λ tree. answer-told (name_fault t (words_in tree)) (value (expansion t tree) None))
 
   converted-told : (t : Table) (options : Options) (to : List ℕ) (target : Target) (x : Amount)
       → IsTold (converted_to t options to target x).answer
   converted-told t options to target.Function x =
-      followed-told (asking (AsksKey (key kind.Func to)) (inverse_answer t to x)) (λ y. given (Ok (Inverse y)))
+      followed-told (single_query (AsksKey (key kind.Func to)) (inverse_answer t to x))
+      (λ y. without_queries (Ok (Inverse y)))
       (answer-told (key_fault t (key kind.Func to)) (inverse_at (key_meaning t (key kind.Func to)) x)) (λ y. tt)
   converted-told t options to (target.Parts list) x =
-      followed-told (given (trees_in (targets.parts_of list)))
-      (λ trees. followed (worths t trees).events (worths t trees).answer
-      (λ units. given (split_conversion x list units (counts_in options.round x units))))
+      followed-told (without_queries (trees_in (targets.parts_of list)))
+      (λ trees. after_query (worths t trees).events (worths t trees).answer
+      (λ units. without_queries (split_conversion x list units (counts_in options.round x units))))
       (trees-told (targets.parts_of list))
       (λ trees. followed-told (worths t trees)
-      (λ units. given (split_conversion x list units (counts_in options.round x units)))
+      (λ units. without_queries (split_conversion x list units (counts_in options.round x units)))
       (worths-told t trees) (λ units. counted-told options.round x list units))
   converted-told t options to target.Unit x =
-      followed-told (text_worth t to) (λ y. given (compared options.strict x y)) (text-told t to)
+      followed-told (text_worth t to) (λ y. without_queries (conversion_between options.strict x y)) (text-told t to)
       (λ y. compared-told options.strict x y)
 
   pub conversion-told : (t : Table) (options : Options) (from to : List ℕ)
       → IsTold (conversion t options from to).answer
   conversion-told t options from to =
-      followed-told (text_worth t from) (converted_to t options to (targets.target t to)) (text-told t from)
-      (converted-told t options to (targets.target t to))
+      followed-told (text_worth t from) (converted_to t options to (targets.conversion_target t to)) (text-told t from)
+      (converted-told t options to (targets.conversion_target t to))

@@ -5,17 +5,17 @@ use Rattle.std.proofs.lemmas.Bool.{eqb-true}
 use Rattle.frac128.specs.declared.fault.FracFault.{FracFault}
 use Rattle.frac128.specs.Fraction.{Fraction, whole}
 use Rattle.frac128.specs.Sign.{is_zero}
-use Rattle.frac128.specs.Steps.{over}
+use Rattle.frac128.specs.Steps.{fraction_quotient}
 use Rattle.quantity.specs.Amount.{Amount, are_reciprocal, conform}
 use Rattle.reply.specs.declared.conversion.Conversion.{Conversion}
-use Rattle.reply.specs.declared.conversion.Conversion.TheVariants.{Linear, Reciprocal, Inverse, Split, Unlike}
+use Rattle.reply.specs.declared.conversion.Conversion.TheVariants.{Linear, Reciprocal, Inverse, NonConforming, Split}
 use Rattle.reply.specs.declared.fault.ReplyFault.{ReplyFault}
 use Rattle.reply.specs.declared.ratio.Ratio.{Ratio}
-use Rattle.reply.specs.Conversions.{compared, is_granted, linear, reciprocal}
+use Rattle.reply.specs.Conversions.{conversion_between, is_granted, linear, reciprocal}
 use Rattle.reply.specs.Grants.{AreFactors, IsBackFactor, IsUnitConversion}
 use Rattle.reply.specs.Quotients.{QuotientLaw}
-use Rattle.reply.specs.Ratios.{backward, ratio_of, reciprocal_ratio}
-use Rattle.reply.proofs.Inquiring.{bound, no-ok, ok-same, split-steps}
+use Rattle.reply.specs.Ratios.{inverse_ratio, ratio_of, reciprocal_ratio}
+use Rattle.reply.proofs.InquiryResults.{bound, no-ok, ok-same, split-steps}
 
 -- ---- the two quotients of two numbers
 zero-is : (z : ℤ) → (unsigned_abs z == 0) ≡ true → z ≡ pos 0
@@ -29,36 +29,38 @@ module _ (law : QuotientLaw) (x y : Fraction) where
   abbrev back_by : (zero : Bool) → Result Fraction FracFault → Result (Option Fraction) FracFault
   back_by zero quotient = if zero then Ok None else bound quotient (λ w. Ok (Some w))
 
-  back-of : (zero : Bool) → is_zero x ≡ zero → (q : Result Fraction FracFault) → over y x ≡ q → (b : Option Fraction)
+  back-of : (zero : Bool) → is_zero x ≡ zero → (q : Result Fraction FracFault) → fraction_quotient y x ≡ q
+      → (b : Option Fraction)
       → back_by zero q ≡ Ok b → IsBackFactor x y b
   back-of true e q is b h = subst (IsBackFactor x y) (ok-same None b h) e
   back-of false e (Ok w) is b h = subst (IsBackFactor x y) (ok-same (Some w) b h) ((law y x w).0 is)
   back-of false e (Err fault) is b h = absurd (no-ok fault b h)
 
   -- a divisor is not 0
-  not-zero : (w : Fraction) → over y x ≡ Ok w → is_zero x ≡ false
+  not-zero : (w : Fraction) → fraction_quotient y x ≡ Ok w → is_zero x ≡ false
   not-zero w h = go (is_zero x) refl
     where
       go : (b : Bool) → is_zero x ≡ b → b ≡ false
       go true e = absurd (((law y x w).0 h).divisor (zero-is x.num e))
       go false e = refl
 
-  of-back : (b : Option Fraction) → IsBackFactor x y b → backward x y ≡ Ok b
-  of-back None h = ap (λ z. back_by z (over y x)) h
+  of-back : (b : Option Fraction) → IsBackFactor x y b → inverse_ratio x y ≡ Ok b
+  of-back None h = ap (λ z. back_by z (fraction_quotient y x)) h
   of-back (Some w) h =
-      let is : over y x ≡ Ok w = (law y x w).1 h in
+      let is : fraction_quotient y x ≡ Ok w = (law y x w).1 h in
       ap₂ back_by (not-zero w is) is
 
   factors-of : (r : Ratio) → ratio_of x y ≡ Ok r → AreFactors x y r
-  factors-of r h = go (over x y) refl (backward x y) refl h
+  factors-of r h = go (fraction_quotient x y) refl (inverse_ratio x y) refl h
     where
-      go : (f : Result Fraction FracFault) → over x y ≡ f → (b : Result (Option Fraction) FracFault)
-          → backward x y ≡ b → ratio_by f b ≡ Ok r → AreFactors x y r
+      go : (f : Result Fraction FracFault) → fraction_quotient x y ≡ f → (b : Result (Option Fraction) FracFault)
+          → inverse_ratio x y ≡ b → ratio_by f b ≡ Ok r → AreFactors x y r
       go (Ok f) e (Ok b) is h =
           let same : (record { forward = f; back = b }) ≡ r = ok-same _ r h in
           record {
             forward = (law x y r.forward).0 (e ∙ ap (λ (s : Ratio). Ok s.forward) same);
-            back = subst (λ (s : Ratio). IsBackFactor x y s.back) same (back-of (is_zero x) refl (over y x) refl b is);
+            back = subst (λ (s : Ratio). IsBackFactor x y s.back) same
+                (back-of (is_zero x) refl (fraction_quotient y x) refl b is);
           }
       go (Ok f) e (Err fault) is h = absurd (no-ok fault r h)
       go (Err fault) e b is h = absurd (no-ok fault r h)
@@ -71,7 +73,7 @@ module _ (law : QuotientLaw) (x y : Fraction) where
 abbrev pub conversion_by : (x y : Amount) (conforming opposite strict : Bool) → Result Conversion ReplyFault
 conversion_by x y conforming opposite strict =
     if conforming then linear (ratio_of x.value y.value)
-    else (if opposite && not strict then reciprocal (reciprocal_ratio x.value y.value) else Ok (Unlike x y))
+    else (if opposite && not strict then reciprocal (reciprocal_ratio x.value y.value) else Ok (NonConforming x y))
 
 module _ (law : QuotientLaw) (strict : Bool) (x y : Amount) where
   module _ (c : Conversion) where
@@ -86,7 +88,7 @@ module _ (law : QuotientLaw) (strict : Bool) (x y : Amount) where
         → strict ≡ false → (q : Result Ratio FracFault) → reciprocal_ratio x.value y.value ≡ q
         → reciprocal q ≡ Ok c → IsUnitConversion strict x y c
     reciprocal-of unlike opposite lenient (Ok r) e h =
-        let inverse = split-steps (over (whole (pos 1)) x.value) (λ i. ratio_of i y.value) r e in
+        let inverse = split-steps (fraction_quotient (whole (pos 1)) x.value) (λ i. ratio_of i y.value) r e in
         subst (IsUnitConversion strict x y) (ok-same (Reciprocal r) c h) (
           lenient,
           record {
@@ -99,11 +101,11 @@ module _ (law : QuotientLaw) (strict : Bool) (x y : Amount) where
         )
     reciprocal-of unlike opposite lenient (Err fault) e h = absurd (no-ok _ c h)
 
-    not-unlike : {A : Type 0} → ◌≡◌ {A = Result Conversion ReplyFault} (Ok (Unlike x y)) (Ok c)
+    not-unlike : {A : Type 0} → ◌≡◌ {A = Result Conversion ReplyFault} (Ok (NonConforming x y)) (Ok c)
         → is_granted c ≡ true → A
-    not-unlike h g = absurd (true≢false (sym (ap is_granted (ok-same (Unlike x y) c h) ∙ g)))
+    not-unlike h g = absurd (true≢false (sym (ap is_granted (ok-same (NonConforming x y) c h) ∙ g)))
 
-    pub conversion-of : compared strict x y ≡ Ok c → is_granted c ≡ true → IsUnitConversion strict x y c
+    pub conversion-of : conversion_between strict x y ≡ Ok c → is_granted c ≡ true → IsUnitConversion strict x y c
     conversion-of h g =
         go (conform x.exponents y.exponents) refl (are_reciprocal x.exponents y.exponents) refl strict refl h
       where
@@ -115,7 +117,7 @@ module _ (law : QuotientLaw) (strict : Bool) (x y : Amount) where
         go false conforming true opposite true is h = not-unlike h g
         go false conforming false opposite s is h = not-unlike h g
 
-  pub of-conversion : (c : Conversion) → IsUnitConversion strict x y c → compared strict x y ≡ Ok c
+  pub of-conversion : (c : Conversion) → IsUnitConversion strict x y c → conversion_between strict x y ≡ Ok c
   of-conversion (Linear r) h =
       ap (λ a. conversion_by x y a (are_reciprocal x.exponents y.exponents) strict) h.conformable
       ∙ ap linear (of-factors law x.value y.value r h.factors)
@@ -128,7 +130,7 @@ module _ (law : QuotientLaw) (strict : Bool) (x y : Amount) where
       ∙ ap reciprocal (of-factors law is.inverse y.value r is.factors)
   of-conversion (Inverse z) h = absurd h
   of-conversion (Split list counts) h = absurd h
-  of-conversion (Unlike p q) h = absurd h
+  of-conversion (NonConforming p q) h = absurd h
 
 module _ (strict : Bool) (x y : Amount) where
   pub conversion-granted : (c : Conversion) → IsUnitConversion strict x y c → is_granted c ≡ true
@@ -136,7 +138,7 @@ module _ (strict : Bool) (x y : Amount) where
   conversion-granted (Reciprocal r) h = refl
   conversion-granted (Inverse z) h = refl
   conversion-granted (Split list counts) h = refl
-  conversion-granted (Unlike p q) h = absurd h
+  conversion-granted (NonConforming p q) h = absurd h
 
   -- there is no conversion to a quantity of the value 0
   pub none-to-zero : y.value.num ≡ pos 0 → (c : Conversion) → IsUnitConversion strict x y c → ⊥
@@ -144,4 +146,4 @@ module _ (strict : Bool) (x y : Amount) where
   none-to-zero zero (Reciprocal r) h = h.1.factors.forward.divisor zero
   none-to-zero zero (Inverse z) h = h
   none-to-zero zero (Split list counts) h = h
-  none-to-zero zero (Unlike p q) h = h
+  none-to-zero zero (NonConforming p q) h = h

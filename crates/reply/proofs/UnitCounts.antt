@@ -7,11 +7,11 @@ use Rattle.std.specs.Prelude.{Result, Ok, Err}
 use Rattle.units_io.specs.Outcomes.{◌>>=◌}
 use Rattle.expr_tree.specs.Syntax.{Syntax}
 use Rattle.quantity.specs.Amount.{Amount}
-use Rattle.def_entry.specs.Reading.{is_semicolon}
+use Rattle.def_entry.specs.EntryReading.{is_semicolon}
 use Rattle.def_entry.specs.Tables.{Table}
-use Rattle.def_lines.specs.Blanks.{trimmed}
+use Rattle.def_lines.specs.Blanks.{trim_of}
 use Rattle.reply.specs.declared.fault.ReplyFault.{ReplyFault}
-use Rattle.reply.specs.Inquiries.{followed, given, worth, worths}
+use Rattle.reply.specs.Inquiries.{after_query, tree_value, without_queries, worths}
 use Rattle.reply.specs.Targets.{parts_of}
 use Rattle.reply.specs.Trees.{tree_in, trees_in}
 
@@ -35,12 +35,12 @@ trees-count (text ∷ texts) trees e = go (trees-count texts) (tree_in text) (tr
 pub worths-count : (t : Table) (trees : List Syntax) (xs : List Amount) → (worths t trees).answer ≡ Ok xs
     → length xs ≡ length trees
 worths-count t [] xs e = let s : [] ≡ xs = cc in ap length (sym s)
-worths-count t (tree ∷ trees) xs e = go (worths-count t trees) (worth t tree).answer (worths t trees).answer refl e
+worths-count t (tree ∷ trees) xs e = go (worths-count t trees) (tree_value t tree).answer (worths t trees).answer refl e
   where
     go : ((ys : List Amount) → (worths t trees).answer ≡ Ok ys → length ys ≡ length trees)
         → (p : Result Amount ReplyFault) (q : Result (List Amount) ReplyFault) → (worths t trees).answer ≡ q
-        → (followed (worth t tree).events p
-        (λ x. followed (worths t trees).events q (λ ys. given (Ok (x ∷ ys))))).answer
+        → (after_query (tree_value t tree).events p
+        (λ x. after_query (worths t trees).events q (λ ys. without_queries (Ok (x ∷ ys))))).answer
         ≡ Ok xs
         → length xs ≡ length (tree ∷ trees)
     go few (Ok x) (Ok ys) is e =
@@ -53,7 +53,7 @@ worths-count t (tree ∷ trees) xs e = go (worths-count t trees) (worth t tree).
 -- a list has at least one part
 parts-some : (list : List ℕ) → 0 < length (parts_of list)
 parts-some list =
-    omega (arith, length-map (slice_split is_semicolon list) trimmed, length-slice_split is_semicolon list)
+    omega (arith, length-map (slice_split is_semicolon list) trim_of, length-slice_split is_semicolon list)
 
 -- a list has at least one unit
 pub units-some : (t : Table) (list : List ℕ) (trees : List Syntax) (units : List Amount)

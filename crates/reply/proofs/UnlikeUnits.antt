@@ -6,9 +6,9 @@ use Rattle.std.specs.Prelude.{Option, Some, None, Result, Ok, Err, position, sli
 use Rattle.frac128.specs.declared.fault.FracFault.{FracFault}
 use Rattle.frac128.specs.Fraction.{Fraction}
 use Rattle.quantity.specs.Amount.{Amount}
-use Rattle.unit_list.specs.Amounts.{checked, counts_in, is_not_positive, is_unlike, numbers_of, place_fault}
+use Rattle.unit_list.specs.Amounts.{counts_in, fault_or_counts, is_not_positive, is_unlike, numbers_of, place_fault}
 use Rattle.unit_list.specs.Splits.{number_counts}
-use Rattle.reply.specs.declared.conversion.Conversion.TheVariants.{Unlike}
+use Rattle.reply.specs.declared.conversion.Conversion.TheVariants.{NonConforming}
 use Rattle.reply.specs.Conversions.{split_conversion}
 use Rattle.unit_list.specs.declared.fault.SplitFault.TheVariants.{NotConformable, OutOfMemory}
 
@@ -22,7 +22,7 @@ module _ (round : Bool) (x : Amount) (units : List Amount) (place : ℕ) where
     where
       go : (p : Option ℕ) → position (is_unlike x) units ≡ p
           → (q : Option ℕ) (counts : Result (List Fraction) FracFault)
-          → checked (place_fault p q) counts ≡ Err (NotConformable place) → place < length units
+          → fault_or_counts (place_fault p q) counts ≡ Err (NotConformable place) → place < length units
       go (Some k) is q counts e = let s : k ≡ place = cc in
           (position-Some (is_unlike x) units place x (is ∙ ap Some s)).0
       go None is (Some k) counts e = cc
@@ -37,11 +37,11 @@ module _ (round : Bool) (x : Amount) (units : List Amount) (place : ℕ) where
   pub counted-unlike : (list : List ℕ) (k : ℕ) (y : Amount)
       → (NotConformable place ≡ OutOfMemory) ⊎ (counts_in round x units ≡ Err (NotConformable place))
       → k ≡ place → y ≡ slice_index_or units k y
-      → split_conversion x list units (counts_in round x units) ≡ Ok (Unlike x y)
+      → split_conversion x list units (counts_in round x units) ≡ Ok (NonConforming x y)
   counted-unlike list k y h e is = elim h [
     | inl p ↦ cc
     | inr p ↦
         ap (split_conversion x list units) p
-        ∙ ap (λ (u : Amount). Ok (Unlike x u))
+        ∙ ap (λ (u : Amount). Ok (NonConforming x u))
         (sym (subst (λ (i : ℕ). y ≡ slice_index_or units i y) e is ∙ get_or_default units place y x (within p)))
   ]

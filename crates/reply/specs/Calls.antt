@@ -5,7 +5,7 @@ use Rattle.expr_tree.specs.Syntax.{Syntax}
 use Rattle.expr_tree.specs.Trees.{syntax}
 use Rattle.live_table.specs.declared.fault.QueryFault.{QueryFault}
 use Rattle.live_table.specs.declared.fault.QueryFault.TheVariants as query
-use Rattle.live_table.specs.Shown.{Follows, IsCutOff, Shown}
+use Rattle.live_table.specs.TableView.{IsAfterEvents, IsCutOff, Shown}
 use Rattle.reply.specs.declared.failure.Failure.{Failure}
 use Rattle.reply.specs.declared.failure.Failure.TheVariants.{Fault, OutOfMemory}
 use Rattle.reply.specs.declared.fault.ReplyFault.{ReplyFault}
@@ -15,9 +15,9 @@ use Rattle.reply.specs.Inquiries.{Inquiry}
 -- an inquiry has its result, as `seen` maps it, or its fault, or was cut off for lack of memory
 abbrev pub IsInquired : {A B : Type 0} → (A → B) → Inquiry B → Result A Failure → Shown → Shown → ℕ → ℕ → Type 0
 IsInquired seen inquiry (Ok x) before after old new =
-    (inquiry.answer ≡ Ok (seen x)) × Follows inquiry.events before after old new
+    (inquiry.answer ≡ Ok (seen x)) × IsAfterEvents inquiry.events before after old new
 IsInquired seen inquiry (Err (Fault fault)) before after old new =
-    (inquiry.answer ≡ Err fault) × Follows inquiry.events before after old new
+    (inquiry.answer ≡ Err fault) × IsAfterEvents inquiry.events before after old new
 IsInquired seen inquiry (Err OutOfMemory) before after old new = IsCutOff inquiry.events before after old new
 
 -- a call without queries has its result, as `seen` maps it, or its fault, or memory ran out

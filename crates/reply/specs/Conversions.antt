@@ -13,21 +13,21 @@ use Rattle.tree_eval.specs.declared.fault.ValueFault.TheVariants.{Number}
 use Rattle.live_table.specs.Answers.{inverse_answer}
 use Rattle.live_table.specs.States.{AsksKey}
 use Rattle.reply.specs.declared.conversion.Conversion.{Conversion}
-use Rattle.reply.specs.declared.conversion.Conversion.TheVariants.{Linear, Reciprocal, Inverse, Split, Unlike}
+use Rattle.reply.specs.declared.conversion.Conversion.TheVariants.{Linear, Reciprocal, Inverse, NonConforming, Split}
 use Rattle.reply.specs.declared.fault.ReplyFault.{ReplyFault}
 use Rattle.reply.specs.declared.fault.ReplyFault.TheVariants.{Value, List as ListUnit}
 use Rattle.reply.specs.declared.options.Options.{Options}
 use Rattle.reply.specs.declared.ratio.Ratio.{Ratio}
 use Rattle.reply.specs.declared.target.Target.{Target}
 use Rattle.reply.specs.declared.target.Target.TheVariants.{Function, Parts, Unit}
-use Rattle.reply.specs.Inquiries.{◌>>=◌, Inquiry, asking, given, no_memory, text_worth, worths}
+use Rattle.reply.specs.Inquiries.{◌>>=◌, Inquiry, no_memory, single_query, text_worth, without_queries, worths}
 use Rattle.reply.specs.Ratios.{ratio_of, reciprocal_ratio}
-use Rattle.reply.specs.Targets.{parts_of, target}
+use Rattle.reply.specs.Targets.{conversion_target, parts_of}
 use Rattle.reply.specs.Trees.{trees_in}
 
 -- the conversion is not a conformability error
 abbrev pub is_granted : Conversion → Bool
-is_granted (Unlike x y) = false
+is_granted (NonConforming x y) = false
 is_granted _ = true
 
 abbrev pub linear : Result Ratio FracFault → Result Conversion ReplyFault
@@ -38,50 +38,51 @@ abbrev pub reciprocal : Result Ratio FracFault → Result Conversion ReplyFault
 reciprocal (Ok ratio) = Ok (Reciprocal ratio)
 reciprocal (Err fault) = Err (Value (Number fault))
 
--- two quantities: `Linear` if they conform; else `Reciprocal` if they are reciprocal and `strict` is off; else `Unlike`
-abbrev pub compared : (strict : Bool) (x y : Amount) → Result Conversion ReplyFault
-compared strict x y =
+-- two quantities: `Linear` if they conform; else `Reciprocal` if they are reciprocal and `strict` is off; else
+-- `NonConforming`
+abbrev pub conversion_between : (strict : Bool) (x y : Amount) → Result Conversion ReplyFault
+conversion_between strict x y =
     if conform x.exponents y.exponents then linear (ratio_of x.value y.value)
     else (if are_reciprocal x.exponents y.exponents && not strict
     then reciprocal (reciprocal_ratio x.value y.value)
-    else Ok (Unlike x y))
+    else Ok (NonConforming x y))
 
 -- the conversion by the counts of the units of a list in a quantity
 abbrev pub split_conversion : Amount → (list : List ℕ) (units : List Amount) → Result (List Fraction) SplitFault
     → Result Conversion ReplyFault
 split_conversion x list units (Ok counts) = Ok (Split list counts)
-split_conversion x list units (Err (split.NotConformable place)) = Ok (Unlike x (slice_index_or units place x))
+split_conversion x list units (Err (split.NotConformable place)) = Ok (NonConforming x (slice_index_or units place x))
 split_conversion x list units (Err (split.ListUnitNotPositive place)) = Err (ListUnit place)
 split_conversion x list units (Err (split.Number fault)) = Err (Value (Number fault))
 split_conversion x list units (Err split.OutOfMemory) = Err no_memory
 
 -- the conversion by the inverse of the function with this name
-abbrev pub inverted : Table → (name : List ℕ) → Amount → Inquiry Conversion
-inverted table name x = do
-  y ← asking (AsksKey (key kind.Func name)) (inverse_answer table name x)
-  given (Ok (Inverse y))
+abbrev pub inverse_conversion : Table → (name : List ℕ) → Amount → Inquiry Conversion
+inverse_conversion table name x = do
+  y ← single_query (AsksKey (key kind.Func name)) (inverse_answer table name x)
+  without_queries (Ok (Inverse y))
 
 module _ (table : Table) (options : Options) where
   -- the conversion into the units of a list: the trees of all its parts, then their values, then the counts
-  abbrev pub split_into : (list : List ℕ) → Amount → Inquiry Conversion
-  split_into list x = do
-    trees ← given (trees_in (parts_of list))
+  abbrev pub conversion_to_list : (list : List ℕ) → Amount → Inquiry Conversion
+  conversion_to_list list x = do
+    trees ← without_queries (trees_in (parts_of list))
     units ← worths table trees
-    given (split_conversion x list units (counts_in options.round x units))
+    without_queries (split_conversion x list units (counts_in options.round x units))
 
   -- the conversion to a unit
-  abbrev pub set_against : (to : List ℕ) → Amount → Inquiry Conversion
-  set_against to x = do
+  abbrev pub conversion_to_unit : (to : List ℕ) → Amount → Inquiry Conversion
+  conversion_to_unit to x = do
     y ← text_worth table to
-    given (compared options.strict x y)
+    without_queries (conversion_between options.strict x y)
 
   abbrev pub converted_to : (to : List ℕ) → Target → Amount → Inquiry Conversion
-  converted_to to Function x = inverted table to x
-  converted_to to (Parts list) x = split_into list x
-  converted_to to Unit x = set_against to x
+  converted_to to Function x = inverse_conversion table to x
+  converted_to to (Parts list) x = conversion_to_list list x
+  converted_to to Unit x = conversion_to_unit to x
 
   -- the conversion of one text to another
   abbrev pub conversion : (from to : List ℕ) → Inquiry Conversion
   conversion from to = do
     x ← text_worth table from
-    converted_to to (target table to) x
+    converted_to to (conversion_target table to) x

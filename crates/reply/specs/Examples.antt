@@ -20,21 +20,21 @@ use Rattle.reply.specs.declared.conversion.Conversion.TheVariants.{Split}
 use Rattle.reply.specs.declared.fault.ReplyFault.{ReplyFault}
 use Rattle.reply.specs.declared.fault.ReplyFault.TheVariants.{Value, List as ListUnit}
 use Rattle.reply.specs.Conversions.{linear, reciprocal}
-use Rattle.reply.specs.Options.{form_of}
+use Rattle.reply.specs.Options.{reply_form}
 use Rattle.reply.specs.Ratios.{ratio_of, reciprocal_ratio}
 use Rattle.reply.specs.Replies.{as_conversion, conversion_queries, conversion_reply, definition_reply}
-use Rattle.reply.specs.Targets.{parts_of, target}
+use Rattle.reply.specs.Targets.{conversion_target, parts_of}
 
 -- a single word
 abbrev pub plain : List ℕ → WordUse
 plain w = record { text = w; kind = word.Plain }
 
-abbrev pub fraction : ℕ → ℕ → Fraction
-fraction n d = record { num = pos n; den = d }
+abbrev pub example_fraction : ℕ → ℕ → Fraction
+example_fraction n d = record { num = pos n; den = d }
 
 -- meters, seconds, a table of points and two lists, one of which has the name of the table
-abbrev pub small : Table
-small =
+abbrev pub small_reply_table : Table
+small_reply_table =
     (key kind.Unit (codes "m"), record { text = codes "!"; what = Primitive })
     ∷ (key kind.Unit (codes "s"), record { text = codes "!"; what = Primitive })
     ∷ (
@@ -72,29 +72,29 @@ default = record {
 abbrev pub terse : Options
 terse = record default { compact = true; one_line = true }
 
-abbrev pub granted : List ℕ → Reply
-granted text = record { text = text; refused = false }
+abbrev pub granted_reply : List ℕ → Reply
+granted_reply text = record { text = text; refused = false }
 
-abbrev pub refused : List ℕ → Reply
-refused text = record { text = text; refused = true }
+abbrev pub refused_reply : List ℕ → Reply
+refused_reply text = record { text = text; refused = true }
 
 -- a linear conversion, given the values of both units
 abbrev pub linearly : Options → (from to : List ℕ) → Fraction → Fraction → Reply
-linearly options from to x y = as_conversion (form_of options) from to (linear (ratio_of x y))
+linearly options from to x y = as_conversion (reply_form options) from to (linear (ratio_of x y))
 
 -- a reciprocal conversion, given the values of both units
 abbrev pub reciprocally : Options → (from to : List ℕ) → Fraction → Fraction → Reply
-reciprocally options from to x y = as_conversion (form_of options) from to (reciprocal (reciprocal_ratio x y))
+reciprocally options from to x y = as_conversion (reply_form options) from to (reciprocal (reciprocal_ratio x y))
 
 -- ten meters in feet
 abbrev pub ten_meters : Options → Reply
-ten_meters options = linearly options (codes "10 m") (codes "ft") (whole (pos 10)) (fraction 381 1250)
+ten_meters options = linearly options (codes "10 m") (codes "ft") (whole (pos 10)) (example_fraction 381 1250)
 
 -- the counts of feet and inches in a length
 abbrev pub in_feet : Options → Fraction → Reply
 in_feet options x =
-    as_conversion (form_of options) (codes "x") (codes "ftin")
-    (split (number_counts options.round x (fraction 381 1250 ∷ fraction 127 5000 ∷ [])))
+    as_conversion (reply_form options) (codes "x") (codes "ftin")
+    (split (number_counts options.round x (example_fraction 381 1250 ∷ example_fraction 127 5000 ∷ [])))
   where
     split : Result (List Fraction) FracFault → Result Conversion ReplyFault
     split (Ok counts) = Ok (Split (codes "ft; in") counts)
@@ -103,59 +103,67 @@ in_feet options x =
 -- law: a linear conversion in each layout, and from 0
 abbrev pub LinearLaw : Type 0
 LinearLaw =
-    (ten_meters default ≡ granted (codes "\t* 32.808399\n\t/ 0.03048\n"))
-    × (ten_meters (record default { exact = true }) ≡ granted (codes "\t* 12500|381\n\t/ 381|12500\n"))
-    × (ten_meters (record default { digits = 3 }) ≡ granted (codes "\t* 32.8\n\t/ 0.0305\n"))
-    × (ten_meters (record default { compact = true; verbose = true }) ≡ granted (codes "32.808399\n0.03048\n"))
-    × (ten_meters (record default { one_line = true }) ≡ granted (codes "\t* 32.808399\n"))
+    (ten_meters default ≡ granted_reply (codes "\t* 32.808399\n\t/ 0.03048\n"))
+    × (ten_meters (record default { exact = true }) ≡ granted_reply (codes "\t* 12500|381\n\t/ 381|12500\n"))
+    × (ten_meters (record default { digits = 3 }) ≡ granted_reply (codes "\t* 32.8\n\t/ 0.0305\n"))
+    × (ten_meters (record default { compact = true; verbose = true }) ≡ granted_reply (codes "32.808399\n0.03048\n"))
+    × (ten_meters (record default { one_line = true }) ≡ granted_reply (codes "\t* 32.808399\n"))
     × (ten_meters (record default { verbose = true })
-    ≡ granted (codes "\t10 m = 32.808399 ft\n\t10 m = (1 / 0.03048) ft\n"))
-    × (linearly default (codes "0 m") (codes "ft") (whole (pos 0)) (fraction 381 1250)
-    ≡ granted (codes "\t* 0\n\t/ inf\n"))
+    ≡ granted_reply (codes "\t10 m = 32.808399 ft\n\t10 m = (1 / 0.03048) ft\n"))
+    × (linearly default (codes "0 m") (codes "ft") (whole (pos 0)) (example_fraction 381 1250)
+    ≡ granted_reply (codes "\t* 0\n\t/ inf\n"))
     × (linearly default (codes "1 m") (codes "0 m") (whole (pos 1)) (whole (pos 0))
-    ≡ refused (codes "division by zero\n"))
+    ≡ refused_reply (codes "division by zero\n"))
 
 -- law: a reciprocal conversion, also of 0
 abbrev pub ReciprocalLaw : Type 0
 ReciprocalLaw =
     (reciprocally default (codes "2 Hz") (codes "s") (whole (pos 2)) (whole (pos 1))
-    ≡ granted (codes "\treciprocal conversion\n\t* 0.5\n\t/ 2\n"))
+    ≡ granted_reply (codes "\treciprocal conversion\n\t* 0.5\n\t/ 2\n"))
     × (reciprocally terse (codes "2 Hz") (codes "s") (whole (pos 2)) (whole (pos 1))
-    ≡ granted (codes "reciprocal conversion\n0.5\n"))
+    ≡ granted_reply (codes "reciprocal conversion\n0.5\n"))
     × (reciprocally (record default { verbose = true }) (codes "2 Hz") (codes "s") (whole (pos 2)) (whole (pos 1))
-    ≡ granted (codes "\treciprocal conversion\n\t1 / (2 Hz) = 0.5 s\n\t1 / (2 Hz) = (1 / 2) s\n"))
+    ≡ granted_reply (codes "\treciprocal conversion\n\t1 / (2 Hz) = 0.5 s\n\t1 / (2 Hz) = (1 / 2) s\n"))
     × (reciprocally default (codes "0 Hz") (codes "s") (whole (pos 0)) (whole (pos 1))
-    ≡ refused (codes "division by zero\n"))
+    ≡ refused_reply (codes "division by zero\n"))
 
 -- law: lists, and the meanings of targets
 abbrev pub ListsLaw : Type 0
 ListsLaw =
-    (in_feet default (fraction 7 5) ≡ granted (codes "\t4 ft + 7.1181102 in\n"))
-    × (in_feet (record default { compact = true }) (fraction 7 5) ≡ granted (codes "4;7.1181102\n"))
-    × (in_feet (record default { verbose = true }) (fraction 7 5) ≡ granted (codes "\tx = 4 ft + 7.1181102 in\n"))
-    × (in_feet (record default { round = true }) (fraction 75819 125000) ≡ granted (codes "\t2 ft + 0 in\n"))
-    × (as_conversion (form_of default) (codes "m") (codes "m;a") (Err (ListUnit 1))
-    ≡ refused (codes "list unit not positive: 2\n"))
-    × (target small (codes "gauge") ≡ Function)
-    × (target small (codes "ftin") ≡ Parts (codes "ft; in"))
-    × (target small (codes "m ;; s") ≡ Parts (codes "m ;; s"))
-    × (target small (codes "m s") ≡ Unit)
+    (in_feet default (example_fraction 7 5) ≡ granted_reply (codes "\t4 ft + 7.1181102 in\n"))
+    × (in_feet (record default { compact = true }) (example_fraction 7 5) ≡ granted_reply (codes "4;7.1181102\n"))
+    × (in_feet (record default { verbose = true }) (example_fraction 7 5) ≡ granted_reply
+    (codes "\tx = 4 ft + 7.1181102 in\n"))
+    × (in_feet (record default { round = true }) (example_fraction 75819 125000) ≡ granted_reply
+    (codes "\t2 ft + 0 in\n"))
+    × (as_conversion (reply_form default) (codes "m") (codes "m;a") (Err (ListUnit 1))
+    ≡ refused_reply (codes "list unit not positive: 2\n"))
+    × (conversion_target small_reply_table (codes "gauge") ≡ Function)
+    × (conversion_target small_reply_table (codes "ftin") ≡ Parts (codes "ft; in"))
+    × (conversion_target small_reply_table (codes "m ;; s") ≡ Parts (codes "m ;; s"))
+    × (conversion_target small_reply_table (codes "m s") ≡ Unit)
     × (parts_of (codes "m ;; s") ≡ codes "m" ∷ [] ∷ codes "s" ∷ [])
 
 -- law: faults, each of which is the whole reply, and the queries up to the fault
-abbrev pub FaultsLaw : Type 0
-FaultsLaw =
-    (conversion_reply small default (codes "2 +") (codes "nosuch") ≡ refused (codes "syntax error at 3\n"))
-    × (conversion_reply small default (codes " m ") (codes "nosuch") ≡ refused (codes "unknown unit: nosuch\n"))
-    × (conversion_reply small default (codes "m") (codes "m;;s") ≡ refused (codes "syntax error at 0\n"))
-    × (conversion_reply small default (codes "m") (codes "ftin") ≡ refused (codes "unknown unit: ft\n"))
-    × (definition_reply small default (codes "gauge") ≡ refused (codes "argument needed: gauge\n"))
-    × (definition_reply small default (codes "sin(1)") ≡ refused (codes "refused function: sin\n"))
-    × (conversion_queries small default (codes "m") (codes "s")
+abbrev pub ReplyFaultsLaw : Type 0
+ReplyFaultsLaw =
+    (conversion_reply small_reply_table default (codes "2 +") (codes "nosuch") ≡ refused_reply
+    (codes "syntax error at 3\n"))
+    × (conversion_reply small_reply_table default (codes " m ") (codes "nosuch") ≡ refused_reply
+    (codes "unknown unit: nosuch\n"))
+    × (conversion_reply small_reply_table default (codes "m") (codes "m;;s") ≡ refused_reply
+    (codes "syntax error at 0\n"))
+    × (conversion_reply small_reply_table default (codes "m") (codes "ftin") ≡ refused_reply
+    (codes "unknown unit: ft\n"))
+    × (definition_reply small_reply_table default (codes "gauge") ≡ refused_reply (codes "argument needed: gauge\n"))
+    × (definition_reply small_reply_table default (codes "sin(1)") ≡ refused_reply (codes "refused function: sin\n"))
+    × (conversion_queries small_reply_table default (codes "m") (codes "s")
     ≡ AsksWords (plain (codes "m") ∷ []) ∷ AsksWords (plain (codes "s") ∷ []) ∷ [])
-    × (conversion_queries small default (codes "nosuch") (codes "s") ≡ AsksWords (plain (codes "nosuch") ∷ []) ∷ [])
-    × (conversion_queries small default (codes "m") (codes "m;;s") ≡ AsksWords (plain (codes "m") ∷ []) ∷ [])
+    × (conversion_queries small_reply_table default (codes "nosuch") (codes "s") ≡ AsksWords
+    (plain (codes "nosuch") ∷ []) ∷ [])
+    × (conversion_queries small_reply_table default (codes "m") (codes "m;;s") ≡ AsksWords (plain (codes "m") ∷ []) ∷
+    [])
 
 -- law: all examples
-abbrev pub ExamplesLaw : Type 0
-ExamplesLaw = LinearLaw × ReciprocalLaw × ListsLaw × FaultsLaw
+abbrev pub ReplyExamplesLaw : Type 0
+ReplyExamplesLaw = LinearLaw × ReciprocalLaw × ListsLaw × ReplyFaultsLaw

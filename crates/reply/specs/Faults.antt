@@ -9,9 +9,9 @@ use Rattle.reply.specs.declared.fault.ReplyFault.{ReplyFault}
 use Rattle.reply.specs.declared.fault.ReplyFault.TheVariants.{Parse, Name, Value, List as ListUnit}
 
 -- the fault is not lack of memory
-abbrev pub is_told : ReplyFault → Bool
-is_told (Parse parse.OutOfMemory) = false
-is_told _ = true
+abbrev pub is_reportable : ReplyFault → Bool
+is_reportable (Parse parse.OutOfMemory) = false
+is_reportable _ = true
 
 -- the text of the fault of a unit of a list, whose place is counted from 1
 abbrev pub list_fault_text : (place : ℕ) → List ℕ

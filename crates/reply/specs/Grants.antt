@@ -5,14 +5,14 @@ use Rattle.frac128.specs.Sign.{is_positive, is_zero}
 use Rattle.quantity.specs.Amount.{Amount, are_reciprocal, conform}
 use Rattle.unit_list.specs.Amounts.{numbers_of}
 use Rattle.unit_list.specs.Splits.{number_counts}
-use Rattle.def_lines.specs.Blanks.{trimmed}
+use Rattle.def_lines.specs.Blanks.{trim_of}
 use Rattle.def_entry.specs.declared.key.Kind.TheVariants as kind
 use Rattle.def_entry.specs.Keys.{key}
 use Rattle.def_entry.specs.Tables.{Table}
 use Rattle.deck.specs.Decks.{Contents}
 use Rattle.deck.specs.Tables as deck
-use Rattle.tree_eval.specs.Expanded.{Callable, Callee}
-use Rattle.tree_eval.specs.Value.{unapplied}
+use Rattle.tree_eval.specs.Expansions.{Callable, Callee}
+use Rattle.tree_eval.specs.Value.{inverse_value_at}
 use Rattle.table_names.specs.Faults.{key_fault}
 use Rattle.table_names.specs.Meanings.{key_meaning}
 use Rattle.reply.specs.declared.conversion.Conversion.{Conversion}
@@ -23,10 +23,10 @@ use Rattle.reply.specs.declared.reply.Reply.{Reply}
 use Rattle.reply.specs.declared.target.Target.{Target}
 use Rattle.reply.specs.declared.target.Target.TheVariants.{Function, Parts, Unit}
 use Rattle.reply.specs.Lines.{conversion_text}
-use Rattle.reply.specs.Options.{form_of}
+use Rattle.reply.specs.Options.{reply_form}
 use Rattle.reply.specs.Quotients.{IsQuotient}
 use Rattle.reply.specs.Replies.{comparison_reply, conversion_reply}
-use Rattle.reply.specs.Targets.{parts_of, target}
+use Rattle.reply.specs.Targets.{conversion_target, parts_of}
 use Rattle.reply.specs.TextValues.{AreValuesOf, IsValueOf}
 
 -- the number after `/`: how often FROM goes into TO; `None` if FROM is 0
@@ -70,7 +70,7 @@ module _ (table : Table) where
     pub names : key_fault table (key kind.Func name) ≡ None
     pub function : Callable
     pub meaning : key_meaning table (key kind.Func name) ≡ Callee function
-    pub evaluates : unapplied function x ≡ Ok y
+    pub evaluates : inverse_value_at function x ≡ Ok y
 
   -- a conversion to a list: each of its parts has a value above 0 to which x conforms, and x has counts of these
   pub record ConvertsToList (round : Bool) (list : List ℕ) (x : Amount) (counts : List Fraction) : Type 0 where
@@ -92,8 +92,8 @@ module _ (table : Table) (options : Options) (from to : List ℕ) where
   -- FROM has a value, and this is its conversion to TO
   pub record IsConversion (c : Conversion) : Type 0 where
     pub x : Amount
-    pub evaluates : IsValueOf table (trimmed from) x
-    pub converts : ConvertsTo table options (trimmed to) (target table (trimmed to)) x c
+    pub evaluates : IsValueOf table (trim_of from) x
+    pub converts : ConvertsTo table options (trim_of to) (conversion_target table (trim_of to)) x c
 
   -- FROM can be converted to TO
   abbrev pub IsGranted : Type 0
@@ -106,12 +106,12 @@ module _ (table : Table) (options : Options) (from to : List ℕ) where
     -- the reply to a granted conversion states the numbers of that conversion
     pub conversion : (c : Conversion) → IsConversion c
         → reply
-        ≡ (record { text = conversion_text (form_of options) (trimmed from) (trimmed to) c; refused = false })
+        ≡ (record { text = conversion_text (reply_form options) (trim_of from) (trim_of to) c; refused = false })
     -- if TO is a unit and both texts have values, the reply is that for these values
-    pub comparison : target table (trimmed to) ≡ Unit → (x y : Amount) → IsValueOf table (trimmed from) x
-        → IsValueOf table (trimmed to) y → reply ≡ comparison_reply options (trimmed from) (trimmed to) x y
+    pub comparison : conversion_target table (trim_of to) ≡ Unit → (x y : Amount) → IsValueOf table (trim_of from) x
+        → IsValueOf table (trim_of to) y → reply ≡ comparison_reply options (trim_of from) (trim_of to) x y
     -- no conversion to a unit of the value 0 is granted
-    pub zero : target table (trimmed to) ≡ Unit → (y : Amount) → IsValueOf table (trimmed to) y
+    pub zero : conversion_target table (trim_of to) ≡ Unit → (y : Amount) → IsValueOf table (trim_of to) y
         → y.value.num ≡ pos 0 → reply.refused ≡ true
 
 -- law: the reply over the definitions of a deck grants exactly these conversions

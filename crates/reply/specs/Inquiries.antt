@@ -19,17 +19,17 @@ pub record Inquiry (A : Type 0) : Type 0 where
   pub answer : Result A ReplyFault
 
 -- a result or a fault that needs no query
-abbrev pub given : {A : Type 0} → Result A ReplyFault → Inquiry A
-given answer = record { events = []; answer = answer }
+abbrev pub without_queries : {A : Type 0} → Result A ReplyFault → Inquiry A
+without_queries answer = record { events = []; answer = answer }
 
-abbrev pub followed : {A B : Type 0} → List Event → Result A ReplyFault → (A → Inquiry B) → Inquiry B
-followed events (Ok x) next = record { events = events ++ (next x).events; answer = (next x).answer }
-followed events (Err fault) next = record { events = events; answer = Err fault }
+abbrev pub after_query : {A B : Type 0} → List Event → Result A ReplyFault → (A → Inquiry B) → Inquiry B
+after_query events (Ok x) next = record { events = events ++ (next x).events; answer = (next x).answer }
+after_query events (Err fault) next = record { events = events; answer = Err fault }
 
 -- one inquiry, and then another that depends on its result; a fault ends both
 infixl 10 ◌>>=◌
 abbrev pub ◌>>=◌ : {A B : Type 0} → Inquiry A → (A → Inquiry B) → Inquiry B
-first >>= next = followed first.events first.answer next
+first >>= next = after_query first.events first.answer next
 
 -- lack of memory, which is never the result of a query
 abbrev pub no_memory : ReplyFault
@@ -43,24 +43,24 @@ as_answer (Err (query.Value fault)) = Err (Value fault)
 as_answer (Err query.OutOfMemory) = Err no_memory
 
 -- a single query
-abbrev pub asking : {A : Type 0} → Event → Result A QueryFault → Inquiry A
-asking event result = record { events = event ∷ []; answer = as_answer result }
+abbrev pub single_query : {A : Type 0} → Event → Result A QueryFault → Inquiry A
+single_query event result = record { events = event ∷ []; answer = as_answer result }
 
 module _ (table : Table) where
   -- the value of a tree
-  abbrev pub worth : Syntax → Inquiry Amount
-  worth tree = asking (AsksWords (words_in tree)) (answer table tree)
+  abbrev pub tree_value : Syntax → Inquiry Amount
+  tree_value tree = single_query (AsksWords (words_in tree)) (answer table tree)
 
   -- the values of trees, in order
   abbrev pub worths : List Syntax → Inquiry (List Amount)
-  worths [] = given (Ok [])
+  worths [] = without_queries (Ok [])
   worths (tree ∷ trees) = do
-    x ← worth tree
+    x ← tree_value tree
     xs ← worths trees
-    given (Ok (x ∷ xs))
+    without_queries (Ok (x ∷ xs))
 
   -- the value of a text: the first fault of its syntax, then that of its names, then that of its value
   abbrev pub text_worth : List ℕ → Inquiry Amount
   text_worth text = do
-    tree ← given (tree_in text)
-    worth tree
+    tree ← without_queries (tree_in text)
+    tree_value tree

@@ -10,7 +10,7 @@ use Rattle.reply.specs.declared.form.Layout.{Layout}
 use Rattle.reply.specs.declared.form.Layout.TheVariants.{Plain, Compact}
 use Rattle.reply.specs.declared.ratio.Ratio.{Ratio}
 use Rattle.reply.specs.declared.conversion.Conversion.{Conversion}
-use Rattle.reply.specs.declared.conversion.Conversion.TheVariants.{Linear, Reciprocal, Inverse, Split, Unlike}
+use Rattle.reply.specs.declared.conversion.Conversion.TheVariants.{Linear, Reciprocal, Inverse, NonConforming, Split}
 use Rattle.reply.specs.Layouts.{backward_text, call_text, equation_front, forward_text, laid}
 use Rattle.reply.specs.Targets.{parts_of}
 
@@ -86,7 +86,7 @@ conversion_text form from to (Linear ratio) = linear_text form from to ratio
 conversion_text form from to (Reciprocal ratio) = reciprocal_text form from to ratio
 conversion_text form from to (Inverse y) = inverse_text form from to y
 conversion_text form from to (Split list counts) = split_text form from list counts
-conversion_text form from to (Unlike x y) = unlike_text form x y
+conversion_text form from to (NonConforming x y) = unlike_text form x y
 
 -- the text of the expression that defines a unit and an equals sign, if there is such an expression
 abbrev pub body_front : Option (List ℕ) → List ℕ

@@ -20,5 +20,5 @@ style_of options = if options.exact then Exact else Digits options.digits
 abbrev pub layout_of : Options → Layout
 layout_of options = if options.compact then Compact else (if options.verbose then Verbose else Plain)
 
-abbrev pub form_of : Options → Form
-form_of options = record { layout = layout_of options; style = style_of options; one_line = options.one_line }
+abbrev pub reply_form : Options → Form
+reply_form options = record { layout = layout_of options; style = style_of options; one_line = options.one_line }

@@ -2,7 +2,7 @@
 use Rattle.std.specs.Prelude.{◌≡◌, ◌≢◌, ◌<◌, ◌↔◌, pos, Ok}
 use Rattle.frac128.specs.Exact.{product}
 use Rattle.frac128.specs.Fraction.{Fraction, IsFrac, SameValue}
-use Rattle.frac128.specs.Steps.{over}
+use Rattle.frac128.specs.Steps.{fraction_quotient}
 
 -- v is the exact quotient of x and y: y is not 0, v times y is x, and v is in lowest terms, with a numerator and a
 -- denominator of at most 2 ^ 127 - 1
@@ -14,4 +14,4 @@ pub record IsQuotient (x y v : Fraction) : Type 0 where
 
 -- law: the result of a division is a fraction if and only if it is the exact quotient
 abbrev pub QuotientLaw : Type 0
-QuotientLaw = (x y v : Fraction) → (over x y ≡ Ok v) ↔ IsQuotient x y v
+QuotientLaw = (x y v : Fraction) → (fraction_quotient x y ≡ Ok v) ↔ IsQuotient x y v

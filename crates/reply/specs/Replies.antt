@@ -4,7 +4,7 @@ use Rattle.def_entry.specs.declared.key.Kind.TheVariants as kind
 use Rattle.def_entry.specs.Entries.{Entry, What, Body}
 use Rattle.def_entry.specs.Keys.{key}
 use Rattle.def_entry.specs.Tables.{Table, entry_at}
-use Rattle.def_lines.specs.Blanks.{trimmed}
+use Rattle.def_lines.specs.Blanks.{trim_of}
 use Rattle.quantity.specs.Amount.{Amount}
 use Rattle.live_table.specs.States.{Event}
 use Rattle.reply.specs.declared.fault.ReplyFault.{ReplyFault}
@@ -14,11 +14,11 @@ use Rattle.reply.specs.declared.reply.Reply.{Reply}
 use Rattle.reply.specs.declared.reply.FromValue.{FromValue}
 use Rattle.reply.specs.declared.reply.FromValue.TheVariants.{Good, Bad}
 use Rattle.reply.specs.declared.conversion.Conversion.{Conversion}
-use Rattle.reply.specs.Conversions.{compared, conversion, is_granted}
+use Rattle.reply.specs.Conversions.{conversion, conversion_between, is_granted}
 use Rattle.reply.specs.Faults.{fault_text}
 use Rattle.reply.specs.Inquiries.{Inquiry, text_worth}
 use Rattle.reply.specs.Lines.{conversion_text, definition_text}
-use Rattle.reply.specs.Options.{form_of, style_of}
+use Rattle.reply.specs.Options.{reply_form, style_of}
 
 -- the reply to a fault, which is the whole text
 abbrev pub refusal : Form → ReplyFault → Reply
@@ -34,7 +34,8 @@ as_conversion form from to (Err fault) = refusal form fault
 
 -- the reply to the conversion of two quantities with these texts
 abbrev pub comparison_reply : Options → (from to : List ℕ) (x y : Amount) → Reply
-comparison_reply options from to x y = as_conversion (form_of options) from to (compared options.strict x y)
+comparison_reply options from to x y = as_conversion (reply_form options) from to
+    (conversion_between options.strict x y)
 
 abbrev pub definition_as : Form → (body : Option (List ℕ)) → Amount → Reply
 definition_as form body x = record { text = definition_text form body x; refused = false }
@@ -58,27 +59,27 @@ body_of (Some e) = body_text e.text e.what
 
 module _ (table : Table) (options : Options) where
   -- the conversion of one text to another, with its queries
-  abbrev pub converting : (from to : List ℕ) → Inquiry Conversion
-  converting from to = conversion table options (trimmed from) (trimmed to)
+  abbrev pub conversion_inquiry : (from to : List ℕ) → Inquiry Conversion
+  conversion_inquiry from to = conversion table options (trim_of from) (trim_of to)
 
   abbrev pub conversion_reply : (from to : List ℕ) → Reply
   conversion_reply from to =
-      as_conversion (form_of options) (trimmed from) (trimmed to) (converting from to).answer
+      as_conversion (reply_form options) (trim_of from) (trim_of to) (conversion_inquiry from to).answer
 
   abbrev pub conversion_queries : (from to : List ℕ) → List Event
-  conversion_queries from to = (converting from to).events
+  conversion_queries from to = (conversion_inquiry from to).events
 
   -- the reply to a single text: its value, after the text of its definition if it is the name of a unit that is defined
   -- by an expression
   abbrev pub definition_reply : (from : List ℕ) → Reply
   definition_reply from =
-      as_definition (form_of options) (body_of (entry_at table (key kind.Unit (trimmed from))))
-      (text_worth table (trimmed from)).answer
+      as_definition (reply_form options) (body_of (entry_at table (key kind.Unit (trim_of from))))
+      (text_worth table (trim_of from)).answer
 
   -- the value of a text, or the text of its first fault
   abbrev pub from_value : (from : List ℕ) → FromValue
-  from_value from = as_value options (text_worth table (trimmed from)).answer
+  from_value from = as_value options (text_worth table (trim_of from)).answer
 
 -- the queries of a definition or a value
 abbrev pub value_queries : Table → (from : List ℕ) → List Event
-value_queries table from = (text_worth table (trimmed from)).events
+value_queries table from = (text_worth table (trim_of from)).events

@@ -4,15 +4,15 @@ use Rattle.std.specs.List.{list_any, slice_split}
 use Rattle.def_entry.specs.declared.key.Kind.TheVariants as kind
 use Rattle.def_entry.specs.Entries.{Entry}
 use Rattle.def_entry.specs.Keys.{key}
-use Rattle.def_entry.specs.Reading.{is_semicolon}
+use Rattle.def_entry.specs.EntryReading.{is_semicolon}
 use Rattle.def_entry.specs.Tables.{Table, entry_at, is_present}
-use Rattle.def_lines.specs.Blanks.{trimmed}
+use Rattle.def_lines.specs.Blanks.{trim_of}
 use Rattle.reply.specs.declared.target.Target.{Target}
 use Rattle.reply.specs.declared.target.Target.TheVariants.{Function, Parts, Unit}
 
 -- the parts of the text of a list, separated by `;` and trimmed
 abbrev pub parts_of : List ℕ → List (List ℕ)
-parts_of text = map trimmed (slice_split is_semicolon text)
+parts_of text = map trim_of (slice_split is_semicolon text)
 
 -- the parts of the text after a `;`, if there is one
 abbrev pub parts_behind : Option (List ℕ) → List (List ℕ)
@@ -26,8 +26,8 @@ parts_or_unit None to = if list_any is_semicolon to then Parts to else Unit
 
 -- the name of a function, even if it is also that of a list or a unit; the name of a list; a text with a `;`; any other
 -- text
-abbrev pub target : Table → List ℕ → Target
-target table to =
+abbrev pub conversion_target : Table → List ℕ → Target
+conversion_target table to =
     if is_present table (key kind.Func to)
     then Function
     else parts_or_unit (entry_at table (key kind.List to)) to

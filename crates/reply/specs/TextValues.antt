@@ -1,6 +1,6 @@
 -- The values of texts.
 use Rattle.std.specs.Prelude.{◌≡◌, ⊤, ℕ, List, [], ◌∷◌, None, Ok}
-use Rattle.expr_tree.specs.Parsed.{parsed}
+use Rattle.expr_tree.specs.ParseResult.{parse_of}
 use Rattle.expr_tree.specs.Syntax.{Syntax}
 use Rattle.expr_tree.specs.Words.{words_in}
 use Rattle.quantity.specs.Amount.{Amount}
@@ -15,7 +15,7 @@ use Rattle.table_names.specs.Meanings.{expansion}
 -- x is the value of a text: the text is an expression, its names have no fault, and its full expansion evaluates to x
 pub record IsValueOf (table : Table) (text : List ℕ) (x : Amount) : Type 0 where
   pub tree : Syntax
-  pub parses : parsed None text ≡ Ok tree
+  pub parses : parse_of None text ≡ Ok tree
   pub names : name_fault table (words_in tree) ≡ None
   pub evaluates : value (expansion table tree) None ≡ Ok x
 

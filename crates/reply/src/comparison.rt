@@ -15,14 +15,14 @@ use unit_list::{SplitFault, split};
 use units_io::Text;
 
 /// Expresses one quantity in terms of another: `Linear` if they conform; else `Reciprocal` if they are reciprocal and
-/// `strict` is off; else `Unlike`, the only case in which `y` is copied.
-pub(crate) fn compared(
+/// `strict` is off; else `NonConforming`, the only case in which `y` is copied.
+pub(crate) fn compare_quantities(
     alloc: Global,
     strict: bool,
     x: Quantity,
     y: &Quantity,
 ) -> Result<Conversion, Failure>
-    ensures { call.IsRead call.same (spec.compared strict x y.now) result }
+    ensures { call.IsRead call.same (spec.conversion_between strict x y.now) result }
 {
     if x.conforms(y) {
         return Ok(Conversion::Linear(ratio_of(&x.value(), &y.value())?));
@@ -30,11 +30,11 @@ pub(crate) fn compared(
     if x.is_reciprocal(y) && !strict {
         return Ok(Conversion::Reciprocal(reciprocal_ratio(&x.value(), &y.value())?));
     }
-    Ok(Conversion::Unlike(x, y.copy(alloc)?))
+    Ok(Conversion::NonConforming(x, y.copy(alloc)?))
 }
 
 /// Splits a quantity into counts of the units of a list.
-pub(crate) fn counted(
+pub(crate) fn count_units(
     alloc: Global,
     round: bool,
     list: Text,
@@ -46,7 +46,7 @@ pub(crate) fn counted(
 {
     match split(alloc, &x, units.as_slice(), round) {
         Ok(split) => Ok(Conversion::Split(list, split.counts)),
-        Err(SplitFault::NotConformable(place)) => Ok(Conversion::Unlike(
+        Err(SplitFault::NotConformable(place)) => Ok(Conversion::NonConforming(
             x,
             units.swap_remove(place),
         )),

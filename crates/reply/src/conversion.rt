@@ -9,12 +9,12 @@ ghost use Rattle.reply.specs.Calls as call;
 ghost use Rattle.reply.specs.Conversions as spec;
 ghost use Rattle.reply.specs.Targets as targets;
 
-use crate::asking::{part_trees, text_worth, worths};
-use crate::comparison::{compared, counted};
+use crate::comparison::{compare_quantities, count_units};
 use crate::failure::Failure;
 use crate::options::Options;
 use crate::ratio::Ratio;
 use crate::target::{Target, target_of};
+use crate::text_evaluation::{evaluate_text, evaluate_texts, part_trees};
 use live_table::LiveTable;
 use quantity::Quantity;
 use std::alloc::Global;
@@ -34,7 +34,7 @@ pub(crate) enum Conversion {
     /// The text of a list, and the counts of its parts.
     Split(Text, Fracs),
     /// Two quantities that do not conform.
-    Unlike(Quantity, Quantity),
+    NonConforming(Quantity, Quantity),
 }
 
 /// Converts one text to another.
@@ -51,7 +51,7 @@ pub(crate) fn convert<L: Ledger>(
         (spec.conversion (tables.table table.old.deck) options.now from.now to.now) result
         table.old table.new steps.old steps.new }
 {
-    let x = text_worth(alloc, table, from, steps)?;
+    let x = evaluate_text(alloc, table, from, steps)?;
     let target = target_of(alloc, table.deck(), to)?;
     converted_to(alloc, table, options, to, target, x, steps)
 }
@@ -66,21 +66,21 @@ fn converted_to<L: Ledger>(
     x: Quantity,
     steps: &mut Steps<L>,
 ) -> Result<Conversion, Failure>
-    requires { target ≡ targets.target (tables.table table.old.deck) to.now }
+    requires { target ≡ targets.conversion_target (tables.table table.old.deck) to.now }
     ensures deck { table.new.deck ≡ table.old.deck }
     ensures inquired { call.IsInquired call.same
         (spec.converted_to (tables.table table.old.deck) options.now to.now target x) result
         table.old table.new steps.old steps.new }
 {
     match target {
-        Target::Function => inverted(alloc, table, to, x, steps),
-        Target::Parts(list) => split_into(alloc, table, options, list, x, steps),
-        Target::Unit => set_against(alloc, table, options, to, x, steps),
+        Target::Function => apply_inverse(alloc, table, to, x, steps),
+        Target::Parts(list) => convert_to_list(alloc, table, options, list, x, steps),
+        Target::Unit => convert_to_unit(alloc, table, options, to, x, steps),
     }
 }
 
 // Converts a quantity to a unit.
-fn set_against<L: Ledger>(
+fn convert_to_unit<L: Ledger>(
     alloc: Global,
     table: &mut LiveTable,
     options: &Options,
@@ -90,15 +90,15 @@ fn set_against<L: Ledger>(
 ) -> Result<Conversion, Failure>
     ensures deck { table.new.deck ≡ table.old.deck }
     ensures inquired { call.IsInquired call.same
-        (spec.set_against (tables.table table.old.deck) options.now to.now x) result
+        (spec.conversion_to_unit (tables.table table.old.deck) options.now to.now x) result
         table.old table.new steps.old steps.new }
 {
-    let y = text_worth(alloc, table, to, steps)?;
-    compared(alloc, options.strict, x, &y)
+    let y = evaluate_text(alloc, table, to, steps)?;
+    compare_quantities(alloc, options.strict, x, &y)
 }
 
 // Applies the inverse of the function with this name.
-fn inverted<L: Ledger>(
+fn apply_inverse<L: Ledger>(
     alloc: Global,
     table: &mut LiveTable,
     name: &[u8],
@@ -107,7 +107,8 @@ fn inverted<L: Ledger>(
 ) -> Result<Conversion, Failure>
     requires there { is_present (tables.table table.old.deck) (keys.key kinds.Func name.now) ≡ true }
     ensures deck { table.new.deck ≡ table.old.deck }
-    ensures inquired { call.IsInquired call.same (spec.inverted (tables.table table.old.deck) name.now x) result
+    ensures inquired { call.IsInquired call.same (spec.inverse_conversion (tables.table table.old.deck) name.now x)
+        result
         table.old table.new steps.old steps.new }
 {
     let y = table.unapply(alloc, name, &x, steps)?;
@@ -115,7 +116,7 @@ fn inverted<L: Ledger>(
 }
 
 // Splits a quantity into the units of a list.
-fn split_into<L: Ledger>(
+fn convert_to_list<L: Ledger>(
     alloc: Global,
     table: &mut LiveTable,
     options: &Options,
@@ -125,12 +126,12 @@ fn split_into<L: Ledger>(
 ) -> Result<Conversion, Failure>
     ensures deck { table.new.deck ≡ table.old.deck }
     ensures inquired { call.IsInquired call.same
-        (spec.split_into (tables.table table.old.deck) options.now list x) result
+        (spec.conversion_to_list (tables.table table.old.deck) options.now list x) result
         table.old table.new steps.old steps.new }
 {
     // The cached outcomes are right even if nothing is queried.
-    table.kept_right();
+    table.outcomes_are_right();
     let trees = part_trees(alloc, list.as_bytes())?;
-    let units = worths(alloc, table, trees.as_slice(), steps)?;
-    counted(alloc, options.round, list, x, units)
+    let units = evaluate_texts(alloc, table, trees.as_slice(), steps)?;
+    count_units(alloc, options.round, list, x, units)
 }

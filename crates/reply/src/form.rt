@@ -31,7 +31,7 @@ impl Form {
     /// Returns the form that the options select.
     pub(crate) fn of(options: &Options) -> Form
         requires { spec.IsPrintable options.now }
-        ensures is { result ≡ spec.form_of options.now }
+        ensures is { result ≡ spec.reply_form options.now }
         ensures style { IsStyle result.style }
     {
         let layout = if options.compact {

@@ -1,6 +1,6 @@
 //! Laws of replies. The functions do nothing: the contract of each is the law.
 
-ghost use Rattle.reply.specs.Examples.{ExamplesLaw};
+ghost use Rattle.reply.specs.Examples.{ReplyExamplesLaw};
 ghost use Rattle.reply.specs.GrantExamples.{GrantExamplesLaw};
 ghost use Rattle.reply.specs.Grants.{GrantLaw};
 ghost use Rattle.reply.specs.Quotients.{QuotientLaw};
@@ -12,7 +12,7 @@ use table_names::kind_law;
 
 /// A few replies are as found by hand.
 pub fn examples_law()
-    ensures { ExamplesLaw }
+    ensures { ReplyExamplesLaw }
 {}
 
 /// The result of a division is a fraction if and only if it is the exact quotient.

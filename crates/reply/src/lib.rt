@@ -1,27 +1,27 @@
 //! Computes replies to conversions and definitions, as bytes.
 #![tactic(auto)]
 
-mod asking;
 mod comparison;
 mod conversion;
 mod failure;
 mod fault;
+mod fault_writer;
 mod form;
 mod laws;
 mod lines;
 mod options;
 mod parts;
-mod put;
 mod ratio;
 mod reply;
 mod split_lines;
 mod target;
-mod telling;
+mod text_evaluation;
+mod text_writer;
 
-pub use asking::worths;
 pub use fault::ReplyFault;
+pub use fault_writer::fault_text;
 pub use laws::{denominator_law, examples_law, grant_examples_law, grant_law, quotient_law};
 pub use options::Options;
 pub use reply::{FromValue, Reply, comparison_reply, convert_reply, definition_reply, from_value};
 pub use target::has_semicolon;
-pub use telling::fault_text;
+pub use text_evaluation::evaluate_texts;

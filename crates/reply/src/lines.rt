@@ -10,9 +10,9 @@ ghost use Rattle.reply.specs.Subjects.{subject_text};
 
 use crate::conversion::Conversion;
 use crate::form::{Form, Layout};
-use crate::put::{put_number, put_quantity, put_some_number};
 use crate::ratio::Ratio;
 use crate::split_lines::put_split;
+use crate::text_writer::{put_number, put_quantity, put_some_number};
 use quantity::Quantity;
 use std::alloc::{AllocError, Global};
 
@@ -45,7 +45,7 @@ pub(crate) fn put_conversion(
         Conversion::Split(list, counts) => {
             put_split(alloc, text, form, from, list.as_bytes(), counts.as_slice())
         }
-        Conversion::Unlike(x, y) => put_unlike(alloc, text, form, x, y),
+        Conversion::NonConforming(x, y) => put_unlike(alloc, text, form, x, y),
     }
 }
 

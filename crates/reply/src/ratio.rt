@@ -25,7 +25,7 @@ pub(crate) fn ratio_of(from: &Frac, to: &Frac) -> Result<Ratio, FracFault>
 
 // Returns to/from, or `None` if `from` is 0.
 fn backward(from: &Frac, to: &Frac) -> Result<Option<Frac>, FracFault>
-    ensures { result ≡ spec.backward from.now to.now }
+    ensures { result ≡ spec.inverse_ratio from.now to.now }
 {
     if from.is_zero() {
         return Ok(None);

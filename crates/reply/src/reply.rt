@@ -15,20 +15,20 @@ ghost use Rattle.reply.specs.Options.{IsPrintable, style_of};
 ghost use Rattle.reply.specs.declared.reply.FromValue.TheVariants.{Bad};
 ghost use Rattle.reply.specs.Replies as spec;
 
-use crate::asking::text_worth;
-use crate::comparison::compared;
+use crate::comparison::compare_quantities;
 use crate::conversion::{Conversion, convert};
 use crate::failure::Failure;
 use crate::fault::ReplyFault;
+use crate::fault_writer::{fault_text, put_fault};
 use crate::form::Form;
 use crate::laws::grant_law;
 use crate::lines::{put_conversion, put_definition};
 use crate::options::Options;
-use crate::telling::{fault_text, put_fault};
+use crate::text_evaluation::evaluate_text;
 use deck::Deck;
 use def_entry::{Kind, What};
 use def_lines::trim;
-use expr_tree::told_law;
+use expr_tree::parse_memory_law;
 use live_table::LiveTable;
 use quantity::Quantity;
 use std::alloc::{AllocError, Global};
@@ -74,13 +74,13 @@ pub fn convert_reply<L: Ledger>(
         result table.old table.new steps.old steps.new }
     ensures deck { table.new.deck ≡ table.old.deck }
 {
-    told_law();
+    parse_memory_law();
     grant_law();
     let form = Form::of(options);
     let from = trim(from);
     let to = trim(to);
     match convert(alloc, table, options, from, to, steps) {
-        Ok(conversion) => granted(alloc, form, from, to, &conversion),
+        Ok(conversion) => reply_to_conversion(alloc, form, from, to, &conversion),
         Err(Failure::Fault(fault)) => refusal(alloc, form, &fault),
         Err(Failure::OutOfMemory) => Err(AllocError),
     }
@@ -101,8 +101,8 @@ pub fn comparison_reply(
     ensures { IfOk result (λ reply. reply ≡ spec.comparison_reply options.now from.now to.now x y.now) }
 {
     let form = Form::of(options);
-    match compared(alloc, options.strict, x, y) {
-        Ok(conversion) => granted(alloc, form, from, to, &conversion),
+    match compare_quantities(alloc, options.strict, x, y) {
+        Ok(conversion) => reply_to_conversion(alloc, form, from, to, &conversion),
         Err(Failure::Fault(fault)) => refusal(alloc, form, &fault),
         Err(Failure::OutOfMemory) => Err(AllocError),
     }
@@ -125,11 +125,11 @@ pub fn definition_reply<L: Ledger>(
         result table.old table.new steps.old steps.new }
     ensures deck { table.new.deck ≡ table.old.deck }
 {
-    told_law();
+    parse_memory_law();
     let form = Form::of(options);
     let from = trim(from);
-    match text_worth(alloc, table, from, steps) {
-        Ok(x) => defined(alloc, form, table.deck(), from, &x),
+    match evaluate_text(alloc, table, from, steps) {
+        Ok(x) => reply_to_value(alloc, form, table.deck(), from, &x),
         Err(Failure::Fault(fault)) => refusal(alloc, form, &fault),
         Err(Failure::OutOfMemory) => Err(AllocError),
     }
@@ -151,9 +151,9 @@ pub fn from_value<L: Ledger>(
         result table.old table.new steps.old steps.new }
     ensures deck { table.new.deck ≡ table.old.deck }
 {
-    told_law();
+    parse_memory_law();
     let from = trim(from);
-    match text_worth(alloc, table, from, steps) {
+    match evaluate_text(alloc, table, from, steps) {
         Ok(x) => Ok(FromValue::Good(x)),
         Err(Failure::Fault(fault)) => bad(alloc, options, &fault),
         Err(Failure::OutOfMemory) => Err(AllocError),
@@ -162,7 +162,7 @@ pub fn from_value<L: Ledger>(
 
 // Returns a fault in place of a value.
 fn bad(alloc: Global, options: &Options, fault: &ReplyFault) -> Result<FromValue, AllocError>
-    requires told { faults.is_told fault.now ≡ true }
+    requires told { faults.is_reportable fault.now ≡ true }
     requires printable { IsPrintable options.now }
     ensures { IfOk result (λ value. value ≡ Bad (faults.fault_text (style_of options.now) fault.now)) }
 {
@@ -171,7 +171,7 @@ fn bad(alloc: Global, options: &Options, fault: &ReplyFault) -> Result<FromValue
 }
 
 // Returns the reply to a conversion that has no fault.
-fn granted(
+fn reply_to_conversion(
     alloc: Global,
     form: Form,
     from: &[u8],
@@ -194,13 +194,13 @@ fn is_granted(conversion: &Conversion) -> bool
     ensures { result ≡ conversions.is_granted conversion.now }
 {
     match conversion {
-        Conversion::Unlike(_, _) => false,
+        Conversion::NonConforming(_, _) => false,
         _ => true,
     }
 }
 
 // Returns the reply to a text that has a value.
-fn defined(
+fn reply_to_value(
     alloc: Global,
     form: Form,
     deck: &Deck,
@@ -235,7 +235,7 @@ fn body_text<'a>(deck: &'a Deck, name: &[u8]) -> Option<&'a [u8]>
 
 // Returns the reply that states a fault.
 fn refusal(alloc: Global, form: Form, fault: &ReplyFault) -> Result<Reply, AllocError>
-    requires told { faults.is_told fault.now ≡ true }
+    requires told { faults.is_reportable fault.now ≡ true }
     requires style { IsStyle form.style }
     ensures { IfOk result (λ reply. reply ≡ spec.refusal form fault.now) }
 {

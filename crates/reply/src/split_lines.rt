@@ -9,7 +9,7 @@ ghost use Rattle.reply.specs.Targets.{parts_behind, parts_of};
 use crate::form::{Form, Layout};
 use crate::lines::{put_front, put_tab};
 use crate::parts::cut_part;
-use crate::put::put_number;
+use crate::text_writer::put_number;
 use frac128::Frac;
 use std::alloc::{AllocError, Global};
 

@@ -3,7 +3,7 @@
 ghost use Rattle.std.specs.Prelude.{◌≡◌, IfOk};
 ghost use Rattle.std.specs.List.{list_any};
 ghost use Rattle.deck.specs.Tables as tables;
-ghost use Rattle.def_entry.specs.Reading.{is_semicolon};
+ghost use Rattle.def_entry.specs.EntryReading.{is_semicolon};
 ghost use Rattle.reply.specs.Targets as spec;
 
 use deck::Deck;
@@ -24,7 +24,7 @@ pub(crate) enum Target {
 
 /// Returns the meaning of the text of a target. The only error is lack of memory.
 pub(crate) fn target_of(alloc: Global, deck: &Deck, to: &[u8]) -> Result<Target, AllocError>
-    ensures { IfOk result (λ target. target ≡ spec.target (tables.table deck.now) to.now) }
+    ensures { IfOk result (λ target. target ≡ spec.conversion_target (tables.table deck.now) to.now) }
 {
     if deck.entry(Kind::Func, to).is_some() {
         return Ok(Target::Function);

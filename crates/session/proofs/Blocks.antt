@@ -5,31 +5,33 @@ use Rattle.std.proofs.Common.{append_assoc, length-append, Some, None}
 use Rattle.std.specs.declared.option.Option.{Option}
 use Rattle.std.specs.List.{list_any}
 use Rattle.std.proofs.lemmas.List.{append-nil, take-append-le, take_all}
-use Rattle.units_io.specs.Bytes.{grown, GrowsByFront, Loses, IsNoneLeft}
-use Rattle.units_io.specs.Faults.{Rose}
-use Rattle.session.specs.Hearing.{is_last, heard}
+use Rattle.units_io.specs.Bytes.{known_append, GrowsByFront, Loses, IsNoneLeft}
+use Rattle.units_io.specs.Faults.{CountRose}
+use Rattle.session.specs.HeardLines.{is_last, heard}
 use Rattle.session.specs.Input.{whole_lines, lines_of}
-use Rattle.session.specs.Talks.{Talk, talk_over, talk_on}
-use Rattle.session.specs.Hearing.{readable}
-use Rattle.session.specs.Telling.{when_told}
+use Rattle.session.specs.Talks.{SessionTrace, trace_over, trace_on}
+use Rattle.session.specs.HeardLines.{readable}
+use Rattle.session.specs.KnownContents.{when_told}
 use Rattle.session.specs.Outside.{Outside, taken_of, IsReadToEnd, TookMoreThan}
-use Rattle.session.specs.Written.{IsAll, IsCut, IsCutShort, IsFront, IsPart, IsPartBut, IsPartIf, output_of}
-use Rattle.session.specs.Written.{session_course}
-use Rattle.session.specs.Standing.{Base, Begins, BreaksOff, IsAt, IsBefore, Stands}
-use Rattle.session.specs.Waiting.{Opens, Waits, TookAtLeast}
-use Rattle.session.specs.Sessions.{Known}
-use Rattle.session.specs.declared.said.Said.{Said}
+use Rattle.session.specs.WrittenOutput.{IsAll, IsCutShort, IsOutputCut, IsOutputFront, IsPartIf, IsPrefixRun}
+use Rattle.session.specs.WrittenOutput.{IsPrefixRunExceptFile, output_of}
+use Rattle.session.specs.WrittenOutput.{session_course}
+use Rattle.session.specs.SessionProgress.{Base, Begins, BreaksOff, IsAt, IsBefore, Stands}
+use Rattle.session.specs.BetweenPieces.{Opens, WaitsForInput, TookAtLeast}
+use Rattle.session.specs.Sessions.{SessionState}
+use Rattle.session.specs.declared.session_output.Said.{Said}
 use Rattle.std.proofs.lemmas.Bool.Decides.{nat_tests}
-use Rattle.session.proofs.Cutting.{take-front}
+use Rattle.session.proofs.LineCuts.{take-front}
 use Rattle.session.proofs.HeardLines.{heard_more}
 
-pub grown_twice : (o : Option (List ℕ)) (xs ys : List ℕ) → grown (grown o xs) ys ≡ grown o (xs ++ ys)
+pub grown_twice : (o : Option (List ℕ)) (xs ys : List ℕ) → known_append (known_append o xs) ys ≡ known_append o
+    (xs ++ ys)
 grown_twice None xs ys = refl
 grown_twice (Some held) xs ys = ap Some (append_assoc held xs ys)
 
 -- all bytes are a front of themselves
-pub front_all : (o out : Option (List ℕ)) (xs : List ℕ) → out ≡ grown o xs → GrowsByFront o out xs
-front_all o out xs e = (length xs, omega arith, e ∙ ap (grown o) (sym (take_all (length xs) xs (omega arith))))
+pub front_all : (o out : Option (List ℕ)) (xs : List ℕ) → out ≡ known_append o xs → GrowsByFront o out xs
+front_all o out xs e = (length xs, omega arith, e ∙ ap (known_append o) (sym (take_all (length xs) xs (omega arith))))
 
 -- a front of some bytes is a front of more
 pub front_more : (o out : Option (List ℕ)) (xs ys : List ℕ) → Begins xs ys → GrowsByFront o out xs
@@ -38,7 +40,7 @@ front_more o out xs ys b f = subst (GrowsByFront o out) (sym b.1) (
   f.0,
   omega (arith, f.1, length-append xs b.0),
   f.2
-      ∙ ap (grown o) (sym (take-append-le f.0 xs b.0 f.1)),
+      ∙ ap (known_append o) (sym (take-append-le f.0 xs b.0 f.1)),
 )
 
 take-append-add : (xs ys : List ℕ) (n : ℕ) → take (length xs + n) (xs ++ ys) ≡ xs ++ take n ys
@@ -48,13 +50,13 @@ take-append-add (x ∷ xs) ys n =
     ap (λ k. take k (x ∷ (xs ++ ys))) z ∙ ap (λ t. x ∷ t) (take-append-add xs ys n)
 
 -- a front of the bytes that come after others is a front of both
-front_behind : (o mid out : Option (List ℕ)) (xs ys : List ℕ) → mid ≡ grown o xs → GrowsByFront mid out ys
+front_behind : (o mid out : Option (List ℕ)) (xs ys : List ℕ) → mid ≡ known_append o xs → GrowsByFront mid out ys
     → GrowsByFront o out (xs ++ ys)
 front_behind o mid out xs ys e f = (
   length xs + f.0,
   omega (arith, f.1, length-append xs ys),
-  f.2 ∙ ap (λ p. grown p (take f.0 ys)) e
-      ∙ grown_twice o xs (take f.0 ys) ∙ ap (grown o) (sym (take-append-add xs ys f.0)),
+  f.2 ∙ ap (λ p. known_append p (take f.0 ys)) e
+      ∙ grown_twice o xs (take f.0 ys) ∙ ap (known_append o) (sym (take-append-add xs ys f.0)),
 )
 
 -- a count that has not decreased since a later time has not decreased since an earlier one
@@ -62,24 +64,25 @@ pub later_than : (a b c : ℕ) → a ≤ b → b ≤ c → a ≤ c
 later_than a b c h k = omega (arith, h, k)
 
 -- a count that rose since a later time also rose since an earlier one
-pub rose_since : (a b c : ℕ) → a ≤ b → Rose b c → Rose a c
+pub rose_since : (a b c : ℕ) → a ≤ b → CountRose b c → CountRose a c
 rose_since a b c h r = omega (arith, h, r)
 
 -- if one of three counts rose since a later time, one rose since an earlier one; the third is counted from the same
 -- time
-pub any_rose : (a b c x y z p q : ℕ) → a ≤ b → x ≤ y → Rose b c ⊎ Rose y z ⊎ Rose p q → Rose a c ⊎ Rose x z ⊎ Rose p q
+pub any_rose : (a b c x y z p q : ℕ) → a ≤ b → x ≤ y → CountRose b c ⊎ CountRose y z ⊎ CountRose p q
+    → CountRose a c ⊎ CountRose x z ⊎ CountRose p q
 any_rose a b c x y z p q h k (inl r) = inl (rose_since a b c h r)
 any_rose a b c x y z p q h k (inr (inl r)) = inr (inl (rose_since x y z k r))
 any_rose a b c x y z p q h k (inr (inr r)) = inr (inr r)
 
 -- if one of two counts rose since a later time, one rose since an earlier one
-pub either_rose : (a b c x y z : ℕ) → a ≤ b → x ≤ y → Rose b c ⊎ Rose y z → Rose a c ⊎ Rose x z
+pub either_rose : (a b c x y z : ℕ) → a ≤ b → x ≤ y → CountRose b c ⊎ CountRose y z → CountRose a c ⊎ CountRose x z
 either_rose a b c x y z h k (inl r) = inl (rose_since a b c h r)
 either_rose a b c x y z h k (inr r) = inr (rose_since x y z k r)
 
 -- if one of three counts rose since a later time, one rose since an earlier one
-pub any_since : (a b c x y z p q r : ℕ) → a ≤ b → x ≤ y → p ≤ q → Rose b c ⊎ Rose y z ⊎ Rose q r
-    → Rose a c ⊎ Rose x z ⊎ Rose p r
+pub any_since : (a b c x y z p q r : ℕ) → a ≤ b → x ≤ y → p ≤ q → CountRose b c ⊎ CountRose y z ⊎ CountRose q r
+    → CountRose a c ⊎ CountRose x z ⊎ CountRose p r
 any_since a b c x y z p q r h k l (inl s) = inl (rose_since a b c h s)
 any_since a b c x y z p q r h k l (inr (inl s)) = inr (inl (rose_since x y z k s))
 any_since a b c x y z p q r h k l (inr (inr s)) = inr (inr (rose_since p q r l s))
@@ -116,14 +119,15 @@ left_and_more taken bytes done left more e =
     sym (append_assoc (taken ++ done) left more) ∙ same_input taken bytes done left more e
 
 -- after the opening is written, the session waits for its first line
-pub opens : (first : Talk) (held : Option (List ℕ)) (said : Said) (session : Known) (before opening now : Outside)
+pub opens : (first : SessionTrace) (held : Option (List ℕ)) (said : Said) (session : SessionState)
+    (before opening now : Outside)
     → Opens first said session before opening
-    → now.out ≡ grown opening.out said.out.items → now.err ≡ grown opening.err said.err.items
+    → now.out ≡ known_append opening.out said.out.items → now.err ≡ known_append opening.err said.err.items
     → now.files ≡ opening.files → now.steps ≡ opening.steps → held ≡ readable []
-    → Waits first [] held session before now
+    → WaitsForInput first [] held session before now
 opens first held said session before opening now w o e f n h = record {
-  out = o ∙ ap (λ p. grown p said.out.items) w.out ∙ ap (grown before.out) (sym w.at.out);
-  err = e ∙ ap (λ p. grown p said.err.items) w.err ∙ ap (grown before.err) (sym w.at.err);
+  out = o ∙ ap (λ p. known_append p said.out.items) w.out ∙ ap (known_append before.out) (sym w.at.out);
+  err = e ∙ ap (λ p. known_append p said.err.items) w.err ∙ ap (known_append before.err) (sym w.at.err);
   files = f ∙ w.at.files;
   steps = omega (arith, n, w.at.steps);
   session = w.at.session;
@@ -131,10 +135,11 @@ opens first held said session before opening now w o e f n h = record {
   part = h;
 }
 
-module _ (first : Talk) (taken : List ℕ) (held : Option (List ℕ)) (session : Known) (before now : Outside)
-    (w : Waits first taken held session before now) where
-  abbrev told : Talk
-  told = talk_over first (whole_lines taken)
+module _ (first : SessionTrace) (taken : List ℕ) (held : Option (List ℕ)) (session : SessionState)
+    (before now : Outside)
+    (w : WaitsForInput first taken held session before now) where
+  abbrev told : SessionTrace
+  told = trace_over first (whole_lines taken)
 
   -- the base of a session whose output so far is written
   abbrev pub written : Base
@@ -157,9 +162,9 @@ module _ (first : Talk) (taken : List ℕ) (held : Option (List ℕ)) (session :
   }
 
   -- a front of the written and the new output together is a front of the whole
-  pub fronts : (talk : Talk) (said : Said) (after : Outside) → IsBefore written talk said
+  pub fronts : (talk : SessionTrace) (said : Said) (after : Outside) → IsBefore written talk said
       → GrowsByFront now.out after.out said.out.items → GrowsByFront now.err after.err said.err.items
-      → IsFront (output_of talk) before after
+      → IsOutputFront (output_of talk) before after
   fronts talk said after b o e = record {
     out = front_more before.out after.out (told.out ++ said.out.items) talk.out b.out
         (front_behind before.out now.out after.out told.out said.out.items w.out o);
@@ -168,7 +173,7 @@ module _ (first : Talk) (taken : List ℕ) (held : Option (List ℕ)) (session :
   }
 
   -- the output is a part of the whole, according to how far the talk is answered
-  pub part_by : (failed : Type 0) (input : List ℕ) (said : Said) (new : Known) (after : Outside)
+  pub part_by : (failed : Type 0) (input : List ℕ) (said : Said) (new : SessionState) (after : Outside)
       → BreaksOff failed written first (heard (lines_of input))
       (record { said = said; session = new; files = after.files; steps = after.steps })
       → GrowsByFront now.out after.out said.out.items → GrowsByFront now.err after.err said.err.items
@@ -177,21 +182,21 @@ module _ (first : Talk) (taken : List ℕ) (held : Option (List ℕ)) (session :
     answered = broken.answered;
     rest = broken.rest;
     split = broken.split;
-    front = fronts (talk_over first broken.answered) said after broken.before o e;
+    front = fronts (trace_over first broken.answered) said after broken.before o e;
     files = broken.left;
   }
 
   -- the session waits again after its output is written
-  pub waits : (front : List ℕ) (held_now : Option (List ℕ)) (said : Said) (new : Known) (after : Outside)
+  pub waits : (front : List ℕ) (held_now : Option (List ℕ)) (said : Said) (new : SessionState) (after : Outside)
       → Stands written first front held_now
       (record { said = said; session = new; files = after.files; steps = after.steps })
-      → after.out ≡ grown now.out said.out.items → after.err ≡ grown now.err said.err.items
-      → Waits first front held_now new before after
+      → after.out ≡ known_append now.out said.out.items → after.err ≡ known_append now.err said.err.items
+      → WaitsForInput first front held_now new before after
   waits front held_now said new after s o e = record {
-    out = o ∙ ap (λ p. grown p said.out.items) w.out ∙ grown_twice before.out told.out said.out.items
-        ∙ ap (grown before.out) (sym s.at.out);
-    err = e ∙ ap (λ p. grown p said.err.items) w.err ∙ grown_twice before.err told.err said.err.items
-        ∙ ap (grown before.err) (sym s.at.err);
+    out = o ∙ ap (λ p. known_append p said.out.items) w.out ∙ grown_twice before.out told.out said.out.items
+        ∙ ap (known_append before.out) (sym s.at.out);
+    err = e ∙ ap (λ p. known_append p said.err.items) w.err ∙ grown_twice before.err told.err said.err.items
+        ∙ ap (known_append before.err) (sym s.at.err);
     files = s.at.files;
     steps = s.at.steps;
     session = s.at.session;
@@ -200,15 +205,15 @@ module _ (first : Talk) (taken : List ℕ) (held : Option (List ℕ)) (session :
   }
 
   -- the run is complete after the talk over its input is written
-  pub whole : (talk : Talk) (said : Said) (new : Known) (after : Outside)
+  pub whole : (talk : SessionTrace) (said : Said) (new : SessionState) (after : Outside)
       → IsAt written talk (record { said = said; session = new; files = after.files; steps = after.steps })
-      → after.out ≡ grown now.out said.out.items → after.err ≡ grown now.err said.err.items
+      → after.out ≡ known_append now.out said.out.items → after.err ≡ known_append now.err said.err.items
       → IsAll (output_of talk) before after
   whole talk said new after at o e = record {
-    out = o ∙ ap (λ p. grown p said.out.items) w.out ∙ grown_twice before.out told.out said.out.items
-        ∙ ap (grown before.out) (sym at.out);
-    err = e ∙ ap (λ p. grown p said.err.items) w.err ∙ grown_twice before.err told.err said.err.items
-        ∙ ap (grown before.err) (sym at.err);
+    out = o ∙ ap (λ p. known_append p said.out.items) w.out ∙ grown_twice before.out told.out said.out.items
+        ∙ ap (known_append before.out) (sym at.out);
+    err = e ∙ ap (λ p. known_append p said.err.items) w.err ∙ grown_twice before.err told.err said.err.items
+        ∙ ap (known_append before.err) (sym at.err);
     files = at.files;
     steps = at.steps;
   }
@@ -218,7 +223,7 @@ module _ (first : Talk) (taken : List ℕ) (held : Option (List ℕ)) (session :
       → after.out ≡ now.out → after.err ≡ now.err → after.files ≡ now.files → after.steps ≡ now.steps
       → IsCutShort (session_course first input) before after
   cut input rest after p q o e f n =
-      subst (λ t. IsCut (output_of (talk_over first (whole_lines t))) t before after)
+      subst (λ t. IsOutputCut (output_of (trace_over first (whole_lines t))) t before after)
       (sym (taken_is input taken rest after.left p q))
       (record {
         all = record {
@@ -233,7 +238,7 @@ module _ (first : Talk) (taken : List ℕ) (held : Option (List ℕ)) (session :
   -- the output of a waiting session is a part of the whole
   pub cut_part : (input rest : List ℕ) (after : Outside) → input ≡ taken ++ rest → after.out ≡ now.out
       → after.err ≡ now.err → after.files ≡ now.files
-      → IsPart (session_course first input) before after
+      → IsPrefixRun (session_course first input) before after
   cut_part input rest after p o e f =
       let more = heard_more taken w.going rest in
       record {
@@ -248,10 +253,10 @@ module _ (first : Talk) (taken : List ℕ) (held : Option (List ℕ)) (session :
       }
 
 -- a front of the opening
-open_front : (first : Talk) (said : Said) (session : Known) (before opening after : Outside)
+open_front : (first : SessionTrace) (said : Said) (session : SessionState) (before opening after : Outside)
     → Opens first said session before opening
     → GrowsByFront opening.out after.out said.out.items → GrowsByFront opening.err after.err said.err.items
-    → IsFront (output_of first) before after
+    → IsOutputFront (output_of first) before after
 open_front first said session before opening after w o e = record {
   out = subst (GrowsByFront before.out after.out) (sym w.at.out)
       (subst (λ p. GrowsByFront p after.out said.out.items) w.out o);
@@ -260,15 +265,16 @@ open_front first said session before opening after w o e = record {
 }
 
 -- before any line is answered, the files are as they were
-pub opened_files : (first : Talk) (said : Said) (session : Known) (before opening : Outside)
+pub opened_files : (first : SessionTrace) (said : Said) (session : SessionState) (before opening : Outside)
     → Opens first said session before opening → opening.files ≡ when_told before.files first.state.files
 opened_files first said session before opening w = w.at.files
 
 -- if the opening is written in part, the output is a part of the whole
-pub open_part : (first : Talk) (input : List ℕ) (said : Said) (session : Known) (before opening after : Outside)
+pub open_part : (first : SessionTrace) (input : List ℕ) (said : Said) (session : SessionState)
+    (before opening after : Outside)
     → Opens first said session before opening → GrowsByFront opening.out after.out said.out.items
     → GrowsByFront opening.err after.err said.err.items → after.files ≡ opening.files
-    → IsPartBut (session_course first input) before after
+    → IsPrefixRunExceptFile (session_course first input) before after
 open_part first input said session before opening after w o e f = record {
   answered = [];
   rest = heard (lines_of input);
@@ -302,16 +308,17 @@ pub went : (input taken rest bytes more : List ℕ) → input ≡ taken ++ rest 
     → (taken ++ bytes) ++ more ≡ input
 went input taken rest bytes more p q = append_assoc taken bytes more ∙ ap (λ t. taken ++ t) (sym q) ∙ sym p
 
-module _ (first : Talk) (taken : List ℕ) (held : Option (List ℕ)) (session : Known) (before now : Outside)
-    (w : Waits first taken held session before now) where
+module _ (first : SessionTrace) (taken : List ℕ) (held : Option (List ℕ)) (session : SessionState)
+    (before now : Outside)
+    (w : WaitsForInput first taken held session before now) where
   -- the run over an equal input is complete, too
-  pub whole_at : (i input : List ℕ) (said : Said) (new : Known) (after : Outside) → i ≡ input
-      → IsAt (written first taken held session before now w) (talk_on first i)
+  pub whole_at : (i input : List ℕ) (said : Said) (new : SessionState) (after : Outside) → i ≡ input
+      → IsAt (written first taken held session before now w) (trace_on first i)
       (record { said = said; session = new; files = after.files; steps = after.steps })
-      → after.out ≡ grown now.out said.out.items → after.err ≡ grown now.err said.err.items
-      → IsAll (output_of (talk_on first input)) before after
-  whole_at i input said new after p at o e = subst (λ t. IsAll (output_of (talk_on first t)) before after) p
-      (whole first taken held session before now w (talk_on first i) said new after at o e)
+      → after.out ≡ known_append now.out said.out.items → after.err ≡ known_append now.err said.err.items
+      → IsAll (output_of (trace_on first input)) before after
+  whole_at i input said new after p at o e = subst (λ t. IsAll (output_of (trace_on first t)) before after) p
+      (whole first taken held session before now w (trace_on first i) said new after at o e)
 
 -- the input was read to a line that ends the session
 pub heard_by : (input taken bytes more : List ℕ) (left : Option (List ℕ)) → (taken ++ bytes) ++ more ≡ input
@@ -323,7 +330,7 @@ heard_by input taken bytes more left all q last =
 pub all_heard : (input taken rest : List ℕ) → input ≡ taken ++ rest → rest ≡ [] → taken ≡ input
 all_heard input taken rest p z = sym (p ∙ ap (λ t. taken ++ t) z ∙ append-nil taken)
 
-pub rose_from : (first a b c : ℕ) → first ≤ a → a ≤ b → Rose b c → Rose first c
+pub rose_from : (first a b c : ℕ) → first ≤ a → a ≤ b → CountRose b c → CountRose first c
 rose_from first a b c e h r = omega (arith, e, h, r)
 
 -- if nothing is left, nothing is left after any bytes of it

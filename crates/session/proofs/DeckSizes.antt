@@ -16,21 +16,22 @@ use Rattle.deck_lines.specs.Excerpts.{Included, NotRead, blocks_behind_line, clo
 use Rattle.deck_lines.specs.Excerpts.{line_excerpt, line_with_notice, line_without_notice, missing_end, outer_blocks}
 use Rattle.deck_lines.specs.Excerpts.{rest_excerpt}
 use Rattle.deck_lines.specs.Limits.{most_bytes, most_lines, pass_limit, text_len}
-use Rattle.deck_lines.specs.Includes.{beside, deck_of, included_below, included_by, lone_deck_of, most_depth, of_answer}
+use Rattle.deck_lines.specs.Includes.{deck_of_file, included_below, included_by, included_name, lone_deck_of}
+use Rattle.deck_lines.specs.Includes.{most_depth, of_answer}
 use Rattle.std.specs.FinMap.{get-empty}
 use Rattle.std.specs.Ordering.{nat_cmp}
 use Rattle.std.specs.Cmp.Lexicographic.{slice_cmp}
-use Rattle.units_io.specs.Fetching.{answer_of}
+use Rattle.units_io.specs.FetchResults.{answer_of}
 use Rattle.std.specs.declared.option.Option.{Option}
 use Rattle.units_io.specs.FileMap.{no_files}
-use Rattle.def_lines.specs.Lines.{logical_lines, shown}
+use Rattle.def_lines.specs.Lines.{logical_lines, nonblank_lines}
 use Rattle.deck.specs.Decks.{Contents}
 use Rattle.deck.specs.Edits.{with_excerpt}
-use Rattle.deck.specs.Loading.{after_text, empty_deck, IsMade}
+use Rattle.deck.specs.FileLoads.{after_text, empty_deck, IsLoadResult}
 use Rattle.deck.specs.declared.fault.DeckFault.{DeckFault}
 use Rattle.deck.specs.declared.fault.DeckFault.TheVariants.{DeckFull, OutOfMemory}
 use Rattle.deck.specs.declared.settings.Settings.{Settings}
-use Rattle.session.specs.TextDecks.{HasRoom, line_feeds, text_deck}
+use Rattle.session.specs.TextDecks.{FitsDeck, line_feeds, text_deck}
 use Rattle.session.proofs.LogicalSizes.{logical_room, room}
 use Rattle.deck_lines.specs.Readings.{Reading, Stands, Defines, Includes, Faulty, reading_of}
 
@@ -153,27 +154,28 @@ within_limits lines small =
 unread : (depth : ℕ) (file : List ℕ) → ReadsNone (included_by no_files (suc depth) file)
 unfolding included_below
 unread depth file word = (
-  codes "no file: " ++ beside file word,
-  ap (λ (bytes : Option (List ℕ)). of_answer (λ w. included_below no_files depth (beside (beside file word) w))
-      (beside file word) (answer_of bytes))
-      (get-empty (slice_cmp nat_cmp) (beside file word)),
+  codes "no file: " ++ included_name file word,
+  ap (λ (bytes : Option (List ℕ)).
+      of_answer (λ w. included_below no_files depth (included_name (included_name file word) w))
+      (included_name file word) (answer_of bytes))
+      (get-empty (slice_cmp nat_cmp) (included_name file word)),
 )
 
 -- the deck of a text that has room is within the limits
-pub deck_within : (name text : List ℕ) → HasRoom text → pass_limit (lone_deck_of name text).lines ≡ false
-unfolding deck_of
+pub deck_within : (name text : List ℕ) → FitsDeck text → pass_limit (lone_deck_of name text).lines ≡ false
+unfolding deck_of_file
 deck_within name text has =
     let lines = (lone_deck_of name text).lines in
-    let most : sum_by size lines ≤ 681 * 0 + sum_by room (shown (logical_lines text)) =
-    rest_size (included_by no_files most_depth name) name [] (shown (logical_lines text)) (unread 15 name) in
-    let few : sum_by room (shown (logical_lines text)) ≤ length text + 1352 * line_feeds text + 1352 =
+    let most : sum_by size lines ≤ 681 * 0 + sum_by room (nonblank_lines (logical_lines text)) =
+    rest_size (included_by no_files most_depth name) name [] (nonblank_lines (logical_lines text)) (unread 15 name) in
+    let few : sum_by room (nonblank_lines (logical_lines text)) ≤ length text + 1352 * line_feeds text + 1352 =
     logical_room text in
     let feeds : line_feeds text < 30000 = has.0 in
     let short : length text ≤ 16777216 = has.1 in
     within_limits lines (omega arith)
 
 -- a text that has room has a deck
-pub text_made : (name text : List ℕ) (settings : Settings) → HasRoom text
+pub text_made : (name text : List ℕ) (settings : Settings) → FitsDeck text
     → after_text text name settings ≡ Ok (text_deck name text settings)
 unfolding text_deck
 text_made name text settings has =
@@ -187,13 +189,13 @@ no_fault : (x : Contents) (fault : DeckFault) → Ok x ≡ Err fault → ⊥
 no_fault x fault is = cc
 
 -- a text that has room has no other deck
-pub made_is : (name text : List ℕ) (settings : Settings) (deck : Contents) → HasRoom text
+pub made_is : (name text : List ℕ) (settings : Settings) (deck : Contents) → FitsDeck text
     → after_text text name settings ≡ Ok deck → deck ≡ text_deck name text settings
 made_is name text settings deck has is =
     same_deck (text_deck name text settings) deck (after_text text name settings) (text_made name text settings has) is
 
-pub made_always : (name text : List ℕ) (settings : Settings) (fault : DeckFault) → HasRoom text
-    → (fault ≡ OutOfMemory → ⊥) → IsMade (after_text text name settings) (Err fault) → ⊥
+pub made_always : (name text : List ℕ) (settings : Settings) (fault : DeckFault) → FitsDeck text
+    → (fault ≡ OutOfMemory → ⊥) → IsLoadResult (after_text text name settings) (Err fault) → ⊥
 made_always name text settings fault has memory (inl is) = memory is
 made_always name text settings fault has memory (inr is) =
     no_fault (text_deck name text settings) fault (sym (text_made name text settings has) ∙ is)

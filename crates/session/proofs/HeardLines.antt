@@ -6,12 +6,13 @@ use Rattle.std.proofs.lemmas.List.Folds.{list_any-append}
 use Rattle.def_entry.specs.Cuts.{cut_at, lacks}
 use Rattle.def_entry.proofs.CutTexts.{cut-is, cut-none}
 use Rattle.units_io.specs.FileMap.{FileMap}
-use Rattle.session.specs.Hearing.{NamesNoFile, any_loads_file, heard, is_last, loads_file_in, names_file_in, readable}
-use Rattle.session.specs.Input.{cut_from, lines_of, unfinished, whole_lines}
-use Rattle.session.specs.Standing.{Holds}
-use Rattle.session.specs.Telling.{IsToldIf}
-use Rattle.session.proofs.Cutting.{line_open, lines_line, lines_split, open_line, open_piece, whole_line, whole_piece}
-use Rattle.session.proofs.Cutting.{whole_split}
+use Rattle.session.specs.HeardLines.{NamesNoFile, any_loads_file, heard, is_last, loads_file_in, names_file_in}
+use Rattle.session.specs.HeardLines.{readable}
+use Rattle.session.specs.Input.{cut_from, lines_of, unfinished_line, whole_lines}
+use Rattle.session.specs.SessionProgress.{Holds}
+use Rattle.session.specs.KnownContents.{IsToldIf}
+use Rattle.session.proofs.LineCuts.{line_open, lines_line, lines_split, open_line, open_piece, whole_line, whole_piece}
+use Rattle.session.proofs.LineCuts.{whole_split}
 
 -- lines that do not end the session are heard, and so are the lines after them
 pub heard-going : (xs ys : List (List ℕ)) → list_any is_last xs ≡ false → heard (xs ++ ys) ≡ xs ++ heard ys
@@ -36,10 +37,11 @@ module _ (taken : List ℕ) (going : list_any is_last (whole_lines taken) ≡ fa
       (heard parts.0, ap heard parts.1 ∙ heard-going (whole_lines taken) parts.0 going)
 
   -- the last line, which no line feed ends
-  pub heard_end : (unfinished taken ≡ [] → ⊥) → heard (lines_of taken) ≡ whole_lines taken ++ unfinished taken ∷ []
+  pub heard_end : (unfinished_line taken ≡ [] → ⊥) → heard (lines_of taken) ≡ whole_lines taken ++ unfinished_line taken
+      ∷ []
   heard_end h =
-      ap heard (line_open taken h) ∙ heard-going (whole_lines taken) (unfinished taken ∷ []) going
-      ∙ ap (λ ls. whole_lines taken ++ unfinished taken ∷ ls) (same_cond (is_last (unfinished taken)))
+      ap heard (line_open taken h) ∙ heard-going (whole_lines taken) (unfinished_line taken ∷ []) going
+      ∙ ap (λ ls. whole_lines taken ++ unfinished_line taken ∷ ls) (same_cond (is_last (unfinished_line taken)))
     where
       same_cond : (d : Bool) → cond {A = List (List ℕ)} d [] [] ≡ []
       same_cond true = refl
@@ -47,7 +49,7 @@ module _ (taken : List ℕ) (going : list_any is_last (whole_lines taken) ≡ fa
 
   module _ (piece : List ℕ) (clear : lacks 10 piece ≡ true) where
     abbrev line : List ℕ
-    line = unfinished taken ++ piece
+    line = unfinished_line taken ++ piece
 
     -- the lines heard after a line feed
     pub heard_feed : (more : List ℕ)
@@ -69,8 +71,8 @@ module _ (taken : List ℕ) (going : list_any is_last (whole_lines taken) ≡ fa
     last_among behind d =
         ap (λ t. list_any is_last (whole_lines t)) (sym joined)
         ∙ ap (list_any is_last) (whole_split front behind)
-        ∙ list_any-append is_last (whole_lines front) (cut_from (unfinished front) behind).whole
-        ∙ ap (λ d. d || list_any is_last (cut_from (unfinished front) behind).whole) (last_feed ∙ sym d)
+        ∙ list_any-append is_last (whole_lines front) (cut_from (unfinished_line front) behind).whole
+        ∙ ap (λ d. d || list_any is_last (cut_from (unfinished_line front) behind).whole) (last_feed ∙ sym d)
       where
         front : List ℕ
         front = taken ++ (piece ++ 10 ∷ [])
@@ -107,7 +109,7 @@ module _ (taken block ready rest : List ℕ) (held : Option (List ℕ)) (b : blo
 
   -- the rest has no line feed
   pub rest_holds : cut_at 10 rest ≡ None → (held_now : Option (List ℕ))
-      → held_now ≡ readable (unfinished (taken ++ ready) ++ rest) → Holds (taken ++ block) held_now
+      → held_now ≡ readable (unfinished_line (taken ++ ready) ++ rest) → Holds (taken ++ block) held_now
   rest_holds cut held_now e =
       let clear : lacks 10 rest ≡ true = cut-none 10 rest cut in
       subst (λ t. Holds t held_now) (whole rest refl) (record {
@@ -118,7 +120,7 @@ module _ (taken block ready rest : List ℕ) (held : Option (List ℕ)) (b : blo
   -- the rest has a line feed
   module _ (piece behind : List ℕ) (cut : cut_at 10 rest ≡ Some (piece, behind)) where
     abbrev ended : List ℕ
-    ended = unfinished (taken ++ ready) ++ piece
+    ended = unfinished_line (taken ++ ready) ++ piece
 
     parts : (rest ≡ piece ++ 10 ∷ behind) × (lacks 10 piece ≡ true)
     parts = cut-is 10 rest piece behind cut
@@ -170,17 +172,17 @@ module _ (taken block ready rest : List ℕ) (held : Option (List ℕ)) (b : blo
     line_told more (Some old) told = tt
 
 -- the last line, which no line feed ends
-module _ (input : List ℕ) (held : Option (List ℕ)) (h : Holds input held) (some : unfinished input ≡ [] → ⊥) where
-  end_has_none : (p : List ℕ → Bool) → list_any p (heard (lines_of input)) ≡ false → p (unfinished input) ≡ false
+module _ (input : List ℕ) (held : Option (List ℕ)) (h : Holds input held) (some : unfinished_line input ≡ [] → ⊥) where
+  end_has_none : (p : List ℕ → Bool) → list_any p (heard (lines_of input)) ≡ false → p (unfinished_line input) ≡ false
   end_has_none p none =
-      none-among p (whole_lines input) (unfinished input) []
+      none-among p (whole_lines input) (unfinished_line input) []
       (ap (list_any p) (sym (heard_end input h.going some)) ∙ none)
 
-  pub end_names_none : NamesNoFile input → names_file_in (unfinished input) ≡ false
+  pub end_names_none : NamesNoFile input → names_file_in (unfinished_line input) ≡ false
   end_names_none none = end_has_none names_file_in none
 
   pub end_told : (files : Option FileMap) → IsToldIf (any_loads_file input) files
-      → IsToldIf (loads_file_in (unfinished input)) files
+      → IsToldIf (loads_file_in (unfinished_line input)) files
   end_told None told = end_has_none loads_file_in told
   end_told (Some old) told = tt
 

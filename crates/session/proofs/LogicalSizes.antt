@@ -5,11 +5,13 @@ use Rattle.std.proofs.Common.{map, reverse, if◌then◌else◌, refl, sym, ap, 
 use Rattle.std.specs.List.{position_or_len, sum_by}
 use Rattle.std.proofs.lemmas.List.{length-reverse, length-take}
 use Rattle.std.proofs.lemmas.List.Sums.{sum_by-cons}
-use Rattle.def_lines.proofs.Trimming.{length-after_blanks}
-use Rattle.def_lines.specs.Blanks.{after_blanks, before_blanks, trimmed}
-use Rattle.def_lines.specs.Lines.{before_byte, begins_with, behind_first, cleaned, continued, ends_with, front}
+use Rattle.def_lines.proofs.TrimmedTexts.{length-after_blanks}
+use Rattle.def_lines.specs.Blanks.{after_blanks, before_blanks, trim_of}
+use Rattle.def_lines.specs.Lines.{before_byte, begins_with, continuation, ends_with, front, without_comment}
+use Rattle.def_lines.specs.Lines.{without_first_byte}
 use Rattle.def_lines.specs.Lines.{is_shown}
-use Rattle.def_lines.specs.Lines.{joined, lines_from, logical_lines, onto_line, physical_lines, shown, trimmed_line}
+use Rattle.def_lines.specs.Lines.{logical_lines, nonblank_lines, numbered_lines, onto_line, physical_lines}
+use Rattle.def_lines.specs.Lines.{trimmed_line, with_front}
 use Rattle.def_lines.specs.declared.line.Line.{Line}
 use Rattle.session.specs.TextDecks.{line_feeds}
 
@@ -45,22 +47,22 @@ before_shorter bytes =
     omega
     (arith, length-reverse (after_blanks (reverse bytes)), length-after_blanks (reverse bytes), length-reverse bytes)
 
-trimmed_shorter : (bytes : List ℕ) → length (trimmed bytes) ≤ length bytes
+trimmed_shorter : (bytes : List ℕ) → length (trim_of bytes) ≤ length bytes
 trimmed_shorter bytes = omega (arith, length-after_blanks (before_blanks bytes), before_shorter bytes)
 
 first_shorter : (b : ℕ) (bytes : List ℕ) → length (before_byte b bytes) ≤ length bytes
 first_shorter b bytes = omega (arith, length-take (position_or_len (λ x. x == b) bytes) bytes)
 
-behind_shorter : (bytes : List ℕ) → length (behind_first bytes) ≤ length bytes
+behind_shorter : (bytes : List ℕ) → length (without_first_byte bytes) ≤ length bytes
 behind_shorter [] = omega arith
 behind_shorter (b ∷ bytes) = omega arith
 
 front_shorter : (bytes : List ℕ) → length (front bytes) ≤ length bytes
 front_shorter bytes =
     omega
-    (arith, length-reverse (behind_first (reverse bytes)), behind_shorter (reverse bytes), length-reverse bytes)
+    (arith, length-reverse (without_first_byte (reverse bytes)), behind_shorter (reverse bytes), length-reverse bytes)
 
-cleaned_shorter : (line : List ℕ) → length (cleaned line) ≤ length line
+cleaned_shorter : (line : List ℕ) → length (without_comment line) ≤ length line
 cleaned_shorter line = by (ends_with 13 line)
   where
     by : (t : Bool) → length (before_blanks (before_byte 35 (if t then front line else line))) ≤ length line
@@ -76,12 +78,12 @@ front_one b text e = by (reverse text) refl
     by [] is = let no : false ≡ true = sym (ap (begins_with b) is) ∙ e in cc
     by (x ∷ xs) is =
         let one : length (front text) ≡ length xs =
-        ap (λ r. length (reverse (behind_first r))) is ∙ length-reverse xs in
+        ap (λ r. length (reverse (without_first_byte r))) is ∙ length-reverse xs in
         let all : length text ≡ length (x ∷ xs) = sym (length-reverse text) ∙ ap length is in
         omega arith
 
 joined_room : (number : ℕ) (text : List ℕ) (lines : List Line)
-    → sum_by room (joined number text lines) ≤ weight text + sum_by room lines
+    → sum_by room (with_front number text lines) ≤ weight text + sum_by room lines
 joined_room number text [] = omega arith
 joined_room number text (line ∷ lines) =
     let old : sum_by room (line ∷ lines) ≡ room line + sum_by room lines = sum_by-cons room line lines in
@@ -90,11 +92,11 @@ joined_room number text (line ∷ lines) =
     omega (arith, old, new, length-append text line.text)
 
 continued_room : (number : ℕ) (text : List ℕ) (lines : List Line)
-    → sum_by room (continued number text lines) ≤ weight text + sum_by room lines
+    → sum_by room (continuation number text lines) ≤ weight text + sum_by room lines
 continued_room number text lines = by (ends_with 92 text) refl
   where
     by : (t : Bool) → ends_with 92 text ≡ t
-        → sum_by room (if t then joined number (front text ++ 32 ∷ []) lines
+        → sum_by room (if t then with_front number (front text ++ 32 ∷ []) lines
         else record { number = number; text = text } ∷ lines) ≤ weight text + sum_by room lines
     by true e =
         omega (
@@ -108,7 +110,7 @@ continued_room number text lines = by (ends_with 92 text) refl
         let new : sum_by room (whole ∷ lines) ≡ room whole + sum_by room lines = sum_by-cons room whole lines in
         omega arith
 
-lines_room : (number : ℕ) (lines : List (List ℕ)) → sum_by room (lines_from number lines) ≤ sum_by weight lines
+lines_room : (number : ℕ) (lines : List (List ℕ)) → sum_by room (numbered_lines number lines) ≤ sum_by weight lines
 lines_room number [] = omega arith
 lines_room number (line ∷ lines) =
     let rest = lines_room (number + 1) lines in
@@ -118,7 +120,7 @@ lines_room number (line ∷ lines) =
       all,
       rest,
       cleaned_shorter line,
-      continued_room number (cleaned line) (lines_from (number + 1) lines),
+      continued_room number (without_comment line) (numbered_lines (number + 1) lines),
     )
 
 trimmed_room : (lines : List Line) → sum_by room (map trimmed_line lines) ≤ sum_by room lines
@@ -131,27 +133,27 @@ trimmed_room (line ∷ lines) =
     sum_by-cons room (trimmed_line line) (map trimmed_line lines) in
     omega (arith, rest, old, new, trimmed_shorter line.text)
 
-shown_room : (lines : List Line) → sum_by room (shown lines) ≤ sum_by room lines
+shown_room : (lines : List Line) → sum_by room (nonblank_lines lines) ≤ sum_by room lines
 shown_room [] = omega arith
 shown_room (line ∷ lines) = by (is_shown line) (shown_room lines) (sum_by-cons room line lines)
   where
-    by : (t : Bool) → sum_by room (shown lines) ≤ sum_by room lines
+    by : (t : Bool) → sum_by room (nonblank_lines lines) ≤ sum_by room lines
         → sum_by room (line ∷ lines) ≡ room line + sum_by room lines
-        → sum_by room (cond t (line ∷ shown lines) (shown lines)) ≤ sum_by room (line ∷ lines)
+        → sum_by room (cond t (line ∷ nonblank_lines lines) (nonblank_lines lines)) ≤ sum_by room (line ∷ lines)
     by true rest all =
-        let new : sum_by room (line ∷ shown lines) ≡ room line + sum_by room (shown lines) =
-        sum_by-cons room line (shown lines) in
+        let new : sum_by room (line ∷ nonblank_lines lines) ≡ room line + sum_by room (nonblank_lines lines) =
+        sum_by-cons room line (nonblank_lines lines) in
         omega (arith, rest, all, new)
     by false rest all = omega (arith, rest, all)
 
 -- the total size of the logical lines is bounded by the bytes and the line feeds of the text
 pub logical_room : (text : List ℕ)
-    → sum_by room (shown (logical_lines text)) ≤ length text + 1352 * line_feeds text + 1352
+    → sum_by room (nonblank_lines (logical_lines text)) ≤ length text + 1352 * line_feeds text + 1352
 logical_room text =
     omega (
       arith,
       physical_room text,
       lines_room 1 (physical_lines text),
-      trimmed_room (lines_from 1 (physical_lines text)),
+      trimmed_room (numbered_lines 1 (physical_lines text)),
       shown_room (logical_lines text),
     )

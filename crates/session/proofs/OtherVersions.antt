@@ -5,26 +5,26 @@ use Rattle.std.proofs.Common.{◌∷◌, Option, Some, None, Result, Ok, Err, if
 use Rattle.std.specs.List.{list_any}
 use Rattle.def_entry.specs.declared.key.Key.{Key}
 use Rattle.def_entry.specs.Keys.{key_of}
-use Rattle.def_lines.specs.Blanks.{trimmed}
+use Rattle.def_lines.specs.Blanks.{trim_of}
 use Rattle.deck.specs.Decks.{Contents}
 use Rattle.deck.specs.Edits.{after_define, after_drop, after_switch}
 use Rattle.deck.specs.declared.fault.DeckFault.{DeckFault}
-use Rattle.deck.specs.Loading.{after_append}
-use Rattle.session.specs.Answers.{Answer, editing, watching}
+use Rattle.deck.specs.FileLoads.{after_append}
+use Rattle.session.specs.Answers.{Answer, edit_answer, watch_answer}
 use Rattle.session.specs.Commands as command
 use Rattle.session.specs.Commands.{DeckEdit, Define, DropLast, Edit, Locale, Redo, Set, Undo, command_of}
 use Rattle.session.specs.EditResults.{drop_result, edit_result, edited_by}
-use Rattle.session.specs.Editing.{notice_lines, with_locale, with_variable}
-use Rattle.session.specs.Hearing.{is_last, longest_line, readable}
+use Rattle.session.specs.DeckEdits.{notice_lines, with_locale, with_variable}
+use Rattle.session.specs.HeardLines.{is_last, longest_line, readable}
 use Rattle.session.specs.HistoryLaws.{AreSameButVersions, IsSameButVersions, VersionsLaw, VersionsTalkLaw}
 use Rattle.session.specs.HistoryLaws.{asks_undo_or_redo, is_undo_or_redo, with_versions}
 use Rattle.session.specs.Sessions.{State, dated_in, prompt}
 use Rattle.session.specs.Steps.{answer, answer_read, answer_to, blank_answer, conformable_answer, expression_answer}
-use Rattle.session.specs.Talks.{Talk, with_answer}
+use Rattle.session.specs.Talks.{SessionTrace, talk_with_answer}
 use Rattle.session.specs.Versions.{Versions}
-use Rattle.session.specs.Watching.{is_full}
-use Rattle.session.proofs.Caching.{or-first, or-second}
-use Rattle.watch.specs.Watched.{Subject, subject}
+use Rattle.session.specs.WatchQueries.{is_full}
+use Rattle.session.proofs.CacheEffects.{or-first, or-second}
+use Rattle.watch.specs.WatchViews.{Subject, watch_subject}
 
 module _ (state : State) (versions : Versions) where
   abbrev dated_otherwise : State
@@ -46,28 +46,28 @@ module _ (state : State) (versions : Versions) where
   expression-dated (Some from) text =
       record { out = refl; err = refl; newly = refl; versions = versions; after = refl }
 
-  watching-dated : (full : Bool) (s : Subject) → AlikeBut (watching full s)
+  watching-dated : (full : Bool) (s : Subject) → AlikeBut (watch_answer full s)
   watching-dated true s = record { out = refl; err = refl; newly = refl; versions = versions; after = refl }
   watching-dated false s = record { out = refl; err = refl; newly = refl; versions = versions; after = refl }
 
   result-dated : (outcome : Result Contents DeckFault) (named notices : List ℕ)
-      → IsSameButVersions (editing (edit_result outcome named (dated_in state.session)) notices state)
-      (editing (edit_result outcome named (dated_in dated_otherwise.session)) notices dated_otherwise)
+      → IsSameButVersions (edit_answer (edit_result outcome named (dated_in state.session)) notices state)
+      (edit_answer (edit_result outcome named (dated_in dated_otherwise.session)) notices dated_otherwise)
   result-dated (Ok deck) named notices =
       record { out = refl; err = refl; newly = refl; versions = _; after = refl }
   result-dated (Err fault) named notices =
       record { out = refl; err = refl; newly = refl; versions = versions; after = refl }
 
   drop-dated : (key : Option Key) (text : List ℕ)
-      → IsSameButVersions (editing (drop_result key text (dated_in state.session)) [] state)
-      (editing (drop_result key text (dated_in dated_otherwise.session)) [] dated_otherwise)
+      → IsSameButVersions (edit_answer (drop_result key text (dated_in state.session)) [] state)
+      (edit_answer (drop_result key text (dated_in dated_otherwise.session)) [] dated_otherwise)
   drop-dated None text = record { out = refl; err = refl; newly = refl; versions = versions; after = refl }
   drop-dated (Some key) text = result-dated (after_drop key state.session.table.deck) text []
 
   edited-dated : (edit : DeckEdit) → is_undo_or_redo edit ≡ false
-      → IsSameButVersions (editing (edited_by edit (dated_in state.session)) [] state)
-      (editing (edited_by edit (dated_in dated_otherwise.session)) [] dated_otherwise)
-  edited-dated (Define line) h = result-dated (after_define (trimmed line) state.session.table.deck) [] []
+      → IsSameButVersions (edit_answer (edited_by edit (dated_in state.session)) [] state)
+      (edit_answer (edited_by edit (dated_in dated_otherwise.session)) [] dated_otherwise)
+  edited-dated (Define line) h = result-dated (after_define (trim_of line) state.session.table.deck) [] []
   edited-dated (DropLast text) h = drop-dated (key_of text) text
   edited-dated (Set name value) h =
       let deck = state.session.table.deck in
@@ -93,7 +93,7 @@ versions-law state versions (command.Load name) h =
 versions-law state versions (command.Save name) h =
     record { out = refl; err = refl; newly = refl; versions = versions; after = refl }
 versions-law state versions (command.Watch from to) h =
-    watching-dated state versions (is_full state.session.watched) (subject from to)
+    watching-dated state versions (is_full state.session.watched) (watch_subject from to)
 versions-law state versions command.Unwatch h =
     record { out = refl; err = refl; newly = refl; versions = versions; after = refl }
 versions-law state versions command.Stats h =
@@ -123,8 +123,8 @@ read-line state versions line h = go (nat_le (length line) longest_line)
     go false = record { out = refl; err = refl; newly = refl; versions = versions; after = refl }
 
 -- the talks stay the same with one more line
-talk-line : (a b : Talk) (line : List ℕ) → asks_undo_or_redo (command_of line) ≡ false → AreSameButVersions a b
-    → AreSameButVersions (with_answer a (answer a.state line) line) (with_answer b (answer b.state line) line)
+talk-line : (a b : SessionTrace) (line : List ℕ) → asks_undo_or_redo (command_of line) ≡ false → AreSameButVersions a b
+    → AreSameButVersions (talk_with_answer a (answer a.state line) line) (talk_with_answer b (answer b.state line) line)
 talk-line a b line h d =
     let said : IsSameButVersions (answer a.state line) (answer b.state line) =
     subst (λ s. IsSameButVersions (answer a.state line) (answer s line)) (sym d.state)
@@ -143,6 +143,6 @@ talk-line a b line h d =
 pub versions-talk : VersionsTalkLaw
 versions-talk a b [] h d = d
 versions-talk a b (line ∷ lines) h d =
-    versions-talk (with_answer a (answer a.state line) line) (with_answer b (answer b.state line) line) lines
+    versions-talk (talk_with_answer a (answer a.state line) line) (talk_with_answer b (answer b.state line) line) lines
     (or-second (asks_undo_or_redo (command_of line)) (list_any (λ line. asks_undo_or_redo (command_of line)) lines) h)
     (talk-line a b line (or-first (asks_undo_or_redo (command_of line)) _ h) d)

@@ -5,10 +5,10 @@ use Rattle.std.specs.Prelude.{Result}
 use Rattle.std.specs.declared.option.Option.{Option}
 use Rattle.std.specs.List.{list_any}
 use Rattle.std.proofs.lemmas.List.{append-nil}
-use Rattle.def_lines.proofs.Trimming.{empty-nil}
-use Rattle.session.specs.Hearing.{NamesNoFile, heard, is_last, is_last_read, names_file_in, readable}
+use Rattle.def_lines.proofs.TrimmedTexts.{empty-nil}
+use Rattle.session.specs.HeardLines.{NamesNoFile, heard, is_last, is_last_read, names_file_in, readable}
 use Rattle.session.specs.Input.{lines_of, whole_lines}
-use Rattle.session.specs.Standing.{Holds, IsTakenUp}
+use Rattle.session.specs.SessionProgress.{Holds, IsTakenUp}
 use Rattle.session.specs.declared.fault.SessionFault.{SessionFault}
 use Rattle.session.proofs.Blocks.{both_taken}
 

@@ -3,27 +3,28 @@ use Rattle.std.proofs.Common.{◌≡◌, ◌++◌, ◌==◌, [], ℕ, List, Bool
 use Rattle.std.proofs.Common.{ap, subst, ◌∙◌, arith, append_assoc, length, codes}
 use Rattle.std.specs.declared.option.Option.{Option}
 use Rattle.std.proofs.lemmas.List.{append-nil}
-use Rattle.def_lines.proofs.Trimming.{empty-nil}
+use Rattle.def_lines.proofs.TrimmedTexts.{empty-nil}
 use Rattle.units_io.specs.FileMap.{no_files}
 use Rattle.deck.specs.Decks.{Contents}
 use Rattle.deck.specs.declared.settings.Settings.{Settings}
-use Rattle.live_table.specs.Shown.{Shown}
+use Rattle.live_table.specs.TableView.{Shown}
 use Rattle.reply.specs.declared.options.Options.{Options}
-use Rattle.session.specs.Sessions.{Known}
-use Rattle.session.specs.Standing.{Base, Fed, IsAt, IsOver, Now, Stands}
-use Rattle.session.specs.Talks.{Talk, talk_on}
-use Rattle.session.specs.Trialing.{IsTalked, Tells}
+use Rattle.session.specs.Sessions.{SessionState}
+use Rattle.session.specs.SessionProgress.{Base, Fed, IsAt, IsOver, Now, Stands}
+use Rattle.session.specs.Talks.{SessionTrace, trace_on}
+use Rattle.session.specs.TrialEffects.{IsTalked, Tells}
 use Rattle.session.specs.TextDecks.{text_deck}
-use Rattle.session.specs.TrialLines.{definitions, rounds}
-use Rattle.session.specs.Trials.{Trial, quiet_session, silent, summary, trial, trial_deck, trial_over}
-use Rattle.session.specs.Waiting.{at_first}
-use Rattle.session.specs.declared.said.Said.{Said}
-use Rattle.session.proofs.Holding.{readable_short}
-use Rattle.session.proofs.Writing.{fed_on, fed_over}
+use Rattle.session.specs.TrialLines.{rounds, trial_definitions}
+use Rattle.session.specs.Trials.{Trial, quiet_session, silent, summary, trial_deck, trial_over, trial_session}
+use Rattle.session.specs.BetweenPieces.{at_first}
+use Rattle.session.specs.declared.session_output.Said.{Said}
+use Rattle.session.proofs.HeldLine.{readable_short}
+use Rattle.session.proofs.OutputPieces.{fed_on, fed_over}
 
 -- a session without output and with nothing held is at its beginning
 pub stands_first :
-    (session : Known) (said : Said) (held : Option (List ℕ)) (steps : ℕ) → said.out.items ≡ [] → said.err.items ≡ []
+    (session : SessionState) (said : Said) (held : Option (List ℕ)) (steps : ℕ) → said.out.items ≡ []
+    → said.err.items ≡ []
     → held ≡ Some []
     → Stands (at_first (Some no_files) steps) (silent session) [] held
     (record { said = said; session = session; files = Some no_files; steps = steps })
@@ -34,21 +35,21 @@ stands_first session said held steps o e h = record {
 }
 
 -- the session is after a talk, and has said all of it
-pub talked_at : (talk : Talk) (now : Now) (steps : ℕ) → IsAt (at_first (Some no_files) steps) talk now
+pub talked_at : (talk : SessionTrace) (now : Now) (steps : ℕ) → IsAt (at_first (Some no_files) steps) talk now
     → IsTalked talk now.said now.session steps now.steps
 talked_at talk now steps at = record { out = sym at.out; session = at.session; steps = at.steps }
 
 -- the session is after the last line of a talk, and has said all of it
-pub talked_over : (first : Talk) (lines : List ℕ) (now : Now) (steps : ℕ)
+pub talked_over : (first : SessionTrace) (lines : List ℕ) (now : Now) (steps : ℕ)
     → IsOver (at_first (Some no_files) steps) first lines
     (lines ++ []) now
-    → IsTalked (talk_on first lines) now.said now.session steps now.steps
+    → IsTalked (trace_on first lines) now.said now.session steps now.steps
 talked_over first lines now steps over =
-    talked_at (talk_on first lines) now steps
-    (subst (λ bytes. IsAt (at_first (Some no_files) steps) (talk_on first bytes) now) (append-nil lines) over.at)
+    talked_at (trace_on first lines) now steps
+    (subst (λ bytes. IsAt (at_first (Some no_files) steps) (trace_on first bytes) now) (append-nil lines) over.at)
 
 -- some of the lines were fed, and then more
-module _ (base : Base) (first : Talk) (lines done rest : List ℕ) (b : lines ≡ done ++ rest) where
+module _ (base : Base) (first : SessionTrace) (lines done rest : List ℕ) (b : lines ≡ done ++ rest) where
   pub lines_on : (over : Bool) (left : List ℕ) (held : Option (List ℕ)) (now : Now) → over ≡ false
       → Fed (Ok over) base first done rest left [] held now
       → (more : List ℕ) × (lines ≡ more ++ left) × Stands base first more held now
@@ -73,28 +74,30 @@ module _ (base : Base) (first : Talk) (lines done rest : List ℕ) (b : lines �
       (sym (b ∙ ap (λ t. done ++ t) (empty-nil rest none) ∙ append-nil done)) s
 
 -- the summary of a trial, unless memory ran out
-pub told_summary : {E : Type 0} (result : Result (List ℕ) E) (n bytes : ℕ) (table : Shown) (trial : Trial) (old new : ℕ)
-    → ((text : List ℕ) → text ≡ summary n bytes table → Tells trial text old new)
-    → IfOk result (λ text. text ≡ summary n bytes table) → IfOk result (λ text. Tells trial text old new)
-told_summary (Ok text) n bytes table trial old new tells is = tells text is
-told_summary (Err fault) n bytes table trial old new tells is = tt
+pub told_summary : {E : Type 0} (result : Result (List ℕ) E) (n bytes : ℕ) (table : Shown) (trial_session : Trial)
+    (old new : ℕ)
+    → ((text : List ℕ) → text ≡ summary n bytes table → Tells trial_session text old new)
+    → IfOk result (λ text. text ≡ summary n bytes table) → IfOk result (λ text. Tells trial_session text old new)
+told_summary (Ok text) n bytes table trial_session old new tells is = tells text is
+told_summary (Err fault) n bytes table trial_session old new tells is = tt
 
 -- a trial over the deck of its definitions
 pub told_trial : (options : Options) (settings : Settings) (n : ℕ) (deck : Contents) (source lines : List ℕ)
-    (first last : Known) (said : Said) (bytes : ℕ) (table : Shown) (text : List ℕ) (old new : ℕ)
-    → source ≡ definitions n → deck ≡ text_deck (codes "trial") source settings → first ≡ quiet_session options deck
-    → lines ≡ rounds n n → IsTalked (talk_on (silent first) lines) said last old new → bytes ≡ length said.out.items
-    → table ≡ last.table → text ≡ summary n bytes table → Tells (trial options settings n) text old new
-unfolding trial
+    (first last : SessionState) (said : Said) (bytes : ℕ) (table : Shown) (text : List ℕ) (old new : ℕ)
+    → source ≡ trial_definitions n → deck ≡ text_deck (codes "trial") source settings
+    → first ≡ quiet_session options deck
+    → lines ≡ rounds n n → IsTalked (trace_on (silent first) lines) said last old new → bytes ≡ length said.out.items
+    → table ≡ last.table → text ≡ summary n bytes table → Tells (trial_session options settings n) text old new
+unfolding trial_session
 told_trial options settings n deck source lines first last said bytes table text old new e d f l t b s h =
     let made : deck ≡ trial_deck settings n = d ∙ ap (λ bytes. text_deck (codes "trial") bytes settings) e in
-    let talk = talk_on (silent (quiet_session options deck)) (rounds n n) in
+    let talk = trace_on (silent (quiet_session options deck)) (rounds n n) in
     let talked : IsTalked talk said last old new =
-    subst (λ (known : Known). IsTalked (talk_on (silent known) (rounds n n)) said last old new) f
-    (subst (λ ls. IsTalked (talk_on (silent first) ls) said last old new) l t) in
+    subst (λ (known : SessionState). IsTalked (trace_on (silent known) (rounds n n)) said last old new) f
+    (subst (λ ls. IsTalked (trace_on (silent first) ls) said last old new) l t) in
     let tells : Tells (trial_over options n deck) text old new = record {
       text = h ∙ ap (λ k. summary n k table) (b ∙ ap length talked.out)
-          ∙ ap (summary n (length talk.out)) (s ∙ ap (λ (known : Known). known.table) talked.session);
+          ∙ ap (summary n (length talk.out)) (s ∙ ap (λ (known : SessionState). known.table) talked.session);
       steps = talked.steps;
     } in
     subst (λ (c : Contents). Tells (trial_over options n c) text old new) made tells

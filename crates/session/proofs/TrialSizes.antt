@@ -8,7 +8,7 @@ use Rattle.std.proofs.lemmas.List.Sums.{sum_by-append, sum_by-cons}
 use Rattle.std.specs.Fmt.{decimal, digits}
 use Rattle.std.specs.Int.Digits.{digits_of}
 use Rattle.session.specs.TextDecks.{line_feeds}
-use Rattle.session.specs.TrialLines.{definitions, multiple, unit_name}
+use Rattle.session.specs.TrialLines.{multiple_line, trial_definitions, unit_name}
 
 feeds-append : (xs ys : List ℕ) → line_feeds (xs ++ ys) ≡ line_feeds xs + line_feeds ys
 feeds-append xs ys = sum_by-append (λ (b : ℕ). cond (b == 10) 1 0) xs ys
@@ -33,7 +33,8 @@ decimal_feeds (suc n) h =
 name_feeds : (n : ℕ) → n < 2 ^ 64 → line_feeds (unit_name n) ≡ 0
 name_feeds n h = omega (arith, feeds-append (codes "u_") (decimal n), decimal_feeds n h)
 
-multiple_feeds : (i factor j : ℕ) → i < 2 ^ 64 → factor < 2 ^ 64 → j < 2 ^ 64 → line_feeds (multiple i factor j) ≡ 1
+multiple_feeds : (i factor j : ℕ) → i < 2 ^ 64 → factor < 2 ^ 64 → j < 2 ^ 64
+    → line_feeds (multiple_line i factor j) ≡ 1
 multiple_feeds i factor j h k l =
     let name = unit_name i ++ codes " " in
     let number = decimal factor ++ codes " " in
@@ -51,12 +52,12 @@ multiple_feeds i factor j h k l =
     )
 
 -- there is one line for each unit
-pub definitions_feeds : (n : ℕ) → n < 2 ^ 63 → line_feeds (definitions n) ≡ n + 1
+pub definitions_feeds : (n : ℕ) → n < 2 ^ 63 → line_feeds (trial_definitions n) ≡ n + 1
 definitions_feeds zero h = refl
 definitions_feeds (suc n) h =
     omega (
       arith,
-      feeds-append (definitions n) (multiple (suc n) (1 + suc n % 3) (suc n / 2)),
+      feeds-append (trial_definitions n) (multiple_line (suc n) (1 + suc n % 3) (suc n / 2)),
       definitions_feeds n
           (omega arith),
       multiple_feeds (suc n) (1 + suc n % 3) (suc n / 2) (omega arith) (omega arith) (omega arith),

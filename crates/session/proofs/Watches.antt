@@ -10,24 +10,24 @@ use Rattle.def_entry.specs.Tables.{Table}
 use Rattle.deck.specs.Decks.{Contents}
 use Rattle.deck.specs.Tables.{table as table_in}
 use Rattle.live_table.specs.Calls.{AreQueries}
-use Rattle.live_table.specs.Shown.{Follows, Shown}
+use Rattle.live_table.specs.TableView.{IsAfterEvents, Shown}
 use Rattle.live_table.specs.States.{Event}
 use Rattle.reply.specs.declared.options.Options.{Options}
-use Rattle.session.specs.Answers.{watching}
+use Rattle.session.specs.Answers.{watch_answer}
 use Rattle.session.specs.Parts.{Said}
 use Rattle.session.specs.Queries.{Leaves, after_events}
-use Rattle.session.specs.Sessions.{known, state_of}
+use Rattle.session.specs.Sessions.{session_of, state_of}
 use Rattle.session.specs.Versions.{Versions}
-use Rattle.session.specs.Watching.{is_full, watched_queries}
+use Rattle.session.specs.WatchQueries.{is_full, watched_queries}
 use Rattle.session.specs.declared.answer.LineReply.{LineReply}
-use Rattle.session.proofs.Leaving.{leaves}
-use Rattle.watch.specs.Changes.{notice}
-use Rattle.watch.specs.Watched.{Subject, all_queries, queries_of, renewed, reply_to, subject_of, watch_on}
+use Rattle.session.proofs.StepIndependence.{leaves}
+use Rattle.watch.specs.Changes.{watch_notice}
+use Rattle.watch.specs.WatchViews.{Subject, all_queries, queries_of, reply_to, subject_of, watch_on, with_current_reply}
 use Rattle.watch.specs.declared.watch.Watch.{Watch}
 
 module _ (table : Table) (options : Options) where
   -- renewed watches are of the same conversions
-  pub same_subjects : (watches : List Watch) → map subject_of (map (renewed table options) watches)
+  pub same_subjects : (watches : List Watch) → map subject_of (map (with_current_reply table options) watches)
       ≡ map subject_of watches
   same_subjects [] = refl
   same_subjects (w ∷ watches) = ap (λ (rest : List Subject). subject_of w ∷ rest) (same_subjects watches)
@@ -61,25 +61,25 @@ module _ (options : Options) (pending : Option (List ℕ)) (versions : Versions)
 
   -- a conversion is watched, and its reply is returned
   pub watch_answered : (length watches ≡ 1000 → ⊥)
-      → reply.out ≡ notice (length watches + 1) (reply_to (table_in old.deck) options s) → reply.err ≡ []
-      → now ≡ watches ++ watch_on (table_in old.deck) options s ∷ [] → Follows events old new n k
+      → reply.out ≡ watch_notice (length watches + 1) (reply_to (table_in old.deck) options s) → reply.err ≡ []
+      → now ≡ watches ++ watch_on (table_in old.deck) options s ∷ [] → IsAfterEvents events old new n k
       → new.deck ≡ old.deck
-      → Said (watching (is_full (map subject_of watches)) s
-      (state_of (known options old pending versions (map subject_of watches)) m)) reply
-      (known options new pending versions (map subject_of now)) n k
+      → Said (watch_answer (is_full (map subject_of watches)) s
+      (state_of (session_of options old pending versions (map subject_of watches)) m)) reply
+      (session_of options new pending versions (map subject_of now)) n k
   watch_answered room told quiet added asked deck =
       let left : Leaves events old new n k = leaves events old new n k asked in
-      subst (λ (full : Bool). Said (watching full s
-      (state_of (known options old pending versions (map subject_of watches)) m)) reply
-      (known options new pending versions (map subject_of now)) n k) (sym (not_full watches room))
+      subst (λ (full : Bool). Said (watch_answer full s
+      (state_of (session_of options old pending versions (map subject_of watches)) m)) reply
+      (session_of options new pending versions (map subject_of now)) n k) (sym (not_full watches room))
       (record {
-        out = told ∙ ap (λ (count : ℕ). notice (count + 1) (reply_to (table_in old.deck) options s))
+        out = told ∙ ap (λ (count : ℕ). watch_notice (count + 1) (reply_to (table_in old.deck) options s))
             (sym (length-map watches subject_of));
         err = quiet;
         session =
-            ap (λ (w : List Subject). known options new pending versions w)
+            ap (λ (w : List Subject). session_of options new pending versions w)
             (ap (map subject_of) added ∙ map-append subject_of watches (watch_on (table_in old.deck) options s ∷ []))
-            ∙ ap (λ (t : Shown). known options t pending versions (map subject_of watches ++ s ∷ []))
+            ∙ ap (λ (t : Shown). session_of options t pending versions (map subject_of watches ++ s ∷ []))
             (left.table ∙ ap (λ (d : Contents). after_events events d old) deck);
         steps = left.steps;
       })

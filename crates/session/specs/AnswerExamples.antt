@@ -10,29 +10,29 @@ use Rattle.deck.specs.Edits.{after_switch}
 use Rattle.deck.specs.Tables.{last_place, table as table_in}
 use Rattle.deck_lines.specs.Limits.{pass_limit}
 use Rattle.deck_lines.specs.Marks.{plain_line}
-use Rattle.deck_save.specs.Saved.{saved_file}
+use Rattle.deck_save.specs.SavedText.{saved_file}
 use Rattle.deck_save.specs.declared.fault.SaveFault.TheVariants.{TooLong}
-use Rattle.live_table.specs.Calls.{names_in}
+use Rattle.live_table.specs.Calls.{present_names}
 use Rattle.quantity.specs.Amount.{Amount}
 use Rattle.reply.specs.Examples.{default}
 use Rattle.reply.specs.GrantExamples.{measures}
 use Rattle.reply.specs.Replies.{from_value}
 use Rattle.reply.specs.declared.reply.FromValue.TheVariants.{Good}
-use Rattle.session.specs.Answers.{Answer, saying}
-use Rattle.session.specs.Editing.{with_locale, with_variable}
-use Rattle.session.specs.Hearing.{readable}
+use Rattle.session.specs.Answers.{Answer, output_answer}
+use Rattle.session.specs.DeckEdits.{with_locale, with_variable}
+use Rattle.session.specs.HeardLines.{readable}
 use Rattle.session.specs.HistoryLaws.{deck_in}
 use Rattle.session.specs.Sessions.{State}
 use Rattle.session.specs.Steps.{answer}
-use Rattle.session.specs.Watching.{is_full}
+use Rattle.session.specs.WatchQueries.{is_full}
 
 -- the answer is a reply on `out`, and nothing changes
 abbrev pub IsOnly : (line : List ℕ) → (reply : List ℕ) → State → Type 0
-IsOnly line reply state = answer state line ≡ saying reply state
+IsOnly line reply state = answer state line ≡ output_answer reply state
 
 -- the deck after a line is answered
-abbrev pub deck_after : State → (line : List ℕ) → Contents
-deck_after state line = deck_in (answer state line).after
+abbrev pub deck_after_line : State → (line : List ℕ) → Contents
+deck_after_line state line = deck_in (answer state line).after
 
 -- the answer is this reply, no FROM is pending after it, and the deck is as before
 pub record IsAnsweredBy (reply : List ℕ) (given : Answer) (state : State) : Type 0 where
@@ -87,19 +87,19 @@ pub record AnswerExamples : Type 0 where
   pub unlike : Converts (codes "m") (codes "s") (codes "conformability error\n\t1 m\n\t1 s\n")
   -- edits
   pub define : (state : State) → pass_limit ((deck_in state).lines ++ plain_line 0 (codes "m !") ∷ []) ≡ false
-      → (deck_after state (codes ":define m !")).lines
+      → (deck_after_line state (codes ":define m !")).lines
       ≡ (deck_in state).lines ++ plain_line 0 (codes "m !") ∷ []
   pub drop_last : (state : State) (place : ℕ)
       → last_place (deck_in state).settings (deck_in state).lines (key kind.Prefix (codes "k")) ≡ Some place
-      → (deck_after state (codes ":drop k-")).lines
+      → (deck_after_line state (codes ":drop k-")).lines
       ≡ take place (deck_in state).lines ++ drop (place + 1) (deck_in state).lines
-  pub set : (state : State) → deck_after state (codes ":set SYSTEM us")
+  pub set : (state : State) → deck_after_line state (codes ":set SYSTEM us")
       ≡ after_switch (with_variable (deck_in state).settings (codes "SYSTEM") (codes "us")) (deck_in state)
-  pub locale : (state : State) → deck_after state (codes ":locale en_GB")
+  pub locale : (state : State) → deck_after_line state (codes ":locale en_GB")
       ≡ after_switch (with_locale (deck_in state).settings (codes "en_GB")) (deck_in state)
   -- lines that edit nothing: four of seven names are settled, after six reductions
   pub stats : (state : State) → map_of.len state.session.table.kept ≡ 4
-      → length (names_in (table_in (deck_in state))) ≡ 7 → state.session.table.reductions ≡ 6
+      → length (present_names (table_in (deck_in state))) ≡ 7 → state.session.table.reductions ≡ 6
       → IsOnly (codes ":stats") (codes "settled 4 of 7, reductions 6\n") state
   pub save : (state : State) (text : List ℕ) → saved_file (deck_in state) ≡ Ok text
       → answer state (codes ":save mine") ≡ record {

@@ -8,7 +8,7 @@ abbrev pub IsBad : (line word : List ℕ) → Type 0
 IsBad line word = command_of line ≡ Bad word
 
 pub record CommandExamples : Type 0 where
-  pub blank : command_of (codes " \t# no text\r") ≡ Blank
+  pub blank_line : command_of (codes " \t# no text\r") ≡ Blank
   pub quit : command_of (codes " quit ") ≡ Quit
   pub exit : command_of (codes "exit # done") ≡ Quit
   pub conformable : command_of (codes "?") ≡ Conformable
@@ -21,8 +21,8 @@ pub record CommandExamples : Type 0 where
   pub drop_alone : command_of (codes ":drop") ≡ Edit (DropLast [])
   pub set : command_of (codes ":set SYSTEM  us 2") ≡ Edit (Set (codes "SYSTEM") (codes "us 2"))
   pub locale : command_of (codes ":locale en_GB") ≡ Edit (Locale (codes "en_GB"))
-  pub undo : command_of (codes ":undo") ≡ Edit Undo
-  pub redo : command_of (codes ":redo") ≡ Edit Redo
+  pub colon_undo : command_of (codes ":undo") ≡ Edit Undo
+  pub colon_redo : command_of (codes ":redo") ≡ Edit Redo
   pub load : command_of (codes ":load my units") ≡ Load (codes "my units")
   pub save : command_of (codes ":save my units") ≡ Save (codes "my units")
   pub stats : command_of (codes ":stats") ≡ Stats

@@ -3,7 +3,7 @@ use Rattle.std.specs.Prelude.{◌==◌, ◌||◌, ◌∷◌, [], ℕ, List, Bool
 use Rattle.std.specs.Prelude.{Option, Some, None}
 use Rattle.std.specs.Str.{bytes_eq}
 use Rattle.def_entry.specs.Cuts.{cut_at}
-use Rattle.def_lines.specs.Blanks.{trimmed}
+use Rattle.def_lines.specs.Blanks.{trim_of}
 use Rattle.def_lines.specs.Lines.{line_content}
 use Rattle.def_lines.specs.Words.{first_word, behind_word, is_empty}
 use Rattle.session.specs.declared.colon_word.ColonWord.{ColonWord}
@@ -45,7 +45,7 @@ watch_sides from to word =
 -- FROM and TO before and after the first `;`, without blanks at their ends
 abbrev pub watch_parts : Option (List ℕ × List ℕ) → (word : List ℕ) → Command
 watch_parts None word = Bad word
-watch_parts (Some p) word = watch_sides (trimmed p.0) (trimmed p.1) word
+watch_parts (Some p) word = watch_sides (trim_of p.0) (trim_of p.1) word
 
 -- a name, followed by a value
 abbrev pub set_command : (rest word : List ℕ) → Command
@@ -57,8 +57,8 @@ abbrev pub with_text : Command → (rest word : List ℕ) → Command
 with_text command rest word = where_good (not (is_empty rest)) command word
 
 -- a command that must have nothing after its word
-abbrev pub alone : Command → (rest word : List ℕ) → Command
-alone command rest word = where_good (is_empty rest) command word
+abbrev pub without_rest : Command → (rest word : List ℕ) → Command
+without_rest command rest word = where_good (is_empty rest) command word
 
 -- the command words, which begin with a colon
 abbrev pub colon_words : List (List ℕ × ColonWord)
@@ -77,9 +77,9 @@ colon_words =
     ∷ []
 
 -- the entry of a word in such a list, if it has one
-abbrev pub beside : List ℕ → List (List ℕ × ColonWord) → Option ColonWord
-beside word [] = None
-beside word (c ∷ cs) = if bytes_eq word c.0 then Some c.1 else beside word cs
+abbrev pub colon_word_of : List ℕ → List (List ℕ × ColonWord) → Option ColonWord
+colon_word_of word [] = None
+colon_word_of word (c ∷ cs) = if bytes_eq word c.0 then Some c.1 else colon_word_of word cs
 
 -- the command of each command word, given the rest of its line
 abbrev pub with_rest : ColonWord → (rest word : List ℕ) → Command
@@ -87,13 +87,13 @@ with_rest colon.Define rest word = with_text (Edit (Define rest)) rest word
 with_rest colon.DropLast rest word = Edit (DropLast rest)
 with_rest colon.Set rest word = set_command rest word
 with_rest colon.Locale rest word = with_text (Edit (Locale rest)) rest word
-with_rest colon.Undo rest word = alone (Edit Undo) rest word
-with_rest colon.Redo rest word = alone (Edit Redo) rest word
+with_rest colon.Undo rest word = without_rest (Edit Undo) rest word
+with_rest colon.Redo rest word = without_rest (Edit Redo) rest word
 with_rest colon.Load rest word = with_text (Load rest) rest word
 with_rest colon.Save rest word = with_text (Save rest) rest word
-with_rest colon.Stats rest word = alone Stats rest word
+with_rest colon.Stats rest word = without_rest Stats rest word
 with_rest colon.Watch rest word = watch_parts (cut_at 59 rest) word
-with_rest colon.Unwatch rest word = alone Unwatch rest word
+with_rest colon.Unwatch rest word = without_rest Unwatch rest word
 
 -- the command of a command word, or `Unknown` if the word is not one
 abbrev pub colon_by : Option ColonWord → (rest word : List ℕ) → Command
@@ -102,11 +102,11 @@ colon_by (Some asked) rest word = with_rest asked rest word
 
 -- the command of a word that begins with a colon, given the rest of its line
 unfoldable pub colon_command : (word rest : List ℕ) → Command
-colon_command word rest = colon_by (beside word colon_words) rest word
+colon_command word rest = colon_by (colon_word_of word colon_words) rest word
 
 -- `search` with a text; without one it is an expression
-abbrev pub searching : (rest text : List ℕ) → Command
-searching rest text = if is_empty rest then Expression text else Search rest
+abbrev pub search_command : (rest text : List ℕ) → Command
+search_command rest text = if is_empty rest then Expression text else Search rest
 
 -- the command that the text of a line gives
 unfoldable pub command_in : List ℕ → Command
@@ -116,7 +116,7 @@ command_in (b ∷ bytes) =
     if bytes_eq text (codes "quit") || bytes_eq text (codes "exit") then Quit
     else if bytes_eq text (codes "?") then Conformable
     else if b == 58 then colon_command (first_word text) (behind_word text)
-    else if bytes_eq (first_word text) (codes "search") then searching (behind_word text) text
+    else if bytes_eq (first_word text) (codes "search") then search_command (behind_word text) text
     else Expression text
 
 -- the command that a line gives

@@ -3,19 +3,19 @@
 use Rattle.std.specs.Prelude.{◌≡◌, ℕ, List, Bool, true, false, Ok}
 use Rattle.std.specs.List.{list_any}
 use Rattle.deck.specs.Decks.{Contents}
-use Rattle.deck.specs.Loading.{after_append, after_load}
+use Rattle.deck.specs.FileLoads.{after_append, after_load}
 use Rattle.deck.specs.Tables.{table as table_in}
 use Rattle.deck.specs.declared.settings.Settings.{Settings}
 use Rattle.deck_save.specs.Laws.{CanBeSaved, IsGivenBack}
 use Rattle.edit_history.specs.Versions.{version_of}
-use Rattle.live_table.specs.Shown.{Shown}
+use Rattle.live_table.specs.TableView.{Shown}
 use Rattle.live_table.specs.States.{Kept}
 use Rattle.session.specs.Answers.{Answer}
 use Rattle.session.specs.Commands.{Command, DeckEdit, Edit, Load, Redo, Save, Stats, Undo, command_of}
 use Rattle.session.specs.EditResults.{Made, edited_by}
-use Rattle.session.specs.Sessions.{State, dated_in, known}
+use Rattle.session.specs.Sessions.{State, dated_in, session_of}
 use Rattle.session.specs.Steps.{answer_to}
-use Rattle.session.specs.Talks.{Talk, talk_over}
+use Rattle.session.specs.Talks.{SessionTrace, trace_over}
 use Rattle.session.specs.Versions.{Versions}
 
 -- a state with these cached outcomes, and this count of settled names
@@ -24,7 +24,7 @@ with_cache cached reductions state =
     let session = state.session in
     let table : Shown = record { deck = session.table.deck; kept = cached; reductions = reductions } in
     record {
-      session = known session.options table session.pending session.versions session.watched;
+      session = session_of session.options table session.pending session.versions session.watched;
       files = state.files;
     }
 
@@ -33,7 +33,7 @@ abbrev pub with_versions : Versions → State → State
 with_versions versions state =
     let session = state.session in
     record {
-      session = known session.options session.table session.pending versions session.watched;
+      session = session_of session.options session.table session.pending versions session.watched;
       files = state.files;
     }
 
@@ -68,14 +68,14 @@ pub record IsSameButVersions (a b : Answer) : Type 0 where
   pub after : b.after ≡ with_versions versions a.after
 
 -- two talks have said the same bytes, and their states differ only in the cache and its count
-pub record AreSameButCached (a b : Talk) : Type 0 where
+pub record AreSameButCached (a b : SessionTrace) : Type 0 where
   pub out : b.out ≡ a.out
   pub err : b.err ≡ a.err
   pub cached : Kept
   pub reductions : ℕ
   pub state : b.state ≡ with_cache cached reductions a.state
 
-pub record AreSameButVersions (a b : Talk) : Type 0 where
+pub record AreSameButVersions (a b : SessionTrace) : Type 0 where
   pub out : b.out ≡ a.out
   pub err : b.err ≡ a.err
   pub steps : b.steps ≡ a.steps
@@ -102,8 +102,9 @@ CacheLaw = (state : State) (cached : Kept) (reductions : ℕ) (command : Command
 
 -- law: the cache and its count do not affect the answers to lines, if none of them is `:stats`
 abbrev pub CacheTalkLaw : Type 0
-CacheTalkLaw = (a b : Talk) (lines : List (List ℕ)) → list_any (λ line. asks_stats (command_of line)) lines ≡ false
-    → AreSameButCached a b → AreSameButCached (talk_over a lines) (talk_over b lines)
+CacheTalkLaw = (a b : SessionTrace) (lines : List (List ℕ))
+    → list_any (λ line. asks_stats (command_of line)) lines ≡ false
+    → AreSameButCached a b → AreSameButCached (trace_over a lines) (trace_over b lines)
 
 -- law: versions affect only the answers to `:undo` and `:redo`
 abbrev pub VersionsLaw : Type 0
@@ -112,9 +113,9 @@ VersionsLaw = (state : State) (versions : Versions) (command : Command) → asks
 
 -- law: versions do not affect the answers to lines, if none of them is `:undo` or `:redo`
 abbrev pub VersionsTalkLaw : Type 0
-VersionsTalkLaw = (a b : Talk) (lines : List (List ℕ))
+VersionsTalkLaw = (a b : SessionTrace) (lines : List (List ℕ))
     → list_any (λ line. asks_undo_or_redo (command_of line)) lines ≡ false
-    → AreSameButVersions a b → AreSameButVersions (talk_over a lines) (talk_over b lines)
+    → AreSameButVersions a b → AreSameButVersions (trace_over a lines) (trace_over b lines)
 
 -- law: an undo after an edit that was made restores the lines, the settings and the table
 abbrev pub UndoLaw : Type 0

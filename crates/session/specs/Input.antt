@@ -6,21 +6,21 @@ pub record Cut : Type 0 where
   pub whole : List (List ℕ)
   pub open_line : List ℕ
 
-abbrev pub with_line : List ℕ → Cut → Cut
-with_line line cut = record { whole = line ∷ cut.whole; open_line = cut.open_line }
+abbrev pub cut_with_line : List ℕ → Cut → Cut
+cut_with_line line cut = record { whole = line ∷ cut.whole; open_line = cut.open_line }
 
 -- the cut of `bytes` after the bytes `part` of an unfinished line
 abbrev pub cut_from : (part bytes : List ℕ) → Cut
 cut_from part [] = record { whole = []; open_line = part }
-cut_from part (b ∷ bytes) = if b == 10 then with_line part (cut_from [] bytes) else cut_from (part ++ b ∷ []) bytes
+cut_from part (b ∷ bytes) = if b == 10 then cut_with_line part (cut_from [] bytes) else cut_from (part ++ b ∷ []) bytes
 
 -- the lines that end with a line feed
 abbrev pub whole_lines : List ℕ → List (List ℕ)
 whole_lines bytes = (cut_from [] bytes).whole
 
 -- the bytes after the last line feed
-abbrev pub unfinished : List ℕ → List ℕ
-unfinished bytes = (cut_from [] bytes).open_line
+abbrev pub unfinished_line : List ℕ → List ℕ
+unfinished_line bytes = (cut_from [] bytes).open_line
 
 abbrev pub if_any : List ℕ → List (List ℕ)
 if_any [] = []
@@ -28,4 +28,4 @@ if_any (b ∷ bytes) = (b ∷ bytes) ∷ []
 
 -- the lines of an input: each ends at a line feed or at the end of the input, and an empty rest is not a line
 abbrev pub lines_of : List ℕ → List (List ℕ)
-lines_of bytes = whole_lines bytes ++ if_any (unfinished bytes)
+lines_of bytes = whole_lines bytes ++ if_any (unfinished_line bytes)

@@ -2,10 +2,10 @@
 use Rattle.std.specs.Prelude.{◌≡◌, ◌⊎◌, ◌+◌, ◌++◌, ◌-◌, ◌^◌, ◌<◌, [], ℕ, List, true, length, take, Some, None}
 use Rattle.std.specs.declared.option.Option.{Option}
 use Rattle.std.specs.List.{list_any}
-use Rattle.units_io.specs.Bytes.{grown}
+use Rattle.units_io.specs.Bytes.{known_append}
 use Rattle.units_io.specs.FileMap.{FileMap}
-use Rattle.units_io.specs.Faults.{Rose}
-use Rattle.session.specs.Hearing.{is_last}
+use Rattle.units_io.specs.Faults.{CountRose}
+use Rattle.session.specs.HeardLines.{is_last}
 use Rattle.session.specs.Input.{whole_lines}
 
 -- the known contents of the source, the sinks and the files; the counts of failed fetches and stores; and the count of
@@ -46,8 +46,8 @@ TookMoreThan most before after = (before + most < after) ⊎ (after ≡ 2 ^ 64 -
 
 -- a known list of bytes has grown at its end by these bytes, and perhaps by more
 abbrev pub GrowsAtLeast : (old new : Option (List ℕ)) → (bytes : List ℕ) → Type 0
-GrowsAtLeast old new bytes = (more : List ℕ) × (new ≡ grown old (bytes ++ more))
+GrowsAtLeast old new bytes = (more : List ℕ) × (new ≡ known_append old (bytes ++ more))
 
 -- a count that has not risen
-abbrev pub Rests : (before now : ℕ) → Type 0
-Rests before now = Rose before now → ⊥
+abbrev pub CountUnchanged : (before now : ℕ) → Type 0
+CountUnchanged before now = CountRose before now → ⊥

@@ -1,15 +1,15 @@
 -- The contracts of private functions for the answer to a line.
 use Rattle.std.specs.Prelude.{◌++◌, ◌≡◌, ◌+◌, [], ℕ, List, Bool, Result, Ok, Err, ⊤, if◌then◌else◌}
-use Rattle.live_table.specs.Calls.{IsEdit}
-use Rattle.live_table.specs.Shown.{Shown}
+use Rattle.live_table.specs.Calls.{IsAcceptedEdit}
+use Rattle.live_table.specs.TableView.{Shown}
 use Rattle.live_table.specs.States.{Event}
 use Rattle.session.specs.declared.answer.LineReply.{LineReply}
-use Rattle.session.specs.declared.editing.EditResult.{EditResult as Declared}
-use Rattle.session.specs.declared.editing.EditResult.TheVariants as answer
+use Rattle.session.specs.declared.deck_edits.EditResult.{EditResult as Declared}
+use Rattle.session.specs.declared.deck_edits.EditResult.TheVariants as answer
 use Rattle.session.specs.Answers.{Answer}
 use Rattle.session.specs.EditResults.{EditResult, Made, Refused}
 use Rattle.session.specs.Queries.{asked_table, newly}
-use Rattle.session.specs.Sessions.{Known, prompt}
+use Rattle.session.specs.Sessions.{SessionState, prompt}
 use Rattle.session.specs.Versions.{Dated}
 
 -- the reply is the answer to a query, and the table and the count of steps are as its queries leave them
@@ -28,7 +28,7 @@ IsReplied events answer (Err _) old new steps_old steps_new = ⊤
 -- an edit with this result was made
 pub record Makes (r : EditResult) (old new : Dated) : Type 0 where
   pub is : r ≡ Made new.table.deck new.versions
-  pub edit : IsEdit old.table new.table
+  pub edit : IsAcceptedEdit old.table new.table
 
 -- an edit with this result was made; or it was refused with a line, and nothing changes; or there was a fault, and
 -- nothing changes
@@ -44,16 +44,17 @@ pub record IsLine (reply : LineReply) (text notices : List ℕ) (last : Bool) : 
   pub done : reply.done ≡ last
 
 -- an answer that leaves the files as they are
-pub record Said (answer : Answer) (reply : LineReply) (new : Known) (steps_old steps_new : ℕ) : Type 0 where
+pub record Said (answer : Answer) (reply : LineReply) (new : SessionState) (steps_old steps_new : ℕ) : Type 0 where
   pub out : reply.out ≡ answer.out
   pub err : reply.err ≡ answer.err
   pub session : new ≡ answer.after.session
   pub steps : steps_new ≡ steps_old + answer.newly
 
-abbrev pub IsSaid : {E : Type 0} → Answer → Result LineReply E → (new : Known) → (steps_old steps_new : ℕ) → Type 0
-IsSaid answer (Ok reply) session steps_old steps_new = Said answer reply session steps_old steps_new
-IsSaid answer (Err _) session steps_old steps_new = ⊤
+abbrev pub IsAnswerGiven : {E : Type 0} → Answer → Result LineReply E → (new : SessionState) → (steps_old steps_new : ℕ)
+    → Type 0
+IsAnswerGiven answer (Ok reply) session steps_old steps_new = Said answer reply session steps_old steps_new
+IsAnswerGiven answer (Err _) session steps_old steps_new = ⊤
 
 -- the output of a line on `out`: its answer, and the prompt for the next line unless it was the last
-abbrev pub line_said : LineReply → Known → List ℕ
+abbrev pub line_said : LineReply → SessionState → List ℕ
 line_said reply session = reply.out ++ (if reply.done then [] else prompt session)

@@ -5,20 +5,20 @@ use Rattle.units_io.specs.FileMap.{FileMap}
 use Rattle.deck.specs.Tables.{table as table_in}
 use Rattle.deck.specs.contracts.settings.Settings as settings
 use Rattle.deck_lines.specs.contracts.line.DeckLine as line
-use Rattle.edit_history.specs.Histories.{Course, Follows}
+use Rattle.edit_history.specs.Histories.{IsHistoryOf, UndoStacks}
 use Rattle.edit_history.specs.Versions.{Version}
-use Rattle.live_table.specs.Shown.{Shown}
+use Rattle.live_table.specs.TableView.{Shown}
 use Rattle.live_table.specs.contracts.live_table.LiveTable as live_table
 use Rattle.reply.specs.Options.{IsPrintable}
 use Rattle.reply.specs.contracts.options.Options as options
 use Rattle.reply.specs.declared.options.Options.{Options}
-use Rattle.session.specs.Versions.{Dated, Versions, dated}
-use Rattle.watch.specs.Watched.{AreCurrent, Subject, subject_of}
+use Rattle.session.specs.Versions.{Dated, Versions, table_with_versions}
+use Rattle.watch.specs.WatchViews.{AreCurrent, Subject, subject_of}
 use Rattle.watch.specs.declared.watch.Watch.{Watch}
 
 -- a session as contracts see it: the options for its replies, the live table, the text of FROM if one is pending, the
 -- versions of the deck that an undo and a redo restore, and the watched conversions
-pub record Known : Type 0 where
+pub record SessionState : Type 0 where
   pub options : Options
   pub table : Shown
   pub pending : Option (List ℕ)
@@ -41,7 +41,7 @@ subject_code =
     code_by _ (coded× (coded_list coded_ℕ) (coded_list coded_ℕ)) (λ s. (s.from, s.to))
     (λ p. record { from = p.0; to = p.1 }) (λ _. refl)
 
-abbrev pub known_code : Coded Known
+abbrev pub known_code : Coded SessionState
 known_code =
     code_by _
     (coded× options.the_row.coded
@@ -53,34 +53,35 @@ known_code =
 
 -- a session and the files that it can use
 pub record State : Type 0 where
-  pub session : Known
+  pub session : SessionState
   pub files : FileMap
 
 -- a session with these parts
-abbrev pub known : Options → Shown → (pending : Option (List ℕ)) → Versions → (watched : List Subject) → Known
-known options table pending versions watched =
+abbrev pub session_of : Options → Shown → (pending : Option (List ℕ)) → Versions → (watched : List Subject)
+    → SessionState
+session_of options table pending versions watched =
     record { options = options; table = table; pending = pending; versions = versions; watched = watched }
 
 -- a session with these parts, given a live table with the versions of its deck
-abbrev pub known_dated : Options → Dated → (pending : Option (List ℕ)) → (watched : List Subject) → Known
-known_dated options d pending watched = known options d.table pending d.versions watched
+abbrev pub session_of_versions : Options → Dated → (pending : Option (List ℕ)) → (watched : List Subject) → SessionState
+session_of_versions options d pending watched = session_of options d.table pending d.versions watched
 
 -- a session with these parts, given a history and watches, as contracts see it
-abbrev pub known_by : Options → Shown → Course → (pending : Option (List ℕ)) → List Watch → Known
-known_by options table history pending watches =
-    known_dated options (dated table history) pending (map subject_of watches)
+abbrev pub session_of_history : Options → Shown → UndoStacks → (pending : Option (List ℕ)) → List Watch → SessionState
+session_of_history options table history pending watches =
+    session_of_versions options (table_with_versions table history) pending (map subject_of watches)
 
 -- the parts belong to one session: its replies can be printed, its history is one of its deck, and each stored reply of
 -- a watch is the reply in its table
-abbrev pub AreParts : Options → Shown → Course → List Watch → Type 0
-AreParts options table history watches =
-    IsPrintable options × Follows history table.deck × AreCurrent (table_in table.deck) options watches
+abbrev pub IsSessionInvariant : Options → Shown → UndoStacks → List Watch → Type 0
+IsSessionInvariant options table history watches =
+    IsPrintable options × IsHistoryOf history table.deck × AreCurrent (table_in table.deck) options watches
 
 -- the live table of a session with the versions of its deck
-abbrev pub dated_in : Known → Dated
+abbrev pub dated_in : SessionState → Dated
 dated_in session = record { table = session.table; versions = session.versions }
 
-abbrev pub state_of : Known → FileMap → State
+abbrev pub state_of : SessionState → FileMap → State
 state_of session files = record { session = session; files = files }
 
 abbrev pub prompt_by : (pending : Option (List ℕ)) → List ℕ
@@ -88,5 +89,5 @@ prompt_by None = codes "You have: "
 prompt_by (Some from) = codes "You want: "
 
 -- the prompt before the next line
-unfoldable pub prompt : Known → List ℕ
+unfoldable pub prompt : SessionState → List ℕ
 prompt session = if session.options.quiet then [] else prompt_by session.pending

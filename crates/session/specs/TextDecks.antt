@@ -5,7 +5,7 @@ use Rattle.units_io.specs.FileMap.{longest_file}
 use Rattle.deck_lines.specs.Includes.{lone_deck_of}
 use Rattle.deck.specs.Decks.{Contents}
 use Rattle.deck.specs.Edits.{with_excerpt}
-use Rattle.deck.specs.Loading.{empty_deck}
+use Rattle.deck.specs.FileLoads.{empty_deck}
 use Rattle.deck.specs.declared.settings.Settings.{Settings}
 
 -- the number of line feeds in a text
@@ -13,8 +13,8 @@ abbrev pub line_feeds : (text : List ℕ) → ℕ
 line_feeds text = count_by (λ b. b == 10) text
 
 -- a text has fewer than 30,000 line feeds, and no more bytes than a file may have
-abbrev pub HasRoom : (text : List ℕ) → Type 0
-HasRoom text = (line_feeds text < 30000) × (length text ≤ longest_file)
+abbrev pub FitsDeck : (text : List ℕ) → Type 0
+FitsDeck text = (line_feeds text < 30000) × (length text ≤ longest_file)
 
 -- the deck of a text that has room, in which every include names an absent file
 unfoldable pub text_deck : (name text : List ℕ) → Settings → Contents

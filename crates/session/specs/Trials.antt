@@ -3,24 +3,24 @@ use Rattle.std.specs.Prelude.{◌++◌, ◌+◌, [], ℕ, List, None, true, leng
 use Rattle.units_io.specs.FileMap.{no_files}
 use Rattle.deck.specs.Decks.{Contents}
 use Rattle.deck.specs.declared.settings.Settings.{Settings}
-use Rattle.live_table.specs.Shown.{Shown}
+use Rattle.live_table.specs.TableView.{Shown}
 use Rattle.reply.specs.declared.options.Options.{Options}
-use Rattle.session.specs.Counting.{counted, statistics}
+use Rattle.session.specs.TableCounts.{count_text, statistics}
 use Rattle.session.specs.Queries.{fresh}
-use Rattle.session.specs.Sessions.{Known, known, state_of}
-use Rattle.session.specs.Talks.{Talk, talk_on}
+use Rattle.session.specs.Sessions.{SessionState, session_of, state_of}
+use Rattle.session.specs.Talks.{SessionTrace, trace_on}
 use Rattle.session.specs.TextDecks.{text_deck}
-use Rattle.session.specs.TrialLines.{definitions, rounds}
+use Rattle.session.specs.TrialLines.{rounds, trial_definitions}
 use Rattle.session.specs.Versions.{no_versions}
 
 -- a talk without output, of a session that uses no files
-abbrev pub silent : Known → Talk
+abbrev pub silent : SessionState → SessionTrace
 silent session = record { out = []; err = []; steps = 0; state = state_of session no_files }
 
 -- a quiet session over a deck in which no name is settled
-abbrev pub quiet_session : Options → Contents → Known
+abbrev pub quiet_session : Options → Contents → SessionState
 quiet_session options deck =
-    known (record options { quiet = true }) (fresh deck) None no_versions []
+    session_of (record options { quiet = true }) (fresh deck) None no_versions []
 
 -- the summary of a trial, and the number of names that it settled
 pub record Trial : Type 0 where
@@ -30,18 +30,18 @@ pub record Trial : Type 0 where
 -- the summary of n rounds whose replies have `bytes` bytes and which left this table
 abbrev pub summary : (n bytes : ℕ) → Shown → List ℕ
 summary n bytes table =
-    (((codes "definitions " ++ counted (n + 1) (codes ", edits ")) ++ counted n (codes ", reply bytes "))
-    ++ counted bytes (codes ", ")) ++ statistics table
+    (((codes "definitions " ++ count_text (n + 1) (codes ", edits ")) ++ count_text n (codes ", reply bytes "))
+    ++ count_text bytes (codes ", ")) ++ statistics table
 
 abbrev pub trial_over : Options → ℕ → Contents → Trial
 trial_over options n deck =
-    let talk = talk_on (silent (quiet_session options deck)) (rounds n n) in
+    let talk = trace_on (silent (quiet_session options deck)) (rounds n n) in
     record { text = summary n (length talk.out) talk.state.session.table; steps = talk.steps }
 
 -- the deck of a trial
 abbrev pub trial_deck : Settings → ℕ → Contents
-trial_deck settings n = text_deck (codes "trial") (definitions n) settings
+trial_deck settings n = text_deck (codes "trial") (trial_definitions n) settings
 
 -- a trial of n rounds
-unfoldable pub trial : Options → Settings → ℕ → Trial
-trial options settings n = trial_over options n (trial_deck settings n)
+unfoldable pub trial_session : Options → Settings → ℕ → Trial
+trial_session options settings n = trial_over options n (trial_deck settings n)

@@ -1,10 +1,10 @@
 -- The versions of the deck of a session that an undo and a redo restore.
 use Rattle.std.specs.Prelude.{[], List}
 use Rattle.deck.specs.Decks.{Contents}
-use Rattle.edit_history.specs.Histories.{Course}
-use Rattle.edit_history.specs.Timelines.{Timeline, edited, timeline}
+use Rattle.edit_history.specs.Histories.{UndoStacks}
+use Rattle.edit_history.specs.Timelines.{Timeline, timeline, timeline_after_edit}
 use Rattle.edit_history.specs.Versions.{Version, version_of}
-use Rattle.live_table.specs.Shown.{Shown}
+use Rattle.live_table.specs.TableView.{Shown}
 
 -- the versions before the present one, the last one first, and those that were undone, the one undone last first
 pub record Versions : Type 0 where
@@ -29,9 +29,10 @@ pub record Dated : Type 0 where
 
 -- the versions after an edit that gives this deck: the version before it is added to the past, and the future is empty
 abbrev pub versions_behind : Contents → Dated → Versions
-versions_behind deck before = versions_of (edited (version_of deck) (timeline_of before.table.deck before.versions))
+versions_behind deck before =
+    versions_of (timeline_after_edit (version_of deck) (timeline_of before.table.deck before.versions))
 
 -- a live table with the versions that its history gives
-abbrev pub dated : Shown → Course → Dated
-dated table history =
+abbrev pub table_with_versions : Shown → UndoStacks → Dated
+table_with_versions table history =
     record { table = table; versions = versions_of (timeline history (version_of table.deck)) }

@@ -27,8 +27,8 @@ pub record FilesSeen : Type 0 where
   pub fetch_faults : ℕ
   pub store_faults : ℕ
 
-abbrev pub files_of : (told : Option FileMap) → (fetch_faults store_faults : ℕ) → FilesSeen
-files_of told fetch_faults store_faults =
+abbrev pub files_seen : (told : Option FileMap) → (fetch_faults store_faults : ℕ) → FilesSeen
+files_seen told fetch_faults store_faults =
     record { told = told; fetch_faults = fetch_faults; store_faults = store_faults }
 
 -- everything that a run touches, and the count of steps

@@ -2,30 +2,30 @@
 
 ghost use Rattle.std.specs.Prelude.{◌≡◌, ◌≤◌, List, length, None, Some, IfOk, IsErrOf, OnOk, [], false, true};
 ghost use Rattle.units_io.specs.FileMap.{FileMap, longest_file, with_file};
-ghost use Rattle.units_io.specs.Faults.{Rose};
-ghost use Rattle.deck_save.specs.Saved.{saved_file};
+ghost use Rattle.units_io.specs.Faults.{CountRose};
+ghost use Rattle.deck_save.specs.SavedText.{saved_file};
 ghost use Rattle.reply.specs.Options.{IsPrintable};
-ghost use Rattle.session.specs.Answering.{AreCounted, IsAnswerTo, IsCalm, file_faults, scene_of};
-ghost use Rattle.session.specs.Answers.{files_saved, saved_line};
+ghost use Rattle.session.specs.AnswerEffects.{AreCounted, FailsOnlyForMemory, IsAnswerTo, file_faults, scene_of};
+ghost use Rattle.session.specs.Answers.{files_saved, save_reply_text};
 ghost use Rattle.session.specs.Commands as commands;
-ghost use Rattle.session.specs.Hearing.{longest_line};
-ghost use Rattle.session.specs.Keeping.{LineKeeps, SaveKeeps};
+ghost use Rattle.session.specs.HeardLines.{longest_line};
+ghost use Rattle.session.specs.FilesLeft.{LineKeeps, SaveKeeps};
 ghost use Rattle.session.specs.Lines as lines;
-ghost use Rattle.session.specs.Parts.{IsLine, IsSaid};
-ghost use Rattle.session.specs.Seen.{seen_command};
-ghost use Rattle.session.specs.Sessions.{AreParts, known, known_by, state_of};
+ghost use Rattle.session.specs.Parts.{IsAnswerGiven, IsLine};
+ghost use Rattle.session.specs.CommandViews.{seen_command};
+ghost use Rattle.session.specs.Sessions.{IsSessionInvariant, session_of, session_of_history, state_of};
 ghost use Rattle.session.specs.Steps as spec;
 ghost use Rattle.session.specs.Versions.{Versions};
-ghost use Rattle.watch.specs.Watched.{Subject};
+ghost use Rattle.watch.specs.WatchViews.{Subject};
 
-use crate::asking::{conformable, converted, defined, valued};
 use crate::command::{Command, read_command};
-use crate::counting::statistics;
+use crate::edit_reports::{edit, load};
 use crate::fault::SessionFault;
 use crate::lines::{line_of, no_text, word_line};
-use crate::revising::{edit, load};
 use crate::session::Session;
-use crate::watching::watch;
+use crate::session_queries::{ask_conversion, ask_definition, conformable, evaluate_text};
+use crate::session_watches::watch;
+use crate::table_counts::statistics;
 use deck::Deck;
 use deck_save::{SaveFault, save_text};
 use edit_history::History;
@@ -49,7 +49,7 @@ pub struct LineReply {
 }
 
 /// Returns a reply with a text on `out` and nothing on `err`.
-pub(crate) fn saying(alloc: Global, out: Text) -> LineReply
+pub(crate) fn output_reply(alloc: Global, out: Text) -> LineReply
     ensures { IsLine result out [] false }
 {
     LineReply {
@@ -63,7 +63,7 @@ pub(crate) fn saying(alloc: Global, out: Text) -> LineReply
 fn saying_word(alloc: Global, words: &[u8], word: &[u8]) -> Result<LineReply, AllocError>
     ensures { IfOk result (λ reply. IsLine reply (lines.word_line words.now word.now) [] false) }
 {
-    Ok(saying(alloc, word_line(alloc, words, word)?))
+    Ok(output_reply(alloc, word_line(alloc, words, word)?))
 }
 
 // Returns the answer to a line that ends the session.
@@ -87,21 +87,21 @@ fn take_from<L: Ledger>(
     steps: &mut Steps<L>,
 ) -> Result<LineReply, SessionFault>
     requires { IsPrintable options.now }
-    ensures said { (m : FileMap) (versions : Versions) (watched : List Subject) → IsSaid
-        (spec.from_answer text.now (state_of (known options.now table.old pending.old versions watched) m)) result
-        (known options.now table.new pending.new versions watched) steps.old steps.new }
+    ensures said { (m : FileMap) (versions : Versions) (watched : List Subject) → IsAnswerGiven
+        (spec.from_answer text.now (state_of (session_of options.now table.old pending.old versions watched) m)) result
+        (session_of options.now table.new pending.new versions watched) steps.old steps.new }
     ensures done { IfOk result (λ reply. reply.done ≡ false) }
     ensures deck { table.new.deck ≡ table.old.deck }
-    ensures calm { IsCalm result }
+    ensures calm { FailsOnlyForMemory result }
 {
-    match valued(alloc, options, table, text, steps)? {
+    match evaluate_text(alloc, options, table, text, steps)? {
         FromValue::Good(_) => {
             *pending = Some(Text::from_bytes(alloc, text)?);
-            Ok(saying(alloc, no_text(alloc)))
+            Ok(output_reply(alloc, no_text(alloc)))
         }
         FromValue::Bad(fault) => {
             *pending = None;
-            Ok(saying(alloc, line_of(fault)?))
+            Ok(output_reply(alloc, line_of(fault)?))
         }
     }
 }
@@ -115,18 +115,19 @@ fn answer_blank<L: Ledger>(
     steps: &mut Steps<L>,
 ) -> Result<LineReply, SessionFault>
     requires { IsPrintable options.now }
-    ensures said { (m : FileMap) (versions : Versions) (watched : List Subject) → IsSaid
-        (spec.blank_answer pending.old (state_of (known options.now table.old pending.old versions watched) m)) result
-        (known options.now table.new pending.new versions watched) steps.old steps.new }
+    ensures said { (m : FileMap) (versions : Versions) (watched : List Subject) → IsAnswerGiven
+        (spec.blank_answer pending.old (state_of (session_of options.now table.old pending.old versions watched) m))
+        result
+        (session_of options.now table.new pending.new versions watched) steps.old steps.new }
     ensures done { IfOk result (λ reply. reply.done ≡ false) }
     ensures deck { table.new.deck ≡ table.old.deck }
-    ensures calm { IsCalm result }
+    ensures calm { FailsOnlyForMemory result }
 {
     let Some(from) = pending.take() else {
-        return Ok(saying(alloc, no_text(alloc)));
+        return Ok(output_reply(alloc, no_text(alloc)));
     };
-    let text = defined(alloc, options, table, from.as_bytes(), steps)?;
-    Ok(saying(alloc, text))
+    let text = ask_definition(alloc, options, table, from.as_bytes(), steps)?;
+    Ok(output_reply(alloc, text))
 }
 
 // Answers with the units that conform to the pending FROM, which stays pending.
@@ -138,19 +139,20 @@ fn answer_conformable<L: Ledger>(
     steps: &mut Steps<L>,
 ) -> Result<LineReply, SessionFault>
     requires { IsPrintable options.now }
-    ensures said { (m : FileMap) (versions : Versions) (watched : List Subject) → IsSaid
-        (spec.conformable_answer pending.old (state_of (known options.now table.old pending.old versions watched) m))
+    ensures said { (m : FileMap) (versions : Versions) (watched : List Subject) → IsAnswerGiven
+        (spec.conformable_answer pending.old
+        (state_of (session_of options.now table.old pending.old versions watched) m))
         result
-        (known options.now table.new pending.new versions watched) steps.old steps.new }
+        (session_of options.now table.new pending.new versions watched) steps.old steps.new }
     ensures done { IfOk result (λ reply. reply.done ≡ false) }
     ensures deck { table.new.deck ≡ table.old.deck }
-    ensures calm { IsCalm result }
+    ensures calm { FailsOnlyForMemory result }
 {
     let Some(from) = pending.as_ref() else {
         return take_from(alloc, options, table, pending, b"?", steps);
     };
     let text = conformable(alloc, options, table, from.as_bytes(), steps)?;
-    Ok(saying(alloc, text))
+    Ok(output_reply(alloc, text))
 }
 
 // Answers an expression, which is FROM, or TO if a FROM is pending.
@@ -163,19 +165,19 @@ fn answer_expression<L: Ledger>(
     steps: &mut Steps<L>,
 ) -> Result<LineReply, SessionFault>
     requires { IsPrintable options.now }
-    ensures said { (m : FileMap) (versions : Versions) (watched : List Subject) → IsSaid
+    ensures said { (m : FileMap) (versions : Versions) (watched : List Subject) → IsAnswerGiven
         (spec.expression_answer pending.old text.now
-        (state_of (known options.now table.old pending.old versions watched) m)) result
-        (known options.now table.new pending.new versions watched) steps.old steps.new }
+        (state_of (session_of options.now table.old pending.old versions watched) m)) result
+        (session_of options.now table.new pending.new versions watched) steps.old steps.new }
     ensures done { IfOk result (λ reply. reply.done ≡ false) }
     ensures deck { table.new.deck ≡ table.old.deck }
-    ensures calm { IsCalm result }
+    ensures calm { FailsOnlyForMemory result }
 {
     let Some(from) = pending.take() else {
         return take_from(alloc, options, table, pending, text, steps);
     };
-    let reply = converted(alloc, options, table, from.as_bytes(), text, steps)?;
-    Ok(saying(alloc, reply))
+    let reply = ask_conversion(alloc, options, table, from.as_bytes(), text, steps)?;
+    Ok(output_reply(alloc, reply))
 }
 
 // Stores the text of the deck in a file.
@@ -186,7 +188,7 @@ fn save<F: Files>(
     name: &[u8],
     files: &mut F,
 ) -> Result<LineReply, SessionFault>
-    ensures line { IfOk result (λ reply. IsLine reply (saved_line (saved_file deck.now) name.now) [] false) }
+    ensures line { IfOk result (λ reply. IsLine reply (save_reply_text (saved_file deck.now) name.now) [] false) }
     ensures saved { OnOk result ((m : FileMap) → F.files files.old ≡ Some m →
         F.files files.new ≡ Some (files_saved (saved_file deck.now) name.now m)) }
     ensures failed { SaveKeeps name.now result (F.files files.old) (F.files files.new) }
@@ -195,12 +197,12 @@ fn save<F: Files>(
     ensures later { F.store_faults files.old ≤ F.store_faults files.new }
     ensures unread { IsErrOf result SessionFault.ReadFailed → ⊥ }
     ensures cause { IsErrOf result SessionFault.WriteFailed →
-        Rose (F.store_faults files.old) (F.store_faults files.new) }
+        CountRose (F.store_faults files.old) (F.store_faults files.new) }
 {
     match save_text(alloc, deck) {
         Ok(text) => {
             store(alloc, name, text.as_bytes(), files)?;
-            Ok(saying(alloc, no_text(alloc)))
+            Ok(output_reply(alloc, no_text(alloc)))
         }
         Err(SaveFault::TooLong) => Ok(saying_word(alloc, b"file too long: ", name)?),
         Err(SaveFault::OutOfMemory) => Err(SessionFault::OutOfMemory),
@@ -223,7 +225,7 @@ fn store<F: Files>(
     ensures later { F.store_faults files.old ≤ F.store_faults files.new }
     ensures unread { IsErrOf result SessionFault.ReadFailed → ⊥ }
     ensures cause { IsErrOf result SessionFault.WriteFailed →
-        Rose (F.store_faults files.old) (F.store_faults files.new) }
+        CountRose (F.store_faults files.old) (F.store_faults files.new) }
 {
     match files.store(alloc, name, bytes) {
         Ok(()) => Ok(()),
@@ -244,28 +246,29 @@ fn perform<L: Ledger>(
     command: Command<'_>,
     steps: &mut Steps<L>,
 ) -> Result<LineReply, SessionFault>
-    requires parts { AreParts options.now table.old history.old watches.old }
+    requires parts { IsSessionInvariant options.now table.old history.old watches.old }
     requires no_file { commands.names_file (seen_command command) ≡ false }
-    ensures said { (m : FileMap) → IsSaid (spec.answer_to
-        (state_of (known_by options.now table.old history.old pending.old watches.old) m) (seen_command command.entry))
-        result (known_by options.now table.new history.new pending.new watches.new) steps.old steps.new }
+    ensures said { (m : FileMap) → IsAnswerGiven (spec.answer_to
+        (state_of (session_of_history options.now table.old history.old pending.old watches.old) m)
+        (seen_command command.entry))
+        result (session_of_history options.now table.new history.new pending.new watches.new) steps.old steps.new }
     ensures done { IfOk result (λ reply. reply.done ≡ commands.is_quit (seen_command command.entry)) }
-    ensures parts { AreParts options.now table.new history.new watches.new }
-    ensures calm { IsCalm result }
+    ensures parts { IsSessionInvariant options.now table.new history.new watches.new }
+    ensures calm { FailsOnlyForMemory result }
 {
     match command {
         Command::Blank => answer_blank(alloc, options, table, pending, steps),
         Command::Quit => Ok(last_reply(alloc)),
         Command::Conformable => answer_conformable(alloc, options, table, pending, steps),
-        Command::Search(text) => Ok(saying(alloc, search_report(alloc, table, text)?)),
+        Command::Search(text) => Ok(output_reply(alloc, search_report(alloc, table, text)?)),
         Command::Edit(change) => edit(alloc, options, table, history, watches, change, steps),
         Command::Load(_) | Command::Save(_) => unreachable!(),
         Command::Watch(from, to) => watch(alloc, options, table, watches, from, to, steps),
         Command::Unwatch => {
             watches.clear();
-            Ok(saying(alloc, no_text(alloc)))
+            Ok(output_reply(alloc, no_text(alloc)))
         }
-        Command::Stats => Ok(saying(alloc, statistics(alloc, table)?)),
+        Command::Stats => Ok(output_reply(alloc, statistics(alloc, table)?)),
         Command::Unknown(word) => Ok(saying_word(alloc, b"unknown command: ", word)?),
         Command::Bad(word) => Ok(saying_word(alloc, b"bad command: ", word)?),
         Command::Expression(text) => {

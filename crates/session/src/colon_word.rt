@@ -1,7 +1,7 @@
 //! The command words, which begin with a colon.
 
 ghost use Rattle.std.specs.Prelude.{◌≡◌};
-ghost use Rattle.session.specs.Commands.{beside, colon_words};
+ghost use Rattle.session.specs.Commands.{colon_word_of, colon_words};
 
 /// The meaning of a word that begins with a colon.
 #[derive(Clone, Copy)]
@@ -32,7 +32,7 @@ pub enum ColonWord {
 
 // Returns the meaning of a word, or `None` if it is not a command word.
 pub(crate) fn colon_word_of(word: &[u8]) -> Option<ColonWord>
-    ensures { result ≡ beside word.now colon_words }
+    ensures { result ≡ colon_word_of word.now colon_words }
 {
     if word == b":define".as_slice() {
         Some(ColonWord::Define)

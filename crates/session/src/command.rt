@@ -3,7 +3,7 @@
 ghost use Rattle.std.specs.Prelude.{◌≡◌};
 ghost use Rattle.def_entry.specs.Cuts as cuts;
 ghost use Rattle.session.specs.Commands as spec;
-ghost use Rattle.session.specs.Seen.{seen_command};
+ghost use Rattle.session.specs.CommandViews.{seen_command};
 
 use crate::colon_word::{ColonWord, colon_word_of};
 use def_entry::cut_at;
@@ -90,7 +90,7 @@ fn command_in_text(text: &[u8]) -> Command<'_>
 
 // `search` with a text; without one it is an expression.
 fn search_command<'a>(rest: &'a [u8], text: &'a [u8]) -> Command<'a>
-    ensures { seen_command result ≡ spec.searching rest.now text.now }
+    ensures { seen_command result ≡ spec.search_command rest.now text.now }
 {
     if rest.is_empty() {
         Command::Expression(text)
@@ -170,7 +170,7 @@ fn with_text<'a>(command: Command<'a>, rest: &'a [u8], word: &'a [u8]) -> Comman
 
 // Returns a command that must have nothing after its word.
 fn alone<'a>(command: Command<'a>, rest: &'a [u8], word: &'a [u8]) -> Command<'a>
-    ensures { seen_command result ≡ spec.alone (seen_command command.entry) rest.now word.now }
+    ensures { seen_command result ≡ spec.without_rest (seen_command command.entry) rest.now word.now }
 {
     where_good(rest.is_empty(), command, word)
 }

@@ -2,24 +2,24 @@
 #![tactic(auto)]
 
 mod answer;
-mod asking;
 mod colon_word;
 mod command;
-mod counting;
-mod editing;
+mod deck_edits;
+mod edit_reports;
 mod fault;
-mod held;
 mod laws;
 mod lines;
 mod over_source;
-mod revising;
-mod said;
+mod partial_line;
 mod session;
+mod session_output;
+mod session_queries;
+mod session_watches;
+mod table_counts;
 mod talk;
 mod text_decks;
 mod trial;
 mod trial_lines;
-mod watching;
 
 pub use answer::LineReply;
 pub use command::{Command, DeckEdit, read_command};
@@ -30,7 +30,7 @@ pub use laws::{
 };
 pub use lines::notice_lines;
 pub use over_source::{SessionEnd, run_session};
-pub use said::Said;
 pub use session::Session;
+pub use session_output::Said;
 pub use text_decks::text_deck;
 pub use trial::run_trial;

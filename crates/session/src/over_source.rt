@@ -1,16 +1,16 @@
 //! A session over a source. The output for a block of input is written in one piece, or in several if it is long.
 
 ghost use Rattle.std.specs.Prelude.{◌≡◌, ◌≤◌, ◌<◌, ◌⊎◌, ◌++◌, [], List, ℕ, Some, length};
-ghost use Rattle.session.specs.Hearing.{NamesNoFile};
+ghost use Rattle.session.specs.HeardLines.{NamesNoFile};
 ghost use Rattle.session.specs.Outside.{GrowsAtLeast};
 ghost use Rattle.session.specs.Runs as spec;
-ghost use Rattle.session.specs.Standing.{Holds};
-ghost use Rattle.session.specs.Worlds.{SourceSeen, files_of, sink_of, source_of, world_of};
+ghost use Rattle.session.specs.SessionProgress.{Holds};
+ghost use Rattle.session.specs.Worlds.{SourceSeen, files_seen, sink_of, source_of, world_of};
 
 use crate::fault::SessionFault;
-use crate::held::Held;
-use crate::said::Said;
+use crate::partial_line::Held;
 use crate::session::Session;
+use crate::session_output::Said;
 use crate::talk::{feed, feed_end};
 use std::alloc::Global;
 use std::sync::ledger::Ledger;
@@ -59,10 +59,10 @@ pub fn run_session<S: Source, O: Sink, E: Sink, F: Files, L: Ledger>(
     ensures run { spec.IsSessionRun said.old session.old result
         (world_of (source_of (S.left src.old) (S.taken src.old) (S.faults src.old))
         (sink_of (O.written out.old) (O.faults out.old)) (sink_of (E.written err.old) (E.faults err.old))
-        (files_of (F.files files.old) (F.faults files.old) (F.store_faults files.old)) steps.old)
+        (files_seen (F.files files.old) (F.faults files.old) (F.store_faults files.old)) steps.old)
         (world_of (source_of (S.left src.new) (S.taken src.new) (S.faults src.new))
         (sink_of (O.written out.new) (O.faults out.new)) (sink_of (E.written err.new) (E.faults err.new))
-        (files_of (F.files files.new) (F.faults files.new) (F.store_faults files.new)) steps.new) }
+        (files_seen (F.files files.new) (F.faults files.new) (F.store_faults files.new)) steps.new) }
     ensures unasked { (input : List ℕ) → S.left src.old ≡ Some input → NamesNoFile input → files.new ≡ files.old }
     ensures opening { (src.new ≡ src.old) ⊎ (GrowsAtLeast (O.written out.old) (O.written out.new) said.old.out.items
         × GrowsAtLeast (E.written err.old) (E.written err.new) said.old.err.items) }
@@ -108,10 +108,10 @@ fn answer_blocks<S: Source, O: Sink, E: Sink, F: Files, L: Ledger>(
     ensures run { spec.AreAnswered held.old session.old result
         (world_of (source_of (S.left src.old) (S.taken src.old) (S.faults src.old))
         (sink_of (O.written out.old) (O.faults out.old)) (sink_of (E.written err.old) (E.faults err.old))
-        (files_of (F.files files.old) (F.faults files.old) (F.store_faults files.old)) steps.old)
+        (files_seen (F.files files.old) (F.faults files.old) (F.store_faults files.old)) steps.old)
         (world_of (source_of (S.left src.new) (S.taken src.new) (S.faults src.new))
         (sink_of (O.written out.new) (O.faults out.new)) (sink_of (E.written err.new) (E.faults err.new))
-        (files_of (F.files files.new) (F.faults files.new) (F.store_faults files.new)) steps.new) }
+        (files_seen (F.files files.new) (F.faults files.new) (F.store_faults files.new)) steps.new) }
     ensures unasked { (input : List ℕ) → S.left src.old ≡ Some input → Holds [] held.old → NamesNoFile input →
         files.new ≡ files.old }
 {
@@ -149,9 +149,9 @@ fn answer_block<O: Sink, E: Sink, F: Files, L: Ledger>(
     ensures run { (was is : SourceSeen) →
         spec.IsBlockAnswered result block.now held.old session.old held.new session.new
         (world_of was (sink_of (O.written out.old) (O.faults out.old)) (sink_of (E.written err.old) (E.faults err.old))
-        (files_of (F.files files.old) (F.faults files.old) (F.store_faults files.old)) steps.old)
+        (files_seen (F.files files.old) (F.faults files.old) (F.store_faults files.old)) steps.old)
         (world_of is (sink_of (O.written out.new) (O.faults out.new)) (sink_of (E.written err.new) (E.faults err.new))
-        (files_of (F.files files.new) (F.faults files.new) (F.store_faults files.new)) steps.new) }
+        (files_seen (F.files files.new) (F.faults files.new) (F.store_faults files.new)) steps.new) }
     ensures cut { (taken : List ℕ) → Holds taken held.old → spec.IsBlockCut result taken block.now held.new }
     ensures unasked { (taken more : List ℕ) → Holds taken held.old → NamesNoFile ((taken ++ block.now) ++ more) →
         files.new ≡ files.old }
@@ -183,9 +183,9 @@ fn answer_end<O: Sink, E: Sink, F: Files, L: Ledger>(
 ) -> SessionEnd
     ensures run { (was is : SourceSeen) → spec.IsEndAnswered result held.now session.old
         (world_of was (sink_of (O.written out.old) (O.faults out.old)) (sink_of (E.written err.old) (E.faults err.old))
-        (files_of (F.files files.old) (F.faults files.old) (F.store_faults files.old)) steps.old)
+        (files_seen (F.files files.old) (F.faults files.old) (F.store_faults files.old)) steps.old)
         (world_of is (sink_of (O.written out.new) (O.faults out.new)) (sink_of (E.written err.new) (E.faults err.new))
-        (files_of (F.files files.new) (F.faults files.new) (F.store_faults files.new)) steps.new) }
+        (files_seen (F.files files.new) (F.faults files.new) (F.store_faults files.new)) steps.new) }
     ensures unasked { (input : List ℕ) → Holds input held.now → NamesNoFile input → files.new ≡ files.old }
 {
     said.clear();
@@ -198,7 +198,7 @@ fn answer_end<O: Sink, E: Sink, F: Files, L: Ledger>(
 
 // Returns how the session ended with the bytes that were fed, or `None` if it goes on.
 fn end_of(fed: Result<bool, SessionFault>) -> Option<SessionEnd>
-    ensures { result ≡ spec.end_of fed }
+    ensures { result ≡ spec.end_after_feed fed }
 {
     match fed {
         Ok(false) => None,
@@ -209,7 +209,7 @@ fn end_of(fed: Result<bool, SessionFault>) -> Option<SessionEnd>
 
 // Returns how the session ended at the end of its input.
 fn last_end(fed: Result<(), SessionFault>) -> SessionEnd
-    ensures { result ≡ spec.last_end fed }
+    ensures { result ≡ spec.end_at_input_end fed }
 {
     match fed {
         Ok(()) => SessionEnd::Done,

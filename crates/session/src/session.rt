@@ -2,7 +2,7 @@
 
 ghost use Rattle.std.specs.Prelude.{◌≡◌, [], None};
 ghost use Rattle.reply.specs.Options.{IsPrintable};
-ghost use Rattle.session.specs.Sessions.{known, prompt};
+ghost use Rattle.session.specs.Sessions.{prompt, session_of};
 ghost use Rattle.session.specs.Versions.{no_versions};
 
 use edit_history::History;
@@ -37,22 +37,22 @@ impl Drop for Session {
 }
 
 impl Model for Session {
-    ghost use Rattle.session.specs.Sessions.{AreParts, Known, known_by, known_code};
+    ghost use Rattle.session.specs.Sessions.{IsSessionInvariant, SessionState, known_code, session_of_history};
 
-    ghost Value = { Known };
+    ghost Value = { SessionState };
 
     ghost coded = { known_code };
 
-    ghost view = { λ s. known_by s.options s.table s.history s.pending s.watches };
+    ghost view = { λ s. session_of_history s.options s.table s.history s.pending s.watches };
 
-    ghost invariant = { λ s. AreParts s.options s.table s.history s.watches };
+    ghost invariant = { λ s. IsSessionInvariant s.options s.table s.history s.watches };
 }
 
 impl Session {
     /// Returns a session over a table, with no pending FROM, nothing to undo and nothing watched. Allocates no memory.
     pub fn new(alloc: Global, table: LiveTable, options: Options) -> Session
         requires { IsPrintable options }
-        ensures { result ≡ known options table None no_versions [] }
+        ensures { result ≡ session_of options table None no_versions [] }
     {
         Session {
             options,

@@ -4,25 +4,25 @@ ghost use Rattle.std.specs.Prelude.{◌≡◌, ◌++◌, ◌∷◌, ◌≤◌, �
 ghost use Rattle.std.specs.Prelude.{codes, false};
 ghost use Rattle.std.specs.Option.{option_copied};
 ghost use Rattle.units_io.specs.FileMap.{FileMap};
-ghost use Rattle.session.specs.Answering.{AreCounted, IsAnswered, file_faults, scene_of};
-ghost use Rattle.session.specs.Hearing.{heard, is_last, is_last_read, longest_line, readable, saved_by_read};
-ghost use Rattle.session.specs.Hearing.{NamesNoFile, any_loads_file, loads_file_in, loads_file_read};
-ghost use Rattle.session.specs.Hearing.{names_file_in, names_file_read};
+ghost use Rattle.session.specs.AnswerEffects.{AreCounted, IsLineAnswered, file_faults, scene_of};
+ghost use Rattle.session.specs.HeardLines.{heard, is_last, is_last_read, longest_line, readable, saved_by_read};
+ghost use Rattle.session.specs.HeardLines.{NamesNoFile, any_loads_file, loads_file_in, loads_file_read};
+ghost use Rattle.session.specs.HeardLines.{names_file_in, names_file_read};
 ghost use Rattle.session.specs.Input.{lines_of};
-ghost use Rattle.session.specs.Keeping.{LineKeeps};
+ghost use Rattle.session.specs.FilesLeft.{LineKeeps};
 ghost use Rattle.session.specs.Parts.{IsLine};
 ghost use Rattle.session.specs.Sessions.{state_of};
-ghost use Rattle.session.specs.Standing.{Base, Fed, Holds, IsAt, IsBroken, IsTakenUp, Stands, now_of};
+ghost use Rattle.session.specs.SessionProgress.{Base, Fed, Holds, IsAt, IsBroken, IsTakenUp, Stands, now_of};
 ghost use Rattle.session.specs.Steps as spec;
-ghost use Rattle.session.specs.Talks.{Talk, with_answer, talk_on};
-ghost use Rattle.session.specs.Telling.{IsToldIf, TellsIf};
+ghost use Rattle.session.specs.Talks.{SessionTrace, talk_with_answer, trace_on};
+ghost use Rattle.session.specs.KnownContents.{IsToldIf, TellsIf};
 
 use crate::answer::LineReply;
 use crate::fault::SessionFault;
-use crate::held::{Held, LONGEST_LINE};
 use crate::lines::no_text;
-use crate::said::Said;
+use crate::partial_line::{Held, LONGEST_LINE};
 use crate::session::Session;
+use crate::session_output::Said;
 use def_entry::cut_at;
 use std::alloc::{AllocError, Global};
 use std::sync::ledger::Ledger;
@@ -40,7 +40,7 @@ pub(crate) fn feed<F: Files, L: Ledger>(
     steps: &mut Steps<L>,
     rest: &mut &[u8],
 ) -> Result<bool, SessionFault>
-    ensures told { (base : Base) (first : Talk) (taken more : List ℕ) →
+    ensures told { (base : Base) (first : SessionTrace) (taken more : List ℕ) →
         IsToldIf (any_loads_file ((taken ++ rest.old.now) ++ more)) base.files → Stands base first taken held.old
         (now_of said.old session.old (F.files files.old) steps.old) →
         Fed result base first taken rest.old.now rest.new.now more held.new
@@ -81,11 +81,11 @@ pub(crate) fn feed_end<F: Files, L: Ledger>(
     files: &mut F,
     steps: &mut Steps<L>,
 ) -> Result<(), SessionFault>
-    ensures told { (base : Base) (first : Talk) (input : List ℕ) → IsToldIf (any_loads_file input) base.files →
+    ensures told { (base : Base) (first : SessionTrace) (input : List ℕ) → IsToldIf (any_loads_file input) base.files →
         Stands base first input held.now
         (now_of said.old session.old (F.files files.old) steps.old) →
         MatchResult result
-        (λ _. IsAt base (talk_on first input)
+        (λ _. IsAt base (trace_on first input)
         (now_of said.new session.new (F.files files.new) steps.new))
         (λ fault. IsBroken fault base first (heard (lines_of input))
         (now_of said.new session.new (F.files files.new) steps.new)) }
@@ -112,12 +112,12 @@ fn end_line<F: Files, L: Ledger>(
     steps: &mut Steps<L>,
     piece: &[u8],
 ) -> Result<bool, SessionFault>
-    ensures told { (base : Base) (talk : Talk) (part : List ℕ) → held.old ≡ readable part →
+    ensures told { (base : Base) (talk : SessionTrace) (part : List ℕ) → held.old ≡ readable part →
         IsToldIf (loads_file_in (part ++ piece.now)) base.files → IsAt base talk
         (now_of said.old session.old (F.files files.old) steps.old) →
         MatchResult result
         (λ done. (done ≡ is_last (part ++ piece.now)) × (held.new ≡ Some [])
-        × IsAt base (with_answer talk (spec.answer talk.state (part ++ piece.now)) (part ++ piece.now))
+        × IsAt base (talk_with_answer talk (spec.answer talk.state (part ++ piece.now)) (part ++ piece.now))
         (now_of said.new session.new (F.files files.new) steps.new))
         (λ fault. IsBroken fault base talk ((part ++ piece.now) ∷ [])
         (now_of said.new session.new (F.files files.new) steps.new)) }
@@ -143,7 +143,7 @@ fn end_line<F: Files, L: Ledger>(
 }
 
 // Returns the line, or `None` if it is too long.
-#[tactic(auto, unfolding(crate::specs::Hearing::readable))]
+#[tactic(auto, unfolding(crate::specs::HeardLines::readable))]
 fn short(line: &[u8]) -> Option<&[u8]>
     ensures is { option_copied result ≡ readable line.now }
     ensures short { IfSome result (λ line. length line.now ≤ longest_line) }
@@ -164,11 +164,11 @@ fn reply<F: Files, L: Ledger>(
     steps: &mut Steps<L>,
 ) -> Result<bool, SessionFault>
     requires { IfSome line (λ line. length line.now ≤ longest_line) }
-    ensures told { (base : Base) (talk : Talk) (part : List ℕ) → option_copied line.entry ≡ readable part →
+    ensures told { (base : Base) (talk : SessionTrace) (part : List ℕ) → option_copied line.entry ≡ readable part →
         IsToldIf (loads_file_in part) base.files → IsAt base talk
         (now_of said.old session.old (F.files files.old) steps.old) →
         MatchResult result
-        (λ done. (done ≡ is_last part) × IsAt base (with_answer talk (spec.answer talk.state part) part)
+        (λ done. (done ≡ is_last part) × IsAt base (talk_with_answer talk (spec.answer talk.state part) part)
         (now_of said.new session.new (F.files files.new) steps.new))
         (λ fault. IsBroken fault base talk (part ∷ [])
         (now_of said.new session.new (F.files files.new) steps.new)) }
@@ -197,7 +197,7 @@ fn answer_line<F: Files, L: Ledger>(
 ) -> Result<LineReply, SessionFault>
     requires { IfSome line (λ line. length line.now ≤ longest_line) }
     ensures answer { (m : FileMap) → TellsIf (loads_file_read (option_copied line.entry)) (F.files files.old) m →
-        IsAnswered (spec.answer_read (state_of session.old m) (option_copied line.entry)) result
+        IsLineAnswered (spec.answer_read (state_of session.old m) (option_copied line.entry)) result
         (scene_of session.old (F.files files.old) steps.old)
         (scene_of session.new (F.files files.new) steps.new) }
     ensures done { IfOk result (λ reply. reply.done ≡ is_last_read (option_copied line.entry)) }

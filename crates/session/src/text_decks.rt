@@ -1,7 +1,7 @@
 //! Decks of texts that are within the limits of a deck.
 
 ghost use Rattle.std.specs.Prelude.{◌≡◌, IfOk, Ok};
-ghost use Rattle.deck.specs.Loading.{after_text};
+ghost use Rattle.deck.specs.FileLoads.{after_text};
 ghost use Rattle.session.specs.TextDecks as spec;
 
 use deck::{Deck, DeckFault, Settings};
@@ -16,7 +16,7 @@ pub fn text_deck(
     name: &[u8],
     settings: Settings,
 ) -> Result<Deck, AllocError>
-    requires { spec.HasRoom text.now }
+    requires { spec.FitsDeck text.now }
     ensures is { IfOk result (λ deck. deck ≡ spec.text_deck name.now text.now settings) }
     ensures within { after_text text.now name.now settings ≡ Ok (spec.text_deck name.now text.now settings) }
 {

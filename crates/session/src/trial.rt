@@ -2,14 +2,14 @@
 
 ghost use Rattle.std.specs.Prelude.{◌≡◌, ◌≤◌, IfOk};
 ghost use Rattle.reply.specs.Options.{IsPrintable};
-ghost use Rattle.session.specs.Talks.{talk_on};
-ghost use Rattle.session.specs.Trialing.{IsTalked, Tells};
+ghost use Rattle.session.specs.Talks.{trace_on};
+ghost use Rattle.session.specs.TrialEffects.{IsTalked, Tells};
 ghost use Rattle.session.specs.Trials as spec;
 
-use crate::counting::{put_count, statistics};
-use crate::held::Held;
-use crate::said::Said;
+use crate::partial_line::Held;
 use crate::session::Session;
+use crate::session_output::Said;
+use crate::table_counts::{put_count, statistics};
 use crate::talk::{feed, feed_end};
 use crate::text_decks::text_deck;
 use crate::trial_lines::{all_rounds, definitions};
@@ -32,13 +32,13 @@ pub fn run_trial<L: Ledger>(
     requires printable { IsPrintable options }
     requires some { 1 ≤ rounds }
     requires few { rounds ≤ 20000 }
-    ensures { IfOk result (λ text. Tells (spec.trial options settings rounds) text steps.old steps.new) }
+    ensures { IfOk result (λ text. Tells (spec.trial_session options settings rounds) text steps.old steps.new) }
 {
     let text = definitions(alloc, rounds)?;
     let deck = text_deck(alloc, &text, b"trial", settings)?;
     let mut session = quiet_session(alloc, deck, options);
     let lines = all_rounds(alloc, rounds)?;
-    let said = talked(alloc, &mut session, &lines, steps)?;
+    let said = run_lines(alloc, &mut session, &lines, steps)?;
     summary(alloc, rounds, said.out.len(), session.table())
 }
 
@@ -55,14 +55,14 @@ fn quiet_session(alloc: Global, deck: Deck, options: Options) -> Session
 }
 
 // Returns what the session says to all lines.
-fn talked<L: Ledger>(
+fn run_lines<L: Ledger>(
     alloc: Global,
     session: &mut Session,
     lines: &[u8],
     steps: &mut Steps<L>,
 ) -> Result<Said, AllocError>
     ensures { IfOk result (λ said.
-        IsTalked (talk_on (spec.silent session.old) lines.now) said session.new steps.old steps.new) }
+        IsTalked (trace_on (spec.silent session.old) lines.now) said session.new steps.old steps.new) }
 {
     let mut files = NoFiles::new();
     let mut held = Held::new(alloc);

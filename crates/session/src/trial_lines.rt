@@ -1,7 +1,7 @@
 //! The generated definitions and lines of a trial.
 
 ghost use Rattle.std.specs.Prelude.{◌≡◌, ◌++◌, ◌≤◌, ◌+◌, ◌*◌, ◌%◌, IfOk, OnOk, length};
-ghost use Rattle.session.specs.TextDecks.{HasRoom};
+ghost use Rattle.session.specs.TextDecks.{FitsDeck};
 ghost use Rattle.session.specs.TrialLines as spec;
 
 use std::alloc::{AllocError, Global};
@@ -9,8 +9,8 @@ use std::alloc::{AllocError, Global};
 /// Returns the definitions of a trial of `last` rounds. The only error is running out of memory.
 pub(crate) fn definitions(alloc: Global, last: u16) -> Result<Vec<u8>, AllocError>
     requires { last ≤ 20000 }
-    ensures is { IfOk result (λ text. text.items ≡ spec.definitions last) }
-    ensures room { IfOk result (λ text. HasRoom text.items) }
+    ensures is { IfOk result (λ text. text.items ≡ spec.trial_definitions last) }
+    ensures room { IfOk result (λ text. FitsDeck text.items) }
 {
     let mut text = Vec::from_slice(alloc, b"u_0 !\n")?;
     let mut i = 0u16;
@@ -66,7 +66,7 @@ fn put_multiple(
     factor: u16,
     j: u16,
 ) -> Result<(), AllocError>
-    ensures is { OnOk result (text.new.items ≡ text.old.items ++ spec.multiple i factor j) }
+    ensures is { OnOk result (text.new.items ≡ text.old.items ++ spec.multiple_line i factor j) }
     ensures short { OnOk result (length text.new.items ≤ length text.old.items + 22) }
 {
     put_name(alloc, text, i)?;

@@ -6,9 +6,9 @@ use Rattle.deck.specs.Decks.{Contents}
 use Rattle.deck.specs.PlacedKeys.{keys_there}
 use Rattle.deck.specs.Tables.{table}
 use Rattle.digits_print.specs.declared.style.Style.{Style}
-use Rattle.live_table.specs.Shown.{Follows, Shown}
+use Rattle.live_table.specs.TableView.{IsAfterEvents, Shown}
 use Rattle.live_table.specs.States.{Event}
-use Rattle.survey.specs.Checks.{check_among, check_line, checked, queries_among}
+use Rattle.survey.specs.Checks.{check_among, check_line, key_finding, queries_among}
 use Rattle.survey.proofs.Places.{each-place, line_at, queries_at}
 
 module _ (deck : Contents) (places : List ℕ) where
@@ -20,8 +20,8 @@ module _ (deck : Contents) (places : List ℕ) where
 
   -- the queries of the places are those of the keys there
   pub block_queries : (before after : Shown) (old new : ℕ)
-      → Follows (flat_map (queries_at deck) places) before after old new
-      → Follows (queries_among (table deck) (keys_there deck.lines places)) before after old new
+      → IsAfterEvents (flat_map (queries_at deck) places) before after old new
+      → IsAfterEvents (queries_among (table deck) (keys_there deck.lines places)) before after old new
   block_queries before after old new follows =
-      subst (λ (es : List Event). Follows es before after old new)
-      (sym (each-place (λ (k : Key). (checked (table deck) k).events) deck places)) follows
+      subst (λ (es : List Event). IsAfterEvents es before after old new)
+      (sym (each-place (λ (k : Key). (key_finding (table deck) k).events) deck places)) follows

@@ -2,12 +2,12 @@
 use Rattle.std.proofs.Common.{refl}
 use Rattle.std.specs.Fmt.{digits}
 use Rattle.frac128.specs.Divisors.{gcd, gcd_within}
-use Rattle.frac128.specs.Steps.{reduced}
-use Rattle.survey.specs.Examples.{CheckLaw, RowsLaw}
+use Rattle.frac128.specs.Steps.{lowest_terms}
+use Rattle.survey.specs.Examples.{CheckLaw, SearchRowsLaw}
 
 -- the examples of checks
 pub checks : CheckLaw
-unfolding digits gcd gcd_within reduced
+unfolding digits gcd gcd_within lowest_terms
 checks = record {
   sound = refl;
   unknown = refl;
@@ -26,8 +26,8 @@ checks = record {
 }
 
 -- the examples of rows
-pub rows : RowsLaw
-unfolding gcd gcd_within reduced
+pub rows : SearchRowsLaw
+unfolding gcd gcd_within lowest_terms
 rows = record {
   inside = refl;
   not_in_key_text = refl;

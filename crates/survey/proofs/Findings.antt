@@ -5,10 +5,10 @@ use Rattle.std.specs.declared.alloc.AllocError.{AllocError}
 use Rattle.live_table.specs.declared.fault.QueryFault.{QueryFault}
 use Rattle.live_table.specs.declared.fault.QueryFault.TheVariants.{Name, Value, OutOfMemory}
 use Rattle.live_table.specs.Calls.{AreQueries}
-use Rattle.live_table.specs.Shown.{Shown}
+use Rattle.live_table.specs.TableView.{Shown}
 use Rattle.def_entry.specs.declared.key.Key.{Key}
 use Rattle.digits_print.specs.declared.style.Style.{Style}
-use Rattle.survey.specs.declared.finding.Finding.{Finding}
+use Rattle.survey.specs.declared.check_result.Finding.{Finding}
 use Rattle.survey.specs.Checks.{finding_line}
 use Rattle.reply.specs.Calls.{IsInquired, as_inquired, same}
 use Rattle.reply.specs.Inquiries.{Inquiry, as_answer}

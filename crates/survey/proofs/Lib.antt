@@ -1,13 +1,13 @@
 mod CheckBlocks
 mod Examples
 mod Findings
-mod Joining
-mod Opening
+mod QueriesAfter
+mod FaultSteps
 mod Places
 mod PrefixAnswers
-mod Prefixed
+mod KeyFaults
 mod Questions
-mod Surveying
-mod Turning
+mod ItemReports
+mod ChainTurns
 mod UnitRows
 pub mod ValuedUnits

@@ -6,9 +6,9 @@ use Rattle.tree_eval.specs.Steps.{Worth}
 use Rattle.table_names.specs.declared.fault.NameFault.{NameFault}
 use Rattle.live_table.specs.declared.fault.QueryFault.{QueryFault}
 use Rattle.live_table.specs.declared.fault.QueryFault.TheVariants as query
-use Rattle.live_table.specs.Answers.{Answers, by_names}
+use Rattle.live_table.specs.Answers.{IsQueryResult, by_names}
 use Rattle.live_table.specs.Calls.{IsQuery}
-use Rattle.live_table.specs.Shown.{Follows, Shown}
+use Rattle.live_table.specs.TableView.{IsAfterEvents, Shown}
 use Rattle.live_table.specs.States.{Event}
 use Rattle.reply.specs.Calls.{IsInquired, as_inquired, same}
 use Rattle.reply.specs.Inquiries.{Inquiry}
@@ -24,13 +24,14 @@ module _ (e : Event) (fault : Option NameFault) (w : Worth) (a b : Shown) (n m :
   abbrev answers-names : Result Amount QueryFault → Type 0
   answers-names r = IsInquired same (names-asked e fault) (as_inquired (names_alone r)) a b n m
 
-  answered : Follows (e ∷ []) a b n m → (f : Option NameFault) (w : Worth) → f ≡ fault → answers-names (by_names f w)
+  answered : IsAfterEvents (e ∷ []) a b n m → (f : Option NameFault) (w : Worth) → f ≡ fault
+      → answers-names (by_names f w)
   answered h (Some f) w is = (ap names_answer (sym is), h)
   answered h None (Ok x) is = (ap names_answer (sym is), h)
   answered h None (Err v) is = (ap names_answer (sym is), h)
 
   -- the result is the fault of the names, or there is none
-  pub names-inquired : (r : Result Amount QueryFault) → Answers r (by_names fault w) → IsQuery e r a b n m
+  pub names-inquired : (r : Result Amount QueryFault) → IsQueryResult r (by_names fault w) → IsQuery e r a b n m
       → answers-names r
   names-inquired (Ok x) h q = elim h [
     | inl p ↦ cc

@@ -22,9 +22,9 @@ use Rattle.live_table.specs.States.{Event, AsksWords}
 use Rattle.reply.specs.declared.fault.ReplyFault.{ReplyFault}
 use Rattle.reply.specs.declared.fault.ReplyFault.TheVariants.{Name, List as ListUnit}
 use Rattle.reply.specs.Faults.{fault_text}
-use Rattle.reply.specs.Inquiries.{◌>>=◌, Inquiry, given, worths}
-use Rattle.survey.specs.declared.finding.Finding.{Finding}
-use Rattle.survey.specs.declared.finding.Finding.TheVariants.{Sound, Unlike, NotPositive}
+use Rattle.reply.specs.Inquiries.{◌>>=◌, Inquiry, without_queries, worths}
+use Rattle.survey.specs.declared.check_result.Finding.{Finding}
+use Rattle.survey.specs.declared.check_result.Finding.TheVariants.{Sound, NonConforming, NotPositive}
 use Rattle.survey.specs.PrefixFaults.{prefix_fault}
 
 abbrev pub tree_if : Option Syntax → List Syntax
@@ -33,21 +33,21 @@ tree_if (Some tree) = tree ∷ []
 
 -- the expressions of an entry that must have values: the body; the in unit and the out unit of a function; the unit of
 -- a table; the parts of a list
-abbrev pub trees_in : What → List Syntax
-trees_in (entry.Body tree) = tree ∷ []
-trees_in (entry.Function d) = tree_if d.in_unit ++ tree_if d.out_unit
-trees_in (entry.Table d) = d.unit ∷ []
-trees_in (entry.ListOf trees) = trees
-trees_in _ = []
+abbrev pub key_trees : What → List Syntax
+key_trees (entry.Body tree) = tree ∷ []
+key_trees (entry.Function d) = tree_if d.in_unit ++ tree_if d.out_unit
+key_trees (entry.Table d) = d.unit ∷ []
+key_trees (entry.ListOf trees) = trees
+key_trees _ = []
 
 abbrev pub trees_at : Option Entry → List Syntax
 trees_at None = []
-trees_at (Some e) = trees_in e.what
+trees_at (Some e) = key_trees e.what
 
 -- the expressions of a key that must have values: a unit is queried by its word
-abbrev pub valued : Key → Kind → Option Entry → List Syntax
-valued k kind.Unit e = Word k.name ∷ []
-valued k _ e = trees_at e
+abbrev pub value_expressions : Key → Kind → Option Entry → List Syntax
+value_expressions k kind.Unit e = Word k.name ∷ []
+value_expressions k _ e = trees_at e
 
 abbrev pub place_finding : Option ℕ → Finding
 place_finding None = Sound
@@ -58,7 +58,7 @@ place_finding (Some place) = NotPositive place
 abbrev pub parts_finding : List Amount → Finding
 parts_finding [] = Sound
 parts_finding (part ∷ parts) =
-    if list_any (is_unlike part) parts then Unlike else place_finding (position is_not_positive (part ∷ parts))
+    if list_any (is_unlike part) parts then NonConforming else place_finding (position is_not_positive (part ∷ parts))
 
 abbrev pub names_answer : Option NameFault → Result (Unit {0}) ReplyFault
 names_answer None = Ok tt
@@ -68,13 +68,13 @@ names_answer (Some fault) = Err (Name fault)
 abbrev pub sound : Inquiry (List Amount) → Inquiry Finding
 sound values = do
   _ ← values
-  given (Ok Sound)
+  without_queries (Ok Sound)
 
 -- the finding of a list: all values exist, and the parts agree with each other
-abbrev pub parted : Inquiry (List Amount) → Inquiry Finding
-parted values = do
+abbrev pub list_finding : Inquiry (List Amount) → Inquiry Finding
+list_finding values = do
   parts ← values
-  given (Ok (parts_finding parts))
+  without_queries (Ok (parts_finding parts))
 
 abbrev pub prefix_answer : {A : Type 0} → Key → Result A ReplyFault → Result A ReplyFault
 prefix_answer k (Err (Name fault)) = Err (Name (prefix_fault k fault))
@@ -86,8 +86,8 @@ of_prefix k values = record { events = values.events; answer = prefix_answer k v
 
 module _ (table : Table) where
   -- a function is queried by a call of it, and only for faults of its names
-  abbrev pub names_of : Key → Inquiry (Unit {0})
-  names_of k = record {
+  abbrev pub names_finding : Key → Inquiry (Unit {0})
+  names_finding k = record {
     events = AsksWords (called_word k.name ∷ []) ∷ [];
     answer = names_answer (name_fault table (called_word k.name ∷ []));
   }
@@ -98,12 +98,12 @@ module _ (table : Table) where
   checked_by kind.Unit k values = sound values
   checked_by kind.Prefix k values = sound (of_prefix k values)
   checked_by kind.Func k values = do
-    _ ← names_of k
+    _ ← names_finding k
     sound values
-  checked_by kind.List k values = parted values
+  checked_by kind.List k values = list_finding values
 
-  abbrev pub checked : Key → Inquiry Finding
-  checked k = checked_by k.kind k (worths table (valued k k.kind (entry_at table k)))
+  abbrev pub key_finding : Key → Inquiry Finding
+  key_finding k = checked_by k.kind k (worths table (value_expressions k k.kind (entry_at table k)))
 
 -- a line that reports a text about a key
 abbrev pub told_line : Key → (text : List ℕ) → List ℕ
@@ -112,20 +112,20 @@ told_line k text = ((key_text k ++ codes ": ") ++ text) ++ codes "\n"
 -- the line for a finding; there is none if the key is sound
 abbrev pub finding_line : Style → Key → Result Finding ReplyFault → List ℕ
 finding_line style k (Ok Sound) = []
-finding_line style k (Ok Unlike) = told_line k (codes "conformability error")
+finding_line style k (Ok NonConforming) = told_line k (codes "conformability error")
 finding_line style k (Ok (NotPositive place)) = told_line k (fault_text style (ListUnit place))
 finding_line style k (Err fault) = told_line k (fault_text style fault)
 
 module _ (table : Table) where
   abbrev pub check_line : Style → Key → List ℕ
-  check_line style k = finding_line style k (checked table k).answer
+  check_line style k = finding_line style k (key_finding table k).answer
 
   -- the lines of some keys, and the queries that are made for them
   abbrev pub check_among : Style → List Key → List ℕ
   check_among style keys = flat_map (check_line style) keys
 
   abbrev pub queries_among : List Key → List Event
-  queries_among keys = flat_map (λ k. (checked table k).events) keys
+  queries_among keys = flat_map (λ k. (key_finding table k).events) keys
 
   -- the lines of all keys; all names are queried first
   abbrev pub check_report : Style → List ℕ

@@ -9,7 +9,7 @@ use Rattle.def_entry.specs.Tables.{Table}
 use Rattle.deck.specs.KeyLists.{of_kind, table_keys}
 use Rattle.live_table.specs.States.{Event}
 use Rattle.reply.specs.declared.fault.ReplyFault.{ReplyFault}
-use Rattle.reply.specs.Inquiries.{Inquiry, worth}
+use Rattle.reply.specs.Inquiries.{Inquiry, tree_value}
 use Rattle.survey.specs.Rows.{key_row, or_none}
 
 -- whether there is a value and it conforms
@@ -25,7 +25,7 @@ is_value_conforming from None = false
 module _ (table : Table) where
   -- a unit is queried by its word
   abbrev pub unit_worth : Key → Inquiry Amount
-  unit_worth k = worth table (Word k.name)
+  unit_worth k = tree_value table (Word k.name)
 
   -- the row of a unit, if its value conforms
   abbrev pub conforming_row : (from : Amount) → Key → List ℕ

@@ -1,4 +1,4 @@
-pub mod Asked
+pub mod ConversionReplies
 pub mod Calls
 pub mod Checks
 pub mod Conformable

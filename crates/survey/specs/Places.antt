@@ -7,9 +7,9 @@ use Rattle.deck.specs.Decks.{Contents}
 use Rattle.deck.specs.PlacedKeys.{key_there}
 
 -- what a key gives, if there is a key
-abbrev pub given_by : {A : Type 0} → (Key → List A) → Option Key → List A
-given_by f None = []
-given_by f (Some k) = f k
+abbrev pub given_by_key : {A : Type 0} → (Key → List A) → Option Key → List A
+given_by_key f None = []
+given_by_key f (Some k) = f k
 
 -- a key, if it is a unit
 abbrev pub unit_only : Option Key → Option Key

@@ -14,15 +14,15 @@ turned_to None chain = chain
 turned_to (Some place) chain = drop place chain ++ take place (drop 1 chain)
 
 -- a chain turned so that it begins and ends with a key, if it contains that key
-abbrev pub turned : Key → List Key → List Key
-turned k chain = turned_to (position (is_same k) chain) chain
+abbrev pub chain_from_key : Key → List Key → List Key
+chain_from_key k chain = turned_to (position (is_same k) chain) chain
 
 -- a name fault of the body of a prefix, as one of the prefix: a word of the body is reported as a word in the prefix,
 -- and a chain that contains the prefix begins and ends with it
 abbrev pub prefix_fault : Key → NameFault → NameFault
 prefix_fault k (Unknown word None) = Unknown word (Some k)
 prefix_fault k (Refused word None) = Refused word (Some k)
-prefix_fault k (Cycle chain) = Cycle (turned k chain)
+prefix_fault k (Cycle chain) = Cycle (chain_from_key k chain)
 prefix_fault k fault = fault
 
 -- law: turned in this way, the fault of the words of a key is the fault of the key itself

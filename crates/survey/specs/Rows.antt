@@ -6,13 +6,13 @@ use Rattle.def_entry.specs.Keys.{key_text}
 use Rattle.def_entry.specs.Tables.{Table, entry_at}
 
 -- a row: a tab, a name, a tab and a text
-abbrev pub row : (name text : List ℕ) → List ℕ
-row name text = (((codes "\t" ++ name) ++ codes "\t") ++ text) ++ codes "\n"
+abbrev pub row_text : (name text : List ℕ) → List ℕ
+row_text name text = (((codes "\t" ++ name) ++ codes "\t") ++ text) ++ codes "\n"
 
 -- the row of an entry, if there is one
 abbrev pub entry_row : (name : List ℕ) → Option Entry → List ℕ
 entry_row name None = []
-entry_row name (Some e) = row name e.text
+entry_row name (Some e) = row_text name e.text
 
 -- the row of a key, if it has an entry: the key in its written form, and the text of its entry
 abbrev pub key_row : Table → Key → List ℕ

@@ -3,7 +3,7 @@ use Rattle.std.specs.Prelude.{ℕ, List}
 use Rattle.std.specs.List.{filter, flat_map}
 use Rattle.def_entry.specs.declared.key.Key.{Key}
 use Rattle.def_entry.specs.Tables.{Table}
-use Rattle.deck.specs.Holding.{holds}
+use Rattle.deck.specs.SubstringKeys.{holds}
 use Rattle.deck.specs.KeyLists.{table_keys}
 use Rattle.survey.specs.Rows.{key_row, or_none}
 

@@ -3,11 +3,11 @@
 ghost use Rattle.std.specs.Prelude.{◌≡◌, ◌++◌, ◌<◌, ◌≤◌, IfOk, length, take};
 ghost use Rattle.deck.specs.PlacedKeys.{keys_there};
 ghost use Rattle.deck.specs.Tables as tables;
-ghost use Rattle.live_table.specs.Shown.{Follows, IsRightTable};
+ghost use Rattle.live_table.specs.TableView.{IsAfterEvents, IsRightTable};
 ghost use Rattle.reply.specs.Options.{IsPrintable, style_of};
 ghost use Rattle.survey.specs.Checks as spec;
 
-use crate::checking::put_check_at;
+use crate::key_checks::put_check_at;
 use live_table::LiveTable;
 use reply::Options;
 use std::alloc::{AllocError, Global};
@@ -35,7 +35,7 @@ pub fn put_check_block<L: Ledger>(
     ensures lines { IfOk result (λ n. lines.new.items ≡ lines.old.items
         ++ spec.check_among (tables.table table.old.deck) (style_of options.now)
         (keys_there table.old.deck.lines (take n places.now))) }
-    ensures queries { IfOk result (λ n. Follows
+    ensures queries { IfOk result (λ n. IsAfterEvents
         (spec.queries_among (tables.table table.old.deck) (keys_there table.old.deck.lines (take n places.now)))
         table.old table.new steps.old steps.new) }
     ensures deck { table.new.deck ≡ table.old.deck }

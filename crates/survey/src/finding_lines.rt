@@ -7,7 +7,7 @@ ghost use Rattle.reply.specs.Inquiries.{as_answer};
 ghost use Rattle.reply.specs.Options.{IsPrintable, style_of};
 ghost use Rattle.survey.specs.Checks as spec;
 
-use crate::finding::Finding;
+use crate::check_result::Finding;
 use crate::keys::put_key;
 use def_entry::Key;
 use live_table::QueryFault;
@@ -30,7 +30,7 @@ pub(crate) fn put_finding(
 {
     match found {
         Ok(Finding::Sound) => Ok(()),
-        Ok(Finding::Unlike) => put_told(text, key, b"conformability error"),
+        Ok(Finding::NonConforming) => put_told(text, key, b"conformability error"),
         Ok(Finding::NotPositive(place)) => {
             put_fault(alloc, text, options, key, &ReplyFault::List(place))
         }
@@ -53,7 +53,7 @@ fn put_fault(
     fault: &ReplyFault,
 ) -> Result<(), AllocError>
     requires printable { IsPrintable options.now }
-    requires told { faults.is_told fault.now ≡ true }
+    requires told { faults.is_reportable fault.now ≡ true }
     ensures { OnOk result (text.new.items
         ≡ text.old.items ++ spec.told_line key.now (faults.fault_text (style_of options.now) fault.now)) }
 {

@@ -8,7 +8,7 @@ use std::alloc::{AllocError, Global};
 use units_io::Text;
 
 /// Returns an owned copy of a key.
-pub(crate) fn copied(alloc: Global, kind: Kind, name: &[u8]) -> Result<Key, AllocError>
+pub(crate) fn copy_key(alloc: Global, kind: Kind, name: &[u8]) -> Result<Key, AllocError>
     ensures { IfOk result (λ copy. copy ≡ keys.key kind name.now) }
 {
     let name = Text::from_bytes(alloc, name)?;
@@ -17,7 +17,7 @@ pub(crate) fn copied(alloc: Global, kind: Kind, name: &[u8]) -> Result<Key, Allo
 
 /// Appends a key in its written form.
 pub(crate) fn put_key(text: &mut Vec<u8>, kind: Kind, name: &[u8]) -> Result<(), AllocError>
-    ensures { OnOk result (text.new.items ≡ text.old.items ++ keys.written kind name.now) }
+    ensures { OnOk result (text.new.items ≡ text.old.items ++ keys.key_spelling kind name.now) }
 {
     match kind {
         Kind::Unit => {

@@ -1,6 +1,6 @@
 //! Laws of reports.
 
-ghost use Rattle.survey.specs.Examples.{ExamplesLaw};
+ghost use Rattle.survey.specs.Examples.{SurveyExamplesLaw};
 ghost use Rattle.survey.specs.PrefixFaults.{PrefixLaw};
 
 /// If a name fault of the body of a prefix is reported as one of the prefix, it is the fault of the prefix itself.
@@ -10,5 +10,5 @@ pub fn prefix_law()
 
 /// The reports on a small table equal those worked out by hand.
 pub fn examples_law()
-    ensures { ExamplesLaw }
+    ensures { SurveyExamplesLaw }
 {}

@@ -1,23 +1,23 @@
 //! Reports on all definitions.
 #![tactic(auto)]
 
-mod asking;
 mod check_blocks;
-mod checking;
-mod conforming;
-mod finding;
+mod check_result;
+mod conformable_units;
 mod finding_lines;
+mod key_checks;
+mod key_expressions;
 mod keys;
 mod laws;
+mod name_search;
 mod prefix_faults;
-mod replying;
 mod rows;
-mod searching;
-mod valued;
+mod table_queries;
+mod units_reply;
 
 pub use check_blocks::put_check_block;
-pub use checking::{check_places, check_report};
-pub use conforming::conformable_report;
+pub use conformable_units::conformable_report;
+pub use key_checks::{check_places, check_report};
 pub use laws::{examples_law, prefix_law};
-pub use replying::conformable_reply;
-pub use searching::search_report;
+pub use name_search::search_report;
+pub use units_reply::conformable_reply;

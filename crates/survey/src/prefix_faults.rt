@@ -4,7 +4,7 @@ ghost use Rattle.std.specs.Prelude.{◌≡◌, ◌++◌, ◌<◌, IfOk, OnOk, dr
 ghost use Rattle.def_entry.specs.SameKeys as same_keys;
 ghost use Rattle.survey.specs.PrefixFaults as spec;
 
-use crate::keys::copied;
+use crate::keys::copy_key;
 use def_entry::{Key, Keys};
 use std::alloc::{AllocError, Global};
 use table_names::NameFault;
@@ -21,20 +21,20 @@ pub(crate) fn prefix_fault(
     match fault {
         NameFault::Unknown(word, None) => Ok(NameFault::Unknown(
             word,
-            Some(copied(alloc, prefix.kind, prefix.name.as_bytes())?),
+            Some(copy_key(alloc, prefix.kind, prefix.name.as_bytes())?),
         )),
         NameFault::Refused(word, None) => Ok(NameFault::Refused(
             word,
-            Some(copied(alloc, prefix.kind, prefix.name.as_bytes())?),
+            Some(copy_key(alloc, prefix.kind, prefix.name.as_bytes())?),
         )),
-        NameFault::Cycle(chain) => Ok(NameFault::Cycle(turned(alloc, prefix, chain)?)),
+        NameFault::Cycle(chain) => Ok(NameFault::Cycle(turn_chain(alloc, prefix, chain)?)),
         fault => Ok(fault),
     }
 }
 
 // Turns a chain so that it begins and ends with a key, if it contains that key.
-fn turned(alloc: Global, key: &Key, chain: Keys) -> Result<Keys, AllocError>
-    ensures { IfOk result (λ keys. keys ≡ spec.turned key.now chain) }
+fn turn_chain(alloc: Global, key: &Key, chain: Keys) -> Result<Keys, AllocError>
+    ensures { IfOk result (λ keys. keys ≡ spec.chain_from_key key.now chain) }
 {
     match place_of(key, chain.as_slice()) {
         Some(place) => turned_to(alloc, place, chain.as_slice()),
@@ -58,7 +58,7 @@ fn put_copies(alloc: Global, keys: &mut Keys, further: &[Key]) -> Result<(), All
     ensures { OnOk result (keys.new ≡ keys.old ++ further.now) }
 {
     for key in further {
-        keys.push(alloc, copied(alloc, key.kind, key.name.as_bytes())?)?;
+        keys.push(alloc, copy_key(alloc, key.kind, key.name.as_bytes())?)?;
     }
     Ok(())
 }

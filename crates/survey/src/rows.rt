@@ -4,7 +4,7 @@ ghost use Rattle.std.specs.Prelude.{◌≡◌, ◌++◌, IfOk, OnOk};
 ghost use Rattle.def_entry.specs.Keys.{key_text};
 ghost use Rattle.deck.specs.PlacedKeys.{key_there, lent_key};
 ghost use Rattle.deck.specs.Tables as tables;
-ghost use Rattle.survey.specs.Places.{given_by};
+ghost use Rattle.survey.specs.Places.{given_by_key};
 ghost use Rattle.survey.specs.Rows as spec;
 
 use crate::keys::put_key;
@@ -15,7 +15,7 @@ use units_io::Text;
 /// Appends the row of the key that the line at `place` defines, if it defines one.
 pub(crate) fn put_row_there(text: &mut Vec<u8>, deck: &Deck, place: usize) -> Result<(), AllocError>
     ensures { OnOk result (text.new.items ≡ text.old.items
-        ++ given_by (spec.key_row (tables.table deck.now)) (key_there deck.now.lines place)) }
+        ++ given_by_key (spec.key_row (tables.table deck.now)) (key_there deck.now.lines place)) }
 {
     match deck.key_at(place) {
         Some(key) => put_key_row(text, deck, place, key),
@@ -34,7 +34,7 @@ fn put_key_row(
     ensures { OnOk result (text.new.items
         ≡ text.old.items ++ spec.key_row (tables.table deck.now) (lent_key key.entry)) }
 {
-    match deck.entry_near(near, key.kind, key.name) {
+    match deck.entry_with_hint(near, key.kind, key.name) {
         Some(entry) => put_row(text, key, entry.text()),
         None => Ok(()),
     }
@@ -42,7 +42,7 @@ fn put_key_row(
 
 // Appends a row.
 fn put_row(text: &mut Vec<u8>, key: BorrowedKey<'_>, entry: &[u8]) -> Result<(), AllocError>
-    ensures { OnOk result (text.new.items ≡ text.old.items ++ spec.row (key_text (lent_key key.entry)) entry.now) }
+    ensures { OnOk result (text.new.items ≡ text.old.items ++ spec.row_text (key_text (lent_key key.entry)) entry.now) }
 {
     text.extend_from_slice(b"\t".as_slice())?;
     put_key(text, key.kind, key.name)?;

@@ -1,8 +1,8 @@
 //! An edited table behind a nullable pointer.
 
 ghost use Rattle.std.specs.Prelude.{◌≡◌, IfOk, Option, None, Some};
-ghost use Rattle.edited_table.specs.Edited.{Edited};
-ghost use Rattle.table_handle.specs.Owned.{edited_coded, handle_owns};
+ghost use Rattle.edited_table.specs.TableValue.{Edited};
+ghost use Rattle.table_handle.specs.HandleResources.{edited_coded, handle_owns};
 
 use crate::parts::Parts;
 use edited_table::EditedTable;

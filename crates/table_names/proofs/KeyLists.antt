@@ -5,7 +5,7 @@ use Rattle.std.proofs.lemmas.Bool.{false_from_ne_true, or_cases, or_from}
 use Rattle.std.proofs.lemmas.List.Folds.{list_any-append}
 use Rattle.std.proofs.lemmas.Map.Views.{Contains-from_any, list_any-from_Contains}
 use Rattle.def_entry.specs.declared.key.Key.{Key}
-use Rattle.def_entry.specs.SameKeys.{is_among, is_same}
+use Rattle.def_entry.specs.SameKeys.{is_key_among, is_same}
 use Rattle.def_entry.proofs.SameKeys.{same_keys}
 
 -- keys that are tested as the same are equal
@@ -29,15 +29,16 @@ same_laws = record {
 }
 
 -- a key that a list contains passes the membership test
-pub among_member : (keys : List Key) (k : Key) → Contains keys k → is_among keys k ≡ true
+pub among_member : (keys : List Key) (k : Key) → Contains keys k → is_key_among keys k ≡ true
 among_member keys k i = list_any-from_Contains same_laws k keys i
 
 -- a list contains each key that passes the membership test
-pub member_among : (keys : List Key) (k : Key) → is_among keys k ≡ true → Contains keys k
+pub member_among : (keys : List Key) (k : Key) → is_key_among keys k ≡ true → Contains keys k
 member_among keys k e = Contains-from_any one_key k keys e
 
 -- a key on an extended path is on the path or is the added key
-pub on_longer : (path : List Key) (n k : Key) → is_among (path ++ n ∷ []) k ≡ true → (is_among path k ≡ true) ⊎ (k ≡ n)
+pub on_longer : (path : List Key) (n k : Key) → is_key_among (path ++ n ∷ []) k ≡ true
+    → (is_key_among path k ≡ true) ⊎ (k ≡ n)
 on_longer path n k e =
     elim (or_cases _ _ (sym (list_any-append (is_same k) path (n ∷ [])) ∙ e)) [
       | inl q ↦ inl q
@@ -45,9 +46,9 @@ on_longer path n k e =
     ]
 
 -- a key that is not on a path and differs from the added key is not on the extended path
-pub off_longer : (path : List Key) (n k : Key) → is_among path k ≡ false → (k ≡ n → ⊥)
-    → is_among (path ++ n ∷ []) k ≡ false
+pub off_longer : (path : List Key) (n k : Key) → is_key_among path k ≡ false → (k ≡ n → ⊥)
+    → is_key_among (path ++ n ∷ []) k ≡ false
 off_longer path n k off other =
     list_any-append (is_same k) path (n ∷ [])
-    ∙ or_from (is_among path k) _ off
+    ∙ or_from (is_key_among path k) _ off
     (or_from (is_same k n) false (false_from_ne_true (is_same k n) (λ e. other (one_key k n e))) refl)

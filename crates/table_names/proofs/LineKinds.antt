@@ -2,7 +2,7 @@
 use Rattle.std.proofs.Common.{◌≡◌, ℕ, Bool, true, false, cond, List, [], ◌∷◌, Some, None, Result, Ok, Err, refl, subst}
 use Rattle.expr_tree.specs.Syntax.{Syntax}
 use Rattle.std.specs.List.{slice_split}
-use Rattle.def_lines.specs.Blanks.{trimmed}
+use Rattle.def_lines.specs.Blanks.{trim_of}
 use Rattle.units_io.specs.Outcomes.{◌>>=◌}
 use Rattle.def_entry.specs.declared.fault.EntryFault.{EntryFault}
 use Rattle.def_entry.specs.declared.fault.EntryFault.TheVariants.{BadForm}
@@ -12,12 +12,12 @@ use Rattle.def_entry.specs.declared.key.Kind.TheVariants as kind
 use Rattle.def_entry.specs.Cuts.{cut_at}
 use Rattle.def_entry.specs.Entries as what
 use Rattle.def_entry.specs.Entries.{Entry, What}
-use Rattle.def_entry.specs.Headings.{Heading, heading}
+use Rattle.def_entry.specs.Headings.{Heading, head_of_line}
 use Rattle.def_entry.specs.Forms.{form_of}
 use Rattle.def_entry.specs.Keys.{key}
-use Rattle.def_entry.specs.Outcomes.{named, or_fault, tree_in}
-use Rattle.def_entry.specs.Reading as read
-use Rattle.def_entry.specs.Reading.{entry_of, what_in, what_of}
+use Rattle.def_entry.specs.Outcomes.{entry_tree, name_or_fault, or_fault}
+use Rattle.def_entry.specs.EntryReading as read
+use Rattle.def_entry.specs.EntryReading.{entry_of, what_in, what_of}
 use Rattle.table_names.specs.Kinds.{may_say}
 
 -- a result, if it is `Ok`, is a definition that a key of this kind may have
@@ -42,7 +42,8 @@ module _ (k : Kind) where
 
   body_says : ((e : Syntax) → may_say k (what.Body e) ≡ true) → (text : List ℕ) → Says k (read.body_in text)
   body_says h text =
-      then_says (read.wanted text) _ (λ body. then_says (tree_in None body) _ (λ tree. told (what.Body tree) (h tree)))
+      then_says (read.nonempty_text text) _
+      (λ body. then_says (entry_tree None body) _ (λ tree. told (what.Body tree) (h tree)))
 
 -- the text of a unit gives a definition that a unit may have
 unit_says : (text : List ℕ) → Says kind.Unit (read.unit_in text)
@@ -53,25 +54,25 @@ unit_says text =
 -- the text of an alias gives a definition that a function may have
 alias_says : (text : List ℕ) → Says kind.Func (read.alias_in text)
 alias_says text =
-    then_says kind.Func (read.wanted (read.without_call (trimmed text))) _ (λ target.
-    then_says kind.Func (named target) _ (λ name. told kind.Func (what.Alias name) refl))
+    then_says kind.Func (read.nonempty_text (read.without_call (trim_of text))) _ (λ target.
+    then_says kind.Func (name_or_fault target) _ (λ name. told kind.Func (what.Alias name) refl))
 
 -- the text of a function after its parameter gives a definition that a function may have
 call_says : (name inside behind : List ℕ) → Says kind.Func (read.call_in name inside behind)
 call_says name [] behind = alias_says behind
 call_says name (b ∷ bytes) behind =
-    then_says kind.Func (named (b ∷ bytes)) _ (λ parameter.
+    then_says kind.Func (name_or_fault (b ∷ bytes)) _ (λ parameter.
     then_says kind.Func (or_fault BadForm (form_of behind)) _ (λ form.
     then_says kind.Func (read.units_in form.options.units) _ (λ units.
-    then_says kind.Func (tree_in (Some parameter) form.forward) _ (λ forward.
+    then_says kind.Func (entry_tree (Some parameter) form.forward) _ (λ forward.
     then_says kind.Func (read.inverse_in name form.inverse) _ (λ inverse.
     told kind.Func (read.function form units forward inverse) refl)))))
 
 -- the text of a table after its unit gives a definition that a function may have
 table_says : (text behind : List ℕ) → Says kind.Func (read.table_in text behind)
 table_says text behind =
-    then_says kind.Func (read.wanted text) _ (λ unit. then_says kind.Func (read.points_in behind) _ (λ points.
-    then_says kind.Func (tree_in None unit) _ (λ tree.
+    then_says kind.Func (read.nonempty_text text) _ (λ unit. then_says kind.Func (read.points_in behind) _ (λ points.
+    then_says kind.Func (entry_tree None unit) _ (λ tree.
     told kind.Func (what.Table (record { unit = tree; points = points })) refl)))
 
 -- the text of a function, alias or table gives a definition that a function may have
@@ -79,14 +80,14 @@ func_says : (name text : List ℕ) → Says kind.Func (read.func_in name text)
 func_says name [] = not_told kind.Func _
 func_says name (b ∷ text) =
     either_says kind.Func _ _ _
-    (then_says kind.Func (or_fault BadForm (cut_at 41 text)) _ (λ parts. call_says name (trimmed parts.0) parts.1))
-    (then_says kind.Func (or_fault BadForm (cut_at 93 text)) _ (λ parts. table_says (trimmed parts.0) parts.1))
+    (then_says kind.Func (or_fault BadForm (cut_at 41 text)) _ (λ parts. call_says name (trim_of parts.0) parts.1))
+    (then_says kind.Func (or_fault BadForm (cut_at 93 text)) _ (λ parts. table_says (trim_of parts.0) parts.1))
 
 -- the text of a list gives a definition that a list may have
 list_says : (text : List ℕ) → Says kind.List (read.list_in text)
 list_says text =
-    then_says kind.List (read.wanted text) _ (λ parts.
-    then_says kind.List (read.trees_in (slice_split read.is_semicolon parts)) _
+    then_says kind.List (read.nonempty_text text) _ (λ parts.
+    then_says kind.List (read.entry_trees (slice_split read.is_semicolon parts)) _
     (λ trees. told kind.List (what.ListOf trees) refl))
 
 -- the text for a key of each kind gives a definition that the key may have
@@ -115,4 +116,5 @@ entry_says h (Err fault) says k e is = cc
 
 -- the entry of each line has a definition that its key may have
 pub line_says : (line : List ℕ) (k : Key) (e : Entry) → entry_of line ≡ Ok (k, e) → may_say k.kind e.what ≡ true
-line_says line k e is = entry_says (heading line) (what_of (heading line)) (heading_says (heading line)) k e is
+line_says line k e is = entry_says (head_of_line line) (what_of (head_of_line line)) (heading_says (head_of_line line))
+    k e is

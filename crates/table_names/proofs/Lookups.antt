@@ -3,7 +3,7 @@ use Rattle.std.proofs.Common.{sym, ◌≡◌, ◌∙◌, true, Contains}
 use Rattle.std.proofs.lemmas.Map.Made.{is_some-lookup}
 use Rattle.expr_tree.specs.declared.word_list.WordUse.{WordUse}
 use Rattle.def_entry.specs.declared.key.Key.{Key}
-use Rattle.def_entry.specs.SameKeys.{is_among, is_same}
+use Rattle.def_entry.specs.SameKeys.{is_key_among, is_same}
 use Rattle.def_entry.specs.Tables.{Table, is_present, keys_of}
 use Rattle.name_lookup.proofs.Candidates.{candidates_law}
 use Rattle.name_lookup.proofs.Plans.{same_answers, targets_are_present}
@@ -28,6 +28,6 @@ same_lookup before after u h = same_answers (is_present before) (is_present afte
 -- the law of lookup by the keys of the entries
 pub lookup_law : LookupLaw
 lookup_law table u =
-    candidates_law (is_among (keys_of table)) u.kind u.text
-    ∙ same_answers (is_among (keys_of table)) (is_present table) u.kind u.text
+    candidates_law (is_key_among (keys_of table)) u.kind u.text
+    ∙ same_answers (is_key_among (keys_of table)) (is_present table) u.kind u.text
     (λ k i. sym (is_some-lookup (is_same k) table))

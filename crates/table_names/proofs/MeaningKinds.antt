@@ -11,15 +11,15 @@ use Rattle.def_entry.specs.Keys.{key}
 use Rattle.def_entry.specs.SameKeys.{is_same_kind}
 use Rattle.def_entry.specs.Tables.{Table, entry_at, is_present}
 use Rattle.tree_eval.specs.Entries.{alias, meaning_of}
-use Rattle.tree_eval.specs.Expanded.{Callee, Expanded, Meaning, One, Two}
+use Rattle.tree_eval.specs.Expansions.{Callee, Expanded, Meaning, One, Two}
 use Rattle.tree_eval.specs.Expansion.{inverted_word}
-use Rattle.table_names.specs.Closed.{IsClosed, LeadsInto}
+use Rattle.table_names.specs.ClosedKeys.{IsClosed, WordLeadsInto}
 use Rattle.table_names.specs.Kinds.{FitsKinds, ForOne, ForTwo, KindLaw, StandsForTargets, may_mean, may_say}
 use Rattle.table_names.specs.Leads.{targets}
 use Rattle.table_names.specs.Meanings.{entry_meaning, key_meaning, meaning_within, targets_meaning, word_meaning}
 use Rattle.table_names.specs.Meanings.{word_meaning_by}
 use Rattle.table_names.specs.Words.{entry_words, key_words, what_words}
-use Rattle.table_names.proofs.Ending.{EndsWithin, into_others}
+use Rattle.table_names.proofs.EndingWays.{EndsWithin, into_others}
 use Rattle.table_names.proofs.LineKinds.{line_says}
 use Rattle.table_names.proofs.Lookups.{target_present}
 use Rattle.table_names.proofs.Members.{member_first, member_later}
@@ -79,7 +79,7 @@ one_expression k (Callee f) e h = cc
 module _ (table : Table) (fits : FitsKinds table) where
   -- a word after a `~` means a function if its targets mean what their kinds may mean
   inverse_means :
-      (mean : Key → Meaning) (w : List ℕ) → LeadsInto table (λ m. may_mean m.kind (mean m) ≡ true) (inverted_word w)
+      (mean : Key → Meaning) (w : List ℕ) → WordLeadsInto table (λ m. may_mean m.kind (mean m) ≡ true) (inverted_word w)
       → may_mean kind.Func (word_meaning_by table mean (inverted_word w)) ≡ true
   inverse_means mean w h =
       let f : Key = key kind.Func w in
@@ -91,7 +91,7 @@ module _ (table : Table) (fits : FitsKinds table) where
   -- a key means what its kind may mean if the targets of its words do
   entry_means :
       (mean : Key → Meaning) (n : Key) → is_present table n ≡ true
-      → ((u : WordUse) → Contains (key_words table n) u → LeadsInto table (λ m. may_mean m.kind (mean m) ≡ true) u)
+      → ((u : WordUse) → Contains (key_words table n) u → WordLeadsInto table (λ m. may_mean m.kind (mean m) ≡ true) u)
       → may_mean n.kind (entry_meaning (word_meaning_by table mean) n.name (entry_at table n)) ≡ true
   entry_means mean n there leads = by (entry_at table n) refl there
     where
@@ -124,19 +124,19 @@ module _ (table : Table) (fits : FitsKinds table) where
   key_means n there closed = keys_mean (length table) n (present_key_ending table n there closed) there
 
   target_means :
-      (u : WordUse) → LeadsInto table (IsClosed table) u → (n : Key) → Contains (targets table u) n
+      (u : WordUse) → WordLeadsInto table (IsClosed table) u → (n : Key) → Contains (targets table u) n
       → may_mean n.kind (key_meaning table n) ≡ true
   target_means u h n t = key_means n (target_present table u n t) (h.into n t)
 
   closed_inverse :
-      (w : List ℕ) → LeadsInto table (IsClosed table) (inverted_word w)
+      (w : List ℕ) → WordLeadsInto table (IsClosed table) (inverted_word w)
       → may_mean kind.Func (word_meaning table (inverted_word w)) ≡ true
   closed_inverse w h =
       inverse_means (key_meaning table) w
       (into_others table (IsClosed table) (λ m. may_mean m.kind (key_meaning table m) ≡ true) (inverted_word w)
       (λ m t e. target_means (inverted_word w) h m t) h)
 
-  word_stands : (u : WordUse) → LeadsInto table (IsClosed table) u → StandsForTargets table u
+  word_stands : (u : WordUse) → WordLeadsInto table (IsClosed table) u → StandsForTargets table u
   word_stands u h = by (targets table u) refl (are_targets table u)
     where
       of_targets : List Key → Meaning

@@ -11,15 +11,15 @@ use Rattle.def_entry.specs.Tables.{Table, entry_at, is_present}
 use Rattle.tree_eval.specs.declared.holder.Part.{Part}
 use Rattle.tree_eval.specs.declared.holder.Part.TheVariants as part
 use Rattle.tree_eval.specs.Entries.{function_words, part_words, words_if}
-use Rattle.tree_eval.specs.Expanded.{Meaning}
+use Rattle.tree_eval.specs.Expansions.{Meaning}
 use Rattle.tree_eval.proofs.Same.{meaning_same}
 use Rattle.expr_tree.specs.Words.{words_in}
-use Rattle.table_names.specs.Closed.{IsClosed}
+use Rattle.table_names.specs.ClosedKeys.{IsClosed}
 use Rattle.table_names.specs.Leads.{targets}
 use Rattle.table_names.specs.Meanings.{ClosedMeaningLaw, entry_meaning, key_meaning}
-use Rattle.table_names.specs.Meanings.{meaning_within, nothing, targets_meaning, word_meaning_by}
+use Rattle.table_names.specs.Meanings.{meaning_within, one_meaning, targets_meaning, word_meaning_by}
 use Rattle.table_names.specs.Words.{entry_words, what_words}
-use Rattle.table_names.proofs.Ending.{EndsWithin}
+use Rattle.table_names.proofs.EndingWays.{EndsWithin}
 use Rattle.table_names.proofs.Members.{map_same, member_at, no_member}
 use Rattle.table_names.proofs.Paths.{closed_key_ending, present_key_ending}
 
@@ -81,7 +81,7 @@ entry_same means other name (Some e) h =
 
 -- a key without an entry means 1
 absent_meaning : (means : WordUse → Meaning) (name : List ℕ) (o : Option Entry) → is_some o ≡ false
-    → entry_meaning means name o ≡ nothing
+    → entry_meaning means name o ≡ one_meaning
 absent_meaning means name None e = refl
 absent_meaning means name (Some x) e = cc
 
@@ -97,7 +97,7 @@ module _ (table : Table) where
       (λ u i. ap targets_meaning (map_same (meaning_within table j) (meaning_within table k) (targets table u)
       (λ m t. meaning_at j k m ((f u i).into m t) ((g u i).into m t))))
 
-  absent_within : (k : ℕ) (n : Key) → is_present table n ≡ false → meaning_within table k n ≡ nothing
+  absent_within : (k : ℕ) (n : Key) → is_present table n ≡ false → meaning_within table k n ≡ one_meaning
   absent_within zero n e = refl
   absent_within (suc k) n e =
       absent_meaning (word_meaning_by table (meaning_within table k)) n.name (entry_at table n) e

@@ -4,12 +4,13 @@ use Rattle.std.proofs.Common.{Contains, Option, Some, refl, sym, ◌∙◌, ap, 
 use Rattle.expr_tree.specs.declared.word_list.WordUse.{WordUse}
 use Rattle.expr_tree.specs.Names.{is_refused}
 use Rattle.def_entry.specs.declared.key.Key.{Key}
-use Rattle.def_entry.specs.SameKeys.{is_among}
+use Rattle.def_entry.specs.SameKeys.{is_key_among}
 use Rattle.def_entry.specs.Tables.{Table}
 use Rattle.table_names.specs.declared.fault.NameFault.{NameFault}
 use Rattle.table_names.specs.declared.fault.NameFault.TheVariants.{Cycle, Refused}
-use Rattle.table_names.specs.FaultLaws.{FaultLaw, IsFault, IsPath}
-use Rattle.table_names.specs.Faults.{Deeper, chain, fault, fault_within, last, target_fault, targets_fault, word_fault}
+use Rattle.table_names.specs.FaultLaws.{IsKeyPath, IsWordsFault, WordsFaultLaw}
+use Rattle.table_names.specs.Faults.{Deeper, cycle_chain, key_fault_within, last, target_fault, targets_fault}
+use Rattle.table_names.specs.Faults.{word_fault, words_fault}
 use Rattle.table_names.specs.Leads.{targets}
 use Rattle.table_names.specs.Words.{key_words}
 use Rattle.table_names.proofs.Lookups.{target_present}
@@ -29,64 +30,66 @@ module _ (table : Table) where
   -- the fault of a word depends on deeper faults only in the entries of targets that are not on the path
   word_same :
       (f g : Deeper) (path : List Key) (u : WordUse)
-      → ((n : Key) → Contains (targets table u) n → is_among path n ≡ false
+      → ((n : Key) → Contains (targets table u) n → is_key_among path n ≡ false
       → f (path ++ n ∷ []) n ≡ g (path ++ n ∷ []) n)
       → word_fault table f path u ≡ word_fault table g path u
   word_same f g path u h =
       ap (λ o. cond (is_refused u.text) (Some (Refused u.text (last path))) o) (targets_same (targets table u) h)
     where
       targets_same :
-          (ns : List Key) → ((n : Key) → Contains ns n → is_among path n ≡ false
+          (ns : List Key) → ((n : Key) → Contains ns n → is_key_among path n ≡ false
           → f (path ++ n ∷ []) n ≡ g (path ++ n ∷ []) n)
           → targets_fault table f path u ns ≡ targets_fault table g path u ns
       targets_same [] e = refl
       targets_same (n ∷ ns) e =
           first_same (target_fault table f path) (target_fault table g path) (n ∷ ns)
-          (λ m i. unless (is_among path m) (Some (Cycle (chain m path))) (f (path ++ m ∷ []) m) (g (path ++ m ∷ []) m)
+          (λ m i. unless (is_key_among path m) (Some (Cycle (cycle_chain m path))) (f (path ++ m ∷ []) m)
+          (g (path ++ m ∷ []) m)
           (e m i))
 
   -- the bound on depth is large enough for the keys that are not on the path
   room_left :
-      (path : List Key) (n : Key) → IsPath table (path ++ n ∷ [])
-      → fault_within table (length table - length path) (path ++ n ∷ []) n
-      ≡ fault table (path ++ n ∷ []) (key_words table n)
+      (path : List Key) (n : Key) → IsKeyPath table (path ++ n ∷ [])
+      → key_fault_within table (length table - length path) (path ++ n ∷ []) n
+      ≡ words_fault table (path ++ n ∷ []) (key_words table n)
   room_left path n is =
       let l : length (path ++ n ∷ []) ≤ length table = short table (path ++ n ∷ []) is in
       let left : length table - length path ≡ suc (length table - length (path ++ n ∷ [])) =
       omega (arith, length-append path (n ∷ [])) in
-      ap (λ k. fault_within table k (path ++ n ∷ []) n) left
+      ap (λ k. key_fault_within table k (path ++ n ∷ []) n) left
 
-  fault_is : IsFault table (fault table)
+  fault_is : IsWordsFault table (words_fault table)
   fault_is path words is =
-      first_same (word_fault table (fault_within table (length table - length path)) path)
-      (word_fault table (by_words table (fault table)) path) words
-      (λ u i. word_same (fault_within table (length table - length path)) (by_words table (fault table)) path u
+      first_same (word_fault table (key_fault_within table (length table - length path)) path)
+      (word_fault table (by_words table (words_fault table)) path) words
+      (λ u i. word_same (key_fault_within table (length table - length path)) (by_words table (words_fault table)) path
+      u
       (λ n t off. room_left path n (longer table path n is off (target_present table u n t))))
 
   -- two functions that satisfy the recursion agree, by induction over the number of keys that are not on the path
   one_by :
-      (f : List Key → List WordUse → Option NameFault) → IsFault table f
-      → (k : ℕ) (path : List Key) (words : List WordUse) → IsPath table path → length path + k ≡ length table + 1
-      → f path words ≡ fault table path words
+      (f : List Key → List WordUse → Option NameFault) → IsWordsFault table f
+      → (k : ℕ) (path : List Key) (words : List WordUse) → IsKeyPath table path → length path + k ≡ length table + 1
+      → f path words ≡ words_fault table path words
   one_by f is zero path words p room = absurd (let l : length path ≤ length table = short table path p in omega arith)
   one_by f is (suc k) path words p room =
       is path words p
       ∙ (first_same (word_fault table (by_words table f) path)
-      (word_fault table (by_words table (fault table)) path) words
-      (λ u i. word_same (by_words table f) (by_words table (fault table)) path u
+      (word_fault table (by_words table (words_fault table)) path) words
+      (λ u i. word_same (by_words table f) (by_words table (words_fault table)) path u
       (λ n t off. one_by f is k (path ++ n ∷ []) (key_words table n)
       (longer table path n p off (target_present table u n t))
       (omega (arith, length-append path (n ∷ [])))))
       ∙ sym (fault_is path words p))
 
   one_is :
-      (f : List Key → List WordUse → Option NameFault) → IsFault table f
-      → (path : List Key) (words : List WordUse) → IsPath table path → f path words ≡ fault table path words
+      (f : List Key → List WordUse → Option NameFault) → IsWordsFault table f
+      → (path : List Key) (words : List WordUse) → IsKeyPath table path → f path words ≡ words_fault table path words
   one_is f is path words p =
       let l : length path ≤ length table = short table path p in
       let e : length path + (length table + 1 - length path) ≡ length table + 1 = omega arith in
       one_by f is (length table + 1 - length path) path words p e
 
 -- the law of the name fault
-pub fault_law : FaultLaw
+pub fault_law : WordsFaultLaw
 fault_law = record { is = fault_is; one = one_is }

@@ -10,14 +10,14 @@ use Rattle.expr_tree.specs.declared.word_list.WordUse.{WordUse}
 use Rattle.expr_tree.specs.Names.{is_refused}
 use Rattle.def_entry.specs.declared.key.Key.{Key}
 use Rattle.def_entry.specs.Entries.{Entry}
-use Rattle.def_entry.specs.SameKeys.{is_among, is_same}
+use Rattle.def_entry.specs.SameKeys.{is_key_among, is_same}
 use Rattle.def_entry.specs.Tables.{Table, entry_at, is_present}
-use Rattle.table_names.specs.Closed.{AreClosed, IsClosed, LeadsInto}
-use Rattle.table_names.specs.FaultLaws.{IsPath, PathLaw}
-use Rattle.table_names.specs.Faults.{fault_within, first, target_fault, targets_fault, word_fault}
+use Rattle.table_names.specs.ClosedKeys.{AreClosed, IsClosed, WordLeadsInto}
+use Rattle.table_names.specs.FaultLaws.{IsKeyPath, KeyPathLaw}
+use Rattle.table_names.specs.Faults.{first, key_fault_within, target_fault, targets_fault, word_fault}
 use Rattle.table_names.specs.Leads.{Reaches, WordsLeadTo, WordsReach, at_once, further, targets}
 use Rattle.table_names.specs.Words.{entry_words, key_words}
-use Rattle.table_names.proofs.Ending.{AreEnding, EndsWithin, no_loop, words_end}
+use Rattle.table_names.proofs.EndingWays.{AreEnding, EndsWithin, no_loop, words_end}
 use Rattle.table_names.proofs.KeyLists.{off_longer, on_longer, same_laws}
 use Rattle.table_names.proofs.Lookups.{target_present}
 use Rattle.table_names.proofs.Members.{none_first}
@@ -33,12 +33,12 @@ no_words None e = refl
 no_words (Some x) e = cc
 
 module _ (table : Table) where
-  pub empty : IsPath table []
+  pub empty : IsKeyPath table []
   empty = record { distinct = nothing_twice; present = λ k e. cc }
 
   pub longer :
-      (path : List Key) (n : Key) → IsPath table path → is_among path n ≡ false → is_present table n ≡ true
-      → IsPath table (path ++ n ∷ [])
+      (path : List Key) (n : Key) → IsKeyPath table path → is_key_among path n ≡ false → is_present table n ≡ true
+      → IsKeyPath table (path ++ n ∷ [])
   longer path n is off there = record {
     distinct = IsDistinct-push same_laws path n is.distinct off;
     present = λ k e. elim (on_longer path n k e) [
@@ -47,12 +47,12 @@ module _ (table : Table) where
     ];
   }
 
-  pub short : (path : List Key) → IsPath table path → length path ≤ length table
+  pub short : (path : List Key) → IsKeyPath table path → length path ≤ length table
   short path is = length-le_from_keys same_laws path table is.distinct is.present
 
   -- no key that words reach is on the path
   abbrev IsClear : List Key → List WordUse → Type 0
-  IsClear path words = (m : Key) → WordsReach table words m → is_among path m ≡ false
+  IsClear path words = (m : Key) → WordsReach table words m → is_key_among path m ≡ false
 
   clear_below :
       (j : ℕ) (path : List Key) (words : List WordUse) (m : Key)
@@ -65,31 +65,32 @@ module _ (table : Table) where
   -- words whose descents end and reach no key on the path have no fault if none is met in the entries of their targets
   words_pass :
       (j k : ℕ) (path : List Key) (words : List WordUse)
-      → AreEnding table j words → IsPath table path → IsClear path words
-      → ((m : Key) → EndsWithin table j m → IsPath table (path ++ m ∷ []) → IsClear (path ++ m ∷ []) (key_words table m)
-      → fault_within table k (path ++ m ∷ []) m ≡ None)
-      → first (word_fault table (fault_within table k) path) words ≡ None
+      → AreEnding table j words → IsKeyPath table path → IsClear path words
+      → ((m : Key) → EndsWithin table j m → IsKeyPath table (path ++ m ∷ [])
+      → IsClear (path ++ m ∷ []) (key_words table m)
+      → key_fault_within table k (path ++ m ∷ []) m ≡ None)
+      → first (word_fault table (key_fault_within table k) path) words ≡ None
   words_pass j k path words ends is clear deeper =
-      none_first (word_fault table (fault_within table k) path) words (λ u i.
-      let h : LeadsInto table (EndsWithin table j) u = ends u i in
-      cond-false (is_refused u.text) _ _ h.accepted
+      none_first (word_fault table (key_fault_within table k) path) words (λ u i.
+      let h : WordLeadsInto table (EndsWithin table j) u = ends u i in
+      cond-false (is_refused u.text) _ _ h.is_accepted
       ∙ targets_pass u (targets table u) h.known (λ m t.
-      let off : is_among path m ≡ false = clear m (at_once (u, i, t)) in
-      cond-false (is_among path m) _ _ off
+      let off : is_key_among path m ≡ false = clear m (at_once (u, i, t)) in
+      cond-false (is_key_among path m) _ _ off
       ∙ deeper m (h.into m t) (longer path m is off (target_present table u m t))
       (clear_below j path words m (h.into m t) clear (u, i, t))))
     where
       targets_pass :
           (u : WordUse) (ns : List Key) → ns ≢ []
-          → ((m : Key) → Contains ns m → target_fault table (fault_within table k) path m ≡ None)
-          → targets_fault table (fault_within table k) path u ns ≡ None
+          → ((m : Key) → Contains ns m → target_fault table (key_fault_within table k) path m ≡ None)
+          → targets_fault table (key_fault_within table k) path u ns ≡ None
       targets_pass u [] some h = absurd (some refl)
-      targets_pass u (n ∷ ns) some h = none_first (target_fault table (fault_within table k) path) (n ∷ ns) h
+      targets_pass u (n ∷ ns) some h = none_first (target_fault table (key_fault_within table k) path) (n ∷ ns) h
 
   key_passes :
       (j k : ℕ) (path : List Key) (n : Key)
-      → EndsWithin table j n → IsPath table path → IsClear path (key_words table n)
-      → length path + k ≡ length table + 1 → fault_within table k path n ≡ None
+      → EndsWithin table j n → IsKeyPath table path → IsClear path (key_words table n)
+      → length path + k ≡ length table + 1 → key_fault_within table k path n ≡ None
   key_passes zero k path n ends is clear room = absurd ends
   key_passes (suc j) zero path n ends is clear room =
       absurd (let l : length path ≤ length table = short path is in omega arith)
@@ -100,8 +101,9 @@ module _ (table : Table) where
   -- words whose descents end and reach no key on a path have no fault after it
   pub no_fault :
       (j : ℕ) (path : List Key) (words : List WordUse)
-      → AreEnding table j words → IsPath table path → ((m : Key) → WordsReach table words m → is_among path m ≡ false)
-      → first (word_fault table (fault_within table (length table - length path)) path) words ≡ None
+      → AreEnding table j words → IsKeyPath table path
+      → ((m : Key) → WordsReach table words m → is_key_among path m ≡ false)
+      → first (word_fault table (key_fault_within table (length table - length path)) path) words ≡ None
   no_fault j path words ends is clear =
       let l : length path ≤ length table = short path is in
       words_pass j (length table - length path) path words ends is clear (λ m e p c.
@@ -112,7 +114,7 @@ module _ (table : Table) where
   closed_ending words e =
       let z : length table - 0 ≡ length table = omega arith in
       words_end table (length table) [] words
-      (subst (λ k. first (word_fault table (fault_within table k) []) words ≡ None) z e)
+      (subst (λ k. first (word_fault table (key_fault_within table k) []) words ≡ None) z e)
 
   pub ending_closed : (j : ℕ) (words : List WordUse) → AreEnding table j words → AreClosed table words
   ending_closed j words ends = no_fault j [] words ends empty (λ m r. refl)
@@ -134,7 +136,7 @@ module _ (table : Table) where
             (longer [] n empty refl there) (alone_clear (suc (length table)) n (closed_ending (key_words table n) e))
         | inr absent ↦
             let none : key_words table n ≡ [] = no_words (entry_at table n) absent in
-            subst (λ ws. first (word_fault table (fault_within table (length table - 1)) (n ∷ [])) ws ≡ None)
+            subst (λ ws. first (word_fault table (key_fault_within table (length table - 1)) (n ∷ [])) ws ≡ None)
             (sym none) refl
       ]
 
@@ -153,5 +155,5 @@ module _ (table : Table) where
   ending_key_closed (suc j) n ends = words_closed_key n (ending_closed j (key_words table n) ends)
 
 -- the law of paths
-pub path_law : PathLaw
+pub path_law : KeyPathLaw
 path_law = record { empty = empty; longer = longer; short = short }

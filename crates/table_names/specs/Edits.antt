@@ -4,8 +4,8 @@ use Rattle.expr_tree.specs.declared.word_list.WordUse.{WordUse}
 use Rattle.def_entry.specs.declared.key.Key.{Key}
 use Rattle.def_entry.specs.Tables.{Table, entry_at}
 pub use Rattle.def_entry.specs.Tables.{AreChanged}
-use Rattle.table_names.specs.Affected.{IsAffected}
-use Rattle.table_names.specs.Closed.{IsClosed}
+use Rattle.table_names.specs.AffectedKeys.{IsAffected}
+use Rattle.table_names.specs.ClosedKeys.{IsClosed}
 use Rattle.table_names.specs.Leads.{Reaches, word_lookup}
 use Rattle.table_names.specs.Meanings.{key_meaning, outcome}
 use Rattle.table_names.specs.Words.{key_words}

@@ -3,33 +3,33 @@ use Rattle.std.specs.Prelude.{◌≡◌, ◌≤◌, true, false, List, [], ◌�
 use Rattle.std.specs.List.{IsDistinct}
 use Rattle.expr_tree.specs.declared.word_list.WordUse.{WordUse}
 use Rattle.def_entry.specs.declared.key.Key.{Key}
-use Rattle.def_entry.specs.SameKeys.{is_among, is_same}
+use Rattle.def_entry.specs.SameKeys.{is_key_among, is_same}
 use Rattle.def_entry.specs.Tables.{Table, is_present}
 use Rattle.table_names.specs.declared.fault.NameFault.{NameFault}
-use Rattle.table_names.specs.Faults.{fault, first, word_fault}
+use Rattle.table_names.specs.Faults.{first, word_fault, words_fault}
 use Rattle.table_names.specs.Words.{key_words}
 
 -- a path consists of distinct keys that all have an entry
-pub record IsPath (table : Table) (path : List Key) : Type 0 where
+pub record IsKeyPath (table : Table) (path : List Key) : Type 0 where
   pub distinct : IsDistinct is_same path
-  pub present : (k : Key) → is_among path k ≡ true → is_present table k ≡ true
+  pub present : (k : Key) → is_key_among path k ≡ true → is_present table k ≡ true
 
 -- a function gives the fault of words after a path: the first of their faults in order, and for a target the fault of
 -- the words of its entry after the path extended by the target
-abbrev pub IsFault : Table → (List Key → List WordUse → Option NameFault) → Type 0
-IsFault table f = (path : List Key) (words : List WordUse) → IsPath table path
+abbrev pub IsWordsFault : Table → (List Key → List WordUse → Option NameFault) → Type 0
+IsWordsFault table f = (path : List Key) (words : List WordUse) → IsKeyPath table path
     → f path words ≡ first (word_fault table (λ longer n. f longer (key_words table n)) path) words
 
--- law: `fault table` is such a function, and it is the only one
-pub record FaultLaw : Type 0 where
-  pub is : (table : Table) → IsFault table (fault table)
-  pub one : (table : Table) (f : List Key → List WordUse → Option NameFault) → IsFault table f
-      → (path : List Key) (words : List WordUse) → IsPath table path → f path words ≡ fault table path words
+-- law: `words_fault table` is such a function, and it is the only one
+pub record WordsFaultLaw : Type 0 where
+  pub is : (table : Table) → IsWordsFault table (words_fault table)
+  pub one : (table : Table) (f : List Key → List WordUse → Option NameFault) → IsWordsFault table f
+      → (path : List Key) (words : List WordUse) → IsKeyPath table path → f path words ≡ words_fault table path words
 
 -- law: the empty list is a path, a path can be extended by each present key that is not on it, and no path is longer
 -- than the table
-pub record PathLaw : Type 0 where
-  pub empty : (table : Table) → IsPath table []
-  pub longer : (table : Table) (path : List Key) (n : Key) → IsPath table path
-      → is_among path n ≡ false → is_present table n ≡ true → IsPath table (path ++ n ∷ [])
-  pub short : (table : Table) (path : List Key) → IsPath table path → length path ≤ length table
+pub record KeyPathLaw : Type 0 where
+  pub empty : (table : Table) → IsKeyPath table []
+  pub longer : (table : Table) (path : List Key) (n : Key) → IsKeyPath table path
+      → is_key_among path n ≡ false → is_present table n ≡ true → IsKeyPath table (path ++ n ∷ [])
+  pub short : (table : Table) (path : List Key) → IsKeyPath table path → length path ≤ length table

@@ -4,7 +4,7 @@ use Rattle.std.specs.Option.{option_or}
 use Rattle.expr_tree.specs.declared.word_list.WordUse.{WordUse}
 use Rattle.expr_tree.specs.Names.{is_refused}
 use Rattle.def_entry.specs.declared.key.Key.{Key}
-use Rattle.def_entry.specs.SameKeys.{is_among, is_same}
+use Rattle.def_entry.specs.SameKeys.{is_key_among, is_same}
 use Rattle.def_entry.specs.Tables.{Table}
 use Rattle.table_names.specs.declared.fault.NameFault.{NameFault}
 use Rattle.table_names.specs.declared.fault.NameFault.TheVariants.{Unknown, Refused, Cycle}
@@ -23,9 +23,9 @@ last (x ∷ []) = Some x
 last (x ∷ y ∷ ys) = last (y ∷ ys)
 
 -- the keys of a path from the first place of a key on, and then that key again
-abbrev pub chain : Key → List Key → List Key
-chain n [] = n ∷ []
-chain n (k ∷ ks) = if is_same n k then k ∷ (ks ++ n ∷ []) else chain n ks
+abbrev pub cycle_chain : Key → List Key → List Key
+cycle_chain n [] = n ∷ []
+cycle_chain n (k ∷ ks) = if is_same n k then k ∷ (ks ++ n ∷ []) else cycle_chain n ks
 
 -- A path is the list of keys whose entries are being gone through, outermost first. A word after a path is in the entry
 -- of its last key, or in the expression itself if the path is empty.
@@ -37,7 +37,8 @@ Deeper = List Key → Key → Option NameFault
 module _ (table : Table) where
   -- a target that is on the path closes a cycle; any other target is entered
   abbrev pub target_fault : Deeper → List Key → Key → Option NameFault
-  target_fault deeper path n = if is_among path n then Some (Cycle (chain n path)) else deeper (path ++ n ∷ []) n
+  target_fault deeper path n = if is_key_among path n then Some (Cycle (cycle_chain n path)) else deeper
+      (path ++ n ∷ []) n
 
   -- a word without targets is unknown
   abbrev pub targets_fault : Deeper → List Key → WordUse → List Key → Option NameFault
@@ -53,19 +54,19 @@ module _ (table : Table) where
 
   -- the first fault in the entry of the last key of a path, if at most `room` more keys may be entered; there is always
   -- enough room, so the value for `zero` does not matter
-  abbrev pub fault_within : ℕ → Deeper
-  fault_within zero path n = Some (Cycle path)
-  fault_within (suc room) path n = first (word_fault (fault_within room) path) (key_words table n)
+  abbrev pub key_fault_within : ℕ → Deeper
+  key_fault_within zero path n = Some (Cycle path)
+  key_fault_within (suc room) path n = first (word_fault (key_fault_within room) path) (key_words table n)
 
   -- the first fault of words after a path: no key occurs twice in a path, so the number of keys of the table that are
   -- not on it is room enough
-  abbrev pub fault : List Key → List WordUse → Option NameFault
-  fault path words = first (word_fault (fault_within (length table - length path)) path) words
+  abbrev pub words_fault : List Key → List WordUse → Option NameFault
+  words_fault path words = first (word_fault (key_fault_within (length table - length path)) path) words
 
   -- the name fault of the words of an expression
   abbrev pub name_fault : List WordUse → Option NameFault
-  name_fault words = fault [] words
+  name_fault words = words_fault [] words
 
   -- the name fault of a key
   abbrev pub key_fault : Key → Option NameFault
-  key_fault n = fault (n ∷ []) (key_words table n)
+  key_fault n = words_fault (n ∷ []) (key_words table n)

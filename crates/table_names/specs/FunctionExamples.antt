@@ -9,12 +9,12 @@ use Rattle.def_entry.specs.Tables.{Table}
 use Rattle.tree_eval.specs.Entries.{rank_of_meaning}
 use Rattle.table_names.specs.declared.fault.NameFault.{NameFault}
 use Rattle.table_names.specs.declared.fault.NameFault.TheVariants.{Unknown}
-use Rattle.table_names.specs.Examples.{entry, one, unit}
+use Rattle.table_names.specs.Examples.{entry, one, table_unit}
 use Rattle.table_names.specs.Faults.{key_fault}
 use Rattle.table_names.specs.Meanings.{key_meaning}
 
-abbrev pub func : List ℕ → Key
-func name = key kind.Func name
+abbrev pub function_key : List ℕ → Key
+function_key name = key kind.Func name
 
 -- the entry of a function that has only a forward expression
 abbrev pub forward_entry : Syntax → Entry
@@ -28,20 +28,20 @@ forward_entry e = entry (Function (record {
 }))
 
 -- the lines `m !`, `g(x) x`, `f(x) g(x)`, `back(x) ~g(x)`, `h() f`, `word(x) f`, `u f(1)`, `over(x) u` and `t[m]`
-abbrev pub ranked : Table
-ranked =
-    (func (codes "t"), entry (PointTable (record { unit = Word (codes "m"); points = [] })))
-    ∷ (func (codes "over"), forward_entry (Word (codes "u")))
-    ∷ (unit (codes "u"), entry (Body (Call (codes "f") (Number one))))
-    ∷ (func (codes "word"), forward_entry (Word (codes "f")))
-    ∷ (func (codes "h"), entry (Alias (codes "f")))
-    ∷ (func (codes "back"), forward_entry (Inverse (codes "g") Argument))
-    ∷ (func (codes "f"), forward_entry (Call (codes "g") Argument))
-    ∷ (func (codes "g"), forward_entry Argument)
-    ∷ (unit (codes "m"), entry Primitive) ∷ []
+abbrev pub ranked_table : Table
+ranked_table =
+    (function_key (codes "t"), entry (PointTable (record { unit = Word (codes "m"); points = [] })))
+    ∷ (function_key (codes "over"), forward_entry (Word (codes "u")))
+    ∷ (table_unit (codes "u"), entry (Body (Call (codes "f") (Number one))))
+    ∷ (function_key (codes "word"), forward_entry (Word (codes "f")))
+    ∷ (function_key (codes "h"), entry (Alias (codes "f")))
+    ∷ (function_key (codes "back"), forward_entry (Inverse (codes "g") Argument))
+    ∷ (function_key (codes "f"), forward_entry (Call (codes "g") Argument))
+    ∷ (function_key (codes "g"), forward_entry Argument)
+    ∷ (table_unit (codes "m"), entry Primitive) ∷ []
 
-abbrev pub rank : List ℕ → ℕ
-rank name = rank_of_meaning (key_meaning ranked (func name))
+abbrev pub example_rank : List ℕ → ℕ
+example_rank name = rank_of_meaning (key_meaning ranked_table (function_key name))
 
 -- a function with four expressions, each of which is one word
 abbrev pub four_words : Entry
@@ -56,34 +56,34 @@ four_words = entry (Function (record {
 
 -- the table of that function and these units
 abbrev pub four_words_with : List (List ℕ) → Table
-four_words_with [] = (func (codes "f"), four_words) ∷ []
-four_words_with (w ∷ ws) = (unit w, entry Primitive) ∷ four_words_with ws
+four_words_with [] = (function_key (codes "f"), four_words) ∷ []
+four_words_with (w ∷ ws) = (table_unit w, entry Primitive) ∷ four_words_with ws
 
 -- the fault of the function if these units are present
 abbrev pub fault_with : List (List ℕ) → Option NameFault
-fault_with units = key_fault (four_words_with units) (func (codes "f"))
+fault_with units = key_fault (four_words_with units) (function_key (codes "f"))
 
 -- the fault of a word that is unknown in the entry of the function
 abbrev pub unknown_in_f : List ℕ → Option NameFault
-unknown_in_f word = Some (Unknown word (Some (func (codes "f"))))
+unknown_in_f word = Some (Unknown word (Some (function_key (codes "f"))))
 
 -- law: The rank of a function is one above the greatest rank of its words, whether they are called, inverted or plain;
 -- that of an alias is one above its target's; and a rank does not pass through a unit. The expressions of a function
 -- are read in the order in unit, out unit, forward expression, inverse. The target of an alias is a function, never a
 -- unit of its name.
 pub record FunctionExamplesLaw : Type 0 where
-  pub rank_without_words : rank (codes "g") ≡ 1
-  pub rank_of_a_call : rank (codes "f") ≡ 2
-  pub rank_of_an_inverse : rank (codes "back") ≡ 2
-  pub rank_of_an_alias : rank (codes "h") ≡ 3
-  pub rank_of_a_plain_word : rank (codes "word") ≡ 3
-  pub rank_through_a_unit : rank (codes "over") ≡ 1
-  pub rank_of_a_table : rank (codes "t") ≡ 1
+  pub rank_without_words : example_rank (codes "g") ≡ 1
+  pub rank_of_a_call : example_rank (codes "f") ≡ 2
+  pub rank_of_an_inverse : example_rank (codes "back") ≡ 2
+  pub rank_of_an_alias : example_rank (codes "h") ≡ 3
+  pub rank_of_a_plain_word : example_rank (codes "word") ≡ 3
+  pub rank_through_a_unit : example_rank (codes "over") ≡ 1
+  pub rank_of_a_table : example_rank (codes "t") ≡ 1
   pub in_unit_first : fault_with [] ≡ unknown_in_f (codes "a")
   pub out_unit_second : fault_with (codes "a" ∷ []) ≡ unknown_in_f (codes "b")
   pub forward_third : fault_with (codes "a" ∷ codes "b" ∷ []) ≡ unknown_in_f (codes "c")
   pub inverse_last : fault_with (codes "a" ∷ codes "b" ∷ codes "c" ∷ []) ≡ unknown_in_f (codes "d")
   pub no_fault : fault_with (codes "a" ∷ codes "b" ∷ codes "c" ∷ codes "d" ∷ []) ≡ None
   pub alias_of_a_unit :
-      key_fault ((func (codes "h"), entry (Alias (codes "a"))) ∷ (unit (codes "a"), entry Primitive) ∷ [])
-      (func (codes "h")) ≡ Some (Unknown (codes "a") (Some (func (codes "h"))))
+      key_fault ((function_key (codes "h"), entry (Alias (codes "a"))) ∷ (table_unit (codes "a"), entry Primitive) ∷ [])
+      (function_key (codes "h")) ≡ Some (Unknown (codes "a") (Some (function_key (codes "h"))))

@@ -6,12 +6,12 @@ use Rattle.def_entry.specs.declared.key.Kind.{Kind}
 use Rattle.def_entry.specs.declared.key.Kind.TheVariants as kind
 use Rattle.def_entry.specs.Entries as what
 use Rattle.def_entry.specs.Entries.{Entry, What}
-use Rattle.def_entry.specs.Reading.{entry_of}
+use Rattle.def_entry.specs.EntryReading.{entry_of}
 use Rattle.def_entry.specs.SameKeys.{is_same_kind}
 use Rattle.def_entry.specs.Tables.{Table, entry_at, is_present}
-use Rattle.tree_eval.specs.Expanded.{Expanded, Meaning, One, Two, Callee}
+use Rattle.tree_eval.specs.Expansions.{Expanded, Meaning, One, Two, Callee}
 use Rattle.tree_eval.specs.Expansion.{inverted_word}
-use Rattle.table_names.specs.Closed.{IsClosed, LeadsInto}
+use Rattle.table_names.specs.ClosedKeys.{IsClosed, WordLeadsInto}
 use Rattle.table_names.specs.Leads.{targets}
 use Rattle.table_names.specs.Meanings.{key_meaning, word_meaning}
 
@@ -50,7 +50,8 @@ pub record KindLaw : Type 0 where
   pub lines : (line : List ℕ) (k : Key) (e : Entry) → entry_of line ≡ Ok (k, e) → may_say k.kind e.what ≡ true
   pub keys : (table : Table) → FitsKinds table → (n : Key) → is_present table n ≡ true → IsClosed table n
       → may_mean n.kind (key_meaning table n) ≡ true
-  pub words : (table : Table) → FitsKinds table → (u : WordUse) → LeadsInto table (IsClosed table) u
+  pub words : (table : Table) → FitsKinds table → (u : WordUse) → WordLeadsInto table (IsClosed table) u
       → StandsForTargets table u
-  pub inverses : (table : Table) → FitsKinds table → (w : List ℕ) → LeadsInto table (IsClosed table) (inverted_word w)
+  pub inverses : (table : Table) → FitsKinds table → (w : List ℕ) → WordLeadsInto table (IsClosed table)
+      (inverted_word w)
       → may_mean kind.Func (word_meaning table (inverted_word w)) ≡ true

@@ -2,20 +2,21 @@
 use Rattle.std.specs.Prelude.{◌≡◌, List, Contains}
 use Rattle.expr_tree.specs.declared.word_list.WordUse.{WordUse}
 use Rattle.def_entry.specs.declared.key.Key.{Key}
-use Rattle.def_entry.specs.SameKeys.{is_among}
+use Rattle.def_entry.specs.SameKeys.{is_key_among}
 use Rattle.def_entry.specs.Tables.{Table, is_present, keys_of}
-use Rattle.name_lookup.specs.Candidates.{Found, candidates, found}
+use Rattle.name_lookup.specs.Candidates.{Found, candidates, found_targets}
 use Rattle.name_lookup.specs.Order.{plan}
 use Rattle.name_lookup.specs.Plans.{run}
 use Rattle.table_names.specs.Words.{key_words}
 
 -- the lookup of a word in a table: its first candidate whose keys all have entries
 abbrev pub word_lookup : Table → WordUse → Found
-word_lookup table u = found (is_present table) (candidates u.kind u.text)
+word_lookup table u = found_targets (is_present table) (candidates u.kind u.text)
 
 -- law: the plan by which the code looks up a word among the keys of the entries has the same result
 abbrev pub LookupLaw : Type 0
-LookupLaw = (table : Table) (u : WordUse) → run (is_among (keys_of table)) (plan u.kind u.text) ≡ word_lookup table u
+LookupLaw = (table : Table) (u : WordUse) → run (is_key_among (keys_of table)) (plan u.kind u.text) ≡ word_lookup table
+    u
 
 -- the keys that a word refers to
 abbrev pub targets : Table → WordUse → List Key

@@ -1,5 +1,5 @@
-pub mod Affected
-pub mod Closed
+pub mod AffectedKeys
+pub mod ClosedKeys
 pub mod ClosedLaws
 pub mod Edits
 pub mod Examples

@@ -7,24 +7,24 @@ use Rattle.def_entry.specs.Entries.{Entry}
 use Rattle.def_entry.specs.Tables.{Table, entry_at}
 use Rattle.tree_eval.specs.declared.outcome.Outcome.{Outcome}
 use Rattle.tree_eval.specs.Entries.{meaning_of}
-use Rattle.tree_eval.specs.Expanded.{Dimensionless, Expanded, Meaning, One, Two}
+use Rattle.tree_eval.specs.Expansions.{Dimensionless, Expanded, Meaning, One, Two}
 use Rattle.tree_eval.specs.Expansion.{expand}
 use Rattle.tree_eval.specs.Outcomes.{outcome_of}
-use Rattle.table_names.specs.Closed.{IsClosed}
+use Rattle.table_names.specs.ClosedKeys.{IsClosed}
 use Rattle.table_names.specs.Leads.{targets}
 
 -- the meaning 1, for names that stand for nothing
-abbrev pub nothing : Meaning
-nothing = One Dimensionless
+abbrev pub one_meaning : Meaning
+one_meaning = One Dimensionless
 
 -- the meaning of targets: of one target its own meaning, of two targets that of a prefix and a unit
 abbrev pub targets_meaning : List Meaning → Meaning
 targets_meaning (m ∷ []) = m
 targets_meaning (One x ∷ One y ∷ []) = Two x y
-targets_meaning _ = nothing
+targets_meaning _ = one_meaning
 
 abbrev pub entry_meaning : (WordUse → Meaning) → List ℕ → Option Entry → Meaning
-entry_meaning means name None = nothing
+entry_meaning means name None = one_meaning
 entry_meaning means name (Some e) = meaning_of means name e.what
 
 module _ (table : Table) where
@@ -34,7 +34,7 @@ module _ (table : Table) where
 
   -- the meaning of a key, if names are nested at most this deep
   abbrev pub meaning_within : ℕ → Key → Meaning
-  meaning_within zero n = nothing
+  meaning_within zero n = one_meaning
   meaning_within (suc depth) n = entry_meaning (word_meaning_by (meaning_within depth)) n.name (entry_at table n)
 
   -- the meaning of a key; closed names are nested at most as deep as the table has keys

@@ -3,11 +3,11 @@ use Rattle.std.specs.Prelude.{◌≡◌, ◌≢◌, true, false, List, [], ◌�
 use Rattle.expr_tree.specs.declared.word_list.WordUse.{WordUse}
 use Rattle.expr_tree.specs.Names.{is_refused}
 use Rattle.def_entry.specs.declared.key.Key.{Key}
-use Rattle.def_entry.specs.SameKeys.{is_among}
+use Rattle.def_entry.specs.SameKeys.{is_key_among}
 use Rattle.def_entry.specs.Tables.{Table}
 use Rattle.table_names.specs.declared.fault.NameFault.{NameFault}
 use Rattle.table_names.specs.declared.fault.NameFault.TheVariants.{Unknown, Refused, Cycle}
-use Rattle.table_names.specs.Faults.{chain, last}
+use Rattle.table_names.specs.Faults.{cycle_chain, last}
 use Rattle.table_names.specs.Leads.{targets}
 use Rattle.table_names.specs.Words.{key_words}
 
@@ -24,7 +24,7 @@ mutual
   -- Keys are clean if none is on the path, and the words of each entry are clean.
   pub data AreCleanKeys (table : Table) : List Key → List Key → Type 0 where
     NoKey : {path : List Key} → AreCleanKeys table path []
-    NextKey : {path : List Key} {n : Key} {ns : List Key} → is_among path n ≡ false
+    NextKey : {path : List Key} {n : Key} {ns : List Key} → is_key_among path n ≡ false
         → AreClean table (path ++ n ∷ []) (key_words table n) → AreCleanKeys table path ns
         → AreCleanKeys table path (n ∷ ns)
 
@@ -47,10 +47,10 @@ mutual
   -- Keys meet the first fault in order.
   pub data MeetKeys (table : Table) : List Key → List Key → NameFault → Type 0 where
     -- The first key is on the path: a cycle, from the key's place on the path to the key again.
-    OnPath : {path : List Key} {n : Key} {ns : List Key} {f : NameFault} → is_among path n ≡ true
-        → f ≡ Cycle (chain n path) → MeetKeys table path (n ∷ ns) f
+    OnPath : {path : List Key} {n : Key} {ns : List Key} {f : NameFault} → is_key_among path n ≡ true
+        → f ≡ Cycle (cycle_chain n path) → MeetKeys table path (n ∷ ns) f
     -- The first key is not on the path, and the words of its entry meet the fault.
-    InEntry : {path : List Key} {n : Key} {ns : List Key} {f : NameFault} → is_among path n ≡ false
+    InEntry : {path : List Key} {n : Key} {ns : List Key} {f : NameFault} → is_key_among path n ≡ false
         → Meets table (path ++ n ∷ []) (key_words table n) f → MeetKeys table path (n ∷ ns) f
     -- The first key is clean, and the other keys meet the fault.
     InOtherKeys : {path : List Key} {n : Key} {ns : List Key} {f : NameFault} → AreCleanKeys table path (n ∷ [])

@@ -3,7 +3,7 @@ use Rattle.std.specs.Prelude.{◌≡◌, ◌↔◌, ℕ, zero, suc, true, List, 
 use Rattle.expr_tree.specs.declared.word_list.WordUse.{WordUse}
 use Rattle.def_entry.specs.declared.key.Key.{Key}
 use Rattle.def_entry.specs.Tables.{Table, is_present}
-use Rattle.table_names.specs.Closed.{AreClosed}
+use Rattle.table_names.specs.ClosedKeys.{AreClosed}
 use Rattle.table_names.specs.Leads.{WordsReach, looked_keys, targets}
 use Rattle.table_names.specs.Words.{key_words}
 

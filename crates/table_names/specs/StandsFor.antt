@@ -8,8 +8,8 @@ use Rattle.def_entry.specs.Entries as what
 use Rattle.def_entry.specs.Entries.{Entry, What}
 use Rattle.def_entry.specs.Tables.{Table, entry_at}
 use Rattle.tree_eval.specs.Entries.{function_words, greatest_rank}
-use Rattle.tree_eval.specs.Expanded.{Callable, Callee, Dimensionless, Expanded, Meaning, One, Primitive, Two, rank_of}
-use Rattle.tree_eval.specs.Expanded as callable
+use Rattle.tree_eval.specs.Expansions.{Callable, Callee, Dimensionless, Expanded, Meaning, One, Primitive, Two, rank_of}
+use Rattle.tree_eval.specs.Expansions as callable
 use Rattle.tree_eval.specs.Expansion.{expand, expand_if, inverted_word}
 use Rattle.table_names.specs.Leads.{targets}
 use Rattle.table_names.specs.Words.{what_words}

@@ -5,9 +5,9 @@ use Rattle.def_entry.specs.declared.key.Key.{Key}
 use Rattle.def_entry.specs.declared.key.Kind.TheVariants as kind
 use Rattle.def_entry.specs.SameKeys.{is_same_kind}
 use Rattle.def_entry.specs.Tables.{Table, is_present}
-use Rattle.tree_eval.specs.Expanded.{Callable, Callee, Meaning}
+use Rattle.tree_eval.specs.Expansions.{Callable, Callee, Meaning}
 use Rattle.tree_eval.specs.Expansion.{inverted_word}
-use Rattle.table_names.specs.Closed.{AreClosed, IsClosed}
+use Rattle.table_names.specs.ClosedKeys.{AreClosed, IsClosed}
 use Rattle.table_names.specs.Kinds.{FitsKinds}
 use Rattle.table_names.specs.Meanings.{key_meaning, word_meaning}
 use Rattle.table_names.specs.StandsFor.{StandsFor, WordStandsFor}

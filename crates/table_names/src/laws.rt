@@ -1,10 +1,10 @@
 //! Laws of name faults, of the meanings of names and the keys that they reach, and of the keys that edits affect.
 
-ghost use Rattle.table_names.specs.Affected.{AffectedLaw};
-ghost use Rattle.table_names.specs.ClosedLaws.{ClosedLaw};
+ghost use Rattle.table_names.specs.AffectedKeys.{AffectedLaw};
+ghost use Rattle.table_names.specs.ClosedLaws.{ClosedWordLaw};
 ghost use Rattle.table_names.specs.Edits.{UnaffectedLaw};
-ghost use Rattle.table_names.specs.Examples.{ExamplesLaw};
-ghost use Rattle.table_names.specs.FaultLaws.{FaultLaw, PathLaw};
+ghost use Rattle.table_names.specs.Examples.{NameExamplesLaw};
+ghost use Rattle.table_names.specs.FaultLaws.{KeyPathLaw, WordsFaultLaw};
 ghost use Rattle.table_names.specs.FunctionExamples.{FunctionExamplesLaw};
 ghost use Rattle.table_names.specs.Kinds.{KindLaw};
 ghost use Rattle.table_names.specs.Leads.{LookupLaw};
@@ -31,18 +31,18 @@ pub fn lookup_law()
 
 /// The fault of words is the first of the faults of each of them, and this determines it uniquely.
 pub fn fault_law()
-    ensures { FaultLaw }
+    ensures { WordsFaultLaw }
 {}
 
 /// The empty list of keys is a path, a path can be extended by each present key that is not on it, and no path is
 /// longer than the table.
 pub fn path_law()
-    ensures { PathLaw }
+    ensures { KeyPathLaw }
 {}
 
 /// The keys that closed words and keys reach have no name fault either, and are on no cycle.
 pub fn closed_law()
-    ensures { ClosedLaw }
+    ensures { ClosedWordLaw }
 {}
 
 /// A closed key stands for the meaning of its entry, in which each word stands for the meaning of its targets.
@@ -77,5 +77,5 @@ pub fn function_examples_law()
 
 /// The examples hold: a small table has the faults, meanings and affected keys that were worked out by hand.
 pub fn examples_law()
-    ensures { ExamplesLaw }
+    ensures { NameExamplesLaw }
 {}

@@ -11,7 +11,8 @@ use Rattle.expr_tree.specs.declared.tree.Tree.TheVariants as made
 use Rattle.expr_tree.specs.declared.tree.Trees.{Trees}
 use Rattle.expr_tree.specs.Syntax.{Syntax, Members, NoMember, Member, Factors, NoFactor, Factor, Terms, NoTerm, Term}
 use Rattle.expr_tree.specs.Syntax as tree
-use Rattle.expr_tree.specs.Trees.{factor, factors, factors_of, members, syntax, term, terms, terms_of, trees_of}
+use Rattle.expr_tree.specs.Trees.{factor_syntax, factors_of, factors_syntax, members, syntax, term, terms, terms_of}
+use Rattle.expr_tree.specs.Trees.{trees_of}
 use Rattle.expr_tree.proofs.Views.{of_call, of_inverse, of_root, of_group, of_negate, of_power, of_juxtaposed}
 use Rattle.expr_tree.proofs.Views.{of_product, of_sum}
 
@@ -76,7 +77,7 @@ of_juxtaposed_size t es is = ap (λ (x : Tree). size (syntax x)) is ∙ ap size 
 
 -- the size of a product is one more than that of its members
 pub of_product_size : (t : Tree) (fs : FactorList) → t ≡ made.Product fs
-    → size (syntax t) ≡ suc (factors_size (factors (factors_of fs)))
+    → size (syntax t) ≡ suc (factors_size (factors_syntax (factors_of fs)))
 of_product_size t fs is = ap (λ (x : Tree). size (syntax x)) is ∙ ap size (of_product fs)
 
 -- the size of a sum is one more than that of its members
@@ -93,7 +94,7 @@ member_smaller (t ∷ ts) (suc i) d h = omega (arith, member_smaller ts i d (ome
 
 -- each member of a product is smaller than all of them together
 pub factor_smaller : (fs : List (Scale × Tree)) (i : ℕ) (d : Scale × Tree) → i < length fs
-    → size (syntax (get_or fs i d).1) < factors_size (factors (map factor fs))
+    → size (syntax (get_or fs i d).1) < factors_size (factors_syntax (map factor_syntax fs))
 factor_smaller [] i d h = absurd (omega arith)
 factor_smaller (f ∷ fs) zero d h = omega arith
 factor_smaller (f ∷ fs) (suc i) d h = omega (arith, factor_smaller fs i d (omega arith))

@@ -6,7 +6,7 @@ use Rattle.expr_tree.specs.declared.operator.Scale.{Scale}
 use Rattle.expr_tree.specs.declared.operator.Sign.{Sign}
 use Rattle.expr_tree.specs.declared.tree.Tree.{Tree}
 use Rattle.expr_tree.specs.declared.word_list.WordUse.{WordUse}
-use Rattle.expr_tree.specs.Trees.{factor, factors, members, syntax, term, terms}
+use Rattle.expr_tree.specs.Trees.{factor_syntax, factors_syntax, members, syntax, term, terms}
 use Rattle.expr_tree.proofs.Views.{views}
 use Rattle.def_entry.specs.declared.key.Key.{Key}
 use Rattle.def_entry.specs.Keys.{key_text}
@@ -28,10 +28,10 @@ member_text ts i d h = ap (λ xs. members_text (members (map syntax xs))) (drop_
 
 -- `member_text` for the members of a product
 pub factor_text : (fs : List (Scale × Tree)) (i : ℕ) (d : Scale × Tree) → i < length fs
-    → factors_text (factors (map factor (drop i fs)))
+    → factors_text (factors_syntax (map factor_syntax (drop i fs)))
     ≡ scale_text (get_or fs i d).0 ++ tree_text (syntax (get_or fs i d).1)
-    ++ factors_text (factors (map factor (drop (i + 1) fs)))
-factor_text fs i d h = ap (λ xs. factors_text (factors (map factor xs))) (drop_more fs i d h)
+    ++ factors_text (factors_syntax (map factor_syntax (drop (i + 1) fs)))
+factor_text fs i d h = ap (λ xs. factors_text (factors_syntax (map factor_syntax xs))) (drop_more fs i d h)
 
 -- `member_text` for the members of a sum
 pub term_text : (ts : List (Sign × Tree)) (i : ℕ) (d : Sign × Tree) → i < length ts

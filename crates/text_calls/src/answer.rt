@@ -3,7 +3,7 @@
 ghost use Rattle.std.specs.Prelude.{◌≡◌, ◌≢◌, ◌++◌, IfOk, None};
 ghost use Rattle.std.specs.Option.{option_copied};
 ghost use Rattle.expr_tree.specs.declared.fault.ParseFault.TheVariants as parse;
-ghost use Rattle.expr_tree.specs.Parsed.{parsed};
+ghost use Rattle.expr_tree.specs.ParseResult.{parse_of};
 ghost use Rattle.def_entry.specs.Faults as faults;
 ghost use Rattle.text_calls.specs.Notation as spec;
 
@@ -37,7 +37,7 @@ pub(crate) fn line_answer(alloc: Global, line: &[u8]) -> Result<Vec<u8>, AllocEr
 
 // Returns the tree of a text, or its fault.
 fn answer_to(alloc: Global, text: &[u8], binder: Option<&[u8]>) -> Result<Vec<u8>, AllocError>
-    ensures { IfOk result (λ out. out.items ≡ spec.parsed_text (parsed (option_copied binder.entry) text.now)) }
+    ensures { IfOk result (λ out. out.items ≡ spec.parsed_text (parse_of (option_copied binder.entry) text.now)) }
 {
     let mut out = Vec::new(alloc);
     match parse_expr(alloc, text, binder) {
@@ -50,7 +50,7 @@ fn answer_to(alloc: Global, text: &[u8], binder: Option<&[u8]>) -> Result<Vec<u8
 
 // Returns the tree of a copy of the tree of a text, or its fault.
 fn copy_of(alloc: Global, text: &[u8]) -> Result<Vec<u8>, AllocError>
-    ensures { IfOk result (λ out. out.items ≡ spec.parsed_text (parsed None text.now)) }
+    ensures { IfOk result (λ out. out.items ≡ spec.parsed_text (parse_of None text.now)) }
 {
     let mut out = Vec::new(alloc);
     match parse_expr(alloc, text, None) {
@@ -67,7 +67,7 @@ fn copy_of(alloc: Global, text: &[u8]) -> Result<Vec<u8>, AllocError>
 
 // Returns the confirmation that a text has a tree, or its fault.
 fn verdict_on(alloc: Global, text: &[u8]) -> Result<Vec<u8>, AllocError>
-    ensures { IfOk result (λ out. out.items ≡ spec.verdict_text (parsed None text.now)) }
+    ensures { IfOk result (λ out. out.items ≡ spec.verdict_text (parse_of None text.now)) }
 {
     let mut out = Vec::new(alloc);
     match parse_expr(alloc, text, None) {
@@ -80,7 +80,7 @@ fn verdict_on(alloc: Global, text: &[u8]) -> Result<Vec<u8>, AllocError>
 
 // Returns the words of a text, or its fault.
 fn words_of(alloc: Global, text: &[u8]) -> Result<Vec<u8>, AllocError>
-    ensures { IfOk result (λ out. out.items ≡ spec.words_text (parsed None text.now)) }
+    ensures { IfOk result (λ out. out.items ≡ spec.words_text (parse_of None text.now)) }
 {
     let mut out = Vec::new(alloc);
     match parse_expr(alloc, text, None) {

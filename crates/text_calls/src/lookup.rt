@@ -3,7 +3,7 @@
 ghost use Rattle.std.specs.Prelude.{◌≡◌, ◌++◌, IfOk};
 ghost use Rattle.std.specs.List.{position};
 ghost use Rattle.def_entry.specs.Keys as key_spec;
-ghost use Rattle.def_entry.specs.SameKeys.{is_among, is_same, is_same_kind};
+ghost use Rattle.def_entry.specs.SameKeys.{is_key_among, is_same, is_same_kind};
 ghost use Rattle.name_lookup.specs.Order.{plan};
 ghost use Rattle.name_lookup.specs.Plans.{run};
 ghost use Rattle.name_lookup.specs.Targets.{count, last_keys};
@@ -115,7 +115,7 @@ fn found_in(
     word: &[u8],
     kind: WordKind,
 ) -> Result<Vec<u8>, AllocError>
-    ensures { IfOk result (λ out. out.items ≡ found_text (run (is_among table.now.keys) (plan kind word.now))) }
+    ensures { IfOk result (λ out. out.items ≡ found_text (run (is_key_among table.now.keys) (plan kind word.now))) }
 {
     let mut looked = Looked {
         keys: Keys::new(alloc),

@@ -112,7 +112,7 @@ fn put_members(alloc: Global, out: &mut Vec<u8>, members: &Trees) -> Result<(), 
 fn put_factors(alloc: Global, out: &mut Vec<u8>, members: &Factors) -> Result<(), AllocError>
     ensures { IfOk result (λ _. out.new.items
         ≡ out.old.items ++ codes "(product"
-        ++ spec.factors_text (trees.factors (trees.factors_of members.now)) ++ codes ")") }
+        ++ spec.factors_text (trees.factors_syntax (trees.factors_of members.now)) ++ codes ")") }
 {
     out.extend_from_slice(b"(product")?;
     for member in members.as_slice() {

@@ -9,9 +9,9 @@ use Rattle.expr_tree.specs.Words.{words_in}
 use Rattle.quantity.specs.Amount.{Amount}
 use Rattle.tree_eval.specs.declared.fault.EvalFault.{EvalFault}
 use Rattle.tree_eval.specs.declared.step.Step.{Step}
-use Rattle.tree_eval.specs.Answers.{Gives}
+use Rattle.tree_eval.specs.Answers.{GivesWorth}
 use Rattle.tree_eval.specs.Environment.{Stand}
-use Rattle.tree_eval.specs.Expanded.{Meaning}
+use Rattle.tree_eval.specs.Expansions.{Meaning}
 use Rattle.tree_eval.specs.Expansion.{expand, plain, plain_word}
 use Rattle.tree_eval.specs.Operands.{with_worth}
 use Rattle.tree_eval.specs.Value.{value}
@@ -31,20 +31,20 @@ module _ (us : List WordUse) (p : ℕ) {e : Syntax} {w : List ℕ} (is : e ≡ t
     -- a result for the word at the place is a result for the tree
     pub alone_gives : (means : WordUse → Meaning) (a : Option Amount) {A : Type 0} (seen : A → Amount)
         (r : Result A EvalFault)
-        → ((u : WordUse) → slice_get us p ≡ Some u → Gives seen r (value (plain (means u)) a))
-        → Gives seen r (value (expand means e) a)
+        → ((u : WordUse) → slice_get us p ≡ Some u → GivesWorth seen r (value (plain (means u)) a))
+        → GivesWorth seen r (value (expand means e) a)
     alone_gives means a seen r h =
-        subst (λ y. Gives seen r (value (expand means y) a)) (sym is)
+        subst (λ y. GivesWorth seen r (value (expand means y) a)) (sym is)
         (h (plain_word w) (first_stands us p (plain_word w) [] word_stands))
 
     -- a step with the word at the place as one more member is a step with the tree
     pub member_gives : (means : WordUse → Meaning) (a : Option Amount) (step : Step) (held : Amount) {A : Type 0}
         (seen : A → Amount) (r : Result A EvalFault)
         → ((u : WordUse) → slice_get us p ≡ Some u
-        → Gives seen r (with_worth step held (value (plain (means u)) a)))
-        → Gives seen r (with_worth step held (value (expand means e) a))
+        → GivesWorth seen r (with_worth step held (value (plain (means u)) a)))
+        → GivesWorth seen r (with_worth step held (value (expand means e) a))
     member_gives means a step held seen r h =
-        subst (λ y. Gives seen r (with_worth step held (value (expand means y) a))) (sym is)
+        subst (λ y. GivesWorth seen r (with_worth step held (value (expand means y) a))) (sym is)
         (h (plain_word w) (first_stands us p (plain_word w) [] word_stands))
 
 -- each place within the words holds a word

@@ -9,14 +9,14 @@ use Rattle.expr_tree.specs.Syntax.{Syntax}
 use Rattle.expr_tree.specs.Words.{words_in}
 use Rattle.quantity.specs.Amount.{Amount}
 use Rattle.tree_eval.specs.declared.fault.EvalFault.{EvalFault}
-use Rattle.tree_eval.specs.Answers.{Gives}
+use Rattle.tree_eval.specs.Answers.{GivesWorth}
 use Rattle.tree_eval.specs.Environment.{Stand}
-use Rattle.tree_eval.specs.Expanded.{Meaning}
+use Rattle.tree_eval.specs.Expansions.{Meaning}
 use Rattle.tree_eval.specs.Expansion.{expand}
 use Rattle.tree_eval.specs.declared.step.Step.{Step}
-use Rattle.tree_eval.specs.Operands.{chain, words_of}
+use Rattle.tree_eval.specs.Operands.{chain, words_of_members}
 use Rattle.tree_eval.specs.Value.{value}
-use Rattle.tree_eval.proofs.Listed.{IsChain}
+use Rattle.tree_eval.proofs.MemberChains.{IsChain}
 use Rattle.tree_eval.proofs.Places.{left_stands, right_stands}
 use Rattle.tree_eval.proofs.Weight.{weight}
 
@@ -80,15 +80,15 @@ module _ {means : WordUse → Meaning} {e : Syntax} {os : List (Step × Syntax)}
   chain_lighter = let w : weight (expand means e) ≡ weight (chain means os) = ap weight is.expands in omega (arith, w)
 
   -- the words of the members are at the place of those of the tree
-  pub chain_stands : (us : List WordUse) (p : ℕ) → Stand us p (words_in e) → Stand us p (words_of os)
+  pub chain_stands : (us : List WordUse) (p : ℕ) → Stand us p (words_in e) → Stand us p (words_of_members os)
   chain_stands us p s = subst (Stand us p) is.words s
 
   -- a result for the members is a result for the tree
   pub chain_gives : (a : Option Amount) {A : Type 0} (seen : A → Amount) (r : Result A EvalFault)
-      → Gives seen r (value (chain means os) a) → Gives seen r (value (expand means e) a)
-  chain_gives a seen r h = subst (λ y. Gives seen r (value y a)) (sym is.expands) h
+      → GivesWorth seen r (value (chain means os) a) → GivesWorth seen r (value (expand means e) a)
+  chain_gives a seen r h = subst (λ y. GivesWorth seen r (value y a)) (sym is.expands) h
 
   -- the end of the words of the members is the end of those of the tree
-  pub chain_ends : {A : Type 0} (r : Result A EvalFault) (p q : ℕ) → OnOk r (q ≡ p + length (words_of os))
+  pub chain_ends : {A : Type 0} (r : Result A EvalFault) (p q : ℕ) → OnOk r (q ≡ p + length (words_of_members os))
       → OnOk r (q ≡ p + length (words_in e))
   chain_ends r p q h = subst (λ ws. OnOk r (q ≡ p + length ws)) (sym is.words) h

@@ -9,15 +9,15 @@ use Rattle.expr_tree.specs.Words.{words_in}
 use Rattle.quantity.specs.Amount.{Amount}
 use Rattle.tree_eval.specs.declared.fault.EvalFault.{EvalFault}
 use Rattle.tree_eval.specs.declared.step.Step.{Step}
-use Rattle.tree_eval.specs.Answers.{Gives, amount_in}
+use Rattle.tree_eval.specs.Answers.{GivesWorth, amount_in}
 use Rattle.tree_eval.specs.Environment.{Stand}
-use Rattle.tree_eval.specs.Expanded.{Meaning}
+use Rattle.tree_eval.specs.Expansions.{Meaning}
 use Rattle.tree_eval.specs.Expansion.{expand}
-use Rattle.tree_eval.specs.Operands.{chain, links, with_worth, words_of}
+use Rattle.tree_eval.specs.Operands.{chain, links, with_worth, words_of_members}
 use Rattle.units_io.specs.Outcomes.{◌>>=◌}
 use Rattle.tree_eval.specs.Steps.{Worth, step_worth, one}
-use Rattle.tree_eval.specs.Value.{chained, value}
-use Rattle.tree_eval.proofs.Binding.{fault_first}
+use Rattle.tree_eval.specs.Value.{chain_value, value}
+use Rattle.tree_eval.proofs.StepBinds.{fault_first}
 use Rattle.tree_eval.proofs.Places.{left_stands, right_stands}
 use Rattle.tree_eval.proofs.Weight.{weight, weight_links}
 
@@ -36,9 +36,9 @@ in_two (Err e) f g = refl
 -- the members before member i have been taken, and those from member i on are left
 pub record IsRunning (means : WordUse → Meaning) (us : List WordUse) (place : ℕ) (all : List (Step × Syntax))
     (a : Option Amount) (i : ℕ) (held : Amount) (next : ℕ) : Type 0 where
-  pub goes_on : value (chain means all) a ≡ chained held (links means (drop i all)) a
-  pub places : next + length (words_of (drop i all)) ≡ place + length (words_of all)
-  pub stand : Stand us next (words_of (drop i all))
+  pub goes_on : value (chain means all) a ≡ chain_value held (links means (drop i all)) a
+  pub places : next + length (words_of_members (drop i all)) ≡ place + length (words_of_members all)
+  pub stand : Stand us next (words_of_members (drop i all))
   pub lighter : weight_links (links means (drop i all)) < weight (chain means all)
 
 -- the first member of a chain
@@ -46,13 +46,14 @@ module _ (all : List (Step × Syntax)) {o : Step × Syntax} (is : slice_get all 
   split_first : all ≡ o ∷ drop 1 all
   split_first = get_drop all 0 o is
 
-  words_first : words_of all ≡ words_in o.1 ++ words_of (drop 1 all)
-  words_first = ap words_of split_first
+  words_first : words_of_members all ≡ words_in o.1 ++ words_of_members (drop 1 all)
+  words_first = ap words_of_members split_first
 
   -- the words of the first member are at the place of those of the chain
-  pub first_stand : (us : List WordUse) (place : ℕ) → Stand us place (words_of all) → Stand us place (words_in o.1)
+  pub first_stand : (us : List WordUse) (place : ℕ) → Stand us place (words_of_members all)
+      → Stand us place (words_in o.1)
   first_stand us place h =
-      left_stands us place (words_in o.1) (words_of (drop 1 all)) (subst (Stand us place) words_first h)
+      left_stands us place (words_in o.1) (words_of_members (drop 1 all)) (subst (Stand us place) words_first h)
 
   module _ (means : WordUse → Meaning) where
     weight_first : weight (chain means all) ≡ suc (weight (expand means o.1) + weight_links (links means (drop 1 all)))
@@ -64,29 +65,31 @@ module _ (all : List (Step × Syntax)) {o : Step × Syntax} (is : slice_get all 
 
   module _ (means : WordUse → Meaning) (a : Option Amount) where
     abbrev behind : Amount → Worth
-    behind v = chained v (links means (drop 1 all)) a
+    behind v = chain_value v (links means (drop 1 all)) a
 
     worth_first : value (chain means all) a ≡ (value (expand means o.1) a >>= behind)
     worth_first = ap (λ y. value (chain means y) a) split_first
 
     -- the fault of the first member is that of the chain
     pub first_fault : (e : EvalFault)
-        → Gives amount_in (Err e) (value (expand means o.1) a) → Gives amount_in (Err e) (value (chain means all) a)
+        → GivesWorth amount_in (Err e) (value (expand means o.1) a)
+        → GivesWorth amount_in (Err e) (value (chain means all) a)
     first_fault e h =
         fault_first amount_in amount_in e (value (expand means o.1) a) behind (value (chain means all) a) worth_first h
 
     -- the loop begins with the value of the first member
-    pub begins : {us : List WordUse} {place next : ℕ} {held : Amount} → Stand us place (words_of all)
+    pub begins : {us : List WordUse} {place next : ℕ} {held : Amount} → Stand us place (words_of_members all)
         → value (expand means o.1) a ≡ Ok held → next ≡ place + length (words_in o.1)
         → IsRunning means us place all a 1 held next
     begins {us} {place} {next} {held} h v n =
-        let w : length (words_of all) ≡ length (words_in o.1) + length (words_of (drop 1 all)) =
-        ap length words_first ∙ length-append (words_in o.1) (words_of (drop 1 all)) in
+        let w : length (words_of_members all) ≡ length (words_in o.1) + length (words_of_members (drop 1 all)) =
+        ap length words_first ∙ length-append (words_in o.1) (words_of_members (drop 1 all)) in
         record {
           goes_on = worth_first ∙ ap (λ r. r >>= behind) v;
           places = omega (arith, n, w);
-          stand = subst (λ k. Stand us k (words_of (drop 1 all))) (sym n)
-              (right_stands us place (words_in o.1) (words_of (drop 1 all)) (subst (Stand us place) words_first h));
+          stand = subst (λ k. Stand us k (words_of_members (drop 1 all))) (sym n)
+              (right_stands us place (words_in o.1) (words_of_members (drop 1 all))
+              (subst (Stand us place) words_first h));
           lighter = omega (arith, weight_first means);
         }
 
@@ -97,8 +100,8 @@ module _ {means : WordUse → Meaning} {us : List WordUse} {place : ℕ} {all : 
     split : drop i all ≡ o ∷ drop (i + 1) all
     split = get_drop all i o is
 
-    words_here : words_of (drop i all) ≡ words_in o.1 ++ words_of (drop (i + 1) all)
-    words_here = ap words_of split
+    words_here : words_of_members (drop i all) ≡ words_in o.1 ++ words_of_members (drop (i + 1) all)
+    words_here = ap words_of_members split
 
     weight_here : weight_links (links means (drop i all))
         ≡ weight (expand means o.1) + weight_links (links means (drop (i + 1) all))
@@ -106,7 +109,7 @@ module _ {means : WordUse → Meaning} {us : List WordUse} {place : ℕ} {all : 
 
     -- the words of the member are at the place
     pub member_stand : Stand us next (words_in o.1)
-    member_stand = left_stands us next (words_in o.1) (words_of (drop (i + 1) all))
+    member_stand = left_stands us next (words_in o.1) (words_of_members (drop (i + 1) all))
         (subst (Stand us next) words_here running.stand)
 
     -- the member is lighter than the chain
@@ -114,31 +117,32 @@ module _ {means : WordUse → Meaning} {us : List WordUse} {place : ℕ} {all : 
     member_lighter = omega (arith, weight_here, running.lighter)
 
     abbrev others : Amount → Worth
-    others n = chained n (links means (drop (i + 1) all)) a
+    others n = chain_value n (links means (drop (i + 1) all)) a
 
     abbrev here : Worth
     here = with_worth o.0 held (value (expand means o.1) a)
 
     worth_here : value (chain means all) a ≡ (here >>= others)
-    worth_here = running.goes_on ∙ ap (λ y. chained held (links means y) a) split
+    worth_here = running.goes_on ∙ ap (λ y. chain_value held (links means y) a) split
         ∙ in_two (value (expand means o.1) a) (step_worth o.0 held) others
 
     -- the fault of the member is that of the chain
-    pub member_fault : (e : EvalFault) → Gives amount_in (Err e) here
-        → Gives amount_in (Err e) (value (chain means all) a)
+    pub member_fault : (e : EvalFault) → GivesWorth amount_in (Err e) here
+        → GivesWorth amount_in (Err e) (value (chain means all) a)
     member_fault e h = fault_first amount_in amount_in e here others (value (chain means all) a) worth_here h
 
     -- the loop continues with the result of the step
     pub goes : {x : Amount} {after : ℕ} → here ≡ Ok x → after ≡ next + length (words_in o.1)
         → IsRunning means us place all a (i + 1) x after
     goes {x} {after} j n =
-        let m : length (words_of (drop i all)) ≡ length (words_in o.1) + length (words_of (drop (i + 1) all)) =
-        ap length words_here ∙ length-append (words_in o.1) (words_of (drop (i + 1) all)) in
+        let m : length (words_of_members (drop i all)) ≡ length (words_in o.1) + length
+        (words_of_members (drop (i + 1) all)) =
+        ap length words_here ∙ length-append (words_in o.1) (words_of_members (drop (i + 1) all)) in
         record {
           goes_on = worth_here ∙ ap (λ r. r >>= others) j;
           places = omega (arith, n, m, running.places);
-          stand = subst (λ k. Stand us k (words_of (drop (i + 1) all))) (sym n)
-              (right_stands us next (words_in o.1) (words_of (drop (i + 1) all))
+          stand = subst (λ k. Stand us k (words_of_members (drop (i + 1) all))) (sym n)
+              (right_stands us next (words_in o.1) (words_of_members (drop (i + 1) all))
               (subst (Stand us next) words_here running.stand));
           lighter = omega (arith, weight_here, running.lighter);
         }
@@ -150,12 +154,12 @@ module _ {means : WordUse → Meaning} {us : List WordUse} {place : ℕ} {all : 
 
     -- the held quantity is the value of the chain
     pub end_worth : value (chain means all) a ≡ Ok held
-    end_worth = running.goes_on ∙ ap (λ y. chained held (links means y) a) none_left
+    end_worth = running.goes_on ∙ ap (λ y. chain_value held (links means y) a) none_left
 
     -- the place is past the words of the chain
-    pub end_place : next ≡ place + length (words_of all)
+    pub end_place : next ≡ place + length (words_of_members all)
     end_place =
-        let z : length (words_of (drop i all)) ≡ 0 = ap (λ y. length (words_of y)) none_left in
+        let z : length (words_of_members (drop i all)) ≡ 0 = ap (λ y. length (words_of_members y)) none_left in
         omega (arith, running.places, z)
 
 -- a chain without members has the value 1
@@ -165,6 +169,6 @@ empty_worth means [] a h = refl
 empty_worth means (o ∷ os) a h = cc
 
 -- a chain without members has no words
-pub empty_words : (all : List (Step × Syntax)) → length all ≡ 0 → length (words_of all) ≡ 0
+pub empty_words : (all : List (Step × Syntax)) → length all ≡ 0 → length (words_of_members all) ≡ 0
 empty_words [] h = refl
 empty_words (o ∷ os) h = cc

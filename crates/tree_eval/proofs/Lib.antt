@@ -1,9 +1,9 @@
 pub mod Alone
 pub mod Arms
-pub mod Binding
+pub mod StepBinds
 pub mod Calls
 pub mod Chains
-pub mod Listed
+pub mod MemberChains
 pub mod Multiples
 pub mod Places
 pub mod Same

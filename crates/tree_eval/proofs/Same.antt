@@ -11,10 +11,11 @@ use Rattle.tree_eval.specs.declared.holder.Part.TheVariants as part
 use Rattle.tree_eval.specs.declared.step.Step.TheVariants.{Multiply}
 use Rattle.tree_eval.specs.Entries.{alias, function_words, greatest_rank, meaning_of, part_words, rank_of_meaning}
 use Rattle.tree_eval.specs.Entries.{words_if}
-use Rattle.tree_eval.specs.Expanded as x
-use Rattle.tree_eval.specs.Expanded.{Meaning}
-use Rattle.tree_eval.specs.Expansion.{called, called_word, expand, expand_if, factor_links, inverted, inverted_word}
-use Rattle.tree_eval.specs.Expansion.{member_links, plain, plain_word, scaling, signing, term_links}
+use Rattle.tree_eval.specs.Expansions as x
+use Rattle.tree_eval.specs.Expansions.{Meaning}
+use Rattle.tree_eval.specs.Expansion.{call_expansion, called_word, expand, expand_if, factor_links, inverse_expansion}
+use Rattle.tree_eval.specs.Expansion.{inverted_word}
+use Rattle.tree_eval.specs.Expansion.{member_links, plain, plain_word, scale_step, sign_step, term_links}
 use Rattle.tree_eval.specs.Laws.{Agree}
 use Rattle.tree_eval.proofs.Places.{get_left, get_right}
 
@@ -42,11 +43,11 @@ module _ (m n : WordUse → Meaning) where
     expand_same (tree.Call w e) h =
         let a : m (called_word w) ≡ n (called_word w) = h 0 (called_word w) refl in
         let b : expand m e ≡ expand n e = expand_same e (agree_rest (called_word w) (words_in e) h)
-        in λ i. called (a i) (b i)
+        in λ i. call_expansion (a i) (b i)
     expand_same (tree.Inverse w e) h =
         let a : m (inverted_word w) ≡ n (inverted_word w) = h 0 (inverted_word w) refl in
         let b : expand m e ≡ expand n e = expand_same e (agree_rest (inverted_word w) (words_in e) h)
-        in λ i. inverted (a i) (b i)
+        in λ i. inverse_expansion (a i) (b i)
     expand_same (tree.Root kind e) h = ap (x.Root kind) (expand_same e h)
     expand_same (tree.Group e) h = ap x.Group (expand_same e h)
     expand_same (tree.Negate e) h = ap x.Negated (expand_same e h)
@@ -82,14 +83,14 @@ module _ (m n : WordUse → Meaning) where
     factors_same (Factor s e fs) h =
         let p : expand m e ≡ expand n e = expand_same e (agree_left (words_in e) (words_in_factors fs) h) in
         let q : factor_links m fs ≡ factor_links n fs =
-        factors_same fs (agree_right (words_in e) (words_in_factors fs) h) in λ i. x.Link (scaling s) (p i) (q i)
+        factors_same fs (agree_right (words_in e) (words_in_factors fs) h) in λ i. x.Link (scale_step s) (p i) (q i)
 
     terms_same : (ts : Terms) → Agree m n (words_in_terms ts) → term_links m ts ≡ term_links n ts
     terms_same NoTerm h = refl
     terms_same (Term s e ts) h =
         let p : expand m e ≡ expand n e = expand_same e (agree_left (words_in e) (words_in_terms ts) h) in
         let q : term_links m ts ≡ term_links n ts = terms_same ts (agree_right (words_in e) (words_in_terms ts) h)
-        in λ i. x.Link (signing s) (p i) (q i)
+        in λ i. x.Link (sign_step s) (p i) (q i)
 
   if_same : (o : Option Syntax) → Agree m n (words_if o) → expand_if m o ≡ expand_if n o
   if_same None h = refl

@@ -10,8 +10,8 @@ use Rattle.tree_eval.specs.declared.holder.Part.TheVariants as part
 use Rattle.tree_eval.specs.declared.meaning.Meaning.{Meaning as Told}
 use Rattle.tree_eval.specs.declared.meaning.Meaning.TheVariants as told
 use Rattle.tree_eval.specs.Entries.{alias, meaning_of, part_words}
-use Rattle.tree_eval.specs.Environment.{IsFunction, IsTold}
-use Rattle.tree_eval.specs.Expanded.{Callable, Meaning, One, Two, Callee, name_of}
+use Rattle.tree_eval.specs.Environment.{IsFunction, IsMeaningTold}
+use Rattle.tree_eval.specs.Expansions.{Callable, Meaning, One, Two, Callee, callable_name}
 use Rattle.tree_eval.specs.Expansion.{inverted_word}
 
 -- a list that is not empty has a word at place 0
@@ -21,7 +21,7 @@ first_word (u ∷ ws) h = (u, refl)
 
 -- the reported meaning of a word that is a function is the number of the function
 pub told_function : (has : ℕ → Bool) (callee : ℕ → Callable) (m : Meaning) (t : Told) (f : Callable)
-    → IsTold has callee m t → m ≡ Callee f
+    → IsMeaningTold has callee m t → m ≡ Callee f
     → ((x : ℕ) → t ≡ told.Function x → ⊥) → ⊥
 told_function has callee m (told.One o) f h e n = let p : One h.0 ≡ Callee f = sym h.1 ∙ e in cc
 told_function has callee m (told.Two p u) f h e n = let q : Two h.0 h.1 ≡ Callee f = sym h.2 ∙ e in cc
@@ -43,8 +43,9 @@ alias_target words means id f what target h e u s =
     ∙ ap (λ y. part_words y part.Forward) e in
     let p : Some (inverted_word target) ≡ Some u = ap (λ y. slice_get y 0) (sym w) ∙ s in
     let q : inverted_word target ≡ u = cc in
-    let a : alias (name_of f) (means (inverted_word target)) ≡ Callee f = ap (meaning_of means (name_of f)) (sym e)
+    let a : alias (callable_name f) (means (inverted_word target)) ≡ Callee f = ap (meaning_of means (callable_name f))
+    (sym e)
     ∙ h.1 in
     let r : (x : Callable) × (means (inverted_word target) ≡ Callee x) =
-    alias_of (name_of f) (means (inverted_word target)) f a in
+    alias_of (callable_name f) (means (inverted_word target)) f a in
     (r.0, ap means (sym q) ∙ r.1)

@@ -9,15 +9,15 @@ use Rattle.std.specs.FinMap.Entries.{find, put}
 use Rattle.std.specs.Ordering.{nat_cmp}
 use Rattle.frac128.specs.Divisors.{gcd, gcd_within}
 use Rattle.frac128.specs.Fraction.{Fraction, whole}
-use Rattle.frac128.specs.Steps.{reduced}
+use Rattle.frac128.specs.Steps.{lowest_terms}
 use Rattle.quantity.specs.Amount.{conform, matches}
-use Rattle.quantity.specs.Answers.{ranged}
+use Rattle.quantity.specs.Answers.{exponents_in_range}
 use Rattle.quantity.specs.Exponents.{Exponents, exponent_difference, exponent_of, exponent_product, exponent_sum}
 use Rattle.quantity.specs.Exponents.{exponents_by}
 use Rattle.quantity.specs.Merges.{Powers}
 use Rattle.quantity.specs.Powers.{power_exponents}
 use Rattle.quantity.specs.Products.{product_exponents, quotient_exponents}
-use Rattle.tree_eval.specs.Examples.{quotient}
+use Rattle.tree_eval.specs.Examples.{example_quotient}
 
 -- the map of a name with this exponent
 abbrev single : List ℕ → Fraction → Exponents
@@ -58,22 +58,25 @@ exponent_is p ps e name =
     ap (λ q. unwrap_or q (whole (pos 0))) (map_of.get-entries p name) ∙ ap (λ es. in_list es name) e
 
 power_is : (p : Exponents) (ps : Powers) → map_of.entries p ≡ ps → (by : Fraction)
-    → power_exponents p by ≡ ranged (λ name. exponent_product (in_list ps name) by) (names_in ps)
+    → power_exponents p by ≡ exponents_in_range (λ name. exponent_product (in_list ps name) by) (names_in ps)
 unfolding power_exponents
-power_is p ps e by = λ i. ranged (λ name. exponent_product (exponent_is p ps e name i) by) (names_in (e i))
+power_is p ps e by = λ i. exponents_in_range (λ name. exponent_product (exponent_is p ps e name i) by) (names_in (e i))
 
 module _ (p o : Exponents) (ps os : Powers) (left : map_of.entries p ≡ ps) (right : map_of.entries o ≡ os) where
   product_is : product_exponents p o
-      ≡ ranged (λ name. exponent_sum (in_list ps name) (in_list os name)) (names_in ps ++ names_in os)
+      ≡ exponents_in_range (λ name. exponent_sum (in_list ps name) (in_list os name)) (names_in ps ++ names_in os)
   unfolding product_exponents
-  product_is = λ i. ranged (λ name. exponent_sum (exponent_is p ps left name i) (exponent_is o os right name i))
+  product_is = λ i. exponents_in_range
+      (λ name. exponent_sum (exponent_is p ps left name i) (exponent_is o os right name i))
       (names_in (left i) ++ names_in (right i))
 
   quotient_is : quotient_exponents p o
-      ≡ ranged (λ name. exponent_difference (in_list ps name) (in_list os name)) (names_in ps ++ names_in os)
+      ≡ exponents_in_range (λ name. exponent_difference (in_list ps name) (in_list os name))
+      (names_in ps ++ names_in os)
   unfolding quotient_exponents
   quotient_is =
-      λ i. ranged (λ name. exponent_difference (exponent_is p ps left name i) (exponent_is o os right name i))
+      λ i. exponents_in_range
+      (λ name. exponent_difference (exponent_is p ps left name i) (exponent_is o os right name i))
       (names_in (left i) ++ names_in (right i))
 
   conform_is : conform p o ≡ matches (λ e. e) ps os
@@ -96,24 +99,25 @@ of_s : map_of.entries (single s one) ≡ (s, one) ∷ []
 of_s = one_entry s one
 
 pub number_times_m : product_exponents none (single m one) ≡ Some (single m one)
-unfolding ranged exponents_by reduced gcd gcd_within
+unfolding exponents_in_range exponents_by lowest_terms gcd gcd_within
 number_times_m = product_is none (single m one) [] _ no_entries of_m ∙ refl
 
 pub m_over_m : quotient_exponents (single m one) (single m one) ≡ Some none
-unfolding ranged exponents_by reduced gcd gcd_within
+unfolding exponents_in_range exponents_by lowest_terms gcd gcd_within
 m_over_m = quotient_is (single m one) (single m one) _ _ of_m of_m ∙ refl
 
 pub number_over_s : quotient_exponents none (single s one) ≡ Some (single s (whole (negsuc 0)))
-unfolding ranged exponents_by reduced gcd gcd_within
+unfolding exponents_in_range exponents_by lowest_terms gcd gcd_within
 number_over_s = quotient_is none (single s one) [] _ no_entries of_s ∙ refl
 
 pub m_squared : power_exponents (single m one) (whole (pos 2)) ≡ Some (single m (whole (pos 2)))
-unfolding ranged exponents_by reduced gcd gcd_within
+unfolding exponents_in_range exponents_by lowest_terms gcd gcd_within
 m_squared = power_is (single m one) _ of_m (whole (pos 2)) ∙ refl
 
-pub root_of_m : power_exponents (single m one) (quotient (pos 1) 2) ≡ Some (single m (quotient (pos 1) 2))
-unfolding ranged exponents_by reduced gcd gcd_within
-root_of_m = power_is (single m one) _ of_m (quotient (pos 1) 2) ∙ refl
+pub root_of_m : power_exponents (single m one) (example_quotient (pos 1) 2) ≡ Some
+    (single m (example_quotient (pos 1) 2))
+unfolding exponents_in_range exponents_by lowest_terms gcd gcd_within
+root_of_m = power_is (single m one) _ of_m (example_quotient (pos 1) 2) ∙ refl
 
 pub m_and_m : conform (single m one) (single m one) ≡ true
 m_and_m = conform_is (single m one) (single m one) _ _ of_m of_m ∙ refl

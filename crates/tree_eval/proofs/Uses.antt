@@ -7,17 +7,17 @@ use Rattle.expr_tree.specs.Syntax as tree
 use Rattle.expr_tree.specs.Syntax.{Syntax}
 use Rattle.expr_tree.specs.Words.{words_in}
 use Rattle.quantity.specs.Amount.{Amount}
-use Rattle.tree_eval.specs.Answers.{Gives}
+use Rattle.tree_eval.specs.Answers.{GivesWorth}
 use Rattle.tree_eval.specs.declared.direction.Direction.{Direction}
 use Rattle.tree_eval.specs.declared.direction.Direction.TheVariants.{Forward, Inverse}
 use Rattle.tree_eval.specs.declared.fault.EvalFault.{EvalFault}
 use Rattle.tree_eval.specs.declared.meaning.Meaning.{Meaning as Told}
 use Rattle.tree_eval.specs.declared.meaning.Meaning.TheVariants as told
-use Rattle.tree_eval.specs.Directions.{operated}
-use Rattle.tree_eval.specs.Environment.{IsTold, Stand}
-use Rattle.tree_eval.specs.Expanded.{Callable, Expanded, Meaning}
+use Rattle.tree_eval.specs.Directions.{operand_expansion}
+use Rattle.tree_eval.specs.Environment.{IsMeaningTold, Stand}
+use Rattle.tree_eval.specs.Expansions.{Callable, Expanded, Meaning}
 use Rattle.tree_eval.specs.Expansion.{called_word, expand, inverted_word}
-use Rattle.tree_eval.specs.Told.{IsUsable}
+use Rattle.tree_eval.specs.WordValues.{IsUsable}
 use Rattle.tree_eval.specs.Value.{value}
 use Rattle.tree_eval.proofs.Calls.{usable}
 use Rattle.tree_eval.proofs.Places.{first_stands, first_within, rest_stands}
@@ -26,27 +26,27 @@ use Rattle.tree_eval.proofs.Weight.{weight, weight_callable, weight_told}
 -- a word with its operand is heavier than its reported meaning with the operand
 operated_weight : (direction : Direction) (has : ℕ → Bool) (callee : ℕ → Callable) (m : Meaning) (t : Told)
     (y : Expanded)
-    → IsTold has callee m t → weight_told callee t + weight y < weight (operated direction m y)
+    → IsMeaningTold has callee m t → weight_told callee t + weight y < weight (operand_expansion direction m y)
 operated_weight Forward has callee m (told.One o) y h =
-    let w : weight (operated Forward m y) ≡ suc (suc (weight h.0) + (weight y + 0)) =
-    ap (λ k. weight (operated Forward k y)) h.1 in
+    let w : weight (operand_expansion Forward m y) ≡ suc (suc (weight h.0) + (weight y + 0)) =
+    ap (λ k. weight (operand_expansion Forward k y)) h.1 in
     omega (arith, w)
 operated_weight Forward has callee m (told.Two p u) y h =
-    let w : weight (operated Forward m y) ≡ suc (suc (weight h.0 + weight h.1) + (weight y + 0)) =
-    ap (λ k. weight (operated Forward k y)) h.2 in omega (arith, w)
+    let w : weight (operand_expansion Forward m y) ≡ suc (suc (weight h.0 + weight h.1) + (weight y + 0)) =
+    ap (λ k. weight (operand_expansion Forward k y)) h.2 in omega (arith, w)
 operated_weight Forward has callee m (told.Function id) y h =
-    let w : weight (operated Forward m y) ≡ suc (weight_callable (callee id) + weight y) =
-    ap (λ k. weight (operated Forward k y)) h.1 in omega (arith, w)
+    let w : weight (operand_expansion Forward m y) ≡ suc (weight_callable (callee id) + weight y) =
+    ap (λ k. weight (operand_expansion Forward k y)) h.1 in omega (arith, w)
 operated_weight Inverse has callee m (told.One o) y h =
-    let w : weight (operated Inverse m y) ≡ suc (suc (weight h.0) + (weight y + 0)) =
-    ap (λ k. weight (operated Inverse k y)) h.1 in
+    let w : weight (operand_expansion Inverse m y) ≡ suc (suc (weight h.0) + (weight y + 0)) =
+    ap (λ k. weight (operand_expansion Inverse k y)) h.1 in
     omega (arith, w)
 operated_weight Inverse has callee m (told.Two p u) y h =
-    let w : weight (operated Inverse m y) ≡ suc (suc (weight h.0 + weight h.1) + (weight y + 0)) =
-    ap (λ k. weight (operated Inverse k y)) h.2 in omega (arith, w)
+    let w : weight (operand_expansion Inverse m y) ≡ suc (suc (weight h.0 + weight h.1) + (weight y + 0)) =
+    ap (λ k. weight (operand_expansion Inverse k y)) h.2 in omega (arith, w)
 operated_weight Inverse has callee m (told.Function id) y h =
-    let w : weight (operated Inverse m y) ≡ suc (weight_callable (callee id) + weight y) =
-    ap (λ k. weight (operated Inverse k y)) h.1 in omega (arith, w)
+    let w : weight (operand_expansion Inverse m y) ≡ suc (weight_callable (callee id) + weight y) =
+    ap (λ k. weight (operand_expansion Inverse k y)) h.1 in omega (arith, w)
 
 -- a word with its operand as a tree
 abbrev pub use_of : Direction → List ℕ → Syntax → Syntax
@@ -66,7 +66,7 @@ words_of_use Inverse w x = refl
 
 -- the expansion of a call or an inverse is the word operated on that of the operand
 expand_use : (direction : Direction) (means : WordUse → Meaning) (w : List ℕ) (x : Syntax)
-    → expand means (use_of direction w x) ≡ operated direction (means (word_of direction w)) (expand means x)
+    → expand means (use_of direction w x) ≡ operand_expansion direction (means (word_of direction w)) (expand means x)
 expand_use Forward means w x = refl
 expand_use Inverse means w x = refl
 
@@ -83,13 +83,13 @@ module _ (direction : Direction) (us : List WordUse) (p : ℕ) {e : Syntax} (w :
 
   -- the meaning that is reported for the place
   module _ (means : WordUse → Meaning) (has : ℕ → Bool) (callee : ℕ → Callable) (t : Told)
-      (told : (u : WordUse) → slice_get us p ≡ Some u → IsTold has callee (means u) t) where
+      (told : (u : WordUse) → slice_get us p ≡ Some u → IsMeaningTold has callee (means u) t) where
     -- the meaning that is reported for the place is that of the word
-    use_told : IsTold has callee (means (word_of direction w)) t
+    use_told : IsMeaningTold has callee (means (word_of direction w)) t
     use_told = told (word_of direction w) (first_stands us p (word_of direction w) (words_in x) both_stand)
 
     -- the expansion of the tree is the word operated on its operand
-    use_expands : expand means e ≡ operated direction (means (word_of direction w)) (expand means x)
+    use_expands : expand means e ≡ operand_expansion direction (means (word_of direction w)) (expand means x)
     use_expands = ap (expand means) is ∙ expand_use direction means w x
 
     -- a call with the operand is permitted at a place: the word is usable, the words of the operand are there, and it
@@ -102,7 +102,8 @@ module _ (direction : Direction) (us : List WordUse) (p : ℕ) {e : Syntax} (w :
     -- a call with the operand is permitted at the next place
     pub use_operand : {q : ℕ} → q ≡ p + 1 → IsOperandAt q
     use_operand n =
-        let v : weight (expand means e) ≡ weight (operated direction (means (word_of direction w)) (expand means x)) =
+        let v : weight (expand means e) ≡ weight
+        (operand_expansion direction (means (word_of direction w)) (expand means x)) =
         ap weight use_expands in
         let l = operated_weight direction has callee (means (word_of direction w)) t (expand means x) use_told in
         record {
@@ -114,7 +115,8 @@ module _ (direction : Direction) (us : List WordUse) (p : ℕ) {e : Syntax} (w :
 
     -- a result for each word with this reported meaning is a result for the tree
     pub use_gives : (a : Option Amount) {A : Type 0} (seen : A → Amount) (r : Result A EvalFault)
-        → ((m : Meaning) → IsTold has callee m t → Gives seen r (value (operated direction m (expand means x)) a))
-        → Gives seen r (value (expand means e) a)
+        → ((m : Meaning) → IsMeaningTold has callee m t
+        → GivesWorth seen r (value (operand_expansion direction m (expand means x)) a))
+        → GivesWorth seen r (value (expand means e) a)
     use_gives a seen r h =
-        subst (λ y. Gives seen r (value y a)) (sym use_expands) (h (means (word_of direction w)) use_told)
+        subst (λ y. GivesWorth seen r (value y a)) (sym use_expands) (h (means (word_of direction w)) use_told)

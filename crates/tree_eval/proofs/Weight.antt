@@ -2,9 +2,9 @@
 use Rattle.std.proofs.Common.{ℕ, suc, ◌+◌}
 use Rattle.tree_eval.specs.declared.meaning.Meaning.{Meaning as Told}
 use Rattle.tree_eval.specs.declared.meaning.Meaning.TheVariants as told
-use Rattle.tree_eval.specs.Expanded.{Expanded, Number, Bar, Argument, Primitive, Dimensionless, Named, Prefixed}
-use Rattle.tree_eval.specs.Expanded.{Uncalled, Applied, Unapplied, Root, Group, Negated, Power, Chain}
-use Rattle.tree_eval.specs.Expanded.{Links, NoLink, Link, Callable, Function, Alias, Table, Given, Absent, Present}
+use Rattle.tree_eval.specs.Expansions.{Expanded, Number, Bar, Argument, Primitive, Dimensionless, Named, Prefixed}
+use Rattle.tree_eval.specs.Expansions.{Uncalled, Applied, Unapplied, Root, Group, Negated, Power, Chain}
+use Rattle.tree_eval.specs.Expansions.{Links, NoLink, Link, Callable, Function, Alias, Table, Given, Absent, Present}
 
 abbrev mutual
   pub weight : Expanded → ℕ

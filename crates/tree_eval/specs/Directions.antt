@@ -7,20 +7,20 @@ use Rattle.tree_eval.specs.declared.direction.Direction.{Direction}
 use Rattle.tree_eval.specs.declared.direction.Direction.TheVariants.{Forward, Inverse}
 use Rattle.tree_eval.specs.declared.holder.Holder.{Holder}
 use Rattle.tree_eval.specs.Environment.{IsFunction}
-use Rattle.tree_eval.specs.Expanded.{Callable, Expanded, Meaning, rank_of}
-use Rattle.tree_eval.specs.Expansion.{called, inverted}
+use Rattle.tree_eval.specs.Expansions.{Callable, Expanded, Meaning, rank_of}
+use Rattle.tree_eval.specs.Expansion.{call_expansion, inverse_expansion}
 use Rattle.tree_eval.specs.Steps.{Worth}
-use Rattle.tree_eval.specs.Value.{applied, most_rank, unapplied}
+use Rattle.tree_eval.specs.Value.{inverse_value_at, most_rank, value_at}
 
 -- the value of a function, or of its inverse, at a quantity
-abbrev pub taken : Direction → Callable → Amount → Worth
-taken Forward = applied
-taken Inverse = unapplied
+abbrev pub direction_value : Direction → Callable → Amount → Worth
+direction_value Forward = value_at
+direction_value Inverse = inverse_value_at
 
 -- a word applied to its operand, or inverted at it
-abbrev pub operated : Direction → Meaning → Expanded → Expanded
-operated Forward = called
-operated Inverse = inverted
+abbrev pub operand_expansion : Direction → Meaning → Expanded → Expanded
+operand_expansion Forward = call_expansion
+operand_expansion Inverse = inverse_expansion
 
 -- the function with this number has this entry, and its rank is not too great for a call
 abbrev pub IsCalled : (Holder → List WordUse) → (WordUse → Meaning) → ℕ → Callable → What → Type 0

@@ -7,9 +7,9 @@ use Rattle.tree_eval.specs.declared.end.End.{End}
 use Rattle.tree_eval.specs.declared.holder.Part.{Part}
 use Rattle.tree_eval.specs.declared.refusal.Refusal.{Refusal}
 use Rattle.tree_eval.specs.declared.fault.ValueFault.{ValueFault}
-use Rattle.tree_eval.specs.Refusals.{named}
+use Rattle.tree_eval.specs.Refusals.{refusal_fault}
 use Rattle.tree_eval.specs.Steps.{Worth}
-use Rattle.tree_eval.specs.Tests.{tested}
+use Rattle.tree_eval.specs.Tests.{end_test}
 
 -- an end with this part, which holds its unit, this unit, this span, and these refusals
 abbrev pub IsEnd : End → Part → Option Tree → Option Span → Refusal → Refusal → Type 0
@@ -18,4 +18,4 @@ IsEnd end part unit span wrong outside =
 
 -- the test of a quantity at this end of the function with this name, by the value of the unit
 abbrev pub end_tested : List ℕ → Result (Option Amount) ValueFault → End → Amount → Worth
-end_tested name unit end = tested (named end.wrong name) (named end.outside name) unit end.span.now
+end_tested name unit end = end_test (refusal_fault end.wrong name) (refusal_fault end.outside name) unit end.span.now

@@ -7,7 +7,7 @@ use Rattle.expr_tree.specs.Syntax.{Syntax}
 use Rattle.expr_tree.specs.Words.{words_in}
 use Rattle.tree_eval.specs.declared.holder.Part.{Part}
 use Rattle.tree_eval.specs.declared.holder.Part.TheVariants as part
-use Rattle.tree_eval.specs.Expanded.{Meaning, One, Callee, Primitive, Dimensionless, Function, Alias, Table, rank_of}
+use Rattle.tree_eval.specs.Expansions.{Meaning, One, Callee, Primitive, Dimensionless, Function, Alias, Table, rank_of}
 use Rattle.tree_eval.specs.Expansion.{expand, expand_if, inverted_word}
 
 abbrev pub words_if : Option Syntax → List WordUse

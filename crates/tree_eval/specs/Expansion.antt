@@ -10,9 +10,9 @@ use Rattle.expr_tree.specs.Syntax as tree
 use Rattle.expr_tree.specs.Syntax.{Syntax, Members, NoMember, Member, Factors, NoFactor, Factor, Terms, NoTerm, Term}
 use Rattle.tree_eval.specs.declared.step.Step.{Step}
 use Rattle.tree_eval.specs.declared.step.Step.TheVariants.{Multiply, Divide, Add, Subtract}
-use Rattle.tree_eval.specs.Expanded.{Expanded, Number, Bar, Argument, Dimensionless, Named, Prefixed}
-use Rattle.tree_eval.specs.Expanded.{Uncalled, Applied, Unapplied, Root, Group, Negated, Power, Chain}
-use Rattle.tree_eval.specs.Expanded.{Links, NoLink, Link, Given, Absent, Present, Meaning, One, Two, Callee}
+use Rattle.tree_eval.specs.Expansions.{Expanded, Number, Bar, Argument, Dimensionless, Named, Prefixed}
+use Rattle.tree_eval.specs.Expansions.{Uncalled, Applied, Unapplied, Root, Group, Negated, Power, Chain}
+use Rattle.tree_eval.specs.Expansions.{Links, NoLink, Link, Given, Absent, Present, Meaning, One, Two, Callee}
 
 -- a single word
 abbrev pub plain : Meaning → Expanded
@@ -21,22 +21,22 @@ plain (Two x y) = Prefixed x y
 plain (Callee f) = Uncalled f
 
 -- a word before its operand: a function is applied, any other meaning is multiplied
-abbrev pub called : Meaning → Expanded → Expanded
-called (Callee f) y = Applied f y
-called m y = Chain (plain m) (Link Multiply y NoLink)
+abbrev pub call_expansion : Meaning → Expanded → Expanded
+call_expansion (Callee f) y = Applied f y
+call_expansion m y = Chain (plain m) (Link Multiply y NoLink)
 
 -- a word after a `~`, which is a function
-abbrev pub inverted : Meaning → Expanded → Expanded
-inverted (Callee f) y = Unapplied f y
-inverted m y = Chain (plain m) (Link Multiply y NoLink)
+abbrev pub inverse_expansion : Meaning → Expanded → Expanded
+inverse_expansion (Callee f) y = Unapplied f y
+inverse_expansion m y = Chain (plain m) (Link Multiply y NoLink)
 
-abbrev pub scaling : Scale → Step
-scaling scale.Multiply = Multiply
-scaling scale.Divide = Divide
+abbrev pub scale_step : Scale → Step
+scale_step scale.Multiply = Multiply
+scale_step scale.Divide = Divide
 
-abbrev pub signing : Sign → Step
-signing sign.Plus = Add
-signing sign.Minus = Subtract
+abbrev pub sign_step : Sign → Step
+sign_step sign.Plus = Add
+sign_step sign.Minus = Subtract
 
 -- a plain use of a word
 abbrev pub plain_word : List ℕ → WordUse
@@ -56,8 +56,8 @@ module _ (means : WordUse → Meaning) where
     expand (tree.Bar x y) = Bar x y
     expand (tree.Word w) = plain (means (plain_word w))
     expand tree.Argument = Argument
-    expand (tree.Call w e) = called (means (called_word w)) (expand e)
-    expand (tree.Inverse w e) = inverted (means (inverted_word w)) (expand e)
+    expand (tree.Call w e) = call_expansion (means (called_word w)) (expand e)
+    expand (tree.Inverse w e) = inverse_expansion (means (inverted_word w)) (expand e)
     expand (tree.Root kind e) = Root kind (expand e)
     expand (tree.Group e) = Group (expand e)
     expand (tree.Negate e) = Negated (expand e)
@@ -75,11 +75,11 @@ module _ (means : WordUse → Meaning) where
 
     pub factor_links : Factors → Links
     factor_links NoFactor = NoLink
-    factor_links (Factor s e fs) = Link (scaling s) (expand e) (factor_links fs)
+    factor_links (Factor s e fs) = Link (scale_step s) (expand e) (factor_links fs)
 
     pub term_links : Terms → Links
     term_links NoTerm = NoLink
-    term_links (Term s e ts) = Link (signing s) (expand e) (term_links ts)
+    term_links (Term s e ts) = Link (sign_step s) (expand e) (term_links ts)
 
   abbrev pub expand_if : Option Syntax → Given
   expand_if None = Absent

@@ -4,7 +4,7 @@ pub mod Ends
 pub mod Entries
 pub mod Environment
 pub mod Examples
-pub mod Expanded
+pub mod Expansions
 pub mod Expansion
 pub mod Faults
 pub mod Laws
@@ -14,6 +14,6 @@ pub mod Outcomes
 pub mod Refusals
 pub mod Steps
 pub mod Tests
-pub mod Told
+pub mod WordValues
 pub mod UnitExamples
 pub mod Value

@@ -4,23 +4,23 @@ use Rattle.expr_tree.specs.declared.word_list.WordUse.{WordUse}
 use Rattle.expr_tree.specs.Syntax.{Syntax, Word}
 use Rattle.expr_tree.specs.Words.{words_in}
 use Rattle.frac128.specs.declared.fault.FracFault.{FracFault}
-use Rattle.frac128.specs.Decimals.{value_of}
+use Rattle.frac128.specs.Decimals.{value_of_decimal}
 use Rattle.frac128.specs.Fraction.{Fraction}
 use Rattle.quantity.specs.Amount.{Amount}
 use Rattle.units_io.specs.Outcomes.{◌>>=◌}
 use Rattle.tree_eval.specs.declared.multiple.Factor.{Factor}
 use Rattle.tree_eval.specs.declared.multiple.Factor.TheVariants as factor
 use Rattle.tree_eval.specs.declared.step.Step.TheVariants.{Multiply}
-use Rattle.tree_eval.specs.Expanded.{Meaning}
+use Rattle.tree_eval.specs.Expansions.{Meaning}
 use Rattle.tree_eval.specs.Expansion.{expand}
 use Rattle.tree_eval.specs.Operands.{with_worth}
 use Rattle.tree_eval.specs.Steps.{Worth, number, numeral_quotient}
 use Rattle.tree_eval.specs.Value.{value}
 
 -- the number that a factor states, a numeral or a quotient of two
-abbrev pub said : Factor → Result Fraction FracFault
-said (factor.Numeral x) = value_of x.now
-said (factor.Bar bar) = numeral_quotient bar.now.top bar.now.bottom
+abbrev pub factor_number : Factor → Result Fraction FracFault
+factor_number (factor.Numeral x) = value_of_decimal x.now
+factor_number (factor.Bar bar) = numeral_quotient bar.now.top bar.now.bottom
 
 -- the value of a tree is this number in every context
 abbrev pub SaysNumber : Syntax → Result Fraction FracFault → Type 0
@@ -31,5 +31,5 @@ abbrev pub IsMultiple : List Syntax → Result Fraction FracFault → Type 0
 IsMultiple es x = (e : Syntax) × (w : List ℕ) × (es ≡ e ∷ Word w ∷ []) × (words_in e ≡ []) × SaysNumber e x
 
 -- a number times the value of a word
-abbrev pub multiple : Result Fraction FracFault → Worth → Worth
-multiple x worth = number x >>= λ left. with_worth Multiply left worth
+abbrev pub word_multiple : Result Fraction FracFault → Worth → Worth
+word_multiple x worth = number x >>= λ left. with_worth Multiply left worth

@@ -2,19 +2,19 @@
 use Rattle.std.specs.Prelude.{None, Ok, Err}
 use Rattle.tree_eval.specs.declared.outcome.Outcome.{Outcome}
 use Rattle.tree_eval.specs.declared.outcome.Outcome.TheVariants as outcome
-use Rattle.tree_eval.specs.Expanded.{Meaning, One, Two, Callee, Prefixed}
+use Rattle.tree_eval.specs.Expansions.{Meaning, One, Two, Callee, Prefixed}
 use Rattle.tree_eval.specs.Steps.{Worth, one}
 use Rattle.tree_eval.specs.Value.{value}
 
 -- the outcome that stores a value or a fault
-abbrev pub kept : Worth → Outcome
-kept (Ok q) = outcome.Value q
-kept (Err fault) = outcome.Fault fault
+abbrev pub stored_outcome : Worth → Outcome
+stored_outcome (Ok q) = outcome.Value q
+stored_outcome (Err fault) = outcome.Fault fault
 
 -- the outcome of a meaning
 abbrev pub outcome_of : Meaning → Outcome
-outcome_of (One x) = kept (value x None)
-outcome_of (Two x y) = kept (value (Prefixed x y) None)
+outcome_of (One x) = stored_outcome (value x None)
+outcome_of (Two x y) = stored_outcome (value (Prefixed x y) None)
 outcome_of (Callee f) = outcome.Callable
 
 -- the value or the fault of an outcome that is not `Callable`

@@ -8,25 +8,25 @@ use Rattle.tree_eval.specs.declared.fault.ValueFault.{ValueFault}
 use Rattle.tree_eval.specs.declared.fault.ValueFault.TheVariants as fault
 use Rattle.tree_eval.specs.declared.refusal.Refusal.{Refusal}
 use Rattle.tree_eval.specs.declared.refusal.Refusal.TheVariants as refusal
-use Rattle.tree_eval.specs.Faults.{fault_of}
+use Rattle.tree_eval.specs.Faults.{quantity_step_fault}
 
 -- the fault of a refusal by the function with this name
-abbrev pub named : Refusal → List ℕ → ValueFault
-named refusal.NotInDomain name = fault.NotInDomain name
-named refusal.NotInRange name = fault.NotInRange name
-named refusal.WrongArgument name = fault.WrongArgument name
-named refusal.WrongResult name = fault.WrongResult name
-named refusal.NoInverse name = fault.NoInverse name
-named refusal.OutsideTable name = fault.OutsideTable name
-named refusal.NeedsArgument name = fault.NeedsArgument name
-named refusal.CallsTooDeep name = fault.CallsTooDeep name
+abbrev pub refusal_fault : Refusal → List ℕ → ValueFault
+refusal_fault refusal.NotInDomain name = fault.NotInDomain name
+refusal_fault refusal.NotInRange name = fault.NotInRange name
+refusal_fault refusal.WrongArgument name = fault.WrongArgument name
+refusal_fault refusal.WrongResult name = fault.WrongResult name
+refusal_fault refusal.NoInverse name = fault.NoInverse name
+refusal_fault refusal.OutsideTable name = fault.OutsideTable name
+refusal_fault refusal.NeedsArgument name = fault.NeedsArgument name
+refusal_fault refusal.CallsTooDeep name = fault.CallsTooDeep name
 
 -- the result is this fault, or memory ran out
-abbrev pub IsFault : EvalFault → ValueFault → Type 0
-IsFault (Value fault) expected = expected ≡ fault
-IsFault OutOfMemory expected = ⊤
+abbrev pub IsEvalFault : EvalFault → ValueFault → Type 0
+IsEvalFault (Value fault) expected = expected ≡ fault
+IsEvalFault OutOfMemory expected = ⊤
 
 -- the fault of a step is propagated, lack of memory included
-abbrev pub IsFaultOf : QuantityFault → EvalFault → Type 0
-IsFaultOf step.OutOfMemory answer = answer ≡ OutOfMemory
-IsFaultOf step_fault answer = IsFault answer (fault_of step_fault)
+abbrev pub IsStepFault : QuantityFault → EvalFault → Type 0
+IsStepFault step.OutOfMemory answer = answer ≡ OutOfMemory
+IsStepFault step_fault answer = IsEvalFault answer (quantity_step_fault step_fault)

@@ -5,9 +5,9 @@ use Rattle.units_io.specs.Outcomes.{◌>>=◌}
 use Rattle.expr_tree.specs.declared.operator.RootKind.{RootKind}
 use Rattle.expr_tree.specs.Syntax.{degree}
 use Rattle.frac128.specs.declared.fault.FracFault.{FracFault}
-use Rattle.frac128.specs.Decimals.{Decimal, value_of}
-use Rattle.frac128.specs.Fraction.{Fraction, negated, whole}
-use Rattle.frac128.specs.Steps.{over, ratio}
+use Rattle.frac128.specs.Decimals.{Decimal, value_of_decimal}
+use Rattle.frac128.specs.Fraction.{Fraction, negative_of, whole}
+use Rattle.frac128.specs.Steps.{fraction_quotient, ratio}
 use Rattle.quantity.specs.Amount.{Amount}
 use Rattle.quantity.specs.Powers.{power_of}
 use Rattle.quantity.specs.Products.{product_of, quotient_of}
@@ -16,7 +16,7 @@ use Rattle.quantity.specs.declared.fault.QuantityFault.{QuantityFault}
 use Rattle.tree_eval.specs.declared.fault.ValueFault.{ValueFault}
 use Rattle.tree_eval.specs.declared.fault.ValueFault.TheVariants.{Number}
 use Rattle.tree_eval.specs.declared.step.Step.{Step}
-use Rattle.tree_eval.specs.Faults.{fault_of}
+use Rattle.tree_eval.specs.Faults.{quantity_step_fault}
 use Rattle.tree_eval.specs.declared.step.Step.TheVariants.{Multiply, Divide, Add, Subtract}
 
 abbrev pub Worth : Type 0
@@ -30,9 +30,9 @@ abbrev pub one : Amount
 one = plain_number (whole (pos 1))
 
 -- the result of a step on fractions
-abbrev pub fraction : Result Fraction FracFault → Result Fraction ValueFault
-fraction (Ok x) = Ok x
-fraction (Err fault) = Err (Number fault)
+abbrev pub fraction_step : Result Fraction FracFault → Result Fraction ValueFault
+fraction_step (Ok x) = Ok x
+fraction_step (Err fault) = Err (Number fault)
 
 -- the result of a step on fractions, as a number without exponents
 abbrev pub number : Result Fraction FracFault → Worth
@@ -42,14 +42,14 @@ number (Err fault) = Err (Number fault)
 -- the result of a step on quantities
 abbrev pub amount : Result Amount QuantityFault → Worth
 amount (Ok x) = Ok x
-amount (Err fault) = Err (fault_of fault)
+amount (Err fault) = Err (quantity_step_fault fault)
 
 -- the quotient of two numerals
 abbrev pub numeral_quotient : Decimal → Decimal → Result Fraction FracFault
 numeral_quotient x y = do
-  p ← value_of x
-  q ← value_of y
-  over p q
+  p ← value_of_decimal x
+  q ← value_of_decimal y
+  fraction_quotient p q
 
 -- the step that takes one more member
 abbrev pub step_of : Step → Amount → Amount → Result Amount QuantityFault
@@ -67,5 +67,5 @@ root kind x = do
   exponent ← number (ratio (pos 1) (pos (degree kind)))
   amount (power_of x exponent)
 
-abbrev pub opposite : Amount → Amount
-opposite x = record x { value = negated x.value }
+abbrev pub negative_amount : Amount → Amount
+negative_amount x = record x { value = negative_of x.value }

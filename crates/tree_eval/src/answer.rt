@@ -4,7 +4,7 @@ ghost use Rattle.std.specs.Prelude.{Result};
 ghost use Rattle.quantity.specs.Amount.{Amount};
 ghost use Rattle.quantity.specs.Answers.{IsAnswer, IsStepOnNumbers};
 ghost use Rattle.quantity.specs.declared.fault.QuantityFault.{QuantityFault as StepFault};
-ghost use Rattle.tree_eval.specs.Answers.{Answers};
+ghost use Rattle.tree_eval.specs.Answers.{IsEvalResult};
 ghost use Rattle.tree_eval.specs.Steps as spec;
 
 use crate::fault::EvalFault;
@@ -17,7 +17,7 @@ pub(crate) fn fraction_answer(
     alloc: Global,
     answer: Result<Frac, FracFault>,
 ) -> Result<Frac, EvalFault>
-    ensures { Answers result (spec.fraction answer) }
+    ensures { IsEvalResult result (spec.fraction_step answer) }
 {
     match answer {
         Ok(x) => Ok(x),
@@ -30,7 +30,7 @@ pub(crate) fn number_answer(
     alloc: Global,
     answer: Result<Frac, FracFault>,
 ) -> Result<Quantity, EvalFault>
-    ensures { Answers result (spec.number answer) }
+    ensures { IsEvalResult result (spec.number answer) }
 {
     match answer {
         Ok(x) => Ok(Quantity::number(alloc, x)),
@@ -44,7 +44,7 @@ pub(crate) fn scaled_answer(
     answer: Result<Quantity, FracFault>,
 ) -> Result<Quantity, EvalFault>
     ensures { (expected : Result Amount StepFault) → IsStepOnNumbers answer expected
-        → Answers result (spec.amount expected) }
+        → IsEvalResult result (spec.amount expected) }
 {
     match answer {
         Ok(q) => Ok(q),
@@ -58,7 +58,7 @@ pub(crate) fn amount_answer(
     answer: Result<Quantity, QuantityFault>,
 ) -> Result<Quantity, EvalFault>
     ensures { (expected : Result Amount StepFault) → IsAnswer answer expected
-        → Answers result (spec.amount expected) }
+        → IsEvalResult result (spec.amount expected) }
 {
     match answer {
         Ok(q) => Ok(q),

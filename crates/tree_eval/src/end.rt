@@ -2,9 +2,9 @@
 
 ghost use Rattle.std.specs.Prelude.{◌≡◌, Ok};
 ghost use Rattle.std.specs.Option.{option_copied};
-ghost use Rattle.tree_eval.specs.Answers.{Answers, Gives};
+ghost use Rattle.tree_eval.specs.Answers.{GivesWorth, IsEvalResult};
 ghost use Rattle.tree_eval.specs.Ends.{IsEnd, end_tested};
-ghost use Rattle.tree_eval.specs.Refusals.{named};
+ghost use Rattle.tree_eval.specs.Refusals.{refusal_fault};
 ghost use Rattle.tree_eval.specs.Tests as spec;
 
 use crate::answer::fraction_answer;
@@ -87,7 +87,7 @@ impl<'f> End<'f> {
         unit: Option<&Quantity>,
         q: &Quantity,
     ) -> Result<(), EvalFault>
-        ensures { Gives (λ _. q.now) result (end_tested name.now (Ok (option_copied unit.entry)) self.now q.now) }
+        ensures { GivesWorth (λ _. q.now) result (end_tested name.now (Ok (option_copied unit.entry)) self.now q.now) }
     {
         self.check_unit(alloc, name, unit, q)?;
         self.check_span(alloc, name, unit, q)
@@ -101,7 +101,7 @@ impl<'f> End<'f> {
         unit: Option<&Quantity>,
         q: &Quantity,
     ) -> Result<(), EvalFault>
-        ensures { Gives (λ _. q.now) result (spec.conforming (named self.now.wrong name.now)
+        ensures { GivesWorth (λ _. q.now) result (spec.unit_check (refusal_fault self.now.wrong name.now)
             (option_copied unit.entry) self.now.span.now q.now) }
     {
         let conforms = match unit {
@@ -123,7 +123,7 @@ impl<'f> End<'f> {
         unit: Option<&Quantity>,
         q: &Quantity,
     ) -> Result<(), EvalFault>
-        ensures { Gives (λ _. q.now) result (spec.inside (named self.now.outside name.now)
+        ensures { GivesWorth (λ _. q.now) result (spec.inside (refusal_fault self.now.outside name.now)
             (option_copied unit.entry) self.now.span.now q.now) }
     {
         let Some(span) = self.span else {
@@ -139,7 +139,7 @@ impl<'f> End<'f> {
 
 // Returns the number of a quantity in the unit, or its own number if there is no unit.
 fn number_in(alloc: Global, unit: Option<&Quantity>, q: &Quantity) -> Result<Frac, EvalFault>
-    ensures { Answers result (spec.number_in (option_copied unit.entry) q.now) }
+    ensures { IsEvalResult result (spec.number_in (option_copied unit.entry) q.now) }
 {
     match unit {
         Some(unit) => fraction_answer(alloc, q.value().div(&unit.value())),

@@ -1,7 +1,7 @@
 //! Why an expression has no value.
 
 ghost use Rattle.std.specs.Prelude.{◌≡◌, IfOk};
-ghost use Rattle.tree_eval.specs.Refusals.{IsFault, IsFaultOf};
+ghost use Rattle.tree_eval.specs.Refusals.{IsEvalFault, IsStepFault};
 
 use crate::kept_fault::KeptFault;
 use frac128::FracFault;
@@ -88,7 +88,7 @@ impl From<AllocError> for EvalFault {
 impl EvalFault {
     // Wraps a fault. Returns `OutOfMemory` if there is no memory for it.
     pub(crate) fn of_value(alloc: Global, fault: ValueFault) -> EvalFault
-        ensures { IsFault result fault }
+        ensures { IsEvalFault result fault }
     {
         match KeptFault::new(alloc, fault) {
             Ok(fault) => EvalFault::Value(fault),
@@ -98,14 +98,14 @@ impl EvalFault {
 
     // Wraps the fault of a step on numbers. Returns `OutOfMemory` if there is no memory for it.
     pub(crate) fn of_number(alloc: Global, fault: FracFault) -> EvalFault
-        ensures { IsFault result (ValueFault.Number fault) }
+        ensures { IsEvalFault result (ValueFault.Number fault) }
     {
         EvalFault::of_value(alloc, ValueFault::Number(fault))
     }
 
     // Wraps the fault of a step on quantities. Returns `OutOfMemory` if there is no memory for it.
     pub(crate) fn of_step(alloc: Global, fault: QuantityFault) -> EvalFault
-        ensures { IsFaultOf fault result }
+        ensures { IsStepFault fault result }
     {
         match fault {
             QuantityFault::Number(fault) => EvalFault::of_number(alloc, fault),

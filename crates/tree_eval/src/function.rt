@@ -5,11 +5,11 @@ ghost use Rattle.def_entry.specs.Entries as entry;
 ghost use Rattle.def_entry.specs.Views.{function_view, table_view};
 ghost use Rattle.expr_tree.specs.declared.word_list.WordUse.{WordUse};
 ghost use Rattle.expr_tree.specs.Trees.{syntax};
-ghost use Rattle.tree_eval.specs.Answers.{Answers, Gives};
-ghost use Rattle.tree_eval.specs.Directions.{IsCalled, taken};
+ghost use Rattle.tree_eval.specs.Answers.{GivesWorth, IsEvalResult};
+ghost use Rattle.tree_eval.specs.Directions.{IsCalled, direction_value};
 ghost use Rattle.tree_eval.specs.Ends.{end_tested};
 ghost use Rattle.tree_eval.specs.Entries.{words_if};
-ghost use Rattle.tree_eval.specs.Expanded as expanded;
+ghost use Rattle.tree_eval.specs.Expansions as expanded;
 ghost use Rattle.tree_eval.specs.Expansion.{expand_if};
 ghost use Rattle.tree_eval.specs.Value as spec;
 
@@ -18,11 +18,11 @@ use crate::direction::Direction;
 use crate::end::End;
 use crate::env::Env;
 use crate::fault::EvalFault;
-use crate::held::{Held, lent};
+use crate::held_quantity::{Held, lend_quantity};
 use crate::holder::{Holder, Part};
 use crate::meaning::Meaning;
 use crate::refusal::Refusal;
-use crate::scope::tree_worth;
+use crate::scope::evaluate_holder;
 use crate::step::Step;
 use crate::table::looked_up;
 use def_entry::{FunctionDef, TableDef, What};
@@ -46,7 +46,7 @@ pub fn apply<E: Env>(
     arg: &Quantity,
 ) -> Result<Quantity, EvalFault>
     requires { IsTrue (E.has env.now id) }
-    ensures { Answers result (spec.applied (E.callee env.now id) arg.now) }
+    ensures { IsEvalResult result (spec.value_at (E.callee env.now id) arg.now) }
 {
     take(alloc, env, Direction::Forward, id, arg)
 }
@@ -65,7 +65,7 @@ pub fn unapply<E: Env>(
     value: &Quantity,
 ) -> Result<Quantity, EvalFault>
     requires { IsTrue (E.has env.now id) }
-    ensures { Answers result (spec.unapplied (E.callee env.now id) value.now) }
+    ensures { IsEvalResult result (spec.inverse_value_at (E.callee env.now id) value.now) }
 {
     take(alloc, env, Direction::Inverse, id, value)
 }
@@ -80,7 +80,7 @@ pub(crate) fn take<E: Env>(
     at: &Quantity,
 ) -> Result<Quantity, EvalFault>
     requires { IsTrue (E.has env.now id) }
-    ensures { Answers result (taken direction (E.callee env.now id) at.now) }
+    ensures { IsEvalResult result (direction_value direction (E.callee env.now id) at.now) }
 {
     if env.rank(id) > MOST_RANK {
         return Err(Refusal::CallsTooDeep.by(alloc, env.function_name(id)));
@@ -111,11 +111,11 @@ fn apply_function<E: Env>(
     requires has { IsTrue (E.has env.now id) }
     requires is { IsCalled (E.words env.now) (E.means env.now) id (E.callee env.now id)
         (entry.Function (function_view f.now)) }
-    ensures { Answers result (spec.applied (E.callee env.now id) arg.now) }
+    ensures { IsEvalResult result (spec.value_at (E.callee env.now id) arg.now) }
 {
     check_end(alloc, env, id, &End::argument(f), arg)?;
     let holder = Holder::Of(id, Part::Forward);
-    let result = tree_worth(alloc, env, holder, &f.forward, Some(arg))?;
+    let result = evaluate_holder(alloc, env, holder, &f.forward, Some(arg))?;
     check_end(alloc, env, id, &End::result(f), result.get())?;
     Ok(result.own(alloc)?)
 }
@@ -132,14 +132,14 @@ fn unapply_function<E: Env>(
     requires has { IsTrue (E.has env.now id) }
     requires is { IsCalled (E.words env.now) (E.means env.now) id (E.callee env.now id)
         (entry.Function (function_view f.now)) }
-    ensures { Answers result (spec.unapplied (E.callee env.now id) value.now) }
+    ensures { IsEvalResult result (spec.inverse_value_at (E.callee env.now id) value.now) }
 {
     let Some(inverse) = &f.inverse else {
         return Err(Refusal::NoInverse.by(alloc, env.function_name(id)));
     };
     check_end(alloc, env, id, &End::value(f), value)?;
     let holder = Holder::Of(id, Part::Inverse);
-    let result = tree_worth(alloc, env, holder, inverse, Some(value))?;
+    let result = evaluate_holder(alloc, env, holder, inverse, Some(value))?;
     check_end(alloc, env, id, &End::inverse(f), result.get())?;
     Ok(result.own(alloc)?)
 }
@@ -155,15 +155,15 @@ fn check_end<E: Env>(
 ) -> Result<(), EvalFault>
     requires has { IsTrue (E.has env.now id) }
     requires words { E.words env.now (Holder.Of id end.now.part) ≡ words_if (option_map syntax end.now.unit.now) }
-    ensures { Gives (λ _. q.now) result (end_tested (expanded.name_of (E.callee env.now id))
-        (spec.unit_value (expand_if (E.means env.now) (option_map syntax end.now.unit.now))) end.now q.now) }
+    ensures { GivesWorth (λ _. q.now) result (end_tested (expanded.callable_name (E.callee env.now id))
+        (spec.optional_unit_value (expand_if (E.means env.now) (option_map syntax end.now.unit.now))) end.now q.now) }
 {
     let holder = Holder::Of(id, end.part);
     let unit = match end.unit {
-        Some(unit) => Some(tree_worth(alloc, env, holder, unit, None)?),
+        Some(unit) => Some(evaluate_holder(alloc, env, holder, unit, None)?),
         None => None,
     };
-    end.check(alloc, env.function_name(id), lent(&unit), q)
+    end.check(alloc, env.function_name(id), lend_quantity(&unit), q)
 }
 
 // Evaluates a table at an argument.
@@ -178,14 +178,14 @@ fn apply_table<E: Env>(
     requires has { IsTrue (E.has env.now id) }
     requires is { IsCalled (E.words env.now) (E.means env.now) id (E.callee env.now id)
         (entry.Table (table_view table.now)) }
-    ensures { Answers result (spec.applied (E.callee env.now id) arg.now) }
+    ensures { IsEvalResult result (spec.value_at (E.callee env.now id) arg.now) }
 {
     let name = env.function_name(id);
     if !arg.is_number() {
         return Err(Refusal::WrongArgument.by(alloc, name));
     }
     let holder = Holder::Of(id, Part::TableUnit);
-    let unit = tree_worth(alloc, env, holder, &table.unit, None)?;
+    let unit = evaluate_holder(alloc, env, holder, &table.unit, None)?;
     let y = looked_up(alloc, name, table.points.at(&arg.value()))?;
     Step::Multiply.join(alloc, Held::Own(y), unit.get())
 }
@@ -202,11 +202,11 @@ fn unapply_table<E: Env>(
     requires has { IsTrue (E.has env.now id) }
     requires is { IsCalled (E.words env.now) (E.means env.now) id (E.callee env.now id)
         (entry.Table (table_view table.now)) }
-    ensures { Answers result (spec.unapplied (E.callee env.now id) value.now) }
+    ensures { IsEvalResult result (spec.inverse_value_at (E.callee env.now id) value.now) }
 {
     let name = env.function_name(id);
     let holder = Holder::Of(id, Part::TableUnit);
-    let unit = tree_worth(alloc, env, holder, &table.unit, None)?;
+    let unit = evaluate_holder(alloc, env, holder, &table.unit, None)?;
     if !value.conforms(unit.get()) {
         return Err(Refusal::WrongArgument.by(alloc, name));
     }

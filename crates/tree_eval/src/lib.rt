@@ -7,7 +7,7 @@ mod end;
 mod env;
 mod fault;
 mod function;
-mod held;
+mod held_quantity;
 mod holder;
 mod kept_fault;
 mod laws;

@@ -3,16 +3,16 @@
 ghost use Rattle.std.specs.Prelude.{◌≡◌, [], IfSome};
 ghost use Rattle.expr_tree.specs.Trees.{syntax, trees_of};
 ghost use Rattle.expr_tree.specs.Words.{words_in};
-ghost use Rattle.tree_eval.specs.Answers.{Answers, Gives, amount_in};
+ghost use Rattle.tree_eval.specs.Answers.{GivesWorth, IsEvalResult, amount_in};
 ghost use Rattle.tree_eval.specs.Multiples as spec;
 ghost use Rattle.tree_eval.specs.Operands.{with_worth};
 ghost use Rattle.tree_eval.specs.Steps.{step_worth};
-ghost use Rattle.tree_eval.specs.Told.{IsUsable, told_worth};
+ghost use Rattle.tree_eval.specs.WordValues.{IsUsable, told_worth};
 
 use crate::answer::{amount_answer, number_answer};
 use crate::env::Env;
 use crate::fault::EvalFault;
-use crate::held::Held;
+use crate::held_quantity::Held;
 use crate::meaning::Meaning;
 use crate::numeral::quotient;
 use crate::outcome::Outcome;
@@ -33,7 +33,7 @@ pub(crate) enum Factor<'t> {
 impl Factor<'_> {
     // Returns the number.
     fn value(self) -> Result<Frac, FracFault>
-        ensures { result ≡ spec.said self.entry }
+        ensures { result ≡ spec.factor_number self.entry }
     {
         match self {
             Factor::Numeral(x) => x.value(),
@@ -46,7 +46,7 @@ impl Factor<'_> {
 // before further calls nest.
 #[inline(never)]
 pub(crate) fn factor_of_word(trees: &Trees) -> Option<Factor<'_>>
-    ensures { IfSome result (λ factor. spec.IsMultiple (trees_of trees.now) (spec.said factor)) }
+    ensures { IfSome result (λ factor. spec.IsMultiple (trees_of trees.now) (spec.factor_number factor)) }
 {
     view_law();
     if trees.len() != 2 {
@@ -60,7 +60,7 @@ pub(crate) fn factor_of_word(trees: &Trees) -> Option<Factor<'_>>
 
 // Returns the number that a tree states literally, if it does.
 fn number_of(tree: &Tree) -> Option<Factor<'_>>
-    ensures says { IfSome result (λ factor. spec.SaysNumber (syntax tree.now) (spec.said factor)) }
+    ensures says { IfSome result (λ factor. spec.SaysNumber (syntax tree.now) (spec.factor_number factor)) }
     ensures wordless { IfSome result (λ _. words_in (syntax tree.now) ≡ []) }
 {
     view_law();
@@ -81,8 +81,8 @@ pub(crate) fn put_multiple<'a, E: Env>(
     held: &mut Held<'a>,
 ) -> Result<(), EvalFault>
     requires { IsUsable (E.has env.now) meaning }
-    ensures { Gives (λ _. amount_in held.new) result
-        (spec.multiple (spec.said factor.entry) (told_worth (E.callee env.now) meaning.entry)) }
+    ensures { GivesWorth (λ _. amount_in held.new) result
+        (spec.word_multiple (spec.factor_number factor.entry) (told_worth (E.callee env.now) meaning.entry)) }
 {
     let number = number_answer(alloc, factor.value())?;
     *held = Held::Own(multiple(alloc, env, number, meaning)?);
@@ -97,7 +97,7 @@ fn multiple<'a, E: Env>(
     meaning: Meaning<'a>,
 ) -> Result<Quantity, EvalFault>
     requires { IsUsable (E.has env.now) meaning }
-    ensures { Answers result (with_worth Step.Multiply number (told_worth (E.callee env.now) meaning.entry)) }
+    ensures { IsEvalResult result (with_worth Step.Multiply number (told_worth (E.callee env.now) meaning.entry)) }
 {
     match meaning {
         Meaning::One(Outcome::Value(q)) => product(alloc, number, q),
@@ -106,7 +106,7 @@ fn multiple<'a, E: Env>(
 }
 
 fn product(alloc: Global, number: Quantity, q: &Quantity) -> Result<Quantity, EvalFault>
-    ensures { Answers result (step_worth Step.Multiply number q.now) }
+    ensures { IsEvalResult result (step_worth Step.Multiply number q.now) }
 {
     amount_answer(alloc, number.times(alloc, q))
 }

@@ -1,20 +1,20 @@
 //! Numerals.
 
 ghost use Rattle.std.specs.Prelude.{◌≡◌};
-ghost use Rattle.frac128.specs.Decimals.{value_of};
-ghost use Rattle.tree_eval.specs.Answers.{Gives, amount_in};
+ghost use Rattle.frac128.specs.Decimals.{value_of_decimal};
+ghost use Rattle.tree_eval.specs.Answers.{GivesWorth, amount_in};
 ghost use Rattle.tree_eval.specs.Steps as spec;
 
 use crate::answer::number_answer;
 use crate::fault::EvalFault;
-use crate::held::Held;
+use crate::held_quantity::Held;
 use frac128::{Frac, FracFault, Numeral};
 use std::alloc::Global;
 
 // Stores the value of a numeral.
 #[inline(never)]
 pub(crate) fn put_numeral(alloc: Global, x: &Numeral, held: &mut Held<'_>) -> Result<(), EvalFault>
-    ensures { Gives (λ _. amount_in held.new) result (spec.number (value_of x.now)) }
+    ensures { GivesWorth (λ _. amount_in held.new) result (spec.number (value_of_decimal x.now)) }
 {
     *held = Held::Own(number_answer(alloc, x.value())?);
     Ok(())
@@ -28,7 +28,7 @@ pub(crate) fn put_bar(
     y: &Numeral,
     held: &mut Held<'_>,
 ) -> Result<(), EvalFault>
-    ensures { Gives (λ _. amount_in held.new) result (spec.number (spec.numeral_quotient x.now y.now)) }
+    ensures { GivesWorth (λ _. amount_in held.new) result (spec.number (spec.numeral_quotient x.now y.now)) }
 {
     *held = Held::Own(number_answer(alloc, quotient(x, y))?);
     Ok(())

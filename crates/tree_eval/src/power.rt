@@ -1,12 +1,12 @@
 //! Powers and roots.
 
 ghost use Rattle.quantity.specs.Powers.{power_of};
-ghost use Rattle.tree_eval.specs.Answers.{Answers, Gives, amount_in};
+ghost use Rattle.tree_eval.specs.Answers.{GivesWorth, IsEvalResult, amount_in};
 ghost use Rattle.tree_eval.specs.Steps as spec;
 
 use crate::answer::{amount_answer, number_answer};
 use crate::fault::EvalFault;
-use crate::held::Held;
+use crate::held_quantity::Held;
 use expr_tree::RootKind;
 use frac128::Frac;
 use quantity::Quantity;
@@ -19,7 +19,7 @@ pub(crate) fn take_power(
     held: &mut Held<'_>,
     exponent: &Quantity,
 ) -> Result<(), EvalFault>
-    ensures { Gives (λ _. amount_in held.new) result (spec.amount (power_of (amount_in held.old) exponent.now)) }
+    ensures { GivesWorth (λ _. amount_in held.new) result (spec.amount (power_of (amount_in held.old) exponent.now)) }
 {
     let base = held.take(alloc);
     *held = Held::Own(power(alloc, base, exponent)?);
@@ -29,7 +29,7 @@ pub(crate) fn take_power(
 // Replaces the held quantity by its root of the given kind.
 #[inline(never)]
 pub(crate) fn take_root(alloc: Global, kind: RootKind, held: &mut Held<'_>) -> Result<(), EvalFault>
-    ensures { Gives (λ _. amount_in held.new) result (spec.root kind (amount_in held.old)) }
+    ensures { GivesWorth (λ _. amount_in held.new) result (spec.root kind (amount_in held.old)) }
 {
     let base = held.take(alloc);
     *held = Held::Own(root(alloc, kind, base)?);
@@ -38,15 +38,15 @@ pub(crate) fn take_root(alloc: Global, kind: RootKind, held: &mut Held<'_>) -> R
 
 // Returns a power. It reuses the names of its base.
 fn power(alloc: Global, base: Held<'_>, exponent: &Quantity) -> Result<Quantity, EvalFault>
-    ensures { Answers result (spec.amount (power_of (amount_in base.entry) exponent.now)) }
+    ensures { IsEvalResult result (spec.amount (power_of (amount_in base.entry) exponent.now)) }
 {
     let base = base.own(alloc)?;
-    amount_answer(alloc, base.raised(alloc, exponent))
+    amount_answer(alloc, base.into_power(alloc, exponent))
 }
 
 // Returns the root of the given kind.
 fn root(alloc: Global, kind: RootKind, base: Held<'_>) -> Result<Quantity, EvalFault>
-    ensures { Answers result (spec.root kind (amount_in base.entry)) }
+    ensures { IsEvalResult result (spec.root kind (amount_in base.entry)) }
 {
     let exponent = number_answer(alloc, Frac::new(1, i128::from(kind.degree())))?;
     power(alloc, base, &exponent)

@@ -5,7 +5,7 @@ ghost use Rattle.def_entry.specs.Views.{what_view};
 ghost use Rattle.tree_eval.specs.Entries.{meaning_of};
 ghost use Rattle.tree_eval.specs.Environment.{HasTarget, HoldsWords};
 ghost use Rattle.tree_eval.specs.Outcomes.{outcome_of};
-ghost use Rattle.tree_eval.specs.Told.{IsKept};
+ghost use Rattle.tree_eval.specs.WordValues.{IsStoredOutcome};
 
 use crate::env::Env;
 use crate::fault::EvalFault;
@@ -38,14 +38,14 @@ pub fn reduce<E: Env, L: Ledger>(
     match what {
         What::Primitive => Ok(Outcome::Value(Quantity::one(alloc, name)?)),
         What::Dimensionless | What::ListOf(_) => Ok(Outcome::Value(Quantity::unity(alloc))),
-        What::Body(tree) => kept(eval(alloc, env, Holder::Of(id, Part::Body), tree, None)),
+        What::Body(tree) => to_outcome(eval(alloc, env, Holder::Of(id, Part::Body), tree, None)),
         What::Function(_) | What::Alias(_) | What::Table(_) => Ok(Outcome::Callable),
     }
 }
 
 // Turns a value or a fault into an outcome.
-fn kept(worth: Result<Quantity, EvalFault>) -> Result<Outcome, AllocError>
-    ensures { IsKept result worth }
+fn to_outcome(worth: Result<Quantity, EvalFault>) -> Result<Outcome, AllocError>
+    ensures { IsStoredOutcome result worth }
 {
     match worth {
         Ok(q) => Ok(Outcome::Value(q)),

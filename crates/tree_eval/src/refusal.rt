@@ -24,16 +24,16 @@ impl Refusal {
     // Returns the fault with the name of the function, or `OutOfMemory` if there is no memory for it.
     #[inline(never)]
     pub(crate) fn by(self, alloc: Global, name: &[u8]) -> EvalFault
-        ensures { spec.IsFault result (spec.named self name.now) }
+        ensures { spec.IsEvalFault result (spec.refusal_fault self name.now) }
     {
         match Text::from_bytes(alloc, name) {
-            Ok(name) => EvalFault::of_value(alloc, self.named(name)),
+            Ok(name) => EvalFault::of_value(alloc, self.with_name(name)),
             Err(_) => EvalFault::OutOfMemory,
         }
     }
 
-    fn named(self, name: Text) -> ValueFault
-        ensures { result ≡ spec.named self name }
+    fn with_name(self, name: Text) -> ValueFault
+        ensures { result ≡ spec.refusal_fault self name }
     {
         match self {
             Refusal::NotInDomain => ValueFault::NotInDomain(name),

@@ -7,20 +7,20 @@ ghost use Rattle.std.specs.Option.{option_copied};
 ghost use Rattle.expr_tree.specs.declared.word_list.WordUse.{WordUse};
 ghost use Rattle.expr_tree.specs.Trees.{syntax, trees_of};
 ghost use Rattle.expr_tree.specs.Words.{words_in};
-ghost use Rattle.tree_eval.specs.Answers.{Answers, Gives, amount_in};
-ghost use Rattle.tree_eval.specs.Directions.{operated, taken};
-ghost use Rattle.tree_eval.specs.Environment.{IsTold, Stand};
-ghost use Rattle.tree_eval.specs.Expanded as expanded;
+ghost use Rattle.tree_eval.specs.Answers.{GivesWorth, IsEvalResult, amount_in};
+ghost use Rattle.tree_eval.specs.Directions.{direction_value, operand_expansion};
+ghost use Rattle.tree_eval.specs.Environment.{IsMeaningTold, Stand};
+ghost use Rattle.tree_eval.specs.Expansions as expanded;
 ghost use Rattle.tree_eval.specs.Expansion.{expand, plain};
-ghost use Rattle.tree_eval.specs.Operands.{by_side, chain, operands_of, with_worth, words_of};
-ghost use Rattle.tree_eval.specs.Told.{IsUsable};
+ghost use Rattle.tree_eval.specs.Operands.{by_side, chain, operands_of, with_worth, words_of_members};
+ghost use Rattle.tree_eval.specs.WordValues.{IsUsable};
 ghost use Rattle.tree_eval.specs.Value as spec;
 
 use crate::direction::Direction;
 use crate::env::Env;
 use crate::fault::EvalFault;
 use crate::function::take;
-use crate::held::Held;
+use crate::held_quantity::Held;
 use crate::holder::Holder;
 use crate::meaning::Meaning;
 use crate::multiple::{factor_of_word, put_multiple};
@@ -45,15 +45,15 @@ pub fn eval<E: Env>(
     arg: Option<&Quantity>,
 ) -> Result<Quantity, EvalFault>
     requires { E.words env.now holder ≡ words_in (syntax tree.now) }
-    ensures { Answers result
+    ensures { IsEvalResult result
         (spec.value (expand (E.means env.now) (syntax tree.now)) (option_copied arg.entry)) }
 {
-    Ok(tree_worth(alloc, env, holder, tree, arg)?.own(alloc)?)
+    Ok(evaluate_holder(alloc, env, holder, tree, arg)?.own(alloc)?)
 }
 
 // Returns the value of the tree of a holder, with `arg` as the argument.
 #[cycle(eval)]
-pub(crate) fn tree_worth<'a, E: Env>(
+pub(crate) fn evaluate_holder<'a, E: Env>(
     alloc: Global,
     env: &'a E,
     holder: Holder,
@@ -61,7 +61,7 @@ pub(crate) fn tree_worth<'a, E: Env>(
     arg: Option<&'a Quantity>,
 ) -> Result<Held<'a>, EvalFault>
     requires { E.words env.now holder ≡ words_in (syntax tree.now) }
-    ensures { Gives amount_in result
+    ensures { GivesWorth amount_in result
         (spec.value (expand (E.means env.now) (syntax tree.now)) (option_copied arg.entry)) }
 {
     let scope = Scope {
@@ -72,7 +72,7 @@ pub(crate) fn tree_worth<'a, E: Env>(
     };
     let mut place = 0;
     let mut held = Held::unity(alloc);
-    scope.worth(tree, &mut place, &mut held)?;
+    scope.evaluate(tree, &mut place, &mut held)?;
     Ok(held)
 }
 
@@ -91,9 +91,9 @@ impl<'a, E: Env> Scope<'a, E> {
     // Stores the value of a tree whose first word is at `place`, and moves `place` past its last word.
     #[cycle(eval)]
     #[inline(never)]
-    fn worth(&self, tree: &Tree, place: &mut usize, held: &mut Held<'a>) -> Result<(), EvalFault>
+    fn evaluate(&self, tree: &Tree, place: &mut usize, held: &mut Held<'a>) -> Result<(), EvalFault>
         requires { Stand (E.words self.now.env.now self.now.holder) place.old (words_in (syntax tree.now)) }
-        ensures worth { Gives (λ _. amount_in held.new) result (spec.value
+        ensures worth { GivesWorth (λ _. amount_in held.new) result (spec.value
             (expand (E.means self.now.env.now) (syntax tree.now)) (option_copied self.now.arg)) }
         ensures place { OnOk result (place.new ≡ place.old + length (words_in (syntax tree.now))) }
     {
@@ -108,17 +108,17 @@ impl<'a, E: Env> Scope<'a, E> {
             Tree::Word(_) => self.word(place, held),
             Tree::Call(_, operand) => {
                 let meaning = self.next_meaning(place);
-                self.operated(Direction::Forward, meaning, operand, place, held)
+                self.evaluate_operand(Direction::Forward, meaning, operand, place, held)
             }
             Tree::Inverse(_, operand) => {
                 let meaning = self.next_meaning(place);
-                self.operated(Direction::Inverse, meaning, operand, place, held)
+                self.evaluate_operand(Direction::Inverse, meaning, operand, place, held)
             }
-            Tree::Group(operand) => self.worth(operand, place, held),
+            Tree::Group(operand) => self.evaluate(operand, place, held),
             Tree::Root(kind, operand) => self.root(*kind, operand, place, held),
-            Tree::Negate(operand) => self.negated(operand, place, held),
+            Tree::Negate(operand) => self.evaluate_negative(operand, place, held),
             Tree::Power(base, exponent) => self.power(base, exponent, place, held),
-            Tree::Juxtaposed(trees) => self.juxtaposed(trees, place, held),
+            Tree::Juxtaposed(trees) => self.evaluate_juxtaposition(trees, place, held),
             Tree::Product(factors) => self.chain(Operands::Product(factors), place, held),
             Tree::Sum(terms) => self.chain(Operands::Sum(terms), place, held),
         }
@@ -135,30 +135,30 @@ impl<'a, E: Env> Scope<'a, E> {
         held: &mut Held<'a>,
     ) -> Result<(), EvalFault>
         requires { Stand (E.words self.now.env.now self.now.holder) place.old (words_in (syntax operand.now)) }
-        ensures worth { Gives (λ _. amount_in held.new) result (spec.value
+        ensures worth { GivesWorth (λ _. amount_in held.new) result (spec.value
             (expanded.Root kind (expand (E.means self.now.env.now) (syntax operand.now)))
             (option_copied self.now.arg)) }
         ensures place { OnOk result (place.new ≡ place.old + length (words_in (syntax operand.now))) }
     {
-        self.worth(operand, place, held)?;
+        self.evaluate(operand, place, held)?;
         take_root(self.alloc, kind, held)
     }
 
     // Stores a tree with the opposite sign.
     #[cycle(eval)]
     #[inline(never)]
-    fn negated(
+    fn evaluate_negative(
         &self,
         operand: &Tree,
         place: &mut usize,
         held: &mut Held<'a>,
     ) -> Result<(), EvalFault>
         requires { Stand (E.words self.now.env.now self.now.holder) place.old (words_in (syntax operand.now)) }
-        ensures worth { Gives (λ _. amount_in held.new) result (spec.value
+        ensures worth { GivesWorth (λ _. amount_in held.new) result (spec.value
             (expanded.Negated (expand (E.means self.now.env.now) (syntax operand.now))) (option_copied self.now.arg)) }
         ensures place { OnOk result (place.new ≡ place.old + length (words_in (syntax operand.now))) }
     {
-        self.worth(operand, place, held)?;
+        self.evaluate(operand, place, held)?;
         held.negate(self.alloc)
     }
 
@@ -174,15 +174,15 @@ impl<'a, E: Env> Scope<'a, E> {
     ) -> Result<(), EvalFault>
         requires { Stand (E.words self.now.env.now self.now.holder) place.old
             (words_in (syntax base.now) ++ words_in (syntax exponent.now)) }
-        ensures worth { Gives (λ _. amount_in held.new) result (spec.value (expanded.Power
+        ensures worth { GivesWorth (λ _. amount_in held.new) result (spec.value (expanded.Power
             (expand (E.means self.now.env.now) (syntax base.now))
             (expand (E.means self.now.env.now) (syntax exponent.now))) (option_copied self.now.arg)) }
         ensures place { OnOk result (place.new ≡ place.old
             + length (words_in (syntax base.now) ++ words_in (syntax exponent.now))) }
     {
-        self.worth(base, place, held)?;
+        self.evaluate(base, place, held)?;
         let mut exponent_held = Held::unity(self.alloc);
-        self.worth(exponent, place, &mut exponent_held)?;
+        self.evaluate(exponent, place, &mut exponent_held)?;
         take_power(self.alloc, held, exponent_held.get())
     }
 
@@ -191,7 +191,7 @@ impl<'a, E: Env> Scope<'a, E> {
     fn word(&self, place: &mut usize, held: &mut Held<'a>) -> Result<(), EvalFault>
         requires { place.old < length (E.words self.now.env.now self.now.holder) }
         ensures worth { (u : WordUse) → slice_get (E.words self.now.env.now self.now.holder) place.old ≡ Some u
-            → Gives (λ _. amount_in held.new) result
+            → GivesWorth (λ _. amount_in held.new) result
             (spec.value (plain (E.means self.now.env.now u)) (option_copied self.now.arg)) }
         ensures place { place.new ≡ place.old + 1 }
     {
@@ -203,7 +203,7 @@ impl<'a, E: Env> Scope<'a, E> {
     fn with_word(&self, step: Step, place: &mut usize, held: &mut Held<'a>) -> Result<(), EvalFault>
         requires { place.old < length (E.words self.now.env.now self.now.holder) }
         ensures worth { (u : WordUse) → slice_get (E.words self.now.env.now self.now.holder) place.old ≡ Some u
-            → Gives (λ _. amount_in held.new) result (with_worth step (amount_in held.old)
+            → GivesWorth (λ _. amount_in held.new) result (with_worth step (amount_in held.old)
             (spec.value (plain (E.means self.now.env.now u)) (option_copied self.now.arg))) }
         ensures place { place.new ≡ place.old + 1 }
     {
@@ -215,7 +215,7 @@ impl<'a, E: Env> Scope<'a, E> {
     fn next_meaning(&self, place: &mut usize) -> Meaning<'a>
         requires { place.old < length (E.words self.now.env.now self.now.holder) }
         ensures told { (u : WordUse) → slice_get (E.words self.now.env.now self.now.holder) place.old ≡ Some u
-            → IsTold (E.has self.now.env.now) (E.callee self.now.env.now) (E.means self.now.env.now u) result }
+            → IsMeaningTold (E.has self.now.env.now) (E.callee self.now.env.now) (E.means self.now.env.now u) result }
         ensures place { place.new ≡ place.old + 1 }
     {
         let meaning = self.env.meaning(self.holder, *place);
@@ -226,7 +226,7 @@ impl<'a, E: Env> Scope<'a, E> {
     // Evaluates a word and the operand after it, with or without a `~` before the word.
     #[cycle(eval)]
     #[inline(never)]
-    fn operated(
+    fn evaluate_operand(
         &self,
         direction: Direction,
         meaning: Meaning<'a>,
@@ -237,36 +237,37 @@ impl<'a, E: Env> Scope<'a, E> {
         requires usable { IsUsable (E.has self.now.env.now) meaning }
         requires stand { Stand (E.words self.now.env.now self.now.holder) place.old (words_in (syntax operand.now)) }
         ensures worth { (m : expanded.Meaning)
-            → IsTold (E.has self.now.env.now) (E.callee self.now.env.now) m meaning.entry
-            → Gives (λ _. amount_in held.new) result (spec.value
-            (operated direction m (expand (E.means self.now.env.now) (syntax operand.now)))
+            → IsMeaningTold (E.has self.now.env.now) (E.callee self.now.env.now) m meaning.entry
+            → GivesWorth (λ _. amount_in held.new) result (spec.value
+            (operand_expansion direction m (expand (E.means self.now.env.now) (syntax operand.now)))
             (option_copied self.now.arg)) }
         ensures place { OnOk result (place.new ≡ place.old + length (words_in (syntax operand.now))) }
     {
         if let Meaning::Function(id) = meaning {
-            self.worth(operand, place, held)?;
+            self.evaluate(operand, place, held)?;
             return put_taken(self.alloc, self.env, direction, id, held);
         }
         put_word(self.alloc, self.env, meaning, held)?;
         let mut behind = Held::unity(self.alloc);
-        self.worth(operand, place, &mut behind)?;
+        self.evaluate(operand, place, &mut behind)?;
         Step::Multiply.take_lent(self.alloc, held, behind.get())
     }
 
     // Evaluates operands side by side.
     #[cycle(eval)]
     #[inline(never)]
-    fn juxtaposed(
+    fn evaluate_juxtaposition(
         &self,
         trees: &Trees,
         place: &mut usize,
         held: &mut Held<'a>,
     ) -> Result<(), EvalFault>
         requires { Stand (E.words self.now.env.now self.now.holder) place.old
-            (words_of (map by_side (trees_of trees.now))) }
-        ensures worth { Gives (λ _. amount_in held.new) result (spec.value
+            (words_of_members (map by_side (trees_of trees.now))) }
+        ensures worth { GivesWorth (λ _. amount_in held.new) result (spec.value
             (chain (E.means self.now.env.now) (map by_side (trees_of trees.now))) (option_copied self.now.arg)) }
-        ensures place { OnOk result (place.new ≡ place.old + length (words_of (map by_side (trees_of trees.now)))) }
+        ensures place { OnOk result (place.new ≡ place.old
+            + length (words_of_members (map by_side (trees_of trees.now)))) }
     {
         match factor_of_word(trees) {
             Some(factor) => {
@@ -286,16 +287,16 @@ impl<'a, E: Env> Scope<'a, E> {
         place: &mut usize,
         held: &mut Held<'a>,
     ) -> Result<(), EvalFault>
-        requires { Stand (E.words self.now.env.now self.now.holder) place.old (words_of (operands_of operands)) }
-        ensures worth { Gives (λ _. amount_in held.new) result (spec.value
+        requires { Stand (E.words self.now.env.now self.now.holder) place.old (words_of_members (operands_of operands)) }
+        ensures worth { GivesWorth (λ _. amount_in held.new) result (spec.value
             (chain (E.means self.now.env.now) (operands_of operands.entry)) (option_copied self.now.arg)) }
-        ensures place { OnOk result (place.new ≡ place.old + length (words_of (operands_of operands.entry))) }
+        ensures place { OnOk result (place.new ≡ place.old + length (words_of_members (operands_of operands.entry))) }
     {
         if operands.len() == 0 {
             *held = Held::unity(self.alloc);
             return Ok(());
         }
-        self.worth(operands.get(0).tree, place, held)?;
+        self.evaluate(operands.get(0).tree, place, held)?;
         for i in 1..operands.len() {
             self.with_member(operands.get(i), place, held)?;
         }
@@ -311,7 +312,7 @@ impl<'a, E: Env> Scope<'a, E> {
         held: &mut Held<'a>,
     ) -> Result<(), EvalFault>
         requires { Stand (E.words self.now.env.now self.now.holder) place.old (words_in (syntax operand.tree.now)) }
-        ensures worth { Gives (λ _. amount_in held.new) result (with_worth operand.entry.step (amount_in held.old)
+        ensures worth { GivesWorth (λ _. amount_in held.new) result (with_worth operand.entry.step (amount_in held.old)
             (spec.value (expand (E.means self.now.env.now) (syntax operand.entry.tree.now))
             (option_copied self.now.arg))) }
         ensures place { OnOk result (place.new ≡ place.old + length (words_in (syntax operand.entry.tree.now))) }
@@ -334,13 +335,13 @@ impl<'a, E: Env> Scope<'a, E> {
         held: &mut Held<'a>,
     ) -> Result<(), EvalFault>
         requires { Stand (E.words self.now.env.now self.now.holder) place.old (words_in (syntax operand.tree.now)) }
-        ensures worth { Gives (λ _. amount_in held.new) result (with_worth operand.entry.step (amount_in held.old)
+        ensures worth { GivesWorth (λ _. amount_in held.new) result (with_worth operand.entry.step (amount_in held.old)
             (spec.value (expand (E.means self.now.env.now) (syntax operand.entry.tree.now))
             (option_copied self.now.arg))) }
         ensures place { OnOk result (place.new ≡ place.old + length (words_in (syntax operand.entry.tree.now))) }
     {
         let mut member = Held::unity(self.alloc);
-        self.worth(operand.tree, place, &mut member)?;
+        self.evaluate(operand.tree, place, &mut member)?;
         operand.step.take_held(self.alloc, held, &mut member)
     }
 }
@@ -367,8 +368,8 @@ fn put_taken<E: Env>(
     held: &mut Held<'_>,
 ) -> Result<(), EvalFault>
     requires { IsTrue (E.has env.now id) }
-    ensures { Gives (λ _. amount_in held.new) result
-        (taken direction (E.callee env.now id) (amount_in held.old)) }
+    ensures { GivesWorth (λ _. amount_in held.new) result
+        (direction_value direction (E.callee env.now id) (amount_in held.old)) }
 {
     *held = Held::Own(take(alloc, env, direction, id, held.get())?);
     Ok(())

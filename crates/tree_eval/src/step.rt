@@ -2,15 +2,15 @@
 
 ghost use Rattle.std.specs.Prelude.{◌≡◌};
 ghost use Rattle.quantity.specs.Answers.{IsAnswer};
-ghost use Rattle.frac128.specs.Decimals.{value_of};
-ghost use Rattle.tree_eval.specs.Answers.{Answers, Gives, amount_in};
-ghost use Rattle.tree_eval.specs.Expansion.{scaling, signing};
+ghost use Rattle.frac128.specs.Decimals.{value_of_decimal};
+ghost use Rattle.tree_eval.specs.Answers.{GivesWorth, IsEvalResult, amount_in};
+ghost use Rattle.tree_eval.specs.Expansion.{scale_step, sign_step};
 ghost use Rattle.tree_eval.specs.Operands.{with_worth};
 ghost use Rattle.tree_eval.specs.Steps as spec;
 
 use crate::answer::{amount_answer, fraction_answer, scaled_answer};
 use crate::fault::EvalFault;
-use crate::held::Held;
+use crate::held_quantity::Held;
 use expr_tree::{Scale, Sign};
 use frac128::{Frac, Numeral};
 use quantity::{Quantity, QuantityFault};
@@ -32,7 +32,7 @@ pub enum Step {
 impl Step {
     // The step for a member of a product.
     pub(crate) fn of_scale(scale: Scale) -> Step
-        ensures { result ≡ scaling scale }
+        ensures { result ≡ scale_step scale }
     {
         match scale {
             Scale::Multiply => Step::Multiply,
@@ -42,7 +42,7 @@ impl Step {
 
     // The step for a member of a sum.
     pub(crate) fn of_sign(sign: Sign) -> Step
-        ensures { result ≡ signing sign }
+        ensures { result ≡ sign_step sign }
     {
         match sign {
             Sign::Plus => Step::Add,
@@ -57,7 +57,7 @@ impl Step {
         left: Held<'_>,
         right: &Quantity,
     ) -> Result<Quantity, EvalFault>
-        ensures { Answers result (spec.step_worth self (amount_in left.entry) right.now) }
+        ensures { IsEvalResult result (spec.step_worth self (amount_in left.entry) right.now) }
     {
         let left = left.own(alloc)?;
         amount_answer(alloc, self.join_owned(alloc, left, right))
@@ -71,7 +71,7 @@ impl Step {
         held: &mut Held<'_>,
         right: &Quantity,
     ) -> Result<(), EvalFault>
-        ensures { Gives (λ _. amount_in held.new) result
+        ensures { GivesWorth (λ _. amount_in held.new) result
             (spec.step_worth self (amount_in held.old) right.now) }
     {
         let left = held.take(alloc);
@@ -88,7 +88,7 @@ impl Step {
         held: &mut Held<'_>,
         right: &mut Held<'_>,
     ) -> Result<(), EvalFault>
-        ensures { Gives (λ _. amount_in held.new) result
+        ensures { GivesWorth (λ _. amount_in held.new) result
             (spec.step_worth self (amount_in held.old) (amount_in right.old)) }
     {
         let left = held.take(alloc);
@@ -104,8 +104,8 @@ impl Step {
         held: &mut Held<'_>,
         right: &Numeral,
     ) -> Result<(), EvalFault>
-        ensures { Gives (λ _. amount_in held.new) result
-            (with_worth self (amount_in held.old) (spec.number (value_of right.now))) }
+        ensures { GivesWorth (λ _. amount_in held.new) result
+            (with_worth self (amount_in held.old) (spec.number (value_of_decimal right.now))) }
     {
         let right = fraction_answer(alloc, right.value())?;
         let left = held.take(alloc);
@@ -121,7 +121,7 @@ impl Step {
         left: Held<'_>,
         right: Held<'_>,
     ) -> Result<Quantity, EvalFault>
-        ensures { Answers result (spec.step_worth self (amount_in left.entry) (amount_in right.entry)) }
+        ensures { IsEvalResult result (spec.step_worth self (amount_in left.entry) (amount_in right.entry)) }
     {
         let left = left.own(alloc)?;
         amount_answer(alloc, self.join_all(alloc, left, right))
@@ -129,7 +129,7 @@ impl Step {
 
     // Returns the running value combined with a number.
     fn join_number(self, alloc: Global, left: Held<'_>, right: &Frac) -> Result<Quantity, EvalFault>
-        ensures { Answers result (spec.step_worth self (amount_in left.entry) (spec.plain_number right.now)) }
+        ensures { IsEvalResult result (spec.step_worth self (amount_in left.entry) (spec.plain_number right.now)) }
     {
         let left = left.own(alloc)?;
         match self {

@@ -1,6 +1,6 @@
 //! Tables of points, as functions of quantities.
 
-ghost use Rattle.tree_eval.specs.Answers.{Answers};
+ghost use Rattle.tree_eval.specs.Answers.{IsEvalResult};
 ghost use Rattle.tree_eval.specs.Value as spec;
 
 use crate::fault::EvalFault;
@@ -16,7 +16,7 @@ pub(crate) fn looked_up(
     name: &[u8],
     found: Result<Frac, TableFault>,
 ) -> Result<Quantity, EvalFault>
-    ensures { Answers result (spec.looked_up name.now found) }
+    ensures { IsEvalResult result (spec.looked_up name.now found) }
 {
     match found {
         Ok(x) => Ok(Quantity::number(alloc, x)),

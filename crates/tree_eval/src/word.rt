@@ -4,11 +4,11 @@ ghost use Rattle.std.specs.Prelude.{◌≢◌};
 ghost use Rattle.tree_eval.specs.Answers as answer;
 ghost use Rattle.tree_eval.specs.Operands.{with_worth};
 ghost use Rattle.tree_eval.specs.Outcomes.{worth_in};
-ghost use Rattle.tree_eval.specs.Told as spec;
+ghost use Rattle.tree_eval.specs.WordValues as spec;
 
 use crate::env::Env;
 use crate::fault::EvalFault;
-use crate::held::Held;
+use crate::held_quantity::Held;
 use crate::meaning::Meaning;
 use crate::outcome::{Outcome, quantity_of};
 use crate::refusal::Refusal;
@@ -24,7 +24,7 @@ fn word_worth<'a, E: Env>(
     meaning: Meaning<'a>,
 ) -> Result<Held<'a>, EvalFault>
     requires { spec.IsUsable (E.has env.now) meaning }
-    ensures { answer.Gives answer.amount_in result (spec.told_worth (E.callee env.now) meaning.entry) }
+    ensures { answer.GivesWorth answer.amount_in result (spec.told_worth (E.callee env.now) meaning.entry) }
 {
     match meaning {
         Meaning::One(outcome) => Ok(Held::Lent(quantity_of(alloc, outcome)?)),
@@ -42,7 +42,7 @@ pub(crate) fn put_word<'a, E: Env>(
     held: &mut Held<'a>,
 ) -> Result<(), EvalFault>
     requires { spec.IsUsable (E.has env.now) meaning }
-    ensures { answer.Gives (λ _. answer.amount_in held.new) result
+    ensures { answer.GivesWorth (λ _. answer.amount_in held.new) result
         (spec.told_worth (E.callee env.now) meaning.entry) }
 {
     *held = word_worth(alloc, env, meaning)?;
@@ -59,7 +59,7 @@ pub(crate) fn take_word<'a, E: Env>(
     meaning: Meaning<'a>,
 ) -> Result<(), EvalFault>
     requires { spec.IsUsable (E.has env.now) meaning }
-    ensures { answer.Gives (λ _. answer.amount_in held.new) result (with_worth step (answer.amount_in held.old)
+    ensures { answer.GivesWorth (λ _. answer.amount_in held.new) result (with_worth step (answer.amount_in held.old)
         (spec.told_worth (E.callee env.now) meaning.entry)) }
 {
     let left = held.take(alloc);
@@ -76,7 +76,7 @@ pub(crate) fn join_word<'a, E: Env>(
     meaning: Meaning<'a>,
 ) -> Result<Quantity, EvalFault>
     requires { spec.IsUsable (E.has env.now) meaning }
-    ensures { answer.Answers result (with_worth step (answer.amount_in left.entry)
+    ensures { answer.IsEvalResult result (with_worth step (answer.amount_in left.entry)
         (spec.told_worth (E.callee env.now) meaning.entry)) }
 {
     match meaning {
@@ -89,7 +89,7 @@ pub(crate) fn join_word<'a, E: Env>(
 fn both(alloc: Global, prefix: &Outcome, unit: &Outcome) -> Result<Quantity, EvalFault>
     requires prefix { prefix.now ≢ Outcome.Callable }
     requires unit { unit.now ≢ Outcome.Callable }
-    ensures { answer.Answers result (spec.both (worth_in prefix.now) (worth_in unit.now)) }
+    ensures { answer.IsEvalResult result (spec.both (worth_in prefix.now) (worth_in unit.now)) }
 {
     let prefix = quantity_of(alloc, prefix)?;
     let unit = quantity_of(alloc, unit)?;

@@ -1,5 +1,5 @@
-pub mod Added
-pub mod Counted
-pub mod Counting
+pub mod SignedCounts
+pub mod PlainCounts
+pub mod UnitSteps
 pub mod Unique
 pub mod Values

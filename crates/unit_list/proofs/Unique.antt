@@ -12,10 +12,10 @@ use Rattle.frac128.specs.Exact.{difference, product, sum}
 use Rattle.frac128.specs.Fraction.{Fraction, IsReduced, SameValue, whole}
 use Rattle.frac128.specs.Sign.{is_negative, magnitude, negated_if}
 use Rattle.frac128.specs.Steps.{ReducedLaw}
-use Rattle.unit_list.specs.Counts.{AreGreatest, IsGreatest, IsUnit, UniqueLaw, quotient_of, split_number, total}
+use Rattle.unit_list.specs.Counts.{AreGreatest, IsGreatest, IsUnit, UniqueLaw, magnitude_quotient, split_number, total}
 use Rattle.unit_list.specs.Splits.{last_of, nearest_to}
-use Rattle.unit_list.proofs.Added.{abs-neg, last_unit, map-plain, total-negated}
-use Rattle.unit_list.proofs.Counted.{difference_value, unit_natural}
+use Rattle.unit_list.proofs.SignedCounts.{abs-neg, last_unit, map-plain, total-negated}
+use Rattle.unit_list.proofs.PlainCounts.{difference_value, unit_natural}
 use Rattle.unit_list.proofs.Values.{HasValue, cancelled, own_value, pos_same}
 
 -- a fraction in lowest terms that is not below 0
@@ -324,7 +324,7 @@ split_denominator true x units some many units_are =
   where
     by_sign : (negative : Bool) → 0 < (last_of units).den
         → 0 < (negated_if negative
-        (product (whole (pos (nearest_to (quotient_of x (last_of units))))) (last_of units))).den
+        (product (whole (pos (nearest_to (magnitude_quotient x (last_of units))))) (last_of units))).den
     by_sign false h = omega arith
     by_sign true h = omega arith
 

@@ -11,8 +11,8 @@ use Rattle.frac128.specs.declared.fault.FracFault.TheVariants.{Overflow}
 use Rattle.std.specs.Int.{int_div_euclid}
 use Rattle.frac128.specs.Divisors.{LcmLaw, gcd, lcm}
 use Rattle.frac128.specs.Floor.{floor_of}
-use Rattle.frac128.specs.Fraction.{Fraction, IsReduced, fits, whole}
-use Rattle.frac128.specs.Steps.{ReducedLaw, over, ratio, reduced, times}
+use Rattle.frac128.specs.Fraction.{Fraction, IsReduced, fits_most, whole}
+use Rattle.frac128.specs.Steps.{ReducedLaw, fraction_product, fraction_quotient, lowest_terms, ratio}
 use Rattle.frac128.specs.Sums.{in_range, step_over, minus, numerator_over, sum_over}
 
 -- x has the value a / b
@@ -28,17 +28,18 @@ if_ok true x y h = cc
 if_ok false x y h = absurd (cc)
 
 -- a ratio that succeeds is in lowest terms
-ratio_ok : (n : ℤ) (d : ℕ) (y : Fraction) → 0 < d → ratio n (pos d) ≡ Ok y → y ≡ reduced n d
+ratio_ok : (n : ℤ) (d : ℕ) (y : Fraction) → 0 < d → ratio n (pos d) ≡ Ok y → y ≡ lowest_terms n d
 ratio_ok n zero y some h = absurd (omega arith)
-ratio_ok n (suc d) y some h = if_ok (fits (reduced n (suc d))) (reduced n (suc d)) y h
+ratio_ok n (suc d) y some h = if_ok (fits_most (lowest_terms n (suc d))) (lowest_terms n (suc d)) y h
 
 -- a sum or difference that succeeds is in lowest terms
-joined_ok : (step : ℤ → ℤ → ℤ) (m : ℕ) (l r : ℤ) (y : Fraction) → step_over step m l r ≡ Ok y → y ≡ reduced (step l r) m
+joined_ok : (step : ℤ → ℤ → ℤ) (m : ℕ) (l r : ℤ) (y : Fraction) → step_over step m l r ≡ Ok y
+    → y ≡ lowest_terms (step l r) m
 joined_ok step m l r y h = by_tests (in_range (pos m)) (in_range l) (in_range r) h
   where
     by_tests : (a b c : Bool) → (if a && b && c then sum_over m (step l r) else Err Overflow) ≡ Ok y
-        → y ≡ reduced (step l r) m
-    by_tests true true true h = if_ok (in_range (step l r)) (reduced (step l r) m) y h
+        → y ≡ lowest_terms (step l r) m
+    by_tests true true true h = if_ok (in_range (step l r)) (lowest_terms (step l r) m) y h
     by_tests true true false h = absurd (cc)
     by_tests true false c h = absurd (cc)
     by_tests false b c h = absurd (cc)
@@ -48,8 +49,8 @@ pub pos_same : (m n : ℕ) → pos m ≡ pos n → m ≡ n
 pos_same m n h = cc
 
 -- a quotient in lowest terms has its value
-reduced_value : ReducedLaw → (a d : ℕ) → 0 < d → HasValue (reduced (pos a) d) a d
-unfolding reduced
+reduced_value : ReducedLaw → (a d : ℕ) → 0 < d → HasValue (lowest_terms (pos a) d) a d
+unfolding lowest_terms
 reduced_value law a d some =
     let facts = law (pos a) d some in
     record { num = a / gcd a d; num_is = refl; positive = facts.0.positive; same = pos_same _ _ facts.1 }
@@ -64,17 +65,17 @@ cancelled x y k some h = eq_of_mul-eq-mul_right k some x y h
 
 -- the quotient of two fractions with natural numerators, in lowest terms
 pub over_reduced : (x unit q : Fraction) (n c : ℕ) → x.num ≡ pos n → unit.num ≡ pos c → 0 < x.den → 0 < c
-    → over x unit ≡ Ok q
-    → q ≡ reduced (pos (n * unit.den)) (x.den * c)
+    → fraction_quotient x unit ≡ Ok q
+    → q ≡ lowest_terms (pos (n * unit.den)) (x.den * c)
 over_reduced x unit q n c n_is c_is some_x some_c h =
-    let ratio_is : over x unit ≡ ratio (pos (n * unit.den)) (pos (x.den * c)) =
+    let ratio_is : fraction_quotient x unit ≡ ratio (pos (n * unit.den)) (pos (x.den * c)) =
     ap (λ z. ratio (z *ℤ pos unit.den) (pos x.den *ℤ unit.num)) n_is
     ∙ ap (λ z. ratio (pos n *ℤ pos unit.den) (pos x.den *ℤ z)) c_is in
     ratio_ok (pos (n * unit.den)) (x.den * c) q (mul-pos some_x some_c) (sym ratio_is ∙ h)
 
 -- the quotient is in lowest terms
 pub over_lowest : ReducedLaw → (x unit q : Fraction) (n c : ℕ) → x.num ≡ pos n → unit.num ≡ pos c → 0 < x.den → 0 < c
-    → over x unit ≡ Ok q → IsReduced q
+    → fraction_quotient x unit ≡ Ok q → IsReduced q
 over_lowest law x unit q n c n_is c_is some_x some_c h =
     subst IsReduced (sym (over_reduced x unit q n c n_is c_is some_x some_c h))
     (law (pos (n * unit.den)) (x.den * c) (mul-pos some_x some_c)).0
@@ -86,7 +87,7 @@ whole_lowest n = record { positive = omega arith; lowest = (one-dvd (unsigned_ab
 -- the value of a quotient
 pub over_value : ReducedLaw → (x unit q : Fraction) (a b c : ℕ) → HasValue x a b → unit.num ≡ pos c → 0 < unit.den
     → 0 < c → 0 < b
-    → over x unit ≡ Ok q → HasValue q (a * unit.den) (b * c)
+    → fraction_quotient x unit ≡ Ok q → HasValue q (a * unit.den) (b * c)
 over_value law x unit q a b c is c_is some_d some_c some_b h =
     let some : 0 < x.den * c = mul-pos is.positive some_c in
     let q_is = over_reduced x unit q is.num c is.num_is c_is is.positive some_c h in
@@ -114,13 +115,13 @@ over_value law x unit q a b c is c_is some_d some_c some_b h =
 
 -- the value of a whole multiple of a unit
 pub times_value : ReducedLaw → (k c : ℕ) (unit t : Fraction) → unit.num ≡ pos c → 0 < unit.den
-    → times (whole (pos k)) unit ≡ Ok t
+    → fraction_product (whole (pos k)) unit ≡ Ok t
     → HasValue t (k * c) unit.den
 times_value law k c unit t c_is some h =
-    let ratio_is : times (whole (pos k)) unit ≡ ratio (pos (k * c)) (pos (1 * unit.den)) =
+    let ratio_is : fraction_product (whole (pos k)) unit ≡ ratio (pos (k * c)) (pos (1 * unit.den)) =
     ap (λ z. ratio (pos k *ℤ z) (pos (1 * unit.den))) c_is in
     let once : 1 * unit.den ≡ unit.den = one_times unit.den in
-    let t_is : t ≡ reduced (pos (k * c)) unit.den =
+    let t_is : t ≡ lowest_terms (pos (k * c)) unit.den =
     ratio_ok (pos (k * c)) unit.den t some (ap (λ d. ratio (pos (k * c)) (pos d)) (sym once) ∙ sym ratio_is ∙ h) in
     subst (λ y. HasValue y (k * c) unit.den) (sym t_is) (reduced_value law (k * c) unit.den some)
   where
@@ -169,8 +170,8 @@ minus_value law multiples x t r a b p e left is_x is_t some_b some_e left_is h =
     let step_is : numerator_over x m -ℤ numerator_over t m ≡ pos (is_x.num * f - is_t.num * g) =
     ap (λ z. z *ℤ pos f -ℤ t.num *ℤ pos g) is_x.num_is ∙ ap (λ z. pos is_x.num *ℤ pos f -ℤ z *ℤ pos g) is_t.num_is
     ∙ natural (is_x.num * f) (is_t.num * g) under in
-    let r_is : r ≡ reduced (pos (is_x.num * f - is_t.num * g)) m =
-    joined_ok ◌-ℤ◌ m (numerator_over x m) (numerator_over t m) r h ∙ ap (λ z. reduced z m) step_is in
+    let r_is : r ≡ lowest_terms (pos (is_x.num * f - is_t.num * g)) m =
+    joined_ok ◌-ℤ◌ m (numerator_over x m) (numerator_over t m) r h ∙ ap (λ z. lowest_terms z m) step_is in
     let raw : HasValue r (is_x.num * f - is_t.num * g) m =
     subst (λ y. HasValue y (is_x.num * f - is_t.num * g) m) (sym r_is)
     (reduced_value law (is_x.num * f - is_t.num * g) m is.some) in
@@ -220,10 +221,10 @@ minus_value law multiples x t r a b p e left is_x is_t some_b some_e left_is h =
         → tn * g ≤ xn * f
     below xn xd tn td f g m p q some some_x some_t h =
         let plain : tn * xd ≤ xn * td = le_of_mul-le-mul_right h (mul-pos some_b some_e) in
-        let times : tn * xd * m ≤ xn * td * m = mul-le-mul_right m plain in
+        let fraction_product : tn * xd * m ≤ xn * td * m = mul-le-mul_right m plain in
         let low : tn * g * (xd * td) ≡ tn * xd * m = turn tn g xd td ∙ ap (λ z. tn * xd * z) q in
         let high : xn * f * (xd * td) ≡ xn * td * m = turn_back xn f xd td ∙ ap (λ z. xn * td * z) p in
-        let both : tn * g * (xd * td) ≤ xn * f * (xd * td) = rw (low, high) times in
+        let both : tn * g * (xd * td) ≤ xn * f * (xd * td) = rw (low, high) fraction_product in
         le_of_mul-le-mul_right both (mul-pos some_x some_t)
       where
         turn : (tn g xd td : ℕ) → tn * g * (xd * td) ≡ tn * xd * (td * g)

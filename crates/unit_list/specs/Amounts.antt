@@ -30,15 +30,15 @@ abbrev pub unit_fault : Amount → List Amount → Option SplitFault
 unit_fault q units = place_fault (position (is_unlike q) units) (position is_not_positive units)
 
 -- the counts, or the fault of an operation
-abbrev pub numbered : Result (List Fraction) FracFault → Result (List Fraction) SplitFault
-numbered (Ok counts) = Ok counts
-numbered (Err fault) = Err (Number fault)
+abbrev pub counts_or_fault : Result (List Fraction) FracFault → Result (List Fraction) SplitFault
+counts_or_fault (Ok counts) = Ok counts
+counts_or_fault (Err fault) = Err (Number fault)
 
 -- the fault of the units or, if they have none, the counts or the fault of an operation
-abbrev pub checked : Option SplitFault → Result (List Fraction) FracFault
+abbrev pub fault_or_counts : Option SplitFault → Result (List Fraction) FracFault
     → Result (List Fraction) SplitFault
-checked (Some fault) counts = Err fault
-checked None counts = numbered counts
+fault_or_counts (Some fault) counts = Err fault
+fault_or_counts None counts = counts_or_fault counts
 
 -- the number of a unit
 abbrev pub number_of : Amount → Fraction
@@ -50,7 +50,7 @@ numbers_of units = map number_of units
 
 -- the counts of the units in a quantity, or the fault
 unfoldable pub counts_in : Bool → Amount → List Amount → Result (List Fraction) SplitFault
-counts_in round q units = checked (unit_fault q units) (number_counts round q.value (numbers_of units))
+counts_in round q units = fault_or_counts (unit_fault q units) (number_counts round q.value (numbers_of units))
 
 -- the answer has the expected counts or the expected fault, or is an out-of-memory fault
 abbrev pub IsSplit : Result Split SplitFault → Result (List Fraction) SplitFault → Type 0
@@ -58,7 +58,7 @@ IsSplit answer expected = Gives OutOfMemory (λ split. split.counts) answer expe
 
 -- the answer is the expected counts or the expected fault, or an out-of-memory fault
 abbrev pub AreGiven : Result (List Fraction) SplitFault → Result (List Fraction) FracFault → Type 0
-AreGiven answer expected = Gives OutOfMemory (λ counts. counts) answer (numbered expected)
+AreGiven answer expected = Gives OutOfMemory (λ counts. counts) answer (counts_or_fault expected)
 
 -- the denominator of the number of a unit is above 0
 abbrev pub HasDenominator : Amount → Type 0

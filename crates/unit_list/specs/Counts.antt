@@ -6,7 +6,7 @@ use Rattle.frac128.specs.Exact.{difference, product, sum}
 use Rattle.frac128.specs.Fraction.{Fraction, IsReduced, SameValue, whole}
 use Rattle.frac128.specs.Order.{IsAtMost, IsLess}
 use Rattle.frac128.specs.Sign.{is_negative, magnitude, negated_if}
-use Rattle.frac128.specs.Steps.{reduced}
+use Rattle.frac128.specs.Steps.{lowest_terms}
 use Rattle.unit_list.specs.Splits.{last_of, nearest_to, number_counts}
 
 -- the number of a unit, which is above 0
@@ -32,14 +32,14 @@ AreGreatest x (unit ∷ next ∷ units) (count ∷ counts) =
 AreGreatest x _ counts = Unit {0}
 
 -- the quotient of the magnitudes of two fractions, in lowest terms
-abbrev pub quotient_of : Fraction → Fraction → Fraction
-quotient_of x y = reduced (pos (unsigned_abs x.num * y.den)) (x.den * unsigned_abs y.num)
+abbrev pub magnitude_quotient : Fraction → Fraction → Fraction
+magnitude_quotient x y = lowest_terms (pos (unsigned_abs x.num * y.den)) (x.den * unsigned_abs y.num)
 
 -- x or, if rounding is requested, the nearest whole multiple of the unit, with the sign of x
 abbrev pub split_number : Bool → Fraction → Fraction → Fraction
 split_number false unit x = x
 split_number true unit x =
-    negated_if (is_negative x) (product (whole (pos (nearest_to (quotient_of x unit)))) unit)
+    negated_if (is_negative x) (product (whole (pos (nearest_to (magnitude_quotient x unit)))) unit)
 
 -- the counts are those of a split of x, or of x rounded
 pub record IsSplitOf (round : Bool) (x : Fraction) (units counts : List Fraction) : Type 0 where

@@ -5,15 +5,15 @@ use Rattle.frac128.specs.Floor.{floor_of}
 use Rattle.frac128.specs.Fraction.{Fraction, whole}
 use Rattle.frac128.specs.Nearest.{nearest_whole}
 use Rattle.frac128.specs.Sign.{is_negative, magnitude, negated_if}
-use Rattle.frac128.specs.Steps.{◌>>=◌, over, times}
+use Rattle.frac128.specs.Steps.{◌>>=◌, fraction_product, fraction_quotient}
 use Rattle.frac128.specs.Sums.{minus}
 use Rattle.unit_list.specs.declared.part.Part.{Part}
 
 -- the greatest whole count of a unit in x, and the remainder of x
 abbrev pub part_of : Fraction → Fraction → Result Part FracFault
 part_of x unit = do
-  quotient ← over x unit
-  taken ← times (floor_of quotient) unit
+  quotient ← fraction_quotient x unit
+  taken ← fraction_product (floor_of quotient) unit
   rest ← minus x taken
   Ok (record { count = floor_of quotient; rest = rest })
 
@@ -22,7 +22,7 @@ part_of x unit = do
 unfoldable pub counts_of : Fraction → List Fraction → Result (List Fraction) FracFault
 counts_of x [] = Ok []
 counts_of x (unit ∷ []) = do
-  count ← over x unit
+  count ← fraction_quotient x unit
   Ok (count ∷ [])
 counts_of x (unit ∷ next ∷ units) = do
   part ← part_of x unit
@@ -36,8 +36,8 @@ nearest_to x = nearest_whole (unsigned_abs x.num) x.den
 -- the whole multiple of the unit that is nearest to x
 abbrev pub rounded_to : Fraction → Fraction → Result Fraction FracFault
 rounded_to unit x = do
-  quotient ← over x unit
-  times (whole (pos (nearest_to quotient))) unit
+  quotient ← fraction_quotient x unit
+  fraction_product (whole (pos (nearest_to quotient))) unit
 
 -- the last unit
 unfoldable pub last_of : List Fraction → Fraction

@@ -5,12 +5,12 @@ mod counts;
 mod fault;
 mod laws;
 mod part;
-mod rounding;
 mod sign;
-mod splitting;
+mod unit_counts;
+mod unit_rounding;
 mod units;
 
 pub use counts::{Fracs, Split};
 pub use fault::SplitFault;
 pub use laws::{split_law, unique_law};
-pub use splitting::split;
+pub use unit_counts::split;

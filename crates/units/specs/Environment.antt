@@ -2,11 +2,11 @@
 use Rattle.std.specs.Prelude.{◌≡◌, ◌++◌, ◌∷◌, ◌+◌, ◌==◌, [], ℕ, List, Option, Some, None, is_some, take, drop, position}
 use Rattle.std.specs.Prelude.{codes, if◌then◌else◌}
 use Rattle.std.specs.Str.{is_utf8}
-use Rattle.units_io.specs.Named.{Pairs, value_of}
+use Rattle.units_io.specs.NamedValues.{Pairs, named_value}
 
 -- the variables with one more at the end, unless its name has a value already
 abbrev pub with_new : Pairs → List ℕ → List ℕ → Pairs
-with_new vars name value = if is_some (value_of vars name) then vars else vars ++ (name, value) ∷ []
+with_new vars name value = if is_some (named_value vars name) then vars else vars ++ (name, value) ∷ []
 
 -- the place of the first `=`
 abbrev pub place_of_mark : List ℕ → Option ℕ
@@ -28,13 +28,13 @@ with_entries vars [] = vars
 with_entries vars (entry ∷ entries) = with_entries (with_entry vars entry) entries
 
 -- law: the variables of some entries
-pub record EntriesLaw : Type 0 where
+pub record EntryVariablesLaw : Type 0 where
   pub none : with_entries [] [] ≡ []
   pub no_mark : with_entries [] (codes "no mark" ∷ [] ∷ []) ≡ []
   pub first_counts : with_entries [] (codes "A=1" ∷ codes "A=2" ∷ []) ≡ (codes "A", codes "1") ∷ []
   pub first_mark : with_entries [] (codes "B=x=y" ∷ []) ≡ (codes "B", codes "x=y") ∷ []
-  pub no_text : with_entries [] ((codes "C=" ++ 255 ∷ []) ∷ []) ≡ []
+  pub not_utf8 : with_entries [] ((codes "C=" ++ 255 ∷ []) ∷ []) ≡ []
   pub no_name : with_entries [] (codes "=D" ∷ []) ≡ ([], codes "D") ∷ []
-  pub no_value : with_entries [] (codes "E=" ∷ []) ≡ (codes "E", []) ∷ []
+  pub empty_value : with_entries [] (codes "E=" ∷ []) ≡ (codes "E", []) ∷ []
   pub in_order : with_entries [] (codes "A=1" ∷ codes "E=" ∷ codes "A=3" ∷ codes "=D" ∷ [])
       ≡ (codes "A", codes "1") ∷ (codes "E", []) ∷ ([], codes "D") ∷ []

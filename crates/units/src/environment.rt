@@ -100,7 +100,7 @@ pub fn add_entry(alloc: Global, vars: &mut Vars, entry: &[u8]) -> Result<(), All
 
 /// The variables of some entries.
 pub fn entries_law()
-    ensures { spec.EntriesLaw }
+    ensures { spec.EntryVariablesLaw }
 {}
 
 /// Returns the variables of the environment that are UTF-8; if several have one name, the first of them. The table has

@@ -7,19 +7,20 @@ use Rattle.deck.specs.declared.fault.DeckFault.{DeckFault}
 use Rattle.deck.specs.declared.fault.DeckFault.TheVariants as fault
 use Rattle.def_entry.specs.declared.fault.EntryFault.TheVariants as entry
 use Rattle.edit_history.specs.Calls.{IsNoted}
-use Rattle.edit_history.specs.Histories.{Course}
-use Rattle.edited_table.specs.Edited.{Edited}
+use Rattle.edit_history.specs.Histories.{UndoStacks}
+use Rattle.edited_table.specs.TableValue.{Edited}
 use Rattle.expr_tree.specs.declared.fault.ParseFault.TheVariants as parse
 use Rattle.live_table.specs.Edits.{IsEditOf}
-use Rattle.live_table.specs.Shown.{Shown}
-use Rattle.units_c.specs.Edits.{IsAnsweredEdit, IsTold, deck_after, edited_answer, is_told_refusal, refusal}
+use Rattle.live_table.specs.TableView.{Shown}
+use Rattle.units_c.specs.Edits.{HasMessage, IsAnsweredEdit, deck_after_edit, edited_answer, has_own_message}
+use Rattle.units_c.specs.Edits.{refusal_answer}
 use Rattle.units_c.specs.Statuses.{code}
 use Rattle.units_c.specs.Tables.{definitions_of}
 use Rattle.units_c.specs.declared.answer.Answer.{Answer}
 
 -- the code of a refusal with its own message is greater than the codes of `Done` and `NoMemory`
-refusal_code : (why : DeckFault) (named : List ℕ) → is_told_refusal why ≡ true → why ≢ fault.OutOfMemory
-    → 1 < code (refusal why named).status
+refusal_code : (why : DeckFault) (named : List ℕ) → has_own_message why ≡ true → why ≢ fault.OutOfMemory
+    → 1 < code (refusal_answer why named).status
 refusal_code (fault.BadLine (entry.BadName name)) named has_words other = omega arith
 refusal_code (fault.BadLine entry.BadForm) named has_words other = omega arith
 refusal_code (fault.BadLine entry.BadTable) named has_words other = omega arith
@@ -40,22 +41,22 @@ pub same_definitions : (old new : Edited) → new.table ≡ old.table → new.hi
     → definitions_of new ≡ definitions_of old
 same_definitions old new table history =
     ap (λ (t : Shown). definitions_of (record { table = t; history = new.history })) table
-    ∙ ap (λ (h : Course). definitions_of (record { table = old.table; history = h })) history
+    ∙ ap (λ (h : UndoStacks). definitions_of (record { table = old.table; history = h })) history
 
 module _ (outcome : Result Contents DeckFault) (named : List ℕ) (old new : Edited) where
   -- a refused edit leaves the deck and the history unchanged
   edit_refused : (why : DeckFault) (answer : Answer) → new.table ≡ old.table → new.history ≡ old.history
-      → is_told_refusal why ≡ true → answer ≡ refusal why named → why ≢ fault.OutOfMemory → outcome ≡ Err why
-      → IsAnsweredEdit (deck_after outcome old.table.deck) (Ok answer) old new
+      → has_own_message why ≡ true → answer ≡ refusal_answer why named → why ≢ fault.OutOfMemory → outcome ≡ Err why
+      → IsAnsweredEdit (deck_after_edit outcome old.table.deck) (Ok answer) old new
   edit_refused why answer table history has_words is other same =
       let above : 1 < code answer.status =
       subst (λ (a : Answer). 1 < code a.status) (sym is) (refusal_code why named has_words other) in
       record {
         deck =
             ap (λ (t : Shown). t.deck) table
-            ∙ sym (ap (λ (o : Result Contents DeckFault). deck_after o old.table.deck) same);
+            ∙ sym (ap (λ (o : Result Contents DeckFault). deck_after_edit o old.table.deck) same);
         noted = λ done. absurd (omega arith);
-        unnoted = λ _. history;
+        no_note = λ _. history;
         silent = λ done. absurd (omega arith);
         memory = λ m. omega arith;
       }
@@ -64,16 +65,16 @@ module _ (outcome : Result Contents DeckFault) (named : List ℕ) (old new : Edi
   pub edit_left : (edited : Result (Unit {0}) DeckFault) (answered : Result Answer AllocError)
       → IsEditOf outcome old.table new.table edited
       → IsNoted old.history new.history old.table.deck new.table.deck edited
-      → IsTold edited
+      → HasMessage edited
       → IfOk answered (λ answer. answer ≡ edited_answer edited named)
       → IfOk answered (λ _. edited ≢ Err fault.OutOfMemory)
       → IfErr answered (λ _. IsErr edited)
-      → IsAnsweredEdit (deck_after outcome old.table.deck) answered old new
+      → IsAnsweredEdit (deck_after_edit outcome old.table.deck) answered old new
   edit_left (Ok u) (Ok answer) edit noted has_words is known refused =
       let done : code answer.status ≡ 0 = ap (λ (a : Answer). code a.status) is in record {
-        deck = sym (ap (λ (o : Result Contents DeckFault). deck_after o old.table.deck) edit.0);
+        deck = sym (ap (λ (o : Result Contents DeckFault). deck_after_edit o old.table.deck) edit.0);
         noted = λ _. noted;
-        unnoted = λ other. absurd (other done);
+        no_note = λ other. absurd (other done);
         silent = λ _. ap (λ (a : Answer). a.text) is;
         memory = λ m. omega arith;
       }

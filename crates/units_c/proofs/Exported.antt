@@ -3,8 +3,8 @@ use Rattle.std.proofs.Common.{◌≡◌, ◌≢◌, ◌<◌, ◌≤◌, ℕ, Lis
 use Rattle.std.specs.Prelude.{IfErr, IfOk}
 use Rattle.std.specs.declared.alloc.AllocError.{AllocError}
 use Rattle.deck.specs.Decks.{Contents}
-use Rattle.edit_history.specs.Histories.{Course}
-use Rattle.edited_table.specs.Edited.{Edited}
+use Rattle.edit_history.specs.Histories.{UndoStacks}
+use Rattle.edited_table.specs.TableValue.{Edited}
 use Rattle.units_c.specs.Answers.{IsHandedOut}
 use Rattle.units_c.specs.Edits.{IsAnsweredEdit, NotesEdit}
 use Rattle.units_c.specs.Statuses.{code}
@@ -29,11 +29,11 @@ notes : (e e' : Edited) (deck : Contents) (answered : Result Answer AllocError) 
 notes e e' deck (Ok answer) room result written out memory handed is = (
   (λ done. is.noted (was_done (length answer.text) room result (code answer.status) handed.status_told handed.short
       done)),
-  (λ other. is.unnoted (λ done. not_done (length answer.text) room result (code answer.status) handed.status_told
+  (λ other. is.no_note (λ done. not_done (length answer.text) room result (code answer.status) handed.status_told
       (λ d. ap length (is.silent d)) other done)),
 )
 notes e e' deck (Err x) room result written out memory handed is =
-    ((λ done. absurd (omega arith)), (λ _. ap (λ (d : Contents × Course). d.1) is))
+    ((λ done. absurd (omega arith)), (λ _. ap (λ (d : Contents × UndoStacks). d.1) is))
 
 -- an undo or a redo of an open table with this answer satisfies `Turns`
 turns : (IsTurn : Edited → Edited → Type 0) (e e' : Edited) (answered : Result Answer AllocError)
@@ -43,7 +43,7 @@ turns : (IsTurn : Edited → Edited → Type 0) (e e' : Edited) (answered : Resu
 turns IsTurn e e' (Ok answer) room result written out memory handed is = (
   (λ done. is.turned (was_done (length answer.text) room result (code answer.status) handed.status_told
       handed.short done)),
-  (λ other. is.unturned (λ done. not_done (length answer.text) room result (code answer.status)
+  (λ other. is.no_turn (λ done. not_done (length answer.text) room result (code answer.status)
       handed.status_told (λ d. ap length (is.silent d)) other done)),
 )
 turns IsTurn e e' (Err x) room result written out memory handed is =

@@ -1,11 +1,11 @@
 -- The text of a reply determines the outcome of the conversion.
 use Rattle.std.proofs.Common.{◌≡◌, ◌∙◌, ℕ, List, Result, Ok, Err, refl, ap}
 use Rattle.def_entry.specs.Tables.{Table}
-use Rattle.def_lines.specs.Blanks.{trimmed}
-use Rattle.reply.specs.Options.{form_of, style_of}
+use Rattle.def_lines.specs.Blanks.{trim_of}
+use Rattle.reply.specs.Options.{reply_form, style_of}
 use Rattle.quantity.specs.Amount.{Amount}
 use Rattle.reply.specs.Faults.{fault_text}
-use Rattle.reply.specs.Replies.{as_conversion, as_value, conversion_reply, converting}
+use Rattle.reply.specs.Replies.{as_conversion, as_value, conversion_inquiry, conversion_reply}
 use Rattle.reply.specs.declared.fault.ReplyFault.{ReplyFault}
 use Rattle.reply.specs.declared.reply.FromValue.TheVariants.{Bad}
 use Rattle.reply.specs.declared.options.Options.{Options}
@@ -19,19 +19,19 @@ answer_of s words = record { status = s; text = words }
 
 -- the answer for a reply has the status of the outcome of the conversion
 by_outcome : TellStatuses → (options : Options) (from to : List ℕ) (outcome : _)
-    → reply_answer (as_conversion (form_of options) from to outcome) ≡ record {
-      status = conversion_status outcome (as_conversion (form_of options) from to outcome);
-      text = (as_conversion (form_of options) from to outcome).text;
+    → reply_answer (as_conversion (reply_form options) from to outcome) ≡ record {
+      status = conversion_status outcome (as_conversion (reply_form options) from to outcome);
+      text = (as_conversion (reply_form options) from to outcome).text;
     }
 by_outcome laws options from to (Ok c) = refl
 by_outcome laws options from to (Err fault) =
-    ap (λ (s : Status). record { status = s; text = (as_conversion (form_of options) from to (Err fault)).text })
+    ap (λ (s : Status). record { status = s; text = (as_conversion (reply_form options) from to (Err fault)).text })
     (laws.line (style_of options) fault)
 
 pub reply_is : TellStatuses → (table : Table) (options : Options) (from to : List ℕ)
     → reply_answer (conversion_reply table options from to) ≡ conversion_answer table options from to
 reply_is laws table options from to =
-    by_outcome laws options (trimmed from) (trimmed to) (converting table options from to).answer
+    by_outcome laws options (trim_of from) (trim_of to) (conversion_inquiry table options from to).answer
 
 -- the answer for the text of a fault is the answer to the value
 pub worth_is : TellStatuses → (options : Options) (worth : Result Amount ReplyFault) (text : List ℕ)

@@ -1,13 +1,13 @@
 -- The answers of calls: a status, and a text for the caller.
 use Rattle.std.specs.Prelude.{◌≡◌, ◌<◌, ◌≤◌, ℕ, List, Result, Ok, Err, length, take, if◌then◌else◌}
 use Rattle.def_entry.specs.Tables.{Table}
-use Rattle.def_lines.specs.Blanks.{trimmed}
+use Rattle.def_lines.specs.Blanks.{trim_of}
 use Rattle.quantity.specs.Amount.{Amount}
 use Rattle.quantity.specs.Text.{powers_text}
 use Rattle.reply.specs.Faults.{fault_text}
 use Rattle.reply.specs.Inquiries.{text_worth}
 use Rattle.reply.specs.Options.{style_of}
-use Rattle.reply.specs.Replies.{conversion_reply, converting}
+use Rattle.reply.specs.Replies.{conversion_inquiry, conversion_reply}
 use Rattle.reply.specs.declared.fault.ReplyFault.{ReplyFault}
 use Rattle.reply.specs.declared.options.Options.{Options}
 use Rattle.reply.specs.declared.reply.Reply.{Reply}
@@ -33,15 +33,15 @@ conversion_status (Err fault) reply = fault_status fault
 abbrev pub conversion_answer : Table → Options → (from to : List ℕ) → Answer
 conversion_answer table options from to =
     let reply = conversion_reply table options from to in
-    record { status = conversion_status (converting table options from to).answer reply; text = reply.text }
+    record { status = conversion_status (conversion_inquiry table options from to).answer reply; text = reply.text }
 
 -- the dimension of a quantity, as in its text
 abbrev pub dimension_text : Amount → List ℕ
-dimension_text x = trimmed (powers_text x.exponents)
+dimension_text x = trim_of (powers_text x.exponents)
 
 -- the value of an expression
 abbrev pub worth_of : Table → (expression : List ℕ) → Result Amount ReplyFault
-worth_of table expression = (text_worth table (trimmed expression)).answer
+worth_of table expression = (text_worth table (trim_of expression)).answer
 
 -- the dimension of a value, or the text of the fault
 abbrev pub worth_text : Options → Result Amount ReplyFault → List ℕ

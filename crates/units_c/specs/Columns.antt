@@ -1,6 +1,6 @@
 -- The answers to column conversions.
 use Rattle.std.specs.Prelude.{ℕ, List, Bool, if◌then◌else◌}
-use Rattle.column_convert.specs.Blocks.{is_refused, text_of}
+use Rattle.column_convert.specs.Blocks.{is_error_row, text_of}
 use Rattle.column_convert.specs.Inputs.{input_of}
 use Rattle.column_convert.specs.Rows.{ColumnRow, rows}
 use Rattle.def_entry.specs.Tables.{Table}
@@ -17,7 +17,7 @@ rows_status refused = if refused then status.CellError else status.Done
 
 -- the concatenated rows, with their status
 abbrev pub rows_answer : List ColumnRow → Answer
-rows_answer rows = record { status = rows_status (is_refused rows); text = text_of rows }
+rows_answer rows = record { status = rows_status (is_error_row rows); text = text_of rows }
 
 -- the answer to a column conversion: the rows that the program writes
 abbrev pub column_answer : Table → Options → UnitsColumn → (text : List ℕ) → Answer

@@ -1,18 +1,18 @@
 -- Definitions that C passes in memory.
 use Rattle.std.specs.Prelude.{◌≡◌, ◌≢◌, [], ◌∷◌, ℕ, List, Option, Some, None, Result, Ok, Err}
 use Rattle.deck.specs.Decks.{Contents}
-use Rattle.deck.specs.Loading.{after_load}
+use Rattle.deck.specs.FileLoads.{after_load}
 use Rattle.deck.specs.declared.fault.DeckFault.{DeckFault}
 use Rattle.deck.specs.declared.fault.DeckFault.TheVariants as fault
 use Rattle.deck.specs.declared.settings.Settings.{Settings}
-use Rattle.edited_table.specs.Edited.{Edited, unedited}
+use Rattle.edited_table.specs.TableValue.{Edited, table_without_edits}
 use Rattle.units_c.specs.Statuses.{code}
 use Rattle.units_c.specs.declared.definitions.UnitsDefinitions.{UnitsDefinitions}
 use Rattle.units_c.specs.declared.definitions.UnitsEntry.{UnitsEntry}
 use Rattle.units_c.specs.declared.status.Status.{Status}
 use Rattle.units_c.specs.declared.status.Status.TheVariants as status
 use Rattle.units_io.specs.FileMap.{FileMap, no_files, with_file}
-use Rattle.units_io.specs.Named.{Pairs, with_value}
+use Rattle.units_io.specs.NamedValues.{Pairs, with_value}
 
 -- files with those of a list added; the last file of a name counts
 abbrev pub with_files : FileMap → List UnitsEntry → FileMap
@@ -24,12 +24,12 @@ abbrev pub with_values : Pairs → List UnitsEntry → Pairs
 with_values pairs [] = pairs
 with_values pairs (e ∷ es) = with_values (with_value pairs e.name.now e.content.now) es
 
-abbrev pub settings_of : UnitsDefinitions → Settings
-settings_of d = record { locale = d.locale.now; vars = with_values [] d.variables.now }
+abbrev pub definition_settings : UnitsDefinitions → Settings
+definition_settings d = record { locale = d.locale.now; vars = with_values [] d.variables.now }
 
 -- the deck of the main file and of the files that it includes
-abbrev pub deck_of : UnitsDefinitions → Result Contents DeckFault
-deck_of d = after_load (with_files no_files d.files.now) d.main.now (settings_of d)
+abbrev pub deck_of_files : UnitsDefinitions → Result Contents DeckFault
+deck_of_files d = after_load (with_files no_files d.files.now) d.main.now (definition_settings d)
 
 -- the status of a load that failed with this fault
 abbrev pub load_status : DeckFault → Status
@@ -40,9 +40,9 @@ load_status fault.DeckFull = status.DeckFull
 load_status _ = status.NoMemory
 
 -- the table is open over these definitions, with no name settled and no edit made
-abbrev pub IsOpened : UnitsDefinitions → Option Edited → Type 0
-IsOpened d None = ⊥
-IsOpened d (Some e) = (deck_of d ≡ Ok e.table.deck) × (e ≡ unedited e.table.deck)
+abbrev pub IsTableOpened : UnitsDefinitions → Option Edited → Type 0
+IsTableOpened d None = ⊥
+IsTableOpened d (Some e) = (deck_of_files d ≡ Ok e.table.deck) × (e ≡ table_without_edits e.table.deck)
 
 -- the status of opening a closed table over a deck with this outcome: the status of the outcome, `NoMemory` or
 -- `ReadFailed`

@@ -5,12 +5,12 @@ use Rattle.deck.specs.Decks.{Contents}
 use Rattle.deck.specs.Edits.{after_drop}
 use Rattle.deck.specs.declared.fault.DeckFault.{DeckFault}
 use Rattle.deck.specs.declared.fault.DeckFault.TheVariants as fault
-use Rattle.def_entry.specs.Faults.{entry_fault_text, is_told}
+use Rattle.def_entry.specs.Faults.{entry_fault_text, is_fault_of_line}
 use Rattle.def_entry.specs.declared.fault.EntryFault.{EntryFault}
 use Rattle.def_entry.specs.declared.fault.EntryFault.TheVariants as entry
 use Rattle.def_entry.specs.declared.key.Key.{Key}
 use Rattle.edit_history.specs.Calls.{IsNoted}
-use Rattle.edited_table.specs.Edited.{Edited}
+use Rattle.edited_table.specs.TableValue.{Edited}
 use Rattle.units_c.specs.Faults.{parse_status}
 use Rattle.units_c.specs.Statuses.{code}
 use Rattle.units_c.specs.Tables.{definitions_of}
@@ -27,29 +27,29 @@ entry_status (entry.Parse parse) = parse_status parse
 entry_status entry.OutOfMemory = status.NoMemory
 
 -- the answer that refuses an edit; `named` is the key as the caller wrote it
-abbrev pub refusal : DeckFault → (named : List ℕ) → Answer
-refusal (fault.BadLine why) named = record { status = entry_status why; text = entry_fault_text why }
-refusal fault.NoSuchKey named =
+abbrev pub refusal_answer : DeckFault → (named : List ℕ) → Answer
+refusal_answer (fault.BadLine why) named = record { status = entry_status why; text = entry_fault_text why }
+refusal_answer fault.NoSuchKey named =
     record { status = status.NoSuchDefinition; text = codes "no such definition: " ++ named }
-refusal fault.DeckFull named = record { status = status.DeckFull; text = codes "deck full" }
-refusal fault.Absent named = record { status = status.NoSuchFile; text = codes "no file: " ++ named }
-refusal fault.TooLong named = record { status = status.FileTooLong; text = codes "file too long: " ++ named }
-refusal fault.ReadFailed named = record { status = status.ReadFailed; text = [] }
-refusal fault.OutOfMemory named = record { status = status.NoMemory; text = [] }
+refusal_answer fault.DeckFull named = record { status = status.DeckFull; text = codes "deck full" }
+refusal_answer fault.Absent named = record { status = status.NoSuchFile; text = codes "no file: " ++ named }
+refusal_answer fault.TooLong named = record { status = status.FileTooLong; text = codes "file too long: " ++ named }
+refusal_answer fault.ReadFailed named = record { status = status.ReadFailed; text = [] }
+refusal_answer fault.OutOfMemory named = record { status = status.NoMemory; text = [] }
 
 -- the answer to a successful edit
-abbrev pub made : Answer
-made = record { status = status.Done; text = [] }
+abbrev pub edit_made_answer : Answer
+edit_made_answer = record { status = status.Done; text = [] }
 
 -- the answer to an edit with this outcome
 abbrev pub edit_answer : Result Contents DeckFault → (named : List ℕ) → Answer
-edit_answer (Ok deck) named = made
-edit_answer (Err why) named = refusal why named
+edit_answer (Ok deck) named = edit_made_answer
+edit_answer (Err why) named = refusal_answer why named
 
 -- the deck after an edit with this outcome
-abbrev pub deck_after : Result Contents DeckFault → Contents → Contents
-deck_after (Ok made) deck = made
-deck_after (Err why) deck = deck
+abbrev pub deck_after_edit : Result Contents DeckFault → Contents → Contents
+deck_after_edit (Ok edit_made_answer) deck = edit_made_answer
+deck_after_edit (Err why) deck = deck
 
 -- the outcome of dropping a key, or `None` if the text is not a key
 abbrev pub drop_outcome : Option Key → Contents → Option (Result Contents DeckFault)
@@ -62,7 +62,7 @@ drop_answer (Some outcome) named = edit_answer outcome named
 
 abbrev pub deck_after_drop : Option (Result Contents DeckFault) → Contents → Contents
 deck_after_drop None deck = deck
-deck_after_drop (Some outcome) deck = deck_after outcome deck
+deck_after_drop (Some outcome) deck = deck_after_edit outcome deck
 
 -- after an edit the deck is `edit` of the old one, or is unchanged if memory ran out
 abbrev pub LeavesDeck : (result : ℕ) → (Contents → Contents) → (before after : Option Edited) → Type 0
@@ -82,24 +82,24 @@ NotesEdit result (Some e) (Some e') =
 
 -- the answer to an edit that returned this result
 abbrev pub edited_answer : Result (Unit {0}) DeckFault → (named : List ℕ) → Answer
-edited_answer (Ok _) named = made
-edited_answer (Err why) named = refusal why named
+edited_answer (Ok _) named = edit_made_answer
+edited_answer (Err why) named = refusal_answer why named
 
 -- whether a refusal has its own message
-abbrev pub is_told_refusal : DeckFault → Bool
-is_told_refusal (fault.BadLine why) = is_told why
-is_told_refusal _ = true
+abbrev pub has_own_message : DeckFault → Bool
+has_own_message (fault.BadLine why) = is_fault_of_line why
+has_own_message _ = true
 
-abbrev pub IsTold : Result (Unit {0}) DeckFault → Type 0
-IsTold (Ok _) = ⊤
-IsTold (Err why) = is_told_refusal why ≡ true
+abbrev pub HasMessage : Result (Unit {0}) DeckFault → Type 0
+HasMessage (Ok _) = ⊤
+HasMessage (Err why) = has_own_message why ≡ true
 
 -- an edit with this answer leaves the deck `left`; it is recorded in the history exactly if the status is `Done`
 pub record IsEditAnswered (left : Contents) (answer : Answer) (before after : Edited) : Type 0 where
   pub deck : after.table.deck ≡ left
   pub noted : code answer.status ≡ code status.Done
       → IsNoted before.history after.history before.table.deck after.table.deck (Ok tt)
-  pub unnoted : code answer.status ≢ code status.Done → after.history ≡ before.history
+  pub no_note : code answer.status ≢ code status.Done → after.history ≡ before.history
   pub silent : code answer.status ≡ code status.Done → answer.text ≡ []
   pub memory : code answer.status ≢ code status.NoMemory
 

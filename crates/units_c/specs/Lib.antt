@@ -8,5 +8,5 @@ pub mod Options
 pub mod Statuses
 pub mod Tables
 pub mod Turns
-pub mod Valued
+pub mod ValueOptions
 pub mod Words

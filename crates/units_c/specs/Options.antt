@@ -8,13 +8,13 @@ abbrev pub is_set : ℕ → Bool
 is_set byte = not (byte == 0)
 
 -- the number of significant digits, where 0 means 8
-abbrev pub digits_of : ℕ → ℕ
-digits_of digits = if digits == 0 then 8 else digits
+abbrev pub significant_digits : ℕ → ℕ
+significant_digits digits = if digits == 0 then 8 else digits
 
 -- the options of replies, or `None` if there are more than 36 digits
-abbrev pub options_of : UnitsOptions → Option Options
-options_of o = if nat_lt 36 o.digits then None else Some (record {
-  digits = digits_of o.digits;
+abbrev pub reply_options : UnitsOptions → Option Options
+reply_options o = if nat_lt 36 o.digits then None else Some (record {
+  digits = significant_digits o.digits;
   exact = is_set o.exact;
   strict = is_set o.strict;
   one_line = is_set o.one_line;

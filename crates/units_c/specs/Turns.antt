@@ -5,8 +5,8 @@ use Rattle.edit_history.specs.Calls.{IsMoved}
 use Rattle.edit_history.specs.declared.fault.HistoryFault.{HistoryFault}
 use Rattle.edit_history.specs.declared.fault.HistoryFault.TheVariants as history
 use Rattle.edit_history.specs.declared.step.Step.{Step}
-use Rattle.edited_table.specs.Edited.{Edited}
-use Rattle.units_c.specs.Edits.{made}
+use Rattle.edited_table.specs.TableValue.{Edited}
+use Rattle.units_c.specs.Edits.{edit_made_answer}
 use Rattle.units_c.specs.Statuses.{code}
 use Rattle.units_c.specs.Tables.{definitions_of}
 use Rattle.units_c.specs.declared.answer.Answer.{Answer}
@@ -16,7 +16,7 @@ use Rattle.units_c.specs.declared.status.Status.TheVariants as status
 -- the answer to an undo or a redo, given the steps that are left
 abbrev pub turn_answer : Status → (words : List ℕ) → List Step → Answer
 turn_answer nothing words [] = record { status = nothing; text = words }
-turn_answer nothing words (step ∷ steps) = made
+turn_answer nothing words (step ∷ steps) = edit_made_answer
 
 -- the last edit that was made is undone
 abbrev pub IsBack : (before after : Edited) → Type 0
@@ -40,7 +40,7 @@ Turns IsTurn result (Some e) (Some e') =
 
 -- the answer to an undo or a redo with this outcome
 abbrev pub turned_answer : Result (Unit {0}) HistoryFault → Answer
-turned_answer (Ok _) = made
+turned_answer (Ok _) = edit_made_answer
 turned_answer (Err history.NothingToUndo) =
     record { status = status.NothingToUndo; text = codes "nothing to undo" }
 turned_answer (Err history.NothingToRedo) =
@@ -50,7 +50,7 @@ turned_answer (Err history.OutOfMemory) = record { status = status.NoMemory; tex
 -- an undo or a redo with this answer: the edit is undone or redone exactly if the status is `Done`
 pub record IsTurnAnswered (IsTurn : Edited → Edited → Type 0) (answer : Answer) (before after : Edited) : Type 0 where
   pub turned : code answer.status ≡ code status.Done → IsTurn before after
-  pub unturned : code answer.status ≢ code status.Done → definitions_of after ≡ definitions_of before
+  pub no_turn : code answer.status ≢ code status.Done → definitions_of after ≡ definitions_of before
   pub silent : code answer.status ≡ code status.Done → answer.text ≡ []
 
 -- `IsTurnAnswered` if there is an answer; if memory ran out, the definitions are unchanged

@@ -5,7 +5,7 @@ use Rattle.digits_print.specs.declared.style.Style.{Style}
 use Rattle.reply.specs.Faults.{fault_text}
 use Rattle.reply.specs.Lines.{unlike_text}
 use Rattle.reply.specs.declared.fault.ReplyFault.{ReplyFault}
-use Rattle.reply.specs.Options.{form_of}
+use Rattle.reply.specs.Options.{reply_form}
 use Rattle.reply.specs.declared.options.Options.{Options}
 use Rattle.quantity.specs.Amount.{Amount}
 use Rattle.units_c.specs.Faults.{fault_status}
@@ -73,4 +73,4 @@ pub record TellStatuses : Type 0 where
   pub line : (style : Style) (fault : ReplyFault)
       → status_of_text (fault_text style fault ++ codes "\n") ≡ fault_status fault
   pub unlike : (options : Options) (x y : Amount)
-      → status_of_text (unlike_text (form_of options) x y) ≡ status.ConformabilityError
+      → status_of_text (unlike_text (reply_form options) x y) ≡ status.ConformabilityError

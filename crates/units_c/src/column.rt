@@ -3,9 +3,9 @@
 ghost use Rattle.std.specs.Prelude.{◌≡◌, ◌≤◌, IfOk, IfSome, None, length};
 ghost use Rattle.reply.specs.Options.{IsPrintable};
 ghost use Rattle.units_c.specs.Columns as spec;
-ghost use Rattle.units_c.specs.Options.{options_of};
+ghost use Rattle.units_c.specs.Options.{reply_options};
 ghost use Rattle.units_c.specs.Statuses.{code};
-ghost use Rattle.units_c.specs.Tables.{IsAnswered, IsUnedited, definitions_of, table_of};
+ghost use Rattle.units_c.specs.Tables.{IsTableAnswered, IsUnedited, definitions_of, query_table};
 ghost use Rattle.units_c.specs.declared.status.Status.TheVariants as statuses;
 
 use crate::answer::{Answer, deliver};
@@ -39,10 +39,10 @@ pub extern "C" fn units_convert_column(
     out: &mut [u8],
     written: &mut usize,
 ) -> u32
-    ensures answer { 1 ≤ column.now.number → IfSome (options_of options.now) (λ o.
-        IsAnswered table.old.handle.held (λ e. spec.column_answer (table_of e) o column.now text.now)
+    ensures answer { 1 ≤ column.now.number → IfSome (reply_options options.now) (λ o.
+        IsTableAnswered table.old.handle.held (λ e. spec.column_answer (query_table e) o column.now text.now)
         (length out.old) result written.new out.new) }
-    ensures options { options_of options.now ≡ None → result ≡ code statuses.BadOptions }
+    ensures options { reply_options options.now ≡ None → result ≡ code statuses.BadOptions }
     ensures number { column.now.number ≡ 0 → result ≡ code statuses.BadOptions }
     ensures unedited { IsUnedited table.old.handle.held table.new.handle.held }
 {
@@ -72,7 +72,7 @@ fn answer_column(
     requires printable { IsPrintable options.now }
     requires number { 1 ≤ column.now.number }
     ensures answer { IfOk result (λ answer.
-        answer ≡ spec.column_answer (table_of content.old) options.now column.now text.now) }
+        answer ≡ spec.column_answer (query_table content.old) options.now column.now text.now) }
     ensures unedited { definitions_of content.new ≡ definitions_of content.old }
 {
     let column = Column {

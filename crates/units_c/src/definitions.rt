@@ -1,7 +1,7 @@
 //! Definitions that C passes in: files in memory, variables and a locale.
 
 ghost use Rattle.std.specs.Prelude.{◌≡◌, IfOk, OnOk};
-ghost use Rattle.deck.specs.Loading.{IsLoaded};
+ghost use Rattle.deck.specs.FileLoads.{IsLoaded};
 ghost use Rattle.units_c.specs.Definitions as spec;
 ghost use Rattle.units_io.specs.FileMap.{no_files};
 
@@ -37,7 +37,7 @@ pub(crate) fn read_deck(
     alloc: Global,
     definitions: &UnitsDefinitions<'_>,
 ) -> Result<Deck, DeckFault>
-    ensures { IsLoaded (spec.deck_of definitions.now) result }
+    ensures { IsLoaded (spec.deck_of_files definitions.now) result }
 {
     let mut files = MemFiles::new(alloc, &[])?;
     put_files(alloc, &mut files, definitions.files)?;
@@ -47,7 +47,7 @@ pub(crate) fn read_deck(
 
 // Returns the settings in `definitions`.
 fn read_settings(alloc: Global, definitions: &UnitsDefinitions<'_>) -> Result<Settings, AllocError>
-    ensures { IfOk result (λ settings. settings ≡ spec.settings_of definitions.now) }
+    ensures { IfOk result (λ settings. settings ≡ spec.definition_settings definitions.now) }
 {
     let locale = Text::from_bytes(alloc, definitions.locale)?;
     let mut vars = Vars::with_seed(alloc, HashSeed::from_bytes(definitions.seed));

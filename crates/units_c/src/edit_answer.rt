@@ -4,7 +4,7 @@ ghost use Rattle.std.specs.Prelude.{◌≡◌, ◌≢◌, ◌++◌, [], Err, IfE
 ghost use Rattle.deck.specs.Edits.{after_define, after_drop};
 ghost use Rattle.deck.specs.declared.fault.DeckFault.TheVariants as deck_fault;
 ghost use Rattle.def_entry.specs.Keys.{key_of};
-ghost use Rattle.def_lines.specs.Blanks.{trimmed};
+ghost use Rattle.def_lines.specs.Blanks.{trim_of};
 ghost use Rattle.edit_history.specs.Calls.{IsNoted};
 ghost use Rattle.live_table.specs.Edits.{IsEditOf};
 ghost use Rattle.units_c.specs.Edits as spec;
@@ -12,7 +12,7 @@ ghost use Rattle.units_c.specs.Edits as spec;
 use crate::answer::Answer;
 use crate::status::Status;
 use deck::DeckFault;
-use def_entry::{EntryFault, Key, KeyFault, entry_fault_text, read_key, told_law};
+use def_entry::{EntryFault, Key, KeyFault, entry_fault_text, entry_memory_law, read_key};
 use edited_table::EditedTable;
 use expr_tree::ParseFault;
 use std::alloc::{AllocError, Global};
@@ -24,21 +24,21 @@ fn answer_edit(
     edited: &Result<(), DeckFault>,
     named: &[u8],
 ) -> Result<Answer, AllocError>
-    requires { spec.IsTold edited.now }
+    requires { spec.HasMessage edited.now }
     ensures answer { IfOk result (λ answer. answer ≡ spec.edited_answer edited.now named.now) }
     ensures known { IfOk result (λ _. edited.now ≢ Err deck_fault.OutOfMemory) }
     ensures refused { IfErr result (λ _. IsErr edited.now) }
 {
     match edited {
-        Ok(()) => Ok(made(alloc)),
+        Ok(()) => Ok(edit_made(alloc)),
         Err(fault) => refusal(alloc, fault, named),
     }
 }
 
 // Returns the answer that refuses an edit.
 fn refusal(alloc: Global, fault: &DeckFault, named: &[u8]) -> Result<Answer, AllocError>
-    requires { spec.is_told_refusal fault.now ≡ true }
-    ensures answer { IfOk result (λ answer. answer ≡ spec.refusal fault.now named.now) }
+    requires { spec.has_own_message fault.now ≡ true }
+    ensures answer { IfOk result (λ answer. answer ≡ spec.refusal_answer fault.now named.now) }
     ensures known { IfOk result (λ _. fault.now ≢ deck_fault.OutOfMemory) }
 {
     match fault {
@@ -51,10 +51,10 @@ fn refusal(alloc: Global, fault: &DeckFault, named: &[u8]) -> Result<Answer, All
             let status = Status::NoSuchDefinition;
             said_of(alloc, status, b"no such definition: ", named)
         }
-        DeckFault::DeckFull => said(alloc, Status::DeckFull, b"deck full"),
+        DeckFault::DeckFull => text_answer(alloc, Status::DeckFull, b"deck full"),
         DeckFault::Absent => said_of(alloc, Status::NoSuchFile, b"no file: ", named),
         DeckFault::TooLong => said_of(alloc, Status::FileTooLong, b"file too long: ", named),
-        DeckFault::ReadFailed => said(alloc, Status::ReadFailed, b""),
+        DeckFault::ReadFailed => text_answer(alloc, Status::ReadFailed, b""),
         DeckFault::OutOfMemory => Err(AllocError),
     }
 }
@@ -81,9 +81,9 @@ pub(crate) fn answer_define(
     line: &[u8],
 ) -> Result<Answer, AllocError>
     ensures answer { IfOk result (λ answer. answer
-        ≡ spec.edit_answer (after_define (trimmed line.now) content.old.table.deck) []) }
+        ≡ spec.edit_answer (after_define (trim_of line.now) content.old.table.deck) []) }
     ensures edited { spec.IsAnsweredEdit
-        (spec.deck_after (after_define (trimmed line.now) content.old.table.deck) content.old.table.deck)
+        (spec.deck_after_edit (after_define (trim_of line.now) content.old.table.deck) content.old.table.deck)
         result content.old content.new }
 {
     let edited = define_line(alloc, content, line);
@@ -92,13 +92,13 @@ pub(crate) fn answer_define(
 
 // Adds the definition in `line`. Every refusal has its own message.
 fn define_line(alloc: Global, content: &mut EditedTable, line: &[u8]) -> Result<(), DeckFault>
-    ensures edit { IsEditOf (after_define (trimmed line.now) content.old.table.deck)
+    ensures edit { IsEditOf (after_define (trim_of line.now) content.old.table.deck)
         content.old.table content.new.table result }
     ensures noted { IsNoted content.old.history content.new.history
         content.old.table.deck content.new.table.deck result }
-    ensures has_words { spec.IsTold result }
+    ensures has_words { spec.HasMessage result }
 {
-    told_law();
+    entry_memory_law();
     content.define(alloc, line)
 }
 
@@ -132,7 +132,7 @@ fn answer_drop_of(
     ensures answer { IfOk result (λ answer. answer
         ≡ spec.edit_answer (after_drop key.now content.old.table.deck) text.now) }
     ensures edited { spec.IsAnsweredEdit
-        (spec.deck_after (after_drop key.now content.old.table.deck) content.old.table.deck)
+        (spec.deck_after_edit (after_drop key.now content.old.table.deck) content.old.table.deck)
         result content.old content.new }
 {
     let edited = content.drop_last(alloc, key);
@@ -140,8 +140,8 @@ fn answer_drop_of(
 }
 
 /// Returns the answer to a successful edit.
-pub(crate) fn made(alloc: Global) -> Answer
-    ensures { result ≡ spec.made }
+pub(crate) fn edit_made(alloc: Global) -> Answer
+    ensures { result ≡ spec.edit_made_answer }
 {
     Answer {
         status: Status::Done,
@@ -150,7 +150,7 @@ pub(crate) fn made(alloc: Global) -> Answer
 }
 
 /// Returns an answer with this status and this text.
-pub(crate) fn said(alloc: Global, status: Status, words: &[u8]) -> Result<Answer, AllocError>
+pub(crate) fn text_answer(alloc: Global, status: Status, words: &[u8]) -> Result<Answer, AllocError>
     ensures { IfOk result (λ answer. answer ≡ record { status = status; text = words.now }) }
 {
     let text = Text::from_bytes(alloc, words)?;

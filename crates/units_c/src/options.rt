@@ -29,7 +29,7 @@ pub struct UnitsOptions {
 impl UnitsOptions {
     /// Returns the options of replies, or `None` if there are more than 36 digits.
     pub(crate) fn read(&self) -> Option<Options>
-        ensures is { result ≡ spec.options_of self.now }
+        ensures is { result ≡ spec.reply_options self.now }
         ensures printable { IfSome result IsPrintable }
     {
         if self.digits > 36 {

@@ -6,7 +6,7 @@ ghost use Rattle.units_c.specs.Turns as spec;
 ghost use Rattle.units_c.specs.declared.status.Status.TheVariants as statuses;
 
 use crate::answer::Answer;
-use crate::edit_answer::{made, said};
+use crate::edit_answer::{edit_made, text_answer};
 use crate::status::Status;
 use edit_history::HistoryFault;
 use edited_table::EditedTable;
@@ -39,12 +39,12 @@ fn answer_turn(alloc: Global, turned: Result<(), HistoryFault>) -> Result<Answer
     ensures refused { IfErr result (λ _. IsErr turned) }
 {
     match turned {
-        Ok(()) => Ok(made(alloc)),
+        Ok(()) => Ok(edit_made(alloc)),
         Err(HistoryFault::NothingToUndo) => {
-            said(alloc, Status::NothingToUndo, b"nothing to undo")
+            text_answer(alloc, Status::NothingToUndo, b"nothing to undo")
         }
         Err(HistoryFault::NothingToRedo) => {
-            said(alloc, Status::NothingToRedo, b"nothing to redo")
+            text_answer(alloc, Status::NothingToRedo, b"nothing to redo")
         }
         Err(HistoryFault::OutOfMemory) => Err(AllocError),
     }

@@ -3,11 +3,11 @@ use Rattle.std.proofs.Common.{◌≡◌, ◌+◌, ◌++◌, ℕ, List, length, t
 use Rattle.std.proofs.Math.Seq.{take-add}
 use Rattle.std.proofs.lemmas.List.{take-append-drop, drop-drop, take_at}
 use Rattle.std.specs.declared.option.Option.{Option}
-use Rattle.units_io.specs.Bytes.{grown}
+use Rattle.units_io.specs.Bytes.{known_append}
 
 -- appending a prefix and then a prefix of the rest appends a longer prefix
 pub grown-step : (held : Option (List ℕ)) (bytes : List ℕ) (m n : ℕ)
-    → grown (grown held (take m bytes)) (take n (drop m bytes)) ≡ grown held (take (m + n) bytes)
+    → known_append (known_append held (take m bytes)) (take n (drop m bytes)) ≡ known_append held (take (m + n) bytes)
 grown-step None bytes m n = refl
 grown-step (Some held) bytes m n = ap Some (append_assoc held _ _ ∙ ap (λ x. held ++ x) (sym (take-add m n bytes)))
 

@@ -1,5 +1,6 @@
 -- Pairs of a name and a value: the results of lookups, and pairs with one more value.
-use Rattle.std.proofs.Common.{◌≡◌, ◌≢◌, ℕ, List, [], ◌∷◌, ◌++◌, Option, Some, None, refl, sym, ap, subst, ◌∙◌, Bool, take, suc, zero}
+use Rattle.std.proofs.Common.{◌≡◌, ◌≢◌, ℕ, List, [], ◌∷◌, ◌++◌, Option, Some, None, refl, sym, ap, subst, ◌∙◌, Bool}
+use Rattle.std.proofs.Common.{take, suc, zero}
 use Rattle.std.proofs.Common.{true, false, cond}
 use Rattle.std.proofs.Common.{Vec, Bor}
 use Rattle.std.specs.Prelude.{IfNone}
@@ -8,7 +9,7 @@ use Rattle.std.specs.Map.{lookup}
 use Rattle.std.specs.Str.{bytes_eq}
 use Rattle.std.proofs.lemmas.Slice.Eq.{bytes_eq-Decides}
 use Rattle.indexmap.specs.IndexMap.{insert_entry}
-use Rattle.units_io.specs.Named.{Pairs, value_of, with_value, Sets, HasNoName, HasDistinctNames, pairs_of}
+use Rattle.units_io.specs.NamedValues.{Pairs, named_value, with_value, Sets, HasNoName, HasDistinctNames, pairs_of}
 
 -- names for which the test is false are different
 differ : (name other : List ℕ) → bytes_eq name other ≡ false → other ≢ name
@@ -28,20 +29,20 @@ apart name other differs = by _ refl
     by false is = is
 
 -- if a name is not found, no pair has it
-HasNoName-from_value_of : (pairs : Pairs) (name : List ℕ) → value_of pairs name ≡ None → HasNoName pairs name
+HasNoName-from_value_of : (pairs : Pairs) (name : List ℕ) → named_value pairs name ≡ None → HasNoName pairs name
 HasNoName-from_value_of [] name none = tt
 HasNoName-from_value_of (pair ∷ pairs) name none = by _ refl (HasNoName-from_value_of pairs name)
   where
-    by : (b : Bool) → bytes_eq name pair.0 ≡ b → (value_of pairs name ≡ None → HasNoName pairs name)
+    by : (b : Bool) → bytes_eq name pair.0 ≡ b → (named_value pairs name ≡ None → HasNoName pairs name)
         → HasNoName (pair ∷ pairs) name
-    by true is later = let found : Some pair.1 ≡ None = sym (ap (λ b. cond b (Some pair.1) (value_of pairs name)) is)
+    by true is later = let found : Some pair.1 ≡ None = sym (ap (λ b. cond b (Some pair.1) (named_value pairs name)) is)
         ∙ none in cc
     by false is later =
-        (differ name pair.0 is, later (sym (ap (λ b. cond b (Some pair.1) (value_of pairs name)) is) ∙ none))
+        (differ name pair.0 is, later (sym (ap (λ b. cond b (Some pair.1) (named_value pairs name)) is) ∙ none))
 
 -- if a lookup does not find a name, no pair has it
 pub HasNoName-not_found : (pairs : Pairs) (name : List ℕ) (found : Option (Bor (List ℕ)))
-    → option_copied found ≡ value_of pairs name
+    → option_copied found ≡ named_value pairs name
     → IfNone found (HasNoName pairs name)
 HasNoName-not_found pairs name None is = HasNoName-from_value_of pairs name (sym is)
 HasNoName-not_found pairs name (Some value) is = tt
@@ -60,9 +61,10 @@ with_value-Sets [] name value other = refl
 with_value-Sets (pair ∷ pairs) name value other = by _ _ refl refl (with_value-Sets pairs name value other)
   where
     by : (b at : Bool) → bytes_eq name pair.0 ≡ b → bytes_eq other pair.0 ≡ at
-        → value_of (with_value pairs name value) other ≡ cond (bytes_eq other name) (Some value) (value_of pairs other)
-        → value_of (with_value (pair ∷ pairs) name value) other
-        ≡ cond (bytes_eq other name) (Some value) (value_of (pair ∷ pairs) other)
+        → named_value (with_value pairs name value) other ≡ cond (bytes_eq other name) (Some value)
+        (named_value pairs other)
+        → named_value (with_value (pair ∷ pairs) name value) other
+        ≡ cond (bytes_eq other name) (Some value) (named_value (pair ∷ pairs) other)
     by true true is found later = rw (is, same name pair.0 is, found) refl
     by true false is found later = rw (is, same name pair.0 is, found) refl
     by false true is found later =
@@ -121,14 +123,15 @@ HasNoName-before (p ∷ before) pair behind distinct =
 
 module _ {Y : Type 0} where
   -- the first n pairs are those of the first n entries
-  pub pairs_of-take : (n : ℕ) (entries : List (Vec ℕ Y × List ℕ)) → pairs_of (take n entries) ≡ take n (pairs_of entries)
+  pub pairs_of-take : (n : ℕ) (entries : List (Vec ℕ Y × List ℕ)) → pairs_of (take n entries) ≡ take n
+      (pairs_of entries)
   pairs_of-take zero entries = refl
   pairs_of-take (suc n) [] = refl
   pairs_of-take (suc n) (entry ∷ entries) = ap (λ (ps : Pairs). (entry.0.items, entry.1) ∷ ps) (pairs_of-take n entries)
 
   -- a lookup in an index map is a lookup among its pairs
   pub value_of-pairs_of : (entries : List (Vec ℕ Y × List ℕ)) (name : List ℕ)
-      → lookup (λ key. bytes_eq name key.items) entries ≡ value_of (pairs_of entries) name
+      → lookup (λ key. bytes_eq name key.items) entries ≡ named_value (pairs_of entries) name
   value_of-pairs_of [] name = refl
   value_of-pairs_of (entry ∷ entries) name =
       ap (λ o. cond (bytes_eq name entry.0.items) (Some entry.1) o) (value_of-pairs_of entries name)

@@ -8,13 +8,13 @@ Loses None new bytes = new ≡ None
 Loses (Some left) new bytes = (rest : List ℕ) × (new ≡ Some rest) × (left ≡ bytes ++ rest)
 
 -- a known list of bytes with these bytes appended
-abbrev pub grown : Option (List ℕ) → List ℕ → Option (List ℕ)
-grown None bytes = None
-grown (Some held) bytes = Some (held ++ bytes)
+abbrev pub known_append : Option (List ℕ) → List ℕ → Option (List ℕ)
+known_append None bytes = None
+known_append (Some held) bytes = Some (held ++ bytes)
 
 -- a known list has grown by a prefix of these bytes
 abbrev pub GrowsByFront : Option (List ℕ) → Option (List ℕ) → List ℕ → Type 0
-GrowsByFront old new bytes = (n : ℕ) × (n ≤ length bytes) × (new ≡ grown old (take n bytes))
+GrowsByFront old new bytes = (n : ℕ) × (n ≤ length bytes) × (new ≡ known_append old (take n bytes))
 
 -- no byte is left, if the bytes left are known
 abbrev pub IsNoneLeft : Option (List ℕ) → Type 0

@@ -6,10 +6,10 @@ abbrev pub next : ℕ → ℕ
 next n = min (n + 1) (2 ^ 64 - 1)
 
 -- the count is higher than before, or at the maximum of its type
-abbrev pub Rose : ℕ → ℕ → Type 0
-Rose before now = next before ≤ now
+abbrev pub CountRose : ℕ → ℕ → Type 0
+CountRose before now = next before ≤ now
 
 -- the count has not decreased, and it increased if the call failed
 pub record HasCause {T E : Type 0} (before now : ℕ) (result : Result T E) : Type 0 where
   pub later : before ≤ now
-  pub failed : OnErr result (Rose before now)
+  pub failed : OnErr result (CountRose before now)

@@ -2,9 +2,9 @@ pub mod Blanks
 pub mod Bytes
 pub mod Counts
 pub mod Faults
-pub mod Fetching
+pub mod FetchResults
 pub mod FileMap
 pub mod Memory
-pub mod Named
+pub mod NamedValues
 pub mod Outcomes
-pub mod Storing
+pub mod StoreResults

@@ -79,8 +79,8 @@ impl<T: Drop> From<AllocFailed<T>> for StoreFault {
 
 /// Files that can be read and written.
 pub trait Files {
-    ghost use Rattle.units_io.specs.Fetching.{FileMap, IsFetched, FailsWithCause, faults_after_fetch, longest_file};
-    ghost use Rattle.units_io.specs.Storing.{IsStored, StoreHasCause, faults_after_store};
+    ghost use Rattle.units_io.specs.FetchResults.{FileMap, IsFetched, FailsWithCause, faults_after_fetch, longest_file};
+    ghost use Rattle.units_io.specs.StoreResults.{IsStored, StoreHasCause, faults_after_store};
 
     /// The bytes of each file, if the files are known.
     ghost files: { Self → Option FileMap };

@@ -13,7 +13,7 @@ pub struct HashSeed {
 
 impl HashSeed {
     /// Returns the fixed seed, which is the same in each run.
-    pub fn fixed() -> HashSeed {
+    pub fn fixed_seed() -> HashSeed {
         HashSeed {
             start: FoldHasher::default(),
         }
@@ -21,7 +21,7 @@ impl HashSeed {
 
     /// Returns the seed that these bytes give. No bytes give the fixed seed.
     pub fn from_bytes(bytes: &[u8]) -> HashSeed {
-        let mut seed = HashSeed::fixed();
+        let mut seed = HashSeed::fixed_seed();
         if !bytes.is_empty() {
             seed.start.write(bytes);
         }
@@ -34,7 +34,7 @@ impl HashSeed {
         if rt.fill_bytes(&mut bytes).is_ok() {
             HashSeed::from_bytes(&bytes)
         } else {
-            HashSeed::fixed()
+            HashSeed::fixed_seed()
         }
     }
 }

@@ -1,7 +1,7 @@
 //! The streams and files of the system. Nothing is known about their contents, and each of them counts its failures.
+mod file_read;
+mod file_write;
 mod files;
-mod reading;
-mod saving;
 mod sink;
 mod source;
 

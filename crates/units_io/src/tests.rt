@@ -64,8 +64,8 @@ impl RandomSource for NoRandom {
 
 #[test]
 fn seeds_are_random_where_the_system_is(rt: HostRuntime) -> Result<(), Fail> {
-    let fixed = HashSeed::fixed().hash_one(7u8);
-    assert!(rt; HashSeed::fixed().hash_one(7u8) == fixed);
+    let fixed = HashSeed::fixed_seed().hash_one(7u8);
+    assert!(rt; HashSeed::fixed_seed().hash_one(7u8) == fixed);
     assert!(rt; HashSeed::random(&NoRandom).hash_one(7u8) == fixed);
     assert!(rt; HashSeed::random(&rt).hash_one(7u8) != fixed);
     Ok(())

@@ -1,7 +1,7 @@
 //! Names with their values.
 ghost use Rattle.std.specs.Prelude.{◌≡◌, ◌++◌, ◌∷◌, [], length, IfNone, IfOk, OnOk, OnErr, slice_get, option_map, take};
 ghost use Rattle.std.specs.Option.{option_copied};
-ghost use Rattle.units_io.specs.Named.{value_of, with_value, Sets, HasNoName, HasDistinctNames};
+ghost use Rattle.units_io.specs.NamedValues.{named_value, with_value, Sets, HasNoName, HasDistinctNames};
 
 use crate::hash_seed::HashSeed;
 use crate::text::Text;
@@ -17,7 +17,7 @@ pub struct Vars {
 }
 
 impl Model for Vars {
-    ghost use Rattle.units_io.specs.Named.{Pairs, pairs_of, HasDistinctNames};
+    ghost use Rattle.units_io.specs.NamedValues.{Pairs, pairs_of, HasDistinctNames};
 
     ghost Value = { Pairs };
 
@@ -31,7 +31,7 @@ impl Vars {
     pub fn new(alloc: Global) -> Vars
         ensures { result ≡ [] }
     {
-        Vars::with_seed(alloc, HashSeed::fixed())
+        Vars::with_seed(alloc, HashSeed::fixed_seed())
     }
 
     /// Creates an empty list whose table uses this seed.
@@ -44,7 +44,7 @@ impl Vars {
     }
 
     /// Returns the seed of the table.
-    pub fn seed(&self) -> HashSeed {
+    pub fn table_seed(&self) -> HashSeed {
         *self.map.hasher()
     }
 
@@ -95,7 +95,7 @@ impl Vars {
 
     /// Returns the value of the pair with this name, or `None` if no pair has it.
     pub fn value(&self, name: &[u8]) -> Option<&Text>
-        ensures value { option_copied result ≡ value_of self.now name.now }
+        ensures value { option_copied result ≡ named_value self.now name.now }
         ensures absent { IfNone result (HasNoName self.now name.now) }
     {
         self.map.get(name)
@@ -105,7 +105,7 @@ impl Vars {
     pub fn copy(&self, alloc: Global) -> Result<Vars, AllocError>
         ensures { IfOk result (λ copy. copy ≡ self.now) }
     {
-        let mut copy = Vars::with_seed(alloc, self.seed());
+        let mut copy = Vars::with_seed(alloc, self.table_seed());
         for (name, value) in &self.map {
             let name = Text::from_bytes(alloc, name.as_slice())?;
             copy.push(alloc, (name, value.copy(alloc)?))?;

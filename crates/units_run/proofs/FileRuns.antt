@@ -4,30 +4,30 @@ use Rattle.std.proofs.Common.{Result}
 use Rattle.std.proofs.Common.{Ok, refl, sym, ap, subst, codes, if◌then◌else◌, is_some}
 use Rattle.std.specs.Fmt.{digits}
 use Rattle.std.specs.List.Sorted.{IsStrictlySortedBy}
-use Rattle.units_io.specs.Fetching.{answer_of}
+use Rattle.units_io.specs.FetchResults.{answer_of}
 use Rattle.units_io.specs.FileMap.{FileMap}
-use Rattle.units_io.specs.Named.{Pairs}
+use Rattle.units_io.specs.NamedValues.{Pairs}
 use Rattle.frac128.specs.Divisors.{gcd, gcd_within}
-use Rattle.frac128.specs.Numerals.{greatest}
-use Rattle.frac128.specs.Steps.{reduced}
+use Rattle.frac128.specs.Numerals.{greatest_passing}
+use Rattle.frac128.specs.Steps.{lowest_terms}
 use Rattle.piecewise.specs.Points.{rises}
 use Rattle.expr_tree.specs.Faults.{fault_from}
 use Rattle.expr_tree.specs.Lexemes.{lexemes_from, tokens_in}
-use Rattle.expr_tree.specs.Parsed.{parsed}
-use Rattle.expr_tree.specs.Reading.{tree_of}
+use Rattle.expr_tree.specs.ParseResult.{parse_of}
+use Rattle.expr_tree.specs.TokenReading.{tree_of}
 use Rattle.command_line.specs.Examples.{AreLine, no_line}
 use Rattle.command_line.specs.declared.fields.CommandLine.{CommandLine}
 use Rattle.def_entry.specs.Entries.{Entry, Primitive}
 use Rattle.def_entry.specs.Forms.{form_of}
-use Rattle.def_entry.specs.Headings.{heading}
+use Rattle.def_entry.specs.Headings.{head_of_line}
 use Rattle.def_entry.specs.Intervals.{interval_at}
 use Rattle.def_entry.specs.KeyOrder.{key_cmp}
 use Rattle.def_entry.specs.Keys.{key}
-use Rattle.def_entry.specs.Numbers.{number_of as numeral_of}
+use Rattle.def_entry.specs.Numbers.{text_number as numeral_of}
 use Rattle.def_entry.specs.Options.{options_from}
 use Rattle.def_entry.specs.PointLists.{points_of}
-use Rattle.def_entry.specs.Reading.{what_of}
-use Rattle.def_entry.specs.SameKeys.{is_among, is_same}
+use Rattle.def_entry.specs.EntryReading.{what_of}
+use Rattle.def_entry.specs.SameKeys.{is_key_among, is_same}
 use Rattle.def_entry.specs.Tables.{Table, is_present}
 use Rattle.def_entry.specs.declared.key.Key.{Key}
 use Rattle.def_entry.specs.declared.key.Kind.TheVariants as kind
@@ -35,40 +35,41 @@ use Rattle.def_lines.specs.Kinds.{kind_of}
 use Rattle.def_lines.specs.Lines.{line_content}
 use Rattle.def_lines.specs.Words.{is_empty, words_of}
 use Rattle.deck_lines.specs.Excerpts.{rest_excerpt}
-use Rattle.deck_lines.specs.Includes.{deck_of}
+use Rattle.deck_lines.specs.Includes.{deck_of_file}
 use Rattle.deck_lines.specs.Limits.{pass_limit}
 use Rattle.deck_lines.specs.Readings.{entry_in, reading_of}
 use Rattle.deck.specs.Active.{behind_line}
 use Rattle.deck.specs.Decks.{Contents}
 use Rattle.deck.specs.Edits.{with_excerpt}
 use Rattle.deck.specs.KeyLists.{KeyListLaw, table_keys}
-use Rattle.deck.specs.Loading.{empty_deck, with_answer}
-use Rattle.deck.specs.Tables.{definitions, table}
+use Rattle.deck.specs.FileLoads.{empty_deck, with_answer}
+use Rattle.deck.specs.Tables.{active_definitions, table}
 use Rattle.deck.specs.declared.fault.DeckFault.{DeckFault}
-use Rattle.reply.specs.Examples.{default, granted, refused}
-use Rattle.reply.specs.GrantExamples.{GrantExamplesLaw, expression, measures, number_of, numeral, primitive_unit}
+use Rattle.reply.specs.Examples.{default, granted_reply, refused_reply}
+use Rattle.reply.specs.GrantExamples.{GrantExamplesLaw, expression_entry, measures, multiple_syntax, numeral_syntax}
+use Rattle.reply.specs.GrantExamples.{primitive_unit}
 use Rattle.reply.specs.Options.{style_of}
 use Rattle.reply.specs.Replies.{conversion_reply}
 use Rattle.reply.specs.declared.reply.Reply.{Reply}
 use Rattle.session.specs.Commands.{colon_command, command_in}
-use Rattle.session.specs.Hearing.{heard, readable}
+use Rattle.session.specs.HeardLines.{heard, readable}
 use Rattle.session.specs.Input.{lines_of}
 use Rattle.session.specs.Lines.{lines_of_texts}
 use Rattle.session.specs.Queries.{after_events}
 use Rattle.session.specs.Sessions.{prompt}
 use Rattle.session.specs.Steps.{answer_to}
-use Rattle.session.specs.Talks.{opening}
-use Rattle.survey.specs.Asked.{converted}
+use Rattle.session.specs.Talks.{opening_text}
+use Rattle.survey.specs.ConversionReplies.{asked_conversion}
 use Rattle.survey.specs.Checks.{check_among}
 use Rattle.units_run.specs.Calls.{run_over}
-use Rattle.units_run.specs.FileExamples.{Gives, IsRunWith, measures_text}
+use Rattle.units_run.specs.FileExamples.{IsRunWith, RunGives, measures_text}
 use Rattle.units_run.specs.Options.{options_of}
 use Rattle.units_run.specs.Plans.{Plan}
 use Rattle.units_run.specs.Settings.{settings_of}
-use Rattle.units_run.specs.Work.{deck_plan, file_plan, plan_by, replied, work_by}
+use Rattle.units_run.specs.Work.{deck_plan, file_plan, plan_by, plan_of_reply, work_by}
 use Rattle.units_run.specs.declared.status.Status.{Status}
 use Rattle.units_run.specs.declared.status.Status.TheVariants.{Done, Refused}
-use Rattle.units_run.proofs.Planned.{plan_taken}
+use Rattle.units_run.proofs.WordPlans.{plan_taken}
 
 abbrev first : List ℕ
 first = codes "first.units"
@@ -87,7 +88,7 @@ pub run_by_file : (words : List (List ℕ)) (line : CommandLine) (text input out
     → AreLine words line → line.trial ≡ None → line.file ≡ Some first
     → ((vars : Pairs) (files : FileMap)
     → IsRunWith (run_over (plan_over line text vars files) files input (heard (lines_of input))) out err status)
-    → Gives words text input out err status
+    → RunGives words text input out err status
 run_by_file words line text input out err status is trial file gives vars files told =
     let settings = settings_of line vars in
     subst (λ (plan : Plan). IsRunWith (run_over plan files input (heard (lines_of input))) out err status)
@@ -105,35 +106,40 @@ run_by_file words line text input out err status is trial file gives vars files 
 module _ (vars : Pairs) (files : FileMap) (line : CommandLine) (text : List ℕ) where
   -- the deck of a file with this text
   abbrev pub deck_over : Contents
-  deck_over = with_excerpt (deck_of files first text) (empty_deck (settings_of line vars))
+  deck_over = with_excerpt (deck_of_file files first text) (empty_deck (settings_of line vars))
 
 -- the deck of the measures is within the limits, and its table is that of the examples of replies
 measures_made : (vars : Pairs) (files : FileMap) (line : CommandLine)
     → with_answer files first (answer_of (Some measures_text)) (empty_deck (settings_of line vars))
     ≡ Ok (deck_over vars files line measures_text)
-unfolding pass_limit deck_of rest_excerpt reading_of entry_in kind_of words_of heading what_of parsed tree_of fault_from
-    lexemes_from tokens_in greatest points_of options_from interval_at form_of numeral_of reduced gcd gcd_within rises
+unfolding pass_limit deck_of_file rest_excerpt reading_of entry_in kind_of words_of head_of_line what_of parse_of
+    tree_of fault_from
+    lexemes_from tokens_in greatest_passing points_of options_from interval_at form_of numeral_of lowest_terms gcd
+    gcd_within rises
 measures_made vars files line = refl
 
 measures_noticed : (vars : Pairs) (files : FileMap) (line : CommandLine)
     → (deck_over vars files line measures_text).notices ≡ []
-unfolding deck_of rest_excerpt reading_of entry_in kind_of words_of heading what_of parsed tree_of fault_from
+unfolding deck_of_file rest_excerpt reading_of entry_in kind_of words_of head_of_line what_of parse_of tree_of
+    fault_from
     lexemes_from
-    tokens_in greatest points_of options_from interval_at form_of numeral_of reduced gcd gcd_within rises
+    tokens_in greatest_passing points_of options_from interval_at form_of numeral_of lowest_terms gcd gcd_within rises
 measures_noticed vars files line = refl
 
 measures_table : (vars : Pairs) (files : FileMap) (line : CommandLine)
     → table (deck_over vars files line measures_text) ≡ measures
-unfolding definitions deck_of rest_excerpt reading_of entry_in behind_line kind_of words_of heading what_of parsed
+unfolding active_definitions deck_of_file rest_excerpt reading_of entry_in behind_line kind_of words_of head_of_line
+    what_of parse_of
     tree_of
-    fault_from lexemes_from tokens_in greatest points_of options_from interval_at form_of numeral_of reduced gcd
+    fault_from lexemes_from tokens_in greatest_passing points_of options_from interval_at form_of numeral_of
+    lowest_terms gcd
     gcd_within rises
 measures_table vars files line = refl
 
 -- the run of a command line that converts over the measures
 measures_run : (line : CommandLine) (from to : List ℕ) (reply : Reply)
     → ((d : Contents) (files : FileMap) → work_by line.from line d files
-    ≡ replied d (converted (table d) default from to))
+    ≡ plan_of_reply d (asked_conversion (table d) default from to))
     → conversion_reply measures default from to ≡ reply
     → (vars : Pairs) (files : FileMap)
     → IsRunWith (run_over (plan_over line measures_text vars files) files [] none_heard) reply.text []
@@ -158,13 +164,13 @@ converting from to = record no_line { file = Some first; from = Some from; to = 
 
 asks_conversion : (d : Contents) (files : FileMap)
     → work_by (converting (codes "2 km") (codes " yards ")).from (converting (codes "2 km") (codes " yards ")) d files
-    ≡ replied d (converted (table d) default (codes "2 km") (codes " yards "))
+    ≡ plan_of_reply d (asked_conversion (table d) default (codes "2 km") (codes " yards "))
 unfolding options_of line_content
 asks_conversion d files = refl
 
 asks_unlike : (d : Contents) (files : FileMap)
     → work_by (converting (codes "m") (codes "s")).from (converting (codes "m") (codes "s")) d files
-    ≡ replied d (converted (table d) default (codes "m") (codes "s"))
+    ≡ plan_of_reply d (asked_conversion (table d) default (codes "m") (codes "s"))
 unfolding options_of line_content
 asks_unlike d files = refl
 
@@ -174,14 +180,14 @@ pub converts : GrantExamplesLaw → (vars : Pairs) (files : FileMap)
     (codes "\t* 2187.2266\n\t/ 0.0004572\n") [] Done
 converts law =
     measures_run (converting (codes "2 km") (codes " yards ")) (codes "2 km") (codes " yards ")
-    (granted (codes "\t* 2187.2266\n\t/ 0.0004572\n")) asks_conversion law.linear
+    (granted_reply (codes "\t* 2187.2266\n\t/ 0.0004572\n")) asks_conversion law.linear
 
 pub refuses : GrantExamplesLaw → (vars : Pairs) (files : FileMap)
     → IsRunWith (run_over (plan_over (converting (codes "m") (codes "s")) measures_text vars files) files [] none_heard)
     (codes "conformability error\n\t1 m\n\t1 s\n") [] Refused
 refuses law =
     measures_run (converting (codes "m") (codes "s")) (codes "m") (codes "s")
-    (refused (codes "conformability error\n\t1 m\n\t1 s\n")) asks_unlike law.unlike
+    (refused_reply (codes "conformability error\n\t1 m\n\t1 s\n")) asks_unlike law.unlike
 
 -- ---- a definition
 
@@ -192,8 +198,9 @@ pub defines : (vars : Pairs) (files : FileMap)
     → IsRunWith (run_over (plan_over defining (codes "m !\nfeet\n") vars files) files [] none_heard)
     (codes "unknown unit: feet\n")
     (codes "first.units:2: bad definition\n") Refused
-unfolding digits definitions pass_limit deck_of rest_excerpt reading_of entry_in behind_line kind_of words_of heading
-    what_of parsed tree_of fault_from lexemes_from tokens_in greatest options_of line_content
+unfolding digits active_definitions pass_limit deck_of_file rest_excerpt reading_of entry_in behind_line kind_of
+    words_of head_of_line
+    what_of parse_of tree_of fault_from lexemes_from tokens_in greatest_passing options_of line_content
 defines vars files = (refl, refl, refl)
 
 -- ---- checks
@@ -215,7 +222,7 @@ one_key law name entry t is =
     ap table_keys is
     ∙ sym (law ((unit name, entry) ∷ []) (unit name ∷ []) (record { each = each; order = one_sorted (unit name) }))
   where
-    each : (k : Key) → is_among (unit name ∷ []) k ≡ is_present ((unit name, entry) ∷ []) k
+    each : (k : Key) → is_key_among (unit name ∷ []) k ≡ is_present ((unit name, entry) ∷ []) k
     each k = by (is_same k (unit name))
       where
         by : (same : Bool) → (same || false) ≡ is_some (if same then Some entry else None)
@@ -239,28 +246,31 @@ faulty_text = codes "feet\nft 12 in\n"
 
 -- the entry `12 in`
 abbrev twelve_inches : Entry
-twelve_inches = expression (codes "12 in") (number_of (numeral 12 (pos 0)) (codes "in"))
+twelve_inches = expression_entry (codes "12 in") (multiple_syntax (numeral_syntax 12 (pos 0)) (codes "in"))
 
 faulty_made : (vars : Pairs) (files : FileMap)
     → with_answer files first (answer_of (Some faulty_text)) (empty_deck (settings_of checking vars))
     ≡ Ok (deck_over vars files checking faulty_text)
-unfolding digits pass_limit deck_of rest_excerpt reading_of entry_in kind_of words_of heading what_of parsed tree_of
-    fault_from lexemes_from tokens_in greatest
+unfolding digits pass_limit deck_of_file rest_excerpt reading_of entry_in kind_of words_of head_of_line what_of parse_of
+    tree_of
+    fault_from lexemes_from tokens_in greatest_passing
 faulty_made vars files = refl
 
 faulty_table : (vars : Pairs) (files : FileMap)
     → table (deck_over vars files checking faulty_text) ≡ (unit (codes "ft"), twelve_inches) ∷ []
-unfolding digits definitions deck_of rest_excerpt reading_of entry_in behind_line kind_of words_of heading what_of
-    parsed
-    tree_of fault_from lexemes_from tokens_in greatest
+unfolding digits active_definitions deck_of_file rest_excerpt reading_of entry_in behind_line kind_of words_of
+    head_of_line what_of
+    parse_of
+    tree_of fault_from lexemes_from tokens_in greatest_passing
 faulty_table vars files = refl
 
 faulty_report : (vars : Pairs) (files : FileMap)
     → report_over (deck_over vars files checking faulty_text) (unit (codes "ft") ∷ [])
     ≡ codes "first.units:1: bad definition\nft: unknown unit: in in ft\n"
-unfolding digits definitions deck_of rest_excerpt reading_of entry_in behind_line kind_of words_of heading what_of
-    parsed
-    tree_of fault_from lexemes_from tokens_in greatest
+unfolding digits active_definitions deck_of_file rest_excerpt reading_of entry_in behind_line kind_of words_of
+    head_of_line what_of
+    parse_of
+    tree_of fault_from lexemes_from tokens_in greatest_passing
 faulty_report vars files = refl
 
 pub finds : KeyListLaw → (vars : Pairs) (files : FileMap)
@@ -282,17 +292,19 @@ sound_text = codes "m !\n"
 sound_made : (vars : Pairs) (files : FileMap)
     → with_answer files first (answer_of (Some sound_text)) (empty_deck (settings_of checking vars))
     ≡ Ok (deck_over vars files checking sound_text)
-unfolding pass_limit deck_of rest_excerpt reading_of entry_in kind_of words_of heading what_of
+unfolding pass_limit deck_of_file rest_excerpt reading_of entry_in kind_of words_of head_of_line what_of
 sound_made vars files = refl
 
 sound_table : (vars : Pairs) (files : FileMap)
     → table (deck_over vars files checking sound_text) ≡ primitive_unit (codes "m") ∷ []
-unfolding definitions deck_of rest_excerpt reading_of entry_in behind_line kind_of words_of heading what_of
+unfolding active_definitions deck_of_file rest_excerpt reading_of entry_in behind_line kind_of words_of head_of_line
+    what_of
 sound_table vars files = refl
 
 sound_report : (vars : Pairs) (files : FileMap)
     → report_over (deck_over vars files checking sound_text) (unit (codes "m") ∷ []) ≡ []
-unfolding definitions deck_of rest_excerpt reading_of entry_in behind_line kind_of words_of heading what_of
+unfolding active_definitions deck_of_file rest_excerpt reading_of entry_in behind_line kind_of words_of head_of_line
+    what_of
 sound_report vars files = refl
 
 pub finds_none : KeyListLaw → (vars : Pairs) (files : FileMap)
@@ -321,7 +333,8 @@ talk_input = codes ":define a b\na\n\n:undo\na\n\n"
 pub talks : (vars : Pairs) (files : FileMap)
     → IsRunWith (run_over (plan_over talking talk_text vars files) files talk_input (heard (lines_of talk_input)))
     (codes "unknown unit: b in a\nunknown unit: a\n") (codes "first.units:1: bad definition\n") Done
-unfolding digits definitions pass_limit deck_of rest_excerpt reading_of entry_in behind_line kind_of words_of heading
-    what_of parsed tree_of fault_from lexemes_from tokens_in greatest options_of line_content readable prompt
-    colon_command command_in answer_to opening after_events
+unfolding digits active_definitions pass_limit deck_of_file rest_excerpt reading_of entry_in behind_line kind_of
+    words_of head_of_line
+    what_of parse_of tree_of fault_from lexemes_from tokens_in greatest_passing options_of line_content readable prompt
+    colon_command command_in answer_to opening_text after_events
 talks vars files = (refl, refl, refl)

@@ -2,12 +2,12 @@
 use Rattle.std.proofs.Common.{◌≡◌, ◌&&◌, ◌||◌, ℕ, List, Bool, true, false, Option, Some, None, Result, Ok, Err}
 use Rattle.std.proofs.Common.{refl, sym, subst, if◌then◌else◌, is_some, not}
 use Rattle.units_io.specs.FileMap.{FileMap}
-use Rattle.units_io.specs.Named.{Pairs}
+use Rattle.units_io.specs.NamedValues.{Pairs}
 use Rattle.command_line.specs.Fields.{command_line_of}
-use Rattle.command_line.specs.Taken.{are_taken}
+use Rattle.command_line.specs.AcceptedWords.{are_taken}
 use Rattle.command_line.specs.declared.fields.CommandLine.{CommandLine}
 use Rattle.deck.specs.Decks.{Contents}
-use Rattle.deck.specs.Loading.{after_load}
+use Rattle.deck.specs.FileLoads.{after_load}
 use Rattle.deck.specs.declared.fault.DeckFault.{DeckFault}
 use Rattle.deck.specs.declared.settings.Settings.{Settings}
 use Rattle.units_run.specs.Calls.{run_over}
@@ -16,9 +16,9 @@ use Rattle.units_run.specs.Endings.{MayEnd}
 use Rattle.units_run.specs.Needs.{is_session, loads_file}
 use Rattle.units_run.specs.Plans.{Plan}
 use Rattle.units_run.specs.Settings.{settings_of}
-use Rattle.units_run.specs.Work.{checked, deck_plan, file_plan, from_plan, opened_over, plan_by, plan_of, work_by}
+use Rattle.units_run.specs.Work.{deck_plan, file_plan, from_plan, opened_over, plan_by, plan_of, plan_of_check, work_by}
 use Rattle.units_run.specs.declared.status.Status.TheVariants.{Done, Refused}
-use Rattle.units_run.proofs.Planned.{plan_taken, plan_untaken}
+use Rattle.units_run.proofs.WordPlans.{plan_taken, plan_untaken}
 
 -- a run that opens no session may end with `Refused`
 refused_may_end : (file refused : Bool) → MayEnd true file false (if refused then Refused else Done)
@@ -43,10 +43,10 @@ module _ (files : FileMap) (input : List ℕ) (lines : List (List ℕ)) where
       (m : FileMap) → line.check ≡ check → Ends file (not (is_some from || check)) (work_by from line deck m)
   work_ends file (Some from) check line deck m is = from_ends file line.column line _ _ deck
   work_ends file None true line deck m is =
-      subst (λ (b : Bool). Ends file false (if b then checked line deck else opened_over line deck m)) (sym is)
+      subst (λ (b : Bool). Ends file false (if b then plan_of_check line deck else opened_over line deck m)) (sym is)
       (found_may_end file _)
   work_ends file None false line deck m is =
-      subst (λ (b : Bool). Ends file true (if b then checked line deck else opened_over line deck m)) (sym is) tt
+      subst (λ (b : Bool). Ends file true (if b then plan_of_check line deck else opened_over line deck m)) (sym is) tt
 
   file_ends : (outcome : Result Contents DeckFault) (line : CommandLine) (name : List ℕ) (m : FileMap)
       → Ends true (not (is_some line.from || line.check)) (file_plan line name outcome m)

@@ -2,15 +2,15 @@
 use Rattle.std.proofs.Common.{◌≡◌, ◌∙◌, ℕ, List, Bool, false, Some, None, refl, subst}
 use Rattle.std.specs.declared.option.Option.{Option}
 use Rattle.units_io.specs.FileMap.{FileMap}
-use Rattle.units_io.specs.Named.{Pairs}
-use Rattle.session.specs.Hearing.{heard}
+use Rattle.units_io.specs.NamedValues.{Pairs}
+use Rattle.session.specs.HeardLines.{heard}
 use Rattle.session.specs.Input.{lines_of}
 use Rattle.session.specs.Outside.{Outside}
-use Rattle.session.specs.Telling.{TellsIf}
+use Rattle.session.specs.KnownContents.{TellsIf}
 use Rattle.session.specs.Worlds.{World, outside}
-use Rattle.session.specs.Written.{Course, Output, whole}
+use Rattle.session.specs.WrittenOutput.{Course, Output, whole}
 use Rattle.units_run.specs.Calls.{course_of, run_of, run_over}
-use Rattle.units_run.specs.Endings.{IsConverted, IsLeft, IsLeftOf, IsStated}
+use Rattle.units_run.specs.Endings.{IsConverted, IsLeftOf, IsRunOutput, IsStated}
 use Rattle.units_run.specs.Headline.{IsRun}
 use Rattle.units_run.specs.Needs.{fetches_file, needs_files, needs_input}
 use Rattle.units_run.specs.Plans.{IsWhole, Plan, Whole, Opened, Columns}
@@ -18,12 +18,12 @@ use Rattle.units_run.specs.Work.{plan_of}
 use Rattle.units_run.specs.declared.status.Status.{Status}
 use Rattle.units_run.specs.declared.status.Status.TheVariants.{Done, Refused, Usage, NoFile, ReadFault, WriteFault}
 use Rattle.units_run.specs.declared.status.Status.TheVariants.{NoMemory, InputTooLong}
-use Rattle.units_run.proofs.Needing.{any_files, no_input}
-use Rattle.units_run.proofs.Planned.{fetches_none, tells_less}
+use Rattle.units_run.proofs.UnneededFiles.{any_files, no_input}
+use Rattle.units_run.proofs.WordPlans.{fetches_none, tells_less}
 
 -- a stated ending is the status of the run
 left_status : (course : Course) (wanted ending : Status) (before after : Outside) → IsStated ending
-    → IsLeft course wanted ending before after → ending ≡ wanted
+    → IsRunOutput course wanted ending before after → ending ≡ wanted
 left_status course wanted Done before after stated left = left.0
 left_status course wanted Refused before after stated left = left.0
 left_status course wanted Usage before after stated left = left.0

@@ -2,15 +2,15 @@
 use Rattle.std.specs.Prelude.{ℕ, List, if◌then◌else◌}
 use Rattle.deck.specs.Tables.{table}
 use Rattle.column_convert.specs.Inputs.{input_of}
-use Rattle.column_convert.specs.Blocks.{is_refused, text_of}
+use Rattle.column_convert.specs.Blocks.{is_error_row, text_of}
 use Rattle.column_convert.specs.Rows.{ColumnRow, queries, rows}
 use Rattle.units_io.specs.FileMap.{FileMap}
-use Rattle.units_io.specs.Named.{Pairs}
-use Rattle.session.specs.Hearing.{heard}
+use Rattle.units_io.specs.NamedValues.{Pairs}
+use Rattle.session.specs.HeardLines.{heard}
 use Rattle.session.specs.Input.{lines_of}
 use Rattle.session.specs.Queries.{fresh, newly}
-use Rattle.session.specs.Talks.{talk_over}
-use Rattle.session.specs.Written.{Course, Output, output_of}
+use Rattle.session.specs.Talks.{trace_over}
+use Rattle.session.specs.WrittenOutput.{Course, Output, output_of}
 use Rattle.units_run.specs.Plans.{Plan, Whole, Opened, Columns, ColumnWork}
 use Rattle.units_run.specs.Work.{plan_of}
 use Rattle.units_run.specs.declared.status.Status.{Status}
@@ -22,8 +22,8 @@ pub record Run : Type 0 where
   pub status : Status
 
 -- the rows of a column over an input, and the queries that are made for them
-abbrev pub rows_of : ColumnWork → (input : List ℕ) → List ColumnRow
-rows_of work input = rows (table work.deck) work.options work.from work.to (input_of input work.column work.header)
+abbrev pub column_rows : ColumnWork → (input : List ℕ) → List ColumnRow
+column_rows work input = rows (table work.deck) work.options work.from work.to (input_of input work.column work.header)
 
 abbrev pub steps_of : ColumnWork → (input : List ℕ) → ℕ
 steps_of work input =
@@ -34,12 +34,12 @@ steps_of work input =
 abbrev pub column_run : ColumnWork → FileMap → (input : List ℕ) → Run
 column_run work files input = record {
   output = record {
-    out = text_of (rows_of work input);
+    out = text_of (column_rows work input);
     err = work.err;
     steps = steps_of work input;
     files = files;
   };
-  status = if is_refused (rows_of work input) then Refused else Done;
+  status = if is_error_row (column_rows work input) then Refused else Done;
 }
 
 -- the run of a plan after these lines of its input are answered
@@ -48,27 +48,27 @@ run_over (Whole run) files input lines = record {
   output = record { out = run.out; err = run.err; steps = run.steps; files = files };
   status = run.status;
 }
-run_over (Opened talk) files input lines = record { output = output_of (talk_over talk lines); status = Done }
+run_over (Opened talk) files input lines = record { output = output_of (trace_over talk lines); status = Done }
 run_over (Columns work) files input lines = column_run work files input
 
 -- everything that a run depends on
-pub record Call : Type 0 where
+pub record RunArguments : Type 0 where
   pub words : List (List ℕ)
   pub vars : Pairs
   pub files : FileMap
   pub input : List ℕ
 
-abbrev pub plan_for : Call → Plan
+abbrev pub plan_for : RunArguments → Plan
 plan_for call = plan_of call.words call.vars call.files
 
 -- the run so far, after these lines of its input are answered
-abbrev pub shown_of : Call → (lines : List (List ℕ)) → Run
+abbrev pub shown_of : RunArguments → (lines : List (List ℕ)) → Run
 shown_of call lines = run_over (plan_for call) call.files call.input lines
 
 -- the run of these words and variables over these files and this input
-abbrev pub run_of : Call → Run
+abbrev pub run_of : RunArguments → Run
 run_of call = shown_of call (heard (lines_of call.input))
 
 -- the course of a call
-abbrev pub course_of : Call → Course
+abbrev pub course_of : RunArguments → Course
 course_of call = record { shown = λ lines. (shown_of call lines).output; input = call.input }

@@ -6,7 +6,7 @@ use Rattle.def_lines.specs.Words.{is_empty}
 use Rattle.reply.specs.Options.{style_of}
 use Rattle.session.specs.Queries.{newly}
 use Rattle.survey.specs.Checks.{check_queries, check_report}
-use Rattle.units_io.specs.Bytes.{grown, GrowsByFront}
+use Rattle.units_io.specs.Bytes.{known_append, GrowsByFront}
 use Rattle.units_run.specs.declared.check_plan.CheckPlan.{CheckPlan}
 use Rattle.units_run.specs.declared.status.Status.{Status}
 use Rattle.units_run.specs.declared.status.Status.TheVariants.{Done, Refused, WriteFault, NoMemory}
@@ -20,9 +20,9 @@ steps_of plan = newly (check_queries (table plan.table.deck)) plan.table
 
 -- the bytes of a report on a sink, by the ending: all of them, with the status `Refused` if there are any; or a front
 -- of them
-abbrev pub IsWritten : List ℕ → Status → (before after : Option (List ℕ)) → Type 0
-IsWritten bytes Done before after = (is_empty bytes ≡ true) × (after ≡ grown before bytes)
-IsWritten bytes Refused before after = (is_empty bytes ≡ false) × (after ≡ grown before bytes)
-IsWritten bytes WriteFault before after = GrowsByFront before after bytes
-IsWritten bytes NoMemory before after = GrowsByFront before after bytes
-IsWritten bytes ending before after = ⊥
+abbrev pub IsReportWritten : List ℕ → Status → (before after : Option (List ℕ)) → Type 0
+IsReportWritten bytes Done before after = (is_empty bytes ≡ true) × (after ≡ known_append before bytes)
+IsReportWritten bytes Refused before after = (is_empty bytes ≡ false) × (after ≡ known_append before bytes)
+IsReportWritten bytes WriteFault before after = GrowsByFront before after bytes
+IsReportWritten bytes NoMemory before after = GrowsByFront before after bytes
+IsReportWritten bytes ending before after = ⊥

@@ -1,15 +1,16 @@
 -- The output of a run, by its ending.
 use Rattle.std.specs.Prelude.{◌≡◌, ℕ, List, Bool, true, false, ⊤}
-use Rattle.command_line.specs.Taken.{are_taken}
+use Rattle.command_line.specs.AcceptedWords.{are_taken}
 use Rattle.command_line.specs.Fields.{command_line_of}
-use Rattle.session.specs.Outside.{Outside, Rests}
-use Rattle.session.specs.Written.{Course, IsAll, IsCutShort, IsFront, IsPart, IsPartBut, Output, whole}
+use Rattle.session.specs.Outside.{CountUnchanged, Outside}
+use Rattle.session.specs.WrittenOutput.{Course, IsAll, IsCutShort, IsOutputFront, IsPrefixRun, IsPrefixRunExceptFile}
+use Rattle.session.specs.WrittenOutput.{Output, whole}
 use Rattle.units_io.specs.Bytes.{GrowsByFront}
 use Rattle.session.specs.declared.over_source.SessionEnd.{SessionEnd}
 use Rattle.session.specs.declared.over_source.SessionEnd.TheVariants as end
 use Rattle.column_run.specs.declared.end.ColumnEnd.{ColumnEnd}
 use Rattle.column_run.specs.declared.end.ColumnEnd.TheVariants as column
-use Rattle.units_run.specs.Calls.{Call, course_of, plan_for, run_of}
+use Rattle.units_run.specs.Calls.{RunArguments, course_of, plan_for, run_of}
 use Rattle.units_run.specs.Plans.{Plan, Columns}
 use Rattle.units_run.specs.Needs.{loads_file, opens_session}
 use Rattle.units_run.specs.declared.status.Status.{Status}
@@ -36,10 +37,10 @@ IsStated InputTooLong = ⊥
 IsStated ending = ⊤
 
 -- an ending that is not caused by a fault
-abbrev pub IsFaultless : Status → Type 0
-IsFaultless ReadFault = ⊥
-IsFaultless WriteFault = ⊥
-IsFaultless ending = ⊤
+abbrev pub IsCleanEnd : Status → Type 0
+IsCleanEnd ReadFault = ⊥
+IsCleanEnd WriteFault = ⊥
+IsCleanEnd ending = ⊤
 
 -- an ending after all the work was done, refusals included
 abbrev pub IsWorked : Status → Type 0
@@ -79,13 +80,14 @@ column_status column.InputTooLong = status.InputTooLong
 
 -- the output of a run with this course, by its ending: all of it; or a part, which is cut after the bytes read if the
 -- input is too long, or if a read failed and no fetch did
-abbrev pub IsLeft : Course → (wanted : Status) → Status → (before after : Outside) → Type 0
-IsLeft course wanted ReadFault before after =
-    IsPart course before after × (Rests before.fetch_faults after.fetch_faults → IsCutShort course before after)
-IsLeft course wanted InputTooLong before after = IsPart course before after × IsCutShort course before after
-IsLeft course wanted WriteFault before after = IsPartBut course before after
-IsLeft course wanted NoMemory before after = IsPart course before after
-IsLeft course wanted ending before after = (ending ≡ wanted) × IsAll (whole course) before after
+abbrev pub IsRunOutput : Course → (wanted : Status) → Status → (before after : Outside) → Type 0
+IsRunOutput course wanted ReadFault before after =
+    IsPrefixRun course before after × (CountUnchanged before.fetch_faults after.fetch_faults
+    → IsCutShort course before after)
+IsRunOutput course wanted InputTooLong before after = IsPrefixRun course before after × IsCutShort course before after
+IsRunOutput course wanted WriteFault before after = IsPrefixRunExceptFile course before after
+IsRunOutput course wanted NoMemory before after = IsPrefixRun course before after
+IsRunOutput course wanted ending before after = (ending ≡ wanted) × IsAll (whole course) before after
 
 -- the output of a run over column input: all of it; or no byte on `out`, if the input was not read in full; or a front
 abbrev pub IsConverted : Output → (wanted : Status) → Status → (before after : Outside) → Type 0
@@ -93,16 +95,16 @@ IsConverted output wanted ReadFault before after =
     (after.out ≡ before.out) × GrowsByFront before.err after.err output.err
 IsConverted output wanted InputTooLong before after =
     (after.out ≡ before.out) × GrowsByFront before.err after.err output.err
-IsConverted output wanted WriteFault before after = IsFront output before after
-IsConverted output wanted NoMemory before after = IsFront output before after
+IsConverted output wanted WriteFault before after = IsOutputFront output before after
+IsConverted output wanted NoMemory before after = IsOutputFront output before after
 IsConverted output wanted ending before after = (ending ≡ wanted) × IsAll output before after
 
 -- the output of a run with any plan
 abbrev pub IsLeftOf : Plan → Course → (wanted : Status) → Status → (before after : Outside) → Type 0
 IsLeftOf (Columns work) course wanted ending before after = IsConverted (whole course) wanted ending before after
-IsLeftOf plan course wanted ending before after = IsLeft course wanted ending before after
+IsLeftOf plan course wanted ending before after = IsRunOutput course wanted ending before after
 
 -- what a run leaves, by its ending, for its words, variables, files and input
-abbrev pub IsRunOf : Call → Status → (before after : Outside) → Type 0
+abbrev pub IsRunOf : RunArguments → Status → (before after : Outside) → Type 0
 IsRunOf call ending before after =
     IsLeftOf (plan_for call) (course_of call) (run_of call).status ending before after

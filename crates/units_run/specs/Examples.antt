@@ -1,7 +1,7 @@
 -- Some words and the runs that they lead to.
 use Rattle.std.specs.Prelude.{◌≡◌, ◌∷◌, ℕ, List, [], Bool, true, false, Some, None, codes}
 use Rattle.units_io.specs.FileMap.{FileMap, file_of}
-use Rattle.units_io.specs.Named.{Pairs}
+use Rattle.units_io.specs.NamedValues.{Pairs}
 use Rattle.command_line.specs.Examples.{no_line}
 use Rattle.command_line.specs.Usage.{usage_text}
 use Rattle.units_run.specs.Calls.{Run, run_of}
@@ -15,13 +15,13 @@ abbrev pub HasNeeds : (words : List (List ℕ)) → (files input : Bool) → Typ
 HasNeeds words files input = (needs_files words ≡ files) × (needs_input words ≡ input)
 
 -- the run that writes this to `err`, and nothing else
-abbrev pub complained : (text : List ℕ) → Status → FileMap → Run
-complained text status files =
+abbrev pub complaint : (text : List ℕ) → Status → FileMap → Run
+complaint text status files =
     record { output = record { out = []; err = text; steps = 0; files = files }; status = status }
 
 pub record RunExamples : Type 0 where
   -- a session needs both, and a column needs its input
-  pub session : HasNeeds [] true true
+  pub session_needs : HasNeeds [] true true
   pub column : HasNeeds (codes "--column" ∷ codes "2" ∷ codes "--header" ∷ codes "feet" ∷ codes "m" ∷ []) false true
   -- a reply, a check and a trial need no input
   pub reply : HasNeeds (codes "m" ∷ codes "-q" ∷ codes "ft" ∷ []) false false
@@ -43,15 +43,15 @@ pub record RunExamples : Type 0 where
         files = files;
         input = input;
       })
-      ≡ complained usage_text Usage files
-  pub absent : (vars : Pairs) (files : FileMap) (input : List ℕ) → file_of files (codes "first.units") ≡ None →
+      ≡ complaint usage_text Usage files
+  pub absent_file : (vars : Pairs) (files : FileMap) (input : List ℕ) → file_of files (codes "first.units") ≡ None →
       run_of (record {
         words = codes "--exact" ∷ codes "-f" ∷ codes "first.units" ∷ codes "yd" ∷ codes "m" ∷ [];
         vars = vars;
         files = files;
         input = input;
       })
-      ≡ complained (codes "units: no file: first.units\n") NoFile files
+      ≡ complaint (codes "units: no file: first.units\n") NoFile files
   -- eight digits by default, and no other option
   pub no_options : options_of no_line
       ≡ record {

@@ -1,11 +1,11 @@
 -- The runs of the program.
 use Rattle.std.specs.Prelude.{◌≡◌, ◌⊎◌, ℕ, List, [], true, Some}
-use Rattle.units_io.specs.Faults.{Rose}
+use Rattle.units_io.specs.Faults.{CountRose}
 use Rattle.units_io.specs.FileMap.{FileMap}
-use Rattle.units_io.specs.Named.{Pairs}
-use Rattle.session.specs.Outside.{IsReadToEnd, Rests, TookMoreThan}
-use Rattle.session.specs.Telling.{TellsIf}
-use Rattle.units_run.specs.Endings.{IsFaultless, IsRunOf, IsStated, IsWorked, MayEndBy}
+use Rattle.units_io.specs.NamedValues.{Pairs}
+use Rattle.session.specs.Outside.{CountUnchanged, IsReadToEnd, TookMoreThan}
+use Rattle.session.specs.KnownContents.{TellsIf}
+use Rattle.units_run.specs.Endings.{IsCleanEnd, IsRunOf, IsStated, IsWorked, MayEndBy}
 use Rattle.units_run.specs.LeftAlone.{OpensNone}
 use Rattle.units_run.specs.Needs.{converts_column, fetches_file, most_input, needs_input, opens_session}
 use Rattle.session.specs.Worlds.{World, outside}
@@ -31,18 +31,20 @@ pub record IsRun (words : List (List ℕ)) (vars : Pairs) (ending : Status) (bef
       after.source.left ≡ Some []
   -- a read fault is reported only if a read or a fetch failed
   pub read : ending ≡ ReadFault →
-      Rose before.source.faults after.source.faults ⊎ Rose before.files.fetch_faults after.files.fetch_faults
+      CountRose before.source.faults after.source.faults ⊎ CountRose before.files.fetch_faults after.files.fetch_faults
   -- a write fault is reported only if a write or a store failed
   pub write : ending ≡ WriteFault →
-      Rose before.out.faults after.out.faults ⊎ Rose before.err.faults after.err.faults
-      ⊎ Rose before.files.store_faults after.files.store_faults
+      CountRose before.out.faults after.out.faults ⊎ CountRose before.err.faults after.err.faults
+      ⊎ CountRose before.files.store_faults after.files.store_faults
   -- the input is reported as too long only if more bytes than its limit were read
   pub too_long : ending ≡ InputTooLong → TookMoreThan (most_input words) before.source.taken after.source.taken
   -- if nothing failed, there is no fault: the run finished, or a limit was passed, or memory ran out
-  pub complete : Rests before.source.faults after.source.faults →
-      Rests before.files.fetch_faults after.files.fetch_faults → Rests before.out.faults after.out.faults →
-      Rests before.err.faults after.err.faults → Rests before.files.store_faults after.files.store_faults →
-      IsFaultless ending
+  pub complete : CountUnchanged before.source.faults after.source.faults →
+      CountUnchanged before.files.fetch_faults after.files.fetch_faults
+      → CountUnchanged before.out.faults after.out.faults →
+      CountUnchanged before.err.faults after.err.faults
+      → CountUnchanged before.files.store_faults after.files.store_faults →
+      IsCleanEnd ending
   -- if no session is opened, the files are as before, whatever the ending and whether or not their contents are known,
   -- and none was stored
   pub kept : OpensNone words vars ending before.files.told → after.files.told ≡ before.files.told

@@ -1,8 +1,8 @@
 -- Laws about the words of a run.
 use Rattle.std.specs.Prelude.{◌≡◌, ℕ, List, false}
 use Rattle.units_io.specs.FileMap.{FileMap}
-use Rattle.units_io.specs.Named.{Pairs}
-use Rattle.units_run.specs.Calls.{Call, run_of}
+use Rattle.units_io.specs.NamedValues.{Pairs}
+use Rattle.units_run.specs.Calls.{RunArguments, run_of}
 use Rattle.session.specs.Worlds.{World}
 use Rattle.units_run.specs.Endings.{IsStated, MayEndBy}
 use Rattle.units_run.specs.Headline.{IsRun}
@@ -39,4 +39,4 @@ StatusLaw = (words : List (List ℕ)) (vars : Pairs) (ending : Status) (before a
 
 -- law: a run ends in one of the ways that its words allow
 abbrev pub EndingLaw : Type 0
-EndingLaw = (call : Call) → MayEndBy call.words (run_of call).status
+EndingLaw = (call : RunArguments) → MayEndBy call.words (run_of call).status

@@ -2,8 +2,8 @@
 use Rattle.std.specs.Prelude.{◌≡◌, ◌⊎◌, ℕ, List, false}
 use Rattle.std.specs.declared.option.Option.{Option}
 use Rattle.units_io.specs.FileMap.{FileMap}
-use Rattle.units_io.specs.Named.{Pairs}
-use Rattle.session.specs.Telling.{TellsIf}
+use Rattle.units_io.specs.NamedValues.{Pairs}
+use Rattle.session.specs.KnownContents.{TellsIf}
 use Rattle.units_run.specs.Needs.{needs_definitions, needs_input, opens_session}
 use Rattle.units_run.specs.Plans.{IsWhole}
 use Rattle.units_run.specs.Work.{plan_of}

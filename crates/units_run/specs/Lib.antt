@@ -1,4 +1,4 @@
-pub mod Asked
+pub mod CommandReply
 pub mod BuiltIn
 pub mod Calls
 pub mod Checks
@@ -6,14 +6,14 @@ pub mod Definitions
 pub mod Endings
 pub mod Examples
 pub mod FileExamples
-pub mod Granted
+pub mod GrantedConversions
 pub mod Headline
 pub mod Laws
 pub mod LeftAlone
 pub mod Needs
 pub mod Openings
 pub mod Options
-pub mod Planning
+pub mod ProgramPlans
 pub mod Plans
 pub mod Settings
 pub mod Work

@@ -1,9 +1,9 @@
 -- The needs of the words: files, or input.
 use Rattle.std.specs.Prelude.{◌&&◌, ◌||◌, ℕ, List, Bool, is_some, not, if◌then◌else◌}
-use Rattle.command_line.specs.Taken.{are_taken}
+use Rattle.command_line.specs.AcceptedWords.{are_taken}
 use Rattle.command_line.specs.Fields.{command_line_of}
 use Rattle.command_line.specs.declared.fields.CommandLine.{CommandLine}
-use Rattle.session.specs.Hearing.{any_loads_file}
+use Rattle.session.specs.HeardLines.{any_loads_file}
 
 -- neither FROM, `--check` nor `--trial` is given: a session, unless there is no deck
 abbrev pub is_session : CommandLine → Bool

@@ -17,8 +17,8 @@ options_of line = record {
 }
 
 -- if a number of digits is given, it is from 1 to 36
-abbrev pub HasDigits : CommandLine → Type 0
-HasDigits line = IfSome line.digits (λ n. (1 ≤ n) × (n ≤ 36))
+abbrev pub HasValidDigits : CommandLine → Type 0
+HasValidDigits line = IfSome line.digits (λ n. (1 ≤ n) × (n ≤ 36))
 
 -- if a column is given, it is from 1 to 65,535
 abbrev pub HasColumn : CommandLine → Type 0

@@ -2,7 +2,7 @@
 use Rattle.std.specs.Prelude.{ℕ, Bool, List, [], ⊤}
 use Rattle.deck.specs.Decks.{Contents}
 use Rattle.reply.specs.declared.options.Options.{Options}
-use Rattle.session.specs.Talks.{Talk}
+use Rattle.session.specs.Talks.{SessionTrace}
 use Rattle.units_run.specs.declared.status.Status.{Status}
 
 -- the bytes on each sink, the number of newly settled names, and the status
@@ -25,7 +25,7 @@ pub record ColumnWork : Type 0 where
 
 pub data Plan : Type 0 where
   Whole : WholeRun → Plan
-  Opened : Talk → Plan
+  Opened : SessionTrace → Plan
   Columns : ColumnWork → Plan
 
 -- the whole run is known before any input is read

@@ -1,6 +1,6 @@
 -- The settings of a run.
 use Rattle.std.specs.Prelude.{codes, unwrap_or}
-use Rattle.units_io.specs.Named.{Pairs}
+use Rattle.units_io.specs.NamedValues.{Pairs}
 use Rattle.command_line.specs.declared.fields.CommandLine.{CommandLine}
 use Rattle.deck.specs.declared.settings.Settings.{Settings}
 

@@ -1,14 +1,14 @@
 -- The work that the words ask for: the usage line, a trial, a reply, a report, or a session.
 use Rattle.std.specs.Prelude.{◌++◌, ℕ, List, [], Option, Some, None, Result, Ok, Err, if◌then◌else◌, unwrap_or}
 use Rattle.units_io.specs.FileMap.{FileMap}
-use Rattle.units_io.specs.Named.{Pairs}
+use Rattle.units_io.specs.NamedValues.{Pairs}
 use Rattle.def_lines.specs.Words.{is_empty}
-use Rattle.command_line.specs.Taken.{are_taken}
+use Rattle.command_line.specs.AcceptedWords.{are_taken}
 use Rattle.command_line.specs.Fields.{command_line_of}
 use Rattle.command_line.specs.Usage.{usage_text}
 use Rattle.command_line.specs.declared.fields.CommandLine.{CommandLine}
 use Rattle.deck.specs.Decks.{Contents}
-use Rattle.deck.specs.Loading.{after_load}
+use Rattle.deck.specs.FileLoads.{after_load}
 use Rattle.deck.specs.Tables.{table}
 use Rattle.deck.specs.declared.fault.DeckFault.{DeckFault}
 use Rattle.deck.specs.declared.settings.Settings.{Settings}
@@ -16,13 +16,13 @@ use Rattle.reply.specs.Options.{style_of}
 use Rattle.def_lines.specs.Lines.{line_content}
 use Rattle.session.specs.Lines.{lines_of_texts}
 use Rattle.session.specs.Queries.{fresh, newly}
-use Rattle.session.specs.Sessions.{known, state_of}
-use Rattle.session.specs.Talks.{opened}
-use Rattle.session.specs.Trials.{Trial, trial}
+use Rattle.session.specs.Sessions.{session_of, state_of}
+use Rattle.session.specs.Talks.{opened_talk}
+use Rattle.session.specs.Trials.{Trial, trial_session}
 use Rattle.session.specs.Versions.{no_versions}
-use Rattle.survey.specs.Asked.{Asked}
+use Rattle.survey.specs.ConversionReplies.{Asked}
 use Rattle.survey.specs.Checks.{check_report, check_queries}
-use Rattle.units_run.specs.Asked.{asked_for}
+use Rattle.units_run.specs.CommandReply.{asked_for}
 use Rattle.units_run.specs.Definitions.{built_in_deck, no_deck_line}
 use Rattle.units_run.specs.Options.{options_of}
 use Rattle.units_run.specs.Plans.{Plan, Whole, Opened, Columns, complaint}
@@ -30,8 +30,8 @@ use Rattle.units_run.specs.Settings.{settings_of}
 use Rattle.units_run.specs.declared.status.Status.TheVariants.{Done, Refused, Usage, NoFile}
 
 -- a reply on `out`, with the notices on `err`
-abbrev pub replied : Contents → Asked → Plan
-replied deck asked = Whole (record {
+abbrev pub plan_of_reply : Contents → Asked → Plan
+plan_of_reply deck asked = Whole (record {
   out = asked.reply.text;
   err = lines_of_texts deck.notices;
   steps = newly asked.queries (fresh deck);
@@ -43,8 +43,8 @@ abbrev pub checked_lines : CommandLine → Contents → List ℕ
 checked_lines line deck = lines_of_texts deck.notices ++ check_report (table deck) (style_of (options_of line))
 
 -- the plan of a check report, which is on `out`; if it has any line, the status is `Refused`
-abbrev pub checked : CommandLine → Contents → Plan
-checked line deck = Whole (record {
+abbrev pub plan_of_check : CommandLine → Contents → Plan
+plan_of_check line deck = Whole (record {
   out = checked_lines line deck;
   err = [];
   steps = newly (check_queries (table deck)) (fresh deck);
@@ -54,11 +54,11 @@ checked line deck = Whole (record {
 -- a session over a deck
 abbrev pub opened_over : CommandLine → Contents → FileMap → Plan
 opened_over line deck files =
-    Opened (opened (state_of (known (options_of line) (fresh deck) None no_versions []) files))
+    Opened (opened_talk (state_of (session_of (options_of line) (fresh deck) None no_versions []) files))
 
 -- the plan for FROM: its reply, or the conversion of the column with this number
 abbrev pub from_plan : (column : Option ℕ) → CommandLine → (from to : List ℕ) → Contents → Plan
-from_plan None line from to deck = replied deck (asked_for (table deck) (options_of line) from to)
+from_plan None line from to deck = plan_of_reply deck (asked_for (table deck) (options_of line) from to)
 from_plan (Some column) line from to deck = Columns (record {
   deck = deck;
   options = options_of line;
@@ -73,7 +73,7 @@ from_plan (Some column) line from to deck = Columns (record {
 abbrev pub work_by : (from : Option (List ℕ)) → CommandLine → Contents → FileMap → Plan
 work_by (Some from) line deck files =
     from_plan line.column line (line_content from) (line_content (unwrap_or line.to [])) deck
-work_by None line deck files = if line.check then checked line deck else opened_over line deck files
+work_by None line deck files = if line.check then plan_of_check line deck else opened_over line deck files
 
 -- the plan over the file of this name, which may give no deck
 abbrev pub file_plan : CommandLine → (name : List ℕ) → Result Contents DeckFault → FileMap → Plan
@@ -87,11 +87,12 @@ deck_plan (Some name) line settings files = file_plan line name (after_load file
 
 -- the plan with the summary of a trial
 abbrev pub trial_plan : Trial → Plan
-trial_plan trial = Whole (record { out = trial.text; err = []; steps = trial.steps; status = Done })
+trial_plan trial_session =
+    Whole (record { out = trial_session.text; err = []; steps = trial_session.steps; status = Done })
 
 -- the plan of a trial, or of work on a deck
 abbrev pub plan_by : (rounds : Option ℕ) → CommandLine → Settings → FileMap → Plan
-plan_by (Some rounds) line settings files = trial_plan (trial (options_of line) settings rounds)
+plan_by (Some rounds) line settings files = trial_plan (trial_session (options_of line) settings rounds)
 plan_by None line settings files = deck_plan line.file line settings files
 
 -- the plan of a command line

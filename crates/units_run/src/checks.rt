@@ -4,10 +4,10 @@ ghost use Rattle.std.specs.Prelude.{◌≡◌, ◌+◌, ◌++◌, ◌||◌, if�
 ghost use Rattle.deck.specs.PlacedKeys.{keys_there};
 ghost use Rattle.deck.specs.Tables as tables;
 ghost use Rattle.def_lines.specs.Words.{is_empty};
-ghost use Rattle.live_table.specs.Shown.{Follows, IsRightTable};
+ghost use Rattle.live_table.specs.TableView.{IsAfterEvents, IsRightTable};
 ghost use Rattle.reply.specs.Options.{IsPrintable, style_of};
 ghost use Rattle.survey.specs.Checks.{check_among, check_queries, check_report, queries_among};
-ghost use Rattle.units_io.specs.Faults.{Rose};
+ghost use Rattle.units_io.specs.Faults.{CountRose};
 ghost use Rattle.units_run.specs.Checks as spec;
 ghost use Rattle.units_run.specs.Endings.{IsWorked};
 
@@ -32,9 +32,9 @@ pub(crate) fn write_check<O: Sink, L: Ledger>(
     steps: &mut Steps<L>,
 ) -> Status
     requires { IsPrintable plan.options }
-    ensures written { spec.IsWritten (spec.report_of plan) result (O.written out.old) (O.written out.new) }
+    ensures written { spec.IsReportWritten (spec.report_of plan) result (O.written out.old) (O.written out.new) }
     ensures steps { IsWorked result → steps.new ≡ steps.old + spec.steps_of plan }
-    ensures write { result ≡ Status.WriteFault → Rose (O.faults out.old) (O.faults out.new) }
+    ensures write { result ≡ Status.WriteFault → CountRose (O.faults out.old) (O.faults out.new) }
 {
     leaves_law();
     let mut plan = plan;
@@ -60,18 +60,18 @@ fn write_report<O: Sink, L: Ledger>(
     steps: &mut Steps<L>,
 ) -> Status
     requires { IsPrintable options.now }
-    ensures written { spec.IsWritten
+    ensures written { spec.IsReportWritten
         (lines.old.items ++ check_report (tables.table table.old.deck) (style_of options.now)) result
         (O.written out.old) (O.written out.new) }
-    ensures queries { IsWorked result → Follows (check_queries (tables.table table.old.deck))
+    ensures queries { IsWorked result → IsAfterEvents (check_queries (tables.table table.old.deck))
         table.old table.new steps.old steps.new }
-    ensures write { result ≡ Status.WriteFault → Rose (O.faults out.old) (O.faults out.new) }
+    ensures write { result ≡ Status.WriteFault → CountRose (O.faults out.old) (O.faults out.new) }
 {
     let Ok(places) = check_places(alloc, table, steps) else {
         return Status::NoMemory;
     };
     // The cached outcomes in the table are right, even if it has no key.
-    table.kept_right();
+    table.outcomes_are_right();
     write_blocks(alloc, lines, table, options, places.as_slice(), out, steps)
 }
 
@@ -87,13 +87,13 @@ fn write_blocks<O: Sink, L: Ledger>(
 ) -> Status
     requires printable { IsPrintable options.now }
     requires right { IsRightTable table.old }
-    ensures written { spec.IsWritten (lines.old.items
+    ensures written { spec.IsReportWritten (lines.old.items
         ++ check_among (tables.table table.old.deck) (style_of options.now)
         (keys_there table.old.deck.lines places.now)) result (O.written out.old) (O.written out.new) }
-    ensures queries { IsWorked result → Follows
+    ensures queries { IsWorked result → IsAfterEvents
         (queries_among (tables.table table.old.deck) (keys_there table.old.deck.lines places.now))
         table.old table.new steps.old steps.new }
-    ensures write { result ≡ Status.WriteFault → Rose (O.faults out.old) (O.faults out.new) }
+    ensures write { result ≡ Status.WriteFault → CountRose (O.faults out.old) (O.faults out.new) }
 {
     let mut rest = places;
     let mut any = false;

@@ -3,10 +3,10 @@
 ghost use Rattle.std.specs.Prelude.{◌≡◌, ◌≤◌, ◌⊎◌, [], List, ℕ, Some};
 ghost use Rattle.reply.specs.Options.{IsPrintable};
 ghost use Rattle.session.specs.Outside.{TookMoreThan};
-ghost use Rattle.units_io.specs.Bytes.{grown};
-ghost use Rattle.units_io.specs.Faults.{Rose};
+ghost use Rattle.units_io.specs.Bytes.{known_append};
+ghost use Rattle.units_io.specs.Faults.{CountRose};
 ghost use Rattle.units_run.specs.Endings as spec;
-ghost use Rattle.units_run.specs.Planning as planning;
+ghost use Rattle.units_run.specs.ProgramPlans as planning;
 
 use crate::column_plan::ColumnPlan;
 use crate::status::Status;
@@ -27,16 +27,16 @@ pub(crate) fn convert_column<S: Source, O: Sink, E: Sink, L: Ledger>(
     steps: &mut Steps<L>,
 ) -> Status
     requires { IsPrintable plan.options × (1 ≤ plan.column) }
-    ensures told { planning.IsConversion plan result
+    ensures told { planning.IsColumnConverted plan result
         (planning.ends_of (S.left src.old) (O.written out.old) (E.written err.old) steps.old)
         (planning.ends_of (S.left src.new) (O.written out.new) (E.written err.new) steps.new) }
     ensures noticed { ((src.new ≡ src.old) × (out.new ≡ out.old))
-        ⊎ (E.written err.new ≡ grown (E.written err.old) plan.notices.items) }
+        ⊎ (E.written err.new ≡ known_append (E.written err.old) plan.notices.items) }
     ensures ends { spec.IsStated result → spec.IsWorked result }
     ensures whole { (input : List ℕ) → S.left src.old ≡ Some input → spec.IsWorked result → S.left src.new ≡ Some [] }
-    ensures read { result ≡ Status.ReadFault → Rose (S.faults src.old) (S.faults src.new) }
+    ensures read { result ≡ Status.ReadFault → CountRose (S.faults src.old) (S.faults src.new) }
     ensures write { result ≡ Status.WriteFault →
-        Rose (O.faults out.old) (O.faults out.new) ⊎ Rose (E.faults err.old) (E.faults err.new) }
+        CountRose (O.faults out.old) (O.faults out.new) ⊎ CountRose (E.faults err.old) (E.faults err.new) }
     ensures too_long { result ≡ Status.InputTooLong → TookMoreThan 16777216 (S.taken src.old) (S.taken src.new) }
 {
     leaves_law();

@@ -2,12 +2,12 @@
 //! them.
 #![tactic(auto)]
 
-mod asking;
 mod built_in;
 mod check_plan;
 mod checks;
 mod column_plan;
 mod columns;
+mod command_reply;
 mod definitions;
 mod halt;
 mod laws;

@@ -1,9 +1,9 @@
 //! Runs over a file that gives no deck.
 ghost use Rattle.std.specs.Prelude.{◌≡◌, ℕ, Bool, true, IfOk, IsErrOf};
 ghost use Rattle.units_io.specs.FileMap.{FileMap};
-ghost use Rattle.deck.specs.Loading.{MayFail};
+ghost use Rattle.deck.specs.FileLoads.{MayFail};
 ghost use Rattle.units_run.specs.Definitions as spec;
-ghost use Rattle.units_run.specs.Planning.{IsFor, IsPlanned};
+ghost use Rattle.units_run.specs.ProgramPlans.{IsFor, IsPlanned};
 ghost use Rattle.units_run.specs.Plans.{complaint};
 
 use crate::halt::Halt;

@@ -9,7 +9,7 @@ use reply::Options;
 /// Returns the options of a command line.
 #[tactic(auto, unfolding(crate::specs::Options::options_of))]
 pub(crate) fn options_of(line: &CommandLine) -> Options
-    requires { spec.HasDigits line.now }
+    requires { spec.HasValidDigits line.now }
     ensures is { result ≡ spec.options_of line.now }
     ensures printable { IsPrintable result }
 {

@@ -2,7 +2,7 @@
 ghost use Rattle.std.specs.Prelude.{◌≡◌, ◌||◌, ℕ, Bool, true, IfOk};
 ghost use Rattle.units_io.specs.FileMap.{FileMap};
 ghost use Rattle.units_run.specs.Endings.{MayEnd};
-ghost use Rattle.units_run.specs.Planning.{IsFor, IsPlanned};
+ghost use Rattle.units_run.specs.ProgramPlans.{IsFor, IsPlanned};
 ghost use Rattle.units_run.specs.Plans as spec;
 
 use crate::check_plan::CheckPlan;

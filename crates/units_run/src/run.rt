@@ -1,16 +1,16 @@
 //! The run of the program.
 ghost use Rattle.std.specs.Prelude.{◌≡◌, ◌⊎◌, ℕ, List, Some, false};
 ghost use Rattle.units_run.specs.Endings as endings;
-ghost use Rattle.units_run.specs.Granted.{GrantsExactly};
+ghost use Rattle.units_run.specs.GrantedConversions.{GrantsExactly};
 ghost use Rattle.units_run.specs.Headline as spec;
 ghost use Rattle.units_run.specs.LeftAlone.{OpensNone, TakesNone};
 ghost use Rattle.units_run.specs.Needs.{needs_definitions, needs_files};
 ghost use Rattle.units_run.specs.Openings as openings;
 ghost use Rattle.units_run.specs.Work.{plan_of};
-ghost use Rattle.session.specs.Hearing.{NamesNoFile};
+ghost use Rattle.session.specs.HeardLines.{NamesNoFile};
 ghost use Rattle.session.specs.Outside.{GrowsAtLeast};
-ghost use Rattle.session.specs.Telling.{TellsIf};
-ghost use Rattle.session.specs.Worlds.{files_of, sink_of, source_of, world_of};
+ghost use Rattle.session.specs.KnownContents.{TellsIf};
+ghost use Rattle.session.specs.Worlds.{files_seen, sink_of, source_of, world_of};
 ghost use Rattle.units_io.specs.FileMap.{FileMap};
 
 use crate::checks::write_check;
@@ -57,10 +57,10 @@ pub fn units_main<S: Source, O: Sink, E: Sink, F: Files, L: Ledger>(
     ensures run { spec.IsRun words.now vars.now result
         (world_of (source_of (S.left src.old) (S.taken src.old) (S.faults src.old))
         (sink_of (O.written out.old) (O.faults out.old)) (sink_of (E.written err.old) (E.faults err.old))
-        (files_of (F.files files.old) (F.faults files.old) (F.store_faults files.old)) steps.old)
+        (files_seen (F.files files.old) (F.faults files.old) (F.store_faults files.old)) steps.old)
         (world_of (source_of (S.left src.new) (S.taken src.new) (S.faults src.new))
         (sink_of (O.written out.new) (O.faults out.new)) (sink_of (E.written err.new) (E.faults err.new))
-        (files_of (F.files files.new) (F.faults files.new) (F.store_faults files.new)) steps.new) }
+        (files_seen (F.files files.new) (F.faults files.new) (F.store_faults files.new)) steps.new) }
     ensures source { TakesNone words.now vars.now result (F.files files.old) → src.new ≡ src.old }
     ensures granted { GrantsExactly words.now vars.now result (F.files files.old)
         (O.written out.old) (O.written out.new) }

@@ -1,16 +1,16 @@
 //! From the words to a plan.
 ghost use Rattle.std.specs.Prelude.{◌≡◌, ◌≤◌, ◌&&◌, ◌||◌, IfOk, IsErrOf, OnOk, Some, true, false, is_some, not};
 ghost use Rattle.units_io.specs.FileMap.{FileMap};
-ghost use Rattle.units_io.specs.Faults.{Rose};
-ghost use Rattle.command_line.specs.Taken.{are_taken};
+ghost use Rattle.units_io.specs.Faults.{CountRose};
+ghost use Rattle.command_line.specs.AcceptedWords.{are_taken};
 ghost use Rattle.command_line.specs.Fields.{command_line_of};
-ghost use Rattle.deck.specs.Loading.{after_load};
-ghost use Rattle.session.specs.Telling.{TellsIf};
-ghost use Rattle.session.specs.Trials.{trial};
+ghost use Rattle.deck.specs.FileLoads.{after_load};
+ghost use Rattle.session.specs.KnownContents.{TellsIf};
+ghost use Rattle.session.specs.Trials.{trial_session};
 ghost use Rattle.units_run.specs.Needs.{converts_column, is_column, is_session, loads_file, needs_definitions};
 ghost use Rattle.units_run.specs.Needs.{needs_files, opens_session};
 ghost use Rattle.units_run.specs.Options as options;
-ghost use Rattle.units_run.specs.Planning.{IsFor, IsPlanned};
+ghost use Rattle.units_run.specs.ProgramPlans.{IsFor, IsPlanned};
 ghost use Rattle.units_run.specs.Settings as settings;
 ghost use Rattle.units_run.specs.Work as spec;
 
@@ -42,7 +42,7 @@ pub(crate) fn make_plan<F: Files, L: Ledger>(
         (IsFor (are_taken words.now) (loads_file (command_line_of words.now)) (opens_session words.now)
         (converts_column words.now)) }
     ensures calm { OnOk result (F.faults files.new ≡ F.faults files.old) }
-    ensures cause { IsErrOf result Halt.ReadFault → Rose (F.faults files.old) (F.faults files.new) }
+    ensures cause { IsErrOf result Halt.ReadFault → CountRose (F.faults files.old) (F.faults files.new) }
     ensures kept { F.files files.new ≡ F.files files.old }
     ensures stores { F.store_faults files.new ≡ F.store_faults files.old }
     ensures unasked { needs_files words.now ≡ false → files.new ≡ files.old }
@@ -63,14 +63,14 @@ fn line_plan<F: Files, L: Ledger>(
     files: &mut F,
     steps: &mut Steps<L>,
 ) -> Result<Plan, Halt>
-    requires digits { options.HasDigits line.now }
+    requires digits { options.HasValidDigits line.now }
     requires rounds { options.HasRounds line.now }
     requires column { options.HasColumn line.now }
     ensures told { (m : FileMap) → TellsIf (loads_file line.now) (F.files files.old) m →
         IsPlanned (spec.line_plan line.now vars.now m) m result steps.old steps.new }
     ensures kind { IfOk result (IsFor true (loads_file line.now) (is_session line.now) (is_column line.now)) }
     ensures calm { OnOk result (F.faults files.new ≡ F.faults files.old) }
-    ensures cause { IsErrOf result Halt.ReadFault → Rose (F.faults files.old) (F.faults files.new) }
+    ensures cause { IsErrOf result Halt.ReadFault → CountRose (F.faults files.old) (F.faults files.new) }
     ensures kept { F.files files.new ≡ F.files files.old }
     ensures stores { F.store_faults files.new ≡ F.store_faults files.old }
     ensures unasked { loads_file line.now ≡ false → files.new ≡ files.old }
@@ -90,11 +90,12 @@ fn trial_plan<L: Ledger>(
     rounds: u16,
     steps: &mut Steps<L>,
 ) -> Result<Plan, AllocError>
-    requires digits { options.HasDigits line.now }
+    requires digits { options.HasValidDigits line.now }
     requires some { 1 ≤ rounds }
     requires few { rounds ≤ 20000 }
     ensures told { (m : FileMap) →
-        IsPlanned (spec.trial_plan (trial (options.options_of line.now) settings rounds)) m result steps.old steps.new }
+        IsPlanned (spec.trial_plan (trial_session (options.options_of line.now) settings rounds)) m result steps.old
+        steps.new }
     ensures kind { IfOk result (IsFor true false false false) }
 {
     let text = run_trial(alloc, options_of(line), settings, rounds, steps)?;
@@ -113,7 +114,7 @@ fn deck_plan<F: Files, L: Ledger>(
     files: &mut F,
     steps: &mut Steps<L>,
 ) -> Result<Plan, Halt>
-    requires digits { options.HasDigits line.now }
+    requires digits { options.HasValidDigits line.now }
     requires column { options.HasColumn line.now }
     ensures told { (m : FileMap) → TellsIf (is_some line.now.file) (F.files files.old) m →
         IsPlanned (spec.deck_plan line.now.file line.now settings m) m result steps.old steps.new }
@@ -121,7 +122,7 @@ fn deck_plan<F: Files, L: Ledger>(
         (IsFor true (is_some line.now.file) (not (is_some line.now.from || line.now.check))
         (is_some line.now.from && is_some line.now.column)) }
     ensures calm { OnOk result (F.faults files.new ≡ F.faults files.old) }
-    ensures cause { IsErrOf result Halt.ReadFault → Rose (F.faults files.old) (F.faults files.new) }
+    ensures cause { IsErrOf result Halt.ReadFault → CountRose (F.faults files.old) (F.faults files.new) }
     ensures kept { F.files files.new ≡ F.files files.old }
     ensures stores { F.store_faults files.new ≡ F.store_faults files.old }
     ensures unasked { is_some line.now.file ≡ false → files.new ≡ files.old }
@@ -144,7 +145,7 @@ fn file_plan<F: Files, L: Ledger>(
     files: &mut F,
     steps: &mut Steps<L>,
 ) -> Result<Plan, Halt>
-    requires digits { options.HasDigits line.now }
+    requires digits { options.HasValidDigits line.now }
     requires column { options.HasColumn line.now }
     ensures told { (m : FileMap) → F.files files.old ≡ Some m →
         IsPlanned (spec.file_plan line.now name.now (after_load m name.now settings) m) m result
@@ -152,7 +153,7 @@ fn file_plan<F: Files, L: Ledger>(
     ensures kind { IfOk result (IsFor true true (not (is_some line.now.from || line.now.check))
         (is_some line.now.from && is_some line.now.column)) }
     ensures calm { OnOk result (F.faults files.new ≡ F.faults files.old) }
-    ensures cause { IsErrOf result Halt.ReadFault → Rose (F.faults files.old) (F.faults files.new) }
+    ensures cause { IsErrOf result Halt.ReadFault → CountRose (F.faults files.old) (F.faults files.new) }
     ensures kept { F.files files.new ≡ F.files files.old }
     ensures stores { F.store_faults files.new ≡ F.store_faults files.old }
 {

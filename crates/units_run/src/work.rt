@@ -6,13 +6,13 @@ ghost use Rattle.units_io.specs.FileMap.{FileMap};
 ghost use Rattle.def_lines.specs.Lines.{line_content};
 ghost use Rattle.session.specs.Queries as queries;
 ghost use Rattle.units_run.specs.Endings.{MayEnd};
-ghost use Rattle.units_run.specs.Options.{HasColumn, HasDigits};
-ghost use Rattle.units_run.specs.Planning.{IsFor, IsPlanned};
+ghost use Rattle.units_run.specs.Options.{HasColumn, HasValidDigits};
+ghost use Rattle.units_run.specs.ProgramPlans.{IsFor, IsPlanned};
 ghost use Rattle.units_run.specs.Work as spec;
 
-use crate::asking::ask;
 use crate::check_plan::CheckPlan;
 use crate::column_plan::ColumnPlan;
+use crate::command_reply::ask;
 use crate::options::options_of;
 use crate::plan::Plan;
 use crate::status::Status;
@@ -35,7 +35,7 @@ pub(crate) fn work<L: Ledger>(
     deck: Deck,
     steps: &mut Steps<L>,
 ) -> Result<Plan, AllocError>
-    requires digits { HasDigits line.now }
+    requires digits { HasValidDigits line.now }
     requires column { HasColumn line.now }
     ensures told { (m : FileMap) →
         IsPlanned (spec.work_by line.now.from line.now deck m) m result steps.old steps.new }
@@ -69,7 +69,7 @@ fn reply_plan<L: Ledger>(
     table: &mut LiveTable,
     steps: &mut Steps<L>,
 ) -> Result<Plan, AllocError>
-    requires digits { HasDigits line.now }
+    requires digits { HasValidDigits line.now }
     requires fresh { table.old ≡ queries.fresh table.old.deck }
     ensures told { (m : FileMap) → IsPlanned
         (spec.from_plan None line.now (line_content from.now) (line_content (unwrap_or line.now.to [])) table.old.deck)
@@ -104,7 +104,7 @@ fn column_plan(
     from: &[u8],
     table: LiveTable,
 ) -> Result<Plan, AllocError>
-    requires digits { HasDigits line.now }
+    requires digits { HasValidDigits line.now }
     requires some { 1 ≤ column }
     requires fresh { table ≡ queries.fresh table.deck }
     ensures told { (m : FileMap) (n : ℕ) → IsPlanned
@@ -128,9 +128,9 @@ fn column_plan(
 
 // Returns the plan of the check report, which begins with the notices.
 fn check_plan(alloc: Global, line: &CommandLine, table: LiveTable) -> Result<Plan, AllocError>
-    requires digits { HasDigits line.now }
+    requires digits { HasValidDigits line.now }
     requires fresh { table ≡ queries.fresh table.deck }
-    ensures told { (m : FileMap) (n : ℕ) → IsPlanned (spec.checked line.now table.deck) m result n n }
+    ensures told { (m : FileMap) (n : ℕ) → IsPlanned (spec.plan_of_check line.now table.deck) m result n n }
     ensures kind { IfOk result (IsFor true false false false) }
 {
     let notices = notice_lines(alloc, table.deck())?;
@@ -143,13 +143,13 @@ fn check_plan(alloc: Global, line: &CommandLine, table: LiveTable) -> Result<Pla
 
 // Returns the plan of a session over a table in which no name is settled.
 fn session_plan(alloc: Global, line: &CommandLine, table: LiveTable) -> Result<Plan, AllocError>
-    requires digits { HasDigits line.now }
+    requires digits { HasValidDigits line.now }
     requires fresh { table ≡ queries.fresh table.deck }
     ensures told { (m : FileMap) (n : ℕ) → IsPlanned (spec.opened_over line.now table.deck m) m result n n }
     ensures kind { IfOk result (IsFor true false true false) }
 {
     let session = Session::new(alloc, table, options_of(line));
-    let said = Said::opening(alloc, &session)?;
+    let said = Said::opening_output(alloc, &session)?;
     Ok(Plan::Opened(said, session))
 }
 

@@ -31,7 +31,7 @@ impl Aliases {
         let mut passed = Vec::new(alloc);
         let mut at = place;
         for _ in 0..self.ends.len() {
-            if let Some(end) = self.known(at) {
+            if let Some(end) = self.known_end(at) {
                 at = end;
                 break;
             }
@@ -47,7 +47,7 @@ impl Aliases {
         Ok(at)
     }
 
-    fn known(&self, place: usize) -> Option<usize> {
+    fn known_end(&self, place: usize) -> Option<usize> {
         match self.ends.get(place) {
             Some(end) => *end,
             None => None,

@@ -50,7 +50,7 @@ fn load_built_in(alloc: Global, settings: Settings) -> Result<Definitions, Stop>
         built_in(),
         deck.lines().as_slice(),
     );
-    let files = known(found)?;
+    let files = known_files(found)?;
     let table = LiveTable::new(alloc, deck);
     Ok(Definitions {
         table,
@@ -67,7 +67,7 @@ fn load_file<F: Files>(
 ) -> Result<Definitions, Stop> {
     let deck = Deck::load(alloc, files, name, settings)?;
     let found = read_again(alloc, files, name, &deck);
-    let files = known(found)?;
+    let files = known_files(found)?;
     let table = LiveTable::new(alloc, deck);
     Ok(Definitions {
         table,
@@ -91,7 +91,7 @@ fn read_again<F: Files>(
 }
 
 // Returns the files of the lines, or `None` if the files changed.
-fn known(found: Result<LineFiles, LineFilesFault>) -> Result<Option<LineFiles>, AllocError> {
+fn known_files(found: Result<LineFiles, LineFilesFault>) -> Result<Option<LineFiles>, AllocError> {
     match found {
         Ok(files) => Ok(Some(files)),
         Err(LineFilesFault::Changed) => Ok(None),

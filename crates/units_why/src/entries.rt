@@ -9,7 +9,7 @@ use units_io::Text;
 /// Returns the definition in the line in force at a place.
 pub(crate) fn what_at(deck: &Deck, place: usize) -> Option<&What> {
     let key = deck.key_at(place)?;
-    let entry = deck.entry_near(place, key.kind, key.name)?;
+    let entry = deck.entry_with_hint(place, key.kind, key.name)?;
     Some(entry.what)
 }
 

@@ -13,7 +13,7 @@ use crate::places::{Places, put_place};
 use crate::report::{put_findings, put_notices};
 use crate::shadows::Shadows;
 use crate::unmet::put_unmet;
-use crate::unused::put_unused;
+use crate::unused_definitions::put_unused;
 use deck::Deck;
 use live_table::LiveTable;
 use reply::Options;
@@ -101,7 +101,7 @@ fn put_faults<L: Ledger>(
     let mut line = Vec::new(alloc);
     for place in keys {
         // The cached outcomes in the table are correct.
-        table.kept_right();
+        table.outcomes_are_right();
         let _ = put_check_block(alloc, &mut line, table, options, &[*place], steps)?;
         if !line.is_empty() {
             let finding = fault_finding(alloc, table.deck(), *place, line.as_slice())?;
@@ -142,7 +142,7 @@ fn put_replaced(
 ) -> Result<(), AllocError> {
     let shadows = Shadows::of(alloc, places.deck)?;
     for place in 0..places.deck.lines().len() {
-        if let Some(last) = shadows.replacing(places.deck, place) {
+        if let Some(last) = shadows.line_in_force(places.deck, place) {
             let finding = replaced_finding(alloc, places, place, last)?;
             findings.push(LineFinding { place, finding })?;
         }

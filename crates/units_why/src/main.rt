@@ -32,7 +32,7 @@ mod text_part;
 mod tree;
 mod unit_notes;
 mod unmet;
-mod unused;
+mod unused_definitions;
 mod values;
 mod why;
 

@@ -62,7 +62,10 @@ fn put_definition(
     let Some(key) = row.key() else {
         return Ok(());
     };
-    match places.deck.entry_near(place, key.kind, key.name.as_bytes()) {
+    match places
+        .deck
+        .entry_with_hint(place, key.kind, key.name.as_bytes())
+    {
         Some(entry) => put_text_member(out, b"text", entry.text()),
         None => Ok(()),
     }

@@ -70,7 +70,10 @@ fn put_definition(
     put_word(out, row, key)?;
     put_site(out, row)?;
     out.extend_from_slice(b", ".as_slice())?;
-    match places.deck.entry_near(place, key.kind, key.name.as_bytes()) {
+    match places
+        .deck
+        .entry_with_hint(place, key.kind, key.name.as_bytes())
+    {
         Some(entry) => Ok(out.extend_from_slice(entry.text())?),
         None => Ok(()),
     }

@@ -1,7 +1,7 @@
 //! The run of the program.
 
 ghost use Rattle.reply.specs.Options.{IsPrintable};
-ghost use Rattle.why_words.specs.Digits.{HasDigits};
+ghost use Rattle.why_words.specs.Digits.{HasWhyDigits};
 
 use crate::answer::Answer;
 use crate::definitions::{Definitions, load};
@@ -52,11 +52,11 @@ fn run_request<O: Sink, E: Sink, F: Files, L: Ledger>(
     files: &mut F,
     steps: &mut Steps<L>,
 ) -> Status
-    requires { HasDigits request.now }
+    requires { HasWhyDigits request.now }
 {
     let mut definitions = match load(alloc, files, request, vars) {
         Ok(definitions) => definitions,
-        Err(stop) => return stopped(alloc, err, request, stop),
+        Err(stop) => return report_stop(alloc, err, request, stop),
     };
     let answer = answer_to(alloc, &mut definitions, request, files, steps);
     // The process ends next, and freeing the table costs more than its last query.
@@ -68,7 +68,7 @@ fn run_request<O: Sink, E: Sink, F: Files, L: Ledger>(
 }
 
 // Reports why a run has no definitions.
-fn stopped<E: Sink>(alloc: Global, err: &mut E, request: &Request, stop: Stop) -> Status {
+fn report_stop<E: Sink>(alloc: Global, err: &mut E, request: &Request, stop: Stop) -> Status {
     let Some(words) = stop.words() else {
         return stop.status();
     };
@@ -96,7 +96,7 @@ fn answer_to<F: Files, L: Ledger>(
     files: &mut F,
     steps: &mut Steps<L>,
 ) -> Result<Answer, AllocError>
-    requires { HasDigits request.now }
+    requires { HasWhyDigits request.now }
 {
     let options = options_of(request);
     let mut answer = match &request.inquiry {
@@ -149,7 +149,7 @@ fn question_of<'a>(from: &'a Text, to: &'a Option<Text>, json: bool) -> Question
 
 // Returns the options that values are written with.
 fn options_of(request: &Request) -> Options
-    requires { HasDigits request.now }
+    requires { HasWhyDigits request.now }
     ensures { IsPrintable result }
 {
     Options {

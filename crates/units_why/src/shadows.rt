@@ -26,7 +26,7 @@ impl Shadows {
         }
         for done in 0..count {
             let place = count - 1 - done;
-            if let Some(last) = shadows.replacing(deck, place) {
+            if let Some(last) = shadows.line_in_force(deck, place) {
                 shadows.link(place, last);
             }
         }
@@ -49,7 +49,7 @@ impl Shadows {
     }
 
     /// Returns the line in force of the key of an active line, if that is a different line.
-    pub(crate) fn replacing(&self, deck: &Deck, place: usize) -> Option<usize> {
+    pub(crate) fn line_in_force(&self, deck: &Deck, place: usize) -> Option<usize> {
         if !self.active.get(place).copied().unwrap_or(false) {
             return None;
         }

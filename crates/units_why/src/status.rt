@@ -25,7 +25,7 @@ pub(crate) enum Status {
 impl Status {
     /// Returns the exit code of the process.
     pub(crate) fn code(self) -> u8
-        ensures { result ≡ spec.code_of self }
+        ensures { result ≡ spec.why_code_of self }
     {
         match self {
             Status::Done => 0,

@@ -47,7 +47,7 @@ impl UnitNotes {
     }
 
     /// Reads the notes in the text of a file.
-    pub(crate) fn read(alloc: Global, text: &[u8]) -> Result<UnitNotes, AllocError> {
+    pub(crate) fn read_notes(alloc: Global, text: &[u8]) -> Result<UnitNotes, AllocError> {
         let mut notes = UnitNotes::none(alloc);
         if Finder::new(b"#:").find(text).is_none() {
             return Ok(notes);

@@ -83,7 +83,7 @@ fn noted_units<F: Files>(
     for (number, place) in order.as_slice() {
         if let Some(line) = places.line(*place) {
             if open.open(alloc, files, places, *number, line.file)? {
-                notes = UnitNotes::read(alloc, open.text())?;
+                notes = UnitNotes::read_notes(alloc, open.text())?;
             }
             if let Some(unit) = notes.unit_at(line.number) {
                 let unit = Text::from_bytes(alloc, unit)?;

@@ -5,7 +5,7 @@ use Rattle.std.proofs.lemmas.List.{drop_all, length-drop}
 use Rattle.expr_tree.specs.declared.word_list.WordKind.{WordKind}
 use Rattle.expr_tree.specs.declared.word_list.WordUse.{WordUse}
 use Rattle.def_entry.specs.declared.key.Key.{Key}
-use Rattle.def_entry.specs.SameKeys.{is_among}
+use Rattle.def_entry.specs.SameKeys.{is_key_among}
 use Rattle.def_entry.specs.Tables.{Table, keys_of}
 use Rattle.name_lookup.specs.declared.targets.Targets.{Targets}
 use Rattle.name_lookup.specs.declared.targets.Targets.TheVariants as which
@@ -13,22 +13,24 @@ use Rattle.name_lookup.specs.Order.{plan}
 use Rattle.name_lookup.specs.Plans.{Found, run}
 use Rattle.name_lookup.specs.Targets.{AreFound, count, last_keys}
 use Rattle.table_names.specs.Leads.{LookupLaw, targets, word_lookup}
-use Rattle.value_sources.specs.Leads.{key_at}
+use Rattle.value_sources.specs.Leads.{key_at_place}
 
 -- ---- the last keys of a list
-at_place : (ks : List Key) (i : ℕ) → i < length ks → drop i ks ≡ key_at ks i ∷ drop (suc i) ks
+at_place : (ks : List Key) (i : ℕ) → i < length ks → drop i ks ≡ key_at_place ks i ∷ drop (suc i) ks
 at_place [] i h = absurd (omega arith)
 at_place (k ∷ ks) zero h = refl
 at_place (k ∷ ks) (suc i) h = at_place ks i (omega arith)
 
-one_last : (ks : List Key) (i : ℕ) → suc i ≡ length ks → drop i ks ≡ key_at ks i ∷ []
+one_last : (ks : List Key) (i : ℕ) → suc i ≡ length ks → drop i ks ≡ key_at_place ks i ∷ []
 one_last ks i e =
-    at_place ks i (omega (arith, e)) ∙ ap (λ (xs : List Key). key_at ks i ∷ xs) (drop_all (suc i) ks (omega (arith, e)))
+    at_place ks i (omega (arith, e)) ∙ ap (λ (xs : List Key). key_at_place ks i ∷ xs)
+    (drop_all (suc i) ks (omega (arith, e)))
 
-two_last : (ks : List Key) (i j : ℕ) → suc i ≡ j → suc j ≡ length ks → drop i ks ≡ key_at ks i ∷ key_at ks j ∷ []
+two_last : (ks : List Key) (i j : ℕ) → suc i ≡ j → suc j ≡ length ks → drop i ks ≡ key_at_place ks i ∷ key_at_place ks j
+    ∷ []
 two_last ks i j d e =
     at_place ks i (omega (arith, d, e))
-    ∙ ap (λ (xs : List Key). key_at ks i ∷ xs) (ap (λ (x : ℕ). drop x ks) d ∙ one_last ks j e)
+    ∙ ap (λ (xs : List Key). key_at_place ks i ∷ xs) (ap (λ (x : ℕ). drop x ks) d ∙ one_last ks j e)
 
 none_there : (ks : List Key) → length ks ≡ 0 → ks ≡ []
 none_there [] e = refl
@@ -38,10 +40,10 @@ none_there (k ∷ ks) e = absurd (omega (arith, e))
 pub found_by : (t : Table) (u : WordUse) (law : LookupLaw) (w : Targets) (before tried : List Key) (kind : WordKind)
     (text : List ℕ)
     → before ≡ [] → kind ≡ u.kind → text ≡ u.text
-    → AreFound w before tried (run (is_among (keys_of t)) (plan kind text)) → AreFound w [] tried (word_lookup t u)
+    → AreFound w before tried (run (is_key_among (keys_of t)) (plan kind text)) → AreFound w [] tried (word_lookup t u)
 found_by t u law w before tried kind text b k x f =
-    let same : run (is_among (keys_of t)) (plan kind text) ≡ word_lookup t u =
-    (λ i. run (is_among (keys_of t)) (plan (k i) (x i))) ∙ law t u in
+    let same : run (is_key_among (keys_of t)) (plan kind text) ≡ word_lookup t u =
+    (λ i. run (is_key_among (keys_of t)) (plan (k i) (x i))) ∙ law t u in
     subst (λ (p : List Key × Found). AreFound w p.0 tried p.1) (λ i. (b i, same i)) f
 
 module _ (t : Table) (u : WordUse) (w : Targets) (tried : List Key) (found : AreFound w [] tried (word_lookup t u))
@@ -62,14 +64,14 @@ module _ (t : Table) (u : WordUse) (tried : List Key) where
   none_found found = none_there (targets t u) found.many
 
   pub one_found : AreFound which.Last [] tried (word_lookup t u) → (i : ℕ) → i ≡ length tried - 1
-      → targets t u ≡ key_at tried i ∷ []
+      → targets t u ≡ key_at_place tried i ∷ []
   one_found found i e =
       let h : 1 ≤ length tried = enough t u which.Last tried found in
       targets_are t u which.Last tried found
       ∙ (ap (λ (x : ℕ). drop x tried) (sym e) ∙ one_last tried i (omega (arith, h, e)))
 
   pub two_found : AreFound which.LastTwo [] tried (word_lookup t u) → (i j : ℕ) → i ≡ length tried - 2
-      → j ≡ length tried - 1 → targets t u ≡ key_at tried i ∷ key_at tried j ∷ []
+      → j ≡ length tried - 1 → targets t u ≡ key_at_place tried i ∷ key_at_place tried j ∷ []
   two_found found i j e f =
       let h : 2 ≤ length tried = enough t u which.LastTwo tried found in
       targets_are t u which.LastTwo tried found

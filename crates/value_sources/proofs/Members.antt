@@ -4,7 +4,7 @@ use Rattle.std.proofs.Common.{refl, sym, ap, ◌∙◌, subst, inl, inr}
 use Rattle.std.proofs.lemmas.Option.{same_Some}
 use Rattle.expr_tree.specs.declared.word_list.WordUse.{WordUse}
 use Rattle.def_entry.specs.declared.key.Key.{Key}
-use Rattle.def_entry.specs.SameKeys.{is_among, is_same}
+use Rattle.def_entry.specs.SameKeys.{is_key_among, is_same}
 use Rattle.def_entry.specs.Tables.{Table}
 use Rattle.def_entry.proofs.SameKeys.{same_keys}
 use Rattle.table_names.specs.Leads.{WordsLeadTo, targets}
@@ -12,7 +12,7 @@ use Rattle.table_names.specs.Words.{key_words}
 use Rattle.value_sources.specs.declared.resolution.Resolution.TheVariants.{PrefixedUnit}
 use Rattle.value_sources.specs.Mentions.{Mention, mention_by, mentions, mentions_to}
 use Rattle.value_sources.specs.Rows.{first_mentions}
-use Rattle.value_sources.specs.Uses.{Use, key_uses, words_of}
+use Rattle.value_sources.specs.Uses.{Use, key_uses, use_words}
 use Rattle.value_sources.proofs.Lists.{any_cases, any_member, flat_cases, flat_member, map_cases, map_member}
 use Rattle.value_sources.proofs.Lists.{member_cases, no_member}
 use Rattle.value_sources.proofs.Words.{key_words_are, words_at}
@@ -22,12 +22,12 @@ abbrev pub LeadOn : List Mention → Key → Type 0
 LeadOn ms n = (m : Mention) × Contains ms m × (m.target ≡ Some n)
 
 -- a key is found among others if and only if it is one of them
-pub among_is : (ks : List Key) (n : Key) → is_among ks n ≡ true → Contains ks n
+pub among_is : (ks : List Key) (n : Key) → is_key_among ks n ≡ true → Contains ks n
 among_is ks n e =
     let r : (k : Key) × Contains ks k × (is_same n k ≡ true) = any_cases (is_same n) ks e in
     subst (Contains ks) (sym ((same_keys n r.0).0 r.2)) r.1
 
-pub is_among_of : (ks : List Key) (n : Key) → Contains ks n → is_among ks n ≡ true
+pub is_among_of : (ks : List Key) (n : Key) → Contains ks n → is_key_among ks n ≡ true
 is_among_of ks n i = any_member (is_same n) ks n i ((same_keys n n).1 refl)
 
 -- ---- the mentions of a word lead to its keys
@@ -67,7 +67,7 @@ to_member depth u (k ∷ ks) n i =
 
 -- ---- mentions of words lead exactly to the keys that the words lead to
 lead_cases : (table : Table) (depth : ℕ) (uses : List Use) (n : Key) → LeadOn (mentions table depth uses) n
-    → WordsLeadTo table (words_of uses) n
+    → WordsLeadTo table (use_words uses) n
 lead_cases table depth uses n (m, i, e) =
     let r : (u : Use) × Contains uses u × Contains (mentions_to depth u (targets table u.word)) m =
     flat_cases (λ (u : Use). mentions_to depth u (targets table u.word)) uses m i in (
@@ -76,7 +76,7 @@ lead_cases table depth uses n (m, i, e) =
       to_cases depth r.0 (targets table r.0.word) m n r.2 e,
     )
 
-lead_member : (table : Table) (depth : ℕ) (uses : List Use) (n : Key) → WordsLeadTo table (words_of uses) n
+lead_member : (table : Table) (depth : ℕ) (uses : List Use) (n : Key) → WordsLeadTo table (use_words uses) n
     → LeadOn (mentions table depth uses) n
 lead_member table depth uses n (w, i, t) =
     let r : (u : Use) × Contains uses u × (w ≡ u.word) = map_cases (λ (u : Use). u.word) uses w i in

@@ -12,12 +12,12 @@ use Rattle.std.proofs.lemmas.List.Elements.{Contains-append_cases, Contains-appe
 use Rattle.std.proofs.lemmas.Option.{get_or_from_slice_get, same_Some, slice_get-get_or, slice_get-map}
 use Rattle.std.proofs.lemmas.Option.{slice_get_within}
 use Rattle.def_entry.specs.declared.key.Key.{Key}
-use Rattle.def_entry.specs.SameKeys.{is_among}
+use Rattle.def_entry.specs.SameKeys.{is_key_among}
 use Rattle.name_lookup.specs.Laws.{TargetsLaw}
 use Rattle.expr_tree.specs.declared.word_list.WordUse.{WordUse}
 use Rattle.deck.specs.Decks.{Contents}
 use Rattle.deck.specs.Tables.{is_present, last_place, table}
-use Rattle.value_sources.specs.Cycles.{CanFollow, IsPath, closes_cycle, cycle_flags, is_on, is_open, is_place}
+use Rattle.value_sources.specs.Cycles.{CanFollow, IsPlacePath, closes_cycle, cycle_flags, is_on, is_open, is_place}
 use Rattle.value_sources.specs.Cycles.{path_after, path_at}
 use Rattle.value_sources.specs.Mentions.{Mention, mentions}
 use Rattle.value_sources.specs.Rows.{AreRows, AreRowsOf, Row, Skipped, Visited, first_mentions, visited_key}
@@ -65,7 +65,7 @@ same_bool false true f g = g refl
 same_bool false false f g = refl
 
 -- ---- a path and the lines of its keys
-module _ (d : Contents) (depths places : List ℕ) (path : List Key) (is : IsPath d depths places path) where
+module _ (d : Contents) (depths places : List ℕ) (path : List Key) (is : IsPlacePath d depths places path) where
   -- at each place of a line the path has a key for which that line is in force
   key_there : (i place : ℕ) → slice_get places i ≡ Some place
       → (k : Key) × (slice_get path i ≡ Some k) × (last_place d.settings d.lines k ≡ Some place)
@@ -125,8 +125,8 @@ module _ (d : Contents) (depths places : List ℕ) (path : List Key) (is : IsPat
       (i, slice_get_within path i r.0 r.1, get_or_from_slice_get path i r.0 r.0 r.1)
 
   pub open_is : (n : Key) (place : ℕ) → last_place d.settings d.lines n ≡ Some place
-      → is_open depths places place ≡ is_among path n
-  open_is n place e = same_bool (is_open depths places place) (is_among path n)
+      → is_open depths places place ≡ is_key_among path n
+  open_is n place e = same_bool (is_open depths places place) (is_key_among path n)
       (λ h. is_among_of path n (forward (slice_get places (get_or depths place 0)) refl h))
       (λ h. backward (member_line n (among_is path n h)))
     where
@@ -148,15 +148,15 @@ module _ (d : Contents) (depths places : List ℕ) (path : List Key) (is : IsPat
           ∙ (ap (λ (o : Option ℕ). is_place o place) here ∙ same_place place)
 
   -- a key without a line is not on the path
-  pub absent_is : (n : Key) → last_place d.settings d.lines n ≡ None → is_among path n ≡ false
-  absent_is n e = same_bool (is_among path n) false
+  pub absent_is : (n : Key) → last_place d.settings d.lines n ≡ None → is_key_among path n ≡ false
+  absent_is n e = same_bool (is_key_among path n) false
       (λ h. let r : (i : ℕ) × (p : ℕ) × (slice_get places i ≡ Some p) × (last_place d.settings d.lines n ≡ Some p) =
       member_line n (among_is path n h) in
       let z : None ≡ Some r.1 = sym e ∙ r.3 in cc)
       (λ h. absurd (true≢false (sym h)))
 
   -- the path up to a depth
-  pub path_cut : (k : ℕ) → IsPath d depths (take k places) (take k path)
+  pub path_cut : (k : ℕ) → IsPlacePath d depths (take k places) (take k path)
   path_cut k = record {
     places_are = sym (take-map (λ (x : ℕ). Some x) k places)
         ∙ (ap (take k) is.places_are ∙ take-map (last_place d.settings d.lines) k path);
@@ -166,7 +166,7 @@ module _ (d : Contents) (depths places : List ℕ) (path : List Key) (is : IsPat
   -- the path with one more key
   pub path_push : (n : Key) (place : ℕ) → last_place d.settings d.lines n ≡ Some place → (Contains path n → ⊥)
       → place < length depths
-      → IsPath d (set depths place (length places)) (places ++ place ∷ []) (path ++ n ∷ [])
+      → IsPlacePath d (set depths place (length places)) (places ++ place ∷ []) (path ++ n ∷ [])
   path_push n place e new room = record {
     places_are = map-append (λ (x : ℕ). Some x) places (place ∷ [])
         ∙ ((λ i. is.places_are i ++ sym e i ∷ [])
@@ -184,9 +184,9 @@ module _ (d : Contents) (depths places : List ℕ) (path : List Key) (is : IsPat
           ap (λ (x : ℕ). get_or (set depths place (length places)) x 0) same
           ∙ (get_or-set_same depths place (length places) 0 room ∙ sym l)
 
-pub no_path : (d : Contents) (depths places : List ℕ) → places ≡ [] → IsPath d depths places []
+pub no_path : (d : Contents) (depths places : List ℕ) → places ≡ [] → IsPlacePath d depths places []
 no_path d depths places none =
-    subst (λ (ps : List ℕ). IsPath d depths ps []) (sym none)
+    subst (λ (ps : List ℕ). IsPlacePath d depths ps []) (sym none)
     (record { places_are = refl; depths_are = λ i place e. cc })
 
 -- ---- the effect of a row
@@ -204,7 +204,7 @@ closes_visit path r e = ap (λ (b : Bool). not b && is_on (path_at path r) r.men
 
 -- a row that does not visit its key closes a cycle exactly if the key is on the path
 pub closes_skip : (path : List Key) (r : Row) (n : Key) → r.is_visit ≡ false → r.mention.target ≡ Some n
-    → closes_cycle path r ≡ is_among (path_at path r) n
+    → closes_cycle path r ≡ is_key_among (path_at path r) n
 closes_skip path r n e t =
     ap (λ (b : Bool). not b && is_on (path_at path r) r.mention.target) e ∙ ap (is_on (path_at path r)) t
 
@@ -228,22 +228,22 @@ line_inside d None place e = cc
 line_inside d (Some n) place e = within d n place e
 
 module _ (d : Contents) (depths places : List ℕ) (path : List Key) (r : Row) (now : List ℕ)
-    (kept : now ≡ take r.mention.depth places) (is : IsPath d depths places path) where
-  cut : IsPath d depths now (path_at path r)
-  cut = subst (λ (ps : List ℕ). IsPath d depths ps (path_at path r)) (sym kept)
+    (kept : now ≡ take r.mention.depth places) (is : IsPlacePath d depths places path) where
+  cut : IsPlacePath d depths now (path_at path r)
+  cut = subst (λ (ps : List ℕ). IsPlacePath d depths ps (path_at path r)) (sym kept)
       (path_cut d depths places path is r.mention.depth)
 
-  stays : visited_key r ≡ None → IsPath d depths now (path_after path r)
-  stays e = subst (IsPath d depths now)
+  stays : visited_key r ≡ None → IsPlacePath d depths now (path_after path r)
+  stays e = subst (IsPlacePath d depths now)
       (sym (ap (λ (o : Option Key). path_at path r ++ cons_option o []) e ∙ append-nil (path_at path r))) cut
 
   -- the path after a row whose key has no line
   pub row_without_line : option_and_then (last_place d.settings d.lines) r.mention.target ≡ None → CanFollow d path r
-      → (false ≡ closes_cycle path r) × IsPath d depths now (path_after path r)
+      → (false ≡ closes_cycle path r) × IsPlacePath d depths now (path_after path r)
   row_without_line none follow = by r.mention.target refl none
     where
       without : (n : Key) → r.mention.target ≡ Some n → last_place d.settings d.lines n ≡ None → (b : Bool)
-          → r.is_visit ≡ b → (false ≡ closes_cycle path r) × IsPath d depths now (path_after path r)
+          → r.is_visit ≡ b → (false ≡ closes_cycle path r) × IsPlacePath d depths now (path_after path r)
       without n t e true v =
           absurd (no_entry d n e (follow n (visited_visit r n v t)).0)
       without n t e false v = (
@@ -252,18 +252,18 @@ module _ (d : Contents) (depths places : List ℕ) (path : List Key) (r : Row) (
       )
 
       by : (o : Option Key) → r.mention.target ≡ o → option_and_then (last_place d.settings d.lines) o ≡ None
-          → (false ≡ closes_cycle path r) × IsPath d depths now (path_after path r)
+          → (false ≡ closes_cycle path r) × IsPlacePath d depths now (path_after path r)
       by None t e = (sym (closes_none path r t), stays (visited_none r t))
       by (Some n) t e = without n t e r.is_visit refl
 
   -- the path after a row that visits nothing
   pub row_skipped : (place : ℕ) → option_and_then (last_place d.settings d.lines) r.mention.target ≡ Some place
       → r.is_visit ≡ false
-      → (is_open depths now place ≡ closes_cycle path r) × IsPath d depths now (path_after path r)
+      → (is_open depths now place ≡ closes_cycle path r) × IsPlacePath d depths now (path_after path r)
   row_skipped place line v = by r.mention.target refl line
     where
       by : (o : Option Key) → r.mention.target ≡ o → option_and_then (last_place d.settings d.lines) o ≡ Some place
-          → (is_open depths now place ≡ closes_cycle path r) × IsPath d depths now (path_after path r)
+          → (is_open depths now place ≡ closes_cycle path r) × IsPlacePath d depths now (path_after path r)
       by None t e = cc
       by (Some n) t e = (
         open_is d depths now (path_at path r) cut n place e ∙ sym (closes_skip path r n v t),
@@ -274,20 +274,20 @@ module _ (d : Contents) (depths places : List ℕ) (path : List Key) (r : Row) (
   pub row_visited : (place len : ℕ) (after : List ℕ) → len ≡ length now → after ≡ now ++ place ∷ []
       → option_and_then (last_place d.settings d.lines) r.mention.target ≡ Some place → r.is_visit ≡ true
       → length depths ≡ length d.lines → CanFollow d path r
-      → (false ≡ closes_cycle path r) × IsPath d (set depths place len) after (path_after path r)
+      → (false ≡ closes_cycle path r) × IsPlacePath d (set depths place len) after (path_after path r)
   row_visited place len after l a line v room follow = by r.mention.target refl line
     where
       by : (o : Option Key) → r.mention.target ≡ o → option_and_then (last_place d.settings d.lines) o ≡ Some place
-          → (false ≡ closes_cycle path r) × IsPath d (set depths place len) after (path_after path r)
+          → (false ≡ closes_cycle path r) × IsPlacePath d (set depths place len) after (path_after path r)
       by None t e = cc
       by (Some n) t e =
           let inside : place < length depths = let w = within d n place e in omega (arith, w, room) in
           let f : (is_present (table d) n ≡ true) × (Contains (path_at path r) n → ⊥) =
           follow n (visited_visit r n v t) in
-          let more : IsPath d (set depths place (length now)) (now ++ place ∷ []) (path_at path r ++ n ∷ []) =
+          let more : IsPlacePath d (set depths place (length now)) (now ++ place ∷ []) (path_at path r ++ n ∷ []) =
           path_push d depths now (path_at path r) cut n place e f.1 inside in (
             sym (closes_visit path r v),
-            subst (λ (x : ℕ × (List ℕ × List Key)). IsPath d (set depths place x.0) x.1.0 x.1.1)
+            subst (λ (x : ℕ × (List ℕ × List Key)). IsPlacePath d (set depths place x.0) x.1.0 x.1.1)
                 (λ i. (sym l i, (sym a i, path_at path r ++ cons_option (sym (visited_visit r n v t) i) []))) more,
           )
 

@@ -18,7 +18,8 @@ use Rattle.deck_lines.specs.declared.line.DeckLine.{DeckLine}
 use Rattle.deck.specs.Active.{active_lines}
 use Rattle.deck.specs.Decks.{Contents}
 use Rattle.deck.specs.PlacedKeys.{key_there}
-use Rattle.deck.specs.Tables.{Definitions, definition_by, definitions, definitions_by, definitions_from, entry_at}
+use Rattle.deck.specs.Tables.{Definitions, active_definitions, definition_by, definitions_among, definitions_from}
+use Rattle.deck.specs.Tables.{entry_at}
 use Rattle.deck.specs.Tables.{is_present, last_place, place_of, table, table_of}
 
 -- each definition that a key finds is that of the line at its place
@@ -83,10 +84,10 @@ found lines (d ∷ ds) h k v e = by (λ g. found lines ds h.1 k v g) (is_same k 
     by ih false t g = ih g
 
 -- the definitions of a deck are in place
-in_place : (d : Contents) → AreInPlace d.lines (definitions d.settings d.lines)
-unfolding definitions
+in_place : (d : Contents) → AreInPlace d.lines (active_definitions d.settings d.lines)
+unfolding active_definitions
 in_place d =
-    found d.lines (definitions_by (active_lines d.settings d.lines) d.lines)
+    found d.lines (definitions_among (active_lines d.settings d.lines) d.lines)
     (each-reverse d.lines (definitions_from 0 (active_lines d.settings d.lines) d.lines)
     (from_in_place (active_lines d.settings d.lines) d.lines [] d.lines refl))
 
@@ -113,7 +114,7 @@ place_present ds k = by (lookup (is_same k) ds) ∙ ap is_some (sym (entry_found
 pub no_entry : (d : Contents) (k : Key) → last_place d.settings d.lines k ≡ None → is_present (table d) k ≡ true → ⊥
 no_entry d k e p =
     let q : false ≡ true =
-    ap is_some (sym e) ∙ place_present (definitions d.settings d.lines) k ∙ p in
+    ap is_some (sym e) ∙ place_present (active_definitions d.settings d.lines) k ∙ p in
     cc
 
 there_by : (lines : List DeckLine) (ds : Definitions) → AreInPlace lines ds → (k : Key) (place : ℕ)
@@ -128,7 +129,7 @@ there_by lines ds placed k place = by (lookup (is_same k) ds) refl
 -- the line at the last place of a key defines the key
 pub there : (d : Contents) (k : Key) (place : ℕ) → last_place d.settings d.lines k ≡ Some place
     → key_there d.lines place ≡ Some k
-there d k place e = there_by d.lines (definitions d.settings d.lines) (in_place d) k place e
+there d k place e = there_by d.lines (active_definitions d.settings d.lines) (in_place d) k place e
 
 -- two keys with the same last place are equal
 pub one_key : (d : Contents) (k n : Key) (place : ℕ) → last_place d.settings d.lines k ≡ Some place

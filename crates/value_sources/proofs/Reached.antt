@@ -12,7 +12,7 @@ use Rattle.table_names.specs.Words.{key_words}
 use Rattle.value_sources.proofs.Lists.{member_cases, member_first, member_later, no_member}
 use Rattle.value_sources.specs.Mentions.{Mention, mentions}
 use Rattle.value_sources.specs.Rows.{AreRows, AreRowsOf, Finished, Visited, Skipped, Row, is_skipped, visited_keys}
-use Rattle.value_sources.specs.Rows.{visited}
+use Rattle.value_sources.specs.Rows.{visited_row}
 use Rattle.value_sources.proofs.Members.{LeadOn, among_is, entry_cases, entry_member, first_cases, first_member}
 use Rattle.value_sources.specs.Uses.{key_uses}
 
@@ -24,7 +24,7 @@ onward (further l q) r = further l (onward q r)
 
 -- a row that visits a key adds it to the visited keys
 pub keys_visited : (m : Mention) (n : Key) (rows : List Row) → m.target ≡ Some n
-    → visited_keys (visited m ∷ rows) ≡ n ∷ visited_keys rows
+    → visited_keys (visited_row m ∷ rows) ≡ n ∷ visited_keys rows
 keys_visited m n rows e = ap (λ (o : Option Key). cons_option o (visited_keys rows)) e
 
 module _ (table : Table) where
@@ -58,7 +58,7 @@ module _ (table : Table) where
 
   -- a known key is known with one more visit
   with_visited : (before : List Key) (m : Mention) (k : Key) (rows : List Row) → m.target ≡ Some k → (n : Key)
-      → IsKnown (before ++ k ∷ []) rows n → IsKnown before (visited m ∷ rows) n
+      → IsKnown (before ++ k ∷ []) rows n → IsKnown before (visited_row m ∷ rows) n
   with_visited before m k rows e n (inl i) =
       elim (Contains-append_cases before (k ∷ []) n i) [
         | inl a ↦ inl a

@@ -7,7 +7,7 @@ use Rattle.std.proofs.Math.Seq.{drop-append_seam}
 use Rattle.def_entry.specs.Keys.{key}
 use Rattle.def_entry.specs.declared.key.Kind.{Kind}
 use Rattle.value_sources.specs.declared.tried_keys.TriedKey.{TriedKey}
-use Rattle.value_sources.specs.TriedKeys.{AreWithin, key_in, keys_in}
+use Rattle.value_sources.specs.TriedKeys.{AreRangesWithin, key_in, keys_in}
 
 -- the name of a key does not change when bytes are appended
 same_key : (visited_keys more : List ℕ) (k : TriedKey) → k.start ≤ k.end → k.end ≤ length visited_keys
@@ -44,7 +44,7 @@ last_key visited_keys more k s e =
 
 -- one more key is appended
 pub tried_push : (visited_keys more all : List ℕ) (ks now : List TriedKey) (kind : Kind) (start end : ℕ)
-    → AreWithin visited_keys ks
+    → AreRangesWithin visited_keys ks
     → all ≡ visited_keys ++ more → now ≡ ks ++ record { kind = kind; start = start; end = end } ∷ []
     → start ≡ length visited_keys → end ≡ length all
     → keys_in all now ≡ keys_in visited_keys ks ++ key kind more ∷ []

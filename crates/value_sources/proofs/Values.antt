@@ -15,13 +15,13 @@ use Rattle.def_entry.specs.Keys.{key}
 use Rattle.def_entry.specs.Tables.{Table, entry_at, is_present}
 use Rattle.name_lookup.specs.Candidates.{first_present, part_candidates}
 use Rattle.tree_eval.specs.Entries.{meaning_of}
-use Rattle.tree_eval.specs.Expanded.{Dimensionless, Expanded, Meaning, One, Primitive}
+use Rattle.tree_eval.specs.Expansions.{Dimensionless, Expanded, Meaning, One, Primitive}
 use Rattle.tree_eval.specs.Expansion.{plain, plain_word}
-use Rattle.tree_eval.specs.Outcomes.{kept, outcome_of, worth_in}
+use Rattle.tree_eval.specs.Outcomes.{outcome_of, stored_outcome, worth_in}
 use Rattle.tree_eval.specs.Steps.{Worth}
 use Rattle.tree_eval.specs.Value.{value}
-use Rattle.table_names.specs.Closed.{AreClosed, IsClosed}
-use Rattle.table_names.specs.ClosedLaws.{ClosedLaw}
+use Rattle.table_names.specs.ClosedKeys.{AreClosed, IsClosed}
+use Rattle.table_names.specs.ClosedLaws.{ClosedWordLaw}
 use Rattle.table_names.specs.Leads.{targets}
 use Rattle.table_names.specs.Meanings.{ClosedMeaningLaw, entry_meaning, expansion, key_meaning, outcome}
 use Rattle.table_names.specs.Meanings.{targets_meaning}
@@ -31,7 +31,7 @@ use Rattle.live_table.specs.Answers.{answer, by_names}
 use Rattle.value_sources.specs.Values.{ValueLaw, named_unit, syntax_by, syntax_in}
 use Rattle.value_sources.proofs.Lists.{member_first}
 
-worth_back : (r : Worth) → r ≡ worth_in (kept r)
+worth_back : (r : Worth) → r ≡ worth_in (stored_outcome r)
 worth_back (Ok q) = refl
 worth_back (Err fault) = refl
 
@@ -42,7 +42,7 @@ one_value t n x e = worth_back (value x None) ∙ ap (λ (m : Meaning). worth_in
 
 -- ---- a key with an expression
 module _ (t : Table) (n : Key) (e : Syntax) (d : Entry) (there : entry_at t n ≡ Some d) (is : d.what ≡ what.Body e)
-    (closing : ClosedLaw) (meaning : ClosedMeaningLaw) (closed : AreClosed t (words_in e)) where
+    (closing : ClosedWordLaw) (meaning : ClosedMeaningLaw) (closed : AreClosed t (words_in e)) where
   body_closed : IsClosed t n
   body_closed = (closing.key t n).1 (subst (AreClosed t)
       (sym (ap entry_words there ∙ ap what_words is)) closed)
@@ -67,7 +67,7 @@ unit_target t w d there =
     else first_present (is_present t) ((key kind.Func w ∷ []) ∷ part_candidates w)) there
 
 module _ (t : Table) (w : List ℕ) (d : Entry) (there : entry_at t (key kind.Unit w) ≡ Some d)
-    (closing : ClosedLaw) (meaning : ClosedMeaningLaw) (closed : AreClosed t (plain_word w ∷ [])) where
+    (closing : ClosedWordLaw) (meaning : ClosedMeaningLaw) (closed : AreClosed t (plain_word w ∷ [])) where
   led : targets t (plain_word w) ≡ key kind.Unit w ∷ []
   led = unit_target t w d there
 
@@ -91,7 +91,7 @@ module _ (t : Table) (w : List ℕ) (d : Entry) (there : entry_at t (key kind.Un
       ∙ one_value t (key kind.Unit w) x means)
 
 -- ---- by the definition of the key
-module _ (closing : ClosedLaw) (meaning : ClosedMeaningLaw) (t : Table) where
+module _ (closing : ClosedWordLaw) (meaning : ClosedMeaningLaw) (t : Table) where
   primitive_value : (k : Kind) (w : List ℕ) (d : Entry) (x : Expanded) (e : Syntax)
       → entry_at t (key k w) ≡ Some d → meaning_of (word_meaning t) w d.what ≡ One x → named_unit k w ≡ Some e
       → AreClosed t (words_in e) → answer t e ≡ by_names None (worth_in (outcome t (key k w)))
@@ -123,5 +123,5 @@ module _ (closing : ClosedLaw) (meaning : ClosedMeaningLaw) (t : Table) where
   given_value n None e there is closed = cc
   given_value n (Some d) e there is closed = entry_value n d.text d.what e there is closed
 
-pub key_value : ClosedLaw → ClosedMeaningLaw → ValueLaw
+pub key_value : ClosedWordLaw → ClosedMeaningLaw → ValueLaw
 key_value closing meaning t n e is closed = given_value closing meaning t n (entry_at t n) e refl is closed

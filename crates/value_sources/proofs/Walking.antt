@@ -7,14 +7,14 @@ use Rattle.std.proofs.lemmas.List.{append-nil, length-set, reverse-append}
 use Rattle.std.proofs.lemmas.List.Elements.{Contains-append_cases}
 use Rattle.expr_tree.specs.declared.word_list.WordUse.{WordUse}
 use Rattle.def_entry.specs.declared.key.Key.{Key}
-use Rattle.def_entry.specs.SameKeys.{is_among}
+use Rattle.def_entry.specs.SameKeys.{is_key_among}
 use Rattle.deck.specs.Decks.{Contents}
 use Rattle.deck.specs.Tables.{is_present, last_place, table}
 use Rattle.name_lookup.specs.Laws.{TargetsLaw}
 use Rattle.table_names.specs.Leads.{WordsLeadTo}
 use Rattle.value_sources.specs.Mentions.{Mention, mentions}
-use Rattle.value_sources.specs.Rows.{AreRows, Finished, Row, Skipped, Visited, first_mentions, is_skipped, skipped}
-use Rattle.value_sources.specs.Rows.{visited, visited_key, visited_keys}
+use Rattle.value_sources.specs.Rows.{AreRows, Finished, Row, Skipped, Visited, first_mentions, is_skipped, skipped_row}
+use Rattle.value_sources.specs.Rows.{visited_key, visited_keys, visited_row}
 use Rattle.value_sources.specs.Uses.{key_uses}
 use Rattle.value_sources.specs.Visits.{IsUnvisitedPlace, MarksVisits}
 use Rattle.value_sources.specs.Walks.{AreMarked, IsFound, IsUnderway}
@@ -34,13 +34,13 @@ keys_push (x ∷ rows) r = by (visited_key x) (keys_push rows r)
     by None h = h
     by (Some k) h = ap (λ (ks : List Key). k ∷ ks) h
 
-keys_skipped : (rows : List Row) (m : Mention) → visited_keys (rows ++ skipped m ∷ []) ≡ visited_keys rows
-keys_skipped rows m = keys_push rows (skipped m) ∙ append-nil (visited_keys rows)
+keys_skipped : (rows : List Row) (m : Mention) → visited_keys (rows ++ skipped_row m ∷ []) ≡ visited_keys rows
+keys_skipped rows m = keys_push rows (skipped_row m) ∙ append-nil (visited_keys rows)
 
 keys_visited : (rows : List Row) (m : Mention) (n : Key) → m.target ≡ Some n
-    → visited_keys (rows ++ visited m ∷ []) ≡ visited_keys rows ++ n ∷ []
+    → visited_keys (rows ++ visited_row m ∷ []) ≡ visited_keys rows ++ n ∷ []
 keys_visited rows m n e =
-    keys_push rows (visited m) ∙ ap (λ (o : Option Key). visited_keys rows ++ cons_option o []) e
+    keys_push rows (visited_row m) ∙ ap (λ (o : Option Key). visited_keys rows ++ cons_option o []) e
 
 -- the keys that words, and so mentions, lead to have entries
 lead_found : TargetsLaw → (d : Contents) (words : List WordUse) (n : Key) → WordsLeadTo (table d) words n
@@ -81,26 +81,26 @@ module _ (d : Contents) (start : List Mention) (rows : List Row) (m : Mention) (
 
   -- the state after a row that visits nothing
   pub underway_skipped : is_skipped (visited_keys rows) m.target ≡ true
-      → IsUnderway d start (rows ++ skipped m ∷ []) left
+      → IsUnderway d start (rows ++ skipped_row m ∷ []) left
   underway_skipped p = record {
     all = λ rest q.
-        subst (AreRows (table d) [] start) (sym (append_assoc rows (skipped m ∷ []) rest))
-        (h.all (skipped m ∷ rest)
-        (subst (λ (ms : List Mention). AreRows (table d) (visited_keys rows) ms (skipped m ∷ rest))
+        subst (AreRows (table d) [] start) (sym (append_assoc rows (skipped_row m ∷ []) rest))
+        (h.all (skipped_row m ∷ rest)
+        (subst (λ (ms : List Mention). AreRows (table d) (visited_keys rows) ms (skipped_row m ∷ rest))
         (sym reversed) (Skipped p
         (subst (λ (ks : List Key). AreRows (table d) ks (reverse left) rest) (keys_skipped rows m) q))));
     found = left_found;
   }
 
   -- the state after a row that visits a key
-  pub underway_visited : TargetsLaw → (n : Key) → m.target ≡ Some n → is_among (visited_keys rows) n ≡ false
+  pub underway_visited : TargetsLaw → (n : Key) → m.target ≡ Some n → is_key_among (visited_keys rows) n ≡ false
       → (now : List Mention) → reverse now ≡ mentions (table d) (m.depth + 1) (key_uses (table d) n) ++ reverse left
-      → IsUnderway d start (rows ++ visited m ∷ []) now
+      → IsUnderway d start (rows ++ visited_row m ∷ []) now
   underway_visited law n e new now put = record {
     all = λ rest q.
-        subst (AreRows (table d) [] start) (sym (append_assoc rows (visited m ∷ []) rest))
-        (h.all (visited m ∷ rest)
-        (subst (λ (ms : List Mention). AreRows (table d) (visited_keys rows) ms (visited m ∷ rest))
+        subst (AreRows (table d) [] start) (sym (append_assoc rows (visited_row m ∷ []) rest))
+        (h.all (visited_row m ∷ rest)
+        (subst (λ (ms : List Mention). AreRows (table d) (visited_keys rows) ms (visited_row m ∷ rest))
         (sym reversed) (Visited e new
         (subst (λ (ms : List Mention). AreRows (table d) (visited_keys rows ++ n ∷ []) ms rest) put
         (subst (λ (ks : List Key). AreRows (table d) ks (reverse now) rest) (keys_visited rows m n e) q)))));
@@ -122,20 +122,20 @@ underway_end d start rows pending none h =
 
 -- the marks after a row that visits nothing
 pub marks_skipped : (d : Contents) (marks : List Bool) (rows : List Row) (m : Mention) → AreMarked d marks rows
-    → AreMarked d marks (rows ++ skipped m ∷ [])
+    → AreMarked d marks (rows ++ skipped_row m ∷ [])
 marks_skipped d marks rows m h = record {
   room = h.room;
-  marked = λ n. h.marked n ∙ ap (λ (ks : List Key). is_among ks n) (sym (keys_skipped rows m));
+  marked = λ n. h.marked n ∙ ap (λ (ks : List Key). is_key_among ks n) (sym (keys_skipped rows m));
 }
 
 -- the marks after a row that visits a key, whose line was marked
 pub marks_visited : (d : Contents) (marks : List Bool) (rows : List Row) (m : Mention) (n : Key) (place : ℕ)
     → AreMarked d marks rows → m.target ≡ Some n → last_place d.settings d.lines n ≡ Some place
-    → AreMarked d (set marks place true) (rows ++ visited m ∷ [])
+    → AreMarked d (set marks place true) (rows ++ visited_row m ∷ [])
 marks_visited d marks rows m n place h e p = record {
   room = length-set marks place true ∙ h.room;
   marked = λ k. marked_next d marks (visited_keys rows) n place h.room h.marked p k
-      ∙ ap (λ (ks : List Key). is_among ks k) (sym (keys_visited rows m n e));
+      ∙ ap (λ (ks : List Key). is_key_among ks k) (sym (keys_visited rows m n e));
 }
 
 -- ---- the results of calls

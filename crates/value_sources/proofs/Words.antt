@@ -10,16 +10,16 @@ use Rattle.tree_eval.specs.Entries.{function_words, words_if}
 use Rattle.table_names.specs.Words.{entry_words, what_words}
 use Rattle.value_sources.specs.declared.site.Site.{Site}
 use Rattle.value_sources.specs.declared.site.Site.TheVariants as site
-use Rattle.value_sources.specs.Uses.{Use, UsesLaw, entry_uses, function_uses, uses_at, what_uses, words_of}
+use Rattle.value_sources.specs.Uses.{Use, UsesLaw, entry_uses, function_uses, use_words, uses_at, what_uses}
 
-pub words_at : (s : Site) (words : List WordUse) → words_of (uses_at s words) ≡ words
+pub words_at : (s : Site) (words : List WordUse) → use_words (uses_at s words) ≡ words
 words_at s [] = refl
 words_at s (w ∷ words) = ap (λ (ws : List WordUse). w ∷ ws) (words_at s words)
 
-words_both : (a b : List Use) (x y : List WordUse) → words_of a ≡ x → words_of b ≡ y → words_of (a ++ b) ≡ x ++ y
+words_both : (a b : List Use) (x y : List WordUse) → use_words a ≡ x → use_words b ≡ y → use_words (a ++ b) ≡ x ++ y
 words_both a b x y p q = map-append (λ (u : Use). u.word) a b ∙ (λ i. p i ++ q i)
 
-function_words_are : (d : FunctionDef) → words_of (function_uses d) ≡ function_words d
+function_words_are : (d : FunctionDef) → use_words (function_uses d) ≡ function_words d
 function_words_are d =
     let a : List WordUse = words_if d.in_unit in
     let b : List WordUse = words_if d.out_unit in
@@ -31,7 +31,7 @@ function_words_are d =
     (words_both (uses_at site.InUnit a) (uses_at site.OutUnit b) a b (words_at site.InUnit a) (words_at site.OutUnit b))
     (words_at site.Forward c)) (words_at site.Inverse e)
 
-what_words_are : (w : What) → words_of (what_uses w) ≡ what_words w
+what_words_are : (w : What) → use_words (what_uses w) ≡ what_words w
 what_words_are what.Primitive = refl
 what_words_are what.Dimensionless = refl
 what_words_are (what.Body e) = words_at site.Body (words_in e)
@@ -40,7 +40,7 @@ what_words_are (what.Alias target) = refl
 what_words_are (what.Table d) = words_at site.TableUnit (words_in d.unit)
 what_words_are (what.ListOf parts) = refl
 
-entry_words_are : (e : Option Entry) → words_of (entry_uses e) ≡ entry_words e
+entry_words_are : (e : Option Entry) → use_words (entry_uses e) ≡ entry_words e
 entry_words_are None = refl
 entry_words_are (Some e) = what_words_are e.what
 

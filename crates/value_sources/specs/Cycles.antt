@@ -4,7 +4,7 @@ use Rattle.std.specs.Prelude.{get_or, Contains}
 use Rattle.std.specs.Prelude.{Option, Some, None, slice_get}
 use Rattle.std.specs.List.{cons_option}
 use Rattle.def_entry.specs.declared.key.Key.{Key}
-use Rattle.def_entry.specs.SameKeys.{is_among}
+use Rattle.def_entry.specs.SameKeys.{is_key_among}
 use Rattle.deck.specs.Decks.{Contents}
 use Rattle.deck.specs.Tables.{is_present, last_place, table}
 use Rattle.value_sources.specs.Rows.{Row, visited_key}
@@ -19,7 +19,7 @@ path_after path r = path_at path r ++ cons_option (visited_key r) []
 
 abbrev pub is_on : (path : List Key) → Option Key → Bool
 is_on path None = false
-is_on path (Some n) = is_among path n
+is_on path (Some n) = is_key_among path n
 
 -- a row closes a cycle if it visits nothing and its key is that of an entry that contains the row
 abbrev pub closes_cycle : (path : List Key) → Row → Bool
@@ -33,7 +33,7 @@ cycle_flags path (r ∷ rows) = closes_cycle path r ∷ cycle_flags (path_after 
 -- ---- the representation of a path in the code
 
 -- the places of the lines in force for the keys of a path, and for each of these lines the depth of its key
-pub record IsPath (d : Contents) (depths places : List ℕ) (path : List Key) : Type 0 where
+pub record IsPlacePath (d : Contents) (depths places : List ℕ) (path : List Key) : Type 0 where
   pub places_are : map (λ (place : ℕ). Some place) places ≡ map (last_place d.settings d.lines) path
   pub depths_are : (i place : ℕ) → slice_get places i ≡ Some place → get_or depths place 0 ≡ i
 

@@ -16,14 +16,14 @@ use Rattle.value_sources.specs.declared.site.Site.TheVariants.{AliasTarget, Expr
 use Rattle.value_sources.specs.declared.site.Site.TheVariants.{Body as InBody}
 use Rattle.value_sources.specs.Cycles.{cycle_flags}
 use Rattle.value_sources.specs.Mentions.{Mention}
-use Rattle.value_sources.specs.Rows.{AreRowsOf, Row, skipped, visited}
+use Rattle.value_sources.specs.Rows.{AreRowsOf, Row, skipped_row, visited_row}
 use Rattle.value_sources.specs.Values.{value_syntax}
 
-abbrev pub m : Key
-m = key kind.Unit (codes "m")
+abbrev pub metre_key : Key
+metre_key = key kind.Unit (codes "m")
 
-abbrev pub k : Key
-k = key kind.Prefix (codes "k")
+abbrev pub kilo_key : Key
+kilo_key = key kind.Prefix (codes "k")
 
 abbrev pub mile : Key
 mile = key kind.Unit (codes "mile")
@@ -32,45 +32,45 @@ abbrev pub loop : Key
 loop = key kind.Unit (codes "loop")
 
 -- the lines `m !`, `k- 1000`, `mile km` and `loop loop`
-abbrev pub small : Table
-small =
+abbrev pub source_table : Table
+source_table =
     (loop, record { text = codes "loop"; what = Body (Word (codes "loop")) })
     ∷ (mile, record { text = codes "km"; what = Body (Word (codes "km")) })
-    ∷ (k, record { text = codes "1000"; what = Body (Number (record { coefficient = 1; scale = pos 3 })) })
-    ∷ (m, record { text = codes "!"; what = Primitive })
+    ∷ (kilo_key, record { text = codes "1000"; what = Body (Number (record { coefficient = 1; scale = pos 3 })) })
+    ∷ (metre_key, record { text = codes "!"; what = Primitive })
     ∷ []
 
-abbrev pub alone : List ℕ → WordUse
-alone text = record { text = text; kind = word_kind.Plain }
+abbrev pub one_word_use : List ℕ → WordUse
+one_word_use text = record { text = text; kind = word_kind.Plain }
 
 -- a word of the expression, and a word of the entry of a key of the expression
-abbrev pub outer : List ℕ → Resolution → Key → Mention
-outer text resolution n =
-    record { depth = 0; site = Expression; word = alone text; resolution = resolution; target = Some n }
+abbrev pub outer_mention : List ℕ → Resolution → Key → Mention
+outer_mention text resolution n =
+    record { depth = 0; site = Expression; word = one_word_use text; resolution = resolution; target = Some n }
 
-abbrev pub inner : List ℕ → Resolution → Key → Mention
-inner text resolution n =
-    record { depth = 1; site = InBody; word = alone text; resolution = resolution; target = Some n }
+abbrev pub inner_mention : List ℕ → Resolution → Key → Mention
+inner_mention text resolution n =
+    record { depth = 1; site = InBody; word = one_word_use text; resolution = resolution; target = Some n }
 
 abbrev pub unknown : List ℕ → Mention
 unknown text =
-    record { depth = 0; site = Expression; word = alone text; resolution = Unknown; target = None }
+    record { depth = 0; site = Expression; word = one_word_use text; resolution = Unknown; target = None }
 
-abbrev pub s : Key
-s = key kind.Unit (codes "s")
+abbrev pub second_key : Key
+second_key = key kind.Unit (codes "s")
 
-abbrev pub f : Key
-f = key kind.Func (codes "f")
+abbrev pub f_key : Key
+f_key = key kind.Func (codes "f")
 
-abbrev pub g : Key
-g = key kind.Func (codes "g")
+abbrev pub g_key : Key
+g_key = key kind.Func (codes "g")
 
 -- the function f, whose result is m and whose inverse is s, and the alias `g() f`
-abbrev pub functions : Table
-functions =
-    (g, record { text = codes "() f"; what = Alias (codes "f") })
+abbrev pub function_table : Table
+function_table =
+    (g_key, record { text = codes "() f"; what = Alias (codes "f") })
     ∷ (
-      f,
+      f_key,
       record {
         text = codes "(x) m; s";
         what = Function (record {
@@ -83,13 +83,13 @@ functions =
         });
       },
     )
-    ∷ (s, record { text = codes "!"; what = Primitive })
-    ∷ (m, record { text = codes "!"; what = Primitive })
+    ∷ (second_key, record { text = codes "!"; what = Primitive })
+    ∷ (metre_key, record { text = codes "!"; what = Primitive })
     ∷ []
 
 -- a word that is the name of its key
-abbrev pub by_name : ℕ → Site → WordKind → Key → Mention
-by_name depth at word_kind n = record {
+abbrev pub mention_by_name : ℕ → Site → WordKind → Key → Mention
+mention_by_name depth at word_kind n = record {
   depth = depth;
   site = at;
   word = record { text = n.name; kind = word_kind };
@@ -99,27 +99,32 @@ by_name depth at word_kind n = record {
 
 -- the rows of `m m` and of `loop`
 abbrev pub repeated_rows : List Row
-repeated_rows = visited (outer (codes "m") Name m) ∷ skipped (outer (codes "m") Name m) ∷ []
+repeated_rows = visited_row (outer_mention (codes "m") Name metre_key) ∷ skipped_row
+    (outer_mention (codes "m") Name metre_key) ∷ []
 
 abbrev pub loop_rows : List Row
-loop_rows = visited (outer (codes "loop") Name loop) ∷ skipped (inner (codes "loop") Name loop) ∷ []
+loop_rows = visited_row (outer_mention (codes "loop") Name loop) ∷ skipped_row (inner_mention (codes "loop") Name loop)
+    ∷ []
 
 -- law: the rows of `miles`, a plural, with the prefix and the unit of its entry below; of `m m`, whose second row
 -- visits nothing; of `x`, which is unknown; of `loop`, which is on a cycle; and of `~g(..)`, an alias of a function
 -- with an inverse. The expression whose value is that of a prefix is its definition, that of a primitive unit is its
 -- name, and a function has none. The second row of `loop` closes a cycle, and the second row of `m m` does not.
-pub record ExamplesLaw : Type 0 where
-  pub plural : AreRowsOf small (alone (codes "miles") ∷ [])
-      (visited (outer (codes "miles") Plural mile) ∷ visited (inner (codes "km") Prefix k)
-      ∷ visited (inner (codes "km") PrefixedUnit m) ∷ [])
-  pub repeated : AreRowsOf small (alone (codes "m") ∷ alone (codes "m") ∷ []) repeated_rows
-  pub unknown_word : AreRowsOf small (alone (codes "x") ∷ []) (skipped (unknown (codes "x")) ∷ [])
-  pub cycle : AreRowsOf small (alone (codes "loop") ∷ []) loop_rows
-  pub function : AreRowsOf functions (record { text = codes "g"; kind = word_kind.Inverse } ∷ [])
-      (visited (by_name 0 Expression word_kind.Inverse g) ∷ visited (by_name 1 AliasTarget word_kind.Inverse f)
-      ∷ visited (by_name 2 Forward word_kind.Plain m) ∷ visited (by_name 2 Inverse word_kind.Plain s) ∷ [])
-  pub prefix_value : value_syntax small k ≡ Some (Number (record { coefficient = 1; scale = pos 3 }))
-  pub unit_value : value_syntax small m ≡ Some (Word (codes "m"))
-  pub function_value : value_syntax functions f ≡ None
+pub record SourceExamplesLaw : Type 0 where
+  pub plural : AreRowsOf source_table (one_word_use (codes "miles") ∷ [])
+      (visited_row (outer_mention (codes "miles") Plural mile) ∷ visited_row
+      (inner_mention (codes "km") Prefix kilo_key)
+      ∷ visited_row (inner_mention (codes "km") PrefixedUnit metre_key) ∷ [])
+  pub word_twice : AreRowsOf source_table (one_word_use (codes "m") ∷ one_word_use (codes "m") ∷ []) repeated_rows
+  pub unknown_word : AreRowsOf source_table (one_word_use (codes "x") ∷ []) (skipped_row (unknown (codes "x")) ∷ [])
+  pub cycle : AreRowsOf source_table (one_word_use (codes "loop") ∷ []) loop_rows
+  pub function : AreRowsOf function_table (record { text = codes "g"; kind = word_kind.Inverse } ∷ [])
+      (visited_row (mention_by_name 0 Expression word_kind.Inverse g_key) ∷ visited_row
+      (mention_by_name 1 AliasTarget word_kind.Inverse f_key)
+      ∷ visited_row (mention_by_name 2 Forward word_kind.Plain metre_key) ∷ visited_row
+      (mention_by_name 2 Inverse word_kind.Plain second_key) ∷ [])
+  pub prefix_value : value_syntax source_table kilo_key ≡ Some (Number (record { coefficient = 1; scale = pos 3 }))
+  pub unit_value : value_syntax source_table metre_key ≡ Some (Word (codes "m"))
+  pub function_value : value_syntax function_table f_key ≡ None
   pub repeated_flags : cycle_flags [] repeated_rows ≡ false ∷ false ∷ []
   pub cycle_flags_of_loop : cycle_flags [] loop_rows ≡ false ∷ true ∷ []

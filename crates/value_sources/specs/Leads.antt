@@ -3,8 +3,8 @@ use Rattle.std.specs.Prelude.{ℕ, List, [], ◌∷◌, slice_index_or}
 use Rattle.def_entry.specs.declared.key.Key.{Key}
 use Rattle.def_entry.specs.declared.key.Kind.TheVariants as kind
 use Rattle.def_entry.specs.Keys.{key}
-use Rattle.value_sources.specs.declared.lead.Lead.{Lead}
-use Rattle.value_sources.specs.declared.lead.Lead.TheVariants.{Nowhere, One, Two}
+use Rattle.value_sources.specs.declared.word_keys.Lead.{Lead}
+use Rattle.value_sources.specs.declared.word_keys.Lead.TheVariants.{Nowhere, One, Two}
 
 abbrev pub lead_keys : Lead → List Key
 lead_keys Nowhere = []
@@ -12,5 +12,5 @@ lead_keys (One n) = n ∷ []
 lead_keys (Two n m) = n ∷ m ∷ []
 
 -- the key at a place; its name is empty beyond the last
-abbrev pub key_at : List Key → ℕ → Key
-key_at keys n = slice_index_or keys n (key kind.Unit [])
+abbrev pub key_at_place : List Key → ℕ → Key
+key_at_place keys n = slice_index_or keys n (key kind.Unit [])

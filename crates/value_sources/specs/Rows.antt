@@ -3,7 +3,7 @@ use Rattle.std.specs.Prelude.{◌≡◌, ◌+◌, ◌++◌, Bool, true, false, L
 use Rattle.std.specs.Prelude.{if◌then◌else◌}
 use Rattle.expr_tree.specs.declared.word_list.WordUse.{WordUse}
 use Rattle.def_entry.specs.declared.key.Key.{Key}
-use Rattle.def_entry.specs.SameKeys.{is_among}
+use Rattle.def_entry.specs.SameKeys.{is_key_among}
 use Rattle.def_entry.specs.Tables.{Table}
 use Rattle.value_sources.specs.declared.site.Site.TheVariants.{Expression}
 use Rattle.value_sources.specs.Mentions.{Mention, mentions}
@@ -14,16 +14,16 @@ pub record Row : Type 0 where
   pub mention : Mention
   pub is_visit : Bool
 
-abbrev pub skipped : Mention → Row
-skipped m = record { mention = m; is_visit = false }
+abbrev pub skipped_row : Mention → Row
+skipped_row m = record { mention = m; is_visit = false }
 
-abbrev pub visited : Mention → Row
-visited m = record { mention = m; is_visit = true }
+abbrev pub visited_row : Mention → Row
+visited_row m = record { mention = m; is_visit = true }
 
 -- no key is visited: there is none, or it was visited before
 abbrev pub is_skipped : (before : List Key) → Option Key → Bool
 is_skipped before None = true
-is_skipped before (Some n) = is_among before n
+is_skipped before (Some n) = is_key_among before n
 
 -- the rows of pending mentions, in order, if the keys `before` were visited already. A key that was not visited is
 -- visited at once: the mentions of its entry come before the pending ones
@@ -31,11 +31,11 @@ pub data AreRows (table : Table) : (before : List Key) → (pending : List Menti
   Finished : {before : List Key} → AreRows table before [] []
   Skipped : {before : List Key} {m : Mention} {pending : List Mention} {rows : List Row}
       → is_skipped before m.target ≡ true
-      → AreRows table before pending rows → AreRows table before (m ∷ pending) (skipped m ∷ rows)
+      → AreRows table before pending rows → AreRows table before (m ∷ pending) (skipped_row m ∷ rows)
   Visited : {before : List Key} {m : Mention} {n : Key} {pending : List Mention} {rows : List Row}
-      → m.target ≡ Some n → is_among before n ≡ false
+      → m.target ≡ Some n → is_key_among before n ≡ false
       → AreRows table (before ++ n ∷ []) (mentions table (m.depth + 1) (key_uses table n) ++ pending) rows
-      → AreRows table before (m ∷ pending) (visited m ∷ rows)
+      → AreRows table before (m ∷ pending) (visited_row m ∷ rows)
 
 -- the mentions of the words of an expression
 abbrev pub first_mentions : Table → List WordUse → List Mention

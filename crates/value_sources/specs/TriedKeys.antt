@@ -12,6 +12,6 @@ abbrev pub keys_in : (names : List ℕ) → List TriedKey → List Key
 keys_in names tried = map (key_in names) tried
 
 -- each range is within the names
-pub record AreWithin (names : List ℕ) (tried : List TriedKey) : Type 0 where
+pub record AreRangesWithin (names : List ℕ) (tried : List TriedKey) : Type 0 where
   pub starts : (i : ℕ) (k : TriedKey) → slice_get tried i ≡ Some k → k.start ≤ k.end
   pub ends : (i : ℕ) (k : TriedKey) → slice_get tried i ≡ Some k → k.end ≤ length names

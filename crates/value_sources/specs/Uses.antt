@@ -52,9 +52,9 @@ abbrev pub key_uses : Table → Key → List Use
 key_uses table n = entry_uses (entry_at table n)
 
 -- the words without their trees
-abbrev pub words_of : List Use → List WordUse
-words_of uses = map (λ u. u.word) uses
+abbrev pub use_words : List Use → List WordUse
+use_words uses = map (λ u. u.word) uses
 
 -- law: without their trees the uses of a key are its words
 abbrev pub UsesLaw : Type 0
-UsesLaw = (table : Table) (n : Key) → words_of (key_uses table n) ≡ key_words table n
+UsesLaw = (table : Table) (n : Key) → use_words (key_uses table n) ≡ key_words table n

@@ -9,7 +9,7 @@ use Rattle.def_entry.specs.Entries as what
 use Rattle.def_entry.specs.Entries.{Entry, What}
 use Rattle.def_entry.specs.Tables.{Table, entry_at}
 use Rattle.tree_eval.specs.Outcomes.{worth_in}
-use Rattle.table_names.specs.Closed.{AreClosed}
+use Rattle.table_names.specs.ClosedKeys.{AreClosed}
 use Rattle.table_names.specs.Meanings.{outcome}
 use Rattle.live_table.specs.Answers.{answer, by_names}
 

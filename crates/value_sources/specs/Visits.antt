@@ -1,7 +1,7 @@
 -- Marks of the lines of a deck: whether the key for which a line is in force was visited.
 use Rattle.std.specs.Prelude.{◌≡◌, ℕ, Bool, true, false, List, Option, Some, None, get_or}
 use Rattle.def_entry.specs.declared.key.Key.{Key}
-use Rattle.def_entry.specs.SameKeys.{is_among}
+use Rattle.def_entry.specs.SameKeys.{is_key_among}
 use Rattle.deck.specs.Decks.{Contents}
 use Rattle.deck.specs.Tables.{last_place}
 use Rattle.value_sources.specs.Rows.{is_skipped}
@@ -13,11 +13,11 @@ is_marked marks (Some place) = get_or marks place false
 
 -- the line in force for a key is marked exactly if the key was visited
 abbrev pub MarksVisits : Contents → (marks : List Bool) → (visited : List Key) → Type 0
-MarksVisits d marks visited = (n : Key) → is_marked marks (last_place d.settings d.lines n) ≡ is_among visited n
+MarksVisits d marks visited = (n : Key) → is_marked marks (last_place d.settings d.lines n) ≡ is_key_among visited n
 
 -- no place, because the key of a mention needs no visit; or the place of the line in force for a key that was not
 -- visited
 abbrev pub IsUnvisitedPlace : Contents → (visited : List Key) → (key : Option Key) → Option ℕ → Type 0
 IsUnvisitedPlace d visited key None = is_skipped visited key ≡ true
 IsUnvisitedPlace d visited key (Some place) =
-    (n : Key) × (key ≡ Some n) × (is_among visited n ≡ false) × (last_place d.settings d.lines n ≡ Some place)
+    (n : Key) × (key ≡ Some n) × (is_key_among visited n ≡ false) × (last_place d.settings d.lines n ≡ Some place)

@@ -57,10 +57,10 @@ impl KeyPath {
         requires { length self.old.depths.items ≡ length deck.now.lines }
         ensures room { length self.new.depths.items ≡ length deck.now.lines }
         ensures path { IfOk result (λ flag. (path : List AnyKey)
-            → spec.IsPath deck.now self.old.depths.items self.old.places.items path
+            → spec.IsPlacePath deck.now self.old.depths.items self.old.places.items path
             → spec.CanFollow deck.now path row.now
             → (flag ≡ spec.closes_cycle path row.now)
-            × spec.IsPath deck.now self.new.depths.items self.new.places.items (spec.path_after path row.now)) }
+            × spec.IsPlacePath deck.now self.new.depths.items self.new.places.items (spec.path_after path row.now)) }
     {
         self.places.truncate(row.depth());
         let Some(place) = line_of(deck, row.key()) else {

@@ -1,7 +1,7 @@
 //! Laws of rows.
 
-ghost use Rattle.value_sources.specs.Examples.{ExamplesLaw};
-ghost use Rattle.value_sources.specs.Laws.{RowsLaw};
+ghost use Rattle.value_sources.specs.Examples.{SourceExamplesLaw};
+ghost use Rattle.value_sources.specs.Laws.{SourceRowsLaw};
 ghost use Rattle.value_sources.specs.Uses.{UsesLaw};
 ghost use Rattle.value_sources.specs.Values.{ValueLaw};
 
@@ -10,7 +10,7 @@ use table_names::{closed_law, closed_meaning_law};
 /// An expression has exactly one list of rows, and the keys that they visit are exactly those that it reaches, each
 /// once.
 pub fn rows_law()
-    ensures { RowsLaw }
+    ensures { SourceRowsLaw }
 {}
 
 /// The words of an entry are those of its trees, tree after tree.
@@ -20,7 +20,7 @@ pub fn uses_law()
 
 /// A small table has the rows that were found by hand.
 pub fn examples_law()
-    ensures { ExamplesLaw }
+    ensures { SourceExamplesLaw }
 {}
 
 /// The value of the expression that `value_tree` returns is the outcome of the key.

@@ -6,7 +6,6 @@ mod deck_table;
 mod entry_mentions;
 mod key_tree;
 mod laws;
-mod lead;
 mod lookup;
 mod mention;
 mod mentions;
@@ -15,6 +14,7 @@ mod row;
 mod site;
 mod tried_keys;
 mod walk;
+mod word_keys;
 
 pub use cycles::cycle_flags;
 pub use key_tree::value_tree;

@@ -3,11 +3,11 @@
 ghost use Rattle.std.specs.Prelude.{◌≡◌, ◌-◌, ◌≤◌, IfOk, length};
 ghost use Rattle.deck.specs.Tables.{table};
 ghost use Rattle.table_names.specs.Leads.{targets};
-ghost use Rattle.value_sources.specs.Leads.{key_at, lead_keys};
+ghost use Rattle.value_sources.specs.Leads.{key_at_place, lead_keys};
 
 use crate::deck_table::DeckTable;
-use crate::lead::Lead;
 use crate::tried_keys::TriedKeys;
+use crate::word_keys::Lead;
 use deck::Deck;
 use def_entry::Key;
 use expr_tree::WordUse;
@@ -25,7 +25,11 @@ pub(crate) struct Lookup<'a> {
 
 impl<'a> Lookup<'a> {
     /// Returns the keys that a word leads to. The only error is lack of memory.
-    pub(crate) fn lead(&self, tried: &mut TriedKeys, word: &WordUse) -> Result<Lead, AllocError>
+    pub(crate) fn keys_of_word(
+        &self,
+        tried: &mut TriedKeys,
+        word: &WordUse,
+    ) -> Result<Lead, AllocError>
         ensures { IfOk result (λ lead. targets (table self.now.deck.now) word.now ≡ lead_keys lead) }
     {
         lookup_law();
@@ -46,7 +50,7 @@ impl<'a> Lookup<'a> {
     fn last_key(&self, tried: &TriedKeys, back: usize) -> Result<Key, AllocError>
         requires some { 1 ≤ back }
         requires many { back ≤ length tried.now }
-        ensures { IfOk result (λ key. key ≡ key_at tried.now (length tried.now - back)) }
+        ensures { IfOk result (λ key. key ≡ key_at_place tried.now (length tried.now - back)) }
     {
         let place = tried.len() - back;
         let kind = tried.kind(place);

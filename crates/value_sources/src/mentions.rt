@@ -6,11 +6,11 @@ ghost use Rattle.value_sources.specs.Leads.{lead_keys};
 ghost use Rattle.value_sources.specs.Mentions as spec;
 ghost use Rattle.value_sources.specs.Uses.{use_at, uses_at};
 
-use crate::lead::Lead;
 use crate::lookup::Lookup;
 use crate::mention::{Location, Mention};
 use crate::resolution::Resolution;
 use crate::tried_keys::TriedKeys;
+use crate::word_keys::Lead;
 use def_entry::Key;
 use expr_tree::{WordUse, Words};
 use std::alloc::{AllocError, Global};
@@ -29,7 +29,7 @@ impl<'a> Lookup<'a> {
             ++ spec.mentions (table self.now.deck.now) location.depth (uses_at location.site words.now)) }
     {
         for word in words.as_slice() {
-            let lead = self.lead(tried, word)?;
+            let lead = self.keys_of_word(tried, word)?;
             put_lead(self.alloc, mentions, location, word, lead)?;
         }
         Ok(())
@@ -63,18 +63,18 @@ fn put_lead(
     match lead {
         Lead::Nowhere => {
             let mention = mention(alloc, location, word, Resolution::Unknown, None)?;
-            put(mentions, mention)
+            push_mention(mentions, mention)
         }
         Lead::One(key) => {
             let resolution = sole_resolution(word, &key);
             let mention = mention(alloc, location, word, resolution, Some(key))?;
-            put(mentions, mention)
+            push_mention(mentions, mention)
         }
         Lead::Two(prefix, unit) => {
             let first = mention(alloc, location, word, Resolution::Prefix, Some(prefix))?;
-            put(mentions, first)?;
+            push_mention(mentions, first)?;
             let second = mention(alloc, location, word, Resolution::PrefixedUnit, Some(unit))?;
-            put(mentions, second)
+            push_mention(mentions, second)
         }
     }
 }
@@ -111,7 +111,7 @@ fn mention(
 }
 
 // Appends a mention.
-fn put(mentions: &mut Vec<Mention>, mention: Mention) -> Result<(), AllocError>
+fn push_mention(mentions: &mut Vec<Mention>, mention: Mention) -> Result<(), AllocError>
     ensures { OnOk result (mentions.new.items ≡ mentions.old.items ++ mention ∷ []) }
 {
     mentions.push(mention)?;

@@ -164,7 +164,10 @@ fn entry_mentions(
     let Some(key) = mention.key() else {
         return Ok(mentions);
     };
-    let Some(entry) = lookup.deck.entry_near(place, key.kind, key.name.as_bytes()) else {
+    let Some(entry) = lookup
+        .deck
+        .entry_with_hint(place, key.kind, key.name.as_bytes())
+    else {
         return Ok(mentions);
     };
     lookup.put_entry_mentions(tried, &mut mentions, depth, entry.what)?;

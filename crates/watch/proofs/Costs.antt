@@ -8,30 +8,31 @@ use Rattle.def_entry.specs.Tables.{Table}
 use Rattle.table_names.specs.Faults.{key_fault, name_fault}
 use Rattle.table_names.specs.Reach.{key_reach, reach}
 use Rattle.live_table.specs.New.{AreNew}
-use Rattle.live_table.specs.Right.{IsRight, IsSettled}
-use Rattle.live_table.specs.States.{AsksKey, AsksWords, Becomes, Event, Kept, State, after, after_query, with_settled}
+use Rattle.live_table.specs.Right.{IsKeySettled, IsRight}
+use Rattle.live_table.specs.States.{AsksKey, AsksWords, Becomes, Event, Kept, TableState, after, after_query}
+use Rattle.live_table.specs.States.{with_settled}
 use Rattle.live_table.proofs.New.{new_law}
 use Rattle.watch.specs.Costs.{AsksSettled, CostLaw, Stays}
 
-module _ (s : State) (right : IsRight s) where
-  none_new : (keys : List Key) → ((n : Key) → Contains keys n → IsSettled s n) → AreNew s keys []
+module _ (s : TableState) (right : IsRight s) where
+  none_new : (keys : List Key) → ((n : Key) → Contains keys n → IsKeySettled s n) → AreNew s keys []
   unfolding IsDistinct
   none_new keys h = record {
     exactly = λ n. ((λ i. let no : ⊥ = omega (arith, i.1) in absurd no), λ p. absurd (p.1 (h n p.0)));
     once = tt;
   }
 
-  settled : (keys : List Key) → ((n : Key) → Contains keys n → IsSettled s n) → Stays s (with_settled keys s)
+  settled : (keys : List Key) → ((n : Key) → Contains keys n → IsKeySettled s n) → Stays s (with_settled keys s)
   settled keys h =
       let e = new_law s keys [] right (none_new keys h) in
       let z : s.steps + 0 ≡ s.steps = omega arith in
       record {
         table = refl;
-        kept = ap (λ (t : State). t.kept) e;
-        steps = ap (λ (t : State). t.steps) e ∙ z;
+        kept = ap (λ (t : TableState). t.kept) e;
+        steps = ap (λ (t : TableState). t.steps) e ∙ z;
       }
 
-  asked : (closed : Bool) (keys : List Key) → ((n : Key) → Contains keys n → IsSettled s n)
+  asked : (closed : Bool) (keys : List Key) → ((n : Key) → Contains keys n → IsKeySettled s n)
       → Stays s (after_query closed keys s)
   asked true keys h = settled keys h
   asked false keys h = record { table = refl; kept = refl; steps = refl }
@@ -42,7 +43,7 @@ module _ (s : State) (right : IsRight s) where
   stays_once (Becomes later) h = absurd h
 
 -- a state with these parts
-abbrev state_of : Table → Kept → (reductions steps : ℕ) → State
+abbrev state_of : Table → Kept → (reductions steps : ℕ) → TableState
 state_of table kept reductions steps =
     record { table = table; kept = kept; reductions = reductions; steps = steps }
 
@@ -58,7 +59,7 @@ asks_counted table kept r n q m (AsksWords words) h = h
 asks_counted table kept r n q m (AsksKey k) h = h
 asks_counted table kept r n q m (Becomes later) h = h
 
-module _ (s t : State) (stays : Stays s t) where
+module _ (s t : TableState) (stays : Stays s t) where
   right_stays : IsRight s → IsRight t
   right_stays h =
       subst (λ (x : Table). IsRight (state_of x t.kept t.reductions t.steps)) (sym stays.table)

@@ -1,7 +1,7 @@
-pub mod Asking
+pub mod QuerySequences
 pub mod Costs
-pub mod Cutting
-pub mod Edited
-pub mod Renewed
-pub mod Telling
+pub mod CutQueries
+pub mod EditReports
+pub mod RenewedFirst
+pub mod ReportSteps
 pub mod Underway

@@ -4,23 +4,23 @@ use Rattle.std.proofs.Common.{sym, ap, append_assoc, arith}
 use Rattle.std.proofs.Math.Seq.{drop-cons}
 use Rattle.def_entry.specs.Tables.{Table}
 use Rattle.reply.specs.declared.options.Options.{Options}
-use Rattle.watch.specs.Changes.{Change, told_from, told_of}
-use Rattle.watch.specs.Watched.{change_of, renewed}
+use Rattle.watch.specs.Changes.{Change, report_from, report_of}
+use Rattle.watch.specs.WatchViews.{change_of, with_current_reply}
 use Rattle.watch.specs.declared.watch.Watch.{Watch}
-use Rattle.watch.proofs.Renewed.{renewed_at, renewed_first, renewed_next, renewed_same}
-use Rattle.watch.proofs.Telling.{told_next}
+use Rattle.watch.proofs.RenewedFirst.{renewed_at, renewed_first, renewed_next, renewed_same}
+use Rattle.watch.proofs.ReportSteps.{told_next}
 
 -- the first watches are renewed, and the report on them was appended to some bytes
 pub record IsUnderway (table : Table) (options : Options) (watches now : List Watch) (i : ℕ) (start bytes : List ℕ)
     : Type 0 where
-  pub renewed : now ≡ renewed_first (renewed table options) i watches
-  pub told : start ++ told_from 1 (map (change_of table options) watches)
-      ≡ bytes ++ told_from (i + 1) (map (change_of table options) (drop i watches))
+  pub renewed : now ≡ renewed_first (with_current_reply table options) i watches
+  pub told : start ++ report_from 1 (map (change_of table options) watches)
+      ≡ bytes ++ report_from (i + 1) (map (change_of table options) (drop i watches))
 
 module _ (table : Table) (options : Options) (watches : List Watch) where
   -- a watch with its reply in this table, and the change of its reply
   abbrev anew : Watch → Watch
-  anew w = renewed table options w
+  anew w = with_current_reply table options w
 
   abbrev change : Watch → Change
   change w = change_of table options w
@@ -43,17 +43,17 @@ module _ (table : Table) (options : Options) (watches : List Watch) where
 
     -- the next watch is renewed, and the report on it is appended
     pub underway-next : (later : Watch) (further : List ℕ) → later ≡ anew w
-        → further ≡ bytes ++ told_of (i + 1) (change w)
+        → further ≡ bytes ++ report_of (i + 1) (change w)
         → IsUnderway table options watches (set now i later) (i + 1) start further
     underway-next later further e put = record {
       renewed =
           (λ j. set (u.renewed j) i ((e ∙ ap anew underway-was) j)) ∙ renewed_next anew i watches d within;
       told =
           u.told
-          ∙ (ap (λ ws. bytes ++ told_from (i + 1) (map change ws)) next
+          ∙ (ap (λ ws. bytes ++ report_from (i + 1) (map change ws)) next
           ∙ (ap (λ bs. bytes ++ bs) (told_next (i + 1) (change w) rest)
-          ∙ (sym (append_assoc bytes (told_of (i + 1) (change w)) (told_from ((i + 1) + 1) rest))
-          ∙ ap (λ bs. bs ++ told_from ((i + 1) + 1) rest) (sym put))));
+          ∙ (sym (append_assoc bytes (report_of (i + 1) (change w)) (report_from ((i + 1) + 1) rest))
+          ∙ ap (λ bs. bs ++ report_from ((i + 1) + 1) rest) (sym put))));
     }
       where
         rest : List Change

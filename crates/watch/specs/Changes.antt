@@ -14,8 +14,8 @@ abbrev pub is_news : Change → Bool
 is_news c = not (bytes_eq c.before c.behind)
 
 -- the line of the watch with a number, counted from 1, and its reply
-abbrev pub notice : (place : ℕ) → (reply : List ℕ) → List ℕ
-notice place reply = ((codes "watch " ++ decimal place) ++ codes "\n") ++ reply
+abbrev pub watch_notice : (place : ℕ) → (reply : List ℕ) → List ℕ
+watch_notice place reply = ((codes "watch " ++ decimal place) ++ codes "\n") ++ reply
 
 -- changes numbered from `place` on
 abbrev pub placed_from : (place : ℕ) → List Change → List (ℕ × Change)
@@ -24,22 +24,23 @@ placed_from place (c ∷ changes) = (place, c) ∷ placed_from (place + 1) chang
 
 -- the report on changes numbered from `place` on: for those that are news, in order, the line of the watch and the
 -- reply after the edit
-abbrev pub told_from : (place : ℕ) → List Change → List ℕ
-told_from place changes = flat_map (λ p. notice p.0 p.1.behind) (filter (λ p. is_news p.1) (placed_from place changes))
+abbrev pub report_from : (place : ℕ) → List Change → List ℕ
+report_from place changes = flat_map (λ p. watch_notice p.0 p.1.behind)
+    (filter (λ p. is_news p.1) (placed_from place changes))
 
 -- the report on all watches
-abbrev pub told : List Change → List ℕ
-told changes = told_from 1 changes
+abbrev pub watch_report : List Change → List ℕ
+watch_report changes = report_from 1 changes
 
 -- the report on a single change
-abbrev pub told_of : (place : ℕ) → Change → List ℕ
-told_of place c = if is_news c then notice place c.behind else []
+abbrev pub report_of : (place : ℕ) → Change → List ℕ
+report_of place c = if is_news c then watch_notice place c.behind else []
 
 -- law: a reply is news exactly if its bytes differ; each is reported under its own number, between the reports on those
 -- before it and those after it; the report is empty exactly if no reply is news
-pub record ToldLaw : Type 0 where
+pub record ReportLaw : Type 0 where
   pub news : (c : Change) → is_news c ≡ true ↔ (c.before ≢ c.behind)
   pub each : (front : List Change) (c : Change) (back : List Change)
-      → told (front ++ c ∷ back)
-      ≡ (told front ++ told_of (length front + 1) c) ++ told_from (length front + 2) back
-  pub none : (changes : List Change) → (told changes ≡ []) ↔ All (λ c. c.before ≡ c.behind) changes
+      → watch_report (front ++ c ∷ back)
+      ≡ (watch_report front ++ report_of (length front + 1) c) ++ report_from (length front + 2) back
+  pub none : (changes : List Change) → (watch_report changes ≡ []) ↔ All (λ c. c.before ≡ c.behind) changes

@@ -1,22 +1,22 @@
 -- The cost of queries of settled names.
 use Rattle.std.specs.Prelude.{◌≡◌, List, ◌∷◌, All, Contains}
 use Rattle.def_entry.specs.declared.key.Key.{Key}
-use Rattle.live_table.specs.Right.{IsRight, IsSettled}
-use Rattle.live_table.specs.States.{AsksKey, AsksWords, Becomes, Event, State, after_all}
+use Rattle.live_table.specs.Right.{IsKeySettled, IsRight}
+use Rattle.live_table.specs.States.{AsksKey, AsksWords, Becomes, Event, TableState, after_all}
 use Rattle.table_names.specs.Reach.{key_reach, reach}
 
 -- a query for which everything that it reaches is settled
-abbrev pub AsksSettled : State → Event → Type 0
-AsksSettled s (AsksWords words) = (n : Key) → Contains (reach s.table words) n → IsSettled s n
-AsksSettled s (AsksKey k) = (n : Key) → Contains (k ∷ key_reach s.table k) n → IsSettled s n
+abbrev pub AsksSettled : TableState → Event → Type 0
+AsksSettled s (AsksWords words) = (n : Key) → Contains (reach s.table words) n → IsKeySettled s n
+AsksSettled s (AsksKey k) = (n : Key) → Contains (k ∷ key_reach s.table k) n → IsKeySettled s n
 AsksSettled s (Becomes later) = ⊥
 
 -- the table, the cached outcomes and the count of steps are as before
-pub record Stays (before now : State) : Type 0 where
+pub record Stays (before now : TableState) : Type 0 where
   pub table : now.table ≡ before.table
   pub kept : now.kept ≡ before.kept
   pub steps : now.steps ≡ before.steps
 
 -- law: queries of settled names settle nothing and take no step
 abbrev pub CostLaw : Type 0
-CostLaw = (events : List Event) (s : State) → IsRight s → All (AsksSettled s) events → Stays s (after_all events s)
+CostLaw = (events : List Event) (s : TableState) → IsRight s → All (AsksSettled s) events → Stays s (after_all events s)

@@ -2,8 +2,8 @@
 use Rattle.std.specs.Prelude.{◌≡◌, ℕ, List, flat_map, map}
 use Rattle.def_entry.specs.Tables.{Table}
 use Rattle.reply.specs.declared.options.Options.{Options}
-use Rattle.watch.specs.Changes.{Change, told}
-use Rattle.watch.specs.Watched.{AreCurrent, Subject, all_queries, change_of, queries_of, reply_to, subject_of}
+use Rattle.watch.specs.Changes.{Change, watch_report}
+use Rattle.watch.specs.WatchViews.{AreCurrent, Subject, all_queries, change_of, queries_of, reply_to, subject_of}
 use Rattle.watch.specs.declared.watch.Watch.{Watch}
 
 module _ (before behind : Table) (options : Options) where
@@ -12,13 +12,13 @@ module _ (before behind : Table) (options : Options) where
   change_by_edit s = record { before = reply_to before options s; behind = reply_to behind options s }
 
   -- the report on the watches whose replies in the two tables differ in bytes, each after its line
-  abbrev pub told_by_edit : List Subject → List ℕ
-  told_by_edit subjects = told (map change_by_edit subjects)
+  abbrev pub report_by_edit : List Subject → List ℕ
+  report_by_edit subjects = watch_report (map change_by_edit subjects)
 
 -- law: if each stored reply is that of the table before the edit, the stored replies give the same report; the queries
 -- for watches are the queries for their conversions, in order
 pub record EditLaw : Type 0 where
-  pub told : (before behind : Table) (options : Options) (watches : List Watch) → AreCurrent before options watches
-      → told (map (change_of behind options) watches) ≡ told_by_edit before behind options (map subject_of watches)
+  pub report : (before behind : Table) (options : Options) (watches : List Watch) → AreCurrent before options watches
+      → watch_report (map (change_of behind options) watches) ≡ report_by_edit before behind options (map subject_of watches)
   pub queries : (table : Table) (options : Options) (watches : List Watch)
       → all_queries table options watches ≡ flat_map (queries_of table options) (map subject_of watches)

@@ -3,4 +3,4 @@ pub mod Changes
 pub mod Costs
 pub mod Edits
 pub mod Examples
-pub mod Watched
+pub mod WatchViews

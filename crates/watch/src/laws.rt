@@ -1,14 +1,14 @@
 //! Laws of watches. The functions do nothing: the contract of each is the law.
 
-ghost use Rattle.watch.specs.Changes.{ToldLaw};
+ghost use Rattle.watch.specs.Changes.{ReportLaw};
 ghost use Rattle.watch.specs.Costs.{CostLaw};
 ghost use Rattle.watch.specs.Edits.{EditLaw};
-ghost use Rattle.watch.specs.Examples.{ExamplesLaw};
+ghost use Rattle.watch.specs.Examples.{WatchExamplesLaw};
 
 /// A watch is reported exactly if the bytes of its reply differ, under its own number and in the order of the watches.
 /// Nothing is reported if no bytes differ.
-pub fn told_law()
-    ensures { ToldLaw }
+pub fn report_law()
+    ensures { ReportLaw }
 {}
 
 /// If each stored reply is that of the table before an edit, the report made from the stored replies is the report made
@@ -25,5 +25,5 @@ pub fn cost_law()
 
 /// The reports of a few changes.
 pub fn examples_law()
-    ensures { ExamplesLaw }
+    ensures { WatchExamplesLaw }
 {}

@@ -4,10 +4,10 @@
 mod fault;
 mod laws;
 mod notices;
-mod renewing;
+mod reply_renewal;
 mod watch;
 mod watches;
 
 pub use fault::WatchFault;
-pub use laws::{cost_law, edit_law, examples_law, told_law};
+pub use laws::{cost_law, edit_law, examples_law, report_law};
 pub use watches::{MOST_WATCHES, Watches};

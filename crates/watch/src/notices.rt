@@ -12,7 +12,7 @@ pub(crate) fn put_notice(
     number: usize,
     reply: &[u8],
 ) -> Result<(), AllocError>
-    ensures { OnOk result (told.new.items ≡ told.old.items ++ spec.notice number reply.now) }
+    ensures { OnOk result (told.new.items ≡ told.old.items ++ spec.watch_notice number reply.now) }
 {
     told.extend_from_slice(b"watch ".as_slice())?;
     told.extend_from_slice(number.to_string(alloc)?.as_bytes())?;

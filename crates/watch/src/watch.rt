@@ -4,7 +4,7 @@ ghost use Rattle.std.specs.Prelude.{◌≡◌, IfOk};
 ghost use Rattle.deck.specs.Tables as tables;
 ghost use Rattle.live_table.specs.Calls.{AreQueries};
 ghost use Rattle.reply.specs.Options.{IsPrintable};
-ghost use Rattle.watch.specs.Watched as spec;
+ghost use Rattle.watch.specs.WatchViews as spec;
 
 use live_table::LiveTable;
 use reply::{Options, convert_reply};
@@ -21,7 +21,7 @@ pub(crate) struct Watch {
 }
 
 /// Returns the bytes of the reply to a conversion in the present table. The only error is running out of memory.
-#[tactic(auto, unfolding(crate::specs::Watched::reply_to, crate::specs::Watched::queries_of))]
+#[tactic(auto, unfolding(crate::specs::WatchViews::reply_to, crate::specs::WatchViews::queries_of))]
 pub(crate) fn reply_bytes<L: Ledger>(
     alloc: Global,
     table: &mut LiveTable,
@@ -32,9 +32,9 @@ pub(crate) fn reply_bytes<L: Ledger>(
 ) -> Result<Text, AllocError>
     requires { IsPrintable options.now }
     ensures bytes { IfOk result (λ bytes.
-        bytes ≡ spec.reply_to (tables.table table.old.deck) options.now (spec.subject from.now to.now)) }
+        bytes ≡ spec.reply_to (tables.table table.old.deck) options.now (spec.watch_subject from.now to.now)) }
     ensures queries { AreQueries
-        (spec.queries_of (tables.table table.old.deck) options.now (spec.subject from.now to.now))
+        (spec.queries_of (tables.table table.old.deck) options.now (spec.watch_subject from.now to.now))
         result table.old table.new steps.old steps.new }
     ensures deck { table.new.deck ≡ table.old.deck }
 {
@@ -53,9 +53,9 @@ pub(crate) fn watch_on<L: Ledger>(
 ) -> Result<Watch, AllocError>
     requires { IsPrintable options.now }
     ensures watch { IfOk result (λ watch.
-        watch ≡ spec.watch_on (tables.table table.old.deck) options.now (spec.subject from.now to.now)) }
+        watch ≡ spec.watch_on (tables.table table.old.deck) options.now (spec.watch_subject from.now to.now)) }
     ensures queries { AreQueries
-        (spec.queries_of (tables.table table.old.deck) options.now (spec.subject from.now to.now))
+        (spec.queries_of (tables.table table.old.deck) options.now (spec.watch_subject from.now to.now))
         result table.old table.new steps.old steps.new }
     ensures deck { table.new.deck ≡ table.old.deck }
 {

@@ -6,14 +6,14 @@ ghost use Rattle.def_entry.specs.Tables.{Table};
 ghost use Rattle.live_table.specs.Calls.{AreQueries};
 ghost use Rattle.reply.specs.Options.{IsPrintable};
 ghost use Rattle.watch.specs.Calls as calls;
-ghost use Rattle.watch.specs.Changes.{notice, told};
-ghost use Rattle.watch.specs.Edits.{told_by_edit};
-ghost use Rattle.watch.specs.Watched as spec;
+ghost use Rattle.watch.specs.Changes.{watch_notice, watch_report};
+ghost use Rattle.watch.specs.Edits.{report_by_edit};
+ghost use Rattle.watch.specs.WatchViews as spec;
 ghost use Rattle.watch.specs.declared.fault.WatchFault.TheVariants.{TooMany};
 
 use crate::fault::WatchFault;
 use crate::notices::put_notice;
-use crate::renewing::renew_all;
+use crate::reply_renewal::renew_all;
 use crate::watch::{Watch, watch_on};
 use live_table::LiveTable;
 use reply::Options;
@@ -40,7 +40,7 @@ impl Drop for Watches {
 
 impl Model for Watches {
     ghost use Rattle.std.specs.Prelude.{◌≤◌, List, vec_len};
-    ghost use Rattle.watch.specs.Watched.{most_watches};
+    ghost use Rattle.watch.specs.WatchViews.{most_watches};
     ghost use Rattle.watch.specs.declared.watch.Watch as watch_spec;
 
     ghost Value = { List watch_spec.Watch };
@@ -82,14 +82,15 @@ impl Watches {
     ) -> Result<Text, WatchFault>
         requires { IsPrintable options.now }
         ensures text { let table = tables.table table.old.deck in IfOk result (λ text.
-            text ≡ notice (length self.old + 1) (spec.reply_to table options.now (spec.subject from.now to.now))) }
+            text ≡ watch_notice (length self.old + 1)
+            (spec.reply_to table options.now (spec.watch_subject from.now to.now))) }
         ensures added { OnOk result (self.new ≡ self.old
-            ++ spec.watch_on (tables.table table.old.deck) options.now (spec.subject from.now to.now) ∷ []) }
+            ++ spec.watch_on (tables.table table.old.deck) options.now (spec.watch_subject from.now to.now) ∷ []) }
         ensures kept { OnErr result (self.new ≡ self.old) }
         ensures full { IsErrOf result TooMany ↔ (length self.old ≡ spec.most_watches) }
         ensures few { length self.new ≤ spec.most_watches }
-        ensures queries { calls.IsAsked
-            (spec.queries_of (tables.table table.old.deck) options.now (spec.subject from.now to.now))
+        ensures queries { calls.AreWatchQueries
+            (spec.queries_of (tables.table table.old.deck) options.now (spec.watch_subject from.now to.now))
             result table.old table.new steps.old steps.new }
         ensures deck { table.new.deck ≡ table.old.deck }
         ensures current { let table = tables.table table.old.deck in
@@ -119,11 +120,11 @@ impl Watches {
     ) -> Result<Text, AllocError>
         requires { IsPrintable options.now }
         ensures told { IfOk result (λ text.
-            text ≡ told (map (spec.change_of (tables.table table.old.deck) options.now) self.old)) }
+            text ≡ watch_report (map (spec.change_of (tables.table table.old.deck) options.now) self.old)) }
         ensures edit { (before : Table) → spec.AreCurrent before options.now self.old → IfOk result (λ text. text
-            ≡ told_by_edit before (tables.table table.old.deck) options.now (map spec.subject_of self.old)) }
+            ≡ report_by_edit before (tables.table table.old.deck) options.now (map spec.subject_of self.old)) }
         ensures renewed { OnOk result (self.new
-            ≡ map (spec.renewed (tables.table table.old.deck) options.now) self.old) }
+            ≡ map (spec.with_current_reply (tables.table table.old.deck) options.now) self.old) }
         ensures current { OnOk result (spec.AreCurrent (tables.table table.old.deck) options.now self.new) }
         ensures partly { OnErr result
             (calls.IsPartlyRenewed (tables.table table.old.deck) options.now self.old self.new) }
@@ -131,7 +132,7 @@ impl Watches {
             table.old table.new steps.old steps.new }
         ensures deck { table.new.deck ≡ table.old.deck }
     {
-        table.kept_right();
+        table.outcomes_are_right();
         let mut text = Vec::new(alloc);
         renew_all(alloc, &mut text, &mut self.items, table, options, steps)?;
         Ok(Text::from(text))

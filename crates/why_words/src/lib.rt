@@ -3,9 +3,9 @@
 
 mod command;
 mod fault;
-mod read;
 mod request;
+mod request_reader;
 
 pub use fault::WordsFault;
-pub use read::{read_words, usage_text};
 pub use request::{Findings, Inquiry, Request};
+pub use request_reader::{read_words, usage_text};

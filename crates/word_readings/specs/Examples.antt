@@ -7,27 +7,29 @@ use Rattle.def_entry.specs.declared.key.Key.{Key}
 use Rattle.def_entry.specs.declared.key.Kind.TheVariants as kind
 use Rattle.word_readings.specs.Readings.{readings}
 
-abbrev pub unit : List ℕ → Key
-unit name = key kind.Unit name
+abbrev pub reading_unit : List ℕ → Key
+reading_unit name = key kind.Unit name
 
-abbrev pub prefix : List ℕ → Key
-prefix name = key kind.Prefix name
+abbrev pub reading_prefix : List ℕ → Key
+reading_prefix name = key kind.Prefix name
 
 -- a table in which each of these keys has an entry
-abbrev pub table_of : List Key → Table
-table_of [] = []
-table_of (k ∷ keys) = (k, record { text = codes "!"; what = Primitive }) ∷ table_of keys
+abbrev pub present_table : List Key → Table
+present_table [] = []
+present_table (k ∷ keys) = (k, record { text = codes "!"; what = Primitive }) ∷ present_table keys
 
 -- the keys of candelas, days, ares and arcseconds, and of the prefixes c, d and da
 abbrev pub some : Table
-some = table_of (unit (codes "cd") ∷ unit (codes "d") ∷ unit (codes "da") ∷ unit (codes "as") ∷ prefix (codes "c")
-    ∷ prefix (codes "d") ∷ prefix (codes "da") ∷ [])
+some = present_table (reading_unit (codes "cd") ∷ reading_unit (codes "d") ∷ reading_unit (codes "da") ∷ reading_unit
+    (codes "as") ∷ reading_prefix (codes "c")
+    ∷ reading_prefix (codes "d") ∷ reading_prefix (codes "da") ∷ [])
 
-pub record ExamplesLaw : Type 0 where
+pub record ReadingExamplesLaw : Type 0 where
   -- the candela hides the centiday
-  pub hidden : readings some (codes "cd") ≡ (prefix (codes "c") ∷ unit (codes "d") ∷ []) ∷ []
+  pub hidden : readings some (codes "cd") ≡ (reading_prefix (codes "c") ∷ reading_unit (codes "d") ∷ []) ∷ []
   -- a word with readings as a plural, of a unit or of a prefix, and as a prefix with a unit
   pub two : readings some (codes "das")
-      ≡ (unit (codes "da") ∷ []) ∷ (prefix (codes "da") ∷ []) ∷ (prefix (codes "d") ∷ unit (codes "as") ∷ []) ∷ []
+      ≡ (reading_unit (codes "da") ∷ []) ∷ (reading_prefix (codes "da") ∷ []) ∷
+      (reading_prefix (codes "d") ∷ reading_unit (codes "as") ∷ []) ∷ []
   -- a name without readings, which hides nothing
   pub none : readings some (codes "as") ≡ []

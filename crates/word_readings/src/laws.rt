@@ -1,6 +1,6 @@
 //! Laws of readings.
 
-ghost use Rattle.word_readings.specs.Examples.{ExamplesLaw};
+ghost use Rattle.word_readings.specs.Examples.{ReadingExamplesLaw};
 ghost use Rattle.word_readings.specs.Laws.{FirstReadingLaw};
 
 /// Lookup of a word that names no unit and no function finds its first reading, or nothing if it has none.
@@ -10,5 +10,5 @@ pub fn first_reading_law()
 
 /// Some words have the readings that were determined by hand.
 pub fn examples_law()
-    ensures { ExamplesLaw }
+    ensures { ReadingExamplesLaw }
 {}

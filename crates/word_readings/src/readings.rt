@@ -7,7 +7,7 @@ ghost use Rattle.def_entry.specs.Tables.{is_present};
 ghost use Rattle.def_entry.specs.declared.key.Kind.TheVariants as kinds;
 ghost use Rattle.deck.specs.Tables.{table};
 ghost use Rattle.name_lookup.specs.Candidates as lookup;
-ghost use Rattle.name_lookup.specs.Plurals.{has_ending, without};
+ghost use Rattle.name_lookup.specs.Plurals.{has_ending, without_end};
 ghost use Rattle.word_readings.specs.Readings as spec;
 
 use crate::endings::without_ending;
@@ -43,7 +43,7 @@ fn put_without(
 ) -> Result<(), AllocError>
     ensures { OnOk result (spec.readings_keys readings.new.items ≡ spec.readings_keys readings.old.items
         ++ spec.present (table deck.now) (flat_map lookup.singular_candidates
-        (if has_ending more ending.now word.now then without (length ending.now) word.now ∷ [] else []))) }
+        (if has_ending more ending.now word.now then without_end (length ending.now) word.now ∷ [] else []))) }
 {
     match without_ending(word, more, ending) {
         Some(singular) => put_singular(alloc, deck, readings, singular),
@@ -61,7 +61,7 @@ fn put_with_y(
 ) -> Result<(), AllocError>
     ensures { OnOk result (spec.readings_keys readings.new.items ≡ spec.readings_keys readings.old.items
         ++ spec.present (table deck.now) (flat_map lookup.singular_candidates
-        (if has_ending 4 (codes "ies") word.now then (without 3 word.now ++ codes "y") ∷ [] else []))) }
+        (if has_ending 4 (codes "ies") word.now then (without_end 3 word.now ++ codes "y") ∷ [] else []))) }
 {
     let Some(front) = without_ending(word, 4, b"ies") else {
         return Ok(());
@@ -100,7 +100,7 @@ fn put_unit(
         return Ok(());
     }
     let unit = Text::from_bytes(alloc, word)?;
-    put(readings, Reading::Unit(unit))
+    push_reading(readings, Reading::Unit(unit))
 }
 
 // Appends the readings of a word that begin with a prefix, the longest prefix first.
@@ -138,14 +138,14 @@ fn put_with_prefix(
     }
     if rest.is_empty() {
         let prefix = Text::from_bytes(alloc, front)?;
-        return put(readings, Reading::Prefix(prefix));
+        return push_reading(readings, Reading::Prefix(prefix));
     }
     if !has_key(deck, Kind::Unit, rest) {
         return Ok(());
     }
     let prefix = Text::from_bytes(alloc, front)?;
     let unit = Text::from_bytes(alloc, rest)?;
-    put(readings, Reading::PrefixedUnit(prefix, unit))
+    push_reading(readings, Reading::PrefixedUnit(prefix, unit))
 }
 
 // Returns whether a key has an entry.
@@ -156,7 +156,7 @@ fn has_key(deck: &Deck, kind: Kind, name: &[u8]) -> bool
 }
 
 // Appends a reading.
-fn put(readings: &mut Vec<Reading>, reading: Reading) -> Result<(), AllocError>
+fn push_reading(readings: &mut Vec<Reading>, reading: Reading) -> Result<(), AllocError>
     ensures { OnOk result (spec.readings_keys readings.new.items
         ≡ spec.readings_keys readings.old.items ++ spec.reading_keys reading ∷ []) }
 {

@@ -1,15 +1,16 @@
 //! Appending a definition to a deck.
 
-ghost use Rattle.std.specs.Prelude.{◌≡◌, ◌<◌, ◌++◌, ◌∷◌, ◌⊎◌, [], Some, Err, not, false, length, IfOk, IfErr, IfSome, OnErr};
+ghost use Rattle.std.specs.Prelude.{◌≡◌, ◌<◌, ◌++◌, ◌∷◌, ◌⊎◌, [], Some, Err, not, false, length, IfOk, IfErr, IfSome};
+ghost use Rattle.std.specs.Prelude.{OnErr};
 ghost use Rattle.std.specs.Prelude.{OnOk, option_map};
-ghost use Rattle.def_lines.specs.Blanks.{trimmed};
+ghost use Rattle.def_lines.specs.Blanks.{trim_of};
 ghost use Rattle.def_entry.specs.Keys as keys;
-ghost use Rattle.def_entry.specs.Seen.{seen_entry};
+ghost use Rattle.def_entry.specs.LineViews.{seen_entry};
 ghost use Rattle.def_entry.specs.Views.{entry_view};
-ghost use Rattle.deck_lines.specs.Closed.{IsClosed};
+ghost use Rattle.deck_lines.specs.ClosedBlocks.{AreBlocksClosed};
 ghost use Rattle.deck_lines.specs.Limits.{pass_limit};
 ghost use Rattle.deck_lines.specs.Marks.{plain_line, with_mark};
-ghost use Rattle.deck_lines.specs.Names.{names_of};
+ghost use Rattle.deck_lines.specs.Names.{names_of_kind};
 ghost use Rattle.deck_lines.specs.Readings.{entry_in};
 ghost use Rattle.deck_lines.specs.Stores as stores;
 ghost use Rattle.deck.specs.Changes.{IsChange};
@@ -17,7 +18,7 @@ ghost use Rattle.deck.specs.Decks.{Contents};
 ghost use Rattle.deck.specs.Edits as edit;
 ghost use Rattle.deck.specs.LastPlaces.{IsIndexed, places_of};
 ghost use Rattle.deck.specs.Tables.{entry_at, last_place, table};
-ghost use Rattle.deck.specs.Undefining as undefining;
+ghost use Rattle.deck.specs.LineRemoval as undefining;
 ghost use Rattle.deck.specs.declared.fault.DeckFault.TheVariants.{OutOfMemory};
 ghost use Rattle.deck.specs.declared.settings.Settings as settings_spec;
 
@@ -44,9 +45,9 @@ impl Deck {
     /// `DeckFull` if one more line would pass a limit. The only other error is running out of memory. The cost depends
     /// only on the length of the line, not on the size of the deck.
     pub fn define(&mut self, alloc: Global, line: &[u8]) -> Result<Keys, DeckFault>
-        ensures { edit.IsEdit (edit.after_define (trimmed line.now) self.old) self.old self.new result }
+        ensures { edit.IsEdit (edit.after_define (trim_of line.now) self.old) self.old self.new result }
     {
-        match self.define_over(alloc, line) {
+        match self.define_shadowing(alloc, line) {
             Ok((keys, _)) => Ok(keys),
             Err(fault) => Err(fault),
         }
@@ -54,12 +55,12 @@ impl Deck {
 
     /// Does the same as `define`, and also returns the place of the previous last active line of the key, if there was
     /// one.
-    pub fn define_over(
+    pub fn define_shadowing(
         &mut self,
         alloc: Global,
         line: &[u8],
     ) -> Result<(Keys, Option<usize>), DeckFault>
-        ensures { undefining.IsDefinedOver (edit.after_define (trimmed line.now) self.old) (trimmed line.now)
+        ensures { undefining.IsDefinedOver (edit.after_define (trim_of line.now) self.old) (trim_of line.now)
             self.old self.new result }
     {
         let line = trim(line);
@@ -75,7 +76,7 @@ impl Deck {
     // Reports whether one more line with this text is within the limits.
     fn has_room(&self, text: &[u8]) -> bool
         ensures room { pass_limit (edit.with_line text.now self.now).lines ≡ not result }
-        ensures closed { IsClosed self.now.lines }
+        ensures closed { AreBlocksClosed self.now.lines }
     {
         self.store.has_room(text.len())
     }
@@ -88,7 +89,7 @@ impl Deck {
         key: &Key,
         entry: Entry<'_>,
     ) -> Result<(Keys, Option<usize>), AllocError>
-        ensures changed { IfOk result (λ over. IsClosed self.now.lines
+        ensures changed { IfOk result (λ over. AreBlocksClosed self.now.lines
             → entry_in (plain_line 0 entry.entry.line.now) ≡ Some (key.now, entry_view entry.entry)
             → IsChange self.now (edit.with_line entry.entry.line.now self.now) over.0) }
         ensures place { IfOk result (λ over. over.1 ≡ last_place self.now.settings self.now.lines key.now) }
@@ -161,7 +162,7 @@ fn put_definition(
 ) -> Result<(), AllocError>
     requires defines { entry_in (with_mark false line) ≡ Some (seen_entry line.text definition) }
     requires within { pass_limit (store.old.lines ++ with_mark false line ∷ []) ≡ false }
-    ensures ok { OnOk result (store.new ≡ stores.with_line store.old (with_mark false line)) }
+    ensures ok { OnOk result (store.new ≡ stores.store_with_line store.old (with_mark false line)) }
     ensures err { OnErr result (store.new ≡ store.old) }
     ensures indexed { (settings : settings_spec.Settings) → IsIndexed store.old settings last.old
         → IsIndexed store.new settings last.new }
@@ -181,9 +182,9 @@ fn put_in_room(
 ) -> Result<(), AllocError>
     requires defines { entry_in (with_mark false line) ≡ Some (seen_entry line.text definition) }
     requires within { pass_limit (store.old.lines ++ with_mark false line ∷ []) ≡ false }
-    requires room { length (names_of store.old.names definition.0.kind)
+    requires room { length (names_of_kind store.old.names definition.0.kind)
         < length (places_of last.old definition.0.kind) }
-    ensures ok { OnOk result (store.new ≡ stores.with_line store.old (with_mark false line)) }
+    ensures ok { OnOk result (store.new ≡ stores.store_with_line store.old (with_mark false line)) }
     ensures err { OnErr result (store.new ≡ store.old) }
     ensures indexed { (settings : settings_spec.Settings) → IsIndexed store.old settings last.old
         → IsIndexed store.new settings last.new }

@@ -3,17 +3,17 @@
 ghost use Rattle.std.specs.Prelude.{◌≡◌, ◌++◌, All, map, IfOk, OnOk};
 ghost use Rattle.std.specs.List.Sorted.{IsPermutation, IsSortedByKey};
 ghost use Rattle.def_entry.specs.KeyOrder.{KeyOrderLaw, key_cmp, kind_number};
-ghost use Rattle.deck_lines.specs.Names.{key_at, names_of};
-ghost use Rattle.deck_lines.specs.Numbering.{IsNumbering};
-ghost use Rattle.deck.specs.Holding.{is_found, keys_holding};
-ghost use Rattle.deck.specs.KeyLists.{IsWhole};
+ghost use Rattle.deck_lines.specs.Names.{key_numbered, names_of_kind};
+ghost use Rattle.deck_lines.specs.KeyNumbering.{IsNumbering};
+ghost use Rattle.deck.specs.SubstringKeys.{is_found, keys_holding};
+ghost use Rattle.deck.specs.KeyLists.{AreAllKeys};
 ghost use Rattle.deck.specs.Numbers.{key_if, keys_where};
 ghost use Rattle.deck.specs.PlacedKeys.{ArePlaced, IsInPlace, placed_key};
 ghost use Rattle.deck.specs.Tables.{table};
 
 use super::Deck;
-use crate::holding::holds;
 use crate::places::LastPlaces;
+use crate::substring_search::holds;
 use deck_lines::{KeyNumber, LineStore};
 use def_entry::{Kind, key_order_law};
 use memchr::memmem::Finder;
@@ -32,7 +32,7 @@ impl Deck {
     /// Returns all keys that have an entry, each once, ordered by the bytes of their names, and for equal names with
     /// units before prefixes, functions and lists.
     pub(super) fn placed_keys(&self, alloc: Global) -> Result<Vec<PlacedKey<'_>>, AllocError>
-        ensures whole { IfOk result (λ keys. IsWhole (table self.now) (map placed_key keys.items)) }
+        ensures whole { IfOk result (λ keys. AreAllKeys (table self.now) (map placed_key keys.items)) }
         ensures in_place { IfOk result (λ keys. All (IsInPlace self.now.lines) keys.items) }
     {
         let keys = self.placed_keys_holding(alloc, &[])?;
@@ -72,7 +72,7 @@ fn push_placed<'a>(
     ensures numbering { IsNumbering store.now }
     ensures in_place { OnOk result (All (IsInPlace store.now.lines) keys.new.items) }
     ensures keys { OnOk result (map placed_key keys.new.items ≡ map placed_key keys.old.items
-        ++ keys_where (is_found store.now.names last.now finder.now) kind 0 (names_of store.now.names kind)) }
+        ++ keys_where (is_found store.now.names last.now finder.now) kind 0 (names_of_kind store.now.names kind)) }
 {
     for number in 0..store.name_count(kind) {
         push_if_placed(keys, store, last, finder, KeyNumber { kind, number })?;
@@ -92,7 +92,7 @@ fn push_if_placed<'a>(
     requires placed { All (IsInPlace store.now.lines) keys.old.items }
     ensures in_place { OnOk result (All (IsInPlace store.now.lines) keys.new.items) }
     ensures keys { OnOk result (map placed_key keys.new.items ≡ map placed_key keys.old.items
-        ++ key_if (is_found store.now.names last.now finder.now n) (key_at store.now.names n)) }
+        ++ key_if (is_found store.now.names last.now finder.now n) (key_numbered store.now.names n)) }
 {
     let Some(place) = last.get(n) else {
         return Ok(());

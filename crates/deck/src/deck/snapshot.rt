@@ -1,7 +1,7 @@
 //! Copying decks.
 
 ghost use Rattle.std.specs.Prelude.{◌≡◌, IfOk, Some, option_map, slice_get};
-ghost use Rattle.def_entry.specs.Seen.{seen_entry};
+ghost use Rattle.def_entry.specs.LineViews.{seen_entry};
 ghost use Rattle.deck_lines.specs.Readings.{entry_in};
 ghost use Rattle.deck_lines.specs.declared.line.DeckLine.{DeckLine};
 
@@ -30,7 +30,7 @@ fn copied_store(alloc: Global, store: &LineStore) -> Result<LineStore, AllocErro
     ensures { IfOk result (λ copy. copy.lines ≡ store.now.lines) }
 {
     let MarkedLines { lines, marks } = store.marked();
-    let mut copy = LineStore::new(alloc, store.seed());
+    let mut copy = LineStore::new(alloc, store.table_seed());
     for place in 0..lines.len() {
         let mark = marks[place];
         let line = &lines[place];

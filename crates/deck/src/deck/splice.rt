@@ -1,12 +1,12 @@
 //! Replacing lines by others.
 
 ghost use Rattle.std.specs.Prelude.{◌≡◌, ◌≤◌, ◌+◌, ◌↔◌, length, map, IfOk, IsTrue};
-ghost use Rattle.deck_lines.specs.Kept.{IsDefined};
+ghost use Rattle.deck_lines.specs.StoredDefinitions.{IsDefined};
 ghost use Rattle.deck_lines.specs.Readings.{entry_in};
 ghost use Rattle.deck.specs.Changes.{IsTableChange};
 ghost use Rattle.deck.specs.LastPlaces.{AreLast, IsIndexed};
 ghost use Rattle.deck.specs.Splices as splices;
-ghost use Rattle.deck.specs.Tables.{definitions, table_of};
+ghost use Rattle.deck.specs.Tables.{active_definitions, table_of};
 
 use super::Deck;
 use crate::places::{LastPlaces, keys_between};
@@ -106,13 +106,14 @@ fn find_changes(
     ensures defined { IfOk result (λ found.
         IsDefined store.new.names found.definitions.of_lines.items (map entry_in change.now.put)) }
     ensures last { IfOk result (λ found. AreLast store.new.names
-        (definitions change.now.settings (splices.spliced_lines change.now store.old.lines)) found.last) }
-    ensures keys { IfOk result (λ found. IsTableChange (table_of (definitions settings.now store.old.lines))
-        (table_of (definitions change.now.settings (splices.spliced_lines change.now store.old.lines))) found.keys) }
+        (active_definitions change.now.settings (splices.spliced_lines change.now store.old.lines)) found.last) }
+    ensures keys { IfOk result (λ found. IsTableChange (table_of (active_definitions settings.now store.old.lines))
+        (table_of (active_definitions change.now.settings (splices.spliced_lines change.now store.old.lines)))
+        found.keys) }
 {
     let put = change.put.as_slice();
     let definitions = store.read(alloc, put)?;
-    let edited = EditedLines::exchanged(store, change.at, change.cut, put, &definitions);
+    let edited = EditedLines::with_exchange(store, change.at, change.cut, put, &definitions);
     let now = LastPlaces::under_edited(alloc, &change.settings, &edited)?;
     let keys = keys_between(alloc, &edited, last, &now)?;
     Ok(SpliceChanges {

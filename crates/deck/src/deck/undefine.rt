@@ -1,7 +1,7 @@
 //! Removing the last line.
 
 ghost use Rattle.std.specs.Prelude.{◌≡◌, IfOk, OnErr};
-ghost use Rattle.deck.specs.Undefining as spec;
+ghost use Rattle.deck.specs.LineRemoval as spec;
 
 use super::Deck;
 use crate::places::changed_key;
@@ -21,7 +21,7 @@ impl Deck {
         uncovered: Option<usize>,
     ) -> Result<(Keys, Text), AllocError>
         requires { spec.CanUndefine uncovered self.old }
-        ensures ok { IfOk result (λ done. spec.IsUndefined self.old self.new done) }
+        ensures ok { IfOk result (λ done. spec.IsLineRemoved self.old self.new done) }
         ensures err { OnErr result (self.new ≡ self.old) }
     {
         let result = self.take_out_line(alloc, uncovered);
@@ -36,7 +36,7 @@ impl Deck {
         uncovered: Option<usize>,
     ) -> Result<(Keys, Text), AllocError>
         requires { spec.CanUndefine uncovered self.old }
-        ensures ok { IfOk result (λ done. spec.IsUndefined self.old self.new done) }
+        ensures ok { IfOk result (λ done. spec.IsLineRemoved self.old self.new done) }
         ensures err { OnErr result (self.new ≡ self.old) }
     {
         same_text_law();

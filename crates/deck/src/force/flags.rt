@@ -17,7 +17,7 @@ pub(crate) fn active_flags(
 ) -> Result<Vec<bool>, AllocError>
     ensures { IfOk result (λ flags. flags.items ≡ active_lines settings.now store.now.lines) }
 {
-    edited_flags(alloc, &EditedLines::unchanged(store), settings)
+    edited_flags(alloc, &EditedLines::without_change(store), settings)
 }
 
 /// Returns for each line after an edit whether it is active under the settings.

@@ -2,7 +2,7 @@
 
 ghost use Rattle.std.specs.Prelude.{◌≡◌, IfNone};
 ghost use Rattle.std.specs.Option.{option_copied};
-ghost use Rattle.units_io.specs.Named.{HasNoName, value_of, with_value};
+ghost use Rattle.units_io.specs.NamedValues.{HasNoName, named_value, with_value};
 ghost use Rattle.deck.specs.SettingChanges as changes;
 
 use crate::settings::Settings;
@@ -79,13 +79,13 @@ impl<'a> InForce<'a> {
     }
 
     /// Returns the hash seed of the table of variables.
-    pub(crate) fn seed(&self) -> HashSeed {
-        self.vars.seed()
+    pub(crate) fn table_seed(&self) -> HashSeed {
+        self.vars.table_seed()
     }
 
     /// Returns the value of a variable, or `None` if it is not set.
     pub(crate) fn value(&self, name: &[u8]) -> Option<&Text>
-        ensures value { option_copied result ≡ value_of self.now.vars name.now }
+        ensures value { option_copied result ≡ named_value self.now.vars name.now }
         ensures absent { IfNone result (HasNoName self.now.vars name.now) }
     {
         match &self.change {
@@ -98,7 +98,7 @@ impl<'a> InForce<'a> {
 // Returns the value of a variable, given the variables and a change of one of them.
 fn changed_value<'a>(vars: &'a Vars, change: &NewValue<'a>, name: &[u8]) -> Option<&'a Text>
     ensures value { option_copied result
-        ≡ value_of (with_value vars.now change.now.name.now change.now.value.now) name.now }
+        ≡ named_value (with_value vars.now change.now.name.now change.now.value.now) name.now }
     ensures absent { IfNone result
         (HasNoName (with_value vars.now change.now.name.now change.now.value.now) name.now) }
 {

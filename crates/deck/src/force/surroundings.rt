@@ -2,12 +2,12 @@
 
 ghost use Rattle.std.specs.Prelude.{◌≡◌, ℕ, [], OnOk, IfNone};
 ghost use Rattle.std.specs.Option.{option_copied};
-ghost use Rattle.units_io.specs.Named.{HasNoName, value_of};
+ghost use Rattle.units_io.specs.NamedValues.{HasNoName, named_value};
 ghost use Rattle.deck_lines.specs.declared.line.DeckLine.{DeckLine};
 ghost use Rattle.deck.specs.Active as spec;
 
 use super::in_force::InForce;
-use def_lines::{LineKind, classify, listed};
+use def_lines::{LineKind, classify, is_listed};
 use std::alloc::{AllocError, Global};
 use std::marker::Model;
 use units_io::{Text, Vars};
@@ -25,7 +25,7 @@ pub(crate) struct Surroundings<'a> {
 impl<'a> Model for Surroundings<'a> {
     ghost use Rattle.std.specs.Prelude.{◌≡◌, ◌++◌, reverse};
     ghost use Rattle.deck.specs.Active.{Surroundings};
-    ghost use Rattle.deck.specs.Failing.{failing_count};
+    ghost use Rattle.deck.specs.FailingBlocks.{failing_count};
 
     ghost Value = { Surroundings };
 
@@ -43,7 +43,7 @@ impl<'a> Surroundings<'a> {
             holds: Vec::new(alloc),
             failing: 0,
             base: settings,
-            set: Vars::with_seed(alloc, settings.seed()),
+            set: Vars::with_seed(alloc, settings.table_seed()),
         }
     }
 
@@ -84,7 +84,7 @@ impl<'a> Surroundings<'a> {
     }
 
     // Reports whether all enclosing blocks hold.
-    #[tactic(auto, using(crate::proofs::Failing::all_hold_by))]
+    #[tactic(auto, using(crate::proofs::BlockFailures::all_hold_by))]
     fn all_hold(&self) -> bool
         ensures { result ≡ spec.all_hold self.now }
     {
@@ -115,7 +115,7 @@ impl<'a> Surroundings<'a> {
 
     // Returns the value of a variable, or `None` if it is not set.
     fn value(&self, name: &[u8]) -> Option<&Text>
-        ensures value { option_copied result ≡ value_of self.now.vars name.now }
+        ensures value { option_copied result ≡ named_value self.now.vars name.now }
         ensures absent { IfNone result (HasNoName self.now.vars name.now) }
     {
         match self.base.value(name) {
@@ -126,10 +126,10 @@ impl<'a> Surroundings<'a> {
 
     // Reports whether the variable is set and has one of these values.
     fn is_value_listed(&self, name: &[u8], values: &[u8]) -> bool
-        ensures { result ≡ spec.is_value_listed values.now (value_of self.now.vars name.now) }
+        ensures { result ≡ spec.is_value_listed values.now (named_value self.now.vars name.now) }
     {
         match self.value(name) {
-            Some(value) => listed(values, value.as_bytes()),
+            Some(value) => is_listed(values, value.as_bytes()),
             None => false,
         }
     }

@@ -3,9 +3,9 @@
 ghost use Rattle.std.specs.Prelude.{◌≡◌, ◌++◌, IfOk, OnOk, not, option_map};
 ghost use Rattle.std.specs.Bool.{OnTrue};
 ghost use Rattle.def_entry.specs.Views.{entry_view};
-ghost use Rattle.deck_lines.specs.Edited.{store_after, store_before};
-ghost use Rattle.deck_lines.specs.Names.{key_at, names_of};
-ghost use Rattle.deck_lines.specs.Numbering.{IsNumbering};
+ghost use Rattle.deck_lines.specs.StoreEdits.{store_after, store_before};
+ghost use Rattle.deck_lines.specs.Names.{key_numbered, names_of_kind};
+ghost use Rattle.deck_lines.specs.KeyNumbering.{IsNumbering};
 ghost use Rattle.deck.specs.Changes.{IsTableChange, is_same_entry};
 ghost use Rattle.deck.specs.LastPlaces.{AreLast};
 ghost use Rattle.deck.specs.Numbers.{AreInPlace, differs, entry_there, key_if, keys_where};
@@ -28,7 +28,7 @@ pub(crate) fn changed_keys(
         → AreLast store.now.names ds before.now → AreLast store.now.names es after.now
         → IsTableChange (table_of ds) (table_of es) keys) }
 {
-    keys_between(alloc, &EditedLines::unchanged(store), before, after)
+    keys_between(alloc, &EditedLines::without_change(store), before, after)
 }
 
 /// Returns the keys whose entries differ between the last places before an edit and those after it.
@@ -62,10 +62,10 @@ pub(crate) fn changed_key(
 ) -> Result<Keys, AllocError>
     ensures { IfOk result (λ keys. keys ≡ key_if
         (not (is_same_entry (entry_there store.now.lines before) (entry_there store.now.lines after)))
-        (key_at store.now.names n)) }
+        (key_numbered store.now.names n)) }
 {
     let mut keys = Keys::new(alloc);
-    let edited = EditedLines::unchanged(store);
+    let edited = EditedLines::without_change(store);
     push_between(alloc, &mut keys, &edited, n, before, after)?;
     Ok(keys)
 }
@@ -82,7 +82,7 @@ fn push_changed(
     ensures numbering_before { IsNumbering (store_before edited.now) }
     ensures numbering_after { IsNumbering (store_after edited.now) }
     ensures keys { OnOk result (keys.new ≡ keys.old
-        ++ keys_where (differs edited.now before.now after.now) kind 0 (names_of edited.now.names kind)) }
+        ++ keys_where (differs edited.now before.now after.now) kind 0 (names_of_kind edited.now.names kind)) }
 {
     for number in 0..edited.name_count(kind) {
         push_if_changed(
@@ -107,7 +107,7 @@ fn push_if_changed(
     n: KeyNumber,
 ) -> Result<(), AllocError>
     ensures { OnOk result (keys.new ≡ keys.old
-        ++ key_if (differs edited.now before.now after.now n) (key_at edited.now.names n)) }
+        ++ key_if (differs edited.now before.now after.now n) (key_numbered edited.now.names n)) }
 {
     push_between(alloc, keys, edited, n, before.get(n), after.get(n))
 }
@@ -124,7 +124,7 @@ fn push_between(
 ) -> Result<(), AllocError>
     ensures { OnOk result (keys.new ≡ keys.old ++ key_if
         (not (is_same_entry (entry_there edited.now.before before) (entry_there edited.now.after after)))
-        (key_at edited.now.names n)) }
+        (key_numbered edited.now.names n)) }
 {
     if !is_changed(edited, before, after) {
         return Ok(());

@@ -6,7 +6,7 @@ ghost use Rattle.def_entry.specs.SameKeys.{is_same_kind};
 ghost use Rattle.deck_lines.specs.declared.key_number.KeyNumber as number_spec;
 ghost use Rattle.deck.specs.KindPlaces as kind_spec;
 ghost use Rattle.deck.specs.LastPlaces as spec;
-ghost use Rattle.deck.specs.PlacedKeys.{AreDefined};
+ghost use Rattle.deck.specs.PlacedKeys.{DefineTheirKeys};
 ghost use Rattle.deck.specs.declared.places.last_places.LastPlaces as places_spec;
 
 use super::kind_places::KindPlaces;
@@ -101,7 +101,7 @@ impl LastPlaces {
     /// Updates the places for the removal of the line at `gap`. Goes over the lines after that line.
     pub(crate) fn close_gap(&mut self, store: &LineStore, gap: usize)
         requires inside { gap < length store.now.lines }
-        requires defined { AreDefined store.now self.old }
+        requires defined { DefineTheirKeys store.now self.old }
         ensures { (kind : key_kind.Kind) → spec.places_of self.new kind
             ≡ map (option_map (kind_spec.without_gap gap)) (spec.places_of self.old kind) }
     {
@@ -113,7 +113,7 @@ impl LastPlaces {
 
     // Decrements the last place of the key that the line at `place` defines, if it is `place`.
     fn move_line_back(&mut self, store: &LineStore, place: usize)
-        ensures { (gap : ℕ) (old : places_spec.LastPlaces) → gap < place → AreDefined store.now old
+        ensures { (gap : ℕ) (old : places_spec.LastPlaces) → gap < place → DefineTheirKeys store.now old
             → spec.IsMovedTo gap place old self.old → spec.IsMovedTo gap (place + 1) old self.new }
     {
         if let Some(n) = store.key_number(place) {

@@ -3,8 +3,8 @@
 ghost use Rattle.std.specs.Prelude.{◌≡◌, ◌++◌, [], IfOk, length, false};
 ghost use Rattle.deck_lines.specs.Limits.{pass_limit};
 ghost use Rattle.deck_lines.specs.Stores.{definition_at};
-ghost use Rattle.deck.specs.LastPlaces.{AreLast, HasRoom};
-ghost use Rattle.deck.specs.Tables.{Definitions, definition_by, definitions, definitions_by};
+ghost use Rattle.deck.specs.LastPlaces.{AreLast, HasPlaceRoom};
+ghost use Rattle.deck.specs.Tables.{Definitions, active_definitions, definition_by, definitions_among};
 
 use super::last_places::LastPlaces;
 use crate::force::{InForce, edited_flags, flags_in_force};
@@ -20,10 +20,11 @@ impl LastPlaces {
         settings: &Settings,
         store: &LineStore,
     ) -> Result<LastPlaces, AllocError>
-        ensures last { IfOk result (λ last. AreLast store.now.names (definitions settings.now store.now.lines) last) }
+        ensures last { IfOk result (λ last. AreLast store.now.names (active_definitions settings.now store.now.lines)
+            last) }
         ensures within { pass_limit store.now.lines ≡ false }
     {
-        LastPlaces::under_edited(alloc, settings, &EditedLines::unchanged(store))
+        LastPlaces::under_edited(alloc, settings, &EditedLines::without_change(store))
     }
 
     /// Returns the place of the last active line of each key under settings of which one may be changed.
@@ -32,9 +33,9 @@ impl LastPlaces {
         settings: &InForce<'_>,
         store: &LineStore,
     ) -> Result<LastPlaces, AllocError>
-        ensures { IfOk result (λ last. AreLast store.now.names (definitions settings.now store.now.lines) last) }
+        ensures { IfOk result (λ last. AreLast store.now.names (active_definitions settings.now store.now.lines) last) }
     {
-        let edited = EditedLines::unchanged(store);
+        let edited = EditedLines::without_change(store);
         let flags = flags_in_force(alloc, &edited, settings)?;
         LastPlaces::of_edited(alloc, flags.as_slice(), &edited)
     }
@@ -45,7 +46,7 @@ impl LastPlaces {
         settings: &Settings,
         edited: &EditedLines<'_>,
     ) -> Result<LastPlaces, AllocError>
-        ensures { IfOk result (λ last. AreLast edited.now.names (definitions settings.now edited.now.after) last) }
+        ensures { IfOk result (λ last. AreLast edited.now.names (active_definitions settings.now edited.now.after) last) }
     {
         let flags = edited_flags(alloc, edited, settings)?;
         LastPlaces::of_edited(alloc, flags.as_slice(), edited)
@@ -58,7 +59,7 @@ impl LastPlaces {
         edited: &EditedLines<'_>,
     ) -> Result<LastPlaces, AllocError>
         requires { length flags.now ≡ length edited.now.after }
-        ensures { IfOk result (λ last. AreLast edited.now.names (definitions_by flags.now edited.now.after) last) }
+        ensures { IfOk result (λ last. AreLast edited.now.names (definitions_among flags.now edited.now.after) last) }
     {
         let mut last = with_room(alloc, edited)?;
         last.note_lines(edited, flags);
@@ -69,9 +70,9 @@ impl LastPlaces {
     /// may have a place before. Allocates no memory.
     pub(crate) fn note_lines(&mut self, edited: &EditedLines<'_>, flags: &[bool])
         requires flags { length flags.now ≡ length edited.now.after }
-        requires room { HasRoom edited.now.names self.old }
+        requires room { HasPlaceRoom edited.now.names self.old }
         requires none { AreLast edited.now.names [] self.old }
-        ensures { AreLast edited.now.names (definitions_by flags.now edited.now.after) self.new }
+        ensures { AreLast edited.now.names (definitions_among flags.now edited.now.after) self.new }
     {
         for place in 0..flags.len() {
             note_line(edited, self, flags[place], place);
@@ -81,7 +82,7 @@ impl LastPlaces {
 
 // Returns last places without a place, with room for all keys that have a number.
 fn with_room(alloc: Global, edited: &EditedLines<'_>) -> Result<LastPlaces, AllocError>
-    ensures room { IfOk result (λ last. HasRoom edited.now.names last) }
+    ensures room { IfOk result (λ last. HasPlaceRoom edited.now.names last) }
     ensures none { IfOk result (λ last. AreLast edited.now.names [] last) }
 {
     let mut last = LastPlaces::new(alloc);
@@ -94,8 +95,8 @@ fn with_room(alloc: Global, edited: &EditedLines<'_>) -> Result<LastPlaces, Allo
 
 // Sets the place of the key of a line to `place`, if the line is active.
 fn note_line(edited: &EditedLines<'_>, last: &mut LastPlaces, active: bool, place: usize)
-    requires { HasRoom edited.now.names last.old }
-    ensures room { HasRoom edited.now.names last.new }
+    requires { HasPlaceRoom edited.now.names last.old }
+    ensures room { HasPlaceRoom edited.now.names last.new }
     ensures last { (ds : Definitions) → AreLast edited.now.names ds last.old
         → AreLast edited.now.names (definition_by place active (definition_at edited.now.after place) ++ ds) last.new }
 {

@@ -3,11 +3,11 @@
 ghost use Rattle.std.specs.Prelude.{◌≡◌, ◌≤◌, ◌<◌, ◌==◌, ◌&&◌, ◌++◌, Bool, List, Some, false, length, set, take, IfOk};
 ghost use Rattle.def_entry.specs.SameKeys as keys;
 ghost use Rattle.def_entry.specs.declared.key.Key as key_spec;
-ghost use Rattle.deck_lines.specs.Names.{key_at};
-ghost use Rattle.deck_lines.specs.Numbering.{IsNumbering};
+ghost use Rattle.deck_lines.specs.Names.{key_numbered};
+ghost use Rattle.deck_lines.specs.KeyNumbering.{IsNumbering};
 ghost use Rattle.deck_lines.specs.Stores.{definition_at};
 ghost use Rattle.deck.specs.Active.{active_lines};
-ghost use Rattle.deck.specs.Tables.{Definitions, definition_by, definitions_by, last_place, place_of};
+ghost use Rattle.deck.specs.Tables.{Definitions, definition_by, definitions_among, last_place, place_of};
 
 use crate::force::active_flags;
 use crate::settings::Settings;
@@ -26,10 +26,10 @@ pub(crate) fn uncovered_by(
     n: KeyNumber,
 ) -> Result<Option<usize>, AllocError>
     requires inside { place < length store.now.lines }
-    requires last { (k : key_spec.Key) → key_at store.now.names n ≡ Some k
+    requires last { (k : key_spec.Key) → key_numbered store.now.names n ≡ Some k
         → last_place settings.now store.now.lines k ≡ Some place }
-    ensures { IfOk result (λ uncovered. (k : key_spec.Key) → key_at store.now.names n ≡ Some k
-        → uncovered ≡ place_of (definitions_by (set (active_lines settings.now store.now.lines) place false)
+    ensures { IfOk result (λ uncovered. (k : key_spec.Key) → key_numbered store.now.names n ≡ Some k
+        → uncovered ≡ place_of (definitions_among (set (active_lines settings.now store.now.lines) place false)
         store.now.lines) k) }
 {
     let end = end_of_definitions(store, n, place);
@@ -45,10 +45,10 @@ pub(crate) fn uncovered_by(
 fn end_of_definitions(store: &LineStore, n: KeyNumber, place: usize) -> usize
     requires { place ≤ length store.now.lines }
     ensures within { result ≤ place }
-    ensures same { (k : key_spec.Key) (flags : List Bool) → key_at store.now.names n ≡ Some k
+    ensures same { (k : key_spec.Key) (flags : List Bool) → key_numbered store.now.names n ≡ Some k
         → length flags ≡ length store.now.lines
-        → place_of (definitions_by (take place flags) (take place store.now.lines)) k
-        ≡ place_of (definitions_by (take result flags) (take result store.now.lines)) k }
+        → place_of (definitions_among (take place flags) (take place store.now.lines)) k
+        ≡ place_of (definitions_among (take result flags) (take result store.now.lines)) k }
 {
     let mut end = place;
     while end > 0 && !defines(store, end - 1, n) {
@@ -61,7 +61,7 @@ fn end_of_definitions(store: &LineStore, n: KeyNumber, place: usize) -> usize
 fn defines(store: &LineStore, place: usize, n: KeyNumber) -> bool
     ensures numbering { IsNumbering store.now }
     ensures other { (k : key_spec.Key) (active : Bool) (ds : Definitions) → result ≡ false
-        → key_at store.now.names n ≡ Some k
+        → key_numbered store.now.names n ≡ Some k
         → place_of ds k ≡ place_of (definition_by place active (definition_at store.now.lines place) ++ ds) k }
 {
     match store.key_number(place) {
@@ -75,8 +75,8 @@ fn defines(store: &LineStore, place: usize, n: KeyNumber) -> bool
 fn last_of(store: &LineStore, flags: &[bool], end: usize, n: KeyNumber) -> Option<usize>
     requires flags { length flags.now ≡ length store.now.lines }
     requires within { end ≤ length store.now.lines }
-    ensures { (k : key_spec.Key) → key_at store.now.names n ≡ Some k
-        → result ≡ place_of (definitions_by (take end flags.now) (take end store.now.lines)) k }
+    ensures { (k : key_spec.Key) → key_numbered store.now.names n ≡ Some k
+        → result ≡ place_of (definitions_among (take end flags.now) (take end store.now.lines)) k }
 {
     let mut last = None;
     for place in 0..end {
@@ -93,7 +93,7 @@ fn later_of(
     active: bool,
     place: usize,
 ) -> Option<usize>
-    ensures { (k : key_spec.Key) (ds : Definitions) → key_at store.now.names n ≡ Some k → last ≡ place_of ds k
+    ensures { (k : key_spec.Key) (ds : Definitions) → key_numbered store.now.names n ≡ Some k → last ≡ place_of ds k
         → result ≡ place_of (definition_by place active (definition_at store.now.lines place) ++ ds) k }
 {
     if !active {

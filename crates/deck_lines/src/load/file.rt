@@ -4,9 +4,10 @@ ghost use Rattle.std.specs.Prelude.{◌≡◌, ◌++◌, [], ◌≤◌, None, So
 ghost use Rattle.units_io.specs.FileMap.{FileMap, longest_file};
 ghost use Rattle.def_lines.specs.Kinds.{kind_of};
 ghost use Rattle.deck_lines.specs.Blocks.{role_of};
-ghost use Rattle.deck_lines.specs.Closed.{IsClosed};
+ghost use Rattle.deck_lines.specs.ClosedBlocks.{AreBlocksClosed};
 ghost use Rattle.deck_lines.specs.Excerpts.{blocks_behind_line, include_excerpt, line_excerpt, line_with_notice};
-ghost use Rattle.deck_lines.specs.Includes.{beside, deck_above, deck_of, included_below, included_by, most_depth};
+ghost use Rattle.deck_lines.specs.Includes.{deck_above, deck_of_file, included_below, included_by, included_name};
+ghost use Rattle.deck_lines.specs.Includes.{most_depth};
 ghost use Rattle.deck_lines.specs.Limits.{pass_limit};
 ghost use Rattle.deck_lines.specs.Loads.{Extends, IsLoad, Leads, ReadsNone, endings};
 ghost use Rattle.deck_lines.specs.Marks.{plain_line};
@@ -16,9 +17,9 @@ ghost use Rattle.deck_lines.specs.declared.line.Role.TheVariants.{Inside};
 
 use crate::draft::{Draft, LoadFault};
 use crate::line::Block;
+use crate::line_meaning::{Reading, read_line};
 use crate::load::blocks::{push_file_end, push_role_line};
 use crate::load::names::name_beside;
-use crate::reading::{Reading, read_line};
 use def_lines::{Cursor, Line};
 use std::alloc::Global;
 use units_io::{FetchFault, Files, Text};
@@ -33,7 +34,7 @@ const MOST_DEPTH: u8 = 16;
 /// ends it with `ReadFailed`, which `files` counts, and a failed allocation ends it with `OutOfMemory`. After an error
 /// the draft may hold some of the new lines. The load needs memory for the texts of the files that are open at the same
 /// time, and for the lines.
-#[tactic(auto, unfolding(crate::specs::Includes::deck_of))]
+#[tactic(auto, unfolding(crate::specs::Includes::deck_of_file))]
 pub fn load_text<F: Files>(
     alloc: Global,
     files: &mut F,
@@ -43,10 +44,10 @@ pub fn load_text<F: Files>(
 ) -> Result<(), LoadFault>
     requires { length bytes.now ≤ longest_file }
     ensures told { (m : FileMap) → F.files files.old ≡ Some m
-        → IsLoad draft.old (deck_of m name.now bytes.now) result draft.new }
+        → IsLoad draft.old (deck_of_file m name.now bytes.now) result draft.new }
     ensures ends { EndsBy (AreStepsAbove (F.files files.old) most_depth name.now bytes.now) draft.old result draft.new }
     ensures extends { Extends draft.old.store draft.new.store }
-    ensures closed { OnOk result (IsClosed draft.old.store.lines → IsClosed draft.new.store.lines) }
+    ensures closed { OnOk result (AreBlocksClosed draft.old.store.lines → AreBlocksClosed draft.new.store.lines) }
     ensures kept { F.files files.new ≡ F.files files.old }
     ensures stores { F.store_faults files.new ≡ F.store_faults files.old }
     ensures counted { F.faults files.new ≡ faults_after_load (F.faults files.old) result }
@@ -99,7 +100,7 @@ fn load_line<F: Files>(
         result draft.new }
     ensures ends { EndsBy
         (AreStepsOfLine
-        (λ word. AreStepsBelow (F.files files.old) depth name.now (beside name.now word))
+        (λ word. AreStepsBelow (F.files files.old) depth name.now (included_name name.now word))
         name.now (reverse blocks.old.items) line (reading_of line.text))
         draft.old result draft.new }
     ensures blocks { OnOk result (reverse blocks.new.items

@@ -1,14 +1,14 @@
 //! Names of included files.
 
 ghost use Rattle.std.specs.Prelude.{◌≡◌, IfOk};
-ghost use Rattle.deck_lines.specs.Includes.{beside, folder_of};
+ghost use Rattle.deck_lines.specs.Includes.{folder_of, included_name};
 
 use std::alloc::{AllocError, Global};
 use units_io::Text;
 
 /// Returns the full name under which the file `name` is looked up if the file `includer` includes it.
 pub(crate) fn name_beside(alloc: Global, includer: &[u8], name: &[u8]) -> Result<Text, AllocError>
-    ensures { IfOk result (λ full. full ≡ beside includer.now name.now) }
+    ensures { IfOk result (λ full. full ≡ included_name includer.now name.now) }
 {
     if name.first() == Some(&b'/') {
         return Text::from_bytes(alloc, name);

@@ -4,11 +4,12 @@ ghost use Rattle.std.specs.Prelude.{◌≡◌, ◌++◌, ◌∷◌, ◌+◌, ◌
 ghost use Rattle.std.specs.Prelude.{option_map, OnOk, ◌≤◌, vec_capacity, vec_len, IfOk};
 ghost use Rattle.std.specs.Option.{option_copied};
 ghost use Rattle.def_entry.specs.Entries as entries;
-ghost use Rattle.def_entry.specs.Seen.{seen_entry};
+ghost use Rattle.def_entry.specs.LineViews.{seen_entry};
 ghost use Rattle.def_entry.specs.declared.key.Key as key_spec;
-ghost use Rattle.deck_lines.specs.Kept.{AreDefined, HasRoomFor, IsDefined, keyed_definition, seen_definition};
-ghost use Rattle.deck_lines.specs.Kept.{all_with_numbers, with_number};
-ghost use Rattle.deck_lines.specs.Names.{Names, key_at, no_names};
+ghost use Rattle.deck_lines.specs.StoredDefinitions.{AreDefined, HasRoomFor, IsDefined, keyed_definition};
+ghost use Rattle.deck_lines.specs.StoredDefinitions.{seen_definition};
+ghost use Rattle.deck_lines.specs.StoredDefinitions.{all_with_numbers, with_number};
+ghost use Rattle.deck_lines.specs.Names.{Names, key_numbered, no_names};
 ghost use Rattle.deck_lines.specs.NumberedKeys.{names_in};
 ghost use Rattle.deck_lines.specs.Readings.{entry_in};
 ghost use Rattle.deck_lines.specs.Renumberings.{AreNumbers, names_after};
@@ -18,7 +19,7 @@ ghost use Rattle.deck_lines.specs.declared.line.DeckLine.{DeckLine};
 use super::exchange::exchange;
 use super::key_numbers::KeyNumbers;
 use super::lists;
-use super::renumbering::Renumbering;
+use super::new_key_numbers::Renumbering;
 use crate::key_number::KeyNumber;
 use def_entry::{Key, What};
 use std::alloc::{AllocError, Global};
@@ -88,7 +89,7 @@ impl Definitions {
         ensures names { (line : List ℕ)
             → names_in self.new.keys
             ≡ with_definition (names_in self.old.keys) (option_map (seen_entry line) definition) }
-        ensures number { (line : List ℕ) → option_map (key_at (names_in self.new.keys)) result
+        ensures number { (line : List ℕ) → option_map (key_numbered (names_in self.new.keys)) result
             ≡ option_map (λ d. Some d.0) (option_map (seen_entry line) definition) }
     {
         match definition {

@@ -4,11 +4,11 @@ ghost use Rattle.std.specs.Prelude.{◌≡◌, ◌≤◌, ◌<◌, ◌+◌, Some
 ghost use Rattle.std.specs.Bool.{OnTrue};
 ghost use Rattle.std.specs.Option.{option_copied};
 ghost use Rattle.def_entry.specs.Views.{entry_view};
-ghost use Rattle.deck_lines.specs.Edited.{store_after, store_before, unedited};
-ghost use Rattle.deck_lines.specs.Kept.{IsDefined, keyed_definition, seen_definition};
+ghost use Rattle.deck_lines.specs.StoreEdits.{store_after, store_before, store_unedited};
+ghost use Rattle.deck_lines.specs.StoredDefinitions.{IsDefined, keyed_definition, seen_definition};
 ghost use Rattle.deck_lines.specs.Limits.{pass_limit};
-ghost use Rattle.deck_lines.specs.Names.{key_at, names_of};
-ghost use Rattle.deck_lines.specs.Numbering.{IsNumbering};
+ghost use Rattle.deck_lines.specs.Names.{key_numbered, names_of_kind};
+ghost use Rattle.deck_lines.specs.KeyNumbering.{IsNumbering};
 ghost use Rattle.deck_lines.specs.Origins.{exchanged_lines};
 ghost use Rattle.deck_lines.specs.Readings.{entry_in};
 ghost use Rattle.deck_lines.specs.Stores.{definition_at};
@@ -32,10 +32,10 @@ pub struct EditedLines<'a> {
 }
 
 impl<'a> Model for EditedLines<'a> {
-    ghost use Rattle.deck_lines.specs.Edited.{ArePut, Edited};
+    ghost use Rattle.deck_lines.specs.StoreEdits.{ArePut, StoreEdit};
     ghost use Rattle.deck_lines.specs.Origins.{exchanged_lines};
 
-    ghost Value = { Edited };
+    ghost Value = { StoreEdit };
 
     ghost view = { λ e. record {
       before = e.store.now.lines;
@@ -48,8 +48,8 @@ impl<'a> Model for EditedLines<'a> {
 
 impl<'a> EditedLines<'a> {
     /// Returns a view of the store without a change.
-    pub fn unchanged(store: &'a LineStore) -> EditedLines<'a>
-        ensures is { result ≡ unedited store.now }
+    pub fn without_change(store: &'a LineStore) -> EditedLines<'a>
+        ensures is { result ≡ store_unedited store.now }
         ensures within { pass_limit store.now.lines ≡ false }
     {
         EditedLines {
@@ -62,7 +62,7 @@ impl<'a> EditedLines<'a> {
     }
 
     /// Returns a view in which the `cut` lines from `at` on are replaced by `put`.
-    pub fn exchanged(
+    pub fn with_exchange(
         store: &'a LineStore,
         at: usize,
         cut: usize,
@@ -88,9 +88,9 @@ impl<'a> EditedLines<'a> {
 
     /// Returns a view of the lines before the edit.
     pub fn before(&self) -> EditedLines<'_>
-        ensures { result ≡ unedited (store_before self.now) }
+        ensures { result ≡ store_unedited (store_before self.now) }
     {
-        EditedLines::unchanged(self.store)
+        EditedLines::without_change(self.store)
     }
 
     /// Returns the number of lines after the edit.
@@ -136,7 +136,7 @@ impl<'a> EditedLines<'a> {
     /// Returns the number of the key that the line at `place` defines, or `None` if it defines nothing or there is no
     /// such line.
     pub fn key_number(&self, place: usize) -> Option<KeyNumber>
-        ensures number { option_map (key_at self.now.names) result
+        ensures number { option_map (key_numbered self.now.names) result
             ≡ option_map (λ d. Some d.0) (definition_at self.now.after place) }
         ensures numbering { IsNumbering (store_after self.now) }
     {
@@ -148,14 +148,14 @@ impl<'a> EditedLines<'a> {
 
     /// Returns the name of the key with this number, or `None` if there is no such key.
     pub fn name(&self, n: KeyNumber) -> Option<&[u8]>
-        ensures { option_copied result ≡ slice_get (names_of self.now.names n.kind) n.number }
+        ensures { option_copied result ≡ slice_get (names_of_kind self.now.names n.kind) n.number }
     {
         self.store.name(n)
     }
 
     /// Returns the number of keys of a kind that have a number.
     pub fn name_count(&self, kind: Kind) -> usize
-        ensures count { result ≡ length (names_of self.now.names kind) }
+        ensures count { result ≡ length (names_of_kind self.now.names kind) }
         ensures before { IsNumbering (store_before self.now) }
         ensures after { IsNumbering (store_after self.now) }
     {

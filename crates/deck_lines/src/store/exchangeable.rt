@@ -4,7 +4,7 @@ ghost use Rattle.std.specs.Prelude.{◌≡◌, ◌≤◌, ◌+◌, ◌↔◌, �
 ghost use Rattle.std.specs.Prelude.{if◌then◌else◌};
 ghost use Rattle.def_lines.specs.Kinds.{kind_of};
 ghost use Rattle.deck_lines.specs.Blocks.{role_of};
-ghost use Rattle.deck_lines.specs.Closed.{IsClosed, blocks_past, blocks_without};
+ghost use Rattle.deck_lines.specs.ClosedBlocks.{AreBlocksClosed, blocks_past, blocks_without};
 ghost use Rattle.deck_lines.specs.Exchangeable.{CanExchange};
 ghost use Rattle.deck_lines.specs.Limits.{most_bytes, most_lines, text_len};
 ghost use Rattle.deck_lines.specs.Origins.{exchanged_lines};
@@ -52,7 +52,7 @@ fn are_closed_and_small(
 ) -> Result<bool, AllocError>
     requires places { at + cut ≤ length store.now.lines }
     requires few { length (exchanged_lines at cut put.now store.now.lines) ≤ most_lines }
-    ensures { IfOk result (λ are. IsTrue are ↔ (IsClosed (exchanged_lines at cut put.now store.now.lines)
+    ensures { IfOk result (λ are. IsTrue are ↔ (AreBlocksClosed (exchanged_lines at cut put.now store.now.lines)
         × (text_len (exchanged_lines at cut put.now store.now.lines) ≤ most_bytes))) }
 {
     let mut endings = Vec::new(alloc);
@@ -74,7 +74,7 @@ fn are_closed_and_small(
 
 // Updates the endings of the open blocks, innermost last, for a line. Returns false if the line is an end line, without
 // the mark, that does not close the innermost block.
-#[tactic(auto, unfolding(crate::specs::Closed::blocks_past))]
+#[tactic(auto, unfolding(crate::specs::ClosedBlocks::blocks_past))]
 fn pass_line(endings: &mut Vec<Ending>, text: &[u8], mark: bool) -> Result<bool, AllocError>
     ensures { IfOk result (λ passes. (number : ℕ)
         → blocks_past (reverse endings.old.items) (record { number = number; text = text.now; mark = mark })

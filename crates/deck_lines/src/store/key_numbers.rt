@@ -3,7 +3,7 @@
 ghost use Rattle.std.specs.Prelude.{◌≡◌, ◌<◌, Some, false, length, slice_get, OnOk, MatchOption};
 ghost use Rattle.std.specs.Option.{option_copied};
 ghost use Rattle.def_entry.specs.Keys.{key};
-ghost use Rattle.deck_lines.specs.Names.{is_numbered, key_at, names_of, no_names, with_key};
+ghost use Rattle.deck_lines.specs.Names.{is_numbered, key_numbered, names_of_kind, no_names, with_key};
 ghost use Rattle.deck_lines.specs.NumberedKeys.{names_in, spare_of};
 
 use super::name_set::NameSet;
@@ -35,15 +35,15 @@ impl KeyNumbers {
     }
 
     /// Returns the hash seed of the tables.
-    pub fn seed(&self) -> HashSeed {
-        self.units.seed()
+    pub fn table_seed(&self) -> HashSeed {
+        self.units.table_seed()
     }
 
     /// Returns the number of a key, or `None` if it has no number.
     pub fn number_of(&self, kind: Kind, name: &[u8]) -> Option<KeyNumber>
         ensures { MatchOption result
             (is_numbered (names_in self.now) (key kind name.now) ≡ false)
-            (λ n. key_at (names_in self.now) n ≡ Some (key kind name.now)) }
+            (λ n. key_numbered (names_in self.now) n ≡ Some (key kind name.now)) }
     {
         match self.of_kind(kind).number_of(name) {
             Some(number) => Some(KeyNumber { kind, number }),
@@ -53,14 +53,14 @@ impl KeyNumbers {
 
     /// Returns the name of the key with this number, or `None` if there is no such key.
     pub fn name(&self, n: KeyNumber) -> Option<&[u8]>
-        ensures { option_copied result ≡ slice_get (names_of (names_in self.now) n.kind) n.number }
+        ensures { option_copied result ≡ slice_get (names_of_kind (names_in self.now) n.kind) n.number }
     {
         self.of_kind(n.kind).name(n.number)
     }
 
     /// Returns the number of keys of this kind that have a number.
     pub fn count(&self, kind: Kind) -> usize
-        ensures { result ≡ length (names_of (names_in self.now) kind) }
+        ensures { result ≡ length (names_of_kind (names_in self.now) kind) }
     {
         self.of_kind(kind).len()
     }
@@ -82,7 +82,7 @@ impl KeyNumbers {
     pub fn put(&mut self, key: Key) -> KeyNumber
         requires { 0 < spare_of self.old key.kind }
         ensures names { names_in self.new ≡ with_key (names_in self.old) key }
-        ensures number { key_at (names_in self.new) result ≡ Some key }
+        ensures number { key_numbered (names_in self.new) result ≡ Some key }
     {
         let kind = key.kind;
         let name = key.name.into_bytes();
@@ -97,7 +97,7 @@ impl KeyNumbers {
 
     // Returns the table of names of a kind.
     fn of_kind(&self, kind: Kind) -> &NameSet
-        ensures { result.now.names ≡ names_of (names_in self.now) kind }
+        ensures { result.now.names ≡ names_of_kind (names_in self.now) kind }
     {
         match kind {
             Kind::Unit => &self.units,

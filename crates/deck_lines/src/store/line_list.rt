@@ -3,12 +3,12 @@
 ghost use Rattle.std.specs.Prelude.{◌≡◌, ◌++◌, ◌∷◌, ◌+◌, ◌<◌, ◌≤◌, [], false, not, length, map, take, drop, IfOk};
 ghost use Rattle.std.specs.Prelude.{IfErr, OnOk, OnErr};
 ghost use Rattle.deck_lines.specs.Limits.{bytes_in, most_bytes, pass_limit, text_len};
-ghost use Rattle.deck_lines.specs.Marks.{unmarked, with_mark, with_marks};
+ghost use Rattle.deck_lines.specs.Marks.{line_without_mark, with_mark, with_marks};
 ghost use Rattle.deck_lines.specs.Exchanges.{IsExchanged};
 ghost use Rattle.deck_lines.specs.declared.line.DeckLine as line_spec;
 
+use super::line_replacement::exchange_in_list;
 use super::lists;
-use super::marked::exchange_in_list;
 use crate::line::{DeckLine, DeckLines, MarkedLines};
 use def_lines::{Line, Lines};
 use std::alloc::{AllocError, AllocFailed, Global};
@@ -62,7 +62,7 @@ impl LineList {
 
     /// Returns the lines without their marks.
     pub(crate) fn lines(&self) -> &Lines
-        ensures lines { result.now ≡ map unmarked self.now }
+        ensures lines { result.now ≡ map line_without_mark self.now }
         ensures within { pass_limit self.now ≡ false }
     {
         &self.lines

@@ -4,24 +4,24 @@ ghost use Rattle.std.specs.Prelude.{◌≡◌, ◌++◌, ◌∷◌, ◌+◌, ◌
 ghost use Rattle.std.specs.Prelude.{option_map, OnOk, OnErr, IfOk, MatchOption, ◌≤◌, IfErr};
 ghost use Rattle.std.specs.Option.{option_copied};
 ghost use Rattle.def_entry.specs.Keys.{key};
-ghost use Rattle.def_entry.specs.Seen.{seen_entry};
+ghost use Rattle.def_entry.specs.LineViews.{seen_entry};
 ghost use Rattle.def_entry.specs.Views.{entry_view};
 ghost use Rattle.deck_lines.specs.Exchanges.{IsExchanged};
-ghost use Rattle.deck_lines.specs.Kept.{IsDefined, keyed_definition, seen_definition};
+ghost use Rattle.deck_lines.specs.StoredDefinitions.{IsDefined, keyed_definition, seen_definition};
 ghost use Rattle.deck_lines.specs.Limits.{most_lines, pass_limit};
 ghost use Rattle.deck_lines.specs.Loads.{with_lines};
-ghost use Rattle.deck_lines.specs.Marks.{unmarked, with_mark, with_marks};
-ghost use Rattle.deck_lines.specs.Names.{IsExtended, is_numbered, key_at, names_of};
-ghost use Rattle.deck_lines.specs.Numbering.{IsNumbering};
+ghost use Rattle.deck_lines.specs.Marks.{line_without_mark, with_mark, with_marks};
+ghost use Rattle.deck_lines.specs.Names.{IsExtended, is_numbered, key_numbered, names_of_kind};
+ghost use Rattle.deck_lines.specs.KeyNumbering.{IsNumbering};
 ghost use Rattle.deck_lines.specs.Readings.{entry_in};
 ghost use Rattle.deck_lines.specs.Renumberings.{IsRenumbering};
-ghost use Rattle.deck_lines.specs.Stores.{definition_at, no_lines, with_line};
+ghost use Rattle.deck_lines.specs.Stores.{definition_at, no_lines, store_with_line};
 ghost use Rattle.deck_lines.specs.declared.line.DeckLine as line_spec;
 
 use super::definitions::{Definition, Definitions, PutDefinitions};
 use super::line_list::LineList;
+use super::new_key_numbers::Renumbering;
 use super::reads::read_definitions;
-use super::renumbering::Renumbering;
 use crate::key_number::KeyNumber;
 use crate::line::{DeckLine, DeckLines, MarkedLines};
 use def_entry::{Entry, Key, Kind, What};
@@ -53,11 +53,11 @@ impl Model for LineStore {
 
     ghost Value = { Store };
 
-    ghost use Rattle.deck_lines.specs.Kept.{IsKept};
+    ghost use Rattle.deck_lines.specs.StoredDefinitions.{HoldsDefinitions};
 
     ghost view = { λ s. record { lines = s.lines; names = names_in s.definitions.keys } };
 
-    ghost invariant = { λ s. IsKept s.lines s.definitions };
+    ghost invariant = { λ s. HoldsDefinitions s.lines s.definitions };
 }
 
 impl LineStore {
@@ -72,8 +72,8 @@ impl LineStore {
     }
 
     /// Returns the hash seed of the tables of names.
-    pub fn seed(&self) -> HashSeed {
-        self.definitions.keys.seed()
+    pub fn table_seed(&self) -> HashSeed {
+        self.definitions.keys.table_seed()
     }
 
     /// Returns the number of lines.
@@ -93,7 +93,7 @@ impl LineStore {
 
     /// Returns the lines without their marks.
     pub fn lines(&self) -> &Lines
-        ensures lines { result.now ≡ map unmarked self.now.lines }
+        ensures lines { result.now ≡ map line_without_mark self.now.lines }
         ensures within { pass_limit self.now.lines ≡ false }
     {
         self.lines.lines()
@@ -127,8 +127,8 @@ impl LineStore {
     ) -> Result<Option<KeyNumber>, AllocError>
         requires reads { option_map (seen_entry line.text) definition ≡ entry_in (with_mark mark line) }
         requires room { pass_limit (self.old.lines ++ with_mark mark line ∷ []) ≡ false }
-        ensures ok { OnOk result (self.new ≡ with_line self.old (with_mark mark line)) }
-        ensures number { IfOk result (λ n. option_map (key_at self.new.names) n
+        ensures ok { OnOk result (self.new ≡ store_with_line self.old (with_mark mark line)) }
+        ensures number { IfOk result (λ n. option_map (key_numbered self.new.names) n
             ≡ option_map (λ d. Some d.0) (entry_in (with_mark mark line))) }
         ensures err { OnErr result (self.new ≡ self.old) }
     {
@@ -153,7 +153,7 @@ impl LineStore {
     /// Returns the number of the key that the line at `place` defines, or `None` if it defines nothing or there is no
     /// such line.
     pub fn key_number(&self, place: usize) -> Option<KeyNumber>
-        ensures number { option_map (key_at self.now.names) result
+        ensures number { option_map (key_numbered self.now.names) result
             ≡ option_map (λ d. Some d.0) (definition_at self.now.lines place) }
         ensures numbering { IsNumbering self.now }
     {
@@ -168,7 +168,7 @@ impl LineStore {
     pub fn number_of(&self, kind: Kind, name: &[u8]) -> Option<KeyNumber>
         ensures number { MatchOption result
             (is_numbered self.now.names (key kind name.now) ≡ false)
-            (λ n. key_at self.now.names n ≡ Some (key kind name.now)) }
+            (λ n. key_numbered self.now.names n ≡ Some (key kind name.now)) }
         ensures numbering { IsNumbering self.now }
     {
         self.definitions.keys.number_of(kind, name)
@@ -176,7 +176,7 @@ impl LineStore {
 
     /// Returns the name of the key with this number, or `None` if there is no such key.
     pub fn name(&self, n: KeyNumber) -> Option<&[u8]>
-        ensures { option_copied result ≡ slice_get (names_of self.now.names n.kind) n.number }
+        ensures { option_copied result ≡ slice_get (names_of_kind self.now.names n.kind) n.number }
     {
         self.definitions.keys.name(n)
     }
@@ -184,7 +184,7 @@ impl LineStore {
     /// Returns the number of keys of a kind that have a number. Their numbers are those from 0 to one less than this
     /// count.
     pub fn name_count(&self, kind: Kind) -> usize
-        ensures count { result ≡ length (names_of self.now.names kind) }
+        ensures count { result ≡ length (names_of_kind self.now.names kind) }
         ensures numbering { IsNumbering self.now }
     {
         self.definitions.keys.count(kind)

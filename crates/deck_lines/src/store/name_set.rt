@@ -44,7 +44,7 @@ impl NameSet {
     }
 
     /// Returns the hash seed of the table.
-    pub fn seed(&self) -> HashSeed {
+    pub fn table_seed(&self) -> HashSeed {
         *self.names.hasher()
     }
 

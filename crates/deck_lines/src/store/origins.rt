@@ -54,7 +54,7 @@ pub(crate) fn line_at<'a>(
 {
     match origin_of(store.len(), at, cut, put.len(), place) {
         Origin::Stored(place) => store.marked().line(place),
-        Origin::Put(place) => put[place].borrowed(),
+        Origin::Put(place) => put[place].borrow_line(),
         Origin::Past => unreachable!(),
     }
 }

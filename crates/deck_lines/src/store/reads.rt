@@ -2,7 +2,7 @@
 
 ghost use Rattle.std.specs.Prelude.{◌≡◌, Some, map, option_map, IfOk};
 ghost use Rattle.def_entry.specs.Views.{what_view};
-ghost use Rattle.deck_lines.specs.Kept.{IsDefined, keyed_definition, seen_definition};
+ghost use Rattle.deck_lines.specs.StoredDefinitions.{IsDefined, keyed_definition, seen_definition};
 ghost use Rattle.deck_lines.specs.Names.{IsExtended, IsOneToOne};
 ghost use Rattle.deck_lines.specs.NumberedKeys.{names_in};
 ghost use Rattle.deck_lines.specs.Readings.{entry_in};
@@ -10,7 +10,7 @@ ghost use Rattle.deck_lines.specs.Readings.{entry_in};
 use super::definitions::{Definition, PutDefinitions};
 use super::key_numbers::KeyNumbers;
 use crate::line::DeckLine;
-use crate::reading::{Reading, read_line};
+use crate::line_meaning::{Reading, read_line};
 use def_entry::{Key, What};
 use std::alloc::{AllocError, Global};
 

@@ -10,29 +10,29 @@ use Rattle.tree_eval.proofs.Arms.{base_lighter, base_stands, chain_ends, chain_g
 use Rattle.tree_eval.proofs.Arms.{exponent_lighter, exponent_stands, group_part, negate_part, power_pair, root_part}
 use Rattle.tree_eval.proofs.Chains.{begins, end_place, end_worth, first_fault, first_lighter, first_stand, goes}
 use Rattle.tree_eval.proofs.Chains.{member_fault, member_lighter, member_stand}
-use Rattle.tree_eval.proofs.Listed.{juxtaposed_is, product_is, sum_is}
+use Rattle.tree_eval.proofs.MemberChains.{juxtaposed_is, product_is, sum_is}
 use Rattle.tree_eval.proofs.Multiples.{multiple_gives, multiple_place, multiple_usable, multiple_within}
 use Rattle.tree_eval.proofs.Targets.{alias_target}
 use Rattle.tree_eval.proofs.Uses.{use_gives, use_operand, use_within}
 use Rattle.tree_eval.proofs.Words.{behind_fault, both_give, operand_fault, taken_give, word_fault}
 use Rattle.tree_eval.proofs.+eval.Goals as goal
 
-pub scope::Scope::worth-word-requires : goal.scope::Scope::worth-word-requires
-scope::Scope::worth-word-requires g t c =
+pub scope::Scope::evaluate-word-requires : goal.scope::Scope::evaluate-word-requires
+scope::Scope::evaluate-word-requires g t c =
     alone_within _ _ (ap syntax c.in-Word.is ∙ c.view_law.ensures.word c.in-Word.field-0) c.requires
 
-pub scope::Scope::worth-returns-in-Word-clause-worth : goal.scope::Scope::worth-returns-in-Word-clause-worth
-scope::Scope::worth-returns-in-Word-clause-worth g t c =
+pub scope::Scope::evaluate-returns-in-Word-clause-worth : goal.scope::Scope::evaluate-returns-in-Word-clause-worth
+scope::Scope::evaluate-returns-in-Word-clause-worth g t c =
     alone_gives _ _ (ap syntax c.in-Word.is ∙ c.view_law.ensures.word c.in-Word.field-0) c.requires
     (g.E.Env.means c.args.self.now.env.now) _ _ _ c.word.ensures.worth
 
-pub scope::Scope::worth-next_meaning-meaning-requires : goal.scope::Scope::worth-next_meaning-meaning-requires
-scope::Scope::worth-next_meaning-meaning-requires g t c =
+pub scope::Scope::evaluate-next_meaning-meaning-requires : goal.scope::Scope::evaluate-next_meaning-meaning-requires
+scope::Scope::evaluate-next_meaning-meaning-requires g t c =
     use_within Forward _ _ _ _ (ap syntax c.in-Call.is ∙ c.view_law.ensures.call c.in-Call.field-0 c.in-Call.operand)
     c.requires
 
-pub scope::Scope::worth-operated-requires : goal.scope::Scope::worth-operated-requires
-scope::Scope::worth-operated-requires g t c κs within =
+pub scope::Scope::evaluate-evaluate_operand-requires : goal.scope::Scope::evaluate-evaluate_operand-requires
+scope::Scope::evaluate-evaluate_operand-requires g t c κs within =
     let part = use_operand Forward _ _ _ _
     (ap syntax c.in-Call.is
     ∙ (c.view_law.ensures.call c.in-Call.field-0 c.in-Call.operand
@@ -40,22 +40,23 @@ scope::Scope::worth-operated-requires g t c κs within =
     c.requires _ _ _ _ c.next_meaning-meaning.ensures.told c.next_meaning-meaning.ensures.place in
     search (rules, arith, part.can, part.lighter, part.stand)
 
-pub scope::Scope::worth-returns-in-Call-clause-worth : goal.scope::Scope::worth-returns-in-Call-clause-worth
-scope::Scope::worth-returns-in-Call-clause-worth g t c =
+pub scope::Scope::evaluate-returns-in-Call-clause-worth : goal.scope::Scope::evaluate-returns-in-Call-clause-worth
+scope::Scope::evaluate-returns-in-Call-clause-worth g t c =
     use_gives Forward _ _ _ _
     (ap syntax c.in-Call.is
     ∙ (c.view_law.ensures.call c.in-Call.field-0 c.in-Call.operand
     ∙ ap (λ y. tree.Call c.in-Call.field-0.value (syntax y)) (sym c.deref-in-Call.ensures)))
-    c.requires _ _ _ _ c.next_meaning-meaning.ensures.told _ _ _ c.operated.ensures.worth
+    c.requires _ _ _ _ c.next_meaning-meaning.ensures.told _ _ _ c.evaluate_operand.ensures.worth
 
-pub scope::Scope::worth-next_meaning-meaning-requires-in-Inverse
-    : goal.scope::Scope::worth-next_meaning-meaning-requires-in-Inverse
-scope::Scope::worth-next_meaning-meaning-requires-in-Inverse g t c =
+pub scope::Scope::evaluate-next_meaning-meaning-requires-in-Inverse
+    : goal.scope::Scope::evaluate-next_meaning-meaning-requires-in-Inverse
+scope::Scope::evaluate-next_meaning-meaning-requires-in-Inverse g t c =
     use_within Inverse _ _ _ _
     (ap syntax c.in-Inverse.is ∙ c.view_law.ensures.inverse c.in-Inverse.field-0 c.in-Inverse.operand) c.requires
 
-pub scope::Scope::worth-operated-requires-in-Inverse : goal.scope::Scope::worth-operated-requires-in-Inverse
-scope::Scope::worth-operated-requires-in-Inverse g t c κs within =
+pub scope::Scope::evaluate-evaluate_operand-requires-in-Inverse
+    : goal.scope::Scope::evaluate-evaluate_operand-requires-in-Inverse
+scope::Scope::evaluate-evaluate_operand-requires-in-Inverse g t c κs within =
     let part = use_operand Inverse _ _ _ _
     (ap syntax c.in-Inverse.is
     ∙ (c.view_law.ensures.inverse c.in-Inverse.field-0 c.in-Inverse.operand
@@ -64,40 +65,40 @@ scope::Scope::worth-operated-requires-in-Inverse g t c κs within =
     c.next_meaning-meaning-in-Inverse.ensures.place in
     search (rules, arith, part.can, part.lighter, part.stand)
 
-pub scope::Scope::worth-returns-in-Inverse-clause-worth : goal.scope::Scope::worth-returns-in-Inverse-clause-worth
-scope::Scope::worth-returns-in-Inverse-clause-worth g t c =
+pub scope::Scope::evaluate-returns-in-Inverse-clause-worth : goal.scope::Scope::evaluate-returns-in-Inverse-clause-worth
+scope::Scope::evaluate-returns-in-Inverse-clause-worth g t c =
     use_gives Inverse _ _ _ _
     (ap syntax c.in-Inverse.is
     ∙ (c.view_law.ensures.inverse c.in-Inverse.field-0 c.in-Inverse.operand
     ∙ ap (λ y. tree.Inverse c.in-Inverse.field-0.value (syntax y)) (sym c.deref-in-Inverse.ensures)))
-    c.requires _ _ _ _ c.next_meaning-meaning-in-Inverse.ensures.told _ _ _ c.operated-in-Inverse.ensures.worth
+    c.requires _ _ _ _ c.next_meaning-meaning-in-Inverse.ensures.told _ _ _ c.evaluate_operand-in-Inverse.ensures.worth
 
-pub scope::Scope::worth-worth-requires : goal.scope::Scope::worth-worth-requires
-scope::Scope::worth-worth-requires g t c κs within =
+pub scope::Scope::evaluate-evaluate-requires : goal.scope::Scope::evaluate-evaluate-requires
+scope::Scope::evaluate-evaluate-requires g t c κs within =
     let part = group_part (g.E.Env.means c.args.self.now.env.now)
     (ap syntax c.in-Group.is
     ∙ (c.view_law.ensures.group c.in-Group.operand ∙ ap (λ y. tree.Group (syntax y)) (sym c.deref-in-Group.ensures)))
     c.requires in
     search (rules, arith, part.lighter, part.stand)
 
-pub scope::Scope::worth-root-requires : goal.scope::Scope::worth-root-requires
-scope::Scope::worth-root-requires g t c κs within =
+pub scope::Scope::evaluate-root-requires : goal.scope::Scope::evaluate-root-requires
+scope::Scope::evaluate-root-requires g t c κs within =
     let part = root_part (g.E.Env.means c.args.self.now.env.now)
     (ap syntax c.in-Root.is
     ∙ (c.view_law.ensures.root c.in-Root.kind c.in-Root.operand
     ∙ ap (λ y. tree.Root c.in-Root.kind (syntax y)) (sym c.deref-in-Root.ensures))) c.requires in
     search (rules, arith, part.lighter, part.stand)
 
-pub scope::Scope::worth-negated-requires : goal.scope::Scope::worth-negated-requires
-scope::Scope::worth-negated-requires g t c κs within =
+pub scope::Scope::evaluate-evaluate_negative-requires : goal.scope::Scope::evaluate-evaluate_negative-requires
+scope::Scope::evaluate-evaluate_negative-requires g t c κs within =
     let part = negate_part (g.E.Env.means c.args.self.now.env.now)
     (ap syntax c.in-Negate.is
     ∙ (c.view_law.ensures.negate c.in-Negate.operand
     ∙ ap (λ y. tree.Negate (syntax y)) (sym c.deref-in-Negate.ensures))) c.requires in
     search (rules, arith, part.lighter, part.stand)
 
-pub scope::Scope::worth-power-requires : goal.scope::Scope::worth-power-requires
-scope::Scope::worth-power-requires g t c κs within =
+pub scope::Scope::evaluate-power-requires : goal.scope::Scope::evaluate-power-requires
+scope::Scope::evaluate-power-requires g t c κs within =
     let pair = power_pair (g.E.Env.means c.args.self.now.env.now)
     (ap syntax c.in-Power.is
     ∙ (c.view_law.ensures.power c.in-Power.base c.in-Power.exponent
@@ -105,138 +106,145 @@ scope::Scope::worth-power-requires g t c κs within =
     c.requires in
     search (rules, arith, pair.lighter, pair.stand)
 
-pub scope::Scope::power-worth-requires : goal.scope::Scope::power-worth-requires
-scope::Scope::power-worth-requires g t c κs within =
+pub scope::Scope::power-evaluate-requires : goal.scope::Scope::power-evaluate-requires
+scope::Scope::power-evaluate-requires g t c κs within =
     let lighter = base_lighter (g.E.Env.means c.args.self.now.env.now) (syntax c.args.base.now)
     (syntax c.args.exponent.now) in
     let stand = base_stands _ _ (syntax c.args.base.now) (syntax c.args.exponent.now) c.requires in
     search (rules, arith)
 
-pub scope::Scope::power-worth-requires-2 : goal.scope::Scope::power-worth-requires-2
-scope::Scope::power-worth-requires-2 g t c κs within =
+pub scope::Scope::power-evaluate-requires-2 : goal.scope::Scope::power-evaluate-requires-2
+scope::Scope::power-evaluate-requires-2 g t c κs within =
     let lighter = exponent_lighter (g.E.Env.means c.args.self.now.env.now) (syntax c.args.base.now)
     (syntax c.args.exponent.now) in
     let stand = exponent_stands _ _ (syntax c.args.base.now) (syntax c.args.exponent.now) c.requires
-    c.in_ok-worth.ensures.place in
+    c.in_ok-evaluate.ensures.place in
     search (rules, arith)
 
-pub scope::Scope::worth-juxtaposed-requires : goal.scope::Scope::worth-juxtaposed-requires
-scope::Scope::worth-juxtaposed-requires g t c κs within =
+pub scope::Scope::evaluate-evaluate_juxtaposition-requires : goal.scope::Scope::evaluate-evaluate_juxtaposition-requires
+scope::Scope::evaluate-evaluate_juxtaposition-requires g t c κs within =
     let is = juxtaposed_is (g.E.Env.means c.args.self.now.env.now) _
     (ap syntax c.in-Juxtaposed.is ∙ c.view_law.ensures.juxtaposed c.in-Juxtaposed.trees) in
     search (rules, arith, chain_lighter is, chain_stands is _ _ c.requires)
 
-pub scope::Scope::worth-returns-in-Juxtaposed-clause-worth : goal.scope::Scope::worth-returns-in-Juxtaposed-clause-worth
-scope::Scope::worth-returns-in-Juxtaposed-clause-worth g t c =
+pub scope::Scope::evaluate-returns-in-Juxtaposed-clause-worth
+    : goal.scope::Scope::evaluate-returns-in-Juxtaposed-clause-worth
+scope::Scope::evaluate-returns-in-Juxtaposed-clause-worth g t c =
     let is = juxtaposed_is (g.E.Env.means c.args.self.now.env.now) _
     (ap syntax c.in-Juxtaposed.is ∙ c.view_law.ensures.juxtaposed c.in-Juxtaposed.trees) in
-    chain_gives is _ _ _ c.juxtaposed.ensures.worth
+    chain_gives is _ _ _ c.evaluate_juxtaposition.ensures.worth
 
-pub scope::Scope::worth-returns-in-Juxtaposed-clause-place : goal.scope::Scope::worth-returns-in-Juxtaposed-clause-place
-scope::Scope::worth-returns-in-Juxtaposed-clause-place g t c =
+pub scope::Scope::evaluate-returns-in-Juxtaposed-clause-place
+    : goal.scope::Scope::evaluate-returns-in-Juxtaposed-clause-place
+scope::Scope::evaluate-returns-in-Juxtaposed-clause-place g t c =
     let is = juxtaposed_is (g.E.Env.means c.args.self.now.env.now) _
     (ap syntax c.in-Juxtaposed.is ∙ c.view_law.ensures.juxtaposed c.in-Juxtaposed.trees) in
-    chain_ends is _ _ _ c.juxtaposed.ensures.place
+    chain_ends is _ _ _ c.evaluate_juxtaposition.ensures.place
 
-pub scope::Scope::worth-chain-requires : goal.scope::Scope::worth-chain-requires
-scope::Scope::worth-chain-requires g t c κs within =
+pub scope::Scope::evaluate-chain-requires : goal.scope::Scope::evaluate-chain-requires
+scope::Scope::evaluate-chain-requires g t c κs within =
     let is = product_is (g.E.Env.means c.args.self.now.env.now) _
     (ap syntax c.in-Product.is ∙ c.view_law.ensures.product c.in-Product.factors) in
     search (rules, arith, chain_lighter is, chain_stands is _ _ c.requires)
 
-pub scope::Scope::worth-returns-in-Product-clause-worth : goal.scope::Scope::worth-returns-in-Product-clause-worth
-scope::Scope::worth-returns-in-Product-clause-worth g t c =
+pub scope::Scope::evaluate-returns-in-Product-clause-worth : goal.scope::Scope::evaluate-returns-in-Product-clause-worth
+scope::Scope::evaluate-returns-in-Product-clause-worth g t c =
     let is = product_is (g.E.Env.means c.args.self.now.env.now) _
     (ap syntax c.in-Product.is ∙ c.view_law.ensures.product c.in-Product.factors) in
     chain_gives is _ _ _ c.chain.ensures.worth
 
-pub scope::Scope::worth-returns-in-Product-clause-place : goal.scope::Scope::worth-returns-in-Product-clause-place
-scope::Scope::worth-returns-in-Product-clause-place g t c =
+pub scope::Scope::evaluate-returns-in-Product-clause-place : goal.scope::Scope::evaluate-returns-in-Product-clause-place
+scope::Scope::evaluate-returns-in-Product-clause-place g t c =
     let is = product_is (g.E.Env.means c.args.self.now.env.now) _
     (ap syntax c.in-Product.is ∙ c.view_law.ensures.product c.in-Product.factors) in
     chain_ends is _ _ _ c.chain.ensures.place
 
-pub scope::Scope::worth-chain-requires-in-Sum : goal.scope::Scope::worth-chain-requires-in-Sum
-scope::Scope::worth-chain-requires-in-Sum g t c κs within =
+pub scope::Scope::evaluate-chain-requires-in-Sum : goal.scope::Scope::evaluate-chain-requires-in-Sum
+scope::Scope::evaluate-chain-requires-in-Sum g t c κs within =
     let is = sum_is (g.E.Env.means c.args.self.now.env.now) _
     (ap syntax c.in-Sum.is ∙ c.view_law.ensures.sum c.in-Sum.terms) in
     search (rules, arith, chain_lighter is, chain_stands is _ _ c.requires)
 
-pub scope::Scope::worth-returns-in-Sum-clause-worth : goal.scope::Scope::worth-returns-in-Sum-clause-worth
-scope::Scope::worth-returns-in-Sum-clause-worth g t c =
+pub scope::Scope::evaluate-returns-in-Sum-clause-worth : goal.scope::Scope::evaluate-returns-in-Sum-clause-worth
+scope::Scope::evaluate-returns-in-Sum-clause-worth g t c =
     let is = sum_is (g.E.Env.means c.args.self.now.env.now) _
     (ap syntax c.in-Sum.is ∙ c.view_law.ensures.sum c.in-Sum.terms) in
     chain_gives is _ _ _ c.chain-in-Sum.ensures.worth
 
-pub scope::Scope::worth-returns-in-Sum-clause-place : goal.scope::Scope::worth-returns-in-Sum-clause-place
-scope::Scope::worth-returns-in-Sum-clause-place g t c =
+pub scope::Scope::evaluate-returns-in-Sum-clause-place : goal.scope::Scope::evaluate-returns-in-Sum-clause-place
+scope::Scope::evaluate-returns-in-Sum-clause-place g t c =
     let is = sum_is (g.E.Env.means c.args.self.now.env.now) _
     (ap syntax c.in-Sum.is ∙ c.view_law.ensures.sum c.in-Sum.terms) in
     chain_ends is _ _ _ c.chain-in-Sum.ensures.place
 
-pub scope::Scope::operated-returns-in_err-put_word-clause-worth
-    : goal.scope::Scope::operated-returns-in_err-put_word-clause-worth
-scope::Scope::operated-returns-in_err-put_word-clause-worth g t c m h =
+pub scope::Scope::evaluate_operand-returns-in_err-put_word-clause-worth
+    : goal.scope::Scope::evaluate_operand-returns-in_err-put_word-clause-worth
+scope::Scope::evaluate_operand-returns-in_err-put_word-clause-worth g t c m h =
     let p = err_from_is_err_and c.from_residual-in_err-put_word.result c.from_residual-in_err-put_word.ensures.1 in
     rw (p.1, p.2) (word_fault _ _ _ _ _ _ h c.in_default.not-Function _ c.in_err-put_word.ensures)
 
-pub scope::Scope::operated-returns-in_err-worth-2-clause-worth
-    : goal.scope::Scope::operated-returns-in_err-worth-2-clause-worth
-scope::Scope::operated-returns-in_err-worth-2-clause-worth g t c m h =
-    let p = err_from_is_err_and c.from_residual-in_err-worth-2.result c.from_residual-in_err-worth-2.ensures.1 in
+pub scope::Scope::evaluate_operand-returns-in_err-evaluate-2-clause-worth
+    : goal.scope::Scope::evaluate_operand-returns-in_err-evaluate-2-clause-worth
+scope::Scope::evaluate_operand-returns-in_err-evaluate-2-clause-worth g t c m h =
+    let p = err_from_is_err_and c.from_residual-in_err-evaluate-2.result c.from_residual-in_err-evaluate-2.ensures.1 in
     rw (p.1, p.2) (behind_fault _ _ _ _ _ _ h c.in_default.not-Function c.in_ok-put_word.ensures _
-    c.in_err-worth-2.ensures.worth)
+    c.in_err-evaluate-2.ensures.worth)
 
-pub scope::Scope::operated-returns-clause-worth : goal.scope::Scope::operated-returns-clause-worth
-scope::Scope::operated-returns-clause-worth g t c m h =
+pub scope::Scope::evaluate_operand-returns-clause-worth : goal.scope::Scope::evaluate_operand-returns-clause-worth
+scope::Scope::evaluate_operand-returns-clause-worth g t c m h =
     both_give _ _ _ _ _ _ h c.in_default.not-Function c.in_ok-put_word.ensures
-    (c.in_ok-worth-2.ensures.worth ∙ ap (λ x. Ok x) (sym c.get.ensures)) _ _ c.take_lent.ensures
+    (c.in_ok-evaluate-2.ensures.worth ∙ ap (λ x. Ok x) (sym c.get.ensures)) _ _ c.take_lent.ensures
 
-pub scope::Scope::operated-returns-in_err-worth-clause-worth
-    : goal.scope::Scope::operated-returns-in_err-worth-clause-worth
-scope::Scope::operated-returns-in_err-worth-clause-worth g t c m h =
+pub scope::Scope::evaluate_operand-returns-in_err-evaluate-clause-worth
+    : goal.scope::Scope::evaluate_operand-returns-in_err-evaluate-clause-worth
+scope::Scope::evaluate_operand-returns-in_err-evaluate-clause-worth g t c m h =
     let p = err_from_is_err_and c.from_residual.result c.from_residual.ensures.1 in
-    rw (p.1, p.2) (operand_fault _ _ _ _ _ _ h c.in-Function.is _ c.in_err-worth.ensures.worth)
+    rw (p.1, p.2) (operand_fault _ _ _ _ _ _ h c.in-Function.is _ c.in_err-evaluate.ensures.worth)
 
-pub scope::Scope::operated-returns-in-Function-clause-worth
-    : goal.scope::Scope::operated-returns-in-Function-clause-worth
-scope::Scope::operated-returns-in-Function-clause-worth g t c m h =
-    taken_give _ _ _ _ _ _ h c.in-Function.is c.in_ok-worth.ensures.worth _ _
+pub scope::Scope::evaluate_operand-returns-in-Function-clause-worth
+    : goal.scope::Scope::evaluate_operand-returns-in-Function-clause-worth
+scope::Scope::evaluate_operand-returns-in-Function-clause-worth g t c m h =
+    taken_give _ _ _ _ _ _ h c.in-Function.is c.in_ok-evaluate.ensures.worth _ _
     c.put_taken.ensures
 
-pub scope::Scope::juxtaposed-next_meaning-meaning-requires : goal.scope::Scope::juxtaposed-next_meaning-meaning-requires
-scope::Scope::juxtaposed-next_meaning-meaning-requires g t c =
+pub scope::Scope::evaluate_juxtaposition-next_meaning-meaning-requires
+    : goal.scope::Scope::evaluate_juxtaposition-next_meaning-meaning-requires
+scope::Scope::evaluate_juxtaposition-next_meaning-meaning-requires g t c =
     multiple_within _ c.in-Some.is c.factor_of_word.ensures _ _ c.requires
 
-pub scope::Scope::juxtaposed-put_multiple-requires : goal.scope::Scope::juxtaposed-put_multiple-requires
-scope::Scope::juxtaposed-put_multiple-requires g t c =
+pub scope::Scope::evaluate_juxtaposition-put_multiple-requires
+    : goal.scope::Scope::evaluate_juxtaposition-put_multiple-requires
+scope::Scope::evaluate_juxtaposition-put_multiple-requires g t c =
     multiple_usable _ c.in-Some.is c.factor_of_word.ensures _ _ c.requires _ _ _ _
     c.next_meaning-meaning.ensures.told
 
-pub scope::Scope::juxtaposed-returns-in-Some-clause-worth : goal.scope::Scope::juxtaposed-returns-in-Some-clause-worth
-scope::Scope::juxtaposed-returns-in-Some-clause-worth g t c =
+pub scope::Scope::evaluate_juxtaposition-returns-in-Some-clause-worth
+    : goal.scope::Scope::evaluate_juxtaposition-returns-in-Some-clause-worth
+scope::Scope::evaluate_juxtaposition-returns-in-Some-clause-worth g t c =
     multiple_gives _ c.in-Some.is c.factor_of_word.ensures _ _ c.requires _ _ _ _
     c.next_meaning-meaning.ensures.told _ _ _ c.put_multiple.ensures
 
-pub scope::Scope::juxtaposed-returns-in-Some-clause-place : goal.scope::Scope::juxtaposed-returns-in-Some-clause-place
-scope::Scope::juxtaposed-returns-in-Some-clause-place g t c =
+pub scope::Scope::evaluate_juxtaposition-returns-in-Some-clause-place
+    : goal.scope::Scope::evaluate_juxtaposition-returns-in-Some-clause-place
+scope::Scope::evaluate_juxtaposition-returns-in-Some-clause-place g t c =
     multiple_place _ c.in-Some.is c.factor_of_word.ensures c.put_multiple.result _
     c.next_meaning-meaning.ensures.place
 
-pub scope::Scope::chain-worth-requires : goal.scope::Scope::chain-worth-requires
-scope::Scope::chain-worth-requires g t c κs within =
+pub scope::Scope::chain-evaluate-requires : goal.scope::Scope::chain-evaluate-requires
+scope::Scope::chain-evaluate-requires g t c κs within =
     let lighter = first_lighter _ c.get.ensures (g.E.Env.means c.args.self.now.env.now) in
     search (rules, arith, lighter, first_stand _ c.get.ensures _ _ c.requires)
 
-pub scope::Scope::chain-returns-in_err-worth-clause-worth : goal.scope::Scope::chain-returns-in_err-worth-clause-worth
-scope::Scope::chain-returns-in_err-worth-clause-worth g t c =
+pub scope::Scope::chain-returns-in_err-evaluate-clause-worth
+    : goal.scope::Scope::chain-returns-in_err-evaluate-clause-worth
+scope::Scope::chain-returns-in_err-evaluate-clause-worth g t c =
     let p = err_from_is_err_and c.from_residual.result c.from_residual.ensures.1 in
     rw (p.1, p.2) (first_fault _ c.get.ensures (g.E.Env.means c.args.self.now.env.now)
-    (option_copied c.args.self.now.arg) _ c.in_err-worth.ensures.worth)
+    (option_copied c.args.self.now.arg) _ c.in_err-evaluate.ensures.worth)
 
 pub scope::Scope::chain-loop-i-init : goal.scope::Scope::chain-loop-i-init
 scope::Scope::chain-loop-i-init g t c =
-    begins _ c.get.ensures _ _ c.requires c.in_ok-worth.ensures.worth c.in_ok-worth.ensures.place
+    begins _ c.get.ensures _ _ c.requires c.in_ok-evaluate.ensures.worth c.in_ok-evaluate.ensures.place
 
 pub scope::Scope::chain-with_member-requires : goal.scope::Scope::chain-with_member-requires
 scope::Scope::chain-with_member-requires g t c κs within =

@@ -8,33 +8,33 @@ use Rattle.tree_eval.proofs.Chains.{IsRunning}
 use Rattle.tree_eval.proofs.Weight.{weight, weight_callable, weight_given, weight_told}
 use Rattle.tree_eval.proofs.+eval.Given as goal
 
-abbrev pub decreases-scope::tree_worth : goal.decreases-scope::tree_worth
-decreases-scope::tree_worth g l = 8 * weight (expand (g.E.Env.means l.env.now) (syntax l.tree.now)) + 3
+abbrev pub decreases-scope::evaluate_holder : goal.decreases-scope::evaluate_holder
+decreases-scope::evaluate_holder g l = 8 * weight (expand (g.E.Env.means l.env.now) (syntax l.tree.now)) + 3
 
-abbrev pub decreases-scope::Scope::worth : goal.decreases-scope::Scope::worth
-decreases-scope::Scope::worth g l = 8 * weight (expand (g.E.Env.means l.self.now.env.now) (syntax l.tree.now)) + 2
+abbrev pub decreases-scope::Scope::evaluate : goal.decreases-scope::Scope::evaluate
+decreases-scope::Scope::evaluate g l = 8 * weight (expand (g.E.Env.means l.self.now.env.now) (syntax l.tree.now)) + 2
 
 abbrev pub decreases-scope::Scope::root : goal.decreases-scope::Scope::root
 decreases-scope::Scope::root g l = 8 * weight (expand (g.E.Env.means l.self.now.env.now) (syntax l.operand.now)) + 3
 
-abbrev pub decreases-scope::Scope::negated : goal.decreases-scope::Scope::negated
-decreases-scope::Scope::negated g l = 8 * weight (expand (g.E.Env.means l.self.now.env.now) (syntax l.operand.now)) + 3
+abbrev pub decreases-scope::Scope::evaluate_negative : goal.decreases-scope::Scope::evaluate_negative
+decreases-scope::Scope::evaluate_negative g l = 8 * weight (expand (g.E.Env.means l.self.now.env.now) (syntax l.operand.now)) + 3
 
 abbrev pub decreases-scope::Scope::power : goal.decreases-scope::Scope::power
 decreases-scope::Scope::power g l =
     8 * (weight (expand (g.E.Env.means l.self.now.env.now) (syntax l.base.now))
     + weight (expand (g.E.Env.means l.self.now.env.now) (syntax l.exponent.now))) + 3
 
-abbrev pub decreases-scope::Scope::operated : goal.decreases-scope::Scope::operated
-decreases-scope::Scope::operated g l =
+abbrev pub decreases-scope::Scope::evaluate_operand : goal.decreases-scope::Scope::evaluate_operand
+decreases-scope::Scope::evaluate_operand g l =
     8 * (weight_told (g.E.Env.callee l.self.now.env.now) l.meaning
     + weight (expand (g.E.Env.means l.self.now.env.now) (syntax l.operand.now))) + 5
 
 abbrev pub decreases-scope::put_taken : goal.decreases-scope::put_taken
 decreases-scope::put_taken g l = 8 * weight_callable (g.E.Env.callee l.env.now l.id) + 4
 
-abbrev pub decreases-scope::Scope::juxtaposed : goal.decreases-scope::Scope::juxtaposed
-decreases-scope::Scope::juxtaposed g l =
+abbrev pub decreases-scope::Scope::evaluate_juxtaposition : goal.decreases-scope::Scope::evaluate_juxtaposition
+decreases-scope::Scope::evaluate_juxtaposition g l =
     8 * weight (chain (g.E.Env.means l.self.now.env.now) (map by_side (trees_of l.trees.now))) + 1
 
 abbrev pub decreases-scope::Scope::chain : goal.decreases-scope::Scope::chain

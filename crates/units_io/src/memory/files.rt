@@ -3,8 +3,8 @@ ghost use Rattle.std.specs.Prelude.{◌≡◌, ◌≤◌, ◌↔◌, [], length,
 ghost use Rattle.units_io.specs.Faults.{next};
 ghost use Rattle.units_io.specs.Memory.{KeepsFetches, KeepsStores};
 ghost use Rattle.units_io.specs.FileMap.{with_file, no_files, longest_file};
-ghost use Rattle.units_io.specs.Fetching.{IsFetched, FailsWithCause, faults_after_fetch};
-ghost use Rattle.units_io.specs.Storing.{IsStored, StoreHasCause, faults_after_store};
+ghost use Rattle.units_io.specs.FetchResults.{IsFetched, FailsWithCause, faults_after_fetch};
+ghost use Rattle.units_io.specs.StoreResults.{IsStored, StoreHasCause, faults_after_store};
 
 use super::table::FileTable;
 use crate::files::{FetchFault, Files, LONGEST_FILE, StoreFault};

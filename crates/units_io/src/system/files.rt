@@ -2,11 +2,11 @@
 ghost use Rattle.std.specs.Prelude.{◌≡◌, ◌≤◌, length, IfOk, None};
 ghost use Rattle.std.specs.Str.{IsUtf8};
 ghost use Rattle.units_io.specs.FileMap.{longest_file};
-ghost use Rattle.units_io.specs.Fetching.{FailsWithCause, faults_after_fetch};
-ghost use Rattle.units_io.specs.Storing.{StoreHasCause, faults_after_store};
+ghost use Rattle.units_io.specs.FetchResults.{FailsWithCause, faults_after_fetch};
+ghost use Rattle.units_io.specs.StoreResults.{StoreHasCause, faults_after_store};
 
-use super::reading::read_file;
-use super::saving::save_file;
+use super::file_read::read_file;
+use super::file_write::save_file;
 use crate::files::{FetchFault, Files, StoreFault};
 use crate::text::Text;
 use std::alloc::Global;

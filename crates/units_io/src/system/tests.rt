@@ -102,19 +102,19 @@ fn empty_folder(rt: &HostRuntime, name: &str) -> io::Result<()> {
     fs::create_dir(rt, name)
 }
 
-fn fetched(rt: &HostRuntime, name: &[u8]) -> Result<Text, FetchFault> {
+fn fetch_file(rt: &HostRuntime, name: &[u8]) -> Result<Text, FetchFault> {
     DirFiles::new(rt).fetch(rt.alloc(), name)
 }
 
 // Reports whether the file of this name has these bytes.
 fn holds(rt: &HostRuntime, name: &[u8], bytes: &[u8]) -> bool {
-    match fetched(rt, name) {
+    match fetch_file(rt, name) {
         Ok(text) => text.as_bytes() == bytes,
         Err(_) => false,
     }
 }
 
-fn stored(rt: &HostRuntime, name: &[u8], bytes: &[u8]) -> Result<(), StoreFault>
+fn store_file(rt: &HostRuntime, name: &[u8], bytes: &[u8]) -> Result<(), StoreFault>
     requires { length bytes.now ≤ longest_file }
 {
     DirFiles::new(rt).store(rt.alloc(), name, bytes)
@@ -140,7 +140,7 @@ fn files_that_cannot_be_read(rt: HostRuntime) -> io::Result<()> {
     empty_folder(&rt, "test-read")?;
     fs::write(&rt, "test-read/plain", b"m !")?;
     for (name, want) in UNREAD {
-        assert!(rt; fetched(&rt, *name).err() == Some(*want));
+        assert!(rt; fetch_file(&rt, *name).err() == Some(*want));
     }
     fs::remove_dir_all(&rt, "test-read")
 }
@@ -154,7 +154,7 @@ fn the_longest_file_is_read(rt: HostRuntime) -> io::Result<()> {
     assert!(rt; holds(&rt, b"test-long/file", bytes.as_slice()));
     bytes.push(b'x')?;
     fs::write(&rt, "test-long/file", bytes.as_slice())?;
-    assert!(rt; fetched(&rt, b"test-long/file").err() == Some(FetchFault::TooLong));
+    assert!(rt; fetch_file(&rt, b"test-long/file").err() == Some(FetchFault::TooLong));
     fs::remove_dir_all(&rt, "test-long")
 }
 
@@ -171,12 +171,12 @@ fn a_stored_file_is_read_back(rt: HostRuntime) -> io::Result<()> {
     empty_folder(&rt, "test-saved")?;
     fs::write(&rt, "test-saved/.units-save-0", b"left by another run")?;
     for (name, bytes) in STORED {
-        assert!(rt; stored(&rt, *name, *bytes).is_ok());
+        assert!(rt; store_file(&rt, *name, *bytes).is_ok());
         assert!(rt; holds(&rt, *name, *bytes));
     }
     assert!(rt; holds(&rt, b"test-saved/.units-save-0", b"left by another run"));
     assert!(rt; file_count(&rt, "test-saved")? == 2);
-    assert!(rt; fetched(&rt, b".units-save-0").err() == Some(FetchFault::Absent));
+    assert!(rt; fetch_file(&rt, b".units-save-0").err() == Some(FetchFault::Absent));
     fs::remove_file(&rt, "test-saved-beside")?;
     fs::remove_dir_all(&rt, "test-saved")
 }
@@ -188,7 +188,7 @@ fn a_store_through_a_link_writes_its_file(rt: HostRuntime) -> io::Result<()> {
     fs::write(&rt, "test-links/far/file", b"m !")?;
     symlink(&rt, "far/file", "test-links/near")?;
     symlink(&rt, "near", "test-links/nearer")?;
-    assert!(rt; stored(&rt, b"test-links/nearer", b"g 3 m").is_ok());
+    assert!(rt; store_file(&rt, b"test-links/nearer", b"g 3 m").is_ok());
     assert!(rt; holds(&rt, b"test-links/far/file", b"g 3 m"));
     assert!(rt; fs::symlink_metadata(&rt, "test-links/nearer")?.is_symlink());
     assert!(rt; file_count(&rt, "test-links")? == 3);
@@ -213,7 +213,7 @@ fn a_failed_store_leaves_nothing(rt: HostRuntime) -> io::Result<()> {
     fs::create_dir(&rt, "test-failed/inner")?;
     fs::write(&rt, "test-failed/plain", b"m !")?;
     for name in UNSTORED {
-        assert!(rt; stored(&rt, *name, b"g 3 m") == Err(StoreFault::Failed));
+        assert!(rt; store_file(&rt, *name, b"g 3 m") == Err(StoreFault::Failed));
     }
     assert!(rt; holds(&rt, b"test-failed/plain", b"m !"));
     assert!(rt; file_count(&rt, "test-failed")? == 2);

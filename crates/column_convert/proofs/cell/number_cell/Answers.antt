@@ -7,13 +7,14 @@ use Rattle.reply.specs.Replies.{conversion_queries}
 use Rattle.reply.specs.declared.reply.Reply.{Reply}
 use Rattle.reply.proofs.Runs.{made}
 use Rattle.column_convert.specs.Cells as spec
-use Rattle.column_convert.proofs.Asking.{not_yet}
-use Rattle.column_convert.proofs.Converting.{asked_queries, asked_reply}
+use Rattle.column_convert.proofs.CutQueries.{not_yet}
+use Rattle.column_convert.proofs.CellReplies.{asked_queries, asked_reply}
 use Rattle.column_convert.proofs.cell.number_cell.Goals as goal
 
 pub returns-in_err-asked-clause-queries : goal.returns-in_err-asked-clause-queries
 returns-in_err-asked-clause-queries g c =
-    not_yet _ c.from_residual.result _ c.args.table.now c.args.steps.now c.from_residual.ensures.1 c.kept_right.ensures
+    not_yet _ c.from_residual.result _ c.args.table.now c.args.steps.now c.from_residual.ensures.1
+    c.outcomes_are_right.ensures
 
 pub returns-clause-cell : goal.returns-clause-cell
 returns-clause-cell g c =

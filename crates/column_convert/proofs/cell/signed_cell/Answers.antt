@@ -1,5 +1,5 @@
-use Rattle.column_convert.proofs.Recalling.{at_some, cell_cut, cell_made, cell_stopped, queries_known}
-use Rattle.column_convert.proofs.Recalling.{queries_made}
+use Rattle.column_convert.proofs.RecallQueries.{at_some, cell_cut, cell_made, cell_stopped, queries_known}
+use Rattle.column_convert.proofs.RecallQueries.{queries_made}
 use Rattle.column_convert.proofs.cell.signed_cell.Goals as goal
 
 pub returns-in_err-recall-clause-queries : goal.returns-in_err-recall-clause-queries

@@ -1,4 +1,4 @@
-use Rattle.column_convert.proofs.Valued.{number_converted}
+use Rattle.column_convert.proofs.ValueReplies.{number_converted}
 use Rattle.column_convert.proofs.laws.valued_law.Goals as goal
 
 pub returns : goal.returns

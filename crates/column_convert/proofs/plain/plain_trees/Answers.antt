@@ -4,7 +4,7 @@ use Rattle.std.specs.declared.option.Option.{Option}
 use Rattle.deck.specs.Tables.{table}
 use Rattle.expr_tree.specs.declared.tree.Tree.{Tree}
 use Rattle.expr_tree.specs.Trees.{syntax}
-use Rattle.column_convert.specs.Known.{IsTreeOf}
+use Rattle.column_convert.specs.CachedValues.{IsParsedAs}
 use Rattle.column_convert.proofs.PlainTrees.{plain_of}
 use Rattle.column_convert.proofs.plain.plain_trees.Goals as goal
 
@@ -14,7 +14,7 @@ returns c =
     (syntax c.in-Some-2.to_tree) c.trim-to.ensures
     (sym c.are_plain.ensures ∙ c.if-not-are_plain.false)
     (c.in_ok-has_products.ensures c.if-not-branch.false)
-    (subst (λ (o : Option Tree). IfSome o (λ tree. IsTreeOf c.args.from.now (syntax tree))) c.in-Some.is
+    (subst (λ (o : Option Tree). IfSome o (λ tree. IsParsedAs c.args.from.now (syntax tree))) c.in-Some.is
     c.in_ok-from_tree.ensures)
-    (subst (λ (o : Option Tree). IfSome o (λ tree. IsTreeOf c.trim-to.result.now (syntax tree))) c.in-Some-2.is
+    (subst (λ (o : Option Tree). IfSome o (λ tree. IsParsedAs c.trim-to.result.now (syntax tree))) c.in-Some-2.is
     c.in_ok-to_tree.ensures)

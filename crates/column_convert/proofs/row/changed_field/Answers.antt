@@ -1,5 +1,5 @@
 use Rattle.csv.specs.Records.{fields_of}
-use Rattle.column_convert.proofs.Changing.{kept_field, no_field}
+use Rattle.column_convert.proofs.ItemChanges.{kept_field, no_field}
 use Rattle.column_convert.proofs.row.changed_field.Goals as goal
 
 pub returns-in-Some : goal.returns-in-Some

@@ -5,8 +5,8 @@ use Rattle.live_table.specs.Calls.{AreQueries}
 use Rattle.live_table.specs.States.{Event}
 use Rattle.reply.proofs.Runs.{made}
 use Rattle.column_convert.specs.Cells.{cell_queries}
-use Rattle.column_convert.proofs.Changing.{place_within}
-use Rattle.column_convert.proofs.Converting.{field_queries}
+use Rattle.column_convert.proofs.ItemChanges.{place_within}
+use Rattle.column_convert.proofs.CellReplies.{field_queries}
 use Rattle.column_convert.proofs.row.write_row.Goals as goal
 
 pub write_cell-requires-clause-place : goal.write_cell-requires-clause-place

@@ -1,5 +1,5 @@
 use Rattle.std.proofs.Common.{◌≡◌, ◌++◌, ◌≤◌, ◌<◌, ◌-◌, List, ℕ, Some, length}
-use Rattle.session.specs.Waiting.{TookAtLeast}
+use Rattle.session.specs.BetweenPieces.{TookAtLeast}
 use Rattle.column_run.proofs.input.take_all.Given as goal
 
 abbrev pub invariant-loop-src : goal.invariant-loop-src

@@ -1,6 +1,6 @@
 use Rattle.std.proofs.Common.{◌∙◌, ◌<◌, length, sym, ap, subst, arith}
 use Rattle.deck.specs.Tables.{table}
-use Rattle.units_io.specs.Bytes.{grown, GrowsByFront}
+use Rattle.units_io.specs.Bytes.{known_append, GrowsByFront}
 use Rattle.column_convert.specs.Inputs.{Input}
 use Rattle.column_convert.specs.declared.block.Block.{Block}
 use Rattle.column_run.proofs.Rowing.{IsUnderway, fewer, follows_over, front_next, front_now, refused_over}
@@ -12,7 +12,7 @@ pub loop-block-init : goal.loop-block-init
 loop-block-init g c = record {
   later = omega arith;
   at = underway_start c.args.options.now c.args.from.now c.args.to.now c.args.columns.now
-      (g.O.Sink.written c.args.out.now) c.args.table.now c.args.steps.now c.kept_right.ensures;
+      (g.O.Sink.written c.args.out.now) c.args.table.now c.args.steps.now c.outcomes_are_right.ensures;
 }
 
 pub returns-in_err-block-clause-front : goal.returns-in_err-block-clause-front
@@ -75,5 +75,5 @@ loop-block-preserved g c = record {
       c.blocks_law.ensures 1024 c.next_rows.new.table c.next_rows.new.steps c.next_rows.ensures.deck
       c.in_ok-block.ensures.queries c.in_ok-block.block c.in_ok-block.ensures.block c.either-refused.result
       (g.O.Sink.written c.put_all.new.sink) c.either-refused.ensures
-      (c.in-Ok.ensures.all ∙ ap (grown (g.O.Sink.written c.loop-block.out)) c.as_bytes.ensures));
+      (c.in-Ok.ensures.all ∙ ap (known_append (g.O.Sink.written c.loop-block.out)) c.as_bytes.ensures));
 }

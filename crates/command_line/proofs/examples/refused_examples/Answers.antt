@@ -3,7 +3,7 @@ use Rattle.std.specs.Str.{is_utf8}
 use Rattle.clap.proofs.OnLiterals.{clap_on_literals}
 use Rattle.def_lines.specs.Lines.{line_content}
 use Rattle.command_line.specs.Fields.{command_line_of}
-use Rattle.command_line.specs.Taken.{are_parsed, are_taken}
+use Rattle.command_line.specs.AcceptedWords.{are_parsed, are_taken}
 use Rattle.command_line.proofs.examples.refused_examples.Goals as goal
 
 pub returns : goal.returns

@@ -1,4 +1,4 @@
-use Rattle.deck.proofs.Computing.{changes_computed}
+use Rattle.deck.proofs.ComputedChanges.{changes_computed}
 use Rattle.deck.proofs.laws.changes_are_computed.Goals as goal
 
 pub returns : goal.returns

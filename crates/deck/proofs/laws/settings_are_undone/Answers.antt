@@ -2,4 +2,10 @@ use Rattle.deck.proofs.SettingChanges.{known_variable, last_variable, new_variab
 use Rattle.deck.proofs.laws.settings_are_undone.Goals as goal
 
 pub returns : goal.returns
-returns c = record { same = same_variable; known = known_variable; new = new_variable; last = last_variable }
+returns c = record {
+  same = same_variable;
+  changes_value = known_variable;
+  new_variable = new_variable;
+  last =
+      last_variable;
+}

@@ -1,4 +1,4 @@
-use Rattle.deck_lines.proofs.Closing.{deck_closed}
+use Rattle.deck_lines.proofs.ClosedFile.{deck_closed}
 use Rattle.deck_lines.proofs.laws.decks_are_closed.Goals as goal
 
 pub returns : goal.returns

@@ -1,4 +1,4 @@
-use Rattle.deck_lines.proofs.Telling.{fail_law, first_law, told_law}
+use Rattle.deck_lines.proofs.KnownFileSteps.{fail_law, first_law, told_law}
 use Rattle.deck_lines.proofs.laws.first_faults_end_loads.Goals as goal
 
 pub returns-clause-first : goal.returns-clause-first

@@ -1,6 +1,6 @@
 use Rattle.std.proofs.Common.{sym, ap, ◌∙◌, ◌+◌, ◌-◌, suc, option_map}
 use Rattle.def_entry.specs.Options.{most_options, options_at, options_from}
-use Rattle.def_entry.specs.Seen.{seen_found, seen_options}
+use Rattle.def_entry.specs.LineViews.{seen_found, seen_options}
 use Rattle.def_entry.specs.Steps.{◌>>=◌}
 use Rattle.def_entry.proofs.Choices.{begins-choice_at, next-none, next-some, next-end}
 use Rattle.def_entry.proofs.options.options_at.Goals as goal

@@ -2,8 +2,8 @@ use Rattle.std.proofs.Common.{rules, sym, ap, ◌∙◌, length, option_map, ari
 use Rattle.def_lines.specs.Words.{words_of}
 use Rattle.def_entry.specs.declared.fault.EntryFault.TheVariants.{BadTable}
 use Rattle.def_entry.specs.Outcomes.{or_fault}
-use Rattle.def_entry.specs.PointLists.{few, pairs_of, points_of, some_pairs}
-use Rattle.def_entry.specs.Seen.{seen_pair}
+use Rattle.def_entry.specs.PointLists.{few, points_of, points_of_words, some_pairs}
+use Rattle.def_entry.specs.LineViews.{seen_pair}
 use Rattle.def_entry.proofs.CutParts.{shorter}
 use Rattle.def_entry.proofs.Parts.{fault_of}
 use Rattle.def_entry.proofs.PointRuns.{points-fault, points-init, points-last, points-more}
@@ -55,7 +55,7 @@ returns-in_err-push_some_pairs c =
 pub returns-in_err-push_pairs : goal.returns-in_err-push_pairs
 returns-in_err-push_pairs c =
     let fault = fault_of c.in_err-push_pairs.field-0.0
-    (or_fault BadTable (few (onto c.loop-part.points.items (pairs_of (words_of c.loop-part.rest.now)))))
+    (or_fault BadTable (few (onto c.loop-part.points.items (points_of_words (words_of c.loop-part.rest.now)))))
     (or_fault BadTable (few (points_of c.args.text.now)))
     (λ said. ap (λ found. or_fault BadTable (few found)) (sym c.loop-part.invariant.same)
     ∙ points-last c.loop-part.points.items c.loop-part.rest.now

@@ -2,11 +2,11 @@ use Rattle.std.proofs.Common.{rules, sym, ap, inr, ◌∙◌, ◌≡◌, ◌≤�
 use Rattle.std.proofs.Common.{length-append}
 use Rattle.def_lines.specs.Parts.{is_begun}
 use Rattle.def_lines.specs.Words.{words_of}
-use Rattle.def_lines.proofs.Listing.{is_begun-after_word, words_of-after_blanks}
-use Rattle.def_lines.proofs.Trimming.{is_begun-after_blanks}
+use Rattle.def_lines.proofs.WordLists.{is_begun-after_word, words_of-after_blanks}
+use Rattle.def_lines.proofs.TrimmedTexts.{is_begun-after_blanks}
 use Rattle.def_entry.specs.declared.fault.EntryFault.TheVariants.{BadTable}
 use Rattle.def_entry.specs.Outcomes.{or_fault}
-use Rattle.def_entry.specs.PointLists.{few, most_points, pairs_of}
+use Rattle.def_entry.specs.PointLists.{few, most_points, points_of_words}
 use Rattle.def_entry.proofs.PointWords.{few-at, onto, pairs-many, pairs-more, pairs-no_first, pairs-no_second}
 use Rattle.def_entry.proofs.PointWords.{shorter-pair, pairs-nil}
 use Rattle.def_entry.proofs.point_list.push_pairs.Goals as goal
@@ -14,7 +14,7 @@ use Rattle.def_entry.proofs.point_list.push_pairs.Goals as goal
 pub loop-rest-init : goal.loop-rest-init
 loop-rest-init c = record {
   begun = ap is_begun c.trim_front-rest.ensures ∙ is_begun-after_blanks c.args.text.now;
-  same = ap (λ ws. onto c.args.points.now.items (pairs_of ws))
+  same = ap (λ ws. onto c.args.points.now.items (points_of_words ws))
       (ap words_of c.trim_front-rest.ensures ∙ words_of-after_blanks c.args.text.now);
   few = c.requires;
 }
@@ -32,7 +32,7 @@ returns-then-len-ge-MOST_POINTS c =
 pub returns-in_err-x : goal.returns-in_err-x
 returns-in_err-x c =
     let some : (length c.loop-rest.rest.now == 0) ≡ false = sym c.is_empty.ensures ∙ c.loop-rest-test.true in
-    let none : or_fault BadTable (few (onto c.args.points.now.items (pairs_of (words_of c.args.text.now))))
+    let none : or_fault BadTable (few (onto c.args.points.now.items (points_of_words (words_of c.args.text.now))))
     ≡ Err BadTable =
     ap (λ found. or_fault BadTable (few found))
     (sym c.loop-rest.invariant.same
@@ -44,7 +44,7 @@ returns-in_err-x c =
 pub returns-in_err-y : goal.returns-in_err-y
 returns-in_err-y c =
     let some : (length c.loop-rest.rest.now == 0) ≡ false = sym c.is_empty.ensures ∙ c.loop-rest-test.true in
-    let none : or_fault BadTable (few (onto c.args.points.now.items (pairs_of (words_of c.args.text.now))))
+    let none : or_fault BadTable (few (onto c.args.points.now.items (points_of_words (words_of c.args.text.now))))
     ≡ Err BadTable =
     ap (λ found. or_fault BadTable (few found))
     (sym c.loop-rest.invariant.same

@@ -1,5 +1,5 @@
 use Rattle.std.proofs.Common.{◌==◌, ◌∙◌, arith}
-use Rattle.def_lines.proofs.Seeking.{first_is, first_within}
+use Rattle.def_lines.proofs.ByteSearch.{first_is, first_within}
 use Rattle.def_lines.proofs.physical.place_of.Goals as goal
 
 pub returns : goal.returns

@@ -1,14 +1,14 @@
 use Rattle.std.proofs.Common.{◌≡◌, ◌⊎◌, ◌↔◌, ℕ, ◌+◌, ◌<◌, List, [], ◌∷◌, sym, subst, arith, inl, inr}
 use Rattle.std.proofs.lemmas.Bool.{cases_eq}
 use Rattle.edge_links.specs.Edges.{Edge, edge, edge_count, SameEdges}
-use Rattle.edge_links.specs.Reach.{HasEdge, Reaches, at_once, further, IsAffected, Forgets}
+use Rattle.edge_links.specs.Reach.{HasEdge, NodeReaches, at_once, further, IsAffectedNode, Forgets}
 use Rattle.edge_links.proofs.EdgeCounts.{count_append, count_self, count_found}
 use Rattle.edge_links.proofs.laws.edges_law.Goals as goal
 
 same_edge : (es ds : List Edge) → SameEdges es ds → (x y : ℕ) → HasEdge es x y → HasEdge ds x y
 same_edge es ds s x y h = subst (λ k. 0 < k) (s x y) h
 
-same_reach : (es ds : List Edge) → SameEdges es ds → {x y : ℕ} → Reaches es x y → Reaches ds x y
+same_reach : (es ds : List Edge) → SameEdges es ds → {x y : ℕ} → NodeReaches es x y → NodeReaches ds x y
 same_reach es ds s (at_once h) = at_once (same_edge es ds s _ _ h)
 same_reach es ds s (further h r) = further (same_edge es ds s _ _ h) (same_reach es ds s r)
 
@@ -36,17 +36,17 @@ put_edge user key es x y = (
     later a b d e f = omega arith
 
 after_forgetting : (key : ℕ) (old new : List Edge) → Forgets key old new → (x y : ℕ)
-    → HasEdge new x y ↔ (HasEdge old x y × (IsAffected old key x → ⊥))
+    → HasEdge new x y ↔ (HasEdge old x y × (IsAffectedNode old key x → ⊥))
 after_forgetting key old new f x y = (
   λ h.
-      let off : IsAffected old key x → ⊥ = λ a. let z = f.gone x y a in omega arith in
+      let off : IsAffectedNode old key x → ⊥ = λ a. let z = f.gone x y a in omega arith in
       (subst (λ k. 0 < k) (f.kept x y off) h, off),
   λ w. subst (λ k. 0 < k) (sym (f.kept x y w.1)) w.0,
 )
 
 pub returns : goal.returns
 returns c = record {
-  reached = λ es ds s x y r. same_reach es ds s r;
-  put = put_edge;
+  same_reach = λ es ds s x y r. same_reach es ds s r;
+  after_put = put_edge;
   forgotten = after_forgetting;
 }

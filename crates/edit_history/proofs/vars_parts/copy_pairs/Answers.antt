@@ -1,5 +1,5 @@
 use Rattle.std.proofs.Common.{inr, ◌+◌, ◌∙◌, sym, ap, arith}
-use Rattle.units_io.specs.Named.{Pairs, with_value}
+use Rattle.units_io.specs.NamedValues.{Pairs, with_value}
 use Rattle.edit_history.specs.VarsParts.{pairs_between, with_pairs}
 use Rattle.edit_history.proofs.PartsOfVars.{between_step, none_between}
 use Rattle.edit_history.proofs.vars_parts.copy_pairs.Goals as goal

@@ -3,7 +3,7 @@ use Rattle.std.proofs.Common.{Option, List, [], ◌++◌, refl, sym, ap, subst, 
 use Rattle.std.specs.Option.{option_copied}
 use Rattle.std.specs.declared.alloc.AllocError.{AllocError}
 use Rattle.expr_tree.specs.Front.{SumAt, PowerAt, ExponentAt, tokens_from}
-use Rattle.expr_tree.specs.Seen.{power_numeral}
+use Rattle.expr_tree.specs.TokenViews.{power_numeral}
 use Rattle.expr_tree.specs.Syntax as tree
 use Rattle.expr_tree.specs.Tokens.{Tilde}
 use Rattle.expr_tree.specs.Trees.{syntax}

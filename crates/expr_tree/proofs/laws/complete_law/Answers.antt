@@ -1,6 +1,6 @@
-use Rattle.expr_tree.proofs.Derived.{given}
+use Rattle.expr_tree.proofs.Derivations.{given}
 use Rattle.expr_tree.proofs.Places.{fits_exactly}
-use Rattle.expr_tree.proofs.Spelled.{given_fits}
+use Rattle.expr_tree.proofs.SpelledTokens.{given_fits}
 use Rattle.expr_tree.proofs.laws.complete_law.Goals as goal
 
 pub returns : goal.returns

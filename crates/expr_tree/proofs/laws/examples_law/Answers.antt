@@ -1,5 +1,5 @@
 use Rattle.std.proofs.Common.{refl}
-use Rattle.expr_tree.specs.Reading.{tree_of}
+use Rattle.expr_tree.specs.TokenReading.{tree_of}
 use Rattle.expr_tree.proofs.laws.examples_law.Goals as goal
 
 pub returns : goal.returns

@@ -1,5 +1,5 @@
 use Rattle.expr_tree.specs.Lexemes.{tokens}
-use Rattle.expr_tree.proofs.Forming.{formed}
+use Rattle.expr_tree.proofs.WellFormedTrees.{formed}
 use Rattle.expr_tree.proofs.ParsedTexts.{parsed_law}
 use Rattle.expr_tree.proofs.laws.formed_law.Goals as goal
 

@@ -1,4 +1,4 @@
-use Rattle.expr_tree.proofs.Found.{tree_of_law}
+use Rattle.expr_tree.proofs.DerivationSearch.{tree_of_law}
 use Rattle.expr_tree.proofs.laws.reading_law.Goals as goal
 
 pub returns : goal.returns

@@ -6,11 +6,11 @@ use Rattle.expr_tree.specs.declared.fault.ParseFault.TheVariants.{OutOfMemory}
 use Rattle.expr_tree.specs.declared.tree.Tree.{Tree}
 use Rattle.expr_tree.specs.Faults.{first_fault}
 use Rattle.expr_tree.specs.Lexemes.{tokens}
-use Rattle.expr_tree.specs.Parsed.{parsed}
-use Rattle.expr_tree.specs.Reading.{tree_of}
-use Rattle.expr_tree.specs.Seen.{seen}
+use Rattle.expr_tree.specs.ParseResult.{parse_of}
+use Rattle.expr_tree.specs.TokenReading.{tree_of}
+use Rattle.expr_tree.specs.TokenViews.{token_view}
 use Rattle.expr_tree.specs.Trees.{syntax}
-use Rattle.expr_tree.proofs.Found.{tree_of_law}
+use Rattle.expr_tree.proofs.DerivationSearch.{tree_of_law}
 use Rattle.expr_tree.proofs.ParsedTexts.{parsed_to, refused_by}
 use Rattle.expr_tree.proofs.parse.parse_expr.Goals as goal
 
@@ -24,10 +24,10 @@ handed_on IsTree text x (Err y) same (inr first) = inr (first ∙ ap Some (sym s
 
 -- the first fault of the text is the computed one
 computed : (binder : Option (List ℕ)) (text : List ℕ) (r : Result Tree ParseFault)
-    → MatchResult r (λ tree. parsed binder text ≡ Ok (syntax tree))
+    → MatchResult r (λ tree. parse_of binder text ≡ Ok (syntax tree))
     (λ fault. (fault ≡ OutOfMemory) ⊎ (first_fault text ≡ Some fault))
-    → MatchResult r (λ tree. parsed binder text ≡ Ok (syntax tree))
-    (λ fault. (fault ≡ OutOfMemory) ⊎ (parsed binder text ≡ Err fault))
+    → MatchResult r (λ tree. parse_of binder text ≡ Ok (syntax tree))
+    (λ fault. (fault ≡ OutOfMemory) ⊎ (parse_of binder text ≡ Err fault))
 computed binder text (Ok tree) is = is
 computed binder text (Err x) (inl none) = inl none
 computed binder text (Err x) (inr first) = inr (refused_by binder text x first)
@@ -46,7 +46,8 @@ returns c =
     let made : tree_of (option_copied c.args.binder) (tokens c.args.text.now)
     ≡ Some (syntax c.in_ok-tree_of_tokens.field-0) =
     (ap (tree_of (option_copied c.args.binder))
-    (sym (ap (map seen) c.deref.ensures.value ∙ c.in_ok-tokens.ensures.tokens)) ∙ c.in_ok-tree_of_tokens.ensures) in
+    (sym (ap (map token_view) c.deref.ensures.value ∙ c.in_ok-tokens.ensures.tokens)) ∙ c.in_ok-tree_of_tokens.ensures)
+    in
     record {
       exact = (
         c.in_ok-tokens.ensures.faultless,

@@ -1,12 +1,14 @@
 use Rattle.std.proofs.Common.{ap, sym, ◌∙◌, map, inr}
-use Rattle.expr_tree.specs.Seen.{seen, seen_lexeme, seen_piece}
-use Rattle.expr_tree.proofs.Cutting.{blank-read-as, fault-at-end, fault-met, kept, pushed-token, stood-same, rest-front}
-use Rattle.expr_tree.proofs.Cutting.{rest-within, token-read-as, whole-read}
+use Rattle.expr_tree.specs.TokenViews.{seen_lexeme, seen_piece, token_view}
+use Rattle.expr_tree.proofs.LexemeCuts.{blank-read-as, fault-at-end, fault-met, kept, pushed-token, stood-same}
+use Rattle.expr_tree.proofs.LexemeCuts.{rest-front}
+use Rattle.expr_tree.proofs.LexemeCuts.{rest-within, token-read-as, whole-read}
 use Rattle.expr_tree.proofs.scan.scan.Goals as goal
 
 pub returns-in-Some-clause-fault : goal.returns-in-Some-clause-fault
 returns-in-Some-clause-fault c =
-    inr (fault-met c.args.text.now (map seen c.loop-at.tokens.items) c.loop-at.standing.last c.loop-at.standing.opened
+    inr (fault-met c.args.text.now (map token_view c.loop-at.tokens.items) c.loop-at.standing.last
+    c.loop-at.standing.opened
     c.loop-at.standing.depth
     c.loop-at.after_numeral c.loop-at.at (seen_piece c.first-piece.result) c.in-Some.fault c.loop-at.invariant
     c.loop-at-test.true
@@ -15,10 +17,11 @@ returns-in-Some-clause-fault c =
 
 pub loop-at-preserved-else-is_err : goal.loop-at-preserved-else-is_err
 loop-at-preserved-else-is_err c =
-    token-read-as c.args.text.now (map seen c.loop-at.tokens.items) c.loop-at.standing.last c.loop-at.standing.opened
+    token-read-as c.args.text.now (map token_view c.loop-at.tokens.items) c.loop-at.standing.last
+    c.loop-at.standing.opened
     c.loop-at.standing.depth
-    c.loop-at.after_numeral c.loop-at.at (seen_piece c.first-piece.result) (seen c.in-Whole.token)
-    (map seen c.push.new.self.items) c.then-standing.result c.is_numeral-after_numeral.result
+    c.loop-at.after_numeral c.loop-at.at (seen_piece c.first-piece.result) (token_view c.in-Whole.token)
+    (map token_view c.push.new.self.items) c.then-standing.result c.is_numeral-after_numeral.result
     c.loop-at.invariant c.loop-at-test.true
     (rest-front c.args.text.now c.loop-at.at c.loop-at.after_numeral _ c.first-piece.ensures.is)
     (ap seen_lexeme c.in-Whole.is) c.first-piece.ensures.some
@@ -31,7 +34,8 @@ loop-at-preserved-else-is_err c =
 
 pub loop-at-preserved : goal.loop-at-preserved
 loop-at-preserved c =
-    blank-read-as c.args.text.now (map seen c.loop-at.tokens.items) c.loop-at.standing.last c.loop-at.standing.opened
+    blank-read-as c.args.text.now (map token_view c.loop-at.tokens.items) c.loop-at.standing.last
+    c.loop-at.standing.opened
     c.loop-at.standing.depth
     c.loop-at.after_numeral c.loop-at.at c.first-piece.result c.is_numeral-after_numeral.result
     c.loop-at.invariant c.loop-at-test.true
@@ -42,28 +46,31 @@ loop-at-preserved c =
 
 pub returns-then-may_end-clause-tokens : goal.returns-then-may_end-clause-tokens
 returns-then-may_end-clause-tokens c =
-    (whole-read c.args.text.now (map seen c.loop-at.tokens.items) c.loop-at.standing.last c.loop-at.standing.opened
+    (whole-read c.args.text.now (map token_view c.loop-at.tokens.items) c.loop-at.standing.last
+    c.loop-at.standing.opened
     c.loop-at.standing.depth
     c.loop-at.after_numeral c.loop-at.at c.loop-at.invariant c.loop-at-test.false
     (sym c.may_end.ensures ∙ c.if-may_end.true)).tokens_are
 
 pub returns-then-may_end-clause-faultless : goal.returns-then-may_end-clause-faultless
 returns-then-may_end-clause-faultless c =
-    (whole-read c.args.text.now (map seen c.loop-at.tokens.items) c.loop-at.standing.last c.loop-at.standing.opened
+    (whole-read c.args.text.now (map token_view c.loop-at.tokens.items) c.loop-at.standing.last
+    c.loop-at.standing.opened
     c.loop-at.standing.depth
     c.loop-at.after_numeral c.loop-at.at c.loop-at.invariant c.loop-at-test.false
     (sym c.may_end.ensures ∙ c.if-may_end.true)).faultless
 
 pub returns-then-may_end-clause-fits : goal.returns-then-may_end-clause-fits
 returns-then-may_end-clause-fits c =
-    (whole-read c.args.text.now (map seen c.loop-at.tokens.items) c.loop-at.standing.last c.loop-at.standing.opened
+    (whole-read c.args.text.now (map token_view c.loop-at.tokens.items) c.loop-at.standing.last
+    c.loop-at.standing.opened
     c.loop-at.standing.depth
     c.loop-at.after_numeral c.loop-at.at c.loop-at.invariant c.loop-at-test.false
     (sym c.may_end.ensures ∙ c.if-may_end.true)).fit
 
 pub returns-clause-fault : goal.returns-clause-fault
 returns-clause-fault c =
-    inr (fault-at-end c.args.text.now (map seen c.loop-at.tokens.items) c.loop-at.standing.last
+    inr (fault-at-end c.args.text.now (map token_view c.loop-at.tokens.items) c.loop-at.standing.last
     c.loop-at.standing.opened c.loop-at.standing.depth
     c.loop-at.after_numeral c.loop-at.at c.loop-at.invariant c.loop-at-test.false
     (sym c.may_end.ensures ∙ c.if-may_end.false))

@@ -1,4 +1,4 @@
-use Rattle.frac128.proofs.Ordered as ordered
+use Rattle.frac128.proofs.OrderLaws as ordered
 use Rattle.frac128.proofs.laws.compared_law.Goals as goal
 
 pub returns : goal.returns

@@ -1,4 +1,4 @@
-use Rattle.frac128.proofs.Ordered as laws
+use Rattle.frac128.proofs.OrderLaws as laws
 use Rattle.frac128.proofs.laws.order_law.Goals as goal
 
 pub returns : goal.returns

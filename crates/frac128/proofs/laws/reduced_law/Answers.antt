@@ -1,4 +1,4 @@
-use Rattle.frac128.proofs.Reduced as laws
+use Rattle.frac128.proofs.QuotientLaws as laws
 use Rattle.frac128.proofs.laws.reduced_law.Goals as goal
 
 pub returns : goal.returns

@@ -3,7 +3,7 @@ use mir.Syntax.{w128}
 use Rattle.std.proofs.lemmas.Int.{to_z-of_z, to_z_pos}
 use Rattle.std.proofs.lemmas.Result.{err_from_is_err_and}
 use Rattle.frac128.specs.Fraction.{whole}
-use Rattle.frac128.specs.Steps.{over}
+use Rattle.frac128.specs.Steps.{fraction_quotient}
 use Rattle.frac128.proofs.TenPowers.{down_err, down_ok, wide_down}
 use Rattle.frac128.proofs.numeral.scaled_down_twice.Goals as goal
 
@@ -22,5 +22,5 @@ returns c =
     let fits : SFits w128 c.in-Some.divisor = search rules in
     let divisor : c.whole.result ≡ whole (pos (10 ^ c.args.power)) = (simp to_z-of_z at c.whole.ensures)
     ∙ ap whole c.in-Some.ensures.1 in
-    c.div.ensures ∙ ap (over c.in_ok-new.field-0) divisor
+    c.div.ensures ∙ ap (fraction_quotient c.in_ok-new.field-0) divisor
     ∙ down_ok c.args.n c.args.power c.in_ok-new.field-0 (rw n_is at c.in_ok-new.ensures)

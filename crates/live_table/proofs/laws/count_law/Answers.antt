@@ -1,4 +1,4 @@
-use Rattle.live_table.proofs.Counting as laws
+use Rattle.live_table.proofs.SettleCounts as laws
 use Rattle.live_table.proofs.laws.count_law.Goals as goal
 
 pub returns : goal.returns

@@ -3,10 +3,10 @@ use Rattle.live_table.proofs.laws.event_examples.Goals as goal
 
 pub returns : goal.returns
 returns c = record {
-  asked = refl;
+  after_query_alone = refl;
   came = refl;
   again = refl;
-  undone = refl;
-  made = refl;
+  after_undo = refl;
+  after_cycle = refl;
   broken = refl;
 }

@@ -4,9 +4,9 @@ use Rattle.std.proofs.lemmas.Option.{slice_get-get_or}
 use Rattle.expr_tree.specs.declared.word_list.WordUse.{WordUse}
 use Rattle.deck.specs.Tables.{table}
 use Rattle.live_table.specs.declared.dead_end.DeadEnd.{DeadEnd}
-use Rattle.live_table.specs.Exploring.{AreAdded}
-use Rattle.live_table.specs.Stored.{listed}
-use Rattle.live_table.proofs.Growing.{added_both}
+use Rattle.live_table.specs.Exploration.{AreAdded}
+use Rattle.live_table.specs.TableContents.{node_lists}
+use Rattle.live_table.proofs.AddedNames.{added_both}
 use Rattle.live_table.proofs.LeadSteps.{lead_present, lead_within}
 use Rattle.live_table.proofs.QuerySteps.{IsTurn, stepped_added, stepping_cut, stepping_next}
 use Rattle.live_table.proofs.query_words.query_steps.Goals as goal
@@ -14,18 +14,20 @@ use Rattle.live_table.proofs.query_words.query_steps.Goals.{After-query_lead, Af
 
 -- the lead of a word adds these names in this turn
 led : (c : After-query_lead) (ends : List DeadEnd)
-    → AreAdded (table c.args.deck.now) (listed c.loop-u.nodes) (listed c.query_lead.new.nodes) c.args.explored.now
-    c.loop-u.agenda c.loop-u.agenda ends ends
+    → AreAdded (table c.args.deck.now) (node_lists c.loop-u.nodes) (node_lists c.query_lead.new.nodes)
+    c.args.explored.now
+    c.loop-u.worklist c.loop-u.worklist ends ends
 led c ends =
-    c.query_lead.ensures.added c.args.explored.now c.loop-u.agenda ends (c.loop-u.invariant.added ends).grown.listed
+    c.query_lead.ensures.added c.args.explored.now c.loop-u.worklist ends (c.loop-u.invariant.added ends).grown.listed
 
 pub query_lead-requires : goal.query_lead-requires
 query_lead-requires c = (c.loop-u.invariant.added []).grown.nodes
 
 pub returns-in_err-lead-clause-added : goal.returns-in_err-lead-clause-added
 returns-in_err-lead-clause-added c ends =
-    added_both (table c.args.deck.now) (listed c.args.nodes.now) (listed c.loop-u.nodes) (listed c.query_lead.new.nodes)
-    c.args.explored.now c.args.agenda.now c.loop-u.agenda c.loop-u.agenda ends ends ends
+    added_both (table c.args.deck.now) (node_lists c.args.nodes.now) (node_lists c.loop-u.nodes)
+    (node_lists c.query_lead.new.nodes)
+    c.args.explored.now c.args.worklist.now c.loop-u.worklist c.loop-u.worklist ends ends ends
     (c.loop-u.invariant.added ends) (led (goal.at.returns-in_err-lead-clause-added c).After-query_lead ends)
 
 pub target_steps-requires-clause-nodes : goal.target_steps-requires-clause-nodes
@@ -39,8 +41,9 @@ target_steps-requires-clause-within c =
 
 -- this turn, with the word at its place
 turn : (c : After-target_steps)
-    → IsTurn (table c.args.deck.now) (listed c.args.nodes.now) (listed c.loop-u.nodes) (listed c.query_lead.new.nodes)
-    c.args.explored.now c.args.agenda.now c.loop-u.agenda c.target_steps.new.agenda c.args.words.now
+    → IsTurn (table c.args.deck.now) (node_lists c.args.nodes.now) (node_lists c.loop-u.nodes)
+    (node_lists c.query_lead.new.nodes)
+    c.args.explored.now c.args.worklist.now c.loop-u.worklist c.target_steps.new.worklist c.args.words.now
     c.loop-u.steps.items c.loop-u.u-index c.u-item.result
 turn c = record {
   word = ap (λ (xs : List WordUse). slice_get xs c.loop-u.u-index) (sym c.as_slice-u-items.ensures)
@@ -48,10 +51,10 @@ turn c = record {
       ∙ ap Some (sym c.u-item.is));
   start = c.loop-u.invariant;
   led = λ ends.
-      c.query_lead.ensures.added c.args.explored.now c.loop-u.agenda ends
+      c.query_lead.ensures.added c.args.explored.now c.loop-u.worklist ends
       (c.loop-u.invariant.added ends).grown.listed;
   put = λ ends.
-      let added = c.query_lead.ensures.added c.args.explored.now c.loop-u.agenda ends
+      let added = c.query_lead.ensures.added c.args.explored.now c.loop-u.worklist ends
       (c.loop-u.invariant.added ends).grown.listed in
       c.target_steps.ensures.added (table c.args.deck.now) ends added.grown.nodes added.grown.listed
       (lead_present (table c.args.deck.now) c.query_lead.new.nodes.keys c.u-item.result c.in_ok-lead.lead
@@ -60,11 +63,13 @@ turn c = record {
 
 -- the names that the turn adds
 added : (c : After-target_steps) (ends : List DeadEnd)
-    → AreAdded (table c.args.deck.now) (listed c.args.nodes.now) (listed c.query_lead.new.nodes) c.args.explored.now
-    c.args.agenda.now c.target_steps.new.agenda ends ends
+    → AreAdded (table c.args.deck.now) (node_lists c.args.nodes.now) (node_lists c.query_lead.new.nodes)
+    c.args.explored.now
+    c.args.worklist.now c.target_steps.new.worklist ends ends
 added c ends =
-    stepped_added (table c.args.deck.now) (listed c.args.nodes.now) (listed c.loop-u.nodes)
-    (listed c.query_lead.new.nodes) c.args.explored.now c.args.agenda.now c.loop-u.agenda c.target_steps.new.agenda
+    stepped_added (table c.args.deck.now) (node_lists c.args.nodes.now) (node_lists c.loop-u.nodes)
+    (node_lists c.query_lead.new.nodes) c.args.explored.now c.args.worklist.now c.loop-u.worklist
+    c.target_steps.new.worklist
     c.args.words.now c.loop-u.steps.items c.loop-u.u-index c.u-item.result (turn c) ends
 
 pub returns-in_err-word-clause-added : goal.returns-in_err-word-clause-added
@@ -84,16 +89,18 @@ returns-in_err-push-2-clause-added c = added (goal.at.returns-in_err-push-2-clau
 
 pub returns-in_default-clause-steps : goal.returns-in_default-clause-steps
 returns-in_default-clause-steps c =
-    stepping_cut (table c.args.deck.now) (listed c.args.nodes.now) (listed c.loop-u.nodes)
-    (listed c.query_lead.new.nodes) c.args.explored.now c.args.agenda.now c.loop-u.agenda c.target_steps.new.agenda
+    stepping_cut (table c.args.deck.now) (node_lists c.args.nodes.now) (node_lists c.loop-u.nodes)
+    (node_lists c.query_lead.new.nodes) c.args.explored.now c.args.worklist.now c.loop-u.worklist
+    c.target_steps.new.worklist
     c.args.words.now c.loop-u.steps.items c.loop-u.u-index c.u-item.result
     (turn (goal.at.returns-in_default-clause-steps c).After-target_steps) c.in_ok-lead.lead c.in_ok-lead.ensures.lead
     (sym c.in_default.is ∙ c.in_ok-word.ensures.steps) c.in_ok-new.field-0 c.in_ok-new.ensures
 
 pub loop-u-preserved : goal.loop-u-preserved
 loop-u-preserved c =
-    stepping_next (table c.args.deck.now) (listed c.args.nodes.now) (listed c.loop-u.nodes)
-    (listed c.query_lead.new.nodes) c.args.explored.now c.args.agenda.now c.loop-u.agenda c.target_steps.new.agenda
+    stepping_next (table c.args.deck.now) (node_lists c.args.nodes.now) (node_lists c.loop-u.nodes)
+    (node_lists c.query_lead.new.nodes) c.args.explored.now c.args.worklist.now c.loop-u.worklist
+    c.target_steps.new.worklist
     c.args.words.now c.loop-u.steps.items c.loop-u.u-index c.u-item.result
     (turn (goal.at.loop-u-preserved c).After-target_steps) c.in_ok-lead.lead c.in_ok-lead.ensures.lead
     c.in_ok-word.ensures.known c.in-Some.word (sym c.in-Some.is ∙ c.in_ok-word.ensures.steps) c.push.new.self.items

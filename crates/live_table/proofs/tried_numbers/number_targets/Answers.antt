@@ -2,38 +2,38 @@ use Rattle.std.proofs.Common.{◌≤◌, ◌-◌, ℕ, length, ap, subst, sym}
 use Rattle.deck.specs.Tables.{table}
 use Rattle.name_lookup.specs.declared.targets.Targets.{Targets}
 use Rattle.name_lookup.specs.Targets.{count, last_keys}
-use Rattle.live_table.specs.declared.leading.Lead.TheVariants.{Two}
-use Rattle.live_table.specs.Leading.{LeadsTo}
-use Rattle.live_table.specs.Stored.{listed}
+use Rattle.live_table.specs.declared.word_targets.Lead.TheVariants.{Two}
+use Rattle.live_table.specs.WordTargets.{LeadsToKeys}
+use Rattle.live_table.specs.TableContents.{node_lists}
 use Rattle.live_table.proofs.TriedNumbers.{added_keys, added_nodes, adds_both, leads_to_two}
 use Rattle.live_table.proofs.tried_numbers.number_targets.Goals as goal
 
 pub number_at-requires-in-LastTwo-2-clause-nodes : goal.number_at-requires-in-LastTwo-2-clause-nodes
 number_at-requires-in-LastTwo-2-clause-nodes c =
-    added_nodes (table c.args.deck.now) (listed c.args.nodes.now) (listed c.number_at-in-LastTwo.new.nodes)
+    added_nodes (table c.args.deck.now) (node_lists c.args.nodes.now) (node_lists c.number_at-in-LastTwo.new.nodes)
     c.number_at-in-LastTwo.ensures.added
 
 pub returns-in_err-m-in-LastTwo-clause-added : goal.returns-in_err-m-in-LastTwo-clause-added
 returns-in_err-m-in-LastTwo-clause-added c =
-    adds_both (table c.args.deck.now) (listed c.args.nodes.now) (listed c.number_at-in-LastTwo.new.nodes)
-    (listed c.number_at-in-LastTwo-2.new.nodes) c.number_at-in-LastTwo.ensures.added
+    adds_both (table c.args.deck.now) (node_lists c.args.nodes.now) (node_lists c.number_at-in-LastTwo.new.nodes)
+    (node_lists c.number_at-in-LastTwo-2.new.nodes) c.number_at-in-LastTwo.ensures.added
     c.number_at-in-LastTwo-2.ensures.added
 
 pub returns-in_ok-m-in-LastTwo-clause-added : goal.returns-in_ok-m-in-LastTwo-clause-added
 returns-in_ok-m-in-LastTwo-clause-added c =
-    adds_both (table c.args.deck.now) (listed c.args.nodes.now) (listed c.number_at-in-LastTwo.new.nodes)
-    (listed c.number_at-in-LastTwo-2.new.nodes) c.number_at-in-LastTwo.ensures.added
+    adds_both (table c.args.deck.now) (node_lists c.args.nodes.now) (node_lists c.number_at-in-LastTwo.new.nodes)
+    (node_lists c.number_at-in-LastTwo-2.new.nodes) c.number_at-in-LastTwo.ensures.added
     c.number_at-in-LastTwo-2.ensures.added
 
 pub returns-in_ok-m-in-LastTwo-clause-lead : goal.returns-in_ok-m-in-LastTwo-clause-lead
 returns-in_ok-m-in-LastTwo-clause-lead c =
     let keys = c.number_at-in-LastTwo-2.new.nodes.keys in
-    subst (λ (which : Targets). LeadsTo keys (last_keys (count which) c.args.tried.now)
+    subst (λ (which : Targets). LeadsToKeys keys (last_keys (count which) c.args.tried.now)
     (Two c.in_ok-n-in-LastTwo.n c.in_ok-m-in-LastTwo.m)) (sym c.in-LastTwo.is)
     (leads_to_two c.number_at-in-LastTwo.new.nodes.keys keys c.args.tried.now (c.len-in-LastTwo.result - 2)
     (c.len-in-LastTwo-2.result - 1) c.in_ok-n-in-LastTwo.n c.in_ok-m-in-LastTwo.m
     (subst (λ (which : Targets). count which ≤ length c.args.tried.now) c.in-LastTwo.is c.requires.enough)
     (ap (λ (x : ℕ). x - 2) c.len-in-LastTwo.ensures) (ap (λ (x : ℕ). x - 1) c.len-in-LastTwo-2.ensures)
-    (added_keys (table c.args.deck.now) (listed c.number_at-in-LastTwo.new.nodes)
-    (listed c.number_at-in-LastTwo-2.new.nodes) c.number_at-in-LastTwo-2.ensures.added)
+    (added_keys (table c.args.deck.now) (node_lists c.number_at-in-LastTwo.new.nodes)
+    (node_lists c.number_at-in-LastTwo-2.new.nodes) c.number_at-in-LastTwo-2.ensures.added)
     c.in_ok-n-in-LastTwo.ensures.number c.in_ok-m-in-LastTwo.ensures.number)

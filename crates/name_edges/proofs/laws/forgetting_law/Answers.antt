@@ -1,5 +1,5 @@
 use Rattle.std.proofs.Common.{ℕ, [], refl, arith, ◌∙◌}
-use Rattle.name_edges.specs.Affected.{AreAffected}
+use Rattle.name_edges.specs.AffectedNames.{AreAffected}
 use Rattle.name_edges.specs.NameGraphs.{NameGraph}
 use Rattle.name_edges.proofs.Cutting.{alone, both, cleared_on, cut_on, in_alone}
 use Rattle.name_edges.proofs.laws.forgetting_law.Goals as goal
@@ -16,7 +16,7 @@ returns c = record {
   };
   none_cleared = λ g marks. record { gone = λ x i. absurd (no_key g x i); kept = λ x free. refl };
   one = λ g key n. (alone g key n, in_alone g key n);
-  more = λ keys key old mid new a b. record {
+  more_keys = λ keys key old mid new a b. record {
     names = b.names ∙ a.names;
     uses = cut_on _ _ _ (both keys key old mid a) old.uses mid.uses new.uses a.uses b.uses;
     looks = cut_on _ _ _ (both keys key old mid a) old.looks mid.looks new.looks a.looks b.looks;

@@ -12,7 +12,7 @@ returns c = record {
     five_bytes_in_ies = refl;
     another_ending = refl;
   };
-  plural = record {
+  plural_words = record {
     too_short_for_s = refl;
     long_enough_for_s = refl;
     too_short_for_es = refl;
@@ -24,7 +24,7 @@ returns c = record {
     prefix_of_singular = refl;
     one_ending = refl;
   };
-  prefixes = record {
+  prefix_words = record {
     prefix_alone = refl;
     longest_prefix = refl;
     longest_prefix_of_a_unit = refl;

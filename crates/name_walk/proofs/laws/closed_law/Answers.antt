@@ -1,4 +1,4 @@
-use Rattle.name_walk.proofs.Closed.{closed_law_holds}
+use Rattle.name_walk.proofs.ClosedPaths.{closed_law_holds}
 use Rattle.name_walk.proofs.laws.closed_law.Goals as goal
 
 pub returns : goal.returns

@@ -1,4 +1,4 @@
-use Rattle.name_walk.proofs.Keeping.{findings_law_holds}
+use Rattle.name_walk.proofs.StableFindings.{findings_law_holds}
 use Rattle.name_walk.proofs.laws.findings_law.Goals as goal
 
 pub returns : goal.returns

@@ -1,4 +1,4 @@
-use Rattle.name_walk.proofs.Settled.{settled_law_holds}
+use Rattle.name_walk.proofs.DoneNames.{settled_law_holds}
 use Rattle.name_walk.proofs.laws.settled_law.Goals as goal
 
 pub returns : goal.returns

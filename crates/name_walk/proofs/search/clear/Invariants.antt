@@ -1,4 +1,4 @@
-use Rattle.name_walk.proofs.Clearing.{IsClearing}
+use Rattle.name_walk.proofs.ClearedFaults.{IsClearing}
 use Rattle.name_walk.proofs.search.clear.Given as goal
 
 abbrev pub invariant-loop-name : goal.invariant-loop-name

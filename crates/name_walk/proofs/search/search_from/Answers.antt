@@ -2,7 +2,7 @@ use Rattle.std.proofs.Common.{rules, List, ℕ, subst}
 use Rattle.std.specs.Result.{IfOk}
 use Rattle.std.proofs.lemmas.Result.{IfOk-weaker}
 use Rattle.name_walk.specs.Findings.{AreFromQuery}
-use Rattle.name_walk.proofs.Covering.{covered_between, covered_clear, faults_same}
+use Rattle.name_walk.proofs.UnknownNames.{covered_between, covered_clear, faults_same}
 use Rattle.name_walk.proofs.search.search_from.Goals as goal
 
 pub returns-in_err-cover_marks-clause-can_clear : goal.returns-in_err-cover_marks-clause-can_clear

@@ -1,6 +1,6 @@
 use Rattle.std.proofs.Common.{◌≡◌}
 use Rattle.name_walk.proofs.Moves.{weight_at}
-use Rattle.name_walk.proofs.Seeking.{IsSeeking}
+use Rattle.name_walk.proofs.SearchInvariant.{IsSeeking}
 use Rattle.name_walk.proofs.search.search_name.Given as goal
 
 abbrev pub invariant-loop-step : goal.invariant-loop-step

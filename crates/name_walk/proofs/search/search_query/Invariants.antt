@@ -1,5 +1,5 @@
 use Rattle.std.proofs.Common.{take}
-use Rattle.name_walk.proofs.Searching.{ArePassedBy}
+use Rattle.name_walk.proofs.SearchPasses.{ArePassedBy}
 use Rattle.name_walk.proofs.search.search_query.Given as goal
 
 abbrev pub invariant-loop-step : goal.invariant-loop-step

@@ -2,9 +2,9 @@ use Rattle.std.proofs.Common.{◌≡◌, ◌<◌, ℕ, Some, set, sym, subst}
 use Rattle.std.specs.List.{slice_get}
 use Rattle.name_walk.specs.declared.step.Step.TheVariants.{To}
 use Rattle.name_walk.specs.declared.trail.Ending.{Ending}
-use Rattle.name_walk.specs.Noted.{AreNoted}
+use Rattle.name_walk.specs.PathRecords.{AreNoted}
 use Rattle.name_walk.specs.Traces.{path}
-use Rattle.name_walk.proofs.Noting.{IsNoting, noting_all, noting_next, noting_others, noting_there}
+use Rattle.name_walk.proofs.PathFaultRecords.{IsNoting, noting_all, noting_next, noting_others, noting_there}
 use Rattle.name_walk.proofs.trail.note_path.Goals as goal
 
 pub index_mut-requires : goal.index_mut-requires

@@ -1,5 +1,5 @@
 use Rattle.std.proofs.Common.{length}
-use Rattle.name_walk.proofs.Noting.{IsNoting}
+use Rattle.name_walk.proofs.PathFaultRecords.{IsNoting}
 use Rattle.name_walk.proofs.trail.note_path.Given as goal
 
 abbrev pub invariant-loop-frame : goal.invariant-loop-frame

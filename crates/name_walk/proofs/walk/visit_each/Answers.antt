@@ -6,17 +6,17 @@ use Rattle.name_walk.specs.declared.fault.Fault.{Fault}
 use Rattle.name_walk.specs.declared.step.Step.{Step}
 use Rattle.name_walk.specs.declared.step.Step.TheVariants.{Nowhere, To}
 use Rattle.name_walk.specs.Faults.{DeadEnd}
-use Rattle.name_walk.specs.Steps.{AreKnown, Graph}
+use Rattle.name_walk.specs.Steps.{Graph, StayInGraph}
 use Rattle.name_walk.specs.Walks.{fault_view}
 use Rattle.name_walk.proofs.Lists.{get_In}
-use Rattle.name_walk.proofs.Passed.{all_passed, fault_next, found_closed, next_done, next_visit, passed_start}
+use Rattle.name_walk.proofs.QueryPasses.{all_passed, fault_next, found_closed, next_done, next_visit, passed_start}
 use Rattle.name_walk.proofs.walk.visit_each.Goals as goal
 
 read : {A : Type 0} (xs : List A) (i : ℕ) (d : A) {x : A} → i < length xs → get_or xs i d ≡ x → slice_get xs i ≡ Some x
 read xs i d l e = slice_get-get_or xs i d l ∙ ap Some e
 
 -- a step of the query leads to a name of the graph
-known : (g : Graph) (query : List Step) (i n : ℕ) → AreKnown g query → i < length query
+known : (g : Graph) (query : List Step) (i n : ℕ) → StayInGraph g query → i < length query
     → get_or query i (Nowhere 0) ≡ To n → n < length g
 known g query i n are_known l e = are_known n (get_In _ _ _ (read query i (Nowhere 0) l e))
 
@@ -41,7 +41,7 @@ mark_of-requires-clause-settled c =
 
 pub mark_of-requires-clause-marked : goal.mark_of-requires-clause-marked
 mark_of-requires-clause-marked c =
-    subst (λ (k : ℕ). c.in-To.start < k) (sym c.loop-step.invariant.passed.between.ordering.size)
+    subst (λ (k : ℕ). c.in-To.start < k) (sym c.loop-step.invariant.passed.between.in_target_order.size)
     (known _ _ _ _ c.requires.query c.loop-step-test.true c.in-To.is)
 
 pub loop-step-preserved-in_default : goal.loop-step-preserved-in_default

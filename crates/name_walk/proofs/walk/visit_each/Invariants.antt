@@ -1,5 +1,5 @@
 use Rattle.std.proofs.Common.{◌≡◌, length, take}
-use Rattle.name_walk.proofs.Passed.{ArePassed}
+use Rattle.name_walk.proofs.QueryPasses.{ArePassed}
 use Rattle.name_walk.proofs.walk.visit_each.Given as goal
 
 abbrev pub invariant-loop-step : goal.invariant-loop-step

@@ -2,12 +2,12 @@ use Rattle.std.proofs.Common.{refl}
 use Rattle.std.specs.Fmt.{digits}
 use Rattle.frac128.specs.Divisors.{gcd, gcd_within}
 use Rattle.frac128.specs.Roots.{root_of}
-use Rattle.frac128.specs.Steps.{reduced}
+use Rattle.frac128.specs.Steps.{lowest_terms}
 use Rattle.quantity.specs.Examples.{PowersLaw, TextsLaw}
 use Rattle.quantity.proofs.laws.examples_law.Goals as goal
 
 powers : PowersLaw
-unfolding gcd gcd_within reduced root_of
+unfolding gcd gcd_within lowest_terms root_of
 powers = record {
   root = refl;
   turned_round = refl;
@@ -24,4 +24,4 @@ unfolding digits
 texts = record { none = refl; plain = refl; under = refl; only_under = refl; root = refl }
 
 pub returns : goal.returns
-returns c = record { powers = powers; texts = texts }
+returns c = record { powers = powers; text_examples = texts }

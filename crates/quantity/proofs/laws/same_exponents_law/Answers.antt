@@ -1,4 +1,4 @@
-use Rattle.quantity.proofs.Matched as matched
+use Rattle.quantity.proofs.MatchedPowers as matched
 use Rattle.quantity.proofs.laws.same_exponents_law.Goals as goal
 
 pub returns : goal.returns

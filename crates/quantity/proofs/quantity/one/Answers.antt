@@ -1,19 +1,19 @@
 use Rattle.std.proofs.Common.{◌≡◌, ◌∙◌, pos, refl}
 use Rattle.frac128.specs.Divisors.{gcd, gcd_within}
 use Rattle.frac128.specs.Fraction.{whole}
-use Rattle.frac128.specs.Steps.{reduced}
+use Rattle.frac128.specs.Steps.{lowest_terms}
 use Rattle.quantity.proofs.quantity.one.Goals as goal
 
-one_is : reduced (pos 1) 1 ≡ whole (pos 1)
-unfolding reduced gcd gcd_within
+one_is : lowest_terms (pos 1) 1 ≡ whole (pos 1)
+unfolding lowest_terms gcd gcd_within
 one_is = refl
 
 pub unwrap-requires : goal.unwrap-requires
-unfolding reduced gcd gcd_within
+unfolding lowest_terms gcd gcd_within
 unwrap-requires c = search
 
 pub returns : goal.returns
-unfolding reduced gcd gcd_within
+unfolding lowest_terms gcd gcd_within
 returns c =
-    let same : c.unwrap.result ≡ reduced (pos 1) 1 = cc in
+    let same : c.unwrap.result ≡ lowest_terms (pos 1) 1 = cc in
     same ∙ one_is

@@ -1,6 +1,6 @@
 use Rattle.std.proofs.lemmas.Result.{err_from_is_err_and}
 use Rattle.quantity.specs.Factors.{exponent_in}
-use Rattle.quantity.specs.Merges.{Powers, merged}
+use Rattle.quantity.specs.Merges.{Powers, merge_of}
 use Rattle.quantity.specs.Stores.{powers_of}
 use Rattle.quantity.proofs.Joins.{handed_over, no_fault}
 use Rattle.quantity.proofs.store.merge_list.Goals as goal
@@ -8,7 +8,7 @@ use Rattle.quantity.proofs.store.merge_list.Goals as goal
 pub returns-in_err-left : goal.returns-in_err-left
 returns-in_err-left c =
     let error = err_from_is_err_and c.from_residual-in_err-left.result c.from_residual-in_err-left.ensures.1 in
-    let all : Powers = merged (exponent_in c.args.factor) c.args.left.items (powers_of c.args.other.now) in
+    let all : Powers = merge_of (exponent_in c.args.factor) c.args.left.items (powers_of c.args.other.now) in
     rw (error.1, error.2)
     (handed_over c.as_slice.result.now all _ c.in_err-left.ensures
     (no_fault c.args.left.items c.as_slice.result.now all c.requires.left c.as_slice.ensures.value))

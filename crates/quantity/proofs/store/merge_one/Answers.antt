@@ -4,7 +4,7 @@ use Rattle.std.proofs.lemmas.List.Elements.{All-head}
 use lib.Dec.{eqb}
 use Rattle.quantity.specs.Exponents.{IsPower, exponent_sum}
 use Rattle.quantity.specs.Factors.{exponent_in}
-use Rattle.quantity.specs.Merges.{ArePowers, as_exponent, merged}
+use Rattle.quantity.specs.Merges.{ArePowers, as_exponent, merge_of}
 use Rattle.quantity.specs.Stores.{powers_of}
 use Rattle.quantity.proofs.Alone.{one_both}
 use Rattle.quantity.proofs.Fractions.{sum_reduced}
@@ -28,5 +28,5 @@ returns-then-eq c =
     let taken = c.exponent-then-eq-2.ensures ∙ ap (exponent_in c.args.factor) c.exponent-then-eq.ensures in
     let answer = c.add-sum.ensures ∙ ap₂ (λ a b. as_exponent (exponent_sum a b)) c.exponent.ensures taken in
     subst (ArePowers powers_of c.of.result)
-    (sym (ap (merged step (left ∷ [])) others ∙ one_both step left right name))
+    (sym (ap (merge_of step (left ∷ [])) others ∙ one_both step left right name))
     (c.of.ensures (exponent_sum left.1 (exponent_in c.args.factor right.1)) reduced answer)

@@ -1,4 +1,4 @@
-use Rattle.reply.proofs.Granting.{grant-law}
+use Rattle.reply.proofs.GrantedReplies.{grant-law}
 use Rattle.reply.proofs.laws.grant_law.Goals as goal
 
 pub returns : goal.returns

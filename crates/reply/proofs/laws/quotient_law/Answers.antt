@@ -1,4 +1,4 @@
-use Rattle.reply.proofs.Dividing.{quotient-law}
+use Rattle.reply.proofs.ExactDivision.{quotient-law}
 use Rattle.reply.proofs.laws.quotient_law.Goals as goal
 
 pub returns : goal.returns

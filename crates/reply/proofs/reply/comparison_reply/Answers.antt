@@ -1,8 +1,8 @@
 use Rattle.std.proofs.Common.{◌≡◌, ◌∙◌, Err, IfOk, ap, subst, sym}
 use Rattle.reply.specs.Calls.{IsRead, same}
-use Rattle.reply.specs.Conversions.{compared}
-use Rattle.reply.specs.Faults.{is_told}
-use Rattle.reply.specs.Options.{form_of}
+use Rattle.reply.specs.Conversions.{conversion_between}
+use Rattle.reply.specs.Faults.{is_reportable}
+use Rattle.reply.specs.Options.{reply_form}
 use Rattle.reply.specs.Replies.{as_conversion, conversion_as, refusal}
 use Rattle.reply.specs.declared.failure.Failure.{Failure}
 use Rattle.reply.specs.declared.form.Form.{Form}
@@ -12,25 +12,26 @@ use Rattle.reply.proofs.reply.comparison_reply.Goals as goal
 
 pub refusal-requires-clause-told : goal.refusal-requires-clause-told
 refusal-requires-clause-told c =
-    ap is_told c.in-Err-Fault.fault-is
+    ap is_reportable c.in-Err-Fault.fault-is
     ∙ subst IsTold
-    (subst (λ (x : Failure). IsRead same (compared c.args.options.now.strict c.args.x c.args.y.now) (Err x))
+    (subst (λ (x : Failure). IsRead same (conversion_between c.args.options.now.strict c.args.x c.args.y.now) (Err x))
     c.in-Err-Fault.field-0-is c.in-Err-Fault.ensures)
     (compared-told c.args.options.now.strict c.args.x c.args.y.now)
 
 pub returns-in-Ok : goal.returns-in-Ok
 returns-in-Ok c =
-    subst (λ (w : Reply). IfOk c.granted.result (λ reply. reply ≡ w))
+    subst (λ (w : Reply). IfOk c.reply_to_conversion.result (λ reply. reply ≡ w))
     (ap (λ (f : Form). conversion_as f c.args.from.now c.args.to.now c.in-Ok.conversion) c.of-form.ensures.is
-    ∙ ap (as_conversion (form_of c.args.options.now) c.args.from.now c.args.to.now) (sym c.in-Ok.ensures))
-    c.granted.ensures
+    ∙ ap (as_conversion (reply_form c.args.options.now) c.args.from.now c.args.to.now) (sym c.in-Ok.ensures))
+    c.reply_to_conversion.ensures
 
 pub returns-in-Err-Fault : goal.returns-in-Err-Fault
 returns-in-Err-Fault c =
     subst (λ (w : Reply). IfOk c.refusal.result (λ reply. reply ≡ w))
     (ap (refusal c.of-form.result) c.in-Err-Fault.fault-is
     ∙ ap (λ (f : Form). refusal f c.in-Err-Fault.fault) c.of-form.ensures.is
-    ∙ ap (as_conversion (form_of c.args.options.now) c.args.from.now c.args.to.now)
-    (sym (subst (λ (x : Failure). IsRead same (compared c.args.options.now.strict c.args.x c.args.y.now) (Err x))
+    ∙ ap (as_conversion (reply_form c.args.options.now) c.args.from.now c.args.to.now)
+    (sym (subst (λ (x : Failure). IsRead same (conversion_between c.args.options.now.strict c.args.x c.args.y.now)
+    (Err x))
     c.in-Err-Fault.field-0-is c.in-Err-Fault.ensures)))
     c.refusal.ensures

@@ -4,19 +4,20 @@ use Rattle.reply.specs.declared.failure.Failure.{Failure}
 use Rattle.reply.specs.declared.reply.Reply.{Reply}
 use Rattle.reply.specs.Calls.{IsInquired, same}
 use Rattle.reply.specs.Conversions.{conversion}
-use Rattle.reply.specs.Faults.{is_told}
+use Rattle.reply.specs.Faults.{is_reportable}
 use Rattle.reply.specs.Grants.{IsConversionReply}
 use Rattle.reply.specs.Replies.{conversion_reply, refusal}
-use Rattle.reply.proofs.Replying.{conversion-cut, conversion-fault-told, conversion-granted, conversion-made}
-use Rattle.reply.proofs.Replying.{conversion-refused, reply-holds}
+use Rattle.reply.proofs.ReplyResults.{conversion-cut, conversion-fault-told, conversion-granted, conversion-made}
+use Rattle.reply.proofs.ReplyResults.{conversion-refused, reply-holds}
 use Rattle.reply.proofs.reply.convert_reply.Goals as goal
 
 pub refusal-requires-clause-told : goal.refusal-requires-clause-told
 refusal-requires-clause-told g c =
-    ap is_told c.in-Err-Fault.fault-is
+    ap is_reportable c.in-Err-Fault.fault-is
     ∙ conversion-fault-told c.args.options.now c.args.from.now c.args.to.now c.trim-from.result.now c.trim-to.result.now
     c.trim-from.ensures
-    c.trim-to.ensures c.args.table.now c.convert.new.table c.args.steps.now c.convert.new.steps c.told_law.ensures
+    c.trim-to.ensures c.args.table.now c.convert.new.table c.args.steps.now c.convert.new.steps
+    c.parse_memory_law.ensures
     c.in-Err-Fault.fault
     (subst (λ (x : Failure).
     IsInquired same (conversion (table c.args.table.now.deck) c.args.options.now c.trim-from.result.now
@@ -25,17 +26,17 @@ refusal-requires-clause-told g c =
 
 pub returns-in-Ok-clause-reply : goal.returns-in-Ok-clause-reply
 returns-in-Ok-clause-reply g c =
-    subst (λ (w : Reply). IfOk c.granted.result (λ reply. reply ≡ w))
+    subst (λ (w : Reply). IfOk c.reply_to_conversion.result (λ reply. reply ≡ w))
     (conversion-granted c.args.options.now c.args.from.now c.args.to.now c.trim-from.result.now c.trim-to.result.now
     c.trim-from.ensures
     c.trim-to.ensures c.args.table.now c.convert.new.table c.args.steps.now c.convert.new.steps c.of-form.result
     c.of-form.ensures.is c.in-Ok.conversion c.in-Ok.ensures.inquired)
-    c.granted.ensures
+    c.reply_to_conversion.ensures
 
 pub returns-in-Ok-clause-exact : goal.returns-in-Ok-clause-exact
 returns-in-Ok-clause-exact g c =
     let t = table c.args.table.now.deck in
-    reply-holds (IsConversionReply t c.args.options.now c.args.from.now c.args.to.now) c.granted.result
+    reply-holds (IsConversionReply t c.args.options.now c.args.from.now c.args.to.now) c.reply_to_conversion.result
     (conversion_reply t c.args.options.now c.args.from.now c.args.to.now)
     (c.grant_law.ensures c.args.table.now.deck c.args.options.now c.args.from.now c.args.to.now)
     (returns-in-Ok-clause-reply g c)
@@ -44,7 +45,8 @@ pub returns-in-Ok-clause-queries : goal.returns-in-Ok-clause-queries
 returns-in-Ok-clause-queries g c =
     conversion-made c.args.options.now c.args.from.now c.args.to.now c.trim-from.result.now c.trim-to.result.now
     c.trim-from.ensures
-    c.trim-to.ensures c.args.table.now c.convert.new.table c.args.steps.now c.convert.new.steps c.granted.result
+    c.trim-to.ensures c.args.table.now c.convert.new.table c.args.steps.now c.convert.new.steps
+    c.reply_to_conversion.result
     c.convert.ensures.deck (c.in-Ok.ensures.inquired).1
 
 pub returns-in-Err-Fault-clause-reply : goal.returns-in-Err-Fault-clause-reply

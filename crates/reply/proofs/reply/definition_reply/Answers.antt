@@ -4,62 +4,63 @@ use Rattle.reply.specs.declared.failure.Failure.{Failure}
 use Rattle.reply.specs.declared.reply.Reply.{Reply}
 use Rattle.reply.specs.Calls.{IsInquired, same}
 use Rattle.reply.specs.Inquiries.{text_worth}
-use Rattle.reply.specs.Faults.{is_told}
+use Rattle.reply.specs.Faults.{is_reportable}
 use Rattle.reply.specs.Replies.{refusal}
-use Rattle.reply.proofs.Replying.{definition-granted, definition-refused, value-cut, value-fault-told, value-made}
+use Rattle.reply.proofs.ReplyResults.{definition-granted, definition-refused, value-cut, value-fault-told, value-made}
 use Rattle.reply.proofs.reply.definition_reply.Goals as goal
 
 pub refusal-requires-clause-told : goal.refusal-requires-clause-told
 refusal-requires-clause-told g c =
-    ap is_told c.in-Err-Fault.fault-is
+    ap is_reportable c.in-Err-Fault.fault-is
     ∙ value-fault-told c.args.options.now c.args.from.now c.trim-from.result.now c.trim-from.ensures c.args.table.now
-    c.text_worth.new.table
-    c.args.steps.now c.text_worth.new.steps c.told_law.ensures c.in-Err-Fault.fault
+    c.evaluate_text.new.table
+    c.args.steps.now c.evaluate_text.new.steps c.parse_memory_law.ensures c.in-Err-Fault.fault
     (subst (λ (x : Failure). IsInquired same (text_worth (table c.args.table.now.deck) c.trim-from.result.now) (Err x)
-    c.args.table.now c.text_worth.new.table c.args.steps.now c.text_worth.new.steps) c.in-Err-Fault.field-0-is
+    c.args.table.now c.evaluate_text.new.table c.args.steps.now c.evaluate_text.new.steps) c.in-Err-Fault.field-0-is
     c.in-Err-Fault.ensures.inquired)
 
 pub returns-in-Ok-clause-reply : goal.returns-in-Ok-clause-reply
 returns-in-Ok-clause-reply g c =
-    subst (λ (w : Reply). IfOk c.defined.result (λ reply. reply ≡ w))
+    subst (λ (w : Reply). IfOk c.reply_to_value.result (λ reply. reply ≡ w))
     (definition-granted c.args.options.now c.args.from.now c.trim-from.result.now c.trim-from.ensures c.args.table.now
-    c.text_worth.new.table
-    c.args.steps.now c.text_worth.new.steps c.of-form.result c.of-form.ensures.is c.deck.result.now c.deck.ensures.deck
-    c.text_worth.ensures.deck c.in-Ok.x c.in-Ok.ensures.inquired)
-    c.defined.ensures
+    c.evaluate_text.new.table
+    c.args.steps.now c.evaluate_text.new.steps c.of-form.result c.of-form.ensures.is c.deck.result.now c.deck.ensures.deck
+    c.evaluate_text.ensures.deck c.in-Ok.x c.in-Ok.ensures.inquired)
+    c.reply_to_value.ensures
 
 pub returns-in-Ok-clause-queries : goal.returns-in-Ok-clause-queries
 returns-in-Ok-clause-queries g c =
     value-made c.args.options.now c.args.from.now c.trim-from.result.now c.trim-from.ensures c.args.table.now
-    c.text_worth.new.table
-    c.args.steps.now c.text_worth.new.steps c.defined.result c.text_worth.ensures.deck (c.in-Ok.ensures.inquired).1
+    c.evaluate_text.new.table
+    c.args.steps.now c.evaluate_text.new.steps c.reply_to_value.result c.evaluate_text.ensures.deck
+    (c.in-Ok.ensures.inquired).1
 
 pub returns-in-Err-Fault-clause-reply : goal.returns-in-Err-Fault-clause-reply
 returns-in-Err-Fault-clause-reply g c =
     subst (λ (w : Reply). IfOk c.refusal.result (λ reply. reply ≡ w))
     (ap (refusal c.of-form.result) c.in-Err-Fault.fault-is
     ∙ definition-refused c.args.options.now c.args.from.now c.trim-from.result.now c.trim-from.ensures c.args.table.now
-    c.text_worth.new.table
-    c.args.steps.now c.text_worth.new.steps c.of-form.result c.of-form.ensures.is c.in-Err-Fault.fault
+    c.evaluate_text.new.table
+    c.args.steps.now c.evaluate_text.new.steps c.of-form.result c.of-form.ensures.is c.in-Err-Fault.fault
     (subst (λ (x : Failure). IsInquired same (text_worth (table c.args.table.now.deck) c.trim-from.result.now) (Err x)
-    c.args.table.now c.text_worth.new.table c.args.steps.now c.text_worth.new.steps) c.in-Err-Fault.field-0-is
+    c.args.table.now c.evaluate_text.new.table c.args.steps.now c.evaluate_text.new.steps) c.in-Err-Fault.field-0-is
     c.in-Err-Fault.ensures.inquired))
     c.refusal.ensures
 
 pub returns-in-Err-Fault-clause-queries : goal.returns-in-Err-Fault-clause-queries
 returns-in-Err-Fault-clause-queries g c =
     value-made c.args.options.now c.args.from.now c.trim-from.result.now c.trim-from.ensures c.args.table.now
-    c.text_worth.new.table
-    c.args.steps.now c.text_worth.new.steps c.refusal.result c.text_worth.ensures.deck
+    c.evaluate_text.new.table
+    c.args.steps.now c.evaluate_text.new.steps c.refusal.result c.evaluate_text.ensures.deck
     (subst (λ (x : Failure). IsInquired same (text_worth (table c.args.table.now.deck) c.trim-from.result.now) (Err x)
-    c.args.table.now c.text_worth.new.table c.args.steps.now c.text_worth.new.steps) c.in-Err-Fault.field-0-is
+    c.args.table.now c.evaluate_text.new.table c.args.steps.now c.evaluate_text.new.steps) c.in-Err-Fault.field-0-is
     c.in-Err-Fault.ensures.inquired).1
 
 pub returns-in-Err-OutOfMemory-clause-queries : goal.returns-in-Err-OutOfMemory-clause-queries
 returns-in-Err-OutOfMemory-clause-queries g c =
     value-cut c.args.options.now c.args.from.now c.trim-from.result.now c.trim-from.ensures c.args.table.now
-    c.text_worth.new.table
-    c.args.steps.now c.text_worth.new.steps
+    c.evaluate_text.new.table
+    c.args.steps.now c.evaluate_text.new.steps
     (subst (λ (x : Failure). IsInquired same (text_worth (table c.args.table.now.deck) c.trim-from.result.now) (Err x)
-    c.args.table.now c.text_worth.new.table c.args.steps.now c.text_worth.new.steps) c.in-Err-OutOfMemory.field-0-is
+    c.args.table.now c.evaluate_text.new.table c.args.steps.now c.evaluate_text.new.steps) c.in-Err-OutOfMemory.field-0-is
     c.in-Err-OutOfMemory.ensures.inquired)

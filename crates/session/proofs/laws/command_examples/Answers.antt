@@ -6,7 +6,7 @@ use Rattle.session.proofs.laws.command_examples.Goals as goal
 pub returns : goal.returns
 unfolding line_content command_in colon_command
 returns c = record {
-  blank = refl;
+  blank_line = refl;
   quit = refl;
   exit = refl;
   conformable = refl;
@@ -18,8 +18,8 @@ returns c = record {
   drop_alone = refl;
   set = refl;
   locale = refl;
-  undo = refl;
-  redo = refl;
+  colon_undo = refl;
+  colon_redo = refl;
   load = refl;
   save = refl;
   stats = refl;

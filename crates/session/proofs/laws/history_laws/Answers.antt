@@ -1,4 +1,4 @@
-use Rattle.session.proofs.Undoing.{history-laws}
+use Rattle.session.proofs.UndoLaws.{history-laws}
 use Rattle.session.proofs.laws.history_laws.Goals as goal
 
 pub returns : goal.returns

@@ -1,4 +1,4 @@
-use Rattle.session.proofs.Leaving.{leaves}
+use Rattle.session.proofs.StepIndependence.{leaves}
 use Rattle.session.proofs.laws.leaves_law.Goals as goal
 
 pub returns : goal.returns

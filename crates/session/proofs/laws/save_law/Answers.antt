@@ -1,4 +1,4 @@
-use Rattle.session.proofs.Undoing.{save-law}
+use Rattle.session.proofs.UndoLaws.{save-law}
 use Rattle.session.proofs.laws.save_law.Goals as goal
 
 pub returns : goal.returns

@@ -1,11 +1,11 @@
 use Rattle.std.proofs.Common.{◌++◌, refl, sym, ◌∙◌, arith}
 use Rattle.session.proofs.Blocks.{either_rose, later_than, rose_from, rose_since, same_input, stands}
-use Rattle.session.proofs.Ending.{done_by, fed_cause, goes_on, write_cause}
-use Rattle.session.proofs.Faulting.{still}
+use Rattle.session.proofs.SourceEnding.{done_by, fed_cause, goes_on, write_cause}
+use Rattle.session.proofs.FetchFaultCounts.{still}
 use Rattle.session.proofs.HeardLines.{told_input}
-use Rattle.session.proofs.Growing.{front_grows, grows_again, same_grows}
+use Rattle.session.proofs.SinkGrowth.{front_grows, grows_again, same_grows}
 use Rattle.session.proofs.TakingUp.{block_last, holds_behind, holds_first, holds_on, names_none_at}
-use Rattle.session.proofs.Writing.{ended_written, part_written, waits_at_first, waits_behind, waits_on}
+use Rattle.session.proofs.OutputPieces.{ended_written, part_written, waits_at_first, waits_behind, waits_on}
 use Rattle.session.proofs.over_source.answer_block.Goals as goal
 
 pub loop-rest-init : goal.loop-rest-init
@@ -33,7 +33,7 @@ returns-in_default-clause-run g c = λ was is. record {
       c.write.ensures.out c.write.ensures.err
       (λ failed. rose_from _ _ _ _ stores c.loop-rest.invariant.stores_later
       (c.feed-fed.ensures.faults.written failed));
-  caused = write_cause _ _ (either_rose _ _ _ _ _ _ c.loop-rest.invariant.out_later c.loop-rest.invariant.err_later
+  has_cause = write_cause _ _ (either_rose _ _ _ _ _ _ c.loop-rest.invariant.out_later c.loop-rest.invariant.err_later
       c.in_default.ensures.cause);
   grows = record {
     out = grows_again _ _ _ c.loop-rest.invariant.out_grows (front_grows _ _ _ c.write.ensures.out);
@@ -55,7 +55,7 @@ returns-in-Some-clause-run g c = λ was is. record {
       (c.feed-fed.ensures.faults.cause failed))
       (λ failed. rose_from _ _ _ _ stores c.loop-rest.invariant.stores_later
       (c.feed-fed.ensures.faults.written failed));
-  caused = fed_cause _ _ c.feed-fed.result c.in-Some.end c.in-Some.ensures
+  has_cause = fed_cause _ _ c.feed-fed.result c.in-Some.end c.in-Some.ensures
       (λ failed. rose_since _ _ _ c.loop-rest.invariant.fetches_later (c.feed-fed.ensures.faults.cause failed))
       (λ failed. rose_since _ _ _ c.loop-rest.invariant.stores_later (c.feed-fed.ensures.faults.written failed));
   grows = record {

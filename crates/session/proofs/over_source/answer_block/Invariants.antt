@@ -1,11 +1,11 @@
 use Rattle.std.proofs.Common.{◌≡◌, ◌++◌, ◌≤◌, [], ℕ, List, length}
 use Rattle.std.specs.declared.option.Option.{Option}
-use Rattle.session.specs.Hearing.{NamesNoFile, any_loads_file}
+use Rattle.session.specs.HeardLines.{NamesNoFile, any_loads_file}
 use Rattle.session.specs.Outside.{GrowsAtLeast, Outside, outside_of}
-use Rattle.session.specs.Standing.{Holds}
-use Rattle.session.specs.Talks.{Talk}
-use Rattle.session.specs.Telling.{IsToldIf}
-use Rattle.session.specs.Waiting.{Waits}
+use Rattle.session.specs.SessionProgress.{Holds}
+use Rattle.session.specs.Talks.{SessionTrace}
+use Rattle.session.specs.KnownContents.{IsToldIf}
+use Rattle.session.specs.BetweenPieces.{WaitsForInput}
 use Rattle.session.proofs.over_source.answer_block.Given as goal
 
 abbrev pub invariant-loop-rest : goal.invariant-loop-rest
@@ -20,14 +20,14 @@ invariant-loop-rest g l = record {
       (done : List ℕ) × (l.block ≡ done ++ l.rest) × Holds (taken ++ done) l.held;
   unasked : (taken more : List ℕ) → Holds taken l.initial.held → NamesNoFile ((taken ++ l.block) ++ more) →
       l.files ≡ l.initial.files;
-  waits : (first : Talk) (taken more : List ℕ) (start : Outside) (was is : Option (List ℕ)) →
+  waits : (first : SessionTrace) (taken more : List ℕ) (start : Outside) (was is : Option (List ℕ)) →
       IsToldIf (any_loads_file ((taken ++ l.block) ++ more)) start.files →
-      Waits first taken l.initial.held l.initial.session start
+      WaitsForInput first taken l.initial.held l.initial.session start
       (outside_of was (g.O.Sink.written l.initial.out) (g.E.Sink.written l.initial.err)
       (g.F.Files.files l.initial.files) (g.F.Files.faults l.initial.files)
       (g.F.Files.store_faults l.initial.files) l.initial.steps) →
       (done : List ℕ) × (l.block ≡ done ++ l.rest)
-      × Waits first (taken ++ done) l.held l.session start
+      × WaitsForInput first (taken ++ done) l.held l.session start
       (outside_of is (g.O.Sink.written l.out) (g.E.Sink.written l.err)
       (g.F.Files.files l.files) (g.F.Files.faults l.files) (g.F.Files.store_faults l.files) l.steps);
 }

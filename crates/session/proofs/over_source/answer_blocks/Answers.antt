@@ -2,8 +2,8 @@ use Rattle.std.proofs.Common.{◌++◌, inl, take, refl, sym, ap, arith, Some, �
 use Rattle.session.specs.Worlds.{source_of}
 use Rattle.session.proofs.Blocks.{all_heard, cut, cut_part, heard_by, later_than, loses, no_rest, none_left}
 use Rattle.session.proofs.Blocks.{rose_since, took_enough, took_more, went}
-use Rattle.session.proofs.Ending.{cause_since, ended_at, length_cause, read_cause}
-use Rattle.session.proofs.Growing.{grows_again}
+use Rattle.session.proofs.SourceEnding.{cause_since, ended_at, length_cause, read_cause}
+use Rattle.session.proofs.SinkGrowth.{grows_again}
 use Rattle.session.proofs.HeardLines.{told_input}
 use Rattle.session.proofs.TakingUp.{names_none_at}
 use Rattle.session.proofs.over_source.answer_blocks.Goals as goal
@@ -16,7 +16,7 @@ returns-in-Err-clause-run g c = record {
         λ calm. cut first p.0 _ _ _ _ p.4 input p.1 _ p.2 (c.in-Err.ensures.kept ∙ p.3) refl refl refl refl,
       );
   heard = λ input q h d. cc;
-  caused = read_cause _ _ (rose_since _ _ _ c.loop-total.invariant.earlier c.in-Err.ensures.cause.failed);
+  has_cause = read_cause _ _ (rose_since _ _ _ c.loop-total.invariant.earlier c.in-Err.ensures.cause.failed);
   grows = record { out = c.loop-total.invariant.out_grows; err = c.loop-total.invariant.err_grows };
 }
 
@@ -43,9 +43,9 @@ returns-then-n-eq0-clause-run g c =
           let lost = loses _ _ p.1 (take c.in-Ok.n c.take.new.buf) p.3 c.in-Ok.ensures.bytes in
           inl (lost.1
           ∙ ap Some (no_rest _ _ _ lost.2 (none_left _ p.1 p.3 (c.in-Ok.ensures.end c.if-n-eq0.true))));
-      caused = cause_since c.answer_end.result first_seen _ _ _ _ _ _ _ _ _ c.loop-total.invariant.out_later
+      has_cause = cause_since c.answer_end.result first_seen _ _ _ _ _ _ _ _ _ c.loop-total.invariant.out_later
           c.loop-total.invariant.err_later c.loop-total.invariant.later c.loop-total.invariant.stores_later
-          (c.answer_end.ensures.run first_seen new).caused;
+          (c.answer_end.ensures.run first_seen new).has_cause;
       grows = record {
         out = grows_again _ _ _ c.loop-total.invariant.out_grows (c.answer_end.ensures.run old new).grows.out;
         err = grows_again _ _ _ c.loop-total.invariant.err_grows (c.answer_end.ensures.run old new).grows.err;
@@ -74,9 +74,9 @@ returns-in-Some-clause-run g c =
           let lost = loses _ _ p.1 (take c.in-Ok.n c.take.new.buf) p.3 c.in-Ok.ensures.bytes in
           heard_by input p.0 (take c.in-Ok.n c.take.new.buf) lost.0 _ (went input p.0 p.1 _ lost.0 p.2 lost.2) lost.1
           (c.in-Some.ensures.cut p.0 p.4 d);
-      caused = cause_since c.in-Some.end first_seen _ _ _ _ _ _ _ _ _ c.loop-total.invariant.out_later
+      has_cause = cause_since c.in-Some.end first_seen _ _ _ _ _ _ _ _ _ c.loop-total.invariant.out_later
           c.loop-total.invariant.err_later c.loop-total.invariant.later c.loop-total.invariant.stores_later
-          (c.in-Some.ensures.run first_seen new).caused;
+          (c.in-Some.ensures.run first_seen new).has_cause;
       grows = record {
         out = grows_again _ _ _ c.loop-total.invariant.out_grows (c.in-Some.ensures.run old new).grows.out;
         err = grows_again _ _ _ c.loop-total.invariant.err_grows (c.in-Some.ensures.run old new).grows.err;
@@ -91,7 +91,7 @@ returns-clause-run g c = record {
         cut first p.0 _ _ _ _ p.4 input p.1 _ p.2 p.3 refl refl refl refl,
       );
   heard = λ input q h d. cc;
-  caused = length_cause _ _ (took_enough c.loop-total.total 4294967296 _ _ c.loop-total.invariant.counted
+  has_cause = length_cause _ _ (took_enough c.loop-total.total 4294967296 _ _ c.loop-total.invariant.counted
       (omega (arith, c.loop-total-test.false)));
   grows = record { out = c.loop-total.invariant.out_grows; err = c.loop-total.invariant.err_grows };
 }

@@ -1,10 +1,10 @@
 use Rattle.std.proofs.Common.{◌≡◌, ◌++◌, ◌≤◌, ◌-◌, ℕ, List, Some, length, ◌<◌, []}
-use Rattle.session.specs.Hearing.{NamesNoFile, any_loads_file}
+use Rattle.session.specs.HeardLines.{NamesNoFile, any_loads_file}
 use Rattle.session.specs.Outside.{GrowsAtLeast, Outside, outside_of}
-use Rattle.session.specs.Standing.{Holds}
-use Rattle.session.specs.Talks.{Talk}
-use Rattle.session.specs.Telling.{IsToldIf}
-use Rattle.session.specs.Waiting.{TookAtLeast, Waits}
+use Rattle.session.specs.SessionProgress.{Holds}
+use Rattle.session.specs.Talks.{SessionTrace}
+use Rattle.session.specs.KnownContents.{IsToldIf}
+use Rattle.session.specs.BetweenPieces.{TookAtLeast, WaitsForInput}
 use Rattle.session.proofs.over_source.answer_blocks.Given as goal
 
 abbrev pub invariant-loop-total : goal.invariant-loop-total
@@ -23,13 +23,13 @@ invariant-loop-total g l = record {
       × Holds taken l.held;
   unasked : (input : List ℕ) → g.S.Source.left l.initial.src ≡ Some input → Holds [] l.initial.held →
       NamesNoFile input → l.files ≡ l.initial.files;
-  stands : (first : Talk) (input : List ℕ) (start : Outside) → g.S.Source.left l.initial.src ≡ Some input →
-      IsToldIf (any_loads_file input) start.files → Waits first [] l.initial.held l.initial.session start
+  stands : (first : SessionTrace) (input : List ℕ) (start : Outside) → g.S.Source.left l.initial.src ≡ Some input →
+      IsToldIf (any_loads_file input) start.files → WaitsForInput first [] l.initial.held l.initial.session start
       (outside_of (g.S.Source.left l.initial.src) (g.O.Sink.written l.initial.out) (g.E.Sink.written l.initial.err)
       (g.F.Files.files l.initial.files) (g.F.Files.faults l.initial.files)
       (g.F.Files.store_faults l.initial.files) l.initial.steps) →
       (taken : List ℕ) × (rest : List ℕ) × (input ≡ taken ++ rest) × (g.S.Source.left l.src ≡ Some rest)
-      × Waits first taken l.held l.session start
+      × WaitsForInput first taken l.held l.session start
       (outside_of (g.S.Source.left l.src) (g.O.Sink.written l.out) (g.E.Sink.written l.err)
       (g.F.Files.files l.files) (g.F.Files.faults l.files) (g.F.Files.store_faults l.files) l.steps);
 }

@@ -1,7 +1,7 @@
 use Rattle.session.proofs.Blocks.{rose_since, stands}
-use Rattle.session.proofs.Ending.{end_cause, write_cause}
-use Rattle.session.proofs.Growing.{front_grows}
-use Rattle.session.proofs.Writing.{last_part, last_written}
+use Rattle.session.proofs.SourceEnding.{end_cause, write_cause}
+use Rattle.session.proofs.SinkGrowth.{front_grows}
+use Rattle.session.proofs.OutputPieces.{last_part, last_written}
 use Rattle.session.proofs.over_source.answer_end.Goals as goal
 
 pub returns-in_default-clause-run : goal.returns-in_default-clause-run
@@ -11,7 +11,7 @@ returns-in_default-clause-run g c = λ was is. record {
       last_part first input _ _ _ _ w _ c.feed_end-fed.result c.feed_end-fed.new.said _ _
       (c.feed_end-fed.ensures.told _ first input t s) c.write.ensures.out c.write.ensures.err
       (λ failed. rose_since _ _ _ stores (c.feed_end-fed.ensures.faults.written failed));
-  caused = write_cause _ _ c.in_default.ensures.cause;
+  has_cause = write_cause _ _ c.in_default.ensures.cause;
   grows = record {
     out = front_grows _ _ _ c.write.ensures.out;
     err = front_grows _ _ _ c.write.ensures.err;
@@ -27,7 +27,7 @@ returns-clause-run g c = λ was is. record {
       c.in-Ok.ensures.whole.0 c.in-Ok.ensures.whole.1
       (λ failed. rose_since _ _ _ fetches (c.feed_end-fed.ensures.faults.cause failed))
       (λ failed. rose_since _ _ _ stores (c.feed_end-fed.ensures.faults.written failed));
-  caused = end_cause _ _ c.feed_end-fed.result c.last_end.result c.last_end.ensures
+  has_cause = end_cause _ _ c.feed_end-fed.result c.last_end.result c.last_end.ensures
       (λ failed. c.feed_end-fed.ensures.faults.cause failed)
       (λ failed. c.feed_end-fed.ensures.faults.written failed);
   grows = record {

@@ -1,18 +1,18 @@
 use Rattle.std.proofs.Common.{[], inl, inr, refl, arith, subst, sym, ◌∙◌}
-use Rattle.session.specs.Hearing.{any_loads_file}
-use Rattle.session.specs.Telling.{IsToldIf}
+use Rattle.session.specs.HeardLines.{any_loads_file}
+use Rattle.session.specs.KnownContents.{IsToldIf}
 use Rattle.session.proofs.Blocks.{any_rose, open_part, opens}
-use Rattle.session.proofs.Ending.{memory_cause, unwritten, write_cause}
-use Rattle.session.proofs.Growing.{all_grows, grows_more, order_grows}
+use Rattle.session.proofs.SourceEnding.{memory_cause, unwritten, write_cause}
+use Rattle.session.proofs.SinkGrowth.{all_grows, grows_more, order_grows}
 use Rattle.session.proofs.HeardLines.{holds_none}
-use Rattle.session.proofs.Holding.{readable_short}
+use Rattle.session.proofs.HeldLine.{readable_short}
 use Rattle.session.proofs.over_source.run_session.Goals as goal
 
 pub returns-in_default-clause-run : goal.returns-in_default-clause-run
 returns-in_default-clause-run g c = record {
   told = λ first input start q t at. unwritten first input _ _ start _ at;
   heard = λ input q d. cc;
-  caused = memory_cause _ _;
+  has_cause = memory_cause _ _;
 }
 
 pub returns-in_default-clause-opening : goal.returns-in_default-clause-opening
@@ -26,7 +26,7 @@ returns-in-Err-clause-run g c = record {
   told = λ first input start q t at.
       open_part first input _ _ start _ _ at c.write.ensures.out c.write.ensures.err refl;
   heard = λ input q d. cc;
-  caused = write_cause _ _ c.in-Err.ensures.cause;
+  has_cause = write_cause _ _ c.in-Err.ensures.cause;
 }
 
 pub returns-in-Err-clause-opening : goal.returns-in-Err-clause-opening
@@ -45,12 +45,12 @@ returns-clause-run g c = record {
   heard = λ input q d.
       c.answer_blocks.ensures.run.heard input q
       (holds_none _ (c.new-held.ensures ∙ sym (readable_short [] (omega arith)))) d;
-  caused = record {
-    read = c.answer_blocks.ensures.run.caused.read;
+  has_cause = record {
+    read = c.answer_blocks.ensures.run.has_cause.read;
     write = λ r.
         any_rose _ _ _ _ _ _ _ _ c.write.ensures.out_later c.write.ensures.err_later
-        (c.answer_blocks.ensures.run.caused.write r);
-    too_long = c.answer_blocks.ensures.run.caused.too_long;
+        (c.answer_blocks.ensures.run.has_cause.write r);
+    too_long = c.answer_blocks.ensures.run.has_cause.too_long;
   };
 }
 

@@ -1,8 +1,8 @@
 use Rattle.std.proofs.Common.{◌++◌, ◌∷◌, [], ap, refl, sym, ◌∙◌}
-use Rattle.session.specs.Hearing.{names_file_in, names_file_read}
+use Rattle.session.specs.HeardLines.{names_file_in, names_file_read}
 use Rattle.session.specs.declared.fault.SessionFault.TheVariants.{OutOfMemory}
-use Rattle.session.proofs.Breaking.{broken_at}
-use Rattle.session.proofs.Feeding.{line_ended, no_part}
+use Rattle.session.proofs.BrokenAnswers.{broken_at}
+use Rattle.session.proofs.BlockFeeds.{line_ended, no_part}
 use Rattle.session.proofs.HeardLines.{told_line}
 use Rattle.session.proofs.TakingUp.{last_line}
 use Rattle.session.proofs.talk.end_line.Goals as goal

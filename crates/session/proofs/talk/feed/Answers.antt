@@ -1,20 +1,20 @@
 use Rattle.std.proofs.Common.{◌++◌, arith, ap, sym, ◌∙◌, option_map}
 use Rattle.std.proofs.lemmas.List.{append-nil}
-use Rattle.def_entry.specs.Seen.{seen_pair}
+use Rattle.def_entry.specs.LineViews.{seen_pair}
 use Rattle.def_entry.proofs.CutParts.{shorter}
-use Rattle.session.specs.Input.{whole_lines, unfinished}
-use Rattle.session.specs.Standing.{now_of}
-use Rattle.session.specs.Talks.{talk_over}
+use Rattle.session.specs.Input.{whole_lines, unfinished_line}
+use Rattle.session.specs.SessionProgress.{now_of}
+use Rattle.session.specs.Talks.{trace_over}
 use Rattle.session.specs.declared.fault.SessionFault.TheVariants.{OutOfMemory}
-use Rattle.session.proofs.Feeding.{line_fed, line_lost, line_over, rest_held, rest_lost, stands_holds}
+use Rattle.session.proofs.BlockFeeds.{line_fed, line_lost, line_over, rest_held, rest_lost, stands_holds}
 use Rattle.session.proofs.HeardLines.{line_holds, line_last, line_names_none, line_told, rest_holds}
 use Rattle.session.proofs.talk.feed.Goals as goal
 
 pub returns-in-Ok-true-clause-told : goal.returns-in-Ok-true-clause-told
 returns-in-Ok-true-clause-told g c = λ base first taken more t s.
     let p = c.loop-piece.invariant.fed base first taken more t s in
-    let told = c.in-Ok-true.ensures.told base (talk_over first (whole_lines (taken ++ p.0)))
-    (unfinished (taken ++ p.0)) p.2.part
+    let told = c.in-Ok-true.ensures.told base (trace_over first (whole_lines (taken ++ p.0)))
+    (unfinished_line (taken ++ p.0)) p.2.part
     (line_told taken c.args.rest.now.now p.0 c.loop-piece.rest.now c.loop-piece.held p.1
     (stands_holds base first _ _ _ p.2)
     c.in-Some.piece.now c.in-Some.behind.now (sym c.in-Some.ensures) more base.files t) p.2.at in
@@ -33,7 +33,8 @@ returns-in-Err-clause-told g c = λ base first taken more t s.
     c.in-Some.piece.now
     c.in-Some.behind.now (sym c.in-Some.ensures) c.in-Err.fault more
     (now_of c.end_line.new.said c.end_line.new.session (g.F.Files.files c.end_line.new.files) c.end_line.new.steps)
-    (c.in-Err.ensures.told base (talk_over first (whole_lines (taken ++ p.0))) (unfinished (taken ++ p.0)) p.2.part
+    (c.in-Err.ensures.told base (trace_over first (whole_lines (taken ++ p.0))) (unfinished_line (taken ++ p.0))
+    p.2.part
     (line_told taken c.args.rest.now.now p.0 c.loop-piece.rest.now c.loop-piece.held p.1
     (stands_holds base first _ _ _ p.2)
     c.in-Some.piece.now c.in-Some.behind.now (sym c.in-Some.ensures) more base.files t) p.2.at)
@@ -41,8 +42,8 @@ returns-in-Err-clause-told g c = λ base first taken more t s.
 pub returns-then-is_long-clause-told : goal.returns-then-is_long-clause-told
 returns-then-is_long-clause-told g c = λ base first taken more t s.
     let p = c.loop-piece.invariant.fed base first taken more t s in
-    let told = c.in-Ok-false.ensures.told base (talk_over first (whole_lines (taken ++ p.0)))
-    (unfinished (taken ++ p.0)) p.2.part
+    let told = c.in-Ok-false.ensures.told base (trace_over first (whole_lines (taken ++ p.0)))
+    (unfinished_line (taken ++ p.0)) p.2.part
     (line_told taken c.args.rest.now.now p.0 c.loop-piece.rest.now c.loop-piece.held p.1
     (stands_holds base first _ _ _ p.2)
     c.in-Some.piece.now c.in-Some.behind.now (sym c.in-Some.ensures) more base.files t) p.2.at in
@@ -64,19 +65,19 @@ loop-piece-preserved g c = record {
   );
   holds = λ taken h.
       let p = c.loop-piece.invariant.holds taken h in
-      let last = c.in-Ok-false.ensures.last (unfinished (taken ++ p.0)) p.2.part in
+      let last = c.in-Ok-false.ensures.last (unfinished_line (taken ++ p.0)) p.2.part in
       line_holds taken c.args.rest.now.now p.0 c.loop-piece.rest.now c.loop-piece.held p.1 p.2 c.in-Some.piece.now
       c.in-Some.behind.now (sym c.in-Some.ensures) c.end_line.new.held (sym c.in-Ok-false.field-0-test ∙ last.0) last.1;
   unasked = λ taken more h none.
       let p = c.loop-piece.invariant.holds taken h in
-      c.end_line.ensures.unasked (unfinished (taken ++ p.0)) p.2.part
+      c.end_line.ensures.unasked (unfinished_line (taken ++ p.0)) p.2.part
       (line_names_none taken c.args.rest.now.now p.0 c.loop-piece.rest.now c.loop-piece.held p.1 p.2
       c.in-Some.piece.now c.in-Some.behind.now (sym c.in-Some.ensures) more none)
       ∙ c.loop-piece.invariant.unasked taken more h none;
   fed = λ base first taken more t s.
       let p = c.loop-piece.invariant.fed base first taken more t s in
-      let told = c.in-Ok-false.ensures.told base (talk_over first (whole_lines (taken ++ p.0)))
-      (unfinished (taken ++ p.0)) p.2.part
+      let told = c.in-Ok-false.ensures.told base (trace_over first (whole_lines (taken ++ p.0)))
+      (unfinished_line (taken ++ p.0)) p.2.part
       (line_told taken c.args.rest.now.now p.0 c.loop-piece.rest.now c.loop-piece.held p.1
       (stands_holds base first _ _ _ p.2)
       c.in-Some.piece.now c.in-Some.behind.now (sym c.in-Some.ensures) more base.files t) p.2.at in
@@ -97,7 +98,7 @@ returns-in-Ok-clause-told g c = λ base first taken more t s.
           (now_of c.loop-piece.said c.loop-piece.session (g.F.Files.files c.loop-piece.files) c.loop-piece.steps) p.1
           p.2
           (sym c.cut_at.ensures ∙ ap (option_map seen_pair) c.in_default.is) c.add.new.self
-          (c.in-Ok.ensures (unfinished (taken ++ p.0)) p.2.part),
+          (c.in-Ok.ensures (unfinished_line (taken ++ p.0)) p.2.part),
     )
 
 pub returns-in-Err-add-clause-told : goal.returns-in-Err-add-clause-told
@@ -110,14 +111,14 @@ returns-in-Err-add-clause-told g c = λ base first taken more t s.
 pub returns-in-Ok-true-clause-cut : goal.returns-in-Ok-true-clause-cut
 returns-in-Ok-true-clause-cut g c = λ taken h.
     let p = c.loop-piece.invariant.holds taken h in
-    let last = c.in-Ok-true.ensures.last (unfinished (taken ++ p.0)) p.2.part in
+    let last = c.in-Ok-true.ensures.last (unfinished_line (taken ++ p.0)) p.2.part in
     line_last taken c.args.rest.now.now p.0 c.loop-piece.rest.now c.loop-piece.held p.1 p.2 c.in-Some.piece.now
     c.in-Some.behind.now (sym c.in-Some.ensures) (sym c.in-Ok-true.field-0-test ∙ last.0)
 
 pub returns-then-is_long-clause-cut : goal.returns-then-is_long-clause-cut
 returns-then-is_long-clause-cut g c = λ taken h.
     let p = c.loop-piece.invariant.holds taken h in
-    let last = c.in-Ok-false.ensures.last (unfinished (taken ++ p.0)) p.2.part in
+    let last = c.in-Ok-false.ensures.last (unfinished_line (taken ++ p.0)) p.2.part in
     line_holds taken c.args.rest.now.now p.0 c.loop-piece.rest.now c.loop-piece.held p.1 p.2 c.in-Some.piece.now
     c.in-Some.behind.now (sym c.in-Some.ensures) c.end_line.new.held (sym c.in-Ok-false.field-0-test ∙ last.0) last.1
 
@@ -128,13 +129,13 @@ returns-in-Ok-clause-cut g c = λ taken h.
       sym (append-nil c.args.rest.now.now),
       rest_holds taken c.args.rest.now.now p.0 c.loop-piece.rest.now c.loop-piece.held p.1 p.2
           (sym c.cut_at.ensures ∙ ap (option_map seen_pair) c.in_default.is) c.add.new.self
-          (c.in-Ok.ensures (unfinished (taken ++ p.0)) p.2.part),
+          (c.in-Ok.ensures (unfinished_line (taken ++ p.0)) p.2.part),
     )
 
 pub returns-in-Ok-true-clause-unasked : goal.returns-in-Ok-true-clause-unasked
 returns-in-Ok-true-clause-unasked g c = λ taken more h none.
     let p = c.loop-piece.invariant.holds taken h in
-    c.end_line.ensures.unasked (unfinished (taken ++ p.0)) p.2.part
+    c.end_line.ensures.unasked (unfinished_line (taken ++ p.0)) p.2.part
     (line_names_none taken c.args.rest.now.now p.0 c.loop-piece.rest.now c.loop-piece.held p.1 p.2
     c.in-Some.piece.now c.in-Some.behind.now (sym c.in-Some.ensures) more none)
     ∙ c.loop-piece.invariant.unasked taken more h none
@@ -142,7 +143,7 @@ returns-in-Ok-true-clause-unasked g c = λ taken more h none.
 pub returns-in-Err-clause-unasked : goal.returns-in-Err-clause-unasked
 returns-in-Err-clause-unasked g c = λ taken more h none.
     let p = c.loop-piece.invariant.holds taken h in
-    c.end_line.ensures.unasked (unfinished (taken ++ p.0)) p.2.part
+    c.end_line.ensures.unasked (unfinished_line (taken ++ p.0)) p.2.part
     (line_names_none taken c.args.rest.now.now p.0 c.loop-piece.rest.now c.loop-piece.held p.1 p.2
     c.in-Some.piece.now c.in-Some.behind.now (sym c.in-Some.ensures) more none)
     ∙ c.loop-piece.invariant.unasked taken more h none
@@ -150,7 +151,7 @@ returns-in-Err-clause-unasked g c = λ taken more h none.
 pub returns-then-is_long-clause-unasked : goal.returns-then-is_long-clause-unasked
 returns-then-is_long-clause-unasked g c = λ taken more h none.
     let p = c.loop-piece.invariant.holds taken h in
-    c.end_line.ensures.unasked (unfinished (taken ++ p.0)) p.2.part
+    c.end_line.ensures.unasked (unfinished_line (taken ++ p.0)) p.2.part
     (line_names_none taken c.args.rest.now.now p.0 c.loop-piece.rest.now c.loop-piece.held p.1 p.2
     c.in-Some.piece.now c.in-Some.behind.now (sym c.in-Some.ensures) more none)
     ∙ c.loop-piece.invariant.unasked taken more h none

@@ -1,8 +1,8 @@
 use Rattle.std.proofs.Common.{◌≡◌, ◌++◌, ◌≤◌, ℕ, List, length}
-use Rattle.session.specs.Hearing.{NamesNoFile, any_loads_file}
-use Rattle.session.specs.Standing.{Base, Holds, Stands, now_of}
-use Rattle.session.specs.Talks.{Talk}
-use Rattle.session.specs.Telling.{IsToldIf}
+use Rattle.session.specs.HeardLines.{NamesNoFile, any_loads_file}
+use Rattle.session.specs.SessionProgress.{Base, Holds, Stands, now_of}
+use Rattle.session.specs.Talks.{SessionTrace}
+use Rattle.session.specs.KnownContents.{IsToldIf}
 use Rattle.session.proofs.talk.feed.Given as goal
 
 abbrev pub invariant-loop-piece : goal.invariant-loop-piece
@@ -14,7 +14,7 @@ invariant-loop-piece g l = record {
       (done : List ℕ) × (l.initial.rest.now ≡ done ++ l.rest.now) × Holds (taken ++ done) l.held;
   unasked : (taken more : List ℕ) → Holds taken l.initial.held →
       NamesNoFile ((taken ++ l.initial.rest.now) ++ more) → l.files ≡ l.initial.files;
-  fed : (base : Base) (first : Talk) (taken more : List ℕ) →
+  fed : (base : Base) (first : SessionTrace) (taken more : List ℕ) →
       IsToldIf (any_loads_file ((taken ++ l.initial.rest.now) ++ more)) base.files →
       Stands base first taken l.initial.held
       (now_of l.initial.said l.initial.session (g.F.Files.files l.initial.files) l.initial.steps)

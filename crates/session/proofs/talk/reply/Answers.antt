@@ -1,5 +1,5 @@
 use Rattle.session.specs.declared.fault.SessionFault.TheVariants.{OutOfMemory}
-use Rattle.session.proofs.Answering.{done, replied_at, replied_broken, serve, unanswered}
+use Rattle.session.proofs.LineAnswers.{done, replied_at, replied_broken, serve, unanswered}
 use Rattle.session.proofs.talk.reply.Goals as goal
 
 pub returns-in-Ok-add-clause-told : goal.returns-in-Ok-add-clause-told

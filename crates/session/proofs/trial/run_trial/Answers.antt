@@ -1,18 +1,18 @@
 use Rattle.std.proofs.Common.{arith, subst, sym, ◌∙◌}
-use Rattle.session.specs.TextDecks.{HasRoom}
-use Rattle.session.specs.Trials.{trial}
+use Rattle.session.specs.TextDecks.{FitsDeck}
+use Rattle.session.specs.Trials.{trial_session}
 use Rattle.session.proofs.TalkedThrough.{told_summary, told_trial}
 use Rattle.session.proofs.trial.run_trial.Goals as goal
 
 pub text_deck-requires : goal.text_deck-requires
-text_deck-requires g c = subst HasRoom (sym c.deref.ensures.value) c.in_ok-text.ensures.room
+text_deck-requires g c = subst FitsDeck (sym c.deref.ensures.value) c.in_ok-text.ensures.room
 
 pub returns : goal.returns
 returns g c =
-    told_summary c.summary.result c.args.rounds _ _ (trial c.args.options c.args.settings c.args.rounds)
-    c.args.steps.now c.talked.new.steps
+    told_summary c.summary.result c.args.rounds _ _ (trial_session c.args.options c.args.settings c.args.rounds)
+    c.args.steps.now c.run_lines.new.steps
     (λ text is.
-    told_trial c.args.options c.args.settings c.args.rounds _ _ _ _ _ _ _ _ text c.args.steps.now c.talked.new.steps
+    told_trial c.args.options c.args.settings c.args.rounds _ _ _ _ _ _ _ _ text c.args.steps.now c.run_lines.new.steps
     (c.deref.ensures.value ∙ c.in_ok-text.ensures.is) c.in_ok-deck.ensures.is c.quiet_session-session.ensures
     (c.deref-2.ensures.value ∙ c.in_ok-lines.ensures) c.in_ok-said.ensures
     (omega (arith, c.len.ensures, c.in_ok-said.said.out.ok.0)) c.table.ensures is)

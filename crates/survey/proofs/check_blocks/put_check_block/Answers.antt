@@ -1,11 +1,11 @@
 use Rattle.std.proofs.Common.{◌≡◌, ◌+◌, ◌++◌, List, arith, get_or, subst, take, ℕ}
 use Rattle.std.proofs.lemmas.Option.{slice_get-get_or}
 use Rattle.deck.specs.Decks.{Contents}
-use Rattle.live_table.specs.Shown.{Follows}
+use Rattle.live_table.specs.TableView.{IsAfterEvents}
 use Rattle.reply.specs.Options.{style_of}
 use Rattle.survey.proofs.CheckBlocks.{block_lines, block_queries}
 use Rattle.survey.proofs.Places.{line_at, queries_at}
-use Rattle.survey.proofs.Surveying.{underway-next, underway-start}
+use Rattle.survey.proofs.ItemReports.{underway-next, underway-start}
 use Rattle.survey.proofs.check_blocks.put_check_block.Goals as goal
 
 pub loop-done-init : goal.loop-done-init
@@ -21,7 +21,8 @@ loop-done-preserved g c =
     let at = c.loop-done.invariant.at in
     record {
       within = omega arith;
-      at = underway-next (line_at c.args.table.now.deck (style_of c.args.options.now)) (queries_at c.args.table.now.deck)
+      at = underway-next (line_at c.args.table.now.deck (style_of c.args.options.now))
+          (queries_at c.args.table.now.deck)
           c.args.places.now c.loop-done.done c.args.lines.now.items c.loop-done.lines.items c.args.table.now
           c.loop-done.table c.args.steps.now c.loop-done.steps at place
           (slice_get-get_or c.args.places.now c.loop-done.done 0 (omega (arith, c.loop-done-test.true)))
@@ -30,7 +31,7 @@ loop-done-preserved g c =
           ≡ c.loop-done.lines.items ++ line_at d (style_of c.args.options.now) place)
           at.deck c.in_ok-put_check_at.ensures.line)
           c.put_check_at.ensures.deck
-          (subst (λ (d : Contents). Follows (queries_at d place)
+          (subst (λ (d : Contents). IsAfterEvents (queries_at d place)
           c.loop-done.table c.put_check_at.new.table c.loop-done.steps c.put_check_at.new.steps)
           at.deck c.in_ok-put_check_at.ensures.queries);
     }
@@ -59,7 +60,8 @@ returns-then-len-ge-BLOCK-clause-lines g c =
     (subst (λ (d : Contents). c.put_check_at.new.lines.items ≡ c.loop-done.lines.items ++ line_at d style place) at.deck
     c.in_ok-put_check_at.ensures.line)
     c.put_check_at.ensures.deck
-    (subst (λ (d : Contents). Follows (queries_at d place) c.loop-done.table c.put_check_at.new.table c.loop-done.steps
+    (subst (λ (d : Contents). IsAfterEvents (queries_at d place) c.loop-done.table c.put_check_at.new.table
+    c.loop-done.steps
     c.put_check_at.new.steps)
     at.deck c.in_ok-put_check_at.ensures.queries) in
     block_lines deck (take (c.loop-done.done + 1) c.args.places.now) style c.args.lines.now.items
@@ -79,7 +81,8 @@ returns-then-len-ge-BLOCK-clause-queries g c =
     (subst (λ (d : Contents). c.put_check_at.new.lines.items ≡ c.loop-done.lines.items ++ line_at d style place) at.deck
     c.in_ok-put_check_at.ensures.line)
     c.put_check_at.ensures.deck
-    (subst (λ (d : Contents). Follows (queries_at d place) c.loop-done.table c.put_check_at.new.table c.loop-done.steps
+    (subst (λ (d : Contents). IsAfterEvents (queries_at d place) c.loop-done.table c.put_check_at.new.table
+    c.loop-done.steps
     c.put_check_at.new.steps)
     at.deck c.in_ok-put_check_at.ensures.queries) in
     block_queries deck (take (c.loop-done.done + 1) c.args.places.now) c.args.table.now c.put_check_at.new.table

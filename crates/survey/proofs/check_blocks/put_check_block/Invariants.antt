@@ -1,7 +1,7 @@
 use Rattle.std.proofs.Common.{◌≤◌, ◌-◌, length}
 use Rattle.reply.specs.Options.{style_of}
 use Rattle.survey.proofs.Places.{line_at, queries_at}
-use Rattle.survey.proofs.Surveying.{IsUnderway}
+use Rattle.survey.proofs.ItemReports.{IsUnderway}
 use Rattle.survey.proofs.check_blocks.put_check_block.Given as goal
 
 abbrev pub invariant-loop-done : goal.invariant-loop-done

@@ -1,4 +1,4 @@
-use Rattle.survey.proofs.Prefixed.{prefix_law}
+use Rattle.survey.proofs.KeyFaults.{prefix_law}
 use Rattle.survey.proofs.laws.prefix_law.Goals as goal
 
 pub returns : goal.returns

@@ -1,4 +1,4 @@
-use Rattle.table_names.proofs.Affecting as laws
+use Rattle.table_names.proofs.AffectedKeys as laws
 use Rattle.table_names.proofs.laws.affected_law.Goals as goal
 
 pub returns : goal.returns

@@ -1,4 +1,4 @@
-use Rattle.table_names.proofs.Closing as laws
+use Rattle.table_names.proofs.ClosedLaws as laws
 use Rattle.table_names.proofs.laws.closed_law.Goals as goal
 
 pub returns : goal.returns

@@ -1,4 +1,4 @@
-use Rattle.table_names.proofs.Meeting as laws
+use Rattle.table_names.proofs.MetFaults as laws
 use Rattle.table_names.proofs.laws.meets_law.Goals as goal
 
 pub returns : goal.returns

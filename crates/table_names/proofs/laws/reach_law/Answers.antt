@@ -1,4 +1,4 @@
-use Rattle.table_names.proofs.Reaching as laws
+use Rattle.table_names.proofs.ReachedKeys as laws
 use Rattle.table_names.proofs.laws.reach_law.Goals as goal
 
 pub returns : goal.returns

@@ -1,4 +1,4 @@
-use Rattle.table_names.proofs.Kept as laws
+use Rattle.table_names.proofs.UnchangedKeys as laws
 use Rattle.table_names.proofs.laws.unaffected_law.Goals as goal
 
 pub returns : goal.returns

@@ -1,5 +1,6 @@
 use Rattle.std.proofs.Common.{◌≡◌, ◌+◌, ◌*◌, ◌++◌, drop, map}
-use Rattle.expr_tree.specs.Trees.{factor, factors, factors_of, members, syntax, term, terms, terms_of, trees_of}
+use Rattle.expr_tree.specs.Trees.{factor_syntax, factors_of, factors_syntax, members, syntax, term, terms, terms_of}
+use Rattle.expr_tree.specs.Trees.{trees_of}
 use Rattle.text_calls.specs.Notation.{factors_text, members_text, terms_text}
 use Rattle.text_calls.proofs.Sizes.{factors_size, members_size, size, terms_size}
 use Rattle.text_calls.proofs.notation.+put.Given as goal
@@ -14,7 +15,7 @@ abbrev pub decreases-put_members : goal.decreases-put_members
 decreases-put_members l = 2 * members_size (members (trees_of l.members.now)) + 1
 
 abbrev pub decreases-put_factors : goal.decreases-put_factors
-decreases-put_factors l = 2 * factors_size (factors (factors_of l.members.now)) + 1
+decreases-put_factors l = 2 * factors_size (factors_syntax (factors_of l.members.now)) + 1
 
 abbrev pub decreases-put_terms : goal.decreases-put_terms
 decreases-put_terms l = 2 * terms_size (terms (terms_of l.members.now)) + 1
@@ -28,8 +29,8 @@ invariant-put_members-loop-member l =
 
 abbrev pub invariant-put_factors-loop-member : goal.invariant-put_factors-loop-member
 invariant-put_factors-loop-member l =
-    l.out.items ++ factors_text (factors (map factor (drop l.member-index l.member-items)))
-    ≡ l.initial.out.items ++ factors_text (factors (factors_of l.members))
+    l.out.items ++ factors_text (factors_syntax (map factor_syntax (drop l.member-index l.member-items)))
+    ≡ l.initial.out.items ++ factors_text (factors_syntax (factors_of l.members))
 
 abbrev pub invariant-put_terms-loop-member : goal.invariant-put_terms-loop-member
 invariant-put_terms-loop-member l =

@@ -1,11 +1,11 @@
 use Rattle.std.proofs.Common.{refl}
 use Rattle.frac128.specs.Divisors.{gcd, gcd_within}
-use Rattle.frac128.specs.Steps.{reduced}
+use Rattle.frac128.specs.Steps.{lowest_terms}
 use Rattle.tree_eval.specs.Examples.{TestsLaw, ValuesLaw}
 use Rattle.tree_eval.proofs.laws.examples_law.Goals as goal
 
 values : ValuesLaw
-unfolding gcd gcd_within reduced
+unfolding gcd gcd_within lowest_terms
 values = record {
   decimals = refl;
   quotients = refl;
@@ -13,7 +13,7 @@ values = record {
   no_argument = refl;
   by_zero = refl;
   from_the_left = refl;
-  uncalled = refl;
+  no_call = refl;
   called = refl;
   too_deep = refl;
   other_name = refl;

@@ -1,19 +1,19 @@
 use Rattle.std.proofs.Common.{refl}
 use Rattle.frac128.specs.Divisors.{gcd, gcd_within, lcm}
 use Rattle.frac128.specs.Roots.{root_of}
-use Rattle.frac128.specs.Steps.{reduced}
+use Rattle.frac128.specs.Steps.{lowest_terms}
 use Rattle.piecewise.specs.Lines.{on_line}
 use Rattle.piecewise.specs.Tables.{x_at, y_at}
-use Rattle.tree_eval.specs.UnitExamples.{ArgumentLaw, InverseLaw, TableLaw, UnitValuesLaw}
+use Rattle.tree_eval.specs.UnitExamples.{ArgumentLaw, FunctionInverseLaw, TableValuesLaw, UnitValuesLaw}
 use Rattle.tree_eval.proofs.UnitMaps.{len_none, len_single, m, m_and_m, m_and_number, m_and_s, m_over_m, m_squared}
 use Rattle.tree_eval.proofs.UnitMaps.{number_and_m, number_over_s, number_times_m, one, root_of_m, s_and_m}
 use Rattle.tree_eval.proofs.laws.unit_examples_law.Goals as goal
 
 units : UnitValuesLaw
-unfolding gcd gcd_within lcm reduced root_of
+unfolding gcd gcd_within lcm lowest_terms root_of
 units = record {
   multiple = rw number_times_m;
-  prefixed = rw number_times_m;
+  with_a_prefix = rw number_times_m;
   ratio_of_like_units = rw m_over_m;
   reciprocal = rw number_over_s;
   square = rw (len_none, m_squared);
@@ -29,7 +29,7 @@ units = record {
 }
 
 arguments : ArgumentLaw
-unfolding gcd gcd_within lcm reduced
+unfolding gcd gcd_within lcm lowest_terms
 arguments = record {
   in_unit = rw m_and_m;
   wrong_argument = rw s_and_m;
@@ -46,8 +46,8 @@ arguments = record {
   value_before_result = refl;
 }
 
-inverses : InverseLaw
-unfolding gcd gcd_within lcm reduced
+inverses : FunctionInverseLaw
+unfolding gcd gcd_within lcm lowest_terms
 inverses = record {
   forward = refl;
   backward = refl;
@@ -61,8 +61,8 @@ inverses = record {
   too_deep_alias = refl;
 }
 
-tables : TableLaw
-unfolding gcd gcd_within lcm reduced on_line x_at y_at
+tables : TableValuesLaw
+unfolding gcd gcd_within lcm lowest_terms on_line x_at y_at
 tables = record {
   forward = rw (len_none, number_times_m);
   backward = rw m_and_m;
@@ -76,4 +76,4 @@ tables = record {
 }
 
 pub returns : goal.returns
-returns c = record { units = units; arguments = arguments; inverses = inverses; tables = tables }
+returns c = record { units = units; arguments = arguments; inverse_examples = inverses; tables = tables }

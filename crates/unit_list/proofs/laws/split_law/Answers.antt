@@ -1,4 +1,4 @@
-use Rattle.unit_list.proofs.Added as laws
+use Rattle.unit_list.proofs.SignedCounts as laws
 use Rattle.unit_list.proofs.laws.split_law.Goals as goal
 
 pub returns : goal.returns

@@ -10,8 +10,8 @@ returns c = record {
   no_mark = refl;
   first_counts = refl;
   first_mark = refl;
-  no_text = refl;
+  not_utf8 = refl;
   no_name = refl;
-  no_value = refl;
+  empty_value = refl;
   in_order = refl;
 }

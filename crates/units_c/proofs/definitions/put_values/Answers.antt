@@ -2,7 +2,7 @@ use Rattle.std.proofs.Common.{◌+◌, ◌∙◌, sym, ap, drop}
 use Rattle.std.proofs.lemmas.List.{drop_all, drop_more}
 use Rattle.units_c.specs.Definitions.{with_values}
 use Rattle.units_c.proofs.definitions.put_values.Goals as goal
-use Rattle.units_io.specs.Named.{Pairs, with_value}
+use Rattle.units_io.specs.NamedValues.{Pairs, with_value}
 
 pub loop-entry-preserved : goal.loop-entry-preserved
 loop-entry-preserved c =

@@ -1,10 +1,10 @@
 use Rattle.std.proofs.Common.{◌∙◌, ◌++◌, ◌||◌, List, ap, arith, not, refl, subst, sym, ℕ}
 use Rattle.def_lines.specs.Words.{is_empty}
-use Rattle.units_io.specs.Bytes.{grown, GrowsByFront}
-use Rattle.units_run.specs.Checks.{IsWritten}
+use Rattle.units_io.specs.Bytes.{known_append, GrowsByFront}
+use Rattle.units_run.specs.Checks.{IsReportWritten}
 use Rattle.units_run.specs.declared.status.Status.{Status}
-use Rattle.units_run.proofs.Reporting.{follows_over, front_next, front_now, lines_of, no_places, underway_next}
-use Rattle.units_run.proofs.Reporting.{underway_start, written_over}
+use Rattle.units_run.proofs.ReportBlocks.{follows_over, front_next, front_now, lines_of, no_places, underway_next}
+use Rattle.units_run.proofs.ReportBlocks.{underway_start, written_over}
 use Rattle.units_run.proofs.checks.write_blocks.Goals as goal
 
 pub loop-done-init : goal.loop-done-init
@@ -34,7 +34,7 @@ returns-in_default-put_all-clause-written g c =
 pub returns-then-is_empty-clause-written : goal.returns-then-is_empty-clause-written
 returns-then-is_empty-clause-written g c =
     subst
-    (λ (ending : Status). IsWritten
+    (λ (ending : Status). IsReportWritten
     (c.args.lines.now.items ++ lines_of c.args.table.now.deck c.args.options.now c.args.places.now) ending
     (g.O.Sink.written c.args.out.now) (g.O.Sink.written c.put_all.new.sink))
     (sym c.report_status.ensures)
@@ -47,7 +47,7 @@ returns-then-is_empty-clause-written g c =
     c.put_check_block.ensures.deck c.in-Ok.ensures.queries _ c.clear.new.self.items
     (g.O.Sink.written c.put_all.new.sink)
     c.has_bytes-any.result refl c.clear.ensures.items
-    (c.in-Ok-put_all.ensures.all ∙ ap (grown (g.O.Sink.written c.loop-done.out)) c.as_slice.ensures.value)
+    (c.in-Ok-put_all.ensures.all ∙ ap (known_append (g.O.Sink.written c.loop-done.out)) c.as_slice.ensures.value)
     (c.has_bytes-any.ensures
     ∙ ap (λ (bytes : List ℕ). c.loop-done.any || not (is_empty bytes)) c.as_slice-in-loop-done.ensures.value))
     (no_places _ _ c.is_empty.ensures c.if-is_empty.true) c.clear.ensures.items)
@@ -63,7 +63,7 @@ returns-then-is_empty-clause-queries g c = λ worked.
     c.put_check_block.ensures.deck c.in-Ok.ensures.queries _ c.clear.new.self.items
     (g.O.Sink.written c.put_all.new.sink)
     c.has_bytes-any.result refl c.clear.ensures.items
-    (c.in-Ok-put_all.ensures.all ∙ ap (grown (g.O.Sink.written c.loop-done.out)) c.as_slice.ensures.value)
+    (c.in-Ok-put_all.ensures.all ∙ ap (known_append (g.O.Sink.written c.loop-done.out)) c.as_slice.ensures.value)
     (c.has_bytes-any.ensures
     ∙ ap (λ (bytes : List ℕ). c.loop-done.any || not (is_empty bytes)) c.as_slice-in-loop-done.ensures.value))
     (no_places _ _ c.is_empty.ensures c.if-is_empty.true) c.clear.ensures.items
@@ -79,7 +79,7 @@ loop-done-preserved g c = record {
       c.put_check_block.ensures.deck c.in-Ok.ensures.queries _ c.clear.new.self.items
       (g.O.Sink.written c.put_all.new.sink)
       c.has_bytes-any.result refl c.clear.ensures.items
-      (c.in-Ok-put_all.ensures.all ∙ ap (grown (g.O.Sink.written c.loop-done.out)) c.as_slice.ensures.value)
+      (c.in-Ok-put_all.ensures.all ∙ ap (known_append (g.O.Sink.written c.loop-done.out)) c.as_slice.ensures.value)
       (c.has_bytes-any.ensures
       ∙ ap (λ (bytes : List ℕ). c.loop-done.any || not (is_empty bytes)) c.as_slice-in-loop-done.ensures.value);
 }

@@ -1,6 +1,6 @@
 use Rattle.std.proofs.Common.{◌≤◌, length}
-use Rattle.live_table.specs.Shown.{IsRightTable}
-use Rattle.units_run.proofs.Reporting.{IsUnderway}
+use Rattle.live_table.specs.TableView.{IsRightTable}
+use Rattle.units_run.proofs.ReportBlocks.{IsUnderway}
 use Rattle.units_run.proofs.checks.write_blocks.Given as goal
 
 abbrev pub invariant-loop-done : goal.invariant-loop-done

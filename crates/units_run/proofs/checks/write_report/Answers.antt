@@ -5,12 +5,12 @@ use Rattle.deck.specs.PlacedKeys.{keys_there}
 use Rattle.deck.specs.Tables.{table}
 use Rattle.def_entry.specs.declared.key.Key.{Key}
 use Rattle.live_table.specs.Calls.{all_names}
-use Rattle.live_table.specs.Shown.{Follows}
-use Rattle.live_table.proofs.Following.{follows_both}
+use Rattle.live_table.specs.TableView.{IsAfterEvents}
+use Rattle.live_table.proofs.QuerySequence.{follows_both}
 use Rattle.reply.specs.Options.{style_of}
 use Rattle.survey.specs.Checks.{check_among, queries_among}
-use Rattle.units_run.specs.Checks.{IsWritten}
-use Rattle.units_run.proofs.Running.{front_same}
+use Rattle.units_run.specs.Checks.{IsReportWritten}
+use Rattle.units_run.proofs.PlanRuns.{front_same}
 use Rattle.units_run.proofs.checks.write_report.Goals as goal
 
 pub returns-in_default-clause-written : goal.returns-in_default-clause-written
@@ -23,12 +23,12 @@ returns-clause-written g c =
     let keys : keys_there deck.lines c.as_slice.result.now ≡ table_keys (table deck) =
     ap (keys_there deck.lines) c.as_slice.ensures.value ∙ c.in-Ok.ensures.keys in
     subst
-    (λ (ks : List Key). IsWritten
+    (λ (ks : List Key). IsReportWritten
     (c.args.lines.now.items ++ check_among (table deck) (style_of c.args.options.now) ks) c.write_blocks.result
     (g.O.Sink.written c.args.out.now) (g.O.Sink.written c.write_blocks.new.out))
     keys
     (subst
-    (λ (d : Contents). IsWritten
+    (λ (d : Contents). IsReportWritten
     (c.args.lines.now.items
     ++ check_among (table d) (style_of c.args.options.now) (keys_there d.lines c.as_slice.result.now))
     c.write_blocks.result (g.O.Sink.written c.args.out.now) (g.O.Sink.written c.write_blocks.new.out))
@@ -42,8 +42,8 @@ returns-clause-queries g c = λ worked.
     follows_both (all_names (table deck)) (queries_among (table deck) (table_keys (table deck))) c.args.table.now
     c.check_places.new.table c.write_blocks.new.table c.args.steps.now c.check_places.new.steps c.write_blocks.new.steps
     c.in-Ok.ensures.queries
-    (subst (λ (ks : List Key). Follows (queries_among (table deck) ks) c.check_places.new.table
+    (subst (λ (ks : List Key). IsAfterEvents (queries_among (table deck) ks) c.check_places.new.table
     c.write_blocks.new.table c.check_places.new.steps c.write_blocks.new.steps) keys
-    (subst (λ (d : Contents). Follows (queries_among (table d) (keys_there d.lines c.as_slice.result.now))
+    (subst (λ (d : Contents). IsAfterEvents (queries_among (table d) (keys_there d.lines c.as_slice.result.now))
     c.check_places.new.table c.write_blocks.new.table c.check_places.new.steps c.write_blocks.new.steps)
     c.check_places.ensures.deck (c.write_blocks.ensures.queries worked)))

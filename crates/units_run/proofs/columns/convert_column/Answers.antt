@@ -1,13 +1,13 @@
 use Rattle.std.proofs.Common.{◌∙◌, List, inl, inr, refl, sym, ap, subst, arith}
-use Rattle.units_io.specs.Bytes.{grown, GrowsByFront}
+use Rattle.units_io.specs.Bytes.{known_append, GrowsByFront}
 use Rattle.session.specs.Outside.{Outside}
 use Rattle.column_convert.specs.Rows.{ColumnRow}
-use Rattle.column_run.specs.Outputs.{IsWritten}
+use Rattle.column_run.specs.Outputs.{AreRowsWritten}
 use Rattle.column_run.proofs.Writing.{grown_none}
 use Rattle.units_run.specs.Calls.{column_run}
 use Rattle.units_run.specs.Endings.{IsConverted, IsStated, IsWorked}
 use Rattle.units_run.specs.declared.status.Status.{Status}
-use Rattle.units_run.proofs.Converting.{converted, ends_worked, rows_same, steps_same}
+use Rattle.units_run.proofs.ColumnRuns.{converted, ends_worked, rows_same, steps_same}
 use Rattle.units_run.proofs.columns.convert_column.Goals as goal
 
 pub returns-in_default-clause-told : goal.returns-in_default-clause-told
@@ -41,10 +41,10 @@ returns-clause-told g c = λ work m input files faults now stores later n q at f
     (λ (st : Status). IsConverted (column_run work m input).output (column_run work m input).status st before after)
     (sym c.status_of.ensures)
     (converted work m input before after
-    (c.in-Ok.ensures.all ∙ ap (grown (g.E.Sink.written c.args.err.now)) (c.as_slice.ensures.value ∙ at.err)) fs
+    (c.in-Ok.ensures.all ∙ ap (known_append (g.E.Sink.written c.args.err.now)) (c.as_slice.ensures.value ∙ at.err)) fs
     c.run_columns-end.result
     (subst
-    (λ (rs : List ColumnRow). IsWritten rs c.run_columns-end.result (g.O.Sink.written c.args.out.now)
+    (λ (rs : List ColumnRow). AreRowsWritten rs c.run_columns-end.result (g.O.Sink.written c.args.out.now)
     (g.O.Sink.written c.run_columns-end.new.out))
     (rows_same work c.args.plan n c.args.steps.now at c.as_bytes.result.now c.as_bytes-2.result.now c.as_bytes.ensures
     c.as_bytes-2.ensures input)
@@ -64,4 +64,4 @@ returns-in_default-clause-noticed g c = inl (refl, refl)
 
 pub returns-clause-noticed : goal.returns-clause-noticed
 returns-clause-noticed g c =
-    inr (c.in-Ok.ensures.all ∙ ap (grown (g.E.Sink.written c.args.err.now)) c.as_slice.ensures.value)
+    inr (c.in-Ok.ensures.all ∙ ap (known_append (g.E.Sink.written c.args.err.now)) c.as_slice.ensures.value)

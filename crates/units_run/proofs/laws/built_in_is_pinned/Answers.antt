@@ -4,4 +4,4 @@ use Rattle.units_run.proofs.laws.built_in_is_pinned.Goals as goal
 
 pub returns : goal.returns
 unfolding built_in
-returns c = record { long = refl; sum = refl }
+returns c = record { length_is = refl; sum = refl }

@@ -1,6 +1,6 @@
 use Rattle.std.proofs.Common.{refl}
-use Rattle.command_line.specs.Taken.{are_taken}
-use Rattle.session.specs.Hearing.{heard}
+use Rattle.command_line.specs.AcceptedWords.{are_taken}
+use Rattle.session.specs.HeardLines.{heard}
 use Rattle.session.specs.Input.{lines_of}
 use Rattle.units_run.proofs.RunEndings.{words_end}
 use Rattle.units_run.proofs.laws.ending_law.Goals as goal

@@ -8,10 +8,10 @@ returns c =
     let law = c.grant_examples_law.ensures in
     let keys = c.key_lists_are_one.ensures in
     record {
-      converted = run_by_file _ _ _ [] _ _ _ taken.conversion_by_file refl refl (converts law);
+      two_conversions = run_by_file _ _ _ [] _ _ _ taken.conversion_by_file refl refl (converts law);
       unlike = run_by_file _ _ _ [] _ _ _ taken.letters_by_file refl refl (refuses law);
-      defined = run_by_file _ _ _ [] _ _ _ taken.definition_by_file refl refl defines;
-      checked = run_by_file _ _ _ [] _ _ _ taken.check_of_file refl refl (finds keys);
+      two_definitions = run_by_file _ _ _ [] _ _ _ taken.definition_by_file refl refl defines;
+      two_checks = run_by_file _ _ _ [] _ _ _ taken.check_of_file refl refl (finds keys);
       sound = run_by_file _ _ _ [] _ _ _ taken.check_of_file refl refl (finds_none keys);
-      session = run_by_file _ _ _ _ _ _ _ taken.session_by_file refl refl talks;
+      session_run = run_by_file _ _ _ _ _ _ _ taken.session_by_file refl refl talks;
     }

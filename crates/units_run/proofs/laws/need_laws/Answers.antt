@@ -1,7 +1,7 @@
-use Rattle.session.specs.Hearing.{heard}
+use Rattle.session.specs.HeardLines.{heard}
 use Rattle.session.specs.Input.{lines_of}
 use Rattle.units_run.specs.Work.{plan_of}
-use Rattle.units_run.proofs.Needing.{any_files, no_input, whole_same}
+use Rattle.units_run.proofs.UnneededFiles.{any_files, no_input, whole_same}
 use Rattle.units_run.proofs.laws.need_laws.Goals as goal
 
 pub returns : goal.returns

@@ -1,14 +1,14 @@
 use Rattle.std.proofs.Common.{Some, true, codes, refl, sym, ap, ◌∙◌}
 use Rattle.command_line.specs.Examples.{no_line}
 use Rattle.command_line.specs.declared.fields.CommandLine.{CommandLine}
-use Rattle.session.specs.Hearing.{heard}
+use Rattle.session.specs.HeardLines.{heard}
 use Rattle.session.specs.Input.{lines_of}
 use Rattle.units_run.specs.Calls.{run_over}
 use Rattle.units_run.specs.Options.{options_of}
 use Rattle.units_run.specs.Plans.{Plan}
 use Rattle.units_run.specs.Settings.{settings_of}
-use Rattle.units_run.proofs.Leading.{absent_file, line_most, line_needs, untaken_needs}
-use Rattle.units_run.proofs.Planned.{plan_taken, plan_untaken}
+use Rattle.units_run.proofs.WordNeeds.{absent_file, line_most, line_needs, untaken_needs}
+use Rattle.units_run.proofs.WordPlans.{plan_taken, plan_untaken}
 use Rattle.units_run.proofs.laws.run_examples.Goals as goal
 
 pub returns : goal.returns
@@ -24,7 +24,7 @@ returns c =
       to = Some (codes "m");
     } in
     record {
-      session = line_needs _ _ taken.no_words;
+      session_needs = line_needs _ _ taken.no_words;
       column = line_needs _ _ taken.column_with_header;
       reply = line_needs _ _ taken.flag_after_from;
       reply_by_file = line_needs _ _ by_file;
@@ -36,7 +36,7 @@ returns c =
       usage = λ vars files input.
           ap (λ (plan : Plan). run_over plan files input (heard (lines_of input)))
           (sym (plan_untaken _ vars files refused.digits_zero));
-      absent = λ vars files input absent.
+      absent_file = λ vars files input absent.
           ap (λ (plan : Plan). run_over plan files input (heard (lines_of input)))
           (sym (plan_taken _ vars files line by_file.0 (sym by_file.1))
           ∙ absent_file line (codes "first.units") (settings_of line vars) files absent);

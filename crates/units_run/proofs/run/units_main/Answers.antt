@@ -1,8 +1,8 @@
 use Rattle.std.proofs.Common.{◌≡◌, ◌∙◌, ◌⊎◌, ◌||◌, ℕ, Bool, Err, ap, false, inl, inr, refl, sym, subst, true}
-use Rattle.units_io.specs.Faults.{Rose}
-use Rattle.session.specs.Hearing.{any_loads_file}
+use Rattle.units_io.specs.Faults.{CountRose}
+use Rattle.session.specs.HeardLines.{any_loads_file}
 use Rattle.session.specs.Outside.{outside_of}
-use Rattle.session.specs.Telling.{IsToldIf}
+use Rattle.session.specs.KnownContents.{IsToldIf}
 use Rattle.command_line.specs.Fields.{command_line_of}
 use Rattle.units_run.specs.Endings.{IsLeftOf, IsStated, IsWorked, MayEnd}
 use Rattle.units_run.specs.LeftAlone.{OpensNone}
@@ -11,21 +11,21 @@ use Rattle.units_run.specs.Needs.{converts_column, loads_file, needs_input, open
 use Rattle.units_run.specs.Work.{plan_of}
 use Rattle.units_run.specs.declared.status.Status.{Status}
 use Rattle.units_run.specs.declared.status.Status.TheVariants.{ReadFault, WriteFault}
-use Rattle.units_run.proofs.Running.{cut_run, memory_done, memory_long, memory_read, memory_write, unmade_run}
-use Rattle.units_run.proofs.Seeing.{plan_sees}
+use Rattle.units_run.proofs.PlanRuns.{cut_run, memory_done, memory_long, memory_read, memory_write, unmade_run}
+use Rattle.units_run.proofs.SessionFiles.{plan_sees}
 use Rattle.session.proofs.Blocks.{of_two}
-use Rattle.units_run.proofs.Planned.{column_most, false_by, input_files, no_column, not_both, or_true, session_most}
-use Rattle.units_run.proofs.Planned.{definitions_told, left_false, right_false, session_told, tells_needed}
-use Rattle.units_run.proofs.Running.{done_end, long_end, may_end_stated, neither, no_column_worked, no_fault}
-use Rattle.units_run.proofs.Running.{no_session_done, no_write, none_converted, not_long, opened_run, opened_talk}
-use Rattle.units_run.proofs.Running.{plan_course, plan_end, read_end, same_le, session_may_end, session_opens}
-use Rattle.units_run.proofs.Running.{taken_may_end, takes_opens, tells_stay, unread_run, whole_run, write_end}
+use Rattle.units_run.proofs.WordPlans.{column_most, false_by, input_files, no_column, not_both, or_true, session_most}
+use Rattle.units_run.proofs.WordPlans.{definitions_told, left_false, right_false, session_told, tells_needed}
+use Rattle.units_run.proofs.PlanRuns.{done_end, long_end, may_end_stated, neither, no_column_worked, no_fault}
+use Rattle.units_run.proofs.PlanRuns.{no_session_done, no_write, none_converted, not_long, opened_run, opened_talk}
+use Rattle.units_run.proofs.PlanRuns.{plan_course, plan_end, read_end, same_le, session_may_end, session_opens}
+use Rattle.units_run.proofs.PlanRuns.{taken_may_end, takes_opens, tells_stay, unread_run, whole_run, write_end}
 use Rattle.units_run.specs.Checks.{report_of}
-use Rattle.units_run.proofs.Granting.{granted_by}
-use Rattle.units_run.proofs.Opening.{check_order, column_opening, column_order, session_opening, session_order}
-use Rattle.units_run.proofs.Opening.{whole_order}
-use Rattle.units_run.proofs.Checking.{check_run, check_short, check_unread, check_worked}
-use Rattle.units_run.proofs.Converting.{column_left, planned_column, worked_may_end}
+use Rattle.units_run.proofs.GrantedRuns.{granted_by}
+use Rattle.units_run.proofs.FirstOutput.{check_order, column_opening, column_order, session_opening, session_order}
+use Rattle.units_run.proofs.FirstOutput.{whole_order}
+use Rattle.units_run.proofs.CheckRuns.{check_run, check_short, check_unread, check_worked}
+use Rattle.units_run.proofs.ColumnRuns.{column_left, planned_column, worked_may_end}
 use Rattle.units_run.proofs.run.units_main.Goals as goal
 
 pub returns-in-Ok-clause-run : goal.returns-in-Ok-clause-run
@@ -102,22 +102,22 @@ returns-in-Ok-Opened-clause-run g c =
     let opens : (OpensNone c.args.words.now c.args.vars.now c.status_of.result (g.F.Files.files c.args.files.now) → ⊥) =
     session_opens _ _ _ opened.said opened.session c.run_session-end.result _ _ _ kind.1 is
     (λ m s. rw opened.field-0-is at (opened.ensures.told m s)) in
-    let read : (c.status_of.result ≡ ReadFault → Rose (g.S.Source.faults c.args.src.now)
+    let read : (c.status_of.result ≡ ReadFault → CountRose (g.S.Source.faults c.args.src.now)
     (g.S.Source.faults c.run_session-end.new.src)
-    ⊎ Rose (g.F.Files.faults c.args.files.now) (g.F.Files.faults c.run_session-end.new.files)) = λ so.
+    ⊎ CountRose (g.F.Files.faults c.args.files.now) (g.F.Files.faults c.run_session-end.new.files)) = λ so.
     subst
-    (λ (n : ℕ). Rose (g.S.Source.faults c.args.src.now) (g.S.Source.faults c.run_session-end.new.src)
-    ⊎ Rose n (g.F.Files.faults c.run_session-end.new.files))
-    opened.ensures.calm (ended.caused.read (read_end c.run_session-end.result (is ∙ so))) in
-    let write : (c.status_of.result ≡ WriteFault → Rose (g.O.Sink.faults c.args.out.now)
+    (λ (n : ℕ). CountRose (g.S.Source.faults c.args.src.now) (g.S.Source.faults c.run_session-end.new.src)
+    ⊎ CountRose n (g.F.Files.faults c.run_session-end.new.files))
+    opened.ensures.calm (ended.has_cause.read (read_end c.run_session-end.result (is ∙ so))) in
+    let write : (c.status_of.result ≡ WriteFault → CountRose (g.O.Sink.faults c.args.out.now)
     (g.O.Sink.faults c.run_session-end.new.out)
-    ⊎ Rose (g.E.Sink.faults c.args.err.now) (g.E.Sink.faults c.run_session-end.new.err)
-    ⊎ Rose (g.F.Files.store_faults c.args.files.now) (g.F.Files.store_faults c.run_session-end.new.files)) = λ so.
+    ⊎ CountRose (g.E.Sink.faults c.args.err.now) (g.E.Sink.faults c.run_session-end.new.err)
+    ⊎ CountRose (g.F.Files.store_faults c.args.files.now) (g.F.Files.store_faults c.run_session-end.new.files)) = λ so.
     subst
-    (λ (n : ℕ). Rose (g.O.Sink.faults c.args.out.now) (g.O.Sink.faults c.run_session-end.new.out)
-    ⊎ Rose (g.E.Sink.faults c.args.err.now) (g.E.Sink.faults c.run_session-end.new.err)
-    ⊎ Rose n (g.F.Files.store_faults c.run_session-end.new.files))
-    opened.ensures.stores (ended.caused.write (write_end c.run_session-end.result (is ∙ so))) in
+    (λ (n : ℕ). CountRose (g.O.Sink.faults c.args.out.now) (g.O.Sink.faults c.run_session-end.new.out)
+    ⊎ CountRose (g.E.Sink.faults c.args.err.now) (g.E.Sink.faults c.run_session-end.new.err)
+    ⊎ CountRose n (g.F.Files.store_faults c.run_session-end.new.files))
+    opened.ensures.stores (ended.has_cause.write (write_end c.run_session-end.result (is ∙ so))) in
     record {
       leaves = λ m input s q.
           let want = plan_of c.args.words.now c.args.vars.now m in
@@ -147,7 +147,7 @@ returns-in-Ok-Opened-clause-run g c =
           subst
           (λ (n : ℕ). TookMoreThan n (g.S.Source.taken c.args.src.now) (g.S.Source.taken c.run_session-end.new.src))
           (session_most c.args.words.now kind.1)
-          (ended.caused.too_long (long_end c.run_session-end.result (is ∙ so)));
+          (ended.has_cause.too_long (long_end c.run_session-end.result (is ∙ so)));
       complete = λ s f o e w.
           no_fault c.status_of.result (λ so. neither s f (read so)) (λ so. neither o (neither e w) (write so));
       kept = λ none. absurd (opens none);

@@ -1,8 +1,8 @@
 use Rattle.std.proofs.Common.{ℕ, Option, subst, sym}
 use Rattle.deck.specs.declared.settings.Settings.{Settings}
-use Rattle.session.specs.Trials.{trial}
+use Rattle.session.specs.Trials.{trial_session}
 use Rattle.units_run.specs.Options.{options_of}
-use Rattle.units_run.specs.Planning.{IsPlan}
+use Rattle.units_run.specs.ProgramPlans.{IsPlan}
 use Rattle.units_run.specs.Settings.{settings_of}
 use Rattle.units_run.specs.Work.{plan_by, trial_plan}
 use Rattle.units_run.proofs.words_plan.line_plan.Goals as goal
@@ -18,5 +18,6 @@ returns-in_ok-trial_plan-in-Some-clause-told g c = λ m s.
     (λ (rounds : Option ℕ). IsPlan (plan_by rounds line (settings_of line c.args.vars.now) m) m plan.field-0 old new)
     (sym c.in-Some.is)
     (subst
-    (λ (st : Settings). IsPlan (trial_plan (trial (options_of line) st c.in-Some.rounds)) m plan.field-0 old new)
+    (λ (st : Settings). IsPlan (trial_plan (trial_session (options_of line) st c.in-Some.rounds)) m plan.field-0 old
+    new)
     c.in_ok-settings.ensures (plan.ensures.told m))

@@ -1,15 +1,15 @@
 use Rattle.std.proofs.Common.{Err, ap, subst, ◌∙◌}
 use Rattle.std.proofs.Common.{ℕ, List, Bool, refl, sym}
 use Rattle.command_line.specs.Fields.{command_line_of}
-use Rattle.command_line.specs.Taken.{are_taken}
+use Rattle.command_line.specs.AcceptedWords.{are_taken}
 use Rattle.units_run.specs.Endings.{MayEnd}
 use Rattle.units_run.specs.Needs.{converts_column, loads_file, opens_session}
-use Rattle.units_run.specs.Planning.{IsPlan, IsPlanned}
+use Rattle.units_run.specs.ProgramPlans.{IsPlan, IsPlanned}
 use Rattle.units_run.specs.Plans as plans
 use Rattle.units_run.specs.Plans.{complaint}
 use Rattle.units_run.specs.declared.status.Status.TheVariants.{Usage}
-use Rattle.units_run.proofs.Planned.{loads_named, no_lead, plan_taken, plan_untaken}
-use Rattle.units_run.proofs.Planned.{tells_less}
+use Rattle.units_run.proofs.WordPlans.{loads_named, no_lead, plan_taken, plan_untaken}
+use Rattle.units_run.proofs.WordPlans.{tells_less}
 use Rattle.units_run.proofs.words_plan.make_plan.Goals as goal
 
 pub returns-in-Ok-clause-told : goal.returns-in-Ok-clause-told

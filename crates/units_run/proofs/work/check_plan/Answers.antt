@@ -1,7 +1,7 @@
 use Rattle.std.proofs.Common.{◌∙◌, ap}
 use Rattle.deck.specs.Decks.{Contents}
 use Rattle.session.specs.Lines.{lines_of_texts}
-use Rattle.units_run.proofs.Working.{check_planned}
+use Rattle.units_run.proofs.DeckPlans.{check_planned}
 use Rattle.units_run.proofs.work.check_plan.Goals as goal
 
 pub returns-clause-told : goal.returns-clause-told

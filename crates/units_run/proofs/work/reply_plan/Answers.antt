@@ -3,19 +3,19 @@ use Rattle.deck.specs.Decks.{Contents}
 use Rattle.deck.specs.Tables.{table}
 use Rattle.def_lines.specs.Lines.{line_content}
 use Rattle.session.specs.Lines.{lines_of_texts}
-use Rattle.survey.specs.Asked.{Asked}
+use Rattle.survey.specs.ConversionReplies.{Asked}
 use Rattle.units_run.specs.Options.{options_of}
-use Rattle.units_run.specs.Planning.{IsPlan}
-use Rattle.units_run.specs.Work.{replied}
+use Rattle.units_run.specs.ProgramPlans.{IsPlan}
+use Rattle.units_run.specs.Work.{plan_of_reply}
 use Rattle.units_run.specs.declared.plan.Plan.TheVariants.{Whole}
-use Rattle.units_run.proofs.Working.{asked_same, reply-planned}
+use Rattle.units_run.proofs.DeckPlans.{asked_same, reply-planned}
 use Rattle.units_run.proofs.work.reply_plan.Goals as goal
 
 pub returns-clause-told : goal.returns-clause-told
 returns-clause-told g c = λ m.
     let deck = c.args.table.now.deck in
     subst
-    (λ (a : Asked). IsPlan (replied deck a) m
+    (λ (a : Asked). IsPlan (plan_of_reply deck a) m
     (Whole (record { out = c.into_bytes.result; err = c.in_ok-notices.notices }) c.reply_status-status.result)
     c.args.steps.now c.ask.new.steps)
     (asked_same (table deck) c.options_of-options.result (options_of c.args.line.now) c.line_content.result.now

@@ -1,12 +1,12 @@
 use Rattle.std.proofs.Common.{[], None, unwrap_or}
 use Rattle.std.proofs.Common.{◌&&◌, ◌||◌, ℕ, List, Bool, Option, Some, true, false, is_some, not, ap, subst, sym, ◌∙◌}
 use Rattle.std.proofs.Common.{if◌then◌else◌}
-use Rattle.live_table.specs.Shown.{Shown}
-use Rattle.units_run.specs.Planning.{IsPlanned}
+use Rattle.live_table.specs.TableView.{Shown}
+use Rattle.units_run.specs.ProgramPlans.{IsPlanned}
 use Rattle.def_lines.specs.Lines.{line_content}
 use Rattle.units_run.specs.Plans.{Plan as Planned}
-use Rattle.units_run.specs.Work.{checked, from_plan, opened_over, work_by}
-use Rattle.units_run.proofs.Working.{from_stands, work_kind}
+use Rattle.units_run.specs.Work.{from_plan, opened_over, plan_of_check, work_by}
+use Rattle.units_run.proofs.DeckPlans.{from_stands, work_kind}
 use Rattle.units_run.proofs.work.work.Goals as goal
 
 pub returns-in-Some-column-clause-told : goal.returns-in-Some-column-clause-told
@@ -60,10 +60,10 @@ returns-then-line-clause-told g c = λ m.
     subst (λ (from : Option (List ℕ)). IsPlanned (work_by from line c.args.deck m) m c.check_plan.result n n)
     (sym c.in-None.is)
     (subst
-    (λ (b : Bool). IsPlanned (if b then checked line c.args.deck else opened_over line c.args.deck m) m
+    (λ (b : Bool). IsPlanned (if b then plan_of_check line c.args.deck else opened_over line c.args.deck m) m
     c.check_plan.result n n)
     (sym c.if-line.true)
-    (subst (λ (t : Shown). IsPlanned (checked line t.deck) m c.check_plan.result n n) c.new-table.ensures
+    (subst (λ (t : Shown). IsPlanned (plan_of_check line t.deck) m c.check_plan.result n n) c.new-table.ensures
     (c.check_plan.ensures.told m n)))
 
 pub returns-then-line-clause-kind : goal.returns-then-line-clause-kind
@@ -81,7 +81,7 @@ returns-else-line-clause-told g c = λ m.
     subst (λ (from : Option (List ℕ)). IsPlanned (work_by from line c.args.deck m) m c.session_plan.result n n)
     (sym c.in-None.is)
     (subst
-    (λ (b : Bool). IsPlanned (if b then checked line c.args.deck else opened_over line c.args.deck m) m
+    (λ (b : Bool). IsPlanned (if b then plan_of_check line c.args.deck else opened_over line c.args.deck m) m
     c.session_plan.result n n)
     (sym c.if-line.false)
     (subst (λ (t : Shown). IsPlanned (opened_over line t.deck m) m c.session_plan.result n n) c.new-table.ensures

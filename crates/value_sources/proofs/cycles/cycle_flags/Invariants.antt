@@ -1,6 +1,6 @@
 use Rattle.std.proofs.Common.{◌≡◌, ◌++◌, [], List, drop, length}
 use Rattle.def_entry.specs.declared.key.Key.{Key}
-use Rattle.value_sources.specs.Cycles.{IsPath, cycle_flags}
+use Rattle.value_sources.specs.Cycles.{IsPlacePath, cycle_flags}
 use Rattle.value_sources.proofs.Paths.{Left}
 use Rattle.value_sources.proofs.cycles.cycle_flags.Given as goal
 
@@ -8,6 +8,6 @@ use Rattle.value_sources.proofs.cycles.cycle_flags.Given as goal
 abbrev pub invariant-loop-row : goal.invariant-loop-row
 invariant-loop-row l =
     (length l.path.depths.items ≡ length l.deck.lines)
-    × (path : List Key) × IsPath l.deck l.path.depths.items l.path.places.items path
+    × (path : List Key) × IsPlacePath l.deck l.path.depths.items l.path.places.items path
     × Left l.deck path (drop l.row-index l.rows)
     × (l.flags.items ++ cycle_flags path (drop l.row-index l.rows) ≡ cycle_flags [] l.rows)

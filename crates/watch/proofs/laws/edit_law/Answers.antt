@@ -1,4 +1,4 @@
-use Rattle.watch.proofs.Edited.{edit_law}
+use Rattle.watch.proofs.EditReports.{edit_law}
 use Rattle.watch.proofs.laws.edit_law.Goals as goal
 
 pub returns : goal.returns

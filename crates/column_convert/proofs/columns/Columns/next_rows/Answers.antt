@@ -1,17 +1,17 @@
 use Rattle.std.proofs.Common.{◌∙◌, ◌+◌, ◌||◌, List, sym, ap, subst, arith}
 use Rattle.std.specs.Prelude.{◌≡◌, Bool, IfOk}
 use Rattle.std.specs.declared.option.Option.{Option}
-use Rattle.def_lines.specs.Blanks.{trimmed}
+use Rattle.def_lines.specs.Blanks.{trim_of}
 use Rattle.deck.specs.Tables.{table}
 use Rattle.live_table.specs.States.{Event}
-use Rattle.live_table.specs.Shown.{Follows}
+use Rattle.live_table.specs.TableView.{IsAfterEvents}
 use Rattle.reply.proofs.Runs.{made}
 use Rattle.column_convert.specs.Inputs.{Input}
 use Rattle.column_convert.specs.Blocks.{block_of}
 use Rattle.column_convert.specs.Rows.{ColumnRow, next_row}
-use Rattle.column_convert.specs.Written.{IsNextWritten, text_in}
+use Rattle.column_convert.specs.RecordWriter.{IsNextWritten, text_in}
 use Rattle.column_convert.proofs.AnyLength.{appended}
-use Rattle.column_convert.proofs.Asking.{not_all}
+use Rattle.column_convert.proofs.CutQueries.{not_all}
 use Rattle.column_convert.proofs.Blocks.{IsUnderway, block_is, ended, failed, follows_ended, full, none_there}
 use Rattle.column_convert.proofs.Blocks.{row_there}
 use Rattle.column_convert.proofs.Blocks.{underway_next, underway_start, whatever}
@@ -22,11 +22,11 @@ pub loop-count-init : goal.loop-count-init
 loop-count-init g c = record {
   ready = record {
     idle = c.new_writer.ensures.idle;
-    known = nothing_known c.args.table.now (trimmed c.args.from.now) c.args.to.now c.new.result c.new.ensures;
+    known = nothing_known c.args.table.now (trim_of c.args.from.now) c.args.to.now c.new.result c.new.ensures;
   };
   at = underway_start c.args.options.now c.args.from.now c.args.to.now c.args.self.now c.args.most c.args.table.now
       c.args.steps.now
-      (text_in c.new_writer.result) c.new_writer.ensures.empty c.kept_right.ensures;
+      (text_in c.new_writer.result) c.new_writer.ensures.empty c.outcomes_are_right.ensures;
 }
 
 pub returns-in_err-refused-clause-queries : goal.returns-in_err-refused-clause-queries
@@ -47,7 +47,7 @@ returns-in_default-clause-left g c =
     (λ (r : Option Bool). IsNextWritten c.loop-count.draft.writer c.write_next.new.draft.writer r
     (next_row (table c.loop-count.table.deck) c.args.options.now c.args.from.now c.args.to.now c.loop-count.self))
     c.in_default.is c.in_ok-refused.ensures.row) in
-    whatever c.closed.result
+    whatever c.close_draft.result
     (c.in_ok-refused.ensures.left
     ∙ sym (ended c.args.options.now c.args.from.now c.args.to.now c.args.self.now c.args.most c.args.table.now
     c.args.steps.now
@@ -61,7 +61,7 @@ returns-in_default-clause-queries g c =
     (λ (r : Option Bool). IsNextWritten c.loop-count.draft.writer c.write_next.new.draft.writer r
     (next_row (table c.loop-count.table.deck) c.args.options.now c.args.from.now c.args.to.now c.loop-count.self))
     c.in_default.is c.in_ok-refused.ensures.row) in
-    made c.closed.result _ c.args.table.now c.write_next.new.table c.args.steps.now c.write_next.new.steps
+    made c.close_draft.result _ c.args.table.now c.write_next.new.table c.args.steps.now c.write_next.new.steps
     (c.write_next.ensures.deck ∙ u.deck)
     (follows_ended c.args.options.now c.args.from.now c.args.to.now c.args.self.now c.args.most c.args.table.now
     c.args.steps.now
@@ -97,7 +97,7 @@ loop-count-preserved g c =
 pub returns-clause-left : goal.returns-clause-left
 returns-clause-left g c =
     let u = c.loop-count.invariant.at in
-    whatever c.closed-2.result
+    whatever c.close_draft-2.result
     (sym (full c.args.options.now c.args.from.now c.args.to.now c.args.self.now c.args.most c.args.table.now
     c.args.steps.now
     c.loop-count.self c.loop-count.count c.loop-count.any (text_in c.loop-count.draft.writer) c.loop-count.table
@@ -106,8 +106,9 @@ returns-clause-left g c =
 pub returns-clause-queries : goal.returns-clause-queries
 returns-clause-queries g c =
     let u = c.loop-count.invariant.at in
-    made c.closed-2.result _ c.args.table.now c.loop-count.table c.args.steps.now c.loop-count.steps u.deck
-    (subst (λ (es : List Event). Follows es c.args.table.now c.loop-count.table c.args.steps.now c.loop-count.steps)
+    made c.close_draft-2.result _ c.args.table.now c.loop-count.table c.args.steps.now c.loop-count.steps u.deck
+    (subst (λ (es : List Event). IsAfterEvents es c.args.table.now c.loop-count.table c.args.steps.now
+    c.loop-count.steps)
     (sym (full c.args.options.now c.args.from.now c.args.to.now c.args.self.now c.args.most c.args.table.now
     c.args.steps.now
     c.loop-count.self c.loop-count.count c.loop-count.any (text_in c.loop-count.draft.writer) c.loop-count.table
@@ -121,22 +122,22 @@ returns-in_default-clause-block g c =
     (λ (r : Option Bool). IsNextWritten c.loop-count.draft.writer c.write_next.new.draft.writer r
     (next_row (table c.loop-count.table.deck) c.args.options.now c.args.from.now c.args.to.now c.loop-count.self))
     c.in_default.is c.in_ok-refused.ensures.row) in
-    subst (λ (rs : List ColumnRow). IfOk c.closed.result (λ block. block ≡ block_of rs))
+    subst (λ (rs : List ColumnRow). IfOk c.close_draft.result (λ block. block ≡ block_of rs))
     (sym (ended c.args.options.now c.args.from.now c.args.to.now c.args.self.now c.args.most c.args.table.now
     c.args.steps.now
     c.loop-count.self c.loop-count.count c.loop-count.any (text_in c.loop-count.draft.writer) c.loop-count.table
     c.loop-count.steps u none.0).0)
-    (block_is c.closed.result (text_in c.write_next.new.draft.writer) c.loop-count.count c.loop-count.any u.done
-    c.closed.ensures (ap text_in none.1 ∙ u.text_is) u.count_is u.refused_is)
+    (block_is c.close_draft.result (text_in c.write_next.new.draft.writer) c.loop-count.count c.loop-count.any u.done
+    c.close_draft.ensures (ap text_in none.1 ∙ u.text_is) u.count_is u.refused_is)
 
 pub returns-clause-block : goal.returns-clause-block
 returns-clause-block g c =
     let u = c.loop-count.invariant.at in
-    subst (λ (rs : List ColumnRow). IfOk c.closed-2.result (λ block. block ≡ block_of rs))
+    subst (λ (rs : List ColumnRow). IfOk c.close_draft-2.result (λ block. block ≡ block_of rs))
     (sym (full c.args.options.now c.args.from.now c.args.to.now c.args.self.now c.args.most c.args.table.now
     c.args.steps.now
     c.loop-count.self c.loop-count.count c.loop-count.any (text_in c.loop-count.draft.writer) c.loop-count.table
     c.loop-count.steps u
     (omega (arith, c.loop-count-test.false))).0)
-    (block_is c.closed-2.result (text_in c.loop-count.draft.writer) c.loop-count.count c.loop-count.any u.done
-    c.closed-2.ensures u.text_is u.count_is u.refused_is)
+    (block_is c.close_draft-2.result (text_in c.loop-count.draft.writer) c.loop-count.count c.loop-count.any u.done
+    c.close_draft-2.ensures u.text_is u.count_is u.refused_is)

@@ -1,6 +1,6 @@
 use Rattle.std.proofs.Common.{◌-◌}
 use Rattle.column_convert.specs.Drafts.{IsReady}
-use Rattle.column_convert.specs.Written.{text_in}
+use Rattle.column_convert.specs.RecordWriter.{text_in}
 use Rattle.column_convert.proofs.Blocks.{IsUnderway}
 use Rattle.column_convert.proofs.columns.Columns.next_rows.Given as goal
 

@@ -1,4 +1,4 @@
-use Rattle.column_convert.proofs.Recalling.{begun_err}
+use Rattle.column_convert.proofs.RecallQueries.{begun_err}
 use Rattle.column_convert.proofs.memory.Memory.recall.Goals as goal
 
 pub returns-in_err-known-clause-asked : goal.returns-in_err-known-clause-asked

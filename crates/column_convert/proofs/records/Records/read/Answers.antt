@@ -3,7 +3,7 @@ use Rattle.std.specs.declared.io.impls.Cursor.{Cursor}
 use Rattle.std.specs.Io.Cursor.{cursor_remaining}
 use Rattle.csv.specs.Records.{fields_of}
 use Rattle.csv.proofs.ReadFacts.{rows-end}
-use Rattle.column_convert.proofs.Reading.{left-more, left-end}
+use Rattle.column_convert.proofs.RecordReads.{left-more, left-end}
 use Rattle.column_convert.proofs.records.Records.read.Goals as goal
 
 -- the bytes that the underlying reader has left

@@ -9,11 +9,11 @@ use Rattle.deck_lines.specs.Marks.{plain_line}
 use Rattle.deck_lines.proofs.Entries.{reads}
 use Rattle.deck.specs.Changes.{IsChange}
 use Rattle.deck.specs.Edits.{with_line}
-use Rattle.deck.specs.Tables.{definitions, entry_at, last_place, table}
-use Rattle.deck.proofs.Changing.{from_line}
-use Rattle.deck.proofs.Defining.{changed_none, changed_one}
+use Rattle.deck.specs.Tables.{active_definitions, entry_at, last_place, table}
+use Rattle.deck.proofs.ChangedKeys.{from_line}
+use Rattle.deck.proofs.LastDefinition.{changed_none, changed_one}
 use Rattle.deck.proofs.EntryTexts.{same_text}
-use Rattle.deck.proofs.Placing.{in_place, no_place}
+use Rattle.deck.proofs.PlacedDefinitions.{in_place, no_place}
 use Rattle.deck.proofs.deck.Deck.changed_over.Goals as goal
 
 none_some : {A : Type 0} (o : Option A) (x : A) → o ≡ None → o ≡ Some x → ⊥
@@ -33,7 +33,7 @@ pub returns-in_default-clause-place : goal.returns-in_default-clause-place
 returns-in_default-clause-place c =
     let d = c.args.self.now in
     let k : Key = c.args.key.now in
-    sym (no_place (definitions d.settings d.lines) k
+    sym (no_place (active_definitions d.settings d.lines) k
     (sym (ap (λ n. entry_at (table d) (key k.kind n)) c.as_bytes.ensures) ∙ sym c.in_default.ensures.entry))
 
 pub returns-then-eq-clause-changed : goal.returns-then-eq-clause-changed
@@ -48,7 +48,7 @@ returns-then-eq-clause-changed c = λ closed defines.
     let texts : f.text ≡ e.text = sym c.text.ensures
     ∙ (bytes_eq-Decides c.text.result.now c.text-2.result.now).0 (sym c.eq.ensures ∙ c.if-eq.true)
     ∙ c.text-2.ensures in
-    let line = from_line d.lines (definitions d.settings d.lines) (in_place d.settings d.lines) k f had in
+    let line = from_line d.lines (active_definitions d.settings d.lines) (in_place d.settings d.lines) k f had in
     let same : f ≡ e =
     same_text c.same_text_law.ensures k f e line.0 text line.1 (reads (plain_line 0 text) (k, e) defines) texts in
     subst (IsChange d (with_line text d)) (sym c.new.ensures)

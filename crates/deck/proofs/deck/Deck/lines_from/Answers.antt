@@ -2,7 +2,7 @@ use Rattle.std.proofs.Common.{◌≡◌, List, take, drop, ap, subst, ◌∙◌,
 use Rattle.std.specs.Prelude.{IfOk}
 use Rattle.deck_lines.specs.declared.line.DeckLine.{DeckLine}
 use Rattle.deck.specs.Decks.{Contents}
-use Rattle.deck.proofs.Copying.{part_few, part_marks, part_within}
+use Rattle.deck.proofs.CopiedLines.{part_few, part_marks, part_within}
 use Rattle.deck.proofs.deck.Deck.lines_from.Goals as goal
 
 pub overflow_add-end : goal.overflow_add-end

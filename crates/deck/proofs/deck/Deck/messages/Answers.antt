@@ -5,12 +5,12 @@ use Rattle.def_lines.specs.declared.line.Line.{Line}
 use Rattle.def_lines.specs.Kinds.{kind_of}
 use Rattle.deck_lines.specs.Marks.{with_mark, with_marks}
 use Rattle.deck_lines.specs.declared.line.DeckLine.{DeckLine}
-use Rattle.deck_lines.proofs.Keeping.{marks_len}
+use Rattle.deck_lines.proofs.MarkLimits.{marks_len}
 use Rattle.deck.specs.Active.{active_lines}
 use Rattle.deck.specs.Decks.{Contents}
-use Rattle.deck.specs.Messages.{in_turn, message_in, message_of, where_true}
-use Rattle.deck.proofs.Marking.{length-activity, marks_at}
-use Rattle.deck.proofs.Telling.{flag_read, told_all, told_step}
+use Rattle.deck.specs.Messages.{message_in, message_of, texts_of_lines, where_true}
+use Rattle.deck.proofs.MarkedLines.{length-activity, marks_at}
+use Rattle.deck.proofs.LineTexts.{flag_read, told_all, told_step}
 use Rattle.deck.proofs.deck.Deck.messages.Goals as goal
 
 pub index-requires : goal.index-requires
@@ -71,5 +71,5 @@ returns c =
     sym (append-nil c.loop-i.texts)
     ∙ ap (λ t. c.loop-i.texts ++ t) (sym (told_all message_in c.in_ok-flags.flags.items lines c.loop-i.i past))
     ∙ c.loop-i.invariant
-    ∙ ap (λ fs. in_turn message_in (where_true fs lines))
+    ∙ ap (λ fs. texts_of_lines message_in (where_true fs lines))
     (c.in_ok-flags.ensures ∙ ap (λ (d : Contents). active_lines d.settings d.lines) c.self.view_is)

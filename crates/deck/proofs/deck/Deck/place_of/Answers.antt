@@ -1,16 +1,16 @@
 use Rattle.std.proofs.Common.{sym, ap, ◌∙◌, option_map}
 use Rattle.def_entry.specs.Keys.{key}
 use Rattle.deck.specs.Decks.{Contents}
-use Rattle.deck.specs.Tables.{definitions, last_place, place_of}
+use Rattle.deck.specs.Tables.{active_definitions, last_place, place_of}
 use Rattle.std.specs.Option.{option_and_then}
-use Rattle.deck.proofs.Changing.{not_defined}
-use Rattle.deck.proofs.Placing.{in_place}
+use Rattle.deck.proofs.ChangedKeys.{not_defined}
+use Rattle.deck.proofs.PlacedDefinitions.{in_place}
 use Rattle.deck.proofs.deck.Deck.place_of.Goals as goal
 
 pub returns-in_default : goal.returns-in_default
 returns-in_default c =
     let k = key c.args.kind c.args.name.now in
-    let ds = definitions c.self.inside.settings c.self.inside.store.lines in
+    let ds = active_definitions c.self.inside.settings c.self.inside.store.lines in
     sym (ap (option_map (λ p. p.0))
     (not_defined c.self.inside.store c.number_of.ensures.numbering ds
     (in_place c.self.inside.settings c.self.inside.store.lines) k c.in_default.ensures.number))
@@ -20,6 +20,6 @@ pub returns : goal.returns
 returns c =
     let k = key c.args.kind c.args.name.now in
     c.get.ensures ∙ c.self.invariant.places.place c.in-Some.number
-    ∙ ap (option_and_then (place_of (definitions c.self.inside.settings c.self.inside.store.lines)))
+    ∙ ap (option_and_then (place_of (active_definitions c.self.inside.settings c.self.inside.store.lines)))
     c.in-Some.ensures.number
     ∙ ap (λ (d : Contents). last_place d.settings d.lines k) c.self.view_is

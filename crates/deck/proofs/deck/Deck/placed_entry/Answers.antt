@@ -3,16 +3,16 @@ use Rattle.def_entry.specs.Keys.{key}
 use Rattle.deck_lines.specs.Stores.{definition_at}
 use Rattle.deck.specs.Decks.{Contents}
 use Rattle.deck.specs.Numbers.{entry_there}
-use Rattle.deck.specs.Tables.{definitions}
-use Rattle.deck.proofs.Changing.{entry_placed}
-use Rattle.deck.proofs.Placing.{in_place}
+use Rattle.deck.specs.Tables.{active_definitions}
+use Rattle.deck.proofs.ChangedKeys.{entry_placed}
+use Rattle.deck.proofs.PlacedDefinitions.{in_place}
 use Rattle.deck.proofs.deck.Deck.placed_entry.Goals as goal
 
 pub returns-in_default-clause-entry : goal.returns-in_default-clause-entry
 returns-in_default-clause-entry c =
     let d = c.args.self.now in
     ap (entry_there d.lines) c.in_default.ensures
-    ∙ entry_placed d.lines (definitions d.settings d.lines) (in_place d.settings d.lines)
+    ∙ entry_placed d.lines (active_definitions d.settings d.lines) (in_place d.settings d.lines)
     (key c.args.kind c.args.name.now)
 
 pub returns-in-Some-entry-clause-entry : goal.returns-in-Some-entry-clause-entry
@@ -21,7 +21,7 @@ returns-in-Some-entry-clause-entry c =
     c.in-Some-entry.ensures
     ∙ ap (λ (e : Contents). option_map (λ p. p.1) (definition_at e.lines c.in-Some.place)) c.self.view_is
     ∙ ap (entry_there d.lines) c.in-Some.ensures
-    ∙ entry_placed d.lines (definitions d.settings d.lines) (in_place d.settings d.lines)
+    ∙ entry_placed d.lines (active_definitions d.settings d.lines) (in_place d.settings d.lines)
     (key c.args.kind c.args.name.now)
 
 pub returns-in-None-clause-entry : goal.returns-in-None-clause-entry
@@ -30,5 +30,5 @@ returns-in-None-clause-entry c =
     c.in-None.ensures
     ∙ ap (λ (e : Contents). option_map (λ p. p.1) (definition_at e.lines c.in-Some.place)) c.self.view_is
     ∙ ap (entry_there d.lines) c.in-Some.ensures
-    ∙ entry_placed d.lines (definitions d.settings d.lines) (in_place d.settings d.lines)
+    ∙ entry_placed d.lines (active_definitions d.settings d.lines) (in_place d.settings d.lines)
     (key c.args.kind c.args.name.now)

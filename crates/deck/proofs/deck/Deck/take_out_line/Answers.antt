@@ -1,10 +1,10 @@
 use Rattle.std.proofs.Common.{◌≡◌, ◌++◌, ◌∷◌, ◌-◌, [], List, length, take, ap, ◌∙◌, arith, length-append}
 use Rattle.deck_lines.specs.declared.line.DeckLine.{DeckLine}
-use Rattle.deck_lines.proofs.Keeping.{marks_len}
+use Rattle.deck_lines.proofs.MarkLimits.{marks_len}
 use Rattle.deck.specs.Decks.{Contents}
-use Rattle.deck.specs.Undefining.{without_last}
+use Rattle.deck.specs.LineRemoval.{without_last}
 use Rattle.deck.proofs.LastLine.{changed_undefined, indexed_undefined, room_undefined}
-use Rattle.deck.proofs.Undefining.{last_at, last_text}
+use Rattle.deck.proofs.LastRemoval.{last_at, last_text}
 use Rattle.deck.proofs.deck.Deck.take_out_line.Goals as goal
 
 pub line-requires-clause-inside : goal.line-requires-clause-inside

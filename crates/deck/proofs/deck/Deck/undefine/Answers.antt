@@ -1,12 +1,12 @@
 use Rattle.std.proofs.Common.{◌≡◌, subst, sym}
 use Rattle.std.specs.Prelude.{IfOk, OnErr}
 use Rattle.deck.specs.Decks.{Contents}
-use Rattle.deck.specs.Undefining.{IsUndefined}
+use Rattle.deck.specs.LineRemoval.{IsLineRemoved}
 use Rattle.deck.proofs.deck.Deck.undefine.Goals as goal
 
 pub returns-clause-ok : goal.returns-clause-ok
 returns-clause-ok c =
-    subst (λ (d : Contents). IfOk c.take_out_line-result.result (λ done. IsUndefined c.args.self.now d done))
+    subst (λ (d : Contents). IfOk c.take_out_line-result.result (λ done. IsLineRemoved c.args.self.now d done))
     (sym c.renumber_if_sparse.ensures) c.take_out_line-result.ensures.ok
 
 pub returns-clause-err : goal.returns-clause-err

@@ -1,7 +1,7 @@
 use Rattle.std.proofs.Common.{false}
 use Rattle.def_entry.specs.Views.{said_by}
 use Rattle.deck_lines.specs.Marks.{with_mark}
-use Rattle.deck.proofs.Defining.{indexed_pushed, number_pushed}
+use Rattle.deck.proofs.LastDefinition.{indexed_pushed, number_pushed}
 use Rattle.deck.proofs.deck.define.put_in_room.Goals as goal
 
 pub put-requires : goal.put-requires

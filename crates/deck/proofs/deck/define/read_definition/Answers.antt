@@ -1,9 +1,9 @@
 use Rattle.std.proofs.Common.{◌≡◌, ◌⊎◌, inl, inr, sym, ap}
 use Rattle.def_lines.specs.Kinds as line
-use Rattle.def_lines.specs.Seen.{seen_kind}
+use Rattle.def_lines.specs.KindView.{seen_kind}
 use Rattle.def_lines.specs.declared.kind.LineKind.{LineKind}
 use Rattle.def_lines.specs.declared.kind.LineKind.TheVariants as cut
-use Rattle.def_entry.specs.Seen.{seen_entry}
+use Rattle.def_entry.specs.LineViews.{seen_entry}
 use Rattle.deck.proofs.EntryTexts.{defines_by}
 use Rattle.deck.proofs.deck.define.read_definition.Goals as goal
 

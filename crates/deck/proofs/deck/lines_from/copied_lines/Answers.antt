@@ -2,9 +2,9 @@ use Rattle.std.proofs.Common.{◌++◌, ◌∷◌, ◌+◌, [], List, Bool, fals
 use Rattle.std.proofs.lemmas.List.{append-nil, drop_all}
 use Rattle.deck_lines.specs.Marks.{with_mark, with_marks}
 use Rattle.deck_lines.specs.declared.line.DeckLine.{DeckLine}
-use Rattle.deck_lines.proofs.Keeping.{marks_len}
-use Rattle.deck.proofs.Copying.{copied_step}
-use Rattle.deck.proofs.Marking.{marks_at}
+use Rattle.deck_lines.proofs.MarkLimits.{marks_len}
+use Rattle.deck.proofs.CopiedLines.{copied_step}
+use Rattle.deck.proofs.MarkedLines.{marks_at}
 use Rattle.deck.proofs.deck.lines_from.copied_lines.Goals as goal
 
 pub loop-i-preserved : goal.loop-i-preserved

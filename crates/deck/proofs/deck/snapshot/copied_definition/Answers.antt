@@ -1,7 +1,7 @@
 use Rattle.std.proofs.Common.{◌∙◌, ap, Some, option_map}
 use Rattle.def_entry.specs.Keys.{key}
 use Rattle.def_entry.specs.Views.{entry_view}
-use Rattle.deck.proofs.Copying.{defined_by_parts}
+use Rattle.deck.proofs.CopiedLines.{defined_by_parts}
 use Rattle.deck.proofs.deck.snapshot.copied_definition.Goals as goal
 
 pub returns : goal.returns

@@ -2,8 +2,8 @@ use Rattle.std.proofs.Common.{◌≡◌, Bool, false, ap, get_or, length, refl, 
 use Rattle.std.proofs.lemmas.List.{take_all}
 use Rattle.deck_lines.specs.Stores.{Store}
 use Rattle.deck_lines.specs.declared.line.DeckLine.{DeckLine}
-use Rattle.deck_lines.proofs.Keeping.{marks_len}
-use Rattle.deck.proofs.Copying.{copied_more, line_there, room_more}
+use Rattle.deck_lines.proofs.MarkLimits.{marks_len}
+use Rattle.deck.proofs.CopiedLines.{copied_more, line_there, room_more}
 use Rattle.deck.proofs.deck.snapshot.copied_store.Goals as goal
 
 pub push-requires : goal.push-requires

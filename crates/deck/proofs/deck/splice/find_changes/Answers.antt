@@ -1,6 +1,6 @@
 use Rattle.std.proofs.Common.{◌≡◌, List, map, ap, subst, ◌∙◌}
-use Rattle.deck_lines.specs.Edited.{Edited}
-use Rattle.deck_lines.specs.Kept.{IsDefined}
+use Rattle.deck_lines.specs.StoreEdits.{StoreEdit}
+use Rattle.deck_lines.specs.StoredDefinitions.{IsDefined}
 use Rattle.deck_lines.specs.Origins.{exchanged_lines}
 use Rattle.deck_lines.specs.Readings.{entry_in}
 use Rattle.deck_lines.specs.Stores.{Store}
@@ -9,9 +9,9 @@ use Rattle.deck.specs.Changes.{IsTableChange}
 use Rattle.deck.specs.LastPlaces.{AreLast}
 use Rattle.deck.specs.Numbers.{AreInPlace}
 use Rattle.deck.specs.Splices.{spliced_lines}
-use Rattle.deck.specs.Tables.{Definitions, definitions, table_of}
-use Rattle.deck.proofs.Placing.{in_place}
-use Rattle.deck.proofs.Splicing.{as_edited, indexed_read}
+use Rattle.deck.specs.Tables.{Definitions, active_definitions, table_of}
+use Rattle.deck.proofs.PlacedDefinitions.{in_place}
+use Rattle.deck.proofs.SpliceInverse.{as_edited, indexed_read}
 use Rattle.deck.proofs.deck.splice.find_changes.Goals as goal
 
 pub returns-in_err-definitions-clause-indexed : goal.returns-in_err-definitions-clause-indexed
@@ -48,30 +48,32 @@ pub returns-clause-last : goal.returns-clause-last
 returns-clause-last c =
     let s = c.args.change.now in
     let store : Store = c.read.new.self in
-    let edit : c.exchanged-edited.result ≡ as_edited s c.args.store.now.lines store.names =
-    c.exchanged-edited.ensures
+    let edit : c.with_exchange-edited.result ≡ as_edited s c.args.store.now.lines store.names =
+    c.with_exchange-edited.ensures
     ∙ ap (λ (ls : List DeckLine). record (as_edited s store.lines store.names)
     { after = exchanged_lines s.at s.cut ls store.lines }) c.as_slice-put.ensures
     ∙ ap (λ (ls : List DeckLine). as_edited s ls store.names) c.read.ensures.lines in
-    subst (λ (e : Edited). AreLast e.names (definitions s.settings e.after) c.in_ok-now.now) edit c.in_ok-now.ensures
+    subst (λ (e : StoreEdit). AreLast e.names (active_definitions s.settings e.after) c.in_ok-now.now) edit
+    c.in_ok-now.ensures
 
 pub returns-clause-keys : goal.returns-clause-keys
 returns-clause-keys c =
     let s = c.args.change.now in
     let old : Store = c.args.store.now in
     let store : Store = c.read.new.self in
-    let edit : c.exchanged-edited.result ≡ as_edited s old.lines store.names =
-    c.exchanged-edited.ensures
+    let edit : c.with_exchange-edited.result ≡ as_edited s old.lines store.names =
+    c.with_exchange-edited.ensures
     ∙ ap (λ (ls : List DeckLine). record (as_edited s store.lines store.names)
     { after = exchanged_lines s.at s.cut ls store.lines }) c.as_slice-put.ensures
     ∙ ap (λ (ls : List DeckLine). as_edited s ls store.names) c.read.ensures.lines in
     let indexed = indexed_read old store c.args.settings.now c.args.last.now c.read.ensures.before c.read.ensures.after
     c.read.ensures.lines c.read.ensures.extended c.requires.indexed in
-    subst (λ (e : Edited). (ds es : Definitions) → AreInPlace e.before ds → AreInPlace e.after es
+    subst (λ (e : StoreEdit). (ds es : Definitions) → AreInPlace e.before ds → AreInPlace e.after es
     → AreLast e.names ds c.args.last.now → AreLast e.names es c.in_ok-now.now
     → IsTableChange (table_of ds) (table_of es) c.in_ok-keys.keys) edit c.in_ok-keys.ensures
-    (definitions c.args.settings.now old.lines) (definitions s.settings (spliced_lines s old.lines))
+    (active_definitions c.args.settings.now old.lines) (active_definitions s.settings (spliced_lines s old.lines))
     (in_place c.args.settings.now old.lines) (in_place s.settings (spliced_lines s old.lines))
-    (subst (λ (ls : List DeckLine). AreLast store.names (definitions c.args.settings.now ls) c.args.last.now)
+    (subst (λ (ls : List DeckLine). AreLast store.names (active_definitions c.args.settings.now ls) c.args.last.now)
     c.read.ensures.lines indexed.places)
-    (subst (λ (e : Edited). AreLast e.names (definitions s.settings e.after) c.in_ok-now.now) edit c.in_ok-now.ensures)
+    (subst (λ (e : StoreEdit). AreLast e.names (active_definitions s.settings e.after) c.in_ok-now.now) edit
+    c.in_ok-now.ensures)

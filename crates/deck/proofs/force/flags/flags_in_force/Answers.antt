@@ -2,8 +2,8 @@ use Rattle.std.proofs.Common.{◌++◌, ◌∷◌, ◌+◌, [], List, drop, refl
 use Rattle.std.proofs.lemmas.List.{append-nil, drop_all}
 use Rattle.deck_lines.specs.declared.line.DeckLine.{DeckLine}
 use Rattle.deck.specs.Active.{Surroundings, activity, is_active}
-use Rattle.deck_lines.proofs.Finding.{drop_found}
-use Rattle.deck.proofs.Marking.{activity_step}
+use Rattle.deck_lines.proofs.ExchangedItems.{drop_found}
+use Rattle.deck.proofs.MarkedLines.{activity_step}
 use Rattle.deck.proofs.force.flags.flags_in_force.Goals as goal
 
 pub line-line-requires : goal.line-line-requires

@@ -1,5 +1,5 @@
 use Rattle.std.proofs.Common.{◌∙◌, Some, cond, sym, ap}
-use Rattle.units_io.specs.Named.{value_of}
+use Rattle.units_io.specs.NamedValues.{named_value}
 use Rattle.units_io.proofs.Names.{HasNoName-not_found, with_value-Sets}
 use Rattle.deck.proofs.force.in_force.changed_value.Goals as goal
 
@@ -8,7 +8,7 @@ returns-then-eq-clause-value c =
     let name = c.args.name.now in
     let change = c.args.change.now in
     sym (with_value-Sets c.args.vars.now change.name.now change.value.now name
-    ∙ ap (λ b. cond b (Some change.value.now) (value_of c.args.vars.now name)) (sym c.eq.ensures ∙ c.if-eq.true))
+    ∙ ap (λ b. cond b (Some change.value.now) (named_value c.args.vars.now name)) (sym c.eq.ensures ∙ c.if-eq.true))
 
 pub returns-clause-value : goal.returns-clause-value
 returns-clause-value c =
@@ -16,7 +16,7 @@ returns-clause-value c =
     let change = c.args.change.now in
     c.value.ensures.value
     ∙ sym (with_value-Sets c.args.vars.now change.name.now change.value.now name
-    ∙ ap (λ b. cond b (Some change.value.now) (value_of c.args.vars.now name)) (sym c.eq.ensures ∙ c.if-eq.false))
+    ∙ ap (λ b. cond b (Some change.value.now) (named_value c.args.vars.now name)) (sym c.eq.ensures ∙ c.if-eq.false))
 
 pub returns-clause-absent : goal.returns-clause-absent
 returns-clause-absent c = HasNoName-not_found _ _ _ (returns-clause-value c)

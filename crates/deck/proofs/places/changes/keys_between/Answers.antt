@@ -2,19 +2,19 @@ use Rattle.std.proofs.Common.{◌≡◌, ◌++◌, List, sym, ap, subst, ◌∙�
 use Rattle.def_entry.specs.declared.key.Key.{Key}
 use Rattle.def_entry.specs.declared.key.Kind.{Kind}
 use Rattle.def_entry.specs.declared.key.Kind.TheVariants as kind
-use Rattle.deck_lines.specs.Names.{names_of}
+use Rattle.deck_lines.specs.Names.{names_of_kind}
 use Rattle.deck.specs.Changes.{IsTableChange}
 use Rattle.deck.specs.Numbers.{differs, keys_where}
 use Rattle.deck.specs.Tables.{table_of}
-use Rattle.deck.proofs.Changing.{changed_numbers}
-use Rattle.deck.proofs.Listing.{four_lists}
+use Rattle.deck.proofs.ChangedKeys.{changed_numbers}
+use Rattle.deck.proofs.DistinctKeys.{four_lists}
 use Rattle.deck.proofs.places.changes.keys_between.Goals as goal
 
 pub returns : goal.returns
 returns c = λ ds es placed put was is_last.
     let changed : Kind
     → List Key = λ k. keys_where (differs c.args.edited.now c.args.before.now c.args.after.now) k 0
-    (names_of c.args.edited.now.names k) in
+    (names_of_kind c.args.edited.now.names k) in
     let keys : c.push_changed-4.new.keys ≡ ((changed kind.Unit ++ changed kind.Prefix) ++ changed kind.Func)
     ++ changed kind.List =
     c.in_ok-push_changed-4.ensures.keys

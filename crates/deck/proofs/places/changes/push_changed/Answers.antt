@@ -1,14 +1,14 @@
 use Rattle.std.proofs.Common.{◌++◌, ◌<◌, length, sym, ap, ◌∙◌, arith}
 use Rattle.std.proofs.lemmas.List.{append-nil, drop_all}
-use Rattle.deck_lines.specs.Names.{names_of}
+use Rattle.deck_lines.specs.Names.{names_of_kind}
 use Rattle.deck.specs.Numbers.{differs, keys_where}
-use Rattle.deck.proofs.Numbering.{where_step}
+use Rattle.deck.proofs.KeysByNumber.{where_step}
 use Rattle.deck.proofs.places.changes.push_changed.Goals as goal
 
 pub loop-number-preserved : goal.loop-number-preserved
 loop-number-preserved c =
     let names = c.args.edited.now.names in
-    let within : c.loop-number.number < length (names_of names c.args.kind) =
+    let within : c.loop-number.number < length (names_of_kind names c.args.kind) =
     omega (arith, c.loop-number-test.true, c.name_count-number-end.ensures.count) in
     where_step (differs c.args.edited.now c.args.before.now c.args.after.now) names c.args.kind c.loop-number.number
     c.loop-number.keys c.push_if_changed.new.keys _ within
@@ -16,7 +16,7 @@ loop-number-preserved c =
 
 pub returns-clause-keys : goal.returns-clause-keys
 returns-clause-keys c =
-    let names = names_of c.args.edited.now.names c.args.kind in
+    let names = names_of_kind c.args.edited.now.names c.args.kind in
     let test = differs c.args.edited.now c.args.before.now c.args.after.now in
     sym (append-nil c.loop-number.keys)
     ∙ ap (λ ns. c.loop-number.keys ++ keys_where test c.args.kind c.loop-number.number ns)

@@ -1,5 +1,5 @@
 use Rattle.deck_lines.specs.Stores.{definition_at}
-use Rattle.deck.proofs.Lasting.{last_noted}
+use Rattle.deck.proofs.LastPlaceSteps.{last_noted}
 use Rattle.deck.proofs.places.pass.note_line.Goals as goal
 
 pub returns-in-Some-clause-last : goal.returns-in-Some-clause-last

@@ -2,7 +2,7 @@ use Rattle.std.proofs.Common.{List, ℕ, Option, subst}
 use Rattle.deck.specs.KindPlaces.{HasSamePlaces}
 use Rattle.deck.specs.LastPlaces.{places_of}
 use Rattle.deck.proofs.KindPlacing.{same_then}
-use Rattle.deck.proofs.Lasting.{none_last}
+use Rattle.deck.proofs.LastPlaceSteps.{none_last}
 use Rattle.deck.proofs.places.pass.with_room.Goals as goal
 
 pub returns-clause-none : goal.returns-clause-none

@@ -6,8 +6,8 @@ use Rattle.deck_lines.specs.Marks.{plain_line}
 use Rattle.deck_lines.specs.Readings.{entry_in}
 use Rattle.deck_lines.specs.Stores.{definition_at}
 use Rattle.deck_lines.specs.declared.line.DeckLine.{DeckLine}
-use Rattle.deck.specs.Tables.{Definitions, definition_by, definitions_by, place_of}
-use Rattle.deck.proofs.Lasting.{by_step}
+use Rattle.deck.specs.Tables.{Definitions, definition_by, definitions_among, place_of}
+use Rattle.deck.proofs.LastPlaceSteps.{by_step}
 use Rattle.deck.proofs.places.search.last_of.Goals as goal
 
 pub loop-place-preserved : goal.loop-place-preserved
@@ -19,7 +19,7 @@ loop-place-preserved c = λ k at.
     let inside : i < length c.args.flags.now =
     omega (arith, c.loop-place-test.true, c.requires.flags, c.requires.within) in
     let within : i < length lines = omega (arith, c.loop-place-test.true, c.requires.within) in
-    let before : Definitions = definitions_by (take i c.args.flags.now) (take i lines) in
+    let before : Definitions = definitions_among (take i c.args.flags.now) (take i lines) in
     let there : definition_at lines i ≡ entry_in x =
     ap (option_and_then entry_in) (slice_get-get_or lines i (plain_line 0 []) within) in
     c.later_of-last.ensures k before at (c.loop-place.invariant k at)

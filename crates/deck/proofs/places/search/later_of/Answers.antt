@@ -1,6 +1,6 @@
 use Rattle.std.proofs.Common.{◌∙◌}
 use Rattle.deck_lines.specs.Stores.{definition_at}
-use Rattle.deck.proofs.Searching.{later_none, later_off}
+use Rattle.deck.proofs.LastLineSearch.{later_none, later_off}
 use Rattle.deck.proofs.places.search.later_of.Goals as goal
 
 pub returns-then-not-active : goal.returns-then-not-active

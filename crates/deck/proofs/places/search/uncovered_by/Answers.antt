@@ -1,6 +1,6 @@
 use Rattle.std.proofs.Common.{◌∙◌, ap, length}
 use Rattle.deck.proofs.EarlierLines.{uncovered_found, uncovered_none}
-use Rattle.deck.proofs.Marking.{length-activity}
+use Rattle.deck.proofs.MarkedLines.{length-activity}
 use Rattle.deck.proofs.places.search.uncovered_by.Goals as goal
 
 pub returns-then-end-eq0 : goal.returns-then-end-eq0

@@ -1,6 +1,6 @@
 use Rattle.std.proofs.Common.{◌∙◌, ap, refl, false, get_or, Bool, List, ℕ, Option, Some, sym}
 use Rattle.deck_lines.specs.declared.line.DeckLine.{DeckLine}
-use Rattle.deck_lines.proofs.Keeping.{marks_get}
+use Rattle.deck_lines.proofs.MarkLimits.{marks_get}
 use Rattle.deck_lines.proofs.line.MarkedLines.line.Goals as goal
 
 pub returns : goal.returns

@@ -3,14 +3,14 @@ use Rattle.std.proofs.lemmas.Result.{err_from_is_err_and}
 use Rattle.std.proofs.lemmas.List.{reverse-append}
 use Rattle.deck_lines.specs.Blocks.{end_text}
 use Rattle.deck_lines.specs.Excerpts.{Excerpt, missing_end}
-use Rattle.deck_lines.specs.Loads.{with_excerpt}
+use Rattle.deck_lines.specs.Loads.{draft_with_excerpt}
 use Rattle.deck_lines.specs.Marks.{plain_line}
 use Rattle.deck_lines.specs.Readings.{entry_in}
 use Rattle.deck_lines.specs.declared.draft.Draft.{Draft}
 use Rattle.deck_lines.specs.declared.line.Block.{Block}
 use Rattle.deck_lines.specs.declared.line.DeckLine.{DeckLine}
-use Rattle.deck_lines.proofs.Closing.{end_defines}
-use Rattle.deck_lines.proofs.Drafting.{failed, then_extends, with_excerpt-in_turn, extended}
+use Rattle.deck_lines.proofs.ClosedFile.{end_defines}
+use Rattle.deck_lines.proofs.DraftAppends.{failed, then_extends, with_excerpt-in_turn, extended}
 use Rattle.deck_lines.proofs.load.blocks.push_missing_ends.Goals as goal
 
 -- the missing end line of the innermost block comes first
@@ -33,13 +33,13 @@ loop-block-preserved c =
     let text : c.in_ok-text.text ≡ end_text c.in-Some.block.ending = c.in_ok-text.ensures ∙ c.end_line_text.ensures in
     record {
       put =
-          ap (λ (d : Draft). with_excerpt d (lone (map missing_end (reverse c.pop.new.self.items))))
+          ap (λ (d : Draft). draft_with_excerpt d (lone (map missing_end (reverse c.pop.new.self.items))))
           c.in_ok-push_line.ensures.told
           ∙ with_excerpt-in_turn c.loop-block.draft (lone (plain_line c.in-Some.block.number c.in_ok-text.text ∷ []))
           (lone (map missing_end (reverse c.pop.new.self.items)))
-          ∙ ap (λ (t : List ℕ). with_excerpt c.loop-block.draft
+          ∙ ap (λ (t : List ℕ). draft_with_excerpt c.loop-block.draft
           (lone (plain_line c.in-Some.block.number t ∷ map missing_end (reverse c.pop.new.self.items)))) text
-          ∙ ap (λ ls. with_excerpt c.loop-block.draft (lone ls)) (sym all)
+          ∙ ap (λ ls. draft_with_excerpt c.loop-block.draft (lone ls)) (sym all)
           ∙ c.loop-block.invariant.put;
       extends = then_extends _ _ _ c.loop-block.invariant.extends
           (extended c.loop-block.draft c.push_line.new.self _ c.in_ok-push_line.ensures.told);

@@ -1,22 +1,23 @@
 use Rattle.std.proofs.Common.{◌≡◌, ◌++◌, ◌∷◌, [], ◌-◌, ap, length, not, sym, subst, ◌∙◌, Ok, Err, Some, codes, refl}
 use Rattle.std.proofs.Common.{reverse, rules}
 use Rattle.std.proofs.lemmas.Result.{err_from_is_err_and}
-use Rattle.units_io.specs.Fetching.{IsFetched}
+use Rattle.units_io.specs.FetchResults.{IsFetched}
 use Rattle.units_io.specs.declared.files.FetchFault.TheVariants.{Absent, TooLong}
-use Rattle.def_lines.specs.Lines.{shown}
+use Rattle.def_lines.specs.Lines.{nonblank_lines}
 use Rattle.deck_lines.specs.Excerpts.{include_excerpt, line_excerpt, rest_excerpt}
-use Rattle.deck_lines.specs.Includes.{beside, included_below, included_by}
-use Rattle.deck_lines.specs.Loads.{IsLoad, Leads, endings, with_excerpt}
+use Rattle.deck_lines.specs.Includes.{included_below, included_by, included_name}
+use Rattle.deck_lines.specs.Loads.{IsLoad, Leads, draft_with_excerpt, endings}
 use Rattle.deck_lines.specs.Marks.{plain_line}
 use Rattle.deck_lines.specs.Readings.{Defines, Faulty, Includes, Stands, reading_of}
 use Rattle.deck_lines.specs.Steps.{AreStepsAbove, AreStepsBelow, AreStepsOfLine, AreStepsOfRest, EndsBy}
 use Rattle.deck_lines.specs.Views.{seen_reading}
-use Rattle.deck_lines.proofs.Drafting.{then_leads, with_lines-nil}
-use Rattle.deck_lines.proofs.Loading.{end_leads, file_put, include_inside, include_leads, leads_on, line_failed}
-use Rattle.deck_lines.proofs.Loading.{line_leads, line_put, line_taken, no_room, none_taken, plain_leads, refused_leads}
-use Rattle.deck_lines.proofs.Loading.{told_fetched, told_missing, told_not_read, told_of, too_deep}
-use Rattle.deck_lines.proofs.Stepping.{absent_ends, alone_ends, deep_ends, file_ends, file_read, full_ends, line_ends}
-use Rattle.deck_lines.proofs.Stepping.{line_leads_on, long_ends, plain_ends, read_ends, some_below}
+use Rattle.deck_lines.proofs.DraftAppends.{then_leads, with_lines-nil}
+use Rattle.deck_lines.proofs.LoadParts.{end_leads, file_put, include_inside, include_leads, leads_on, line_failed}
+use Rattle.deck_lines.proofs.LoadParts.{line_leads, line_put, line_taken, no_room, none_taken, plain_leads}
+use Rattle.deck_lines.proofs.LoadParts.{refused_leads}
+use Rattle.deck_lines.proofs.LoadParts.{told_fetched, told_missing, told_not_read, told_of, too_deep}
+use Rattle.deck_lines.proofs.LoadSteps.{absent_ends, alone_ends, deep_ends, file_ends, file_read, full_ends, line_ends}
+use Rattle.deck_lines.proofs.LoadSteps.{line_leads_on, long_ends, plain_ends, read_ends, some_below}
 use Rattle.deck_lines.proofs.load.file.+load.Goals as goal
 
 pub load_file-loop-blocks-init : goal.load_file-loop-blocks-init
@@ -30,19 +31,20 @@ load_file-loop-blocks-init g t c = record {
     leads = ap (λ blocks. Some (endings (reverse blocks))) (sym c.new-blocks.ensures.items);
   };
   read = λ m h.
-      ap (λ blocks. with_excerpt c.args.draft.now
+      ap (λ blocks. draft_with_excerpt c.args.draft.now
       (rest_excerpt (included_by m c.args.depth c.args.name.now) c.args.name.now (reverse blocks)
-      (shown c.new-lines.result))) c.new-blocks.ensures.items
-      ∙ ap (λ lines. with_excerpt c.args.draft.now
-      (rest_excerpt (included_by m c.args.depth c.args.name.now) c.args.name.now [] (shown lines))) c.new-lines.ensures;
+      (nonblank_lines c.new-lines.result))) c.new-blocks.ensures.items
+      ∙ ap (λ lines. draft_with_excerpt c.args.draft.now
+      (rest_excerpt (included_by m c.args.depth c.args.name.now) c.args.name.now [] (nonblank_lines lines)))
+      c.new-lines.ensures;
   led = λ rest left. (
     rest,
     subst (λ lines. AreStepsOfRest
         (λ word. AreStepsBelow (g.F.Files.files c.args.files.now) c.args.depth c.args.name.now
-        (beside c.args.name.now word)) c.args.name.now [] (shown lines) rest) c.new-lines.ensures
+        (included_name c.args.name.now word)) c.args.name.now [] (nonblank_lines lines) rest) c.new-lines.ensures
         (subst (λ blocks. AreStepsOfRest
         (λ word. AreStepsBelow (g.F.Files.files c.args.files.now) c.args.depth c.args.name.now
-        (beside c.args.name.now word)) c.args.name.now (reverse blocks) (shown c.new-lines.result) rest)
+        (included_name c.args.name.now word)) c.args.name.now (reverse blocks) (nonblank_lines c.new-lines.result) rest)
         c.new-blocks.ensures.items left),
     refl,
   );
@@ -50,7 +52,7 @@ load_file-loop-blocks-init g t c = record {
 
 pub load_file-loop-blocks-preserved : goal.load_file-loop-blocks-preserved
 load_file-loop-blocks-preserved g t c =
-    let taken : shown c.loop-blocks.lines ≡ c.in_ok-line-2.line ∷ shown c.take_shown.new.self =
+    let taken : nonblank_lines c.loop-blocks.lines ≡ c.in_ok-line-2.line ∷ nonblank_lines c.take_shown.new.self =
     line_taken _ _ _ _ _ c.in_ok-line.ensures.ok c.in-Some.is c.in_ok-line-2.ensures in
     let here : Leads (endings (reverse c.loop-blocks.blocks.items)) (endings (reverse c.load_line.new.blocks.items))
     c.loop-blocks.draft.store c.load_line.new.draft.store (Ok tt) =
@@ -65,17 +67,18 @@ load_file-loop-blocks-preserved g t c =
           c.load_line.new.draft.store tt (Ok tt) c.loop-blocks.invariant.leads here;
       read = λ m h.
           line_put (included_by m c.args.depth c.args.name.now) c.args.name.now (reverse c.loop-blocks.blocks.items)
-          (shown c.loop-blocks.lines) (shown c.take_shown.new.self) c.in_ok-line-2.line taken
+          (nonblank_lines c.loop-blocks.lines) (nonblank_lines c.take_shown.new.self) c.in_ok-line-2.line taken
           c.loop-blocks.draft c.args.draft.now _ (c.loop-blocks.invariant.read m h) c.load_line.new.draft
           (reverse c.load_line.new.blocks.items)
           (c.in_ok-load_line.ensures.told m (c.loop-blocks.invariant.kept ∙ h)) c.in_ok-load_line.ensures.blocks;
       led =
           line_leads_on _ c.args.name.now (reverse c.loop-blocks.blocks.items) _ c.args.draft.now c.loop-blocks.draft _
-          (shown c.take_shown.new.self) c.in_ok-line-2.line taken
+          (nonblank_lines c.take_shown.new.self) c.in_ok-line-2.line taken
           c.loop-blocks.invariant.led c.load_line.new.draft (reverse c.load_line.new.blocks.items)
           c.in_ok-load_line.ensures.blocks
           (subst (λ files. EndsBy
-          (AreStepsOfLine (λ word. AreStepsBelow files c.args.depth c.args.name.now (beside c.args.name.now word))
+          (AreStepsOfLine (λ word. AreStepsBelow files c.args.depth c.args.name.now
+          (included_name c.args.name.now word))
           c.args.name.now (reverse c.loop-blocks.blocks.items) c.in_ok-line-2.line
           (reading_of c.in_ok-line-2.line.text))
           c.loop-blocks.draft (Ok tt) c.load_line.new.draft) c.loop-blocks.invariant.kept
@@ -85,10 +88,10 @@ load_file-loop-blocks-preserved g t c =
 pub load_file-returns-in_err-load_line-clause-told : goal.load_file-returns-in_err-load_line-clause-told
 load_file-returns-in_err-load_line-clause-told g t c = λ m h.
     let p = err_from_is_err_and c.from_residual-in_err-load_line.result c.from_residual-in_err-load_line.ensures.1 in
-    let taken : shown c.loop-blocks.lines ≡ c.in_ok-line-2.line ∷ shown c.take_shown.new.self =
+    let taken : nonblank_lines c.loop-blocks.lines ≡ c.in_ok-line-2.line ∷ nonblank_lines c.take_shown.new.self =
     line_taken _ _ _ _ _ c.in_ok-line.ensures.ok c.in-Some.is c.in_ok-line-2.ensures in
     rw (p.1, p.2) (line_failed (included_by m c.args.depth c.args.name.now) c.args.name.now
-    (reverse c.loop-blocks.blocks.items) (shown c.loop-blocks.lines) (shown c.take_shown.new.self)
+    (reverse c.loop-blocks.blocks.items) (nonblank_lines c.loop-blocks.lines) (nonblank_lines c.take_shown.new.self)
     c.in_ok-line-2.line taken
     c.loop-blocks.draft c.args.draft.now _ (c.loop-blocks.invariant.read m h) c.in_err-load_line.field-0.0
     (c.in_err-load_line.ensures.told m (c.loop-blocks.invariant.kept ∙ h)))
@@ -104,7 +107,7 @@ load_file-returns-in_err-load_line-clause-leads g t c =
 pub load_file-returns-clause-told : goal.load_file-returns-clause-told
 load_file-returns-clause-told g t c = λ m h.
     file_put (included_by m c.args.depth c.args.name.now) c.args.name.now (reverse c.loop-blocks.blocks.items)
-    (shown c.loop-blocks.lines) c.args.draft.now c.loop-blocks.draft _ _ _
+    (nonblank_lines c.loop-blocks.lines) c.args.draft.now c.loop-blocks.draft _ _ _
     (none_taken _ _ _ c.in_ok-line.ensures.ok c.in_default.is) (c.loop-blocks.invariant.read m h)
     c.push_file_end.ensures.told
 
@@ -236,15 +239,15 @@ load_line-returns-in-Faulty-clause-leads g t c =
 pub load_file-returns-in_err-load_line-clause-ends : goal.load_file-returns-in_err-load_line-clause-ends
 load_file-returns-in_err-load_line-clause-ends g t c =
     let p = err_from_is_err_and c.from_residual-in_err-load_line.result c.from_residual-in_err-load_line.ensures.1 in
-    let taken : shown c.loop-blocks.lines ≡ c.in_ok-line-2.line ∷ shown c.take_shown.new.self =
+    let taken : nonblank_lines c.loop-blocks.lines ≡ c.in_ok-line-2.line ∷ nonblank_lines c.take_shown.new.self =
     line_taken _ _ _ _ _ c.in_ok-line.ensures.ok c.in-Some.is c.in_ok-line-2.ensures in
     rw (p.1, p.2) (line_ends _ c.args.name.now (reverse c.loop-blocks.blocks.items) _ c.args.draft.now
-    c.loop-blocks.draft _ (shown c.take_shown.new.self) c.in_ok-line-2.line taken
+    c.loop-blocks.draft _ (nonblank_lines c.take_shown.new.self) c.in_ok-line-2.line taken
     c.loop-blocks.invariant.led c.load_line.new.draft c.in_err-load_line.field-0.0
     (λ word line. some_below (g.F.Files.files c.args.files.now) c.args.depth c.args.name.now
-    (beside c.args.name.now word) line)
+    (included_name c.args.name.now word) line)
     (subst (λ files. EndsBy
-    (AreStepsOfLine (λ word. AreStepsBelow files c.args.depth c.args.name.now (beside c.args.name.now word))
+    (AreStepsOfLine (λ word. AreStepsBelow files c.args.depth c.args.name.now (included_name c.args.name.now word))
     c.args.name.now (reverse c.loop-blocks.blocks.items) c.in_ok-line-2.line (reading_of c.in_ok-line-2.line.text))
     c.loop-blocks.draft (Err c.in_err-load_line.field-0.0) c.load_line.new.draft) c.loop-blocks.invariant.kept
     c.in_err-load_line.ensures.ends))
@@ -252,7 +255,7 @@ load_file-returns-in_err-load_line-clause-ends g t c =
 pub load_file-returns-clause-ends : goal.load_file-returns-clause-ends
 load_file-returns-clause-ends g t c =
     file_ends _ c.args.name.now (reverse c.loop-blocks.blocks.items) _ c.args.draft.now c.loop-blocks.draft
-    c.push_file_end.new.draft (shown c.loop-blocks.lines) c.push_file_end.result
+    c.push_file_end.new.draft (nonblank_lines c.loop-blocks.lines) c.push_file_end.result
     (none_taken _ _ _ c.in_ok-line.ensures.ok c.in_default.is) c.loop-blocks.invariant.led c.push_file_end.ensures.told
     c.push_file_end.ensures.read c.push_file_end.ensures.within
 
@@ -319,7 +322,7 @@ load_include-returns-in-Err-Failed-clause-ends g t c =
 pub load_line-returns-in-Stands-clause-ends : goal.load_line-returns-in-Stands-clause-ends
 load_line-returns-in-Stands-clause-ends g t c =
     alone_ends (λ word. AreStepsBelow (g.F.Files.files c.args.files.now) c.args.depth c.args.name.now
-    (beside c.args.name.now word)) c.args.name.now (reverse c.args.blocks.now.items) c.args.line
+    (included_name c.args.name.now word)) c.args.name.now (reverse c.args.blocks.now.items) c.args.line
     (Stands c.in-Stands.role) c.args.draft.now c.push_role_line.new.draft c.push_role_line.result tt
     (ap (seen_reading c.as_bytes.result.now) (sym c.in-Stands.is) ∙ c.in_ok-role.ensures.means
     ∙ ap reading_of c.as_bytes.ensures)
@@ -328,7 +331,7 @@ load_line-returns-in-Stands-clause-ends g t c =
 pub load_line-returns-in-Defines-clause-ends : goal.load_line-returns-in-Defines-clause-ends
 load_line-returns-in-Defines-clause-ends g t c =
     alone_ends (λ word. AreStepsBelow (g.F.Files.files c.args.files.now) c.args.depth c.args.name.now
-    (beside c.args.name.now word)) c.args.name.now (reverse c.args.blocks.now.items) c.args.line
+    (included_name c.args.name.now word)) c.args.name.now (reverse c.args.blocks.now.items) c.args.line
     (Defines _) c.args.draft.now c.push_line.new.self c.push_line.result tt
     (ap (seen_reading c.as_bytes.result.now) (sym c.in-Defines.is) ∙ c.in_ok-role.ensures.means
     ∙ ap reading_of c.as_bytes.ensures)
@@ -341,7 +344,7 @@ load_line-returns-in_ok-file-in-Includes-clause-ends g t c =
     ∙ c.in_ok-role.ensures.means ∙ ap reading_of c.as_bytes.ensures in
     subst (λ reading. EndsBy
     (AreStepsOfLine (λ word. AreStepsBelow (g.F.Files.files c.args.files.now) c.args.depth c.args.name.now
-    (beside c.args.name.now word)) c.args.name.now (reverse c.args.blocks.now.items) c.args.line reading)
+    (included_name c.args.name.now word)) c.args.name.now (reverse c.args.blocks.now.items) c.args.line reading)
     c.args.draft.now c.load_include.result c.load_include.new.draft) means
     (subst (λ file. EndsBy
     (AreStepsBelow (g.F.Files.files c.args.files.now) c.args.depth c.args.name.now file c.args.line) c.args.draft.now
@@ -350,7 +353,7 @@ load_line-returns-in_ok-file-in-Includes-clause-ends g t c =
 pub load_line-returns-in-Faulty-clause-ends : goal.load_line-returns-in-Faulty-clause-ends
 load_line-returns-in-Faulty-clause-ends g t c =
     alone_ends (λ word. AreStepsBelow (g.F.Files.files c.args.files.now) c.args.depth c.args.name.now
-    (beside c.args.name.now word)) c.args.name.now (reverse c.args.blocks.now.items) c.args.line
+    (included_name c.args.name.now word)) c.args.name.now (reverse c.args.blocks.now.items) c.args.line
     (Faulty c.as_bytes-in-Faulty.result.now) c.args.draft.now c.refuse_line.new.self c.refuse_line.result tt
     (ap Faulty c.as_bytes-in-Faulty.ensures ∙ ap (seen_reading c.as_bytes.result.now) (sym c.in-Faulty.is)
     ∙ c.in_ok-role.ensures.means

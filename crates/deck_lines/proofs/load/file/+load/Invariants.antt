@@ -1,11 +1,11 @@
 use Rattle.std.proofs.Common.{◌≡◌, ◌*◌, ◌+◌, [], Some, Ok, length, reverse}
 use Rattle.units_io.specs.FileMap.{FileMap}
-use Rattle.def_lines.specs.Lines.{shown}
+use Rattle.def_lines.specs.Lines.{nonblank_lines}
 use Rattle.deck_lines.specs.Excerpts.{rest_excerpt}
-use Rattle.deck_lines.specs.Includes.{beside, deck_above, included_by}
-use Rattle.deck_lines.specs.Loads.{Leads, endings, with_excerpt}
+use Rattle.deck_lines.specs.Includes.{deck_above, included_by, included_name}
+use Rattle.deck_lines.specs.Loads.{Leads, draft_with_excerpt, endings}
 use Rattle.deck_lines.specs.Steps.{AreStepsAbove, AreStepsBelow, AreStepsOfRest}
-use Rattle.deck_lines.proofs.Stepping.{LeadTo}
+use Rattle.deck_lines.proofs.LoadSteps.{LeadTo}
 use Rattle.deck_lines.proofs.load.file.+load.Given as goal
 
 abbrev pub decreases-load_file : goal.decreases-load_file
@@ -24,12 +24,14 @@ invariant-load_file-loop-blocks g l = record {
   counted : g.F.Files.faults l.files ≡ g.F.Files.faults l.initial.files;
   leads : Leads [] (endings (reverse l.blocks.items)) l.initial.draft.store l.draft.store (Ok tt);
   read : (m : FileMap) → g.F.Files.files l.initial.files ≡ Some m →
-      with_excerpt l.draft (rest_excerpt (included_by m l.depth l.name) l.name (reverse l.blocks.items) (shown l.lines))
-      ≡ with_excerpt l.initial.draft (deck_above m l.depth l.name l.bytes);
+      draft_with_excerpt l.draft
+      (rest_excerpt (included_by m l.depth l.name) l.name (reverse l.blocks.items) (nonblank_lines l.lines))
+      ≡ draft_with_excerpt l.initial.draft (deck_above m l.depth l.name l.bytes);
   led : LeadTo (AreStepsAbove (g.F.Files.files l.initial.files) l.depth l.name l.bytes) l.initial.draft
-      (AreStepsOfRest (λ word. AreStepsBelow (g.F.Files.files l.initial.files) l.depth l.name (beside l.name word))
-      l.name (reverse l.blocks.items) (shown l.lines)) l.draft;
+      (AreStepsOfRest (λ word. AreStepsBelow (g.F.Files.files l.initial.files) l.depth l.name
+      (included_name l.name word))
+      l.name (reverse l.blocks.items) (nonblank_lines l.lines)) l.draft;
 }
 
 abbrev pub decreases-load_file-loop-blocks : goal.decreases-load_file-loop-blocks
-decreases-load_file-loop-blocks g l = length (shown l.lines)
+decreases-load_file-loop-blocks g l = length (nonblank_lines l.lines)

@@ -1,4 +1,4 @@
-use Rattle.deck_lines.proofs.Drafting.{closed_behind}
+use Rattle.deck_lines.proofs.DraftAppends.{closed_behind}
 use Rattle.deck_lines.proofs.load.file.load_text.Goals as goal
 
 pub returns-clause-closed : goal.returns-clause-closed

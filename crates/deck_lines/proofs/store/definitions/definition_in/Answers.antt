@@ -1,7 +1,7 @@
 use Rattle.std.proofs.Common.{ap, ◌∙◌, sym, refl, Some, None, option_map}
 use Rattle.std.proofs.lemmas.Option.{slice_get_past, slice_get_read}
-use Rattle.deck_lines.specs.Kept.{keyed_definition}
-use Rattle.deck_lines.proofs.Defining.{defined_at, undefined_at}
+use Rattle.deck_lines.specs.StoredDefinitions.{keyed_definition}
+use Rattle.deck_lines.proofs.DefinitionsByNumber.{defined_at, undefined_at}
 use Rattle.deck_lines.proofs.store.definitions.definition_in.Goals as goal
 
 pub returns-in-Some-Some : goal.returns-in-Some-Some

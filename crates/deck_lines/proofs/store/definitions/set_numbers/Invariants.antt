@@ -1,5 +1,5 @@
 use Rattle.std.proofs.Common.{◌≡◌, ◌++◌, drop, take}
-use Rattle.deck_lines.specs.Kept.{all_with_numbers}
+use Rattle.deck_lines.specs.StoredDefinitions.{all_with_numbers}
 use Rattle.deck_lines.proofs.store.definitions.set_numbers.Given as goal
 
 abbrev pub invariant-loop-place : goal.invariant-loop-place

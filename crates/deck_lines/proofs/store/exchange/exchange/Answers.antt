@@ -1,6 +1,6 @@
 use Rattle.std.proofs.Common.{◌≡◌, ◌++◌, ◌+◌, ◌≤◌, length, take, drop, ap, ◌∙◌, arith, cond, length-append, length-drop}
 use Rattle.std.proofs.Common.{length-take}
-use Rattle.deck_lines.proofs.Turning.{left_is, gone_is, back_is}
+use Rattle.deck_lines.proofs.ListTurns.{left_is, gone_is, back_is}
 use Rattle.deck_lines.proofs.store.exchange.exchange.Goals as goal
 
 pub returns-clause-gone : goal.returns-clause-gone

@@ -1,13 +1,13 @@
 use Rattle.std.proofs.Common.{◌≡◌, ◌+◌, [], List, Some, None, cond, drop, length, reverse, refl, sym, ap, ◌∙◌, arith}
 use Rattle.std.proofs.lemmas.Bool.{false≢true}
 use Rattle.std.proofs.lemmas.List.{drop_all}
-use Rattle.deck_lines.specs.Closed.{blocks_after}
+use Rattle.deck_lines.specs.ClosedBlocks.{blocks_after}
 use Rattle.deck_lines.specs.Limits.{most_bytes, text_len}
 use Rattle.deck_lines.specs.Origins.{exchanged_lines}
 use Rattle.deck_lines.specs.declared.line.BorrowedLine.{BorrowedLine}
 use Rattle.deck_lines.specs.declared.line.DeckLine.{DeckLine}
 use Rattle.deck_lines.proofs.Exchangeable.{at_end, blocks_more, not_closed, texts_more, too_long}
-use Rattle.deck_lines.proofs.Finding.{drop_found, exchanged_len}
+use Rattle.deck_lines.proofs.ExchangedItems.{drop_found, exchanged_len}
 use Rattle.deck_lines.proofs.store.exchangeable.are_closed_and_small.Goals as goal
 
 -- the deck line of a borrowed line

@@ -1,5 +1,5 @@
 use Rattle.std.proofs.Common.{◌≡◌, ◌+◌, [], drop, reverse}
-use Rattle.deck_lines.specs.Closed.{blocks_after}
+use Rattle.deck_lines.specs.ClosedBlocks.{blocks_after}
 use Rattle.deck_lines.specs.Limits.{most_bytes, text_len}
 use Rattle.deck_lines.specs.Origins.{exchanged_lines}
 use Rattle.deck_lines.proofs.store.exchangeable.are_closed_and_small.Given as goal

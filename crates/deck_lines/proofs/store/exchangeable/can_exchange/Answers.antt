@@ -1,12 +1,12 @@
 use Rattle.std.proofs.Common.{◌≡◌, ◌≤◌, ◌+◌, ◌∙◌, List, ap, arith, length}
 use Rattle.std.proofs.lemmas.List.{length-map}
 use Rattle.deck_lines.specs.Limits.{most_lines}
-use Rattle.deck_lines.specs.Marks.{unmarked}
+use Rattle.deck_lines.specs.Marks.{line_without_mark}
 use Rattle.deck_lines.specs.Origins.{exchanged_lines}
 use Rattle.deck_lines.specs.declared.line.DeckLine.{DeckLine}
 use Rattle.deck_lines.proofs.Exchangeable.{exchangeable, if_ok, not_there, too_many}
-use Rattle.deck_lines.proofs.Finding.{exchanged_len}
-use Rattle.deck_lines.proofs.Replacing.{few_lines}
+use Rattle.deck_lines.proofs.ExchangedItems.{exchanged_len}
+use Rattle.deck_lines.proofs.MarkReplacement.{few_lines}
 use Rattle.deck_lines.proofs.store.exchangeable.can_exchange.Goals as goal
 
 pub returns-then-count-at : goal.returns-then-count-at
@@ -17,7 +17,7 @@ returns-then-count-at c =
       arith,
       c.if-count-at.true,
       c.len-count.ensures ∙ ap length c.lines.ensures.lines
-          ∙ length-map lines unmarked,
+          ∙ length-map lines line_without_mark,
     ))
 
 pub overflow_sub-left-2 : goal.overflow_sub-left-2
@@ -25,7 +25,7 @@ overflow_sub-left-2 c =
     let lines : List DeckLine = c.args.store.now.lines in
     omega (
       arith,
-      c.len-count.ensures ∙ ap length c.lines.ensures.lines ∙ length-map lines unmarked,
+      c.len-count.ensures ∙ ap length c.lines.ensures.lines ∙ length-map lines line_without_mark,
       few_lines lines c.lines.ensures.within,
     )
 
@@ -33,7 +33,7 @@ pub returns-then-left-put : goal.returns-then-left-put
 returns-then-left-put c =
     let lines : List DeckLine = c.args.store.now.lines in
     let count : c.len-count.result ≡ length lines = c.len-count.ensures ∙ ap length c.lines.ensures.lines
-    ∙ length-map lines unmarked in
+    ∙ length-map lines line_without_mark in
     too_many c.args.at c.args.cut c.args.put.now lines
     (omega (arith, count, c.if-count-at.false, c.if-count-at-2.false))
     (omega (arith, count, c.if-left-put.true, few_lines lines c.lines.ensures.within))
@@ -42,7 +42,7 @@ pub are_closed_and_small-requires-clause-few : goal.are_closed_and_small-require
 are_closed_and_small-requires-clause-few c =
     let lines : List DeckLine = c.args.store.now.lines in
     let count : c.len-count.result ≡ length lines = c.len-count.ensures ∙ ap length c.lines.ensures.lines
-    ∙ length-map lines unmarked in
+    ∙ length-map lines line_without_mark in
     omega (
       arith,
       count,
@@ -56,7 +56,7 @@ pub returns : goal.returns
 returns c =
     let lines : List DeckLine = c.args.store.now.lines in
     let count : c.len-count.result ≡ length lines = c.len-count.ensures ∙ ap length c.lines.ensures.lines
-    ∙ length-map lines unmarked in
+    ∙ length-map lines line_without_mark in
     let places : c.args.at + c.args.cut ≤ length lines =
     omega (arith, count, c.if-count-at.false, c.if-count-at-2.false) in
     let few : length (exchanged_lines c.args.at c.args.cut c.args.put.now lines) ≤ most_lines = omega (

@@ -1,5 +1,5 @@
 use Rattle.std.proofs.Common.{◌-◌, arith}
-use Rattle.deck_lines.proofs.Finding.{exchanged_behind, exchanged_front, exchanged_past, exchanged_put}
+use Rattle.deck_lines.proofs.ExchangedItems.{exchanged_behind, exchanged_front, exchanged_past, exchanged_put}
 use Rattle.deck_lines.proofs.store.origins.origin_of.Goals as goal
 
 pub returns-then-place-at : goal.returns-then-place-at

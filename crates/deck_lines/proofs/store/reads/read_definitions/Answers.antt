@@ -1,5 +1,5 @@
 use Rattle.deck_lines.specs.NumberedKeys.{names_in}
-use Rattle.deck_lines.proofs.Defining.{defined_more}
+use Rattle.deck_lines.proofs.DefinitionsByNumber.{defined_more}
 use Rattle.deck_lines.proofs.store.reads.read_definitions.Goals as goal
 
 pub loop-line-preserved : goal.loop-line-preserved

@@ -1,5 +1,5 @@
 use Rattle.std.proofs.Common.{map, take}
-use Rattle.deck_lines.specs.Kept.{IsDefined}
+use Rattle.deck_lines.specs.StoredDefinitions.{IsDefined}
 use Rattle.deck_lines.specs.Names.{IsExtended, IsOneToOne}
 use Rattle.deck_lines.specs.NumberedKeys.{names_in}
 use Rattle.deck_lines.specs.Readings.{entry_in}

@@ -1,8 +1,8 @@
 use Rattle.std.proofs.Common.{rules, ◌≡◌, ◌+◌, ◌∙◌, ap, sym, subst}
-use Rattle.edge_links.specs.Edges.{Graph}
+use Rattle.edge_links.specs.Edges.{EdgeGraph}
 use Rattle.edge_links.specs.Owners.{Owners}
-use Rattle.edge_links.specs.Shown.{graph_of, AreLinks}
-use Rattle.edge_links.proofs.Begun.{begun_links, begun_shown, grown_alone, free_links, free_shown}
+use Rattle.edge_links.specs.PlaceView.{graph_of, AreLinks}
+use Rattle.edge_links.proofs.AddedPlaces.{begun_links, begun_shown, grown_alone, free_links, free_shown}
 use Rattle.edge_links.proofs.links.Links.add_free.Goals as goal
 
 pub invariant_of-self-in_err-place : goal.invariant_of-self-in_err-place
@@ -47,4 +47,4 @@ returns-clause-ok c =
     c.in_ok-place.ensures.was begun c.in_ok-begin.ensures.some c.in_ok-place.ensures.ok.0 c.in_ok-place.ensures.ok.1
     c.add_free.new.self
     c.add_free.ensures
-    ∙ ap (λ (g : Graph). record g { spare = g.spare + 1 }) before
+    ∙ ap (λ (g : EdgeGraph). record g { spare = g.spare + 1 }) before

@@ -1,8 +1,8 @@
 use Rattle.std.proofs.Common.{rules, ◌≡◌, ◌+◌, ◌++◌, [], ◌∷◌, ℕ, List, length, sym, ◌∙◌, ap, subst}
-use Rattle.edge_links.specs.Edges.{Graph}
+use Rattle.edge_links.specs.Edges.{EdgeGraph}
 use Rattle.edge_links.specs.Owners.{Owners}
-use Rattle.edge_links.specs.Shown.{graph_of, AreLinks}
-use Rattle.edge_links.proofs.Begun.{begun_links, begun_shown, node_links, node_shown}
+use Rattle.edge_links.specs.PlaceView.{graph_of, AreLinks}
+use Rattle.edge_links.proofs.AddedPlaces.{begun_links, begun_shown, node_links, node_shown}
 use Rattle.edge_links.proofs.links.Links.add_node.Goals as goal
 
 pub invariant_of-self-in_err-place : goal.invariant_of-self-in_err-place
@@ -42,11 +42,11 @@ returns-clause-ok c =
     let before : graph_of c.begin.new.self c.self.inside.nodes.items ≡ c.args.self.now =
     begun_shown c.self.inside.places c.begin.new.self c.self.inside.nodes.items c.self.invariant c.begin.ensures.begun
     ∙ c.self.view_is in (
-      node ∙ ap (λ (g : Graph). g.nodes) before,
+      node ∙ ap (λ (g : EdgeGraph). g.nodes) before,
       node_shown c.begin.new.self c.add_head.new.self c.self.inside.nodes.items c.in_ok-place.place c.in_ok-name.name
           c.in_ok-place.ensures.was begun c.in_ok-begin.ensures.some c.in_ok-place.ensures.ok.0
           c.in_ok-place.ensures.ok.1
           c.push_reserved.new.self.items named
           (c.push_reserved.ensures.items ∙ ap (λ xs. xs ++ c.in_ok-place.place ∷ []) c.reserve.ensures.items)
-          ∙ ap (λ (g : Graph). record g { nodes = g.nodes + 1 }) before,
+          ∙ ap (λ (g : EdgeGraph). record g { nodes = g.nodes + 1 }) before,
     )

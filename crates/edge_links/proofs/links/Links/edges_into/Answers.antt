@@ -1,10 +1,10 @@
 use Rattle.std.proofs.Common.{◌≡◌, ℕ, ◌<◌, List, length, get_or, take, sym, ◌∙◌, ap, subst}
 use Rattle.std.proofs.lemmas.List.{take_more}
-use Rattle.edge_links.specs.Edges.{Graph, edge_count}
+use Rattle.edge_links.specs.Edges.{EdgeGraph, edge_count}
 use Rattle.edge_links.specs.Rings.{AreMembers}
-use Rattle.edge_links.proofs.Put.{read}
+use Rattle.edge_links.proofs.ListPuts.{read}
 use Rattle.edge_links.proofs.Users.{has_user, user_put, stands_in, member_there, are_users, all_taken}
-use Rattle.edge_links.proofs.Weighing.{summed}
+use Rattle.edge_links.proofs.WeightedSums.{summed}
 use Rattle.edge_links.proofs.links.Links.edges_into.Goals as goal
 
 members_of : (keys nodes items seen : List ℕ) (key head : ℕ) → key < length nodes → head ≡ get_or nodes key head
@@ -16,7 +16,7 @@ members_of keys nodes items seen key head l e s m =
 
 pub user_of-user-requires : goal.user_of-user-requires
 user_of-user-requires c =
-    let there = subst (λ (x : Graph). c.args.key < x.nodes) (sym c.self.view_is) c.requires in
+    let there = subst (λ (x : EdgeGraph). c.args.key < x.nodes) (sym c.self.view_is) c.requires in
     let members = members_of c.self.inside.places.keys c.self.inside.nodes.items c.in_ok-places.places.items
     c.deref-place-items.result.now
     c.args.key c.index.result.now there c.index.ensures
@@ -41,7 +41,7 @@ loop-place-preserved c x =
 
 pub returns : goal.returns
 returns c x =
-    let there = subst (λ (x : Graph). c.args.key < x.nodes) (sym c.self.view_is) c.requires in
+    let there = subst (λ (x : EdgeGraph). c.args.key < x.nodes) (sym c.self.view_is) c.requires in
     let members = members_of c.self.inside.places.keys c.self.inside.nodes.items c.in_ok-places.places.items
     c.deref-place-items.result.now
     c.args.key c.index.result.now there c.index.ensures
@@ -51,4 +51,4 @@ returns c x =
     c.deref-place-items.result.now members
     c.loop-place.users (λ y. c.loop-place.invariant y ∙ ap (summed (has_user c.self.inside.places y))
     (all_taken c.deref-place-items.result.now c.loop-place.place-index c.loop-place-test.false)) x
-    ∙ ap (λ (g : Graph). edge_count g.edges x c.args.key) c.self.view_is
+    ∙ ap (λ (g : EdgeGraph). edge_count g.edges x c.args.key) c.self.view_is

@@ -1,6 +1,6 @@
 use Rattle.std.proofs.Common.{◌≡◌, ℕ, take}
 use Rattle.edge_links.specs.Times.{times}
-use Rattle.edge_links.proofs.Weighing.{summed}
+use Rattle.edge_links.proofs.WeightedSums.{summed}
 use Rattle.edge_links.proofs.Users.{has_user}
 use Rattle.edge_links.proofs.links.Links.edges_into.Given as goal
 

@@ -1,7 +1,7 @@
 use Rattle.std.proofs.Common.{◌≡◌, ℕ, ◌+◌, ◌<◌, length, get_or, sym, subst, ap, ◌∙◌, arith}
 use Rattle.edge_links.specs.declared.slots.Side.TheVariants.{Key}
 use Rattle.edge_links.specs.Owners.{Owners, ArePlaces, with_owner}
-use Rattle.edge_links.proofs.Placing.{emptied_places, spare_fits}
+use Rattle.edge_links.proofs.OwnerChanges.{emptied_places, spare_fits}
 use Rattle.edge_links.proofs.places.Places.add_free.Goals as goal
 
 pub overflow_add-self : goal.overflow_add-self

@@ -1,6 +1,6 @@
 use Rattle.std.proofs.Common.{◌≡◌, ℕ, ◌+◌, ◌<◌, ◌^◌, Result, Ok, Err, IfOk, OnErr, length, sym, subst}
 use Rattle.edge_links.specs.Owners.{Owners, ArePlaces, with_head}
-use Rattle.edge_links.proofs.Placing.{grown_places}
+use Rattle.edge_links.proofs.OwnerChanges.{grown_places}
 use Rattle.edge_links.proofs.places.Places.add_head.Goals as goal
 
 -- the places have one more or are unchanged

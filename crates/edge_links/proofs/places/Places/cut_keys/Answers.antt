@@ -3,12 +3,12 @@ use Rattle.std.proofs.Common.{◌∙◌, ap, subst, inl, inr, arith, get_or-set_
 use Rattle.std.proofs.lemmas.Bool.{cases_eq}
 use Rattle.edge_links.specs.Changes.{HasKey}
 use Rattle.edge_links.specs.Owners.{Owners, Waits}
-use Rattle.edge_links.proofs.Counting.{owned_less, owned_more}
+use Rattle.edge_links.proofs.OwnedCounts.{owned_less, owned_more}
 use Rattle.edge_links.proofs.Cuts.{IsCutting, cutting_next, cutting_end, freed}
 use Rattle.edge_links.specs.Changes.{IsPaid}
-use Rattle.edge_links.specs.Owners.{owned}
+use Rattle.edge_links.specs.Owners.{owned_count}
 use Rattle.edge_links.proofs.places.Places.cut_keys.Goals as goal
-use Rattle.edge_links.specs.Waiting.{waiting_count}
+use Rattle.edge_links.specs.WaitingStack.{waiting_count}
 
 abbrev WaitsSo : Owners → Owners → ℕ → Type 0
 WaitsSo old s key =
@@ -49,7 +49,7 @@ was old s key place user f =
 
 next : (old s r t : Owners) (key place user : ℕ) → Found old s key place user → WaitsSo old s key → r ≡ freed s place
     → t ≡ record r { waits = t.waits } → ((x : ℕ) → Waits t x ↔ (Waits r x ⊎ (x ≡ user)))
-    → IsCutting (HasKey old key) old t × WaitsSo old t key × (owned key t.keys < owned key s.keys)
+    → IsCutting (HasKey old key) old t × WaitsSo old t key × (owned_count key t.keys < owned_count key s.keys)
 next old s r t key place user f w q rest wait =
     let here : (place < length old.users) × HasKey old key place × (get_or old.users place 0 ≡ user) =
     was old s key place user f in
@@ -87,7 +87,7 @@ next old s r t key place user f w q rest wait =
           ]
         ],
       ),
-      subst (λ (xs : List ℕ). owned key xs < owned key s.keys) (sym tk)
+      subst (λ (xs : List ℕ). owned_count key xs < owned_count key s.keys) (sym tk)
           (let h = owned_less key 0 s.keys place kp f.is (λ z. f.some (sym z)) in omega arith),
     )
 
@@ -95,10 +95,11 @@ paid : (old s r t : Owners) (place : ℕ) → IsPaid old s → r ≡ freed s pla
     → waiting_count t.waits ≤ waiting_count r.waits + 1 → place < length s.users → (get_or s.users place 0 ≡ 0 → ⊥)
     → IsPaid old t
 paid old s r t place p q rest w l nz =
-    let a : owned 0 t.users ≡ owned 0 (set s.users place 0) =
-    ap (λ (x : Owners). owned 0 x.users) rest ∙ ap (λ (x : Owners). owned 0 x.users) q in
+    let a : owned_count 0 t.users ≡ owned_count 0 (set s.users place 0) =
+    ap (λ (x : Owners). owned_count 0 x.users) rest ∙ ap (λ (x : Owners). owned_count 0 x.users) q in
     let b : waiting_count r.waits ≡ waiting_count s.waits = ap (λ (x : Owners). waiting_count x.waits) q in
-    let m : owned 0 (set s.users place 0) ≡ owned 0 s.users + 1 = owned_more 0 s.users place l nz in omega arith
+    let m : owned_count 0 (set s.users place 0) ≡ owned_count 0 s.users + 1 = owned_more 0 s.users place l nz in
+    omega arith
 
 pub loop-place-preserved : goal.loop-place-preserved
 loop-place-preserved c =

@@ -2,7 +2,7 @@ use Rattle.std.proofs.Common.{◌≡◌, ◌⊎◌, ◌↔◌, ℕ, ◌<◌, len
 use Rattle.edge_links.specs.Changes.{HasKey}
 use Rattle.edge_links.specs.Owners.{Waits}
 use Rattle.edge_links.specs.Changes.{IsPaid}
-use Rattle.edge_links.specs.Owners.{owned}
+use Rattle.edge_links.specs.Owners.{owned_count}
 use Rattle.edge_links.proofs.Cuts.{IsCutting}
 use Rattle.edge_links.proofs.places.Places.cut_keys.Given as goal
 
@@ -17,4 +17,4 @@ invariant-loop-place l = record {
 }
 
 abbrev pub decreases-loop-place : goal.decreases-loop-place
-decreases-loop-place l = owned l.key l.self.keys
+decreases-loop-place l = owned_count l.key l.self.keys

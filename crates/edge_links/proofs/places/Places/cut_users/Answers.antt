@@ -1,18 +1,19 @@
 use Rattle.std.proofs.Common.{◌≡◌, ℕ, ◌<◌, length, get_or, sym, ◌∙◌, ap, subst, arith}
 use Rattle.edge_links.specs.Changes.{HasUser}
 use Rattle.edge_links.specs.Owners.{Owners}
-use Rattle.edge_links.proofs.Counting.{owned_less, owned_more}
+use Rattle.edge_links.proofs.OwnedCounts.{owned_less, owned_more}
 use Rattle.edge_links.proofs.Cuts.{IsCutting, cutting_next, cutting_end, freed}
 use Rattle.edge_links.specs.Changes.{IsPaid}
-use Rattle.edge_links.specs.Owners.{owned}
+use Rattle.edge_links.specs.Owners.{owned_count}
 use Rattle.edge_links.proofs.places.Places.cut_users.Goals as goal
 
 next : (old s t : Owners) (user place : ℕ) → IsCutting (HasUser old user) old s → length s.keys ≡ length s.users
     → place < length s.users
     → get_or s.users place 0 ≡ user → (place ≡ user → ⊥) → (user ≡ 0 → ⊥) → t ≡ freed s place
-    → IsCutting (HasUser old user) old t × (owned user t.users < owned user s.users)
+    → IsCutting (HasUser old user) old t × (owned_count user t.users < owned_count user s.users)
 next old s t user place c ks l e ne nz q =
-    subst (λ (x : Owners). IsCutting (HasUser old user) old x × (owned user x.users < owned user s.users)) (sym q) (
+    subst (λ (x : Owners). IsCutting (HasUser old user) old x × (owned_count user x.users < owned_count user s.users))
+    (sym q) (
       cutting_next (HasUser old user) old s place c ks l (λ w. (ne, sym w.0 ∙ e)),
       let h = owned_less user 0 s.users place l e
           (λ z. nz (sym z)) in omega arith,

@@ -1,7 +1,7 @@
 use Rattle.std.proofs.Common.{◌≡◌}
 use Rattle.edge_links.specs.Changes.{HasUser}
 use Rattle.edge_links.specs.Changes.{IsPaid}
-use Rattle.edge_links.specs.Owners.{owned}
+use Rattle.edge_links.specs.Owners.{owned_count}
 use Rattle.edge_links.proofs.Cuts.{IsCutting}
 use Rattle.edge_links.proofs.places.Places.cut_users.Given as goal
 
@@ -14,4 +14,4 @@ invariant-loop-place l = record {
 }
 
 abbrev pub decreases-loop-place : goal.decreases-loop-place
-decreases-loop-place l = owned l.user l.self.users
+decreases-loop-place l = owned_count l.user l.self.users

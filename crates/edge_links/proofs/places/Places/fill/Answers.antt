@@ -1,8 +1,8 @@
 use Rattle.std.proofs.Common.{◌≡◌, ◌+◌, ◌-◌, ◌<◌, length, get_or, sym, ◌∙◌, ap, subst}
 use Rattle.edge_links.specs.declared.slots.Side.TheVariants.{Key}
-use Rattle.edge_links.specs.Owners.{Owners, ArePlaces, with_owner, owned}
-use Rattle.edge_links.proofs.Counting.{owned_less, lone_zero}
-use Rattle.edge_links.proofs.Placing.{filled_places}
+use Rattle.edge_links.specs.Owners.{Owners, ArePlaces, with_owner, owned_count}
+use Rattle.edge_links.proofs.OwnedCounts.{owned_less, lone_zero}
+use Rattle.edge_links.proofs.OwnerChanges.{filled_places}
 use Rattle.edge_links.proofs.places.Places.fill.Goals as goal
 
 pub invariant_of-self : goal.invariant_of-self
@@ -23,17 +23,17 @@ invariant_of-self c =
 pub returns-in-Some-clause-spare : goal.returns-in-Some-clause-spare
 returns-in-Some-clause-spare c =
     let f = c.in-Some.ensures in
-    ap (λ (x : Owners). owned 0 x.users + 1)
+    ap (λ (x : Owners). owned_count 0 x.users + 1)
     (c.move_to-in-Some.ensures ∙ ap (λ (x : Owners). with_owner Key x c.in-Some.place c.args.key)
     c.move_to.ensures)
     ∙ (owned_less 0 c.args.user c.self.inside.rings.users c.in-Some.place f.0 f.1 c.requires.some.0
-    ∙ ap (λ (x : Owners). owned 0 x.users)
+    ∙ ap (λ (x : Owners). owned_count 0 x.users)
     c.self.view_is)
 
 pub returns-in_default-clause-filled : goal.returns-in_default-clause-filled
 returns-in_default-clause-filled c = absurd (lone_zero c.self.inside.rings.users c.in_default.ensures
-    (subst (λ (x : Owners). 1 < owned 0 x.users) (sym c.self.view_is) c.requires.room))
+    (subst (λ (x : Owners). 1 < owned_count 0 x.users) (sym c.self.view_is) c.requires.room))
 
 pub returns-in_default-clause-spare : goal.returns-in_default-clause-spare
 returns-in_default-clause-spare c = absurd (lone_zero c.self.inside.rings.users c.in_default.ensures
-    (subst (λ (x : Owners). 1 < owned 0 x.users) (sym c.self.view_is) c.requires.room))
+    (subst (λ (x : Owners). 1 < owned_count 0 x.users) (sym c.self.view_is) c.requires.room))

@@ -2,13 +2,13 @@ use Rattle.std.proofs.Common.{◌≡◌, ℕ, ◌+◌, ◌-◌, ◌<◌, List, B
 use Rattle.std.proofs.Common.{subst, arith, inl, inr, refl}
 use Rattle.edge_links.specs.Changes.{IsParted, IsPaid}
 use Rattle.edge_links.specs.Once.{Clears, no_call, one_more}
-use Rattle.edge_links.specs.Owners.{Owners, Waits, owned}
-use Rattle.edge_links.specs.PlaceReach.{IsCutOff}
-use Rattle.edge_links.proofs.Counting.{owned_le}
+use Rattle.edge_links.specs.Owners.{Owners, Waits, owned_count}
+use Rattle.edge_links.specs.PlaceReach.{IsEdgeOfAffected}
+use Rattle.edge_links.proofs.OwnedCounts.{owned_le}
 use Rattle.edge_links.proofs.WaitingPlaces.{waiting_set}
 use Rattle.edge_links.proofs.Unsettle.{IsUnsettling, step, begin, all_cut, all_cleared, all_kept, all_once}
 use Rattle.edge_links.proofs.places.Places.unsettle.Goals as goal
-use Rattle.edge_links.specs.Waiting.{waiting_count}
+use Rattle.edge_links.specs.WaitingStack.{waiting_count}
 
 pub loop-place-init : goal.loop-place-init
 loop-place-init g c =
@@ -96,12 +96,12 @@ cut_keys-requires-clause-head g c =
 less : (s0 s t v : Owners) (x : ℕ) → Waits s0 x → s.waits ≡ set s0.waits x false → s.users ≡ s0.users
     → length t.users ≡ length s.users
     → length v.users ≡ length t.users → IsPaid s t → IsPaid t v
-    → waiting_count v.waits + (length v.users - owned 0 v.users)
-    < waiting_count s0.waits + (length s0.users - owned 0 s0.users)
+    → waiting_count v.waits + (length v.users - owned_count 0 v.users)
+    < waiting_count s0.waits + (length s0.users - owned_count 0 s0.users)
 less s0 s t v x q e u l m a b =
     let w : waiting_count s.waits + 1 ≡ waiting_count s0.waits = ap (λ y. waiting_count y + 1) e
     ∙ waiting_set s0.waits x q in
-    let o : owned 0 s.users ≡ owned 0 s0.users = ap (owned 0) u in
+    let o : owned_count 0 s.users ≡ owned_count 0 s0.users = ap (owned_count 0) u in
     let n : length s.users ≡ length s0.users = ap length u in
     let h = owned_le 0 v.users in
     let i = owned_le 0 s0.users in omega arith
@@ -117,12 +117,12 @@ loop-place-smaller g c =
 pub returns-clause-cut : goal.returns-clause-cut
 returns-clause-cut g c =
     let e = c.in_default.ensures.taken in
-    let w : IsParted (IsCutOff c.args.self.now c.args.key) c.args.self.now c.loop-place.self =
+    let w : IsParted (IsEdgeOfAffected c.args.self.now c.args.key) c.args.self.now c.loop-place.self =
     all_cut c.args.self.now c.wait.ensures.was c.args.key (λ x. get_or c.args.self.now.names x 0) c.loop-place.self
     (g.K.Marks.is_marked c.args.marks.now) (g.K.Marks.is_marked c.loop-place.marks)
     (λ nodes. Clears g.K.Marks.is_call nodes c.args.marks.now c.loop-place.marks)
     c.loop-place.invariant.unsettling e.0 in
-    subst (λ (s : Owners). IsParted (IsCutOff c.args.self.now c.args.key) c.args.self.now s) (sym e.1) w
+    subst (λ (s : Owners). IsParted (IsEdgeOfAffected c.args.self.now c.args.key) c.args.self.now s) (sym e.1) w
 
 pub returns-clause-cleared : goal.returns-clause-cleared
 returns-clause-cleared g c x h a =
@@ -145,4 +145,4 @@ returns-clause-once g c =
     (g.K.Marks.is_marked c.args.marks.now) (g.K.Marks.is_marked c.loop-place.marks)
     (λ nodes. Clears g.K.Marks.is_call nodes c.args.marks.now c.loop-place.marks)
     c.loop-place.invariant.unsettling c.in_default.ensures.taken.0 in
-    record { places = r.0; apart = r.1; affected = r.2; calls = r.3 }
+    record { places = r.0; apart = r.1; marks_affected = r.2; calls = r.3 }

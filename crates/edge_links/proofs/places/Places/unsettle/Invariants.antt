@@ -1,9 +1,9 @@
 use Rattle.std.proofs.Common.{◌≡◌, ◌+◌, ◌-◌, length, slice_index}
 use Rattle.edge_links.specs.Once.{Clears}
-use Rattle.edge_links.specs.Owners.{owned}
+use Rattle.edge_links.specs.Owners.{owned_count}
 use Rattle.edge_links.proofs.Unsettle.{IsUnsettling}
 use Rattle.edge_links.proofs.places.Places.unsettle.Given as goal
-use Rattle.edge_links.specs.Waiting.{waiting_count}
+use Rattle.edge_links.specs.WaitingStack.{waiting_count}
 
 abbrev pub invariant-loop-place : goal.invariant-loop-place
 invariant-loop-place g l = record {
@@ -14,4 +14,4 @@ invariant-loop-place g l = record {
 }
 
 abbrev pub decreases-loop-place : goal.decreases-loop-place
-decreases-loop-place g l = waiting_count l.self.waits + (length l.self.users - owned 0 l.self.users)
+decreases-loop-place g l = waiting_count l.self.waits + (length l.self.users - owned_count 0 l.self.users)

@@ -1,7 +1,7 @@
 use Rattle.std.proofs.Common.{◌≡◌, ℕ, ◌+◌, ◌<◌, ◌^◌, Option, Result, Ok, Err, IfOk, OnErr, length, sym, subst}
 use Rattle.edge_links.specs.Columns.{Columns, with_slot}
-use Rattle.edge_links.specs.Linked.{AreLinked}
-use Rattle.edge_links.proofs.Linking.{grown_linked}
+use Rattle.edge_links.specs.RingInvariants.{AreLinked}
+use Rattle.edge_links.proofs.ColumnChanges.{grown_linked}
 use Rattle.edge_links.proofs.rings.Rings.add_head.Goals as goal
 
 -- the places have one more or are unchanged

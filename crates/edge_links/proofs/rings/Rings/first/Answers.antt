@@ -1,10 +1,10 @@
 use Rattle.std.proofs.Common.{◌≡◌, ◌<◌, ℕ, Option, length, get_or, sym, ◌∙◌, subst}
 use Rattle.edge_links.specs.declared.slots.Side.{Side}
 use Rattle.edge_links.specs.Columns.{Columns, ring_of}
-use Rattle.edge_links.specs.Linked.{AreLinked}
+use Rattle.edge_links.specs.RingInvariants.{AreLinked}
 use Rattle.edge_links.specs.Owners.{Owners, owners, owners_of}
-use Rattle.edge_links.proofs.Leaving.{alone}
-use Rattle.edge_links.proofs.Linking.{rings_at}
+use Rattle.edge_links.proofs.RingLeaves.{alone}
+use Rattle.edge_links.proofs.ColumnChanges.{rings_at}
 use Rattle.edge_links.proofs.Moves.{same_owners}
 use Rattle.edge_links.proofs.rings.Rings.first.Goals as goal
 

@@ -2,9 +2,9 @@ use Rattle.std.proofs.Common.{◌≡◌, ℕ, ◌-◌, ◌<◌, List, [], ◌∷
 use Rattle.std.proofs.lemmas.List.{length-append}
 use Rattle.edge_links.specs.Columns.{ring_of}
 use Rattle.edge_links.specs.Rings.{AreMembers}
-use Rattle.edge_links.proofs.Linking.{rings_at}
+use Rattle.edge_links.proofs.ColumnChanges.{rings_at}
 use Rattle.edge_links.proofs.Moves.{same_owners}
-use Rattle.edge_links.proofs.Walking.{IsWalking, walking_start, walking_next, walking_less, walking_end}
+use Rattle.edge_links.proofs.BackwardWalks.{IsWalking, walking_start, walking_next, walking_less, walking_end}
 use Rattle.edge_links.proofs.rings.Rings.members.Goals as goal
 
 pub loop-place-init : goal.loop-place-init

@@ -1,6 +1,6 @@
 use Rattle.std.proofs.Common.{◌-◌, length}
 use Rattle.edge_links.specs.Columns.{ring_of}
-use Rattle.edge_links.proofs.Walking.{IsWalking}
+use Rattle.edge_links.proofs.BackwardWalks.{IsWalking}
 use Rattle.edge_links.proofs.rings.Rings.members.Given as goal
 
 abbrev pub invariant-loop-place : goal.invariant-loop-place

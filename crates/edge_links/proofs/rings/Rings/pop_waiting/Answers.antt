@@ -1,10 +1,10 @@
 use Rattle.std.proofs.Common.{◌≡◌, ◌<◌, length, get_or, set, true, false, refl, sym, ◌∙◌, subst, ap, length-set}
 use Rattle.edge_links.specs.Columns.{Columns}
-use Rattle.edge_links.specs.Linked.{AreLinked}
+use Rattle.edge_links.specs.RingInvariants.{AreLinked}
 use Rattle.edge_links.specs.Owners.{Owners, owners}
 use Rattle.edge_links.specs.Owners as owner
-use Rattle.edge_links.specs.Waiting.{AreWaiting}
-use Rattle.edge_links.proofs.Linking.{rewaiting}
+use Rattle.edge_links.specs.WaitingStack.{AreWaiting}
+use Rattle.edge_links.proofs.ColumnChanges.{rewaiting}
 use Rattle.edge_links.proofs.WaitingPlaces.{popped, nothing, top_there}
 use Rattle.edge_links.proofs.rings.Rings.pop_waiting.Goals as goal
 

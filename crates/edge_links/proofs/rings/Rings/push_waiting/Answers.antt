@@ -1,8 +1,8 @@
 use Rattle.std.proofs.Common.{◌≡◌, ◌<◌, Some, length, get_or, set, true, false, sym, ◌∙◌, subst, ap, length-set}
 use Rattle.edge_links.specs.Columns.{Columns, with_waits}
-use Rattle.edge_links.specs.Linked.{AreLinked}
+use Rattle.edge_links.specs.RingInvariants.{AreLinked}
 use Rattle.edge_links.specs.Owners.{Owners}
-use Rattle.edge_links.proofs.Linking.{rewaiting}
+use Rattle.edge_links.proofs.ColumnChanges.{rewaiting}
 use Rattle.edge_links.proofs.WaitingPlaces.{pushed}
 use Rattle.edge_links.proofs.rings.Rings.push_waiting.Goals as goal
 

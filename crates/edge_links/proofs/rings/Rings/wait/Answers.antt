@@ -1,6 +1,6 @@
 use Rattle.std.proofs.Common.{◌≤◌, ◌+◌, sym, subst}
 use Rattle.edge_links.specs.Owners.{Owners}
-use Rattle.edge_links.specs.Waiting.{waiting_count}
+use Rattle.edge_links.specs.WaitingStack.{waiting_count}
 use Rattle.edge_links.proofs.WaitingPlaces.{waiting_push}
 use Rattle.edge_links.proofs.rings.Rings.wait.Goals as goal
 

@@ -1,6 +1,6 @@
 use Rattle.std.proofs.Common.{◌∙◌, ap}
 use Rattle.edge_links.specs.Columns.{Columns, with_behind}
-use Rattle.edge_links.proofs.Written.{behind_set}
+use Rattle.edge_links.proofs.SlotWrites.{behind_set}
 use Rattle.edge_links.proofs.slots.Slots.set_behind.Goals as goal
 
 pub returns : goal.returns

@@ -1,7 +1,7 @@
 use Rattle.std.proofs.Common.{◌∙◌, sym, ap}
 use Rattle.edge_links.specs.declared.slots.Side.TheVariants.{User, Key}
 use Rattle.edge_links.specs.Columns.{Columns, with_prev}
-use Rattle.edge_links.proofs.Written.{user_prev, key_prev}
+use Rattle.edge_links.proofs.SlotWrites.{user_prev, key_prev}
 use Rattle.edge_links.proofs.slots.Slots.set_prev.Goals as goal
 
 pub returns-in-User : goal.returns-in-User

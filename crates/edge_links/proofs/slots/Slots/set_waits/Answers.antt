@@ -1,6 +1,6 @@
 use Rattle.std.proofs.Common.{◌∙◌, ap}
 use Rattle.edge_links.specs.Columns.{Columns, with_waits}
-use Rattle.edge_links.proofs.Written.{waits_set}
+use Rattle.edge_links.proofs.SlotWrites.{waits_set}
 use Rattle.edge_links.proofs.slots.Slots.set_waits.Goals as goal
 
 pub returns : goal.returns

@@ -1,11 +1,11 @@
 use Rattle.std.proofs.Common.{◌≡◌, ◌∷◌, ◌+◌, ◌-◌, false, length, length-append, sym, ap, subst, ◌∙◌, arith}
 use Rattle.std.specs.Prelude.{map, reverse}
 use Rattle.std.proofs.lemmas.List.{length-map}
-use Rattle.deck_lines.specs.Closed.{IsClosed}
+use Rattle.deck_lines.specs.ClosedBlocks.{AreBlocksClosed}
 use Rattle.deck_lines.specs.Limits.{pass_limit}
-use Rattle.deck_lines.specs.Marks.{unmarked}
+use Rattle.deck_lines.specs.Marks.{line_without_mark}
 use Rattle.deck.specs.Decks.{Contents}
-use Rattle.edit_history.specs.Histories.{Course}
+use Rattle.edit_history.specs.Histories.{UndoStacks}
 use Rattle.edit_history.specs.declared.step.Step.TheVariants.{Exchange}
 use Rattle.edit_history.proofs.Noting.{LeadsBack, appended, appended_behind, course_is, follows_noted}
 use Rattle.edit_history.proofs.history.History.append.Goals as goal
@@ -17,9 +17,11 @@ overflow_sub-cut g c =
     let more = appended_behind _ c.args.name.now old.lines (record { lines = new.lines; notices = new.notices })
     c.in_ok-append.ensures.ends in
     let before : c.len-at.result ≡ length old.lines = c.len-at.ensures ∙ ap length c.lines.ensures.is
-    ∙ ap (λ (d : Contents). length (map unmarked d.lines)) c.deck.ensures.deck ∙ length-map old.lines unmarked in
+    ∙ ap (λ (d : Contents). length (map line_without_mark d.lines)) c.deck.ensures.deck
+    ∙ length-map old.lines line_without_mark in
     let after : c.len.result ≡ length new.lines = c.len.ensures ∙ ap length c.lines-2.ensures.is
-    ∙ ap (λ (d : Contents). length (map unmarked d.lines)) c.deck-2.ensures.deck ∙ length-map new.lines unmarked in
+    ∙ ap (λ (d : Contents). length (map line_without_mark d.lines)) c.deck-2.ensures.deck
+    ∙ length-map new.lines line_without_mark in
     omega (arith, before, after, ap length more.1, length-append old.lines more.0)
 
 pub returns-clause-follows : goal.returns-clause-follows
@@ -29,20 +31,22 @@ returns-clause-follows g c =
     let more = appended_behind _ c.args.name.now old.lines (record { lines = new.lines; notices = new.notices })
     c.in_ok-append.ensures.ends in
     let before : c.len-at.result ≡ length old.lines = c.len-at.ensures ∙ ap length c.lines.ensures.is
-    ∙ ap (λ (d : Contents). length (map unmarked d.lines)) c.deck.ensures.deck ∙ length-map old.lines unmarked in
+    ∙ ap (λ (d : Contents). length (map line_without_mark d.lines)) c.deck.ensures.deck
+    ∙ length-map old.lines line_without_mark in
     let after : c.len.result ≡ length new.lines = c.len.ensures ∙ ap length c.lines-2.ensures.is
-    ∙ ap (λ (d : Contents). length (map unmarked d.lines)) c.deck-2.ensures.deck ∙ length-map new.lines unmarked in
+    ∙ ap (λ (d : Contents). length (map line_without_mark d.lines)) c.deck-2.ensures.deck
+    ∙ length-map new.lines line_without_mark in
     let cut : c.len-at.result + (c.len.result - c.len-at.result) ≡ length new.lines =
     omega (arith, before, after, ap length more.1, length-append old.lines more.0) in
     let s = Exchange c.replace.new.self in
     let back = subst (λ t. LeadsBack t old new) (sym (ap Exchange c.replace.ensures.after))
     (appended c.len-at.result (c.len.result - c.len-at.result) c.new-put.result more.0 old new more.1
     c.append.ensures.settings before cut c.new-put.ensures
-    (subst (λ (d : Contents). IsClosed d.lines) c.deck.ensures.deck c.lines.ensures.closed)
+    (subst (λ (d : Contents). AreBlocksClosed d.lines) c.deck.ensures.deck c.lines.ensures.closed)
     (subst (λ (d : Contents). pass_limit d.lines ≡ false) c.deck.ensures.deck c.lines.ensures.within)) in
     let is = course_is s (reverse c.put.new.steps.items) c.clear.new.self.items c.args.self.now.done
     (c.put.ensures ∙ ap (λ xs. s ∷ reverse xs) c.make_room.ensures.items
-    ∙ ap (λ (h : Course). s ∷ h.done) c.self.view_is)
+    ∙ ap (λ (h : UndoStacks). s ∷ h.done) c.self.view_is)
     c.clear.ensures.items in
     follows_noted s c.args.self.now _ old new is back.can back.again c.requires
 
@@ -53,19 +57,21 @@ returns-clause-noted g c =
     let more = appended_behind _ c.args.name.now old.lines (record { lines = new.lines; notices = new.notices })
     c.in_ok-append.ensures.ends in
     let before : c.len-at.result ≡ length old.lines = c.len-at.ensures ∙ ap length c.lines.ensures.is
-    ∙ ap (λ (d : Contents). length (map unmarked d.lines)) c.deck.ensures.deck ∙ length-map old.lines unmarked in
+    ∙ ap (λ (d : Contents). length (map line_without_mark d.lines)) c.deck.ensures.deck
+    ∙ length-map old.lines line_without_mark in
     let after : c.len.result ≡ length new.lines = c.len.ensures ∙ ap length c.lines-2.ensures.is
-    ∙ ap (λ (d : Contents). length (map unmarked d.lines)) c.deck-2.ensures.deck ∙ length-map new.lines unmarked in
+    ∙ ap (λ (d : Contents). length (map line_without_mark d.lines)) c.deck-2.ensures.deck
+    ∙ length-map new.lines line_without_mark in
     let cut : c.len-at.result + (c.len.result - c.len-at.result) ≡ length new.lines =
     omega (arith, before, after, ap length more.1, length-append old.lines more.0) in
     let s = Exchange c.replace.new.self in
     let back = subst (λ t. LeadsBack t old new) (sym (ap Exchange c.replace.ensures.after))
     (appended c.len-at.result (c.len.result - c.len-at.result) c.new-put.result more.0 old new more.1
     c.append.ensures.settings before cut c.new-put.ensures
-    (subst (λ (d : Contents). IsClosed d.lines) c.deck.ensures.deck c.lines.ensures.closed)
+    (subst (λ (d : Contents). AreBlocksClosed d.lines) c.deck.ensures.deck c.lines.ensures.closed)
     (subst (λ (d : Contents). pass_limit d.lines ≡ false) c.deck.ensures.deck c.lines.ensures.within)) in
     let is = course_is s (reverse c.put.new.steps.items) c.clear.new.self.items c.args.self.now.done
     (c.put.ensures ∙ ap (λ xs. s ∷ reverse xs) c.make_room.ensures.items
-    ∙ ap (λ (h : Course). s ∷ h.done) c.self.view_is)
+    ∙ ap (λ (h : UndoStacks). s ∷ h.done) c.self.view_is)
     c.clear.ensures.items in
     (s, is, back.again)

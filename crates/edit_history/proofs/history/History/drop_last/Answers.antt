@@ -1,11 +1,11 @@
 use Rattle.std.proofs.Common.{◌≡◌, ◌∷◌, ◌<◌, false, length, Some, sym, ap, subst, ◌∙◌, arith}
 use Rattle.std.specs.Prelude.{reverse}
-use Rattle.deck_lines.specs.Closed.{IsClosed}
+use Rattle.deck_lines.specs.ClosedBlocks.{AreBlocksClosed}
 use Rattle.deck_lines.specs.Limits.{pass_limit}
 use Rattle.deck.specs.Decks.{Contents}
 use Rattle.deck.specs.Splices.{lines_from}
 use Rattle.deck.specs.Tables.{last_place}
-use Rattle.edit_history.specs.Histories.{Course}
+use Rattle.edit_history.specs.Histories.{UndoStacks}
 use Rattle.edit_history.specs.declared.step.Step.TheVariants.{Exchange}
 use Rattle.edit_history.proofs.Noting.{LeadsBack, course_is, dropped, follows_noted}
 use Rattle.edit_history.proofs.Placed.{last_within}
@@ -33,11 +33,11 @@ returns-clause-follows c =
     c.drop_last.new.self.deck last
     c.in_ok-drop_last.ensures.0
     (c.in_ok-put.ensures ∙ ap (λ (d : Contents). lines_from c.in-Some.at 1 d.lines) c.deck-3.ensures.deck)
-    (subst (λ (d : Contents). IsClosed d.lines) c.deck.ensures.deck c.lines_closed.ensures.closed)
+    (subst (λ (d : Contents). AreBlocksClosed d.lines) c.deck.ensures.deck c.lines_closed.ensures.closed)
     (subst (λ (d : Contents). pass_limit d.lines ≡ false) c.deck.ensures.deck c.lines_closed.ensures.within)) in
     let is = course_is s (reverse c.put.new.steps.items) c.clear.new.self.items c.args.self.now.done
     (c.put.ensures ∙ ap (λ xs. s ∷ reverse xs) c.make_room.ensures.items
-    ∙ ap (λ (h : Course). s ∷ h.done) c.self.view_is) c.clear.ensures.items in
+    ∙ ap (λ (h : UndoStacks). s ∷ h.done) c.self.view_is) c.clear.ensures.items in
     follows_noted s c.args.self.now _ c.args.table.now.deck c.drop_last.new.self.deck is back.can back.again c.requires
 
 pub returns-clause-noted : goal.returns-clause-noted
@@ -53,9 +53,9 @@ returns-clause-noted c =
     c.drop_last.new.self.deck last
     c.in_ok-drop_last.ensures.0
     (c.in_ok-put.ensures ∙ ap (λ (d : Contents). lines_from c.in-Some.at 1 d.lines) c.deck-3.ensures.deck)
-    (subst (λ (d : Contents). IsClosed d.lines) c.deck.ensures.deck c.lines_closed.ensures.closed)
+    (subst (λ (d : Contents). AreBlocksClosed d.lines) c.deck.ensures.deck c.lines_closed.ensures.closed)
     (subst (λ (d : Contents). pass_limit d.lines ≡ false) c.deck.ensures.deck c.lines_closed.ensures.within)) in
     let is = course_is s (reverse c.put.new.steps.items) c.clear.new.self.items c.args.self.now.done
     (c.put.ensures ∙ ap (λ xs. s ∷ reverse xs) c.make_room.ensures.items
-    ∙ ap (λ (h : Course). s ∷ h.done) c.self.view_is) c.clear.ensures.items in
+    ∙ ap (λ (h : UndoStacks). s ∷ h.done) c.self.view_is) c.clear.ensures.items in
     (s, is, back.again)

@@ -1,12 +1,12 @@
 use Rattle.std.proofs.Common.{◌≡◌, ◌∷◌, false, ap, subst, ◌∙◌}
 use Rattle.std.specs.Prelude.{reverse}
-use Rattle.deck_lines.specs.Closed.{IsClosed}
+use Rattle.deck_lines.specs.ClosedBlocks.{AreBlocksClosed}
 use Rattle.deck_lines.specs.Limits.{pass_limit}
 use Rattle.deck.specs.Decks.{Contents}
 use Rattle.deck.specs.SettingChanges as changes
 use Rattle.deck.specs.declared.settings.Settings.{Settings}
-use Rattle.edit_history.specs.Histories.{Course}
-use Rattle.edit_history.specs.Making.{PutsSettings}
+use Rattle.edit_history.specs.Histories.{UndoStacks}
+use Rattle.edit_history.specs.StepEffects.{PutsSettings}
 use Rattle.edit_history.proofs.Noting.{course_is, follows_noted}
 use Rattle.edit_history.proofs.OneSetting.{leads_back}
 use Rattle.edit_history.proofs.history.History.set.Goals as goal
@@ -23,11 +23,11 @@ returns-clause-follows c =
     (subst (λ (t : Settings). PutsSettings s (changes.with_variable t c.args.name.now c.args.value.now) t)
     c.settings.ensures c.in_ok-back.ensures) in
     let leads = leads_back s settings old new c.in_ok-set.ensures.0 puts
-    (subst (λ (d : Contents). IsClosed d.lines) c.deck.ensures.deck c.lines_closed.ensures.closed)
+    (subst (λ (d : Contents). AreBlocksClosed d.lines) c.deck.ensures.deck c.lines_closed.ensures.closed)
     (subst (λ (d : Contents). pass_limit d.lines ≡ false) c.deck.ensures.deck c.lines_closed.ensures.within) in
     let is = course_is s (reverse c.put.new.steps.items) c.clear.new.self.items c.args.self.now.done
     (c.put.ensures ∙ ap (λ xs. s ∷ reverse xs) c.make_room.ensures.items
-    ∙ ap (λ (h : Course). s ∷ h.done) c.self.view_is) c.clear.ensures.items in
+    ∙ ap (λ (h : UndoStacks). s ∷ h.done) c.self.view_is) c.clear.ensures.items in
     follows_noted s c.args.self.now _ old new is leads.can leads.again c.requires
 
 pub returns-clause-noted : goal.returns-clause-noted
@@ -42,9 +42,9 @@ returns-clause-noted c =
     (subst (λ (t : Settings). PutsSettings s (changes.with_variable t c.args.name.now c.args.value.now) t)
     c.settings.ensures c.in_ok-back.ensures) in
     let leads = leads_back s settings old new c.in_ok-set.ensures.0 puts
-    (subst (λ (d : Contents). IsClosed d.lines) c.deck.ensures.deck c.lines_closed.ensures.closed)
+    (subst (λ (d : Contents). AreBlocksClosed d.lines) c.deck.ensures.deck c.lines_closed.ensures.closed)
     (subst (λ (d : Contents). pass_limit d.lines ≡ false) c.deck.ensures.deck c.lines_closed.ensures.within) in
     let is = course_is s (reverse c.put.new.steps.items) c.clear.new.self.items c.args.self.now.done
     (c.put.ensures ∙ ap (λ xs. s ∷ reverse xs) c.make_room.ensures.items
-    ∙ ap (λ (h : Course). s ∷ h.done) c.self.view_is) c.clear.ensures.items in
+    ∙ ap (λ (h : UndoStacks). s ∷ h.done) c.self.view_is) c.clear.ensures.items in
     (s, is, leads.again)

@@ -1,9 +1,9 @@
 use Rattle.std.proofs.Common.{◌≡◌, ◌∷◌, false, sym, ap, subst, ◌∙◌}
 use Rattle.std.specs.Prelude.{reverse}
-use Rattle.deck_lines.specs.Closed.{IsClosed}
+use Rattle.deck_lines.specs.ClosedBlocks.{AreBlocksClosed}
 use Rattle.deck_lines.specs.Limits.{pass_limit}
 use Rattle.deck.specs.Decks.{Contents}
-use Rattle.edit_history.specs.Histories.{Course}
+use Rattle.edit_history.specs.Histories.{UndoStacks}
 use Rattle.edit_history.specs.declared.step.Step.TheVariants.{Switch}
 use Rattle.edit_history.proofs.Noting.{LeadsBack, course_is, follows_noted}
 use Rattle.edit_history.proofs.Switched.{switched}
@@ -16,11 +16,11 @@ returns-clause-follows c =
     (sym (ap Switch c.replace.ensures.after))
     (switched c.in-Ok.back c.args.settings c.args.table.now.deck c.switch_settings.new.table.deck
     c.in-Ok.ensures.0 c.in-Ok.ensures.1 c.in-Ok.ensures.2
-    (subst (λ (d : Contents). IsClosed d.lines) c.deck.ensures.deck c.lines_closed.ensures.closed)
+    (subst (λ (d : Contents). AreBlocksClosed d.lines) c.deck.ensures.deck c.lines_closed.ensures.closed)
     (subst (λ (d : Contents). pass_limit d.lines ≡ false) c.deck.ensures.deck c.lines_closed.ensures.within)) in
     let is = course_is s (reverse c.put.new.steps.items) c.clear.new.self.items c.args.self.now.done
     (c.put.ensures ∙ ap (λ xs. s ∷ reverse xs) c.make_room.ensures.items
-    ∙ ap (λ (h : Course). s ∷ h.done) c.self.view_is)
+    ∙ ap (λ (h : UndoStacks). s ∷ h.done) c.self.view_is)
     c.clear.ensures.items in
     follows_noted s c.args.self.now _ c.args.table.now.deck c.switch_settings.new.table.deck is back.can back.again
     c.requires
@@ -32,10 +32,10 @@ returns-clause-noted c =
     (sym (ap Switch c.replace.ensures.after))
     (switched c.in-Ok.back c.args.settings c.args.table.now.deck c.switch_settings.new.table.deck
     c.in-Ok.ensures.0 c.in-Ok.ensures.1 c.in-Ok.ensures.2
-    (subst (λ (d : Contents). IsClosed d.lines) c.deck.ensures.deck c.lines_closed.ensures.closed)
+    (subst (λ (d : Contents). AreBlocksClosed d.lines) c.deck.ensures.deck c.lines_closed.ensures.closed)
     (subst (λ (d : Contents). pass_limit d.lines ≡ false) c.deck.ensures.deck c.lines_closed.ensures.within)) in
     let is = course_is s (reverse c.put.new.steps.items) c.clear.new.self.items c.args.self.now.done
     (c.put.ensures ∙ ap (λ xs. s ∷ reverse xs) c.make_room.ensures.items
-    ∙ ap (λ (h : Course). s ∷ h.done) c.self.view_is)
+    ∙ ap (λ (h : UndoStacks). s ∷ h.done) c.self.view_is)
     c.clear.ensures.items in
     (s, is, back.again)

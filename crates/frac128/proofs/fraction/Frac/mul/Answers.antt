@@ -1,6 +1,6 @@
 use Rattle.std.proofs.Common.{◌≡◌, sym, ap, ◌∙◌}
-use Rattle.frac128.specs.Sign.{signed, signs_differ}
-use Rattle.frac128.specs.Steps.{fitting}
+use Rattle.frac128.specs.Sign.{number_with_sign, signs_differ}
+use Rattle.frac128.specs.Steps.{fit_or_overflow}
 use Rattle.frac128.proofs.Lowest.{lowest_gcd, lowest_some}
 use Rattle.frac128.proofs.Signs.{times_is, times_wide}
 use Rattle.std.proofs.Math.Nat.{mul-pos}
@@ -12,12 +12,12 @@ lowest_product-requires-clause-lowest_ab c = rw c.bottom.ensures.is c.top.ensure
 pub lowest_product-requires-clause-lowest_cd : goal.lowest_product-requires-clause-lowest_cd
 lowest_product-requires-clause-lowest_cd c = rw c.bottom-2.ensures.is c.top-2.ensures.lowest
 
-pub fitting-requires-clause-some : goal.fitting-requires-clause-some
-fitting-requires-clause-some c =
+pub of_lowest_terms-requires-clause-some : goal.of_lowest_terms-requires-clause-some
+of_lowest_terms-requires-clause-some c =
     lowest_some _ _ _ _ (mul-pos c.bottom.ensures.some c.bottom-2.ensures.some) c.in-Some.ensures.found
 
-pub fitting-requires-clause-lowest : goal.fitting-requires-clause-lowest
-fitting-requires-clause-lowest c =
+pub of_lowest_terms-requires-clause-lowest : goal.of_lowest_terms-requires-clause-lowest
+of_lowest_terms-requires-clause-lowest c =
     lowest_gcd _ _ _ _ (mul-pos c.bottom.ensures.some c.bottom-2.ensures.some) c.in-Some.ensures.found
 
 pub returns-in-Some : goal.returns-in-Some
@@ -26,8 +26,8 @@ returns-in-Some c =
     c.in-Some.ensures.found in
     let signs : c.differ-negative.result ≡ signs_differ c.args.self.now.num c.args.other.now.num =
     rw (← c.is_negative.ensures, ← c.is_negative-2.ensures) c.differ-negative.ensures in
-    c.fitting.ensures
-    ∙ ap (λ s. fitting (record { num = signed s c.in-Some.top; den = c.in-Some.bottom })) signs
+    c.of_lowest_terms.ensures
+    ∙ ap (λ s. fit_or_overflow (record { num = number_with_sign s c.in-Some.top; den = c.in-Some.bottom })) signs
     ∙ sym (times_is c.args.self.now c.args.other.now c.in-Some.top c.in-Some.bottom
     (rw (← c.bottom.ensures.is) c.bottom.ensures.some) (rw (← c.bottom-2.ensures.is) c.bottom-2.ensures.some) low)
 

@@ -5,11 +5,12 @@ use Rattle.std.proofs.lemmas.Nat.Gcd.{IsGcd-swap}
 use Rattle.frac128.proofs.Powers.{IsMade, power_at, power_below}
 use Rattle.frac128.proofs.fraction.Frac.pow.Goals as goal
 
-pub raised-requires-clause-lowest : goal.raised-requires-clause-lowest
-raised-requires-clause-lowest c = rw c.bottom-bottom.ensures.is c.top-top.ensures.lowest
+pub raise_parts-requires-clause-lowest : goal.raise_parts-requires-clause-lowest
+raise_parts-requires-clause-lowest c = rw c.bottom-bottom.ensures.is c.top-top.ensures.lowest
 
-pub raised-requires-else-top-eq0-clause-lowest : goal.raised-requires-else-top-eq0-clause-lowest
-raised-requires-else-top-eq0-clause-lowest c = IsGcd-swap _ _ _ (rw c.bottom-bottom.ensures.is c.top-top.ensures.lowest)
+pub raise_parts-requires-else-top-eq0-clause-lowest : goal.raise_parts-requires-else-top-eq0-clause-lowest
+raise_parts-requires-else-top-eq0-clause-lowest c =
+    IsGcd-swap _ _ _ (rw c.bottom-bottom.ensures.is c.top-top.ensures.lowest)
 
 pub returns-then-k-ge0 : goal.returns-then-k-ge0
 returns-then-k-ge0 c =
@@ -21,7 +22,7 @@ returns-then-k-ge0 c =
       some = c.bottom-bottom.ensures.some;
       lowest = c.top-top.ensures.lowest;
     } in
-    c.raised.ensures
+    c.raise_parts.ensures
     ∙ power_at _ _ _ _ _ _ made (simp to_z-of_z at c.unsigned_abs-times.ensures.value)
     (simp to_z-of_z at c.if-k-ge0.true)
 
@@ -36,6 +37,6 @@ returns-else-top-eq0 c =
       some = c.bottom-bottom.ensures.some;
       lowest = c.top-top.ensures.lowest;
     } in
-    c.raised-else-top-eq0.ensures
+    c.raise_parts-else-top-eq0.ensures
     ∙ power_below _ _ _ _ _ _ made (simp to_z-of_z at c.unsigned_abs-times.ensures.value)
     (simp to_z-of_z at c.if-k-ge0.false) (omega arith)

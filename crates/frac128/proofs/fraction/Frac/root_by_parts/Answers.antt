@@ -9,11 +9,11 @@ use Rattle.frac128.proofs.fraction.Frac.root_by_parts.Goals as goal
 differs : true ≡ false → ⊥
 differs e = cc
 
-pub fitting-requires-clause-some : goal.fitting-requires-clause-some
-fitting-requires-clause-some c = root_some _ _ _ c.requires c.in-Some-Some.ensures' c.bottom.ensures.some
+pub of_lowest_terms-requires-clause-some : goal.of_lowest_terms-requires-clause-some
+of_lowest_terms-requires-clause-some c = root_some _ _ _ c.requires c.in-Some-Some.ensures' c.bottom.ensures.some
 
-pub fitting-requires-clause-lowest : goal.fitting-requires-clause-lowest
-fitting-requires-clause-lowest c =
+pub of_lowest_terms-requires-clause-lowest : goal.of_lowest_terms-requires-clause-lowest
+of_lowest_terms-requires-clause-lowest c =
     root_lowest _ _ _ _ _ c.requires c.in-Some-Some.ensures c.in-Some-Some.ensures'
     (rw c.bottom.ensures.is c.top.ensures.lowest)
 
@@ -30,6 +30,6 @@ returns-in-Some-Some c =
       | else-negative-via-then-negative+else-q-eq0 w ↦ λ e h. w.if-q-eq0.false h
       | else-negative-via-else-negative w ↦ λ e h. differs (sym e ∙ w.if-negative.false)
     ] in
-    subst (IsRootAnswer c.args.self.now c.args.q) (sym c.fitting.ensures)
+    subst (IsRootAnswer c.args.self.now c.args.q) (sym c.of_lowest_terms.ensures)
     (root_made _ _ _ _ _ _ _ made c.requires c.in-Some-Some.ensures c.in-Some-Some.ensures' c.top.ensures.fits
     c.bottom.ensures.fits odd)

@@ -3,7 +3,7 @@ use Rattle.std.proofs.Common.{arith, sym, ap, ◌∙◌}
 use mir.Syntax.{w128}
 use Rattle.std.proofs.lemmas.Int.{ints, to_z-of_z}
 use Rattle.frac128.specs.Fraction.{most}
-use Rattle.frac128.specs.Sign.{signed}
+use Rattle.frac128.specs.Sign.{number_with_sign}
 use Rattle.frac128.specs.Steps.{ratio}
 use Rattle.frac128.specs.Sums.{sum_over}
 use Rattle.frac128.proofs.Signs.{signed_is}
@@ -19,10 +19,10 @@ not_least (negsuc n) fits other = let h = fits.sfits in omega arith
 ratio_over : (sum m : ℤ) (top bottom : ℕ) → top ≡ unsigned_abs sum → bottom ≡ unsigned_abs m → pos 0 <ℤ m
     → unsigned_abs m ≤ most
     → unsigned_abs sum ≤ most
-    → ratio (signed (int_lt sum (pos 0)) top) (pos bottom) ≡ sum_over (unsigned_abs m) sum
+    → ratio (number_with_sign (int_lt sum (pos 0)) top) (pos bottom) ≡ sum_over (unsigned_abs m) sum
 ratio_over sum (pos m) top bottom p q some low h =
-    ap (λ k. ratio (signed (int_lt sum (pos 0)) k) (pos bottom)) p
-    ∙ ap (λ k. ratio (signed (int_lt sum (pos 0)) (unsigned_abs sum)) (pos k)) q
+    ap (λ k. ratio (number_with_sign (int_lt sum (pos 0)) k) (pos bottom)) p
+    ∙ ap (λ k. ratio (number_with_sign (int_lt sum (pos 0)) (unsigned_abs sum)) (pos k)) q
     ∙ ap (λ z. ratio z (pos m)) (sym (signed_is sum))
     ∙ sum_over-ratio m sum (omega (arith, ints)) low h
 ratio_over sum (negsuc m) top bottom p q some low h = absurd (omega (arith, ints))
@@ -32,13 +32,13 @@ some_abs : (m : ℤ) (n : ℕ) → pos 0 <ℤ m → n ≡ unsigned_abs m → 0 <
 some_abs (pos m) n some e = omega (arith, ints)
 some_abs (negsuc m) n some e = absurd (omega (arith, ints))
 
-pub lowered-requires-clause-some : goal.lowered-requires-clause-some
-lowered-requires-clause-some c =
+pub reduce_by-requires-clause-some : goal.reduce_by-requires-clause-some
+reduce_by-requires-clause-some c =
     let fits_multiple : SFits w128 c.args.multiple = c.ranges.multiple in
     some_abs _ _ c.requires.some (simp to_z-of_z at c.unsigned_abs-bottom.ensures.value)
 
-pub lowered-requires-clause-divisor : goal.lowered-requires-clause-divisor
-lowered-requires-clause-divisor c =
+pub reduce_by-requires-clause-divisor : goal.reduce_by-requires-clause-divisor
+reduce_by-requires-clause-divisor c =
     let fits_left : SFits w128 c.args.left = c.ranges.left in
     let fits_right : SFits w128 c.args.right = c.ranges.right in
     let fits_multiple : SFits w128 c.args.multiple = c.ranges.multiple in
@@ -58,8 +58,9 @@ returns-in-Some c =
     let top = simp to_z-of_z at c.unsigned_abs-top.ensures.value in
     let bottom = simp to_z-of_z at c.unsigned_abs-bottom.ensures.value in
     let back : to_z w128 (of_z w128 c.in-Some.sum) ≡ c.in-Some.sum = simp to_z-of_z in
-    c.lowered.ensures
-    ∙ ap (λ z. ratio (signed (int_lt z (pos 0)) c.unsigned_abs-top.result) (pos c.unsigned_abs-bottom.result)) back
+    c.reduce_by.ensures
+    ∙ ap (λ z. ratio (number_with_sign (int_lt z (pos 0)) c.unsigned_abs-top.result) (pos c.unsigned_abs-bottom.result))
+    back
     ∙ ratio_over c.in-Some.sum c.args.multiple _ _ top bottom c.requires.some c.requires.multiple
     (not_least _ fits_sum c.if-sum.true)
     ∙ ap (sum_over (unsigned_abs c.args.multiple)) facts.1

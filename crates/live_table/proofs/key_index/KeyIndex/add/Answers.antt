@@ -3,7 +3,7 @@ use Rattle.std.specs.Prelude.{IfOk, OnErr}
 use Rattle.std.specs.List.{slice_get}
 use Rattle.def_entry.specs.Keys.{key}
 use Rattle.def_entry.specs.declared.key.Key.{Key}
-use Rattle.live_table.specs.Indexed.{IsAdded}
+use Rattle.live_table.specs.KeyIndex.{IsAdded}
 use Rattle.live_table.proofs.key_index.KeyIndex.add.Goals as goal
 
 pub returns-in-Some-clause-ok : goal.returns-in-Some-clause-ok

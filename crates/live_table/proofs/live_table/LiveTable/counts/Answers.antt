@@ -1,10 +1,10 @@
 use Rattle.std.proofs.Common.{◌≤◌, ◌+◌, length, ◌∙◌, ap, arith}
 use Rattle.std.specs.FinMap as map_of
 use Rattle.deck.specs.Tables.{table}
-use Rattle.live_table.specs.Calls.{names_in}
-use Rattle.live_table.specs.Shown.{Shown}
-use Rattle.live_table.specs.Stored.{listed}
-use Rattle.live_table.proofs.Counted.{kept_counted, names_counted, names_within}
+use Rattle.live_table.specs.Calls.{present_names}
+use Rattle.live_table.specs.TableView.{Shown}
+use Rattle.live_table.specs.TableContents.{node_lists}
+use Rattle.live_table.proofs.NameCounts.{kept_counted, names_counted, names_within}
 use Rattle.live_table.proofs.live_table.LiveTable.counts.Goals as goal
 
 pub overflow_add-result : goal.overflow_add-result
@@ -36,7 +36,7 @@ overflow_add-result-2 c =
 pub returns-clause-settled : goal.returns-clause-settled
 returns-clause-settled c =
     c.self.invariant.0.sound.numbers.counted
-    ∙ (kept_counted (table c.self.inside.deck) (listed c.self.inside.nodes) c.self.invariant.0.sound.numbers
+    ∙ (kept_counted (table c.self.inside.deck) (node_lists c.self.inside.nodes) c.self.invariant.0.sound.numbers
     ∙ ap (λ (s : Shown). map_of.len s.kept) c.self.view_is)
 
 pub returns-clause-names : goal.returns-clause-names
@@ -49,4 +49,4 @@ returns-clause-names c =
           c.key_count-functions.ensures;
     })
     c.table_keys_are_whole.ensures
-    ∙ ap (λ (s : Shown). length (names_in (table s.deck))) c.self.view_is
+    ∙ ap (λ (s : Shown). length (present_names (table s.deck))) c.self.view_is

@@ -1,5 +1,5 @@
 use Rattle.std.proofs.Common.{subst}
-use Rattle.live_table.specs.Shown.{IsRightTable}
+use Rattle.live_table.specs.TableView.{IsRightTable}
 use Rattle.live_table.proofs.live_table.LiveTable.deck.Goals as goal
 
 pub returns-clause-right : goal.returns-clause-right

@@ -4,7 +4,7 @@ use Rattle.std.specs.declared.alloc.AllocError.{AllocError}
 use Rattle.std.proofs.lemmas.Result.{err_from_is_err_and}
 use Rattle.deck.specs.Tables.{table}
 use Rattle.live_table.specs.Calls.{AreQueries, all_names}
-use Rattle.live_table.specs.Shown.{IsRightTable}
+use Rattle.live_table.specs.TableView.{IsRightTable}
 use Rattle.live_table.proofs.NameQueries.{cut_at_once}
 use Rattle.live_table.proofs.live_table.LiveTable.settle_all.Goals as goal
 

@@ -6,7 +6,7 @@ use Rattle.std.proofs.lemmas.Result.{err_from_is_err_and}
 use Rattle.def_entry.specs.Tables.{is_present}
 use Rattle.deck.specs.Decks.{Contents}
 use Rattle.deck.specs.Tables.{table}
-use Rattle.live_table.specs.Calls.{AreQueries, queries_of}
+use Rattle.live_table.specs.Calls.{AreQueries, key_queries}
 use Rattle.live_table.proofs.NameQueries.{asking_cut, asking_next, is_here}
 use Rattle.live_table.proofs.live_table.LiveTable.settle_keys.Goals as goal
 
@@ -28,7 +28,7 @@ loop-key-preserved g c =
 pub returns-in_err-settle_key-clause-after : goal.returns-in_err-settle_key-clause-after
 returns-in_err-settle_key-clause-after g c =
     let p = err_from_is_err_and c.from_residual.result c.from_residual.ensures.1 in
-    subst (λ (r : Result (Unit {0}) AllocError). AreQueries (queries_of c.args.keys.now) r c.args.self.now
+    subst (λ (r : Result (Unit {0}) AllocError). AreQueries (key_queries c.args.keys.now) r c.args.self.now
     c.settle_key.new.self c.args.steps.now c.settle_key.new.steps) (sym p.1)
     (asking_cut c.args.keys.now c.loop-key.key-index c.args.self.now c.loop-key.self c.args.steps.now c.loop-key.steps
     c.loop-key.invariant c.key-item.result

@@ -1,19 +1,19 @@
 use Rattle.std.specs.Prelude.{Ok}
 use Rattle.deck.specs.Edits as deck_edit
-use Rattle.live_table.specs.Stored.{listed, shown}
-use Rattle.live_table.proofs.Edited.{live_as, live_can, same_edit, same_outcome}
+use Rattle.live_table.specs.TableContents.{node_lists, shown_table}
+use Rattle.live_table.proofs.NodeEdits.{live_as, live_can, same_edit, same_outcome}
 use Rattle.live_table.proofs.live_table.LiveTable.switch.Goals as goal
 
 pub forget_changed-requires-clause-can : goal.forget_changed-requires-clause-can
 forget_changed-requires-clause-can c =
-    live_can c.self.inside.deck (listed c.self.inside.nodes) c.link_waiting.new.edges c.self.inside.reductions
-    (live_as c.self.inside.deck (listed c.self.inside.nodes) c.self.inside.edges c.link_waiting.new.edges
+    live_can c.self.inside.deck (node_lists c.self.inside.nodes) c.link_waiting.new.edges c.self.inside.reductions
+    (live_as c.self.inside.deck (node_lists c.self.inside.nodes) c.self.inside.edges c.link_waiting.new.edges
     c.self.inside.reductions c.self.invariant.0 c.link_waiting.ensures.edges)
 
 pub invariant_of-self-2 : goal.invariant_of-self-2
 invariant_of-self-2 c = (
   c.forget_changed.ensures.live c.self.inside.deck c.self.inside.reductions
-      (live_as c.self.inside.deck (listed c.self.inside.nodes) c.self.inside.edges c.link_waiting.new.edges
+      (live_as c.self.inside.deck (node_lists c.self.inside.nodes) c.self.inside.edges c.link_waiting.new.edges
       c.self.inside.reductions c.self.invariant.0 c.link_waiting.ensures.edges)
       c.in_ok-keys.ensures.1,
   (c.forget_changed.ensures.explored, c.forget_changed.ensures.faults),
@@ -22,12 +22,13 @@ invariant_of-self-2 c = (
 pub returns : goal.returns
 returns c = (
   same_outcome (λ d. Ok (deck_edit.after_switch c.args.settings d)) c.self.inside.deck c.switch.new.self
-      (listed c.self.inside.nodes)
+      (node_lists c.self.inside.nodes)
       c.self.inside.reductions c.args.self.now c.self.view_is c.in_ok-keys.ensures.0,
-  same_edit c.args.self.now (shown c.switch.new.self (listed c.forget_changed.new.nodes) c.self.inside.reductions)
-      c.self.inside.deck (listed c.self.inside.nodes) c.self.inside.reductions c.self.view_is
+  same_edit c.args.self.now
+      (shown_table c.switch.new.self (node_lists c.forget_changed.new.nodes) c.self.inside.reductions)
+      c.self.inside.deck (node_lists c.self.inside.nodes) c.self.inside.reductions c.self.view_is
       (c.forget_changed.ensures.edit c.self.inside.deck c.self.inside.reductions
-      (live_as c.self.inside.deck (listed c.self.inside.nodes) c.self.inside.edges c.link_waiting.new.edges
+      (live_as c.self.inside.deck (node_lists c.self.inside.nodes) c.self.inside.edges c.link_waiting.new.edges
       c.self.inside.reductions c.self.invariant.0 c.link_waiting.ensures.edges)
       c.in_ok-keys.ensures.1),
 )

@@ -9,14 +9,14 @@ use Rattle.table_names.specs.Meanings.{key_meaning}
 use Rattle.live_table.specs.declared.fault.QueryFault.{QueryFault}
 use Rattle.live_table.specs.declared.stop.Stop.{Stop}
 use Rattle.live_table.specs.Answers as spec
-use Rattle.live_table.specs.Asked.{IsKeyAsked, IsSettledKey}
+use Rattle.live_table.specs.QueryEffects.{IsKeyAsked, IsSettledKey}
 use Rattle.live_table.specs.Calls.{IsQuery}
-use Rattle.live_table.specs.Shown.{Follows, Shown}
+use Rattle.live_table.specs.TableView.{IsAfterEvents, Shown}
 use Rattle.live_table.specs.States.{AsksKey}
-use Rattle.live_table.specs.Stops.{IsNamed}
-use Rattle.live_table.specs.Stored.{listed, shown}
-use Rattle.live_table.proofs.Answering.{worth_answer}
-use Rattle.live_table.proofs.Following.{query_answer}
+use Rattle.live_table.specs.Stops.{IsStopFault}
+use Rattle.live_table.specs.TableContents.{node_lists, shown_table}
+use Rattle.live_table.proofs.QueryAnswers.{worth_answer}
+use Rattle.live_table.proofs.QuerySequence.{query_answer}
 use Rattle.live_table.proofs.StopAnswers.{answered_err, answered_ok, named_answer, named_query}
 use Rattle.live_table.proofs.live_table.LiveTable.unapply.Goals as goal
 use Rattle.live_table.proofs.live_table.LiveTable.unapply.Goals.{After-ask_key-answer}
@@ -30,23 +30,23 @@ abbrev key : (g : _) → After-ask_key-answer g → Key
 key g c = key_named kind.Func c.args.name.now
 
 abbrev before : (g : _) → After-ask_key-answer g → Shown
-before g c = shown c.self.inside.deck (listed c.self.inside.nodes) c.self.inside.reductions
+before g c = shown_table c.self.inside.deck (node_lists c.self.inside.nodes) c.self.inside.reductions
 
 abbrev now : (g : _) → After-ask_key-answer g → Shown
-now g c = shown c.self.inside.deck (listed c.ask_key-answer.new.nodes) c.ask_key-answer.new.reductions
+now g c = shown_table c.self.inside.deck (node_lists c.ask_key-answer.new.nodes) c.ask_key-answer.new.reductions
 
 abbrev Holds : (g : _) → After-ask_key-answer g → Result ℕ QueryFault → Type 0
 Holds g c answer =
-    IsKeyAsked (key g c) (listed c.ask_key-answer.new.nodes) answer (before g c) (now g c) c.args.steps.now
+    IsKeyAsked (key g c) (node_lists c.ask_key-answer.new.nodes) answer (before g c) (now g c) c.args.steps.now
     c.ask_key-answer.new.steps
 
 -- ---- the function has a name fault
 stopped : (g : _) (c : After-ask_key-answer g) (stop : Stop) → c.ask_key-answer.result ≡ Err stop
-    → (q : QueryFault) × IsNamed (table c.self.inside.deck) (listed c.ask_key-answer.new.nodes)
+    → (q : QueryFault) × IsStopFault (table c.self.inside.deck) (node_lists c.ask_key-answer.new.nodes)
     c.ask_key-answer.new.explored.dead_ends.items c.ask_key-answer.new.explored.findings.faults stop q × Holds g c
     (Err q)
 stopped g c stop is =
-    answered_err (table c.self.inside.deck) (listed c.ask_key-answer.new.nodes)
+    answered_err (table c.self.inside.deck) (node_lists c.ask_key-answer.new.nodes)
     c.ask_key-answer.new.explored.dead_ends.items c.ask_key-answer.new.explored.findings.faults
     (Holds g c) c.ask_key-answer.result stop is c.ask_key-answer.ensures.asked
 
@@ -64,10 +64,11 @@ returns-in-Err-clause-answer g c =
     let at = goal.at.returns-in-Err-clause-answer g c in
     let s = stopped g at.After-ask_key-answer c.in-Err.stop c.in-Err.is in
     let a = at.After-ask_key-answer in
-    subst (λ (x : Shown). spec.Answers (Err c.fault_of_stop.result) (spec.inverse_answer (table x.deck) c.args.name.now
+    subst (λ (x : Shown). spec.IsQueryResult (Err c.fault_of_stop.result)
+    (spec.inverse_answer (table x.deck) c.args.name.now
     c.args.value.now)) c.self.view_is
     (named_answer (AsksKey (key g a)) (key_fault (table c.self.inside.deck) (key g a))
-    (IsSettledKey (listed c.ask_key-answer.new.nodes) (key g a)) (before g a) (now g a) c.args.steps.now
+    (IsSettledKey (node_lists c.ask_key-answer.new.nodes) (key g a)) (before g a) (now g a) c.args.steps.now
     c.ask_key-answer.new.steps s.0 s.2
     (spec.inverse_at (key_meaning (table c.self.inside.deck) (key g a)) c.args.value.now) c.fault_of_stop.result
     (c.fault_of_stop.ensures s.0 s.1))
@@ -80,48 +81,51 @@ returns-in-Err-clause-after g c =
     subst (λ (x : Shown). IsQuery (AsksKey (key g a)) (Err c.fault_of_stop.result) x (now g a) c.args.steps.now
     c.ask_key-answer.new.steps) c.self.view_is
     (named_query (AsksKey (key g a)) (key_fault (table c.self.inside.deck) (key g a))
-    (IsSettledKey (listed c.ask_key-answer.new.nodes) (key g a)) (before g a) (now g a) c.args.steps.now
+    (IsSettledKey (node_lists c.ask_key-answer.new.nodes) (key g a)) (before g a) (now g a) c.args.steps.now
     c.ask_key-answer.new.steps s.0 s.2 refl c.fault_of_stop.result (c.fault_of_stop.ensures s.0 s.1))
 
 -- ---- the function has no name fault
 asked : (g : _) (c : After-ask_key-answer g) (n : ℕ) → c.ask_key-answer.result ≡ Ok n → Holds g c (Ok n)
 asked g c n is =
-    answered_ok (table c.self.inside.deck) (listed c.ask_key-answer.new.nodes)
+    answered_ok (table c.self.inside.deck) (node_lists c.ask_key-answer.new.nodes)
     c.ask_key-answer.new.explored.dead_ends.items c.ask_key-answer.new.explored.findings.faults
     (Holds g c) c.ask_key-answer.result n is c.ask_key-answer.ensures.asked
 
-pub inverse_worth-requires-clause-sound : goal.inverse_worth-requires-clause-sound
-inverse_worth-requires-clause-sound g c = (c.ask_key-answer.new.reductions, c.ask_key-answer.ensures.live.sound)
+pub evaluate_inverse-requires-clause-sound : goal.evaluate_inverse-requires-clause-sound
+evaluate_inverse-requires-clause-sound g c = (c.ask_key-answer.new.reductions, c.ask_key-answer.ensures.live.sound)
 
-pub inverse_worth-requires-clause-settled : goal.inverse_worth-requires-clause-settled
-inverse_worth-requires-clause-settled g c =
-    (asked g (goal.at.inverse_worth-requires-clause-settled g c).After-ask_key-answer c.in-Ok.n c.in-Ok.is).1.1
+pub evaluate_inverse-requires-clause-settled : goal.evaluate_inverse-requires-clause-settled
+evaluate_inverse-requires-clause-settled g c =
+    (asked g (goal.at.evaluate_inverse-requires-clause-settled g c).After-ask_key-answer c.in-Ok.n c.in-Ok.is).1.1
 
-pub inverse_worth-requires-clause-function : goal.inverse_worth-requires-clause-function
-inverse_worth-requires-clause-function g c =
+pub evaluate_inverse-requires-clause-function : goal.evaluate_inverse-requires-clause-function
+evaluate_inverse-requires-clause-function g c =
     ap (λ (x : Key). x.kind)
-    (sym (asked g (goal.at.inverse_worth-requires-clause-function g c).After-ask_key-answer c.in-Ok.n
+    (sym (asked g (goal.at.evaluate_inverse-requires-clause-function g c).After-ask_key-answer c.in-Ok.n
     c.in-Ok.is).1.0)
 
 pub returns-clause-answer : goal.returns-clause-answer
 returns-clause-answer g c =
     let a = asked g (goal.at.returns-clause-answer g c).After-ask_key-answer c.in-Ok.n c.in-Ok.is in
-    subst (λ (s : Shown). spec.Answers c.inverse_worth.result (spec.inverse_answer (table s.deck) c.args.name.now
+    subst (λ (s : Shown). spec.IsQueryResult c.evaluate_inverse.result
+    (spec.inverse_answer (table s.deck) c.args.name.now
     c.args.value.now)) c.self.view_is
     (worth_answer (key_fault (table c.self.inside.deck) (key_named kind.Func c.args.name.now))
     (spec.inverse_at (key_meaning (table c.self.inside.deck) (key_named kind.Func c.args.name.now)) c.args.value.now)
-    c.inverse_worth.result a.0
-    (subst (λ (x : Key). spec.Answers c.inverse_worth.result (spec.by_names None
+    c.evaluate_inverse.result a.0
+    (subst (λ (x : Key). spec.IsQueryResult c.evaluate_inverse.result (spec.by_names None
     (spec.inverse_at (key_meaning (table c.self.inside.deck) x) c.args.value.now)))
-    (sym a.1.0) c.inverse_worth.ensures))
+    (sym a.1.0) c.evaluate_inverse.ensures))
 
 pub returns-clause-after : goal.returns-clause-after
 returns-clause-after g c =
-    query_answer (AsksKey (key_named kind.Func c.args.name.now)) c.inverse_worth.result c.args.self.now
-    (shown c.self.inside.deck (listed c.ask_key-answer.new.nodes) c.ask_key-answer.new.reductions) c.args.steps.now
+    query_answer (AsksKey (key_named kind.Func c.args.name.now)) c.evaluate_inverse.result c.args.self.now
+    (shown_table c.self.inside.deck (node_lists c.ask_key-answer.new.nodes) c.ask_key-answer.new.reductions)
+    c.args.steps.now
     c.ask_key-answer.new.steps
     (ap (λ (s : Shown). s.deck) c.self.view_is)
-    (subst (λ (s : Shown). Follows (AsksKey (key_named kind.Func c.args.name.now) ∷ []) s
-    (shown c.self.inside.deck (listed c.ask_key-answer.new.nodes) c.ask_key-answer.new.reductions) c.args.steps.now
+    (subst (λ (s : Shown). IsAfterEvents (AsksKey (key_named kind.Func c.args.name.now) ∷ []) s
+    (shown_table c.self.inside.deck (node_lists c.ask_key-answer.new.nodes) c.ask_key-answer.new.reductions)
+    c.args.steps.now
     c.ask_key-answer.new.steps) c.self.view_is
     (asked g (goal.at.returns-clause-after g c).After-ask_key-answer c.in-Ok.n c.in-Ok.is).2)

@@ -14,15 +14,15 @@ use Rattle.table_names.specs.Reach.{reach}
 use Rattle.live_table.specs.declared.fault.QueryFault.{QueryFault}
 use Rattle.live_table.specs.declared.stop.Stop.{Stop}
 use Rattle.live_table.specs.Answers as spec
-use Rattle.live_table.specs.Asked.{IsAsked}
+use Rattle.live_table.specs.QueryEffects.{IsAsked}
 use Rattle.live_table.specs.Calls.{IsQuery}
-use Rattle.live_table.specs.Shown.{Follows, IsRightTable, Shown}
+use Rattle.live_table.specs.TableView.{IsAfterEvents, IsRightTable, Shown}
 use Rattle.live_table.specs.States.{AsksWords}
-use Rattle.live_table.specs.Stops.{IsNamed}
-use Rattle.live_table.specs.Stored.{listed, shown}
-use Rattle.live_table.specs.Surrounded.{AreSettledWords}
-use Rattle.live_table.proofs.Answering.{worth_answer}
-use Rattle.live_table.proofs.Following.{query_answer}
+use Rattle.live_table.specs.Stops.{IsStopFault}
+use Rattle.live_table.specs.TableContents.{node_lists, shown_table}
+use Rattle.live_table.specs.EvalInvariants.{AreSettledWords}
+use Rattle.live_table.proofs.QueryAnswers.{worth_answer}
+use Rattle.live_table.proofs.QuerySequence.{query_answer}
 use Rattle.live_table.proofs.GrownLive.{words_query}
 use Rattle.live_table.proofs.Queries.{cut_off}
 use Rattle.live_table.proofs.StopAnswers.{answered_err, answered_ok, named_answer, named_query}
@@ -44,13 +44,13 @@ abbrev us : (g : _) → After-ask_words-query g → List WordUse
 us g c = c.in_ok-words.words
 
 abbrev before : (g : _) → After-ask_words-query g → Shown
-before g c = shown c.self.inside.deck (listed c.self.inside.nodes) c.self.inside.reductions
+before g c = shown_table c.self.inside.deck (node_lists c.self.inside.nodes) c.self.inside.reductions
 
 abbrev now : (g : _) → After-ask_words-query g → Shown
-now g c = shown c.self.inside.deck (listed c.ask_words-query.new.nodes) c.ask_words-query.new.reductions
+now g c = shown_table c.self.inside.deck (node_lists c.ask_words-query.new.nodes) c.ask_words-query.new.reductions
 
 abbrev AreGiven : (g : _) → After-ask_words-query g → SmallVec Step → Type 0
-AreGiven g c query = AreSettledWords (table c.self.inside.deck) (listed c.ask_words-query.new.nodes)
+AreGiven g c query = AreSettledWords (table c.self.inside.deck) (node_lists c.ask_words-query.new.nodes)
     (us g c) query.items
 
 abbrev Holds : (g : _) → After-ask_words-query g → Result (SmallVec Step) QueryFault → Type 0
@@ -60,11 +60,11 @@ Holds g c answer =
 
 -- ---- the names have a fault
 stopped : (g : _) (c : After-ask_words-query g) (stop : Stop) → c.ask_words-query.result ≡ Err stop
-    → (q : QueryFault) × IsNamed (table c.self.inside.deck) (listed c.ask_words-query.new.nodes)
+    → (q : QueryFault) × IsStopFault (table c.self.inside.deck) (node_lists c.ask_words-query.new.nodes)
     c.ask_words-query.new.explored.dead_ends.items c.ask_words-query.new.explored.findings.faults stop q × Holds g c
     (Err q)
 stopped g c stop is =
-    answered_err (table c.self.inside.deck) (listed c.ask_words-query.new.nodes)
+    answered_err (table c.self.inside.deck) (node_lists c.ask_words-query.new.nodes)
     c.ask_words-query.new.explored.dead_ends.items c.ask_words-query.new.explored.findings.faults
     (Holds g c) c.ask_words-query.result stop is c.ask_words-query.ensures.asked
 
@@ -81,7 +81,7 @@ returns-clause-answer g c =
     let at = goal.at.returns-clause-answer g c in
     let s = stopped g at.After-ask_words-query c.in-Err.stop c.in-Err.is in
     let a = at.After-ask_words-query in
-    subst (λ (x : List WordUse × Contents). spec.Answers (Err c.fault_of_stop.result)
+    subst (λ (x : List WordUse × Contents). spec.IsQueryResult (Err c.fault_of_stop.result)
     (spec.by_names (name_fault (table x.1) x.0) (value (expansion (table x.1) (syntax c.args.tree.now)) None)))
     (λ i. (c.in_ok-words.ensures i, (c.self.view_is i).deck))
     (named_answer (AsksWords (us g a)) (name_fault (table c.self.inside.deck) (us g a)) (AreGiven g a) (before g a)
@@ -105,38 +105,40 @@ returns-clause-after g c =
 asked : (g : _) (c : After-ask_words-query g) (query : SmallVec Step) → c.ask_words-query.result ≡ Ok query
     → Holds g c (Ok query)
 asked g c query is =
-    answered_ok (table c.self.inside.deck) (listed c.ask_words-query.new.nodes)
+    answered_ok (table c.self.inside.deck) (node_lists c.ask_words-query.new.nodes)
     c.ask_words-query.new.explored.dead_ends.items c.ask_words-query.new.explored.findings.faults
     (Holds g c) c.ask_words-query.result query is c.ask_words-query.ensures.asked
 
-pub worth-requires-clause-sound : goal.worth-requires-clause-sound
-worth-requires-clause-sound g c =
+pub evaluate_tree-requires-clause-sound : goal.evaluate_tree-requires-clause-sound
+evaluate_tree-requires-clause-sound g c =
     (c.ask_words-query.new.reductions, c.ask_words-query.ensures.live.sound)
 
-pub worth-requires-clause-settled : goal.worth-requires-clause-settled
-worth-requires-clause-settled g c =
-    subst (AreSettledWords (table c.self.inside.deck) (listed c.ask_words-query.new.nodes) c.in_ok-words.words)
+pub evaluate_tree-requires-clause-settled : goal.evaluate_tree-requires-clause-settled
+evaluate_tree-requires-clause-settled g c =
+    subst (AreSettledWords (table c.self.inside.deck) (node_lists c.ask_words-query.new.nodes) c.in_ok-words.words)
     (sym c.as_slice.ensures)
-    (asked g (goal.at.worth-requires-clause-settled g c).After-ask_words-query c.in-Ok.query c.in-Ok.is).1
+    (asked g (goal.at.evaluate_tree-requires-clause-settled g c).After-ask_words-query c.in-Ok.query c.in-Ok.is).1
 
 pub returns-in-Ok-clause-answer : goal.returns-in-Ok-clause-answer
 returns-in-Ok-clause-answer g c =
-    subst (λ (x : List WordUse × Contents). spec.Answers c.worth.result
+    subst (λ (x : List WordUse × Contents). spec.IsQueryResult c.evaluate_tree.result
     (spec.by_names (name_fault (table x.1) x.0) (value (expansion (table x.1) (syntax c.args.tree.now)) None)))
     (λ i. (c.in_ok-words.ensures i, (c.self.view_is i).deck))
     (worth_answer (name_fault (table c.self.inside.deck) c.in_ok-words.words)
-    (value (expansion (table c.self.inside.deck) (syntax c.args.tree.now)) None) c.worth.result
+    (value (expansion (table c.self.inside.deck) (syntax c.args.tree.now)) None) c.evaluate_tree.result
     (asked g (goal.at.returns-in-Ok-clause-answer g c).After-ask_words-query c.in-Ok.query c.in-Ok.is).0
-    c.worth.ensures)
+    c.evaluate_tree.ensures)
 
 pub returns-in-Ok-clause-after : goal.returns-in-Ok-clause-after
 returns-in-Ok-clause-after g c =
-    query_answer (AsksWords (words_in (syntax c.args.tree.now))) c.worth.result c.args.self.now
-    (shown c.self.inside.deck (listed c.ask_words-query.new.nodes) c.ask_words-query.new.reductions) c.args.steps.now
+    query_answer (AsksWords (words_in (syntax c.args.tree.now))) c.evaluate_tree.result c.args.self.now
+    (shown_table c.self.inside.deck (node_lists c.ask_words-query.new.nodes) c.ask_words-query.new.reductions)
+    c.args.steps.now
     c.ask_words-query.new.steps
     (ap (λ (s : Shown). s.deck) c.self.view_is)
-    (subst (λ (x : List WordUse × Shown). Follows (AsksWords x.0 ∷ []) x.1
-    (shown c.self.inside.deck (listed c.ask_words-query.new.nodes) c.ask_words-query.new.reductions) c.args.steps.now
+    (subst (λ (x : List WordUse × Shown). IsAfterEvents (AsksWords x.0 ∷ []) x.1
+    (shown_table c.self.inside.deck (node_lists c.ask_words-query.new.nodes) c.ask_words-query.new.reductions)
+    c.args.steps.now
     c.ask_words-query.new.steps)
     (λ i. (c.in_ok-words.ensures i, c.self.view_is i))
     (asked g (goal.at.returns-in-Ok-clause-after g c).After-ask_words-query c.in-Ok.query c.in-Ok.is).2)

@@ -1,6 +1,6 @@
 use Rattle.std.proofs.Common.{◌≡◌, ◌++◌, ◌∷◌, [], List, refl, ◌∙◌, inr}
 use Rattle.def_entry.specs.Keys.{key}
-use Rattle.live_table.proofs.Indexing.{one_more}
+use Rattle.live_table.proofs.IndexKeys.{one_more}
 use Rattle.live_table.proofs.nodes.Nodes.add.Goals as goal
 
 -- one more item is appended to a list with room for it

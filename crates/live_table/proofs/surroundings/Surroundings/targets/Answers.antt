@@ -2,8 +2,8 @@ use Rattle.std.proofs.Common.{◌≡◌, ◌*◌, ◌+◌, ◌<◌, Some, length
 use Rattle.std.specs.List.{slice_get}
 use Rattle.expr_tree.specs.declared.word_list.WordUse.{WordUse}
 use Rattle.live_table.specs.Scenes.{holder_words}
-use Rattle.live_table.specs.Stored.{listed}
-use Rattle.live_table.proofs.Telling.{callees_within, led_place, of_led, query_led, steps_within}
+use Rattle.live_table.specs.TableContents.{node_lists}
+use Rattle.live_table.proofs.NodeReports.{callees_within, led_place, of_led, query_led, steps_within}
 use Rattle.live_table.proofs.ToldWords.{IsLedBy, are_led, first_settled, second_settled, to_first, to_second}
 use Rattle.live_table.proofs.surroundings.Surroundings.targets.Goals as goal
 use Rattle.live_table.proofs.surroundings.Surroundings.targets.Goals.{After-start_of, In-Expression}
@@ -13,7 +13,7 @@ use Rattle.live_table.proofs.surroundings.Surroundings.targets.Goals.{After-star
 led : (c : In-Expression) (u : WordUse)
     → slice_get (holder_words c.args.self.now c.args.holder) c.args.place ≡ Some u
     → IsLedBy c.args.self.now u c.in-Expression.steps.now c.args.place
-led c = query_led c.self.inside.deck.now (listed c.self.inside.nodes.now) c.self.inside.asked c.self.invariant
+led c = query_led c.self.inside.deck.now (node_lists c.self.inside.nodes.now) c.self.inside.asked c.self.invariant
     c.args.self.now c.self.view_is c.args.holder c.args.place c.requires c.in-Expression.field-0
     c.in-Expression.steps c.in-Expression.is c.in-Query.is
 
@@ -47,12 +47,12 @@ returns-in-Expression-clause-second c = second_settled c.args.self.now (holder_w
 
 -- ---- a part of the entry of a number
 pub steps_of-steps-requires : goal.steps_of-steps-requires
-steps_of-steps-requires c = steps_within c.self.inside.deck.now (listed c.self.inside.nodes.now) c.self.inside.asked
+steps_of-steps-requires c = steps_within c.self.inside.deck.now (node_lists c.self.inside.nodes.now) c.self.inside.asked
     c.self.invariant c.args.self.now c.self.view_is c.args.holder c.args.place c.requires c.in-Of.id c.in-Of.part
     c.in-Of.is
 
 pub start_of-requires : goal.start_of-requires
-start_of-requires c = callees_within c.self.inside.deck.now (listed c.self.inside.nodes.now) c.self.inside.asked
+start_of-requires c = callees_within c.self.inside.deck.now (node_lists c.self.inside.nodes.now) c.self.inside.asked
     c.self.invariant c.args.self.now c.self.view_is c.args.holder c.args.place c.requires c.in-Of.id c.in-Of.part
     c.in-Of.is
 
@@ -60,7 +60,7 @@ start_of-requires c = callees_within c.self.inside.deck.now (listed c.self.insid
 part_led : (c : After-start_of) (u : WordUse)
     → slice_get (holder_words c.args.self.now c.args.holder) c.args.place ≡ Some u
     → IsLedBy c.args.self.now u c.steps_of-steps.result.now (c.start_of.result + c.args.place)
-part_led c = of_led c.self.inside.deck.now (listed c.self.inside.nodes.now) c.self.inside.asked c.self.invariant
+part_led c = of_led c.self.inside.deck.now (node_lists c.self.inside.nodes.now) c.self.inside.asked c.self.invariant
     c.args.self.now c.self.view_is c.args.holder c.args.place c.requires c.in-Of.id c.in-Of.part c.in-Of.is
     c.start_of.result c.start_of.ensures c.steps_of-steps.result.now c.steps_of-steps.ensures.is
 

@@ -1,7 +1,7 @@
 use Rattle.std.proofs.Common.{◌∙◌, ◌++◌, ◌∷◌, [], List, ap}
 use Rattle.def_entry.specs.Keys.{key}
 use Rattle.def_entry.specs.declared.key.Key.{Key}
-use Rattle.live_table.proofs.Trying.{tried_push}
+use Rattle.live_table.proofs.TriedLookups.{tried_push}
 use Rattle.live_table.proofs.tried_keys.TriedKeys.push.Goals as goal
 
 pub returns : goal.returns

@@ -1,7 +1,7 @@
 use Rattle.std.proofs.Common.{◌/◌, ◌%◌, ◌∙◌, subst, nat_eq, refl}
 use Rattle.std.specs.Prelude.{◌&&◌}
-use Rattle.edge_links.specs.Reach.{IsCleared}
-use Rattle.name_edges.specs.Affected.{Forgets, IsAffected}
+use Rattle.edge_links.specs.Reach.{AreMarksCleared}
+use Rattle.name_edges.specs.AffectedNames.{ForgetsNames, IsAffectedName}
 use Rattle.name_edges.specs.NameGraphs.{NameGraph}
 use Rattle.name_edges.specs.Nodes.{name_graph}
 use Rattle.name_edges.proofs.Nodes.{cleared, forgotten, marked_at}
@@ -9,14 +9,15 @@ use Rattle.name_edges.proofs.name_edges.NameEdges.forget.Goals as goal
 
 pub returns-clause-edges : goal.returns-clause-edges
 returns-clause-edges g c =
-    subst (λ (x : NameGraph). Forgets (IsAffected x c.args.key) x (name_graph c.unsettle-2.new.self)) c.self.view_is
+    subst (λ (x : NameGraph). ForgetsNames (IsAffectedName x c.args.key) x (name_graph c.unsettle-2.new.self))
+    c.self.view_is
     (forgotten c.self.inside.links c.self.invariant c.args.key c.unsettle.new.self.edges c.unsettle-2.new.self.edges
     c.unsettle.ensures.edges c.unsettle-2.ensures.edges c.unsettle-2.new.self
     (c.unsettle-2.ensures.nodes ∙ c.unsettle.ensures.nodes) refl)
 
 pub returns-clause-marks : goal.returns-clause-marks
 returns-clause-marks g c =
-    subst (λ (x : NameGraph). IsCleared (IsAffected x c.args.key) (g.K.Marks.is_marked c.args.names)
+    subst (λ (x : NameGraph). AreMarksCleared (IsAffectedName x c.args.key) (g.K.Marks.is_marked c.args.names)
     (g.K.Marks.is_marked c.unsettle-2.new.marks.names)) c.self.view_is
     (cleared c.self.inside.links c.self.invariant c.args.key c.unsettle.new.self.edges c.unsettle-2.new.self.edges
     c.unsettle.ensures.edges c.unsettle-2.ensures.edges

@@ -1,4 +1,4 @@
-use Rattle.name_walk.proofs.Keeping.{nothing_consistent}
+use Rattle.name_walk.proofs.StableFindings.{nothing_consistent}
 use Rattle.name_walk.proofs.findings.Findings.clear.Goals as goal
 
 pub clear-requires : goal.clear-requires

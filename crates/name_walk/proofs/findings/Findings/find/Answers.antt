@@ -1,7 +1,7 @@
 use Rattle.std.proofs.Common.{ℕ, List, subst, sym}
-use Rattle.name_walk.specs.Findings.{AreFromQuery, AreRight, Found}
+use Rattle.name_walk.specs.Findings.{AreFromQuery, AreRight, WalkFindings}
 use Rattle.name_walk.specs.Lists.{In}
-use Rattle.name_walk.proofs.Keeping.{nothing_consistent, nothing_right}
+use Rattle.name_walk.proofs.StableFindings.{nothing_consistent, nothing_right}
 use Rattle.name_walk.proofs.findings.Findings.find.Goals as goal
 
 pub search_from-requires-clause-net : goal.search_from-requires-clause-net
@@ -15,7 +15,7 @@ search_from-requires-clause-consistent c = c.self.invariant
 
 pub search_from-requires-clause-right : goal.search_from-requires-clause-right
 search_from-requires-clause-right c =
-    (subst (λ (f : Found). AreRight c.args.net.now.steps.now c.args.net.now.settled.now f) (sym c.self.view_is)
+    (subst (λ (f : WalkFindings). AreRight c.args.net.now.steps.now c.args.net.now.settled.now f) (sym c.self.view_is)
     c.requires.right).are
 
 pub invariant_of-self : goal.invariant_of-self
@@ -38,7 +38,8 @@ returns-in-Ok-clause-right c = record {
 
 pub returns-in-Ok-clause-names : goal.returns-in-Ok-clause-names
 returns-in-Ok-clause-names c =
-    subst (λ (f : Found). AreFromQuery c.args.net.now.steps.now c.args.net.now.settled.now c.args.query.now f.names
+    subst (λ (f : WalkFindings). AreFromQuery c.args.net.now.steps.now c.args.net.now.settled.now c.args.query.now
+    f.names
     c.search_from.new.traces.entered) c.self.view_is c.in-Ok.ensures.names
 
 pub returns-in-Ok-clause-found : goal.returns-in-Ok-clause-found

@@ -1,4 +1,4 @@
-use Rattle.name_walk.proofs.Passed.{between_idle}
+use Rattle.name_walk.proofs.QueryPasses.{between_idle}
 use Rattle.name_walk.proofs.walk.Walker.walk.Goals as goal
 
 pub visit_each-result-requires-clause-between : goal.visit_each-result-requires-clause-between

@@ -1,7 +1,7 @@
 use Rattle.std.proofs.Common.{◌≡◌, ◌∙◌, ap₂, refl, sym}
 use Rattle.quantity.specs.Amount.{conform, matches}
 use Rattle.quantity.specs.Stores.{powers_of}
-use Rattle.quantity.proofs.Matched.{conform_is, conform_names}
+use Rattle.quantity.proofs.MatchedPowers.{conform_is, conform_names}
 use Rattle.quantity.proofs.Single.{list_of}
 use Rattle.quantity.proofs.powers.Powers.conform.Goals as goal
 

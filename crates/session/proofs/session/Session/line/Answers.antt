@@ -1,32 +1,35 @@
 use Rattle.std.proofs.Common.{◌≡◌, ◌∙◌, [], Some, false, IfOk, OnOk, map, sym, subst, ap, refl, arith, true≢false}
 use Rattle.units_io.specs.FileMap.{FileMap}
 use Rattle.deck.specs.Decks.{Contents}
-use Rattle.deck_save.specs.Saved.{saved_file}
-use Rattle.session.specs.Answering.{IsAnswered, scene_of}
-use Rattle.session.specs.Answers.{files_saved, saved_line}
+use Rattle.deck_save.specs.SavedText.{saved_file}
+use Rattle.session.specs.AnswerEffects.{IsLineAnswered, scene_of}
+use Rattle.session.specs.Answers.{files_saved, save_reply_text}
 use Rattle.session.specs.Commands.{Command, command_of, is_load, is_quit, is_save, names_file, saved_in, saved_name}
-use Rattle.session.specs.Parts.{IsLine, IsSaid}
-use Rattle.session.specs.Sessions.{Known, known_dated, state_of}
+use Rattle.session.specs.Parts.{IsAnswerGiven, IsLine}
+use Rattle.session.specs.Sessions.{SessionState, session_of_versions, state_of}
 use Rattle.session.specs.Steps.{answer_to}
-use Rattle.session.specs.Versions.{dated}
-use Rattle.session.proofs.Answering.{no_save, said_answered, save_answered, tells_needed}
-use Rattle.session.proofs.Breaking.{line_same, line_saves}
-use Rattle.session.proofs.Faulting.{unread}
+use Rattle.session.specs.Versions.{table_with_versions}
+use Rattle.session.proofs.LineAnswers.{no_save, said_answered, save_answered, tells_needed}
+use Rattle.session.proofs.BrokenAnswers.{line_same, line_saves}
+use Rattle.session.proofs.FetchFaultCounts.{unread}
 use Rattle.session.proofs.session.Session.line.Goals as goal
-use Rattle.watch.specs.Watched.{subject_of}
+use Rattle.watch.specs.WatchViews.{subject_of}
 
 pub returns-in-Load-clause-answer : goal.returns-in-Load-clause-answer
 returns-in-Load-clause-answer g c = λ m h.
-    let now = known_dated c.self.inside.options (dated c.load.new.table c.load.new.history) c.self.inside.pending
+    let now = session_of_versions c.self.inside.options (table_with_versions c.load.new.table c.load.new.history)
+    c.self.inside.pending
     (map subject_of c.load.new.watches) in
-    let before = known_dated c.self.inside.options (dated c.self.inside.table c.self.inside.history)
+    let before = session_of_versions c.self.inside.options
+    (table_with_versions c.self.inside.table c.self.inside.history)
     c.self.inside.pending (map subject_of c.self.inside.watches) in
     said_answered c.load.result c.args.self.now now m (command_of c.args.line.now) _ _ _ c.args.steps.now
     c.load.new.steps h c.load.ensures.kept (sym (ap is_save (c.in-Load.ensures {u = tt})))
-    (subst (λ (k : Known). IsSaid (answer_to (state_of k m) (command_of c.args.line.now)) c.load.result now
+    (subst (λ (k : SessionState). IsAnswerGiven (answer_to (state_of k m) (command_of c.args.line.now)) c.load.result
+    now
     c.args.steps.now c.load.new.steps)
     c.self.view_is
-    (subst (λ (a : Command). IsSaid (answer_to (state_of before m) a) c.load.result now c.args.steps.now
+    (subst (λ (a : Command). IsAnswerGiven (answer_to (state_of before m) a) c.load.result now c.args.steps.now
     c.load.new.steps)
     (c.in-Load.ensures {u = tt})
     (c.load.ensures.said c.self.inside.pending m
@@ -35,34 +38,37 @@ returns-in-Load-clause-answer g c = λ m h.
 pub returns-in-Save-clause-answer : goal.returns-in-Save-clause-answer
 returns-in-Save-clause-answer g c = λ m h.
     subst
-    (λ (a : Command). IsAnswered (answer_to (state_of c.args.self.now m) a) c.save.result
+    (λ (a : Command). IsLineAnswered (answer_to (state_of c.args.self.now m) a) c.save.result
     (scene_of c.args.self.now (g.F.Files.files c.args.files.now) c.args.steps.now)
     (scene_of c.args.self.now (g.F.Files.files c.save.new.files) c.args.steps.now))
     (c.in-Save.ensures {u = tt})
     (save_answered c.save.result c.args.self.now m c.in-Save.name.now _ _ _ c.args.steps.now h
     (subst
     (λ (d : Contents). IfOk c.save.result
-    (λ reply. IsLine reply (saved_line (saved_file d) c.in-Save.name.now) [] false))
-    (c.deck.ensures.deck ∙ ap (λ (k : Known). k.table.deck) c.self.view_is) c.save.ensures.line)
+    (λ reply. IsLine reply (save_reply_text (saved_file d) c.in-Save.name.now) [] false))
+    (c.deck.ensures.deck ∙ ap (λ (k : SessionState). k.table.deck) c.self.view_is) c.save.ensures.line)
     (subst
     (λ (d : Contents). OnOk c.save.result ((told : FileMap) → g.F.Files.files c.args.files.now ≡ Some told
     → g.F.Files.files c.save.new.files ≡ Some (files_saved (saved_file d) c.in-Save.name.now told)))
-    (c.deck.ensures.deck ∙ ap (λ (k : Known). k.table.deck) c.self.view_is) c.save.ensures.saved)
+    (c.deck.ensures.deck ∙ ap (λ (k : SessionState). k.table.deck) c.self.view_is) c.save.ensures.saved)
     c.save.ensures.untold)
 
 pub returns-in_default-clause-answer : goal.returns-in_default-clause-answer
 returns-in_default-clause-answer g c = λ m h.
-    let now = known_dated c.self.inside.options (dated c.perform.new.table c.perform.new.history) c.perform.new.pending
+    let now = session_of_versions c.self.inside.options (table_with_versions c.perform.new.table c.perform.new.history)
+    c.perform.new.pending
     (map subject_of c.perform.new.watches) in
-    let before = known_dated c.self.inside.options (dated c.self.inside.table c.self.inside.history)
+    let before = session_of_versions c.self.inside.options
+    (table_with_versions c.self.inside.table c.self.inside.history)
     c.self.inside.pending (map subject_of c.self.inside.watches) in
     said_answered c.perform.result c.args.self.now _ m (command_of c.args.line.now) _ _ _ c.args.steps.now
     c.perform.new.steps h refl
     (sym (ap is_save c.read_command.ensures) ∙ no_save c.read_command.result c.in_default.not-Save)
-    (subst (λ (k : Known). IsSaid (answer_to (state_of k m) (command_of c.args.line.now)) c.perform.result now
+    (subst (λ (k : SessionState). IsAnswerGiven (answer_to (state_of k m) (command_of c.args.line.now)) c.perform.result
+    now
     c.args.steps.now c.perform.new.steps)
     c.self.view_is
-    (subst (λ (a : Command). IsSaid (answer_to (state_of before m) a) c.perform.result now c.args.steps.now
+    (subst (λ (a : Command). IsAnswerGiven (answer_to (state_of before m) a) c.perform.result now c.args.steps.now
     c.perform.new.steps)
     c.read_command.ensures (c.perform.ensures.said m)))
 

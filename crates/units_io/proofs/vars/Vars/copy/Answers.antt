@@ -1,7 +1,7 @@
 use Rattle.std.proofs.Common.{◌∙◌, subst}
 use Rattle.std.specs.Map.Iter.{deref_pair}
 use Rattle.std.proofs.lemmas.Map.Iter.{rest_more}
-use Rattle.units_io.specs.Named.{HasDistinctNames}
+use Rattle.units_io.specs.NamedValues.{HasDistinctNames}
 use Rattle.units_io.proofs.Names.{HasNoName-next}
 use Rattle.units_io.proofs.vars.Vars.copy.Goals as goal
 

@@ -1,5 +1,5 @@
 use Rattle.std.proofs.Common.{◌≡◌, ◌++◌}
-use Rattle.units_io.specs.Named.{pairs_of}
+use Rattle.units_io.specs.NamedValues.{pairs_of}
 use Rattle.units_io.proofs.vars.Vars.copy.Given as goal
 
 abbrev pub invariant-loop-name : goal.invariant-loop-name

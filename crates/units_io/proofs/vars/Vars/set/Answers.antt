@@ -1,5 +1,5 @@
 use Rattle.std.proofs.Common.{◌∙◌, ap, sym, subst, List, ℕ}
-use Rattle.units_io.specs.Named.{Pairs, with_value, Sets}
+use Rattle.units_io.specs.NamedValues.{Pairs, with_value, Sets}
 use Rattle.units_io.proofs.Names.{pairs_of-insert, with_value-Sets, HasDistinctNames-with_value}
 use Rattle.units_io.proofs.vars.Vars.set.Goals as goal
 

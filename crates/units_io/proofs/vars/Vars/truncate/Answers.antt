@@ -1,5 +1,5 @@
 use Rattle.std.proofs.Common.{ap, take}
-use Rattle.units_io.specs.Named.{Pairs}
+use Rattle.units_io.specs.NamedValues.{Pairs}
 use Rattle.units_io.proofs.Names.{pairs_of-take, HasDistinctNames-take}
 use Rattle.units_io.proofs.vars.Vars.truncate.Goals as goal
 

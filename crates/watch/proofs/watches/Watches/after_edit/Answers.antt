@@ -1,9 +1,9 @@
 use Rattle.std.proofs.Common.{◌≡◌, ◌∙◌, ◌++◌, ℕ, List, ap, map, sym, subst}
 use Rattle.deck.specs.Tables.{table}
-use Rattle.watch.specs.Changes.{told}
-use Rattle.watch.specs.Watched.{AreCurrent, change_of}
+use Rattle.watch.specs.Changes.{watch_report}
+use Rattle.watch.specs.WatchViews.{AreCurrent, change_of}
 use Rattle.watch.specs.declared.watch.Watch.{Watch}
-use Rattle.watch.proofs.Edited.{edit_law, renewed_current}
+use Rattle.watch.proofs.EditReports.{edit_law, renewed_current}
 use Rattle.watch.proofs.watches.Watches.after_edit.Goals as goal
 
 pub returns-clause-edit : goal.returns-clause-edit
@@ -11,13 +11,13 @@ returns-clause-edit g c =
     let now = table c.args.table.now.deck in
     let options = c.args.options.now in
     let watches = c.args.self.now in
-    let text : c.from.result ≡ told (map (change_of now options) watches) =
+    let text : c.from.result ≡ watch_report (map (change_of now options) watches) =
     c.from.ensures
     ∙ (c.in_ok-renew_all.ensures.told
-    ∙ (ap (λ (bytes : List ℕ). bytes ++ told (map (change_of now options) c.self.inside.items.items))
+    ∙ (ap (λ (bytes : List ℕ). bytes ++ watch_report (map (change_of now options) c.self.inside.items.items))
     c.new-text.ensures.items
-    ∙ ap (λ (ws : List Watch). told (map (change_of now options) ws)) c.self.view_is)) in
-    λ before current. text ∙ edit_law.told before now options watches current
+    ∙ ap (λ (ws : List Watch). watch_report (map (change_of now options) ws)) c.self.view_is)) in
+    λ before current. text ∙ edit_law.report before now options watches current
 
 pub returns-clause-current : goal.returns-clause-current
 returns-clause-current g c =

@@ -1,6 +1,6 @@
 use Rattle.std.proofs.Common.{arith, reverse}
 use Rattle.std.proofs.lemmas.List.{length-reverse}
-use Rattle.deck.proofs.Failing.{failing_len}
+use Rattle.deck.proofs.BlockFailures.{failing_len}
 use Rattle.deck.proofs.force.surroundings.Surroundings.enter.Goals as goal
 
 pub overflow_add-self : goal.overflow_add-self

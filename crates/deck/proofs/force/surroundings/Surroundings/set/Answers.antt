@@ -1,7 +1,7 @@
 use Rattle.std.proofs.Common.{◌≡◌, false, Option, Some, None, sym, subst, ◌∙◌}
 use Rattle.std.specs.Prelude.{IfNone, is_some}
 use Rattle.deck.specs.Active.{Surroundings}
-use Rattle.units_io.specs.Named.{HasNoName}
+use Rattle.units_io.specs.NamedValues.{HasNoName}
 use Rattle.deck.proofs.Variables.{no_name_second}
 use Rattle.deck.proofs.force.surroundings.Surroundings.set.Goals as goal
 

@@ -1,6 +1,6 @@
 use Rattle.std.proofs.Common.{Option, Some, None, sym, ap, subst, ◌∙◌}
 use Rattle.std.specs.Prelude.{IfNone}
-use Rattle.units_io.specs.Named.{HasNoName, value_of}
+use Rattle.units_io.specs.NamedValues.{HasNoName, named_value}
 use Rattle.deck.specs.Active.{Surroundings}
 use Rattle.deck.proofs.Variables.{no_name_both, value_first, value_second}
 use Rattle.deck.proofs.force.surroundings.Surroundings.value.Goals as goal
@@ -9,13 +9,13 @@ pub returns-in-Some-clause-value : goal.returns-in-Some-clause-value
 returns-in-Some-clause-value c =
     sym (value_first c.self.inside.base.now.vars c.self.inside.set c.args.name.now c.in-Some.value.now
     (sym c.in-Some.ensures.value))
-    ∙ ap (λ (s : Surroundings). value_of s.vars c.args.name.now) c.self.view_is
+    ∙ ap (λ (s : Surroundings). named_value s.vars c.args.name.now) c.self.view_is
 
 pub returns-in-None-clause-value : goal.returns-in-None-clause-value
 returns-in-None-clause-value c =
     c.value-in-None.ensures.value
     ∙ sym (value_second c.self.inside.base.now.vars c.self.inside.set c.args.name.now (sym c.in-None.ensures.value))
-    ∙ ap (λ (s : Surroundings). value_of s.vars c.args.name.now) c.self.view_is
+    ∙ ap (λ (s : Surroundings). named_value s.vars c.args.name.now) c.self.view_is
 
 if_none : {A : Type 0} (o : Option A) {P Q : Type 0} → IfNone o P → (P → Q) → IfNone o Q
 if_none None h f = f h

@@ -7,8 +7,8 @@ use Rattle.deck_lines.specs.Readings.{entry_in}
 use Rattle.deck_lines.specs.Stores.{definition_at}
 use Rattle.deck_lines.specs.declared.line.DeckLine.{DeckLine}
 use Rattle.deck.specs.LastPlaces.{AreLast}
-use Rattle.deck.specs.Tables.{Definitions, definition_by, definitions_by}
-use Rattle.deck.proofs.Lasting.{by_step}
+use Rattle.deck.specs.Tables.{Definitions, definition_by, definitions_among}
+use Rattle.deck.proofs.LastPlaceSteps.{by_step}
 use Rattle.deck.proofs.places.last_places.LastPlaces.note_lines.Goals as goal
 
 pub loop-place-preserved : goal.loop-place-preserved
@@ -19,13 +19,14 @@ loop-place-preserved c =
     let f : Bool = get_or c.args.flags.now i false in
     let inside : i < length c.args.flags.now = omega (arith, c.loop-place-test.true) in
     let within : i < length lines = omega (arith, c.loop-place-test.true, c.requires.flags) in
-    let before : Definitions = definitions_by (take i c.args.flags.now) (take i lines) in
+    let before : Definitions = definitions_among (take i c.args.flags.now) (take i lines) in
     let there : definition_at lines i ≡ entry_in x =
     ap (option_and_then entry_in) (slice_get-get_or lines i (plain_line 0 []) within) in (
       c.note_line.ensures.room,
       subst (λ (ds : Definitions). AreLast c.args.edited.now.names ds c.note_line.new.last)
           (ap (λ o. definition_by i f o ++ before) there
-          ∙ sym (by_step c.args.flags.now lines i f x c.requires.flags within (take_more c.args.flags.now i false inside)
+          ∙ sym (by_step c.args.flags.now lines i f x c.requires.flags within
+          (take_more c.args.flags.now i false inside)
           (take_more lines i (plain_line 0 []) within)))
           (c.note_line.ensures.last before c.loop-place.invariant.1),
     )

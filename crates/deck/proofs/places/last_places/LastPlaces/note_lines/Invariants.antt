@@ -1,9 +1,9 @@
 use Rattle.std.proofs.Common.{take}
-use Rattle.deck.specs.LastPlaces.{AreLast, HasRoom}
-use Rattle.deck.specs.Tables.{definitions_by}
+use Rattle.deck.specs.LastPlaces.{AreLast, HasPlaceRoom}
+use Rattle.deck.specs.Tables.{definitions_among}
 use Rattle.deck.proofs.places.last_places.LastPlaces.note_lines.Given as goal
 
 abbrev pub invariant-loop-place : goal.invariant-loop-place
 invariant-loop-place l =
-    HasRoom l.edited.names l.self
-    × AreLast l.edited.names (definitions_by (take l.place l.flags) (take l.place l.edited.after)) l.self
+    HasPlaceRoom l.edited.names l.self
+    × AreLast l.edited.names (definitions_among (take l.place l.flags) (take l.place l.edited.after)) l.self

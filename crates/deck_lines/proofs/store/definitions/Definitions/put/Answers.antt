@@ -1,5 +1,5 @@
 use Rattle.deck_lines.specs.NumberedKeys.{names_in}
-use Rattle.deck_lines.proofs.Defining.{key_put}
+use Rattle.deck_lines.proofs.DefinitionsByNumber.{key_put}
 use Rattle.deck_lines.proofs.store.definitions.Definitions.put.Goals as goal
 
 pub returns-in-Some-clause-lines : goal.returns-in-Some-clause-lines

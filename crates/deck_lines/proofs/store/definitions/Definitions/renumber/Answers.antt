@@ -1,8 +1,8 @@
 use Rattle.std.proofs.Common.{◌≡◌, ap, arith, length, subst, sym, ◌∙◌}
-use Rattle.deck_lines.specs.Kept.{IsDefined, all_with_numbers}
+use Rattle.deck_lines.specs.StoredDefinitions.{IsDefined, all_with_numbers}
 use Rattle.deck_lines.specs.NumberedKeys.{names_in}
 use Rattle.deck_lines.specs.Renumberings.{names_after}
-use Rattle.deck_lines.proofs.Renumbered.{defined_numbered, length-numbered, written_back}
+use Rattle.deck_lines.proofs.RenumberedKeys.{defined_numbered, length-numbered, written_back}
 use Rattle.deck_lines.proofs.store.definitions.Definitions.renumber.Goals as goal
 
 pub returns-clause-lines : goal.returns-clause-lines

@@ -1,7 +1,7 @@
 use Rattle.std.proofs.Common.{ap, ◌∙◌, map, option_map}
-use Rattle.deck_lines.specs.Kept.{seen_definition}
+use Rattle.deck_lines.specs.StoredDefinitions.{seen_definition}
 use Rattle.deck_lines.specs.NumberedKeys.{names_in}
-use Rattle.deck_lines.proofs.Defining.{defined_take}
+use Rattle.deck_lines.proofs.DefinitionsByNumber.{defined_take}
 use Rattle.deck_lines.proofs.store.definitions.Definitions.truncate.Goals as goal
 
 pub returns-clause-lines : goal.returns-clause-lines

@@ -1,7 +1,7 @@
 use Rattle.std.proofs.Common.{sym, refl, subst}
-use Rattle.deck_lines.specs.Edited.{Edited, store_after}
-use Rattle.deck_lines.specs.Numbering.{IsNumbering}
-use Rattle.deck_lines.proofs.Storing.{numbering_edited, seen_edited, unseen_edited}
+use Rattle.deck_lines.specs.StoreEdits.{StoreEdit, store_after}
+use Rattle.deck_lines.specs.KeyNumbering.{IsNumbering}
+use Rattle.deck_lines.proofs.StoredLines.{numbering_edited, seen_edited, unseen_edited}
 use Rattle.deck_lines.proofs.store.edited_lines.EditedLines.definition.Goals as goal
 
 pub returns-in-Stored-clause-is : goal.returns-in-Stored-clause-is
@@ -27,20 +27,20 @@ returns-in-Past-clause-is c =
 pub returns-in-Stored-clause-numbering : goal.returns-in-Stored-clause-numbering
 returns-in-Stored-clause-numbering c =
     let e = c.self.inside in
-    subst (λ (v : Edited). IsNumbering (store_after v)) c.self.view_is
+    subst (λ (v : StoreEdit). IsNumbering (store_after v)) c.self.view_is
     (numbering_edited e.store.now e.put.now e.definitions.now e.at e.cut c.len.ensures.numbering
     c.self.invariant.defined)
 
 pub returns-in-Put-clause-numbering : goal.returns-in-Put-clause-numbering
 returns-in-Put-clause-numbering c =
     let e = c.self.inside in
-    subst (λ (v : Edited). IsNumbering (store_after v)) c.self.view_is
+    subst (λ (v : StoreEdit). IsNumbering (store_after v)) c.self.view_is
     (numbering_edited e.store.now e.put.now e.definitions.now e.at e.cut c.len.ensures.numbering
     c.self.invariant.defined)
 
 pub returns-in-Past-clause-numbering : goal.returns-in-Past-clause-numbering
 returns-in-Past-clause-numbering c =
     let e = c.self.inside in
-    subst (λ (v : Edited). IsNumbering (store_after v)) c.self.view_is
+    subst (λ (v : StoreEdit). IsNumbering (store_after v)) c.self.view_is
     (numbering_edited e.store.now e.put.now e.definitions.now e.at e.cut c.len.ensures.numbering
     c.self.invariant.defined)

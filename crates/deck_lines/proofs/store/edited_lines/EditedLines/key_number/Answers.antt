@@ -2,7 +2,7 @@ use Rattle.std.proofs.Common.{ap, ◌∙◌, option_map, Option}
 use Rattle.def_entry.specs.Entries.{What}
 use Rattle.def_entry.specs.declared.key.Key.{Key}
 use Rattle.deck_lines.specs.Stores.{definition_at}
-use Rattle.deck_lines.proofs.Defining.{keyed_key}
+use Rattle.deck_lines.proofs.DefinitionsByNumber.{keyed_key}
 use Rattle.deck_lines.proofs.store.edited_lines.EditedLines.key_number.Goals as goal
 
 pub returns-in-Some-clause-number : goal.returns-in-Some-clause-number

@@ -1,7 +1,7 @@
 use Rattle.std.proofs.Common.{ap, arith, length}
-use Rattle.deck_lines.specs.Edited.{Edited}
-use Rattle.deck_lines.proofs.Finding.{exchanged_len}
-use Rattle.deck_lines.proofs.Keeping.{marks_len}
+use Rattle.deck_lines.specs.StoreEdits.{StoreEdit}
+use Rattle.deck_lines.proofs.ExchangedItems.{exchanged_len}
+use Rattle.deck_lines.proofs.MarkLimits.{marks_len}
 use Rattle.deck_lines.proofs.store.edited_lines.EditedLines.len.Goals as goal
 
 pub overflow_sub-result : goal.overflow_sub-result
@@ -22,5 +22,5 @@ returns c =
       ap length c.marked.ensures.lines,
       marks_len c.marked.result.lines.now c.marked.result.marks.now c.marked.ensures.each,
       exchanged_len e.store.now.lines e.put.now e.at e.cut c.self.invariant.places,
-      ap (λ (v : Edited). length v.after) c.self.view_is,
+      ap (λ (v : StoreEdit). length v.after) c.self.view_is,
     )

@@ -1,9 +1,10 @@
 use Rattle.std.proofs.Common.{◌<◌, ap, ◌∙◌, length, sym, slice_get, subst}
-use Rattle.deck_lines.specs.Edited.{Edited}
+use Rattle.deck_lines.specs.StoreEdits.{StoreEdit}
 use Rattle.deck_lines.proofs.store.edited_lines.EditedLines.line.Goals as goal
 
 pub line_at-requires-clause-inside : goal.line_at-requires-clause-inside
-line_at-requires-clause-inside c = subst (λ (e : Edited). c.args.place < length e.after) (sym c.self.view_is) c.requires
+line_at-requires-clause-inside c = subst (λ (e : StoreEdit). c.args.place < length e.after) (sym c.self.view_is)
+    c.requires
 
 pub returns : goal.returns
-returns c = ap (λ (e : Edited). slice_get e.after c.args.place) (sym c.self.view_is) ∙ c.line_at.ensures
+returns c = ap (λ (e : StoreEdit). slice_get e.after c.args.place) (sym c.self.view_is) ∙ c.line_at.ensures

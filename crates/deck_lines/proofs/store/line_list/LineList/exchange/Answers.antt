@@ -1,7 +1,7 @@
 use Rattle.std.proofs.Common.{◌≡◌, length, take, drop, ap, ◌∙◌, arith}
 use Rattle.deck_lines.specs.Limits.{text_len}
-use Rattle.deck_lines.proofs.Keeping.{marks_len}
-use Rattle.deck_lines.proofs.Replacing.{put_fits, told_exchanged, told_gone, told_kept, told_small}
+use Rattle.deck_lines.proofs.MarkLimits.{marks_len}
+use Rattle.deck_lines.proofs.MarkReplacement.{put_fits, told_exchanged, told_gone, told_kept, told_small}
 use Rattle.deck_lines.proofs.store.line_list.LineList.exchange.Goals as goal
 
 pub marked_texts_len-len-requires : goal.marked_texts_len-len-requires

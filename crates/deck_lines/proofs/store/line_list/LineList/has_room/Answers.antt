@@ -2,7 +2,7 @@ use Rattle.std.proofs.Common.{◌≡◌, ◌≤◌, ◌++◌, ◌∷◌, [], ℕ
 use Rattle.std.proofs.lemmas.Bool.Decides.{nat_tests}
 use Rattle.deck_lines.specs.Limits.{pass_limit}
 use Rattle.deck_lines.specs.declared.line.DeckLine.{DeckLine}
-use Rattle.deck_lines.proofs.Keeping.{full_lines, room_test}
+use Rattle.deck_lines.proofs.MarkLimits.{full_lines, room_test}
 use Rattle.deck_lines.proofs.store.line_list.LineList.has_room.Goals as goal
 
 pub returns-then-len-lt-MOST_LINES : goal.returns-then-len-lt-MOST_LINES

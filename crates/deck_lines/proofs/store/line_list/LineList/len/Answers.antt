@@ -1,5 +1,5 @@
 use Rattle.std.proofs.Common.{length, sym, ap, ◌∙◌}
-use Rattle.deck_lines.proofs.Keeping.{marks_len}
+use Rattle.deck_lines.proofs.MarkLimits.{marks_len}
 use Rattle.deck_lines.proofs.store.line_list.LineList.len.Goals as goal
 
 pub returns : goal.returns

@@ -1,13 +1,13 @@
 use Rattle.std.proofs.Common.{map, sym, ap, ◌∙◌}
 use Rattle.deck_lines.specs.Limits.{pass_limit}
-use Rattle.deck_lines.specs.Marks.{unmarked}
-use Rattle.deck_lines.proofs.Keeping.{kept_within, marks_off}
+use Rattle.deck_lines.specs.Marks.{line_without_mark}
+use Rattle.deck_lines.proofs.MarkLimits.{kept_within, marks_off}
 use Rattle.deck_lines.proofs.store.line_list.LineList.lines.Goals as goal
 
 pub returns-clause-lines : goal.returns-clause-lines
 returns-clause-lines c =
     sym (marks_off c.self.inside.lines c.self.inside.marks.items c.self.invariant.marked)
-    ∙ ap (map unmarked) c.self.view_is
+    ∙ ap (map line_without_mark) c.self.view_is
 
 pub returns-clause-within : goal.returns-clause-within
 returns-clause-within c =

@@ -1,6 +1,6 @@
 use Rattle.std.proofs.Common.{sym, ap, ◌∙◌}
 use Rattle.deck_lines.specs.Limits.{pass_limit}
-use Rattle.deck_lines.proofs.Keeping.{kept_within}
+use Rattle.deck_lines.proofs.MarkLimits.{kept_within}
 use Rattle.deck_lines.proofs.store.line_list.LineList.marked.Goals as goal
 
 pub returns-clause-within : goal.returns-clause-within

@@ -3,7 +3,7 @@ use Rattle.def_lines.specs.declared.line.Line.{Line}
 use Rattle.deck_lines.specs.Limits.{pass_limit}
 use Rattle.deck_lines.specs.Marks.{with_mark, with_marks}
 use Rattle.deck_lines.specs.declared.line.DeckLine.{DeckLine}
-use Rattle.deck_lines.proofs.Keeping.{marks_push, within_push}
+use Rattle.deck_lines.proofs.MarkLimits.{marks_push, within_push}
 use Rattle.deck_lines.proofs.store.line_list.LineList.push.Goals as goal
 
 pub invariant_of-self-2 : goal.invariant_of-self-2

@@ -2,8 +2,8 @@ use Rattle.std.proofs.Common.{◌≡◌, ◌<◌, ◌+◌, ◌++◌, List, [], r
 use Rattle.def_lines.specs.declared.line.Line.{Line}
 use Rattle.deck_lines.specs.Marks.{with_marks}
 use Rattle.deck_lines.specs.declared.line.DeckLine.{DeckLine}
-use Rattle.deck_lines.proofs.Exchanging.{bytes_at, marks_exchange, within_removed}
-use Rattle.deck_lines.proofs.Keeping.{marks_len}
+use Rattle.deck_lines.proofs.ListExchanges.{bytes_at, marks_exchange, within_removed}
+use Rattle.deck_lines.proofs.MarkLimits.{marks_len}
 use Rattle.deck_lines.proofs.store.line_list.LineList.remove.Goals as goal
 
 pub remove-line-requires : goal.remove-line-requires

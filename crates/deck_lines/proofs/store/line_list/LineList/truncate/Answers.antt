@@ -2,8 +2,8 @@ use Rattle.std.proofs.Common.{◌≡◌, List, ap, sym, ◌∙◌, arith, drop, 
 use Rattle.def_lines.specs.declared.line.Line.{Line}
 use Rattle.deck_lines.specs.Limits.{bytes_in}
 use Rattle.deck_lines.specs.Marks.{with_marks}
-use Rattle.deck_lines.proofs.Exchanging.{all_of}
-use Rattle.deck_lines.proofs.Keeping.{bytes_behind, marks_len, marks_take, within_took}
+use Rattle.deck_lines.proofs.ListExchanges.{all_of}
+use Rattle.deck_lines.proofs.MarkLimits.{bytes_behind, marks_len, marks_take, within_took}
 use Rattle.deck_lines.proofs.store.line_list.LineList.truncate.Goals as goal
 
 pub returns-then-len : goal.returns-then-len

@@ -1,6 +1,6 @@
 use Rattle.std.proofs.Common.{◌≡◌, option_map, subst}
 use Rattle.std.specs.Option.{option_copied}
-use Rattle.deck_lines.specs.Kept.{keyed_definition, seen_definition}
+use Rattle.deck_lines.specs.StoredDefinitions.{keyed_definition, seen_definition}
 use Rattle.deck_lines.specs.Stores.{Store, definition_at}
 use Rattle.deck_lines.proofs.store.line_store.LineStore.definition.Goals as goal
 

@@ -5,7 +5,7 @@ use Rattle.deck_lines.specs.NumberedKeys.{names_in}
 use Rattle.deck_lines.specs.Stores.{Store, definition_at}
 use Rattle.deck_lines.specs.declared.line.DeckLine.{DeckLine}
 use Rattle.deck_lines.proofs.Entries.{is_there, none_there, said_there}
-use Rattle.deck_lines.proofs.Keeping.{marks_len}
+use Rattle.deck_lines.proofs.MarkLimits.{marks_len}
 use Rattle.deck_lines.proofs.store.line_store.LineStore.entry.Goals as goal
 
 pub line-requires-clause-inside : goal.line-requires-clause-inside

@@ -1,8 +1,8 @@
 use Rattle.std.proofs.Common.{map, subst, sym}
-use Rattle.deck_lines.specs.Kept.{IsDefined}
+use Rattle.deck_lines.specs.StoredDefinitions.{IsDefined}
 use Rattle.deck_lines.specs.Readings.{entry_in}
 use Rattle.deck_lines.specs.Stores.{Store}
-use Rattle.deck_lines.proofs.Storing.{kept_exchange}
+use Rattle.deck_lines.proofs.StoredLines.{kept_exchange}
 use Rattle.deck_lines.proofs.store.line_store.LineStore.exchange.Goals as goal
 
 pub invariant_of-self-2 : goal.invariant_of-self-2

@@ -1,4 +1,4 @@
-use Rattle.deck_lines.proofs.Replacing.{few_lines}
+use Rattle.deck_lines.proofs.MarkReplacement.{few_lines}
 use Rattle.deck_lines.proofs.store.line_store.LineStore.lines_few.Goals as goal
 
 pub returns : goal.returns

@@ -1,4 +1,4 @@
-use Rattle.deck_lines.proofs.Storing.{numbering_of}
+use Rattle.deck_lines.proofs.StoredLines.{numbering_of}
 use Rattle.deck_lines.proofs.store.line_store.LineStore.name_count.Goals as goal
 
 pub returns-clause-numbering : goal.returns-clause-numbering

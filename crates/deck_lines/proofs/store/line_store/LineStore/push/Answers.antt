@@ -1,5 +1,5 @@
 use Rattle.deck_lines.specs.Marks.{with_mark}
-use Rattle.deck_lines.proofs.Storing.{kept_push}
+use Rattle.deck_lines.proofs.StoredLines.{kept_push}
 use Rattle.deck_lines.proofs.store.line_store.LineStore.push.Goals as goal
 
 pub invariant_of-self-2 : goal.invariant_of-self-2

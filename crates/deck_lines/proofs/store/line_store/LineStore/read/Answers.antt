@@ -1,5 +1,5 @@
 use Rattle.std.proofs.Common.{refl}
-use Rattle.deck_lines.proofs.Storing.{kept_read, numbering_of}
+use Rattle.deck_lines.proofs.StoredLines.{kept_read, numbering_of}
 use Rattle.deck_lines.proofs.store.line_store.LineStore.read.Goals as goal
 
 pub invariant_of-self : goal.invariant_of-self

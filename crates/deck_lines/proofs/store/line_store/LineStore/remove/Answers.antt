@@ -1,4 +1,4 @@
-use Rattle.deck_lines.proofs.Storing.{kept_without}
+use Rattle.deck_lines.proofs.StoredLines.{kept_without}
 use Rattle.deck_lines.proofs.store.line_store.LineStore.remove.Goals as goal
 
 pub invariant_of-self : goal.invariant_of-self

@@ -3,7 +3,7 @@ use Rattle.deck_lines.specs.Loads.{with_lines}
 use Rattle.deck_lines.specs.Names.{Names}
 use Rattle.deck_lines.specs.Renumberings.{IsRenumbering}
 use Rattle.deck_lines.specs.Stores.{Store, no_lines}
-use Rattle.deck_lines.proofs.Renumbered.{kept_renumbered, numbers_long}
+use Rattle.deck_lines.proofs.RenumberedKeys.{kept_renumbered, numbers_long}
 use Rattle.deck_lines.proofs.store.line_store.LineStore.renumber.Goals as goal
 
 pub renumber-requires : goal.renumber-requires

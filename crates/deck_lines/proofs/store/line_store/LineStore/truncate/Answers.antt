@@ -1,4 +1,4 @@
-use Rattle.deck_lines.proofs.Storing.{kept_take}
+use Rattle.deck_lines.proofs.StoredLines.{kept_take}
 use Rattle.deck_lines.proofs.store.line_store.LineStore.truncate.Goals as goal
 
 pub invariant_of-self : goal.invariant_of-self

@@ -1,6 +1,6 @@
 use Rattle.std.proofs.Common.{ap, subst}
 use Rattle.deck_lines.specs.NumberedNames.{AreUpTo, NumberedNames}
-use Rattle.deck_lines.proofs.Numbering.{longer_is_absent, number_seen}
+use Rattle.deck_lines.proofs.NameNumbers.{longer_is_absent, number_seen}
 use Rattle.deck_lines.proofs.store.name_set.NameSet.number_of.Goals as goal
 
 pub returns-then-self-name : goal.returns-then-self-name

@@ -3,7 +3,7 @@ use Rattle.std.specs.List.{position_or_len}
 use Rattle.std.specs.Str.{bytes_eq}
 use Rattle.deck_lines.specs.Names.{with_name}
 use Rattle.deck_lines.specs.NumberedNames.{AreUpTo, NumberedNames}
-use Rattle.deck_lines.proofs.Numbering.{AreUpTo-more, AreUpTo-with_name, place_seen, put_at, put_seen}
+use Rattle.deck_lines.proofs.NameNumbers.{AreUpTo-more, AreUpTo-with_name, place_seen, put_at, put_seen}
 use Rattle.deck_lines.proofs.store.name_set.NameSet.put.Goals as goal
 
 pub returns-clause-names : goal.returns-clause-names

@@ -1,0 +1,60 @@
+-- Queries of which some were made before all are made.
+use Rattle.std.proofs.Common.{◌≡◌, ◌≤◌, ◌-◌, ◌^◌, ◌++◌, ◌∙◌, ℕ, List, map, refl, sym, ap, subst, arith}
+use Rattle.std.specs.Prelude.{Result, Ok, Err}
+use Rattle.std.specs.declared.alloc.AllocError.{AllocError}
+use Rattle.expr_tree.specs.declared.word_list.WordUse.{WordUse}
+use Rattle.live_table.specs.Calls.{AreQueries}
+use Rattle.live_table.specs.TableView.{IsAfterEvents, IsCutOff, IsRightTable, Shown, state_with_steps}
+use Rattle.live_table.specs.States.{AsksWords, Event, TableState, after_all}
+use Rattle.live_table.proofs.Events.{order_law}
+use Rattle.live_table.proofs.QuerySequence.{steps_rise}
+use Rattle.reply.proofs.Runs.{cut_after}
+use Rattle.column_convert.specs.CachedValues.{AreBegun}
+use Rattle.column_convert.proofs.Again.{asked_again}
+
+-- no query was made yet
+pub begun_none : (events : List Event) (s : Shown) (n : ℕ) → IsRightTable s → AreBegun events s s n n
+begun_none events s n right = record { same = refl; deck = refl; right = right; later = omega arith }
+
+-- the words of some texts were queried
+pub begun_texts : (texts : List (List WordUse)) (rest : List Event) (a b : Shown) (n m : ℕ) → b.deck ≡ a.deck
+    → b.reductions ≤ 2 ^ 64 - 1 → IsAfterEvents (map AsksWords texts) a b n m
+    → AreBegun (map AsksWords texts ++ rest) a b n m
+begun_texts texts rest a b n m deck few f = record {
+  same =
+      order_law (map AsksWords texts) rest (state_with_steps b m)
+      ∙ ap (after_all rest) (sym (asked_again texts a b n m m few f).stands ∙ f.stands)
+      ∙ sym (order_law (map AsksWords texts) rest (state_with_steps a n));
+  deck = deck;
+  right = f.right;
+  later = (cut_after (map AsksWords texts) a b n m deck f).least;
+}
+
+module _ (events : List Event) (a b : Shown) (n m : ℕ) (begun : AreBegun events a b n m) where
+  -- all queries are made afterwards
+  pub begun_follows : (c : Shown) (k : ℕ) → IsAfterEvents events b c m k → IsAfterEvents events a c n k
+  begun_follows c k f = record { stands = f.stands ∙ begun.same; right = f.right }
+
+  pub begun_cut : (c : Shown) (k : ℕ) → IsCutOff events b c m k → IsCutOff events a c n k
+  begun_cut c k f = record {
+    deck = f.deck ∙ begun.deck;
+    right = f.right;
+    least = let x : n ≤ m = begun.later in let y : m ≤ k = f.least in omega arith;
+    most = subst (λ (s : TableState). k ≤ s.steps) begun.same f.most;
+  }
+
+  pub begun_made : {A : Type 0} (r : Result A AllocError) (c : Shown) (k : ℕ) → AreQueries events r b c m k
+      → AreQueries events r a c n k
+  begun_made (Ok x) c k f = begun_follows c k f
+  begun_made (Err e) c k f = begun_cut c k f
+
+  -- memory runs out before more queries
+  pub begun_stopped : IsCutOff events a b n m
+  begun_stopped = record {
+    deck = begun.deck;
+    right = begun.right;
+    least = begun.later;
+    most =
+        let x : m ≤ (after_all events (state_with_steps b m)).steps = steps_rise events (state_with_steps b m) in
+        subst (λ (s : TableState). m ≤ s.steps) begun.same x;
+  }

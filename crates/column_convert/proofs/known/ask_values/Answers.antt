@@ -1,7 +1,0 @@
-use Rattle.column_convert.proofs.Recalling.{nothing_begun}
-use Rattle.column_convert.proofs.known.ask_values.Goals as goal
-
-pub returns-in_err-trees-clause-asked : goal.returns-in_err-trees-clause-asked
-returns-in_err-trees-clause-asked g c =
-    nothing_begun c.from_residual.result c.args.from.now c.args.to.now c.args.n.now c.args.table.now c.args.steps.now
-    c.kept_right.ensures

@@ -1,0 +1,132 @@
+//! The values of FROM and TO, which are queried once for many rows.
+
+ghost use Rattle.std.specs.Prelude.{◌≡◌, ◌≤◌, ◌-◌, ◌^◌, [], ◌∷◌, IfOk, IfSome, Ok};
+ghost use Rattle.deck.specs.Tables as tables;
+ghost use Rattle.expr_tree.specs.Trees.{syntax};
+ghost use Rattle.expr_tree.specs.Words.{words_in};
+ghost use Rattle.live_table.specs.Answers.{answer};
+ghost use Rattle.live_table.specs.Calls.{AreQueries};
+ghost use Rattle.live_table.specs.States.{AsksWords};
+ghost use Rattle.column_convert.specs.CachedValues as spec;
+ghost use Rattle.column_convert.specs.Worths.{product_worth};
+
+use crate::plain::{PlainTrees, plain_trees};
+use crate::signed_number::Signed;
+use expr_tree::Tree;
+use live_table::{LiveTable, QueryFault};
+use quantity::{Quantity, QuantityFault};
+use std::alloc::{AllocError, Global};
+use std::sync::ledger::Ledger;
+use units_io::Steps;
+
+/// The values of FROM and TO.
+#[derive(Drop)]
+pub(crate) struct Known {
+    pub(crate) from_value: Quantity,
+    pub(crate) to_value: Quantity,
+}
+
+/// Queries the values of FROM and TO, as far as the conversion of this number does. Returns `None` if that conversion
+/// makes other queries, or if FROM, TO or the product has a fault. The only error is running out of memory.
+pub(crate) fn ask_values<L: Ledger>(
+    alloc: Global,
+    table: &mut LiveTable,
+    from: &[u8],
+    to: &[u8],
+    n: &Signed,
+    steps: &mut Steps<L>,
+) -> Result<Option<Known>, AllocError>
+    ensures known { IfOk result (λ known. IfSome known (λ known. spec.AreKnown table.new from.now to.now known)) }
+    ensures asked { spec.AreQueriesBegun n.now from.now to.now result table.old table.new steps.old steps.new }
+    ensures deck { table.new.deck ≡ table.old.deck }
+{
+    // The cached outcomes are right, even if no query is made.
+    table.outcomes_are_right();
+    match plain_trees(alloc, table.deck(), from, to)? {
+        Some(trees) => ask_trees(alloc, table, from, to, n, &trees, steps),
+        None => Ok(None),
+    }
+}
+
+// Queries the values of FROM and TO, given as trees.
+fn ask_trees<L: Ledger>(
+    alloc: Global,
+    table: &mut LiveTable,
+    from: &[u8],
+    to: &[u8],
+    n: &Signed,
+    trees: &PlainTrees,
+    steps: &mut Steps<L>,
+) -> Result<Option<Known>, AllocError>
+    requires { spec.ArePlain (tables.table table.old.deck) from.now to.now
+        (syntax trees.now.from_tree) (syntax trees.now.to_tree) }
+    ensures known { IfOk result (λ known. IfSome known (λ known. spec.AreKnown table.new from.now to.now known)) }
+    ensures asked { spec.AreQueriesBegun n.now from.now to.now result table.old table.new steps.old steps.new }
+    ensures deck { table.new.deck ≡ table.old.deck }
+{
+    let Some(from_value) = ask(alloc, table, &trees.from_tree, steps)? else {
+        return Ok(None);
+    };
+    if product(alloc, n, &from_value)?.is_none() {
+        return Ok(None);
+    }
+    let Some(to_value) = ask(alloc, table, &trees.to_tree, steps)? else {
+        return Ok(None);
+    };
+    Ok(Some(Known {
+        from_value,
+        to_value,
+    }))
+}
+
+// Returns the value of a tree, or `None` if it has a fault.
+fn ask<L: Ledger>(
+    alloc: Global,
+    table: &mut LiveTable,
+    tree: &Tree,
+    steps: &mut Steps<L>,
+) -> Result<Option<Quantity>, AllocError>
+    ensures value { IfOk result (λ value. IfSome value (λ x.
+        answer (tables.table table.old.deck) (syntax tree.now) ≡ Ok x)) }
+    ensures query { AreQueries (AsksWords (words_in (syntax tree.now)) ∷ []) result
+        table.old table.new steps.old steps.new }
+    ensures few { table.new.reductions ≤ 2 ^ 64 - 1 }
+    ensures deck { table.new.deck ≡ table.old.deck }
+{
+    let value = table.value(alloc, tree, steps);
+    // So few names were settled that their count does not overflow.
+    table.counts();
+    match value {
+        Ok(value) => Ok(Some(value)),
+        Err(QueryFault::Name(_)) => Ok(None),
+        Err(QueryFault::Value(_)) => Ok(None),
+        Err(QueryFault::OutOfMemory) => Err(AllocError),
+    }
+}
+
+/// Returns the product of a number and the value of an expression, or `None` if the number or the product has a fault.
+/// The only error is running out of memory.
+pub(crate) fn product(
+    alloc: Global,
+    n: &Signed,
+    x: &Quantity,
+) -> Result<Option<Quantity>, AllocError>
+    ensures { IfOk result (λ p. IfSome p (λ p. product_worth n.now.negative n.now.numeral (Ok x.now) ≡ Ok p)) }
+{
+    let Ok(value) = n.numeral.value() else {
+        return Ok(None);
+    };
+    let number = with_sign(n.negative, Quantity::number(alloc, value));
+    match number.times(alloc, x) {
+        Ok(product) => Ok(Some(product)),
+        Err(QuantityFault::OutOfMemory) => Err(AllocError),
+        Err(_) => Ok(None),
+    }
+}
+
+// Returns the quantity, or its negation if `negative`.
+fn with_sign(negative: bool, x: Quantity) -> Quantity
+    ensures { result ≡ spec.with_sign negative x }
+{
+    if negative { x.into_negative() } else { x }
+}

@@ -1,0 +1,107 @@
+-- Copying lines one after another.
+use Rattle.std.proofs.Common.{◌≡◌, ◌++◌, ◌∷◌, ◌+◌, ◌-◌, ◌<◌, ◌≤◌, [], ℕ, zero, suc, List, Bool, false, length, take}
+use Rattle.std.proofs.Common.{drop, get_or, append_assoc, length-take, refl, sym, ap, subst, ◌∙◌, arith, Option, Some}
+use Rattle.std.proofs.Common.{None, option_map, slice_get}
+use Rattle.std.proofs.lemmas.Bool.Decides.{nat_tests}
+use Rattle.std.proofs.lemmas.List.Sums.{sum_by-take-drop}
+use Rattle.std.proofs.lemmas.Option.{same_Some}
+use Rattle.std.specs.Option.{option_and_then}
+use Rattle.def_lines.specs.declared.line.Line.{Line}
+use Rattle.def_entry.specs.Entries.{Entry}
+use Rattle.def_entry.specs.Headings.{entry_text}
+use Rattle.def_entry.specs.LineViews.{seen_entry}
+use Rattle.def_entry.specs.Views.{what_view}
+use Rattle.def_entry.specs.declared.entry.What.{What as MadeWhat}
+use Rattle.def_entry.specs.declared.key.Key.{Key}
+use Rattle.deck_lines.specs.Limits.{pass_limit}
+use Rattle.deck_lines.specs.Marks.{with_marks}
+use Rattle.deck_lines.specs.Readings.{entry_in}
+use Rattle.deck_lines.specs.Stores.{definition_at}
+use Rattle.deck_lines.specs.declared.line.DeckLine.{DeckLine}
+use Rattle.deck_lines.proofs.Entries.{text_in}
+use Rattle.deck_lines.proofs.MarkLimits.{marks_drop, marks_get, marks_len, marks_take}
+use Rattle.deck_lines.proofs.MarkReplacement.{few_lines}
+
+-- if a copy and the remaining items make up the whole list, so they do after one more item is copied
+pub copied_step : {A : Type 0} (xs rest now copy whole : List A) (x : A) → xs ≡ x ∷ rest → now ≡ copy ++ x ∷ []
+    → copy ++ xs ≡ whole → now ++ rest ≡ whole
+copied_step xs rest now copy whole x at e h = ap (λ t. t ++ rest) e ∙ append_assoc copy (x ∷ []) rest
+    ∙ sym (ap (λ t. copy ++ t) at) ∙ h
+
+-- the line at a place is the stored line with its mark
+pub line_there : (ls : List Line) (ms : List Bool) (lines : List DeckLine) (i : ℕ) (l : Line) (m : Bool) (text : List ℕ)
+    → with_marks ls ms ≡ lines → length ms ≡ length ls → i < length ls →
+    l ≡ get_or ls i l → m ≡ get_or ms i false → text ≡ l.text
+    → slice_get lines i ≡ Some (record { number = l.number; text = text; mark = m })
+line_there ls ms lines i l m text are h g e f same =
+    ap (λ xs. slice_get xs i) (sym are) ∙ marks_get ls ms i l m h g e f
+    ∙ ap (λ t. Some (record { number = l.number; text = t; mark = m })) (sym same)
+
+-- the front of a list that is one item longer ends with that item
+pub front_more : {A : Type 0} (xs : List A) (i : ℕ) (x : A) → slice_get xs i ≡ Some x
+    → take (i + 1) xs ≡ take i xs ++ x ∷ []
+front_more [] i x e = absurd (cc)
+front_more (y ∷ ys) zero x e = ap (λ t. t ∷ []) (same_Some y x e)
+front_more (y ∷ ys) (suc i) x e =
+    let next : suc i + 1 ≡ suc (i + 1) = omega arith in
+    ap (λ j. take j (y ∷ ys)) next ∙ ap (λ t. y ∷ t) (front_more ys i x e)
+
+-- if all lines are within the limits, so is each front of them
+pub front_within : (xs : List DeckLine) (n : ℕ) → pass_limit xs ≡ false → pass_limit (take n xs) ≡ false
+unfolding pass_limit
+front_within xs n e =
+    grind (arith, nat_tests, e, length-take n xs, sum_by-take-drop (λ (x : DeckLine). length x.text) xs n)
+
+-- a copied front is within the limits after one more line is copied
+pub room_more : (lines copy : List DeckLine) (i : ℕ) (x : DeckLine) → copy ≡ take i lines → slice_get lines i ≡ Some x
+    → pass_limit lines ≡ false → pass_limit (copy ++ x ∷ []) ≡ false
+room_more lines copy i x e at within =
+    subst (λ t. pass_limit t ≡ false) (front_more lines i x at ∙ ap (λ t. t ++ x ∷ []) (sym e))
+    (front_within lines (i + 1) within)
+
+-- after one more line is copied, the copy is the front that is one line longer
+pub copied_more : (lines copy now : List DeckLine) (i : ℕ) (x : DeckLine) → copy ≡ take i lines
+    → slice_get lines i ≡ Some x → now ≡ copy ++ x ∷ [] → now ≡ take (i + 1) lines
+copied_more lines copy now i x e at h = h ∙ ap (λ t. t ++ x ∷ []) e ∙ sym (front_more lines i x at)
+
+-- the definition of a line is determined by its text, its key and its `what`
+pub defined_by_parts : (lines : List DeckLine) (place : ℕ) (x : DeckLine) (k : Key) (what : MadeWhat) (e : Entry)
+    → slice_get lines place ≡ Some x →
+    Some (Some k) ≡ option_map (λ (d : Key × Entry). Some d.0) (definition_at lines place)
+    → Some e ≡ option_map (λ (d : Key × Entry). d.1) (definition_at lines place) → what_view what ≡ e.what →
+    Some (seen_entry x.text (k, what)) ≡ entry_in x
+defined_by_parts lines place x k what e at keyed said same =
+    by (entry_in x) refl (keyed ∙ ap (option_map (λ (d : Key × Entry). Some d.0)) here)
+    (said ∙ ap (option_map (λ (d : Key × Entry). d.1)) here)
+  where
+    here : definition_at lines place ≡ entry_in x
+    here = ap (option_and_then entry_in) at
+
+    by : (o : Option (Key × Entry)) → entry_in x ≡ o → Some (Some k) ≡ option_map (λ (d : Key × Entry). Some d.0) o
+        → Some e ≡ option_map (λ (d : Key × Entry). d.1) o → Some (seen_entry x.text (k, what)) ≡ o
+    by None is keyed said = cc
+    by (Some d) is keyed said =
+        let one : k ≡ d.0 = same_Some k d.0 (same_Some (Some k) (Some d.0) keyed) in
+        let text : entry_text x.text ≡ d.1.text = sym (text_in x d is) in
+        let what : what_view what ≡ d.1.what = same ∙ ap (λ (f : Entry). f.what) (same_Some e d.1 said) in
+        ap Some (λ i. (one i, record { text = text i; what = what i }))
+
+-- a range of the lines, marked with the same range of the marks, is that range of the marked lines
+pub part_marks : (ls : List Line) (ms : List Bool) (lines : List DeckLine) (at count : ℕ) → with_marks ls ms ≡ lines
+    → length ms ≡ length ls →
+    with_marks (take (at + count - at) (drop at ls)) (take (at + count - at) (drop at ms)) ≡ take count (drop at lines)
+part_marks ls ms lines at count are each =
+    let so_many : at + count - at ≡ count = omega arith in
+    ap (λ n. with_marks (take n (drop at ls)) (take n (drop at ms))) so_many
+    ∙ marks_take count (drop at ls) (drop at ms) ∙ ap (take count) (marks_drop at ls ms each)
+    ∙ ap (λ xs. take count (drop at xs)) are
+
+-- the range is within the lines and no longer than the largest deck
+module _ (ls : List Line) (ms : List Bool) (stored lines : List DeckLine) (at count : ℕ)
+    (are : with_marks ls ms ≡ stored)
+    (each : length ms ≡ length ls) (same : stored ≡ lines) (inside : at + count ≤ length lines) where
+  pub part_within : at + count ≤ length ls
+  part_within = omega (arith, inside, ap length same, ap length are, marks_len ls ms each)
+
+  pub part_few : pass_limit stored ≡ false → at + count ≤ 100000
+  part_few limit = omega (arith, part_within, few_lines stored limit, ap length are, marks_len ls ms each)

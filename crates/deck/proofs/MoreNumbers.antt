@@ -1,0 +1,256 @@
+-- The numbers of keys after more lines are appended.
+use Rattle.std.proofs.Common.{◌≡◌, ◌++◌, ◌∷◌, ◌||◌, [], ℕ, zero, suc, List, Bool, true, false, true≢false, cond, length}
+use Rattle.std.proofs.Common.{take, refl, sym, ap, subst, ◌∙◌, Option, Some, None, option_map, slice_get}
+use Rattle.std.proofs.lemmas.Option.{same_Some}
+use Rattle.std.specs.List.{list_any}
+use Rattle.std.specs.Str.{bytes_eq}
+use Rattle.std.specs.Map.{lookup}
+use Rattle.std.specs.Option.{option_and_then}
+use Rattle.def_entry.specs.declared.key.Key.{Key}
+use Rattle.def_entry.specs.declared.key.Kind.{Kind}
+use Rattle.def_entry.specs.declared.key.Kind.TheVariants as kind
+use Rattle.def_entry.specs.Entries.{Entry}
+use Rattle.def_entry.specs.Keys.{key}
+use Rattle.def_entry.specs.SameKeys.{is_same, is_same_kind}
+use Rattle.deck_lines.specs.ClosedBlocks.{AreBlocksClosed}
+use Rattle.deck_lines.specs.Loads.{Extends, with_definitions}
+use Rattle.deck_lines.specs.Names.{Names, is_numbered, key_numbered, names_of_kind, with_key, with_name, with_names}
+use Rattle.deck_lines.specs.KeyNumbering.{IsNumbering}
+use Rattle.deck_lines.specs.Readings.{entry_in}
+use Rattle.deck_lines.specs.Stores.{Store, definition_at, with_definition}
+use Rattle.deck_lines.specs.declared.key_number.KeyNumber.{KeyNumber}
+use Rattle.deck_lines.specs.declared.line.DeckLine.{DeckLine}
+use Rattle.deck.specs.LastPlaces.{AreLast, IsIndexed}
+use Rattle.deck.specs.Numbers.{AreInPlace}
+use Rattle.deck.specs.Tables.{Definitions, active_definitions, place_of}
+use Rattle.deck.specs.declared.places.last_places.LastPlaces.{LastPlaces}
+use Rattle.deck.specs.declared.settings.Settings.{Settings}
+use Rattle.deck.proofs.LastPlaceSteps.{last_extended}
+use Rattle.deck.proofs.PlacedDefinitions.{in_place}
+
+-- an item keeps its place when a list is extended
+pub get_more : {A : Type 0} (xs ys : List A) (i : ℕ) (x : A) → slice_get xs i ≡ Some x → slice_get (xs ++ ys) i ≡ Some x
+get_more [] ys i x h = cc
+get_more (y ∷ xs) ys zero x h = h
+get_more (y ∷ xs) ys (suc i) x h = get_more xs ys i x h
+
+-- if some item of a list passes a test, so does some item of an extension of the list
+any_more : (p : List ℕ → Bool) (xs ys : List (List ℕ)) → list_any p xs ≡ true → list_any p (xs ++ ys) ≡ true
+any_more p [] ys h = cc
+any_more p (x ∷ xs) ys h = by (any_more p xs ys) (p x) h
+  where
+    by : (list_any p xs ≡ true → list_any p (xs ++ ys) ≡ true) → (b : Bool) → (b || list_any p xs) ≡ true
+        → (b || list_any p (xs ++ ys)) ≡ true
+    by ih true g = refl
+    by ih false g = ih g
+
+-- an item that is new in a list with one item appended is the appended item
+get_last : {A : Type 0} (xs : List A) (y : A) (i : ℕ) (x : A) → slice_get xs i ≡ None
+    → slice_get (xs ++ y ∷ []) i ≡ Some x → y ≡ x
+get_last [] y zero x h g = same_Some y x g
+get_last [] y (suc i) x h g = cc
+get_last (z ∷ xs) y zero x h g = cc
+get_last (z ∷ xs) y (suc i) x h g = get_last xs y i x h g
+
+module _ (new : List ℕ) (names : List (List ℕ)) where
+  name_stays : (i : ℕ) (name : List ℕ) → slice_get names i ≡ Some name → slice_get (with_name new names) i ≡ Some name
+  name_stays i name h = by (list_any (bytes_eq new) names)
+    where
+      by : (b : Bool) → slice_get (cond b names (names ++ new ∷ [])) i ≡ Some name
+      by true = h
+      by false = get_more names (new ∷ []) i name h
+
+  name_among : (p : List ℕ → Bool) → list_any p names ≡ true → list_any p (with_name new names) ≡ true
+  name_among p h = by (list_any (bytes_eq new) names)
+    where
+      by : (b : Bool) → list_any p (cond b names (names ++ new ∷ [])) ≡ true
+      by true = h
+      by false = any_more p names (new ∷ []) h
+
+  name_new : (i : ℕ) (name : List ℕ) → slice_get names i ≡ None → slice_get (with_name new names) i ≡ Some name
+      → list_any (bytes_eq name) names ≡ false
+  name_new i name h g = by (list_any (bytes_eq new) names) refl g
+    where
+      by : (b : Bool) → list_any (bytes_eq new) names ≡ b → slice_get (cond b names (names ++ new ∷ [])) i ≡ Some name
+          → list_any (bytes_eq name) names ≡ false
+      by true e f = cc
+      by false e f = ap (λ n. list_any (bytes_eq n) names) (sym (get_last names new i name h f)) ∙ e
+
+-- only the names of the kind of the key change when the key gets a number
+names_by : (names : Names) (k : Key) (a : Kind)
+    → names_of_kind (with_key names k) a
+    ≡ cond (is_same_kind a k.kind) (with_name k.name (names_of_kind names a)) (names_of_kind names a)
+names_by names k a = by k.kind a
+  where
+    by : (b a : Kind) → names_of_kind (with_names names b (with_name k.name (names_of_kind names b))) a
+        ≡ cond (is_same_kind a b) (with_name k.name (names_of_kind names a)) (names_of_kind names a)
+    by kind.Unit kind.Unit = refl
+    by kind.Unit kind.Prefix = refl
+    by kind.Unit kind.Func = refl
+    by kind.Unit kind.List = refl
+    by kind.Prefix kind.Unit = refl
+    by kind.Prefix kind.Prefix = refl
+    by kind.Prefix kind.Func = refl
+    by kind.Prefix kind.List = refl
+    by kind.Func kind.Unit = refl
+    by kind.Func kind.Prefix = refl
+    by kind.Func kind.Func = refl
+    by kind.Func kind.List = refl
+    by kind.List kind.Unit = refl
+    by kind.List kind.Prefix = refl
+    by kind.List kind.Func = refl
+    by kind.List kind.List = refl
+
+-- each name keeps its number, and a name that gets a new number was not in the list before
+pub record IsMore (old new : List (List ℕ)) : Type 0 where
+  pub stays : (i : ℕ) (name : List ℕ) → slice_get old i ≡ Some name → slice_get new i ≡ Some name
+  pub among : (p : List ℕ → Bool) → list_any p old ≡ true → list_any p new ≡ true
+  pub fresh : (i : ℕ) (name : List ℕ) → slice_get old i ≡ None → slice_get new i ≡ Some name
+      → list_any (bytes_eq name) old ≡ false
+
+-- a list of names extends itself
+more_same : (names : List (List ℕ)) → IsMore names names
+more_same names = record { stays = λ i name h. h; among = λ p h. h; fresh = λ i name h g. cc }
+
+-- a list with one more name extends the list
+more_one : (new : List ℕ) (names : List (List ℕ)) → IsMore names (with_name new names)
+more_one new names = record { stays = name_stays new names; among = name_among new names; fresh = name_new new names }
+
+-- extension is transitive
+more_then : (a b c : List (List ℕ)) → IsMore a b → IsMore b c → IsMore a c
+more_then a b c f g = record {
+  stays = λ i name h. g.stays i name (f.stays i name h);
+  among = λ p h. g.among p (f.among p h);
+  fresh = λ i name h e. by i name h e (slice_get b i) refl;
+}
+  where
+    not_among : (name : List ℕ) (t : Bool) → list_any (bytes_eq name) a ≡ t → list_any (bytes_eq name) b ≡ false
+        → list_any (bytes_eq name) a ≡ false
+    not_among name true h e = absurd (both (sym (f.among (bytes_eq name) h) ∙ e))
+      where
+        both : true ≡ false → ⊥
+        both q = cc
+    not_among name false h e = h
+
+    by : (i : ℕ) (name : List ℕ) → slice_get a i ≡ None → slice_get c i ≡ Some name → (o : Option (List ℕ))
+        → slice_get b i ≡ o → list_any (bytes_eq name) a ≡ false
+    by i name h e None q = not_among name (list_any (bytes_eq name) a) refl (g.fresh i name q e)
+    by i name h e (Some other) q =
+        let same : other ≡ name = same_Some other name (sym (g.stays i other q) ∙ e) in
+        f.fresh i name h (q ∙ ap Some same)
+
+-- a number for one more key extends the names of each kind
+more_key : (names : Names) (k : Key) (a : Kind) → IsMore (names_of_kind names a) (names_of_kind (with_key names k) a)
+more_key names k a = subst (IsMore (names_of_kind names a)) (sym (names_by names k a)) (by (is_same_kind a k.kind))
+  where
+    by : (b : Bool) → IsMore (names_of_kind names a)
+        (cond b (with_name k.name (names_of_kind names a)) (names_of_kind names a))
+    by true = more_one k.name (names_of_kind names a)
+    by false = more_same (names_of_kind names a)
+
+-- the definition of a line extends the names of each kind
+more_definition : (names : Names) (o : Option (Key × Entry)) (a : Kind)
+    → IsMore (names_of_kind names a) (names_of_kind (with_definition names o) a)
+more_definition names None a = more_same (names_of_kind names a)
+more_definition names (Some d) a = more_key names d.0 a
+
+-- the definitions of more lines extend the names of each kind
+pub more_lines : (lines : List DeckLine) (names : Names) (a : Kind)
+    → IsMore (names_of_kind names a) (names_of_kind (with_definitions names lines) a)
+more_lines [] names a = more_same (names_of_kind names a)
+more_lines (line ∷ lines) names a =
+    more_then (names_of_kind names a) (names_of_kind (with_definition names (entry_in line)) a)
+    (names_of_kind (with_definitions names (line ∷ lines)) a)
+    (more_definition names (entry_in line) a) (more_lines lines (with_definition names (entry_in line)) a)
+
+-- the definition at a place stays the same when lines are appended
+definition_more : (xs ys : List DeckLine) (place : ℕ) (e : Key × Entry) → definition_at xs place ≡ Some e
+    → definition_at (xs ++ ys) place ≡ Some e
+definition_more xs ys place e h = by (slice_get xs place) refl h
+  where
+    by : (o : Option DeckLine) → slice_get xs place ≡ o → option_and_then entry_in o ≡ Some e
+        → option_and_then entry_in (slice_get (xs ++ ys) place) ≡ Some e
+    by None q g = cc
+    by (Some x) q g = ap (option_and_then entry_in) (get_more xs ys place x q) ∙ g
+
+-- definitions stay in place when lines are appended
+pub in_place_more : (xs ys : List DeckLine) (ds : Definitions) → AreInPlace xs ds → AreInPlace (xs ++ ys) ds
+in_place_more xs ys ds h = λ k d e. definition_more xs ys d.0 (k, d.1) (h k d e)
+
+-- definitions stay in place when the store is extended
+pub in_place_behind : (old new : Store) (ds : Definitions) → AreInPlace old.lines ds → Extends old new
+    → AreInPlace new.lines ds
+in_place_behind old new ds h e =
+    subst (λ (s : Store). AreInPlace s.lines ds) (sym e.put) (in_place_more old.lines e.lines ds h)
+
+module _ (old new : Names) (each : (a : Kind) → IsMore (names_of_kind old a) (names_of_kind new a)) where
+  key_stays : (n : KeyNumber) (k : Key) → key_numbered old n ≡ Some k → key_numbered new n ≡ Some k
+  key_stays n k h = by (slice_get (names_of_kind old n.kind) n.number) refl h
+    where
+      by : (o : Option (List ℕ)) → slice_get (names_of_kind old n.kind) n.number ≡ o
+          → option_map (key n.kind) o ≡ Some k
+          → key_numbered new n ≡ Some k
+      by None q g = cc
+      by (Some name) q g = ap (option_map (key n.kind)) ((each n.kind).stays n.number name q) ∙ g
+
+  key_fresh : (n : KeyNumber) (k : Key) → key_numbered old n ≡ None → key_numbered new n ≡ Some k
+      → is_numbered old k ≡ false
+  key_fresh n k h g =
+      by (slice_get (names_of_kind old n.kind) n.number) refl h (slice_get (names_of_kind new n.kind) n.number) refl g
+    where
+      by : (o : Option (List ℕ)) → slice_get (names_of_kind old n.kind) n.number ≡ o → option_map (key n.kind) o ≡ None
+          →
+          (p : Option (List ℕ)) → slice_get (names_of_kind new n.kind) n.number ≡ p → option_map (key n.kind) p ≡ Some k
+          → is_numbered old k ≡ false
+      by (Some name) q e p r f = cc
+      by None q e None r f = cc
+      by None q e (Some name) r f =
+          subst (λ j. is_numbered old j ≡ false) (same_Some (key n.kind name) k f)
+          ((each n.kind).fresh n.number name q r)
+
+-- a key without a number has no last place
+pub unplaced : (store : Store) (settings : Settings) (k : Key) → IsNumbering store → is_numbered store.names k ≡ false
+    → place_of (active_definitions settings store.lines) k ≡ None
+unplaced store settings k numbering h = by (lookup (is_same k) (active_definitions settings store.lines)) refl
+  where
+    by : (o : Option (ℕ × Entry)) → lookup (is_same k) (active_definitions settings store.lines) ≡ o
+        → option_map (λ p. p.0) o ≡ None
+    by None q = refl
+    by (Some d) q =
+        let numbered : is_numbered store.names k ≡ true =
+        numbering.each d.0 (k, d.1) (in_place settings store.lines k d q) in
+        absurd (true≢false (sym numbered ∙ h))
+
+-- the last places stay valid when lines are appended and their keys get numbers
+pub last_behind : (old new : Store) (settings : Settings) (last : LastPlaces) → IsNumbering old
+    → AreLast old.names (active_definitions settings old.lines) last → Extends old new
+    → AreLast new.names (active_definitions settings old.lines) last
+last_behind old new settings last numbering h e =
+    let each : (a : Kind) → IsMore (names_of_kind old.names a) (names_of_kind new.names a) =
+    λ a. subst (λ (s : Store). IsMore (names_of_kind old.names a) (names_of_kind s.names a)) (sym e.put)
+    (more_lines e.lines old.names a) in
+    last_extended old.names new.names (active_definitions settings old.lines) last h
+    (key_stays old.names new.names each)
+    (λ n k none some. unplaced old settings k numbering (key_fresh old.names new.names each n k none some))
+
+-- the front of an appended list is the first list
+pub take_front : {A : Type 0} (xs ys : List A) → take (length xs) (xs ++ ys) ≡ xs
+take_front [] ys = refl
+take_front (x ∷ xs) ys = ap (λ t. x ∷ t) (take_front xs ys)
+
+-- the old lines are the front of the extended store
+pub front_kept : (old new : Store) (n : ℕ) → n ≡ length old.lines → Extends old new → take n new.lines ≡ old.lines
+front_kept old new n same e = ap (λ m. take m new.lines) same
+    ∙ ap (λ (s : Store). take (length old.lines) s.lines) e.put ∙ take_front old.lines e.lines
+
+-- after a refusal removes the appended lines, the last places are still those of the store
+pub indexed_again : (old new store : Store) (settings : Settings) (last : LastPlaces) → IsNumbering old
+    → IsIndexed old settings last → Extends old new → store.lines ≡ old.lines → store.names ≡ new.names
+    → IsIndexed store settings last
+indexed_again old new store settings last numbering h e lines names = record {
+  closed = subst AreBlocksClosed (sym lines) h.closed;
+  places =
+      subst (λ ls. AreLast store.names (active_definitions settings ls) last) (sym lines)
+      (subst (λ ns. AreLast ns (active_definitions settings old.lines) last) (sym names)
+      (last_behind old new settings last numbering h.places e));
+}

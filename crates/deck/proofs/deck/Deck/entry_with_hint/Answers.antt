@@ -1,0 +1,17 @@
+use Rattle.std.proofs.Common.{ap, sym, ◌∙◌, option_map}
+use Rattle.def_entry.specs.Keys.{key}
+use Rattle.deck_lines.specs.Stores.{definition_at}
+use Rattle.deck.specs.Decks.{Contents}
+use Rattle.deck.specs.Numbers.{entry_there}
+use Rattle.deck.specs.Tables.{active_definitions}
+use Rattle.deck.proofs.ChangedKeys.{entry_placed}
+use Rattle.deck.proofs.PlacedDefinitions.{in_place}
+use Rattle.deck.proofs.deck.Deck.entry_with_hint.Goals as goal
+
+pub returns-then-is_last_place : goal.returns-then-is_last_place
+returns-then-is_last_place c =
+    let d = c.args.self.now in
+    c.entry.ensures ∙ ap (λ (e : Contents). option_map (λ p. p.1) (definition_at e.lines c.args.near)) c.self.view_is
+    ∙ ap (entry_there d.lines) (sym c.if-is_last_place.ensures)
+    ∙ entry_placed d.lines (active_definitions d.settings d.lines) (in_place d.settings d.lines)
+    (key c.args.kind c.args.name.now)

@@ -1,6 +1,0 @@
-use Rattle.std.proofs.Common.{◌∙◌}
-use Rattle.deck.proofs.TextPlaces.{held_if_found}
-use Rattle.deck.proofs.holding.holds.Goals as goal
-
-pub returns : goal.returns
-returns c = c.is_some.ensures ∙ held_if_found c.args.bytes.now c.args.finder.now c.find.result c.find.ensures

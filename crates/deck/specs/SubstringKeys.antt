@@ -1,0 +1,28 @@
+-- Keys whose names contain a text.
+use Rattle.std.specs.Prelude.{◌&&◌, ◌||◌, ℕ, List, [], ◌∷◌, Bool, false, nat_eq, Option, Some, None, is_some}
+use Rattle.std.specs.List.{filter, starts_with}
+use Rattle.def_entry.specs.declared.key.Key.{Key}
+use Rattle.deck_lines.specs.Names.{Names, key_numbered}
+use Rattle.deck_lines.specs.declared.key_number.KeyNumber.{KeyNumber}
+use Rattle.deck.specs.KeyLists.{table_keys}
+use Rattle.deck.specs.LastPlaces.{place_at}
+use Rattle.deck.specs.Tables.{Table}
+use Rattle.deck.specs.declared.places.last_places.LastPlaces.{LastPlaces}
+
+-- the text is a substring of the bytes
+abbrev pub holds : (bytes text : List ℕ) → Bool
+holds [] text = starts_with nat_eq [] text
+holds (b ∷ bytes) text = starts_with nat_eq (b ∷ bytes) text || holds bytes text
+
+-- the keys of a table whose names contain the text, in order
+abbrev pub keys_holding : List ℕ → Table → List Key
+keys_holding text table = filter (λ k. holds k.name text) (table_keys table)
+
+-- a key is present, and its name contains the text
+abbrev pub is_holding : List ℕ → Option Key → Bool
+is_holding text None = false
+is_holding text (Some k) = holds k.name text
+
+-- the key with this number has a last place, and its name contains the text
+abbrev pub is_found : Names → LastPlaces → List ℕ → KeyNumber → Bool
+is_found names last text n = is_some (place_at last n) && is_holding text (key_numbered names n)

@@ -1,0 +1,161 @@
+//! Appending the deck of a file to a deck.
+
+ghost use Rattle.std.specs.Prelude.{◌≡◌, ◌⊎◌, ◌≤◌, [], Some, Ok, Err, true, false, IfOk, IfErr, MatchResult, OnOk};
+ghost use Rattle.std.specs.Prelude.{OnErr};
+ghost use Rattle.units_io.specs.FileMap.{FileMap};
+ghost use Rattle.deck_lines.specs.Limits.{pass_limit};
+ghost use Rattle.deck_lines.specs.Loads.{Extends};
+ghost use Rattle.deck_lines.specs.KeyNumbering.{IsNumbering};
+ghost use Rattle.deck_lines.specs.Steps.{excerpt_in};
+ghost use Rattle.deck.specs.Changes.{IsChange, IsTableChange};
+ghost use Rattle.deck.specs.Decks.{Contents};
+ghost use Rattle.deck.specs.LastPlaces.{IsIndexed};
+ghost use Rattle.deck.specs.FileLoads as loading;
+ghost use Rattle.deck.specs.Tables.{active_definitions, table_of};
+
+use super::Deck;
+use super::file_load::load_file;
+use crate::fault::DeckFault;
+use crate::places::{LastPlaces, changed_keys};
+use crate::settings::Settings;
+use deck_lines::{Draft, LineStore, Notices};
+use def_entry::Keys;
+use std::alloc::Global;
+use std::mem;
+use units_io::Files;
+
+impl Deck {
+    /// Appends the deck of the file with this name, and of the files that it includes, and returns the keys whose
+    /// entries change. The errors are those of `load`, with `DeckFull` if the deck as a whole would pass a limit. On an
+    /// error the deck is unchanged.
+    pub fn append<F: Files>(
+        &mut self,
+        alloc: Global,
+        files: &mut F,
+        name: &[u8],
+    ) -> Result<Keys, DeckFault>
+        ensures told { (m : FileMap) → F.files files.old ≡ Some m
+            → loading.IsAppended (loading.after_append m name.now self.old) self.new result }
+        ensures ends { loading.IsLoadEnd (F.files files.old) name.now (loading.lines_alone self.old.lines)
+            (λ _. loading.excerpt_of self.new) result }
+        ensures changed { IfOk result (λ keys. IsChange self.old self.new keys) }
+        ensures settings { self.new.settings ≡ self.old.settings }
+        ensures err { OnErr result (self.new ≡ self.old) }
+        ensures answers { IfErr result (λ fault. loading.is_load_fault fault ≡ true) }
+        ensures kept { F.files files.new ≡ F.files files.old }
+        ensures stores { F.store_faults files.new ≡ F.store_faults files.old }
+        ensures counted { F.faults files.new ≡ loading.fetch_faults_after (F.faults files.old) result }
+    {
+        let FileEnd { changes, notices } = append_file(
+            alloc,
+            files,
+            &mut self.store,
+            &self.last,
+            &self.settings,
+            name,
+        )?;
+        self.last = changes.last;
+        self.notices = notices;
+        Ok(changes.keys)
+    }
+}
+
+// The new last places, and the keys whose entries differ from those at the previous last places.
+#[derive(Drop)]
+struct PlaceChanges {
+    last: LastPlaces,
+    keys: Keys,
+}
+
+// The changes that appending the deck of a file makes, and the notices of that file.
+#[derive(Drop)]
+struct FileEnd {
+    changes: PlaceChanges,
+    notices: Notices,
+}
+
+// Appends the deck of a file to the lines of a deck. On an error the lines are unchanged.
+fn append_file<F: Files>(
+    alloc: Global,
+    files: &mut F,
+    store: &mut LineStore,
+    last: &LastPlaces,
+    settings: &Settings,
+    name: &[u8],
+) -> Result<FileEnd, DeckFault>
+    requires { IsIndexed store.old settings.now last.now }
+    ensures told { (m : FileMap) (d : Contents) → F.files files.old ≡ Some m → d.lines ≡ store.old.lines →
+        MatchResult result
+        (λ end. loading.after_append m name.now d ≡ Ok (record d { lines = store.new.lines; notices = end.notices }))
+        (λ fault. loading.MayFail fault ⊎ (loading.after_append m name.now d ≡ Err fault)) }
+    ensures ends { loading.IsLoadEnd (F.files files.old) name.now (loading.lines_alone store.old.lines)
+        (λ end. record { lines = store.new.lines; notices = end.notices }) result }
+    ensures indexed { IfOk result (λ end. IsIndexed store.new settings.now end.changes.last) }
+    ensures changed { IfOk result (λ end. IsTableChange
+        (table_of (active_definitions settings.now store.old.lines))
+        (table_of (active_definitions settings.now store.new.lines)) end.changes.keys) }
+    ensures lines { OnErr result (store.new.lines ≡ store.old.lines) }
+    ensures stays { OnErr result (IsIndexed store.new settings.now last.now) }
+    ensures answers { IfErr result (λ fault. loading.is_load_fault fault ≡ true) }
+    ensures kept { F.files files.new ≡ F.files files.old }
+    ensures stores { F.store_faults files.new ≡ F.store_faults files.old }
+    ensures counted { F.faults files.new ≡ loading.fetch_faults_after (F.faults files.old) result }
+{
+    let len = store.len();
+    let mut draft = draft_of(alloc, store);
+    let changes = load_changes(alloc, files, &mut draft, last, settings, name);
+    *store = draft.store;
+    let notices = draft.notices;
+    match changes {
+        Ok(changes) => Ok(FileEnd { changes, notices }),
+        Err(fault) => {
+            store.truncate(len);
+            Err(fault)
+        }
+    }
+}
+
+// Moves the lines of a store to a new draft.
+fn draft_of(alloc: Global, store: &mut LineStore) -> Draft
+    ensures store { result.store ≡ store.old }
+    ensures notices { result.notices ≡ [] }
+{
+    let seed = store.table_seed();
+    Draft {
+        store: mem::replace(store, LineStore::new(alloc, seed)),
+        notices: Notices::new(alloc),
+    }
+}
+
+// Appends the deck of a file to the lines of a draft, and returns the changes.
+fn load_changes<F: Files>(
+    alloc: Global,
+    files: &mut F,
+    draft: &mut Draft,
+    last: &LastPlaces,
+    settings: &Settings,
+    name: &[u8],
+) -> Result<PlaceChanges, DeckFault>
+    requires notices { draft.old.notices ≡ [] }
+    requires indexed { IsIndexed draft.old.store settings.now last.now }
+    requires numbering { IsNumbering draft.old.store }
+    ensures told { (m : FileMap) (d : Contents) → F.files files.old ≡ Some m → d.lines ≡ draft.old.store.lines →
+        loading.IsLoadRead (loading.after_append m name.now d) d draft.new.store.lines draft.new.notices result }
+    ensures ends { loading.IsLoadEnd (F.files files.old) name.now (loading.lines_alone draft.old.store.lines)
+        (λ _. excerpt_in draft.new) result }
+    ensures within { OnOk result (pass_limit draft.new.store.lines ≡ false) }
+    ensures extends { Extends draft.old.store draft.new.store }
+    ensures indexed { IfOk result (λ now. IsIndexed draft.new.store settings.now now.last) }
+    ensures changed { IfOk result (λ now. IsTableChange
+        (table_of (active_definitions settings.now draft.old.store.lines))
+        (table_of (active_definitions settings.now draft.new.store.lines)) now.keys) }
+    ensures answers { IfErr result (λ fault. loading.is_load_fault fault ≡ true) }
+    ensures kept { F.files files.new ≡ F.files files.old }
+    ensures stores { F.store_faults files.new ≡ F.store_faults files.old }
+    ensures counted { F.faults files.new ≡ loading.fetch_faults_after (F.faults files.old) result }
+{
+    load_file(alloc, files, draft, name)?;
+    let now = LastPlaces::under(alloc, settings, &draft.store)?;
+    let keys = changed_keys(alloc, &draft.store, last, &now)?;
+    Ok(PlaceChanges { last: now, keys })
+}

@@ -1,0 +1,85 @@
+//! Loading decks from files and texts.
+
+ghost use Rattle.std.specs.Prelude.{◌≡◌, ◌≤◌, [], Some, true, length, IfOk, IfErr, OnOk};
+ghost use Rattle.units_io.specs.FileMap.{FileMap, longest_file};
+ghost use Rattle.deck_lines.specs.ClosedBlocks.{AreBlocksClosed};
+ghost use Rattle.deck_lines.specs.Loads.{Extends};
+ghost use Rattle.deck_lines.specs.Steps.{excerpt_in};
+ghost use Rattle.deck.specs.Decks.{Contents};
+ghost use Rattle.deck.specs.FileLoads as loading;
+
+use super::Deck;
+use crate::fault::DeckFault;
+use crate::no_files::NoFiles;
+use crate::settings::Settings;
+use deck_lines::{Draft, load_text};
+use std::alloc::Global;
+use units_io::Files;
+
+impl Deck {
+    /// Returns the deck of a text of at most 16,777,216 bytes, in which each include is of an absent file. Its notices
+    /// contain `name`. The error is `DeckFull` if its lines pass a limit; the only other error is running out of
+    /// memory.
+    pub fn from_text(
+        alloc: Global,
+        text: &[u8],
+        name: &[u8],
+        settings: Settings,
+    ) -> Result<Deck, DeckFault>
+        requires { length text.now ≤ longest_file }
+        ensures { loading.IsLoadResult (loading.after_text text.now name.now settings) result }
+    {
+        let mut draft = Draft::new(alloc, settings.vars.table_seed());
+        load_text(alloc, &mut NoFiles::new(), &mut draft, name, text)?;
+        Ok(Deck::from_parts(alloc, draft.store, settings, draft.notices)?)
+    }
+
+    /// Returns the deck of the file with this name and of the files that it includes.
+    ///
+    /// The error is `Absent` or `TooLong` if `files` reports this for the file itself. Otherwise it is the first in the
+    /// order of reading: `ReadFailed` if the fetch of a file fails, which `files` counts, `DeckFull` if a line has no
+    /// room, and `OutOfMemory` if an allocation fails.
+    pub fn load<F: Files>(
+        alloc: Global,
+        files: &mut F,
+        name: &[u8],
+        settings: Settings,
+    ) -> Result<Deck, DeckFault>
+        ensures told { (m : FileMap) → F.files files.old ≡ Some m
+            → loading.IsLoaded (loading.after_load m name.now settings) result }
+        ensures ends { loading.IsLoadEnd (F.files files.old) name.now (loading.lines_alone []) loading.excerpt_of result }
+        ensures settings { IfOk result (λ d. d.settings ≡ settings) }
+        ensures answers { IfErr result (λ fault. loading.is_load_fault fault ≡ true) }
+        ensures kept { F.files files.new ≡ F.files files.old }
+        ensures stores { F.store_faults files.new ≡ F.store_faults files.old }
+        ensures counted { F.faults files.new ≡ loading.fetch_faults_after (F.faults files.old) result }
+    {
+        let mut draft = Draft::new(alloc, settings.vars.table_seed());
+        load_file(alloc, files, &mut draft, name)?;
+        Ok(Deck::from_parts(alloc, draft.store, settings, draft.notices)?)
+    }
+}
+
+// Appends the deck of the file with this name, and of the files that it includes, to a draft.
+pub(crate) fn load_file<F: Files>(
+    alloc: Global,
+    files: &mut F,
+    draft: &mut Draft,
+    name: &[u8],
+) -> Result<(), DeckFault>
+    requires { draft.old.notices ≡ [] }
+    ensures told { (m : FileMap) (d : Contents) → F.files files.old ≡ Some m → d.lines ≡ draft.old.store.lines
+        → loading.IsLoadRead (loading.after_append m name.now d) d draft.new.store.lines draft.new.notices result }
+    ensures ends { loading.IsLoadEnd (F.files files.old) name.now (excerpt_in draft.old)
+        (λ _. excerpt_in draft.new) result }
+    ensures extends { Extends draft.old.store draft.new.store }
+    ensures closed { OnOk result (AreBlocksClosed draft.old.store.lines → AreBlocksClosed draft.new.store.lines) }
+    ensures answers { IfErr result (λ fault. loading.is_load_fault fault ≡ true) }
+    ensures kept { F.files files.new ≡ F.files files.old }
+    ensures stores { F.store_faults files.new ≡ F.store_faults files.old }
+    ensures counted { F.faults files.new ≡ loading.fetch_faults_after (F.faults files.old) result }
+{
+    let text = files.fetch(alloc, name)?;
+    load_text(alloc, files, draft, name, text.as_bytes())?;
+    Ok(())
+}

@@ -1,0 +1,38 @@
+use Rattle.std.proofs.Common.{◌<◌, List, arith, ap, length, map, subst, ◌∙◌}
+use Rattle.std.proofs.lemmas.List.{take_all}
+use Rattle.deck_lines.specs.Loads.{with_definitions}
+use Rattle.deck_lines.specs.Names.{no_names}
+use Rattle.deck_lines.specs.NumberedKeys.{names_in}
+use Rattle.deck_lines.specs.Readings.{entry_in}
+use Rattle.deck_lines.specs.Renumberings.{AreNumbers}
+use Rattle.deck_lines.specs.declared.line.DeckLine.{DeckLine}
+use Rattle.deck_lines.proofs.RenumberedKeys.{names_more, numbers_more, unique_more}
+use Rattle.deck_lines.proofs.store.new_key_numbers.Renumbering.of_store.Goals as goal
+
+pub loop-place-preserved : goal.loop-place-preserved
+loop-place-preserved c =
+    let lines = c.args.store.now.lines in
+    let i = c.loop-place.place in
+    let was = names_in c.loop-place.keys in
+    let now = names_in c.number_line.new.keys in
+    let inside : i < length lines = omega (arith, c.loop-place-test.true, c.len-place-end.ensures.count) in
+    record {
+      names = names_more was now lines i inside c.in_ok-number.ensures.names c.loop-place.invariant.names;
+      each =
+          numbers_more was now lines i inside c.in_ok-number.ensures.names c.loop-place.of_lines.items _
+          c.in_ok-number.number c.in_ok-push.ensures.items c.in_ok-number.ensures.number c.loop-place.invariant.each;
+      unique = unique_more was now lines i inside c.in_ok-number.ensures.names c.loop-place.invariant.unique;
+    }
+
+pub returns : goal.returns
+returns c =
+    let lines : List DeckLine = c.args.store.now.lines in
+    let all = take_all c.loop-place.place lines
+    (omega (arith, c.loop-place-test.false, c.len-place-end.ensures.count)) in
+    record {
+      names = c.loop-place.invariant.names ∙ ap (with_definitions no_names) all;
+      each =
+          subst (λ ls. AreNumbers (names_in c.loop-place.keys) c.loop-place.of_lines.items (map entry_in ls)) all
+          c.loop-place.invariant.each;
+      unique = c.loop-place.invariant.unique;
+    }

@@ -1,0 +1,142 @@
+//! Replacement of lines and their marks in parallel vectors.
+
+ghost use Rattle.std.specs.Prelude.{◌≡◌, ◌++◌, ◌+◌, ◌≤◌, [], length, map, take, drop, vec_capacity, vec_len, IfOk};
+ghost use Rattle.std.specs.Prelude.{IfErr, OnOk, OnErr};
+ghost use Rattle.deck_lines.specs.Exchanges.{HasExchangeRoom, IsExchanged};
+ghost use Rattle.deck_lines.specs.Marks.{line_without_mark, mark_of, with_marks};
+
+use super::exchange::exchange;
+use super::lists;
+use crate::line::{DeckLine, DeckLines};
+use def_lines::{Line, Lines};
+use std::alloc::{AllocError, AllocFailed, Global};
+
+/// Replaces the `cut` lines and marks from `at` on by those of `put`, and returns the replaced lines. If an allocation
+/// fails, the error hands `put` back and nothing changes.
+pub(crate) fn exchange_in_list(
+    alloc: Global,
+    lines: &mut Lines,
+    marks: &mut Vec<bool>,
+    at: usize,
+    cut: usize,
+    put: DeckLines,
+) -> Result<DeckLines, AllocFailed<DeckLines>>
+    requires each { length marks.old.items ≡ length lines.old }
+    requires places { at + cut ≤ length lines.old }
+    ensures ok { OnOk result (IsExchanged at cut (map line_without_mark put) lines.old lines.new
+        × IsExchanged at cut (map mark_of put) marks.old.items marks.new.items) }
+    ensures gone { IfOk result (λ gone.
+        gone ≡ with_marks (take cut (drop at lines.old)) (take cut (drop at marks.old.items))) }
+    ensures err { OnErr result ((lines.new ≡ lines.old) × (marks.new.items ≡ marks.old.items)) }
+    ensures back { IfErr result (λ refused. refused.value ≡ put) }
+{
+    let mut items = lists::take_items(lines, alloc);
+    let result = exchange_marked(alloc, &mut items, marks, at, cut, put);
+    *lines = Lines::from(items);
+    result
+}
+
+// Does the work of `exchange_in_list` in vectors.
+fn exchange_marked(
+    alloc: Global,
+    lines: &mut Vec<Line>,
+    marks: &mut Vec<bool>,
+    at: usize,
+    cut: usize,
+    put: DeckLines,
+) -> Result<DeckLines, AllocFailed<DeckLines>>
+    requires each { length marks.old.items ≡ length lines.old.items }
+    requires places { at + cut ≤ length lines.old.items }
+    ensures ok { OnOk result (IsExchanged at cut (map line_without_mark put) lines.old.items lines.new.items
+        × IsExchanged at cut (map mark_of put) marks.old.items marks.new.items) }
+    ensures gone { IfOk result (λ gone.
+        gone ≡ with_marks (take cut (drop at lines.old.items)) (take cut (drop at marks.old.items))) }
+    ensures err { OnErr result ((lines.new.items ≡ lines.old.items) × (marks.new.items ≡ marks.old.items)) }
+    ensures back { IfErr result (λ refused. refused.value ≡ put) }
+{
+    let Ok(room) = room_for(alloc, lines, marks, put.len(), cut) else {
+        return Err(AllocFailed { value: put });
+    };
+    let ExchangeRoom {
+        mut put_lines,
+        mut put_marks,
+        mut gone_lines,
+        mut gone_marks,
+        mut gone,
+    } = room;
+    take_apart(put, &mut put_lines, &mut put_marks);
+    exchange(lines, at, cut, &mut put_lines, &mut gone_lines);
+    exchange(marks, at, cut, &mut put_marks, &mut gone_marks);
+    put_together(gone_lines, gone_marks, &mut gone);
+    Ok(DeckLines::from(gone))
+}
+
+/// Empty vectors for an exchange.
+#[derive(Drop)]
+struct ExchangeRoom {
+    put_lines: Vec<Line>,
+    put_marks: Vec<bool>,
+    gone_lines: Vec<Line>,
+    gone_marks: Vec<bool>,
+    gone: Vec<DeckLine>,
+}
+
+// Makes room for an exchange.
+fn room_for(
+    alloc: Global,
+    lines: &mut Vec<Line>,
+    marks: &mut Vec<bool>,
+    put: usize,
+    cut: usize,
+) -> Result<ExchangeRoom, AllocError>
+    ensures lines { lines.new.items ≡ lines.old.items }
+    ensures marks { marks.new.items ≡ marks.old.items }
+    ensures line_room { OnOk result (vec_len lines.new + put ≤ vec_capacity lines.new) }
+    ensures mark_room { OnOk result (vec_len marks.new + put ≤ vec_capacity marks.new) }
+    ensures room { IfOk result (HasExchangeRoom put cut) }
+{
+    lines.reserve(put)?;
+    marks.reserve(put)?;
+    Ok(ExchangeRoom {
+        put_lines: Vec::with_capacity(alloc, put)?,
+        put_marks: Vec::with_capacity(alloc, put)?,
+        gone_lines: Vec::with_capacity(alloc, cut)?,
+        gone_marks: Vec::with_capacity(alloc, cut)?,
+        gone: Vec::with_capacity(alloc, cut)?,
+    })
+}
+
+// Splits lines with marks into two empty vectors that have room for the lines and the marks.
+fn take_apart(from: DeckLines, lines: &mut Vec<Line>, marks: &mut Vec<bool>)
+    requires line_room { length from ≤ vec_capacity lines.old }
+    requires mark_room { length from ≤ vec_capacity marks.old }
+    requires no_lines { lines.old.items ≡ [] }
+    requires no_marks { marks.old.items ≡ [] }
+    ensures lines { lines.new.items ≡ map line_without_mark from }
+    ensures marks { marks.new.items ≡ map mark_of from }
+{
+    let mut rest = from.into_vec();
+    while let Some(line) = rest.pop() {
+        let DeckLine { number, text, mark } = line;
+        lists::put_last(lines, Line { number, text });
+        lists::put_last(marks, mark);
+    }
+    lines.reverse();
+    marks.reverse();
+}
+
+// Joins lines and their marks in an empty vector with room for them.
+fn put_together(mut lines: Vec<Line>, mut marks: Vec<bool>, into: &mut Vec<DeckLine>)
+    requires each { length marks.items ≡ length lines.items }
+    requires room { length lines.items ≤ vec_capacity into.old }
+    requires empty { into.old.items ≡ [] }
+    ensures { into.new.items ≡ with_marks lines.items marks.items }
+{
+    while let Some(line) = lines.pop() {
+        if let Some(mark) = marks.pop() {
+            let Line { number, text } = line;
+            lists::put_last(into, DeckLine { number, text, mark });
+        }
+    }
+    into.reverse();
+}

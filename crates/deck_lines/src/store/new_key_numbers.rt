@@ -1,0 +1,70 @@
+//! New numbers for the keys that lines define.
+
+ghost use Rattle.std.specs.Prelude.{◌≡◌, Some, length, option_map, IfOk, OnOk};
+ghost use Rattle.deck_lines.specs.Names.{key_numbered, names_of_kind};
+ghost use Rattle.deck_lines.specs.NumberedKeys.{names_in};
+ghost use Rattle.deck_lines.specs.Renumberings.{IsRenumbering, names_after};
+ghost use Rattle.deck_lines.specs.Stores.{definition_at, with_definition};
+
+use super::key_numbers::KeyNumbers;
+use super::line_store::LineStore;
+use crate::key_number::KeyNumber;
+use def_entry::{Key, Kind};
+use std::alloc::{AllocError, Global};
+use units_io::Text;
+
+/// New numbers for the keys that the lines of a store define, and for no other keys. They have no effect until they are
+/// passed to `LineStore::renumber`.
+#[derive(Drop)]
+pub struct Renumbering {
+    pub(crate) keys: KeyNumbers,
+    pub(crate) of_lines: Vec<Option<KeyNumber>>,
+}
+
+impl Renumbering {
+    /// Returns the numbers that keys would get if the lines of `store` were put into an empty store. Makes one pass
+    /// over the definitions, and reads no line. The only error is running out of memory.
+    pub fn of_store(alloc: Global, store: &LineStore) -> Result<Renumbering, AllocError>
+        ensures { IfOk result (λ r. IsRenumbering store.now.lines r) }
+    {
+        let mut keys = KeyNumbers::new(alloc, store.table_seed());
+        let mut of_lines = Vec::with_capacity(alloc, store.len())?;
+        for place in 0..store.len() {
+            let number = number_line(alloc, store, &mut keys, place)?;
+            of_lines.push(number)?;
+        }
+        Ok(Renumbering { keys, of_lines })
+    }
+
+    /// Returns the number of keys of a kind that have a number.
+    pub fn name_count(&self, kind: Kind) -> usize
+        ensures { result ≡ length (names_of_kind (names_after self.now) kind) }
+    {
+        self.keys.count(kind)
+    }
+}
+
+// Gives the next number of its kind to the key that a line defines, unless it has a number, and returns its number, or
+// `None` if the line defines nothing.
+fn number_line(
+    alloc: Global,
+    store: &LineStore,
+    keys: &mut KeyNumbers,
+    place: usize,
+) -> Result<Option<KeyNumber>, AllocError>
+    ensures names { OnOk result (names_in keys.new
+        ≡ with_definition (names_in keys.old) (definition_at store.now.lines place)) }
+    ensures number { IfOk result (λ n. option_map (key_numbered (names_in keys.new)) n
+        ≡ option_map (λ d. Some d.0) (definition_at store.now.lines place)) }
+{
+    let Some(number) = store.key_number(place) else {
+        return Ok(None);
+    };
+    let Some(name) = store.name(number) else {
+        unreachable!()
+    };
+    let kind = number.kind;
+    let name = Text::from_bytes(alloc, name)?;
+    keys.reserve_one(kind)?;
+    Ok(Some(keys.put(Key { kind, name })))
+}

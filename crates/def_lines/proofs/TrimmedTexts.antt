@@ -1,0 +1,153 @@
+-- Blanks at the ends of texts that are concatenated.
+use Rattle.std.proofs.Common.{◌≡◌, ◌≤◌, ◌++◌, ◌∷◌, [], ℕ, List, Bool, true, false, cond, not, reverse, length, drop}
+use Rattle.std.proofs.Common.{◌+◌, one-add}
+use Rattle.std.proofs.Common.{if◌then◌else◌, Result, Ok, Err, OnOk, is_ok, ◌==◌, refl, sym, ap, ◌∙◌, arith}
+use Rattle.std.specs.List.{prefix_len}
+use Rattle.std.proofs.lemmas.List.{reverse-append}
+use Rattle.std.proofs.lemmas.Bool.Decides.{Decides-eqb}
+use Rattle.units_io.specs.Blanks.{is_blank}
+use Rattle.def_lines.specs.Blanks.{after_blanks, before_blanks, trim_of}
+use Rattle.def_lines.specs.Parts.{is_begun}
+
+-- a leading blank is skipped
+pub after_blanks-blank : (b : ℕ) (bytes : List ℕ) → is_blank b ≡ true → after_blanks (b ∷ bytes) ≡ after_blanks bytes
+after_blanks-blank b bytes blank = ap (λ t. cond t (after_blanks bytes) (b ∷ bytes)) blank
+
+-- a leading byte that is not a blank is not skipped
+pub after_blanks-word : (b : ℕ) (bytes : List ℕ) → is_blank b ≡ false → after_blanks (b ∷ bytes) ≡ b ∷ bytes
+after_blanks-word b bytes word = ap (λ t. cond t (after_blanks bytes) (b ∷ bytes)) word
+
+-- the leading blanks are the longest prefix of blanks
+pub passed_over : (bytes : List ℕ) → drop (prefix_len is_blank bytes) bytes ≡ after_blanks bytes
+passed_over [] = refl
+passed_over (b ∷ bytes) = go (is_blank b) refl (passed_over bytes)
+  where
+    go : (t : Bool) → is_blank b ≡ t → drop (prefix_len is_blank bytes) bytes ≡ after_blanks bytes
+        → drop (prefix_len is_blank (b ∷ bytes)) (b ∷ bytes) ≡ after_blanks (b ∷ bytes)
+    go true e rest =
+        ap (λ t. drop (cond t (1 + prefix_len is_blank bytes) 0) (b ∷ bytes)) e
+        ∙ ap (λ n. drop n (b ∷ bytes)) (one-add (prefix_len is_blank bytes))
+        ∙ rest ∙ sym (after_blanks-blank b bytes e)
+    go false e rest =
+        ap (λ t. drop (cond t (1 + prefix_len is_blank bytes) 0) (b ∷ bytes)) e ∙ sym (after_blanks-word b bytes e)
+
+-- skipping blanks does not make a text longer
+pub length-after_blanks : (bytes : List ℕ) → length (after_blanks bytes) ≤ length bytes
+length-after_blanks [] = omega arith
+length-after_blanks (b ∷ bytes) = go (is_blank b) refl (length-after_blanks bytes)
+  where
+    go : (t : Bool) → is_blank b ≡ t → length (after_blanks bytes) ≤ length bytes
+        → length (after_blanks (b ∷ bytes)) ≤ length (b ∷ bytes)
+    go true e rest = omega (arith, ap length (after_blanks-blank b bytes e))
+    go false e rest = omega (arith, ap length (after_blanks-word b bytes e))
+
+-- a text without leading blanks does not start with a blank
+pub is_begun-after_blanks : (bytes : List ℕ) → is_begun (after_blanks bytes) ≡ true
+is_begun-after_blanks [] = refl
+is_begun-after_blanks (b ∷ bytes) = go (is_blank b) refl (is_begun-after_blanks bytes)
+  where
+    go : (t : Bool) → is_blank b ≡ t → is_begun (after_blanks bytes) ≡ true → is_begun (after_blanks (b ∷ bytes)) ≡ true
+    go true e rest = ap is_begun (after_blanks-blank b bytes e) ∙ rest
+    go false e rest = ap is_begun (after_blanks-word b bytes e) ∙ ap not e
+
+-- a byte that is not a blank stays at the end
+after_blanks-end_word : (b : ℕ) (bytes : List ℕ) → is_blank b ≡ false
+    → after_blanks (bytes ++ b ∷ []) ≡ after_blanks bytes ++ b ∷ []
+after_blanks-end_word b [] word = after_blanks-word b [] word
+after_blanks-end_word b (c ∷ bytes) word = go (is_blank c) refl (after_blanks-end_word b bytes word)
+  where
+    go : (t : Bool) → is_blank c ≡ t → after_blanks (bytes ++ b ∷ []) ≡ after_blanks bytes ++ b ∷ []
+        → after_blanks (c ∷ (bytes ++ b ∷ [])) ≡ after_blanks (c ∷ bytes) ++ b ∷ []
+    go true e rest = after_blanks-blank c (bytes ++ b ∷ []) e ∙ rest
+        ∙ ap (λ t. t ++ b ∷ []) (sym (after_blanks-blank c bytes e))
+    go false e rest = after_blanks-word c (bytes ++ b ∷ []) e
+        ∙ ap (λ t. t ++ b ∷ []) (sym (after_blanks-word c bytes e))
+
+-- a byte that is not a blank stays at the front
+pub before_blanks-word : (b : ℕ) (bytes : List ℕ) → is_blank b ≡ false
+    → before_blanks (b ∷ bytes) ≡ b ∷ before_blanks bytes
+before_blanks-word b bytes word =
+    ap (λ t. reverse (after_blanks t)) (reverse-append (b ∷ []) bytes)
+    ∙ ap reverse (after_blanks-end_word b (reverse bytes) word)
+    ∙ reverse-append (after_blanks (reverse bytes)) (b ∷ [])
+
+-- if a text does not start with a blank, trimming changes only its end
+pub trimmed-begun : (bytes : List ℕ) → is_begun bytes ≡ true → trim_of bytes ≡ before_blanks bytes
+trimmed-begun [] begun = refl
+trimmed-begun (b ∷ bytes) begun = go (is_blank b) refl
+  where
+    go : (t : Bool) → is_blank b ≡ t → trim_of (b ∷ bytes) ≡ before_blanks (b ∷ bytes)
+    go true e = let no : false ≡ true = sym (ap not e) ∙ begun in cc
+    go false e =
+        ap after_blanks (before_blanks-word b bytes e)
+        ∙ after_blanks-word b (before_blanks bytes) e
+        ∙ sym (before_blanks-word b bytes e)
+
+-- a blank at the end does not change the text left after trimming
+after_blanks-end_blank : (b : ℕ) (bytes : List ℕ) → is_blank b ≡ true
+    → after_blanks (reverse (after_blanks (bytes ++ b ∷ []))) ≡ after_blanks (reverse (after_blanks bytes))
+after_blanks-end_blank b [] blank = ap (λ t. after_blanks (reverse t)) (after_blanks-blank b [] blank)
+after_blanks-end_blank b (c ∷ bytes) blank = go (is_blank c) refl (after_blanks-end_blank b bytes blank)
+  where
+    go : (t : Bool) → is_blank c ≡ t
+        → after_blanks (reverse (after_blanks (bytes ++ b ∷ []))) ≡ after_blanks (reverse (after_blanks bytes))
+        → after_blanks (reverse (after_blanks (c ∷ (bytes ++ b ∷ []))))
+        ≡ after_blanks (reverse (after_blanks (c ∷ bytes)))
+    go true e rest =
+        ap (λ t. after_blanks (reverse t)) (after_blanks-blank c (bytes ++ b ∷ []) e)
+        ∙ rest
+        ∙ ap (λ t. after_blanks (reverse t)) (sym (after_blanks-blank c bytes e))
+    go false e rest =
+        ap (λ t. after_blanks (reverse t)) (after_blanks-word c (bytes ++ b ∷ []) e)
+        ∙ ap after_blanks (reverse-append (c ∷ bytes) (b ∷ []))
+        ∙ after_blanks-blank b (reverse (c ∷ bytes)) blank
+        ∙ ap (λ t. after_blanks (reverse t)) (sym (after_blanks-word c bytes e))
+
+-- a leading blank does not change the trimmed text
+pub trimmed-blank : (b : ℕ) (bytes : List ℕ) → is_blank b ≡ true → trim_of (b ∷ bytes) ≡ trim_of bytes
+trimmed-blank b bytes blank =
+    ap (λ t. after_blanks (reverse (after_blanks t))) (reverse-append (b ∷ []) bytes)
+    ∙ after_blanks-end_blank b (reverse bytes) blank
+
+-- leading blanks of a text that continues do not change the trimmed text
+pub trimmed-after_blanks : (bytes behind : List ℕ) → trim_of (after_blanks bytes ++ behind) ≡ trim_of (bytes ++ behind)
+trimmed-after_blanks [] behind = refl
+trimmed-after_blanks (b ∷ bytes) behind = go (is_blank b) refl (trimmed-after_blanks bytes behind)
+  where
+    go : (t : Bool) → is_blank b ≡ t → trim_of (after_blanks bytes ++ behind) ≡ trim_of (bytes ++ behind)
+        → trim_of (after_blanks (b ∷ bytes) ++ behind) ≡ trim_of (b ∷ (bytes ++ behind))
+    go true e rest = ap (λ t. trim_of (t ++ behind)) (after_blanks-blank b bytes e) ∙ rest
+        ∙ sym (trimmed-blank b (bytes ++ behind) e)
+    go false e rest = ap (λ t. trim_of (t ++ behind)) (after_blanks-word b bytes e)
+
+-- a text of length 0 is empty
+pub empty-nil : (text : List ℕ) → (length text == 0) ≡ true → text ≡ []
+empty-nil [] none = refl
+empty-nil (b ∷ text) none = let e : length (b ∷ text) ≡ 0 =
+    (Decides-eqb (length (b ∷ text)) 0).0 none in absurd (omega arith)
+
+-- bytes appended to an empty text lose their leading blanks
+pub put-first : {E : Type 0} (r : Result (Unit {0}) E) (old new part bytes : List ℕ) → (length old == 0) ≡ true
+    → part ≡ after_blanks bytes → new ≡ (if is_ok r then old ++ part else old)
+    → OnOk r ((behind : List ℕ) → trim_of (new ++ behind) ≡ trim_of (old ++ (bytes ++ behind)))
+put-first (Ok done) old new part bytes none from is = λ behind.
+    ap (λ t. trim_of (t ++ behind))
+    (is ∙ ap (λ t. old ++ t) from ∙ ap (λ t. t ++ after_blanks bytes) (empty-nil old none))
+    ∙ trimmed-after_blanks bytes behind
+    ∙ ap (λ t. trim_of (t ++ (bytes ++ behind))) (sym (empty-nil old none))
+put-first (Err fault) old new part bytes none from is = tt
+
+-- a text started with such bytes does not start with a blank
+pub is_begun-put-first : (t : Bool) (old new part bytes : List ℕ) → (length old == 0) ≡ true → part ≡ after_blanks bytes
+    → new ≡ (if t then old ++ part else old) → is_begun new ≡ true
+is_begun-put-first true old new part bytes none from is =
+    ap is_begun (is ∙ ap (λ t. old ++ t) from ∙ ap (λ t. t ++ after_blanks bytes) (empty-nil old none))
+    ∙ is_begun-after_blanks bytes
+is_begun-put-first false old new part bytes none from is = ap is_begun (is ∙ empty-nil old none)
+
+-- appending to a text that does not start with a blank preserves this
+pub is_begun-put : (t : Bool) (old new bytes : List ℕ) → (length old == 0) ≡ false → is_begun old ≡ true
+    → new ≡ (if t then old ++ bytes else old) → is_begun new ≡ true
+is_begun-put t [] new bytes some begun is = cc
+is_begun-put true (b ∷ old) new bytes some begun is = ap is_begun is ∙ begun
+is_begun-put false (b ∷ old) new bytes some begun is = ap is_begun is ∙ begun

@@ -1,5 +1,0 @@
-use Rattle.frac128.proofs.DigitRuns.{IsCollected}
-use Rattle.frac128.proofs.reading.significant.Given as goal
-
-abbrev pub invariant-loop-byte : goal.invariant-loop-byte
-invariant-loop-byte l = IsCollected l.bytes l.byte-index l.number l.zeros

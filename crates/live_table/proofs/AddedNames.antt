@@ -1,0 +1,219 @@
+-- The written steps of words stay right when names, listed numbers and dead ends are added.
+use Rattle.std.proofs.Common.{◌≡◌, ◌<◌, ◌≤◌, ℕ, zero, suc, true, List, [], ◌∷◌, ◌++◌, take, length, Option, Some}
+use Rattle.std.proofs.Common.{None, refl, sym, ◌∙◌, ap, subst, inl, inr, arith}
+use Rattle.std.specs.List.{slice_get}
+use Rattle.std.proofs.lemmas.List.{length-map}
+use Rattle.std.proofs.lemmas.Option.{slice_get-get_or}
+use Rattle.expr_tree.specs.declared.word_list.WordUse.{WordUse}
+use Rattle.def_entry.specs.declared.key.Key.{Key}
+use Rattle.def_entry.specs.Tables.{Table}
+use Rattle.name_walk.specs.declared.step.Step.{Step}
+use Rattle.name_walk.specs.declared.step.Step.TheVariants.{Nowhere, To}
+use Rattle.name_walk.specs.ClosedNames.{IsSettled}
+use Rattle.name_walk.specs.Lists.{In}
+use Rattle.name_walk.proofs.Lists.{nothing_twice}
+use Rattle.table_names.specs.declared.fault.NameFault.{NameFault}
+use Rattle.name_numbers.specs.NumberedNames.{AreWords, ForOne, ForRefused, ForTwo, ForUnknown, IsWord}
+use Rattle.live_table.specs.declared.dead_end.DeadEnd.{DeadEnd}
+use Rattle.live_table.specs.ExploredNames.{dead_end_fault, fault_at}
+use Rattle.live_table.specs.Exploration.{AreAdded, AreGrown, AreListed, AreWritten, IsKnown, IsMore}
+use Rattle.live_table.specs.Sound.{AreNumberedNames}
+use Rattle.live_table.specs.TableContents.{Listed, key_at}
+use Rattle.live_table.proofs.Places.{element, get_lt, some_same}
+
+-- ---- lists that grow
+pub more_length : {A : Type 0} (xs ys : List A) → IsMore xs ys → length xs ≤ length ys
+more_length [] ys m = omega arith
+more_length (x ∷ xs) [] m = let e : None ≡ Some x = m 0 x refl in cc
+more_length (x ∷ xs) (y ∷ ys) m = let h : length xs ≤ length ys = more_length xs ys (λ i z e. m (suc i) z e) in
+    omega arith
+
+-- the front of a list does not change when items are appended
+pub take_more : {A : Type 0} (xs ys : List A) (k : ℕ) → IsMore xs ys → k ≤ length xs → take k ys ≡ take k xs
+take_more xs ys zero m h = refl
+take_more [] ys (suc k) m h = absurd (omega arith)
+take_more (x ∷ xs) [] (suc k) m h = let e : None ≡ Some x = m 0 x refl in cc
+take_more (x ∷ xs) (y ∷ ys) (suc k) m h =
+    let e : y ≡ x = some_same y x (m 0 x refl) in
+    let t : take k ys ≡ take k xs = take_more xs ys k (λ i z q. m (suc i) z q) (omega arith) in
+    λ i. e i ∷ t i
+
+-- a member of a list is a member of a longer one
+pub in_more : (xs ys : List ℕ) (x : ℕ) → IsMore xs ys → In x xs → In x ys
+in_more [] ys x m i = absurd i
+in_more (y ∷ xs) [] x m i = let e : None ≡ Some y = m 0 y refl in cc
+in_more (y ∷ xs) (z ∷ ys) x m (inl e) = let q : z ≡ y = some_same z y (m 0 y refl) in inl (e ∙ sym q)
+in_more (y ∷ xs) (z ∷ ys) x m (inr i) = inr (in_more xs ys x (λ j w q. m (suc j) w q) i)
+
+-- appending items makes a longer list
+pub push_more : {A : Type 0} (xs ys : List A) → IsMore xs (xs ++ ys)
+push_more [] ys i x e = cc
+push_more (y ∷ xs) ys zero x e = e
+push_more (y ∷ xs) ys (suc i) x e = push_more xs ys i x e
+
+-- a number within the keys has its key
+pub key_read : (ks : List Key) (n : ℕ) → n < length ks → slice_get ks n ≡ Some (key_at ks n)
+key_read ks n h = slice_get-get_or ks n _ h
+
+-- a key that is found is that of its number
+pub key_found : (ks : List Key) (n : ℕ) (k : Key) → slice_get ks n ≡ Some k → (n < length ks) × (k ≡ key_at ks n)
+key_found ks n k e = (get_lt ks n k e, some_same k (key_at ks n) (sym e ∙ key_read ks n (get_lt ks n k e)))
+
+-- numbers have the same keys when keys are added
+pub key_same : (ks ls : List Key) (n : ℕ) → IsMore ks ls → n < length ks → key_at ls n ≡ key_at ks n
+key_same ks ls n m h = sym (key_found ls n (key_at ks n) (m n (key_at ks n) (key_read ks n h))).1
+
+-- dead ends have the same faults when dead ends are added
+pub fault_same : (ends more : List DeadEnd) (t : ℕ) → IsMore ends more → t < length ends → (holder : Option Key)
+    → fault_at more t holder ≡ fault_at ends t holder
+fault_same ends more t m h holder =
+    let s : (x : DeadEnd) × (slice_get ends t ≡ Some x) = element ends t h in
+    ap (λ (w : Option DeadEnd). dead_end_fault w holder) (m t s.0 s.1 ∙ sym s.1)
+
+-- ---- steps mean the same if the keys and dead ends do
+module _ (t : Table) (key later : ℕ → Key) (ends other : ℕ → Option Key → NameFault) where
+  same_word : (u : WordUse) (x y : Step) → ((r : ℕ) → In (To r) (x ∷ y ∷ []) → later r ≡ key r)
+      → ((b : ℕ) → In (Nowhere b) (x ∷ y ∷ []) → (holder : Option Key) → other b holder ≡ ends b holder)
+      → IsWord t key ends u x y → IsWord t later other u x y
+  same_word u x y h k (ForRefused b is e) = ForRefused b is (λ holder. k b (inl refl) holder ∙ e holder)
+  same_word u x y h k (ForUnknown b fine none e) = ForUnknown b fine none (λ holder. k b (inl refl) holder ∙ e holder)
+  same_word u x y h k (ForOne n fine e) = ForOne n fine (e ∙ ap (λ (q : Key). q ∷ []) (sym (h n (inl refl))))
+  same_word u x y h k (ForTwo n m fine e) =
+      ForTwo n m fine (e ∙ (λ i. sym (h n (inl refl)) i ∷ sym (h m (inr (inl refl))) i ∷ []))
+
+  front_in : (x y : Step) (xs : List Step) (s : Step) → In s (x ∷ y ∷ []) → In s (x ∷ y ∷ xs)
+  front_in x y xs s (inl e) = inl e
+  front_in x y xs s (inr (inl e)) = inr (inl e)
+  front_in x y xs s (inr (inr i)) = absurd i
+
+  pub same_words : (us : List WordUse) (xs : List Step) → ((r : ℕ) → In (To r) xs → later r ≡ key r)
+      → ((b : ℕ) → In (Nowhere b) xs → (holder : Option Key) → other b holder ≡ ends b holder)
+      → AreWords t key ends us xs → AreWords t later other us xs
+  same_words [] [] h k w = w
+  same_words [] (x ∷ xs) h k w = absurd w
+  same_words (u ∷ us) [] h k w = absurd w
+  same_words (u ∷ us) (x ∷ []) h k w = absurd w
+  same_words (u ∷ us) (x ∷ y ∷ xs) h k w = (
+    same_word u x y (λ r i. h r (front_in x y xs (To r) i)) (λ b i. k b (front_in x y xs (Nowhere b) i)) w.0,
+    same_words us xs (λ r i. h r (inr (inr i))) (λ b i. k b (inr (inr i))) w.1,
+  )
+
+-- a settled number is within the keys
+pub settled_within : (t : Table) (l : Listed) → AreNumberedNames t l → (n : ℕ) → IsSettled l.settled n
+    → n < length l.keys
+settled_within t l nodes n e =
+    let a : n < length l.settled = get_lt l.settled n true e in
+    let b : length l.settled ≡ length l.outcomes = ap length nodes.marked ∙ length-map l.outcomes _ in
+    let c : length l.outcomes ≡ length l.keys = nodes.outcome_count in omega arith
+
+-- a known number is within the keys
+pub known_within : (t : Table) (l : Listed) (before list : List ℕ) → AreNumberedNames t l → AreListed t l before list
+    → (n : ℕ)
+    → IsKnown l before list n → n < length l.keys
+known_within t l before list nodes right n (inl e) = settled_within t l nodes n e
+known_within t l before list nodes right n (inr (inl i)) = right.gone n i
+known_within t l before list nodes right n (inr (inr i)) = right.within n i
+
+-- ---- written steps stay written
+module _ (t : Table) (l m : Listed) (before here there : List ℕ) (ends more : List DeadEnd)
+    (nodes : AreNumberedNames t l)
+    (right : AreListed t l before here)
+    (grown : AreGrown t l m before here there ends more) where
+  pub known_still : (n : ℕ) → IsKnown l before here n → IsKnown m before there n
+  known_still n (inl e) = inl (grown.settled_still n e)
+  known_still n (inr (inl i)) = inr (inl i)
+  known_still n (inr (inr i)) = inr (inr (in_more here there n grown.list_more i))
+
+  pub keys_same : (n : ℕ) → n < length l.keys → key_at m.keys n ≡ key_at l.keys n
+  keys_same n h = key_same l.keys m.keys n grown.keys_more h
+
+  pub written_more : (us : List WordUse) (xs : List Step) → AreWritten t l before here ends us xs
+      → AreWritten t m before there more us xs
+  written_more us xs w = record {
+    words = same_words t (key_at l.keys) (key_at m.keys) (fault_at ends) (fault_at more) us xs
+        (λ n i. keys_same n (known_within t l before here nodes right n (w.targets n i)))
+        (λ b i holder. fault_same ends more b grown.ends_more (w.nowhere b i) holder) w.words;
+    targets = λ n i. known_still n (w.targets n i);
+    nowhere = λ b i.
+        let h : b < length ends = w.nowhere b i in
+        let q : length ends ≤ length more = more_length ends more grown.ends_more in omega arith;
+  }
+
+-- ---- additions in turn
+-- no numbers are listed
+pub none_listed : (t : Table) (l : Listed) (before list : List ℕ) → ((n : ℕ) → In n before → n < length l.keys)
+    → list ≡ [] → AreListed t l before list
+none_listed t l before list gone e = subst (AreListed t l before) (sym e) (record {
+  gone = gone;
+  within = λ n i. absurd i;
+  fresh = λ n i. absurd i;
+  new = λ n i. absurd i;
+  present = λ n i. absurd i;
+  once = nothing_twice;
+})
+
+-- a table has grown, with none of its listed numbers
+pub grown_alone : (t : Table) (l m : Listed) (before here there : List ℕ) (ends more : List DeadEnd)
+    → AreGrown t l m before here there ends more → AreGrown t l m before [] [] ends more
+grown_alone t l m before here there ends more grown = record {
+  nodes = grown.nodes;
+  kept = grown.kept;
+  listed = none_listed t m before [] grown.listed.gone refl;
+  keys_more = grown.keys_more;
+  settled_still = grown.settled_still;
+  list_more = λ i x e. e;
+  ends_more = grown.ends_more;
+}
+
+-- a table is a growth of itself
+pub grown_none : (t : Table) (l : Listed) (before list : List ℕ) (ends more : List DeadEnd) → AreNumberedNames t l
+    → AreListed t l before list → IsMore ends more
+    → AreGrown t l l before list list ends more
+grown_none t l before list ends more nodes right growing = record {
+  nodes = nodes;
+  kept = refl;
+  listed = right;
+  keys_more = λ i x e. e;
+  settled_still = λ n e. e;
+  list_more = λ i x e. e;
+  ends_more = growing;
+}
+
+-- two growths in turn are one growth
+pub grown_both : (t : Table) (l m k : Listed) (before here list there : List ℕ) (xs ys zs : List DeadEnd)
+    → AreGrown t l m before here list xs ys → AreGrown t m k before list there ys zs
+    → AreGrown t l k before here there xs zs
+grown_both t l m k before here list there xs ys zs a b = record {
+  nodes = b.nodes;
+  kept = b.kept ∙ a.kept;
+  listed = b.listed;
+  keys_more = λ i x e. b.keys_more i x (a.keys_more i x e);
+  settled_still = λ n e. b.settled_still n (a.settled_still n e);
+  list_more = λ i x e. b.list_more i x (a.list_more i x e);
+  ends_more = λ i x e. b.ends_more i x (a.ends_more i x e);
+}
+
+-- nothing is added
+pub added_none : (t : Table) (l : Listed) (before list : List ℕ) (ends more : List DeadEnd) → AreNumberedNames t l
+    → AreListed t l before list → IsMore ends more
+    → AreAdded t l l before list list ends more
+added_none t l before list ends more nodes right growing = record {
+  grown = grown_none t l before list ends more nodes right growing;
+  same = record { steps = λ n h o. refl; callees = λ n h o. refl; looks = λ n h o. refl };
+}
+
+-- two additions in turn are one addition
+pub added_both : (t : Table) (l m k : Listed) (before here list there : List ℕ) (xs ys zs : List DeadEnd)
+    → AreAdded t l m before here list xs ys → AreAdded t m k before list there ys zs
+    → AreAdded t l k before here there xs zs
+added_both t l m k before here list there xs ys zs a b = record {
+  grown = grown_both t l m k before here list there xs ys zs a.grown b.grown;
+  same = record {
+    steps = λ n h o. b.same.steps n (longer n h) tt ∙ a.same.steps n h tt;
+    callees = λ n h o. b.same.callees n (longer n h) tt ∙ a.same.callees n h tt;
+    looks = λ n h o. b.same.looks n (longer n h) tt ∙ a.same.looks n h tt;
+  };
+}
+  where
+    longer : (n : ℕ) → n < length l.keys → n < length m.keys
+    longer n h = let q : length l.keys ≤ length m.keys = more_length l.keys m.keys a.grown.keys_more in omega arith

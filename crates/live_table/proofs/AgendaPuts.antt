@@ -1,0 +1,85 @@
+-- A number is put on the agenda.
+use Rattle.std.proofs.Common.{◌≡◌, ◌<◌, ◌++◌, ◌∷◌, [], ℕ, Bool, true, false, cond, List, Some, length}
+use Rattle.std.proofs.Common.{get_or, sym, ◌∙◌, ap, subst, inl, inr, arith}
+use Rattle.std.proofs.lemmas.Bool.{cases_Bool, cond-false, cond-true, true≢false}
+use Rattle.std.proofs.lemmas.Cmp.{nat_eq_equiv}
+use Rattle.std.proofs.lemmas.Map.Keys.{IsDistinct-push}
+use Rattle.std.proofs.lemmas.Option.{slice_get-get_or}
+use Rattle.def_entry.specs.Tables.{Table, is_present}
+use Rattle.name_walk.specs.ClosedNames.{IsSettled}
+use Rattle.name_walk.specs.Faults.{is_on_path}
+use Rattle.name_walk.specs.Lists.{In}
+use Rattle.name_walk.proofs.Lists.{In-last, In-on, In-push, on-In}
+use Rattle.live_table.specs.declared.dead_end.DeadEnd.{DeadEnd}
+use Rattle.live_table.specs.Exploration.{AreAdded, AreListed}
+use Rattle.live_table.specs.Sound.{AreNumberedNames}
+use Rattle.live_table.specs.TableContents.{Listed, key_at}
+use Rattle.live_table.proofs.AddedNames.{push_more}
+
+-- there is a mark for each key
+pub sizes : (t : Table) (l : Listed) → AreNumberedNames t l → length l.settled ≡ length l.keys
+sizes t l nodes = nodes.net.size ∙ nodes.step_count
+
+-- a number whose mark is not set is not settled
+pub unsettled : (t : Table) (l : Listed) → AreNumberedNames t l → (n : ℕ) (b : Bool) → n < length l.keys
+    → b ≡ get_or l.settled n b → b ≡ false → IsSettled l.settled n → ⊥
+unsettled t l nodes n b h e f s =
+    let size : length l.settled ≡ length l.keys = sizes t l nodes in
+    let z : Some true ≡ Some false = sym s ∙ (slice_get-get_or l.settled n b (omega arith) ∙ ap Some (sym e ∙ f)) in cc
+
+-- a number that is not found in a list is not there
+pub not_on : (ns : List ℕ) (n : ℕ) → is_on_path ns n ≡ false → In n ns → ⊥
+not_on ns n e i = true≢false (sym (In-on ns n i) ∙ e)
+
+-- a number that is put on a list is in it
+pub put_there : (list there : List ℕ) (n : ℕ) → there ≡ cond (is_on_path list n) list (list ++ n ∷ []) → In n there
+put_there list there n e = elim (cases_Bool (is_on_path list n)) [
+  | inl q ↦ subst (λ (ns : List ℕ). In n ns) (sym (e ∙ cond-true (is_on_path list n) list (list ++ n ∷ []) q))
+      (on-In list n q)
+  | inr q ↦ subst (λ (ns : List ℕ). In n ns) (sym (e ∙ cond-false (is_on_path list n) list (list ++ n ∷ []) q))
+      (In-last list n)
+]
+
+-- a list of numbers to be explored stays one with an additional number
+pub listed_push : (t : Table) (l : Listed) (before list : List ℕ) (n : ℕ) → AreListed t l before list
+    → n < length l.keys → is_present t (key_at l.keys n) ≡ true
+    → (IsSettled l.settled n → ⊥) → (In n before → ⊥) → is_on_path list n ≡ false
+    → AreListed t l before (list ++ n ∷ [])
+listed_push t l before list n right h present fresh new other = record {
+  gone = right.gone;
+  within = λ m i. elim (In-push list n m i) [
+    | inl j ↦ right.within m j
+    | inr e ↦ subst (λ (x : ℕ). x < length l.keys)
+        (sym e) h
+  ];
+  fresh = λ m i. elim (In-push list n m i)
+      [ inl j ↦ right.fresh m j | inr e ↦ subst (λ (x : ℕ). IsSettled l.settled x → ⊥) (sym e) fresh ];
+  new = λ m i. elim (In-push list n m i)
+      [ inl j ↦ right.new m j | inr e ↦ subst (λ (x : ℕ). In x before → ⊥) (sym e) new ];
+  present = λ m i. elim (In-push list n m i)
+      [ inl j ↦ right.present m j | inr e ↦ subst (λ (x : ℕ). is_present t (key_at l.keys x) ≡ true) (sym e) present ];
+  once = IsDistinct-push nat_eq_equiv list n right.once other;
+}
+
+-- putting a number on the agenda is an addition
+pub put_added : (t : Table) (l m : Listed) (before list there : List ℕ) (ends : List DeadEnd) (n : ℕ)
+    → AreAdded t l m before list list ends ends → n < length m.keys
+    → is_present t (key_at m.keys n) ≡ true → (IsSettled m.settled n → ⊥) → (In n before → ⊥)
+    → there ≡ cond (is_on_path list n) list (list ++ n ∷ []) → AreAdded t l m before list there ends ends
+put_added t l m before list there ends n a h present fresh new e = elim (cases_Bool (is_on_path list n)) [
+  | inl q ↦ subst (λ (ns : List ℕ). AreAdded t l m before list ns ends ends)
+      (sym (e ∙ cond-true (is_on_path list n) list (list ++ n ∷ []) q)) a
+  | inr q ↦ subst (λ (ns : List ℕ). AreAdded t l m before list ns ends ends)
+      (sym (e ∙ cond-false (is_on_path list n) list (list ++ n ∷ []) q)) (record {
+        grown = record {
+          nodes = a.grown.nodes;
+          kept = a.grown.kept;
+          listed = listed_push t m before list n a.grown.listed h present fresh new q;
+          keys_more = a.grown.keys_more;
+          settled_still = a.grown.settled_still;
+          list_more = push_more list (n ∷ []);
+          ends_more = a.grown.ends_more;
+        };
+        same = a.same;
+      })
+]

@@ -1,0 +1,46 @@
+-- A live table with no settled name.
+use Rattle.std.proofs.Common.{◌≡◌, false, true, None, is_some, refl, sym, ◌∙◌, ap, subst, arith}
+use Rattle.std.specs.FinMap as map_of
+use Rattle.def_entry.specs.declared.key.Key.{Key}
+use Rattle.def_entry.specs.KeyOrder.{key_cmp}
+use Rattle.deck.specs.Decks.{Contents}
+use Rattle.live_table.specs.Right.{IsKeySettled}
+use Rattle.live_table.specs.TableView.{state_with_steps}
+use Rattle.live_table.specs.Sound.{IsSound}
+use Rattle.live_table.specs.TableContents.{Listed, no_nodes, shown_table}
+
+module _ (deck : Contents) where
+  none_settled : (n : Key) → IsKeySettled (state_with_steps (shown_table deck no_nodes 0) 0) n → ⊥
+  none_settled n e =
+      let none : map_of.get (shown_table deck no_nodes 0).kept n ≡ None = map_of.get-empty key_cmp n in
+      let z : false ≡ true = sym (ap is_some none) ∙ e in cc
+
+  no_names_sound : IsSound deck no_nodes 0
+  no_names_sound = record {
+    numbers = record {
+      step_count = refl;
+      outcome_count = refl;
+      callee_count = refl;
+      look_count = refl;
+      flagged = refl;
+      counted = refl;
+      marked = refl;
+      apart = λ n m h k e. absurd (omega arith);
+      net = record { range = λ n m i. absurd i; size = refl; settled = λ n e. cc };
+      present = λ n e. cc;
+      faithful = λ n e. cc;
+      starts = λ n e. cc;
+      ranks = λ n e. cc;
+      looked = λ n e. cc;
+    };
+    right = record {
+      present = λ n e. absurd (none_settled n e);
+      closed = λ n e. absurd (none_settled n e);
+      below = λ n m e way. absurd (none_settled n e);
+      right = λ n o e. absurd (none_settled n (ap is_some e));
+    };
+    few = omega arith;
+  }
+
+  pub start_sound : (l : Listed) → l ≡ no_nodes → IsSound deck l 0
+  start_sound l e = subst (λ (x : Listed). IsSound deck x 0) (sym e) no_names_sound

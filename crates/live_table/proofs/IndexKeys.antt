@@ -1,0 +1,176 @@
+-- Keys in the form of bytes, by number.
+use Rattle.smallvec.specs.SmallVec.{SmallVec}
+use Rattle.std.proofs.Common.{◌≡◌, ◌<◌, ◌≤◌, ◌||◌, ◌&&◌, ℕ, zero, suc, Bool, true, false, not, cond, eqb, List, []}
+use Rattle.std.proofs.Common.{◌∷◌, ◌++◌, length, Option, Some, None, is_some, option_map, refl, sym, ◌∙◌, ap, subst}
+use Rattle.std.proofs.Common.{arith, get_or}
+use Rattle.std.specs.Prelude.{MatchBool, MatchOption, slice_index_or}
+use Rattle.std.specs.List.{All, list_any, position, slice_get}
+use Rattle.std.specs.Str.{bytes_eq}
+use Rattle.std.specs.Cmp.Lexicographic.{bytes_decides}
+use Rattle.std.proofs.lemmas.Bool.{false_from_ne_true}
+use Rattle.std.proofs.lemmas.List.{map-append}
+use Rattle.std.proofs.lemmas.List.Quantifiers.{position-Some}
+use Rattle.std.proofs.lemmas.Option.{slice_get-get_or, slice_get-map}
+use Rattle.indexmap.specs.IndexSet.{insert_key}
+use Rattle.def_entry.specs.declared.key.Key.{Key}
+use Rattle.def_entry.specs.declared.key.Kind.{Kind}
+use Rattle.def_entry.specs.declared.key.Kind.TheVariants as kind
+use Rattle.def_entry.specs.KeyOrder.{kind_back, kind_number}
+use Rattle.def_entry.specs.SameKeys.{is_key_among, is_same, is_same_kind}
+use Rattle.def_entry.proofs.SameKeys.{same_keys}
+use Rattle.live_table.specs.KeyIndex.{IsAdded, IsStoredKey, decoded_key, decoded_keys, key_bytes}
+
+-- ---- properties of all items
+all_head : {A : Type 0} (P : A → Type 0) (x : A) (xs : List A) → All P (x ∷ xs) → P x
+all_head P x xs h = h 0 x (omega arith)
+
+all_tail : {A : Type 0} (P : A → Type 0) (x : A) (xs : List A) → All P (x ∷ xs) → All P xs
+all_tail P x xs h = λ k d lt. h (suc k) d (omega arith)
+
+all_push : {A : Type 0} (P : A → Type 0) (xs : List A) (x : A) → All P xs → P x → (k : ℕ) (d : A)
+    → k < length (xs ++ x ∷ []) → P (slice_index_or (xs ++ x ∷ []) k d)
+all_push P [] x h p zero d lt = p
+all_push P [] x h p (suc k) d lt = absurd (omega arith)
+all_push P (y ∷ xs) x h p zero d lt = all_head P y xs h
+all_push P (y ∷ xs) x h p (suc k) d lt = all_push P xs x (all_tail P y xs h) p k d (omega arith)
+
+-- ---- a key in the form of bytes
+-- kinds have the same number exactly if they are equal
+kinds : (a b : Kind) → eqb (kind_number a) (kind_number b) ≡ is_same_kind a b
+kinds kind.Unit kind.Unit = refl
+kinds kind.Unit kind.Prefix = refl
+kinds kind.Unit kind.Func = refl
+kinds kind.Unit kind.List = refl
+kinds kind.Prefix kind.Unit = refl
+kinds kind.Prefix kind.Prefix = refl
+kinds kind.Prefix kind.Func = refl
+kinds kind.Prefix kind.List = refl
+kinds kind.Func kind.Unit = refl
+kinds kind.Func kind.Prefix = refl
+kinds kind.Func kind.Func = refl
+kinds kind.Func kind.List = refl
+kinds kind.List kind.Unit = refl
+kinds kind.List kind.Prefix = refl
+kinds kind.List kind.Func = refl
+kinds kind.List kind.List = refl
+
+-- the bytes of a key encode the key
+read_back : (k : Key) → decoded_key (key_bytes k) ≡ k
+read_back k = λ i. record { kind = kind_back k.kind i; name = k.name }
+
+-- the bytes of a key equal other bytes exactly if those encode the key
+same_bytes : (k : Key) (s : List ℕ) → key_bytes (decoded_key s) ≡ s → bytes_eq (key_bytes k) s ≡ is_same k
+    (decoded_key s)
+same_bytes k s e =
+    ap (bytes_eq (key_bytes k)) (sym e)
+    ∙ ap (λ (b : Bool). b && bytes_eq k.name (decoded_key s).name) (kinds k.kind (decoded_key s).kind)
+
+-- bytes that are found equal to those of a key encode the key
+told : (k : Key) (w s : List ℕ) → w ≡ key_bytes k → bytes_eq w s ≡ true → decoded_key s ≡ k
+told k w s e t = ap decoded_key (sym ((bytes_decides w s).0 t) ∙ e) ∙ read_back k
+
+-- ---- the keys of an index
+module _ (room : ℕ) where
+  -- a key is among the keys exactly if its bytes are among theirs
+  among_stored : (ss : List (SmallVec ℕ)) (k : Key) → All (IsStoredKey room) ss
+      → list_any (λ s. bytes_eq (key_bytes k) s.items) ss ≡ is_key_among (decoded_keys ss) k
+  among_stored [] k h = refl
+  among_stored (s ∷ ss) k h =
+      let here : bytes_eq (key_bytes k) s.items ≡ is_same k (decoded_key s.items) = same_bytes k s.items
+      (all_head (IsStoredKey room) s ss h).0 in
+      let there : list_any (λ s. bytes_eq (key_bytes k) s.items) ss ≡ is_key_among (decoded_keys ss) k =
+      among_stored ss k
+      (all_tail (IsStoredKey room) s ss h) in
+      λ i. here i || there i
+
+  -- a key is among the keys exactly if equal bytes are among theirs
+  pub among_found : (ss : List (SmallVec ℕ)) (k : Key) (w : List ℕ) → All (IsStoredKey room) ss → w ≡ key_bytes k
+      → list_any (λ s. bytes_eq w s.items) ss ≡ is_key_among (decoded_keys ss) k
+  among_found ss k w h e = ap (λ (b : List ℕ). list_any (λ s. bytes_eq b s.items) ss) e ∙ among_stored ss k h
+
+  -- none of the keys is longer than the room
+  pub too_long : (ss : List (SmallVec ℕ)) (k : Key) → All (IsStoredKey room) ss → room ≤ length k.name
+      → is_key_among (decoded_keys ss) k ≡ false
+  too_long [] k h le = refl
+  too_long (s ∷ ss) k h le = λ i. other i || too_long ss k (all_tail (IsStoredKey room) s ss h) le i
+    where
+      other : is_same k (decoded_key s.items) ≡ false
+      other = false_from_ne_true (is_same k (decoded_key s.items))
+          (λ t.
+          let p = all_head (IsStoredKey room) s ss h in
+          let same : length k.name ≡ length (decoded_key s.items).name = ap (λ (q : Key). length q.name)
+          ((same_keys k (decoded_key s.items)).0 t) in
+          let size : suc (length (decoded_key s.items).name) ≡ length s.items = ap length p.0 in
+          let fits : length s.items ≤ room = p.1 in
+          absurd (omega arith))
+
+  -- the result of a lookup
+  pub number_in : (ss : List (SmallVec ℕ)) (k : Key) (w : List ℕ) (r : Option ℕ) → All (IsStoredKey room) ss
+      → w ≡ key_bytes k
+      → r ≡ position (λ s. bytes_eq w s.items) ss → is_some r ≡ list_any (λ s. bytes_eq w s.items) ss
+      → MatchOption r (is_key_among (decoded_keys ss) k ≡ false) (λ n. slice_get (decoded_keys ss) n ≡ Some k)
+  number_in ss k w None h e at found = sym (among_found ss k w h e) ∙ sym found
+  number_in ss k w (Some n) h e at found =
+      let none : SmallVec ℕ = record { items = []; capacity = 0 } in
+      let p = position-Some (λ (s : SmallVec ℕ). bytes_eq w s.items) ss n none (sym at) in
+      slice_get-map (λ (s : SmallVec ℕ). decoded_key s.items) ss n
+      ∙ (ap (option_map (λ (s : SmallVec ℕ). decoded_key s.items)) (slice_get-get_or ss n none p.0)
+      ∙ ap Some (told k w (get_or ss n none).items e p.1))
+
+  -- keys that fit fit into more room
+  pub more_room : (later : ℕ) (ss : List (SmallVec ℕ)) → All (IsStoredKey room) ss → room ≤ later
+      → All (IsStoredKey later) ss
+  more_room later ss h le = λ k d lt. wider (slice_index_or ss k d) (h k d lt)
+    where
+      wider : (s : SmallVec ℕ) → IsStoredKey room s → IsStoredKey later s
+      wider s p = (p.0, omega (arith, p.1, le))
+
+-- ---- one more key
+module _ (room : ℕ) (ss more : List (SmallVec ℕ)) (k : Key) (v : SmallVec ℕ) (h : All (IsStoredKey room) ss)
+    (is : v.items ≡ key_bytes k) (put : more ≡ insert_key (λ a b. bytes_eq a.items b.items) ss v) where
+  -- the additional key fits if there is room for it
+  pub stored_more : (later : ℕ) → room ≤ later → length v.items ≤ later → All (IsStoredKey later) more
+  stored_more later le fits =
+      subst (All (IsStoredKey later)) (sym put) (by (list_any (λ s. bytes_eq v.items s.items) ss))
+    where
+      before : All (IsStoredKey later) ss
+      before = more_room room later ss h le
+
+      own : IsStoredKey later v
+      own = (ap (λ (s : List ℕ). key_bytes (decoded_key s)) is ∙ (ap key_bytes (read_back k) ∙ sym is), fits)
+
+      by : (b : Bool) → All (IsStoredKey later) (cond b ss (ss ++ v ∷ []))
+      by true = before
+      by false = all_push (IsStoredKey later) ss v before own
+
+  -- these are the keys, with the additional one if it is new
+  abbrev AreThose : Bool → Type 0
+  AreThose b = MatchBool b
+      ((is_key_among (decoded_keys ss) k ≡ false) × (decoded_keys more ≡ decoded_keys ss ++ k ∷ []))
+      (decoded_keys more ≡ decoded_keys ss)
+
+  -- a key has a number, the next one if it had none
+  pub added : (n : ℕ) (is_new : Bool) → is_new ≡ not (list_any (λ s. bytes_eq v.items s.items) ss)
+      → ((s : SmallVec ℕ) × (slice_get more n ≡ Some s) × (bytes_eq v.items s.items ≡ true))
+      → IsAdded k (decoded_keys ss) (decoded_keys more) n is_new
+  added n is_new flag at = record {
+    number = slice_get-map (λ (s : SmallVec ℕ). decoded_key s.items) more n
+        ∙ (ap (option_map (λ (s : SmallVec ℕ). decoded_key s.items)) at.1
+        ∙ ap Some (told k v.items at.0.items is at.2));
+    keys = by (list_any (λ s. bytes_eq v.items s.items) ss) refl flag put;
+  }
+    where
+      by : (b : Bool) → list_any (λ s. bytes_eq v.items s.items) ss ≡ b → is_new ≡ not b
+          → more ≡ cond b ss (ss ++ v ∷ []) → AreThose is_new
+      by true f q e = subst AreThose (sym q) (ap decoded_keys e)
+      by false f q e = subst AreThose (sym q) (
+        sym (among_found room ss k v.items h is) ∙ f,
+        ap decoded_keys e ∙ (map-append (λ (s : SmallVec ℕ). decoded_key s.items) ss (v ∷ [])
+            ∙ (λ i. decoded_keys ss ++ (ap decoded_key is ∙ read_back k) i ∷ [])),
+      )
+
+-- a key that had no number is appended
+pub one_more : (k : Key) (old new : List Key) (n : ℕ) (is_new : Bool) → IsAdded k old new n is_new → not is_new ≡ false
+    → (is_key_among old k ≡ false) × (new ≡ old ++ k ∷ [])
+one_more k old new n true is e = is.keys
+one_more k old new n false is e = absurd (cc)

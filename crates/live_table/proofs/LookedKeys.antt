@@ -1,0 +1,160 @@
+-- The keys at which words look, for words in turn and when names are added.
+use Rattle.std.proofs.Common.{◌≡◌, ◌⊎◌, ◌↔◌, ◌<◌, ◌≤◌, ℕ, List, [], ◌∷◌, ◌++◌, length, Contains, refl, sym, ◌∙◌, ap}
+use Rattle.std.proofs.Common.{subst, inl, inr, arith}
+use Rattle.std.proofs.lemmas.List.Elements.{Contains-append_cases, Contains-append_left, Contains-append_right}
+use Rattle.expr_tree.specs.declared.word_list.WordUse.{WordUse}
+use Rattle.def_entry.specs.declared.key.Key.{Key}
+use Rattle.def_entry.specs.Tables.{Table}
+use Rattle.name_walk.specs.declared.step.Step.{Step}
+use Rattle.name_walk.specs.declared.step.Step.TheVariants.{Nowhere, To}
+use Rattle.name_walk.specs.Lists.{In}
+use Rattle.name_walk.proofs.Lists.{In-left, In-right}
+use Rattle.table_names.specs.Leads.{looked_keys}
+use Rattle.table_names.proofs.Members.{member_cases, member_first, no_member}
+use Rattle.live_table.specs.Exploration.{IsMore}
+use Rattle.live_table.specs.WordTargets.{AreTargets}
+use Rattle.live_table.specs.Looks.{AllLead, AreLooks, AreLooksPut, IsSeen, WordsLookAt}
+use Rattle.live_table.specs.TableContents.{key_at}
+use Rattle.live_table.proofs.AddedNames.{key_same, more_length}
+
+-- a member of the concatenation of two lists is in one of them
+pub in_both : {A : Type 0} (xs ys : List A) (s : A) → In s (xs ++ ys) → In s xs ⊎ In s ys
+in_both [] ys s i = inr i
+in_both (x ∷ xs) ys s (inl e) = inl (inl e)
+in_both (x ∷ xs) ys s (inr i) = elim (in_both xs ys s i) [ inl j ↦ inl (inr j) | inr j ↦ inr j ]
+
+-- without words there are no keys at which they look
+pub looks_none : (t : Table) (keys : List Key) (xs : List Step) (ns : List ℕ) → xs ≡ [] → ns ≡ []
+    → AreLooks t keys [] xs ns
+looks_none t keys xs ns e f =
+    subst (λ (p : List Step × List ℕ). AreLooks t keys [] p.0 p.1) (λ i. (sym e i, sym f i)) (record {
+      within = λ m i. absurd i;
+      exactly = λ k. (λ (u, i, j). absurd (no_member u i), λ (m, i, e). absurd (elim i [ inl j ↦ j | inr j ↦ j ]));
+    })
+
+-- the keys of numbers do not change when keys are added
+module _ (ks ls : List Key) (more : IsMore ks ls) (xs : List Step) (ns : List ℕ)
+    (inside : (m : ℕ) → In (To m) xs → m < length ks) (within : (m : ℕ) → In m ns → m < length ks) where
+  here : (m : ℕ) → In (To m) xs ⊎ In m ns → key_at ls m ≡ key_at ks m
+  here m (inl i) = key_same ks ls m more (inside m i)
+  here m (inr i) = key_same ks ls m more (within m i)
+
+  seen_more : (k : Key) → IsSeen ks xs ns k → IsSeen ls xs ns k
+  seen_more k (m, i, e) = (m, i, e ∙ sym (here m i))
+
+  seen_before : (k : Key) → IsSeen ls xs ns k → IsSeen ks xs ns k
+  seen_before k (m, i, e) = (m, i, e ∙ here m i)
+
+-- the keys at which words look do not change when keys are added
+pub looks_more : (t : Table) (ks ls : List Key) (us : List WordUse) (xs : List Step) (ns : List ℕ) → IsMore ks ls
+    → ((m : ℕ) → In (To m) xs → m < length ks) → AreLooks t ks us xs ns → AreLooks t ls us xs ns
+looks_more t ks ls us xs ns more inside l = record {
+  within = λ m i. let a : m < length ks = l.within m i in let b : length ks ≤ length ls = more_length ks ls more in
+      omega arith;
+  exactly = λ k. (
+    λ w. seen_more ks ls more xs ns inside l.within k ((l.exactly k).0 w),
+    λ s. (l.exactly k).1 (seen_before ks ls more xs ns inside l.within k s),
+  );
+}
+
+-- if all steps lead somewhere, so do the first ones
+pub lead_left : (xs ys : List Step) → AllLead (xs ++ ys) → AllLead xs
+lead_left xs ys h t i = h t (In-left xs ys (Nowhere t) i)
+
+-- if all steps lead somewhere, so do the last ones
+pub lead_right : (xs ys : List Step) → AllLead (xs ++ ys) → AllLead ys
+lead_right xs ys h t i = h t (In-right xs ys (Nowhere t) i)
+
+-- one more word looks at its own keys
+module _ (t : Table) (keys : List Key) (us : List WordUse) (u : WordUse) (xs zs : List Step) (old new : List ℕ)
+    (l : AreLooks t keys us xs old) (p : AreLooksPut t keys u zs old new) where
+  seen_first : (k : Key) → IsSeen keys xs old k → IsSeen keys (xs ++ zs) new k
+  seen_first k (m, inl i, e) = (m, inl (In-left xs zs (To m) i), e)
+  seen_first k (m, inr i, e) = (m, inr ((p.put m).1 (inl i)), e)
+
+  seen_then : (k : Key) → IsSeen keys zs p.own k → IsSeen keys (xs ++ zs) new k
+  seen_then k (m, inl i, e) = (m, inl (In-right xs zs (To m) i), e)
+  seen_then k (m, inr i, e) = (m, inr ((p.put m).1 (inr i)), e)
+
+  looked_first : (k : Key) → WordsLookAt t us k → WordsLookAt t (us ++ u ∷ []) k
+  looked_first k (v, i, j) = (v, Contains-append_left us (u ∷ []) v i, j)
+
+  looked_then : (k : Key) → Contains (looked_keys t u) k → WordsLookAt t (us ++ u ∷ []) k
+  looked_then k j = (u, Contains-append_right us (u ∷ []) u (member_first u u [] refl), j)
+
+  to : (k : Key) → WordsLookAt t (us ++ u ∷ []) k → IsSeen keys (xs ++ zs) new k
+  to k (v, i, j) = elim (Contains-append_cases us (u ∷ []) v i) [
+    | inl a ↦ seen_first k ((l.exactly k).0 (v, a, j))
+    | inr b ↦ elim (member_cases v u [] b) [
+      | inl e ↦ seen_then k ((p.exactly k).0 (subst (λ (w : WordUse). Contains (looked_keys t w) k) e j))
+      | inr z ↦ absurd (no_member v z)
+    ]
+  ]
+
+  from : (k : Key) → IsSeen keys (xs ++ zs) new k → WordsLookAt t (us ++ u ∷ []) k
+  from k (m, inl i, e) = elim (in_both xs zs (To m) i) [
+    | inl a ↦ looked_first k ((l.exactly k).1 (m, inl a, e))
+    | inr b ↦ looked_then k ((p.exactly k).1 (m, inl b, e))
+  ]
+  from k (m, inr i, e) = elim ((p.put m).0 i) [
+    | inl a ↦ looked_first k ((l.exactly k).1 (m, inr a, e))
+    | inr b ↦ looked_then k ((p.exactly k).1 (m, inr b, e))
+  ]
+
+  pub looks_behind : AreLooks t keys (us ++ u ∷ []) (xs ++ zs) new
+  looks_behind = record {
+    within = λ m i. elim ((p.put m).0 i) [ inl a ↦ l.within m a | inr b ↦ p.within m b ];
+    exactly = λ k. (to k, from k);
+  }
+
+-- the targets of a word, as its steps
+module _ (t : Table) (keys : List Key) (u : WordUse) (ns old new : List ℕ) (xs : List Step)
+    (a : AreTargets t keys u ns old new)
+    (same : (m : ℕ) → In (To m) xs ↔ In m ns) where
+  pub looks_put : AreLooksPut t keys u xs old new
+  looks_put = record {
+    own = a.own;
+    put = a.put;
+    within = a.within;
+    exactly = λ k. (λ w. by_steps k ((a.exactly k).0 w), λ s. (a.exactly k).1 (by_numbers k s));
+  }
+    where
+      by_steps : (k : Key) → ((m : ℕ) × (In m ns ⊎ In m a.own) × (k ≡ key_at keys m)) → IsSeen keys xs a.own k
+      by_steps k (m, inl i, e) = (m, inl ((same m).1 i), e)
+      by_steps k (m, inr i, e) = (m, inr i, e)
+
+      by_numbers : (k : Key) → IsSeen keys xs a.own k → (m : ℕ) × (In m ns ⊎ In m a.own) × (k ≡ key_at keys m)
+      by_numbers k (m, inl i, e) = (m, inl ((same m).0 i), e)
+      by_numbers k (m, inr i, e) = (m, inr i, e)
+
+-- equal steps lead to one number
+same_number : (n m : ℕ) → To n ≡ To m → n ≡ m
+same_number n m q = cc
+
+-- a word with a single target has it as both steps
+pub one_step : (n m : ℕ) → In (To m) (To n ∷ To n ∷ []) ↔ In m (n ∷ [])
+one_step n m = (there, λ i. elim i [ inl e ↦ inl (ap To e) | inr z ↦ absurd z ])
+  where
+    there : In (To m) (To n ∷ To n ∷ []) → In m (n ∷ [])
+    there (inl e) = inl (same_number m n e)
+    there (inr (inl e)) = inl (same_number m n e)
+    there (inr (inr z)) = absurd z
+
+-- a word with two targets has each of them as one step
+pub two_steps : (n p m : ℕ) → In (To m) (To n ∷ To p ∷ []) ↔ In m (n ∷ p ∷ [])
+two_steps n p m = (there, back)
+  where
+    there : In (To m) (To n ∷ To p ∷ []) → In m (n ∷ p ∷ [])
+    there (inl e) = inl (same_number m n e)
+    there (inr (inl e)) = inr (inl (same_number m p e))
+    there (inr (inr z)) = absurd z
+
+    back : In m (n ∷ p ∷ []) → In (To m) (To n ∷ To p ∷ [])
+    back (inl e) = inl (ap To e)
+    back (inr (inl e)) = inr (inl (ap To e))
+    back (inr (inr z)) = absurd z
+
+-- the steps of a word that leads nowhere need no looks
+pub nowhere_put : (t : Table) (keys : List Key) (u : WordUse) (x y : Step) (b : ℕ) (old new : List ℕ) → x ≡ Nowhere b
+    → AllLead (x ∷ y ∷ []) → AreLooksPut t keys u (x ∷ y ∷ []) old new
+nowhere_put t keys u x y b old new e h = absurd (h b (inl (sym e)))

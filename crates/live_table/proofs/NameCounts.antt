@@ -1,0 +1,123 @@
+-- The numbers of names and of settled names.
+use Rattle.std.proofs.Common.{◌≡◌, ◌+◌, ◌≤◌, ℕ, Bool, true, false, cond, List, [], ◌∷◌, map, filter}
+use Rattle.std.proofs.Common.{length}
+use Rattle.std.proofs.Common.{Option, Some, None, is_some, refl, sym, ◌∙◌, ap, arith}
+use Rattle.std.specs.FinMap as map_of
+use Rattle.std.specs.Prelude.{count_by}
+use Rattle.std.proofs.lemmas.Bool.{cond-false}
+use Rattle.std.proofs.lemmas.List.{length-map}
+use Rattle.std.proofs.lemmas.List.Sums.{count_by-le-length, length-filter}
+use Rattle.def_entry.specs.declared.key.Key.{Key}
+use Rattle.def_entry.specs.declared.key.Kind.{Kind}
+use Rattle.def_entry.specs.declared.key.Kind.TheVariants as kind
+use Rattle.def_entry.specs.SameKeys.{is_key_among, is_same_kind}
+use Rattle.def_entry.specs.Tables.{Table, keys_of}
+use Rattle.def_entry.proofs.SameKeys.{key_order}
+use Rattle.deck.specs.Changes.{each_once}
+use Rattle.deck.specs.Decks.{Contents}
+use Rattle.deck.specs.KeyLists.{WholeLaw, key_count, of_kind, table_keys}
+use Rattle.deck.specs.Tables.{DeckTableLaw, table}
+use Rattle.tree_eval.specs.declared.outcome.Outcome.{Outcome}
+use Rattle.live_table.specs.Calls.{is_name_kind, names_among, present_names}
+use Rattle.live_table.specs.Sound.{AreNumberedNames}
+use Rattle.live_table.specs.TableContents.{Listed, kept_of}
+use Rattle.live_table.proofs.OutcomesByKey.{AreApart, absent, apart_tail, first_apart}
+
+-- ---- names by their kinds
+one_more : (c : Kind) (k : Key) (us ps fs ns : List Key) → (length us + length ps) + length fs ≡ length ns
+    → (length (cond (is_same_kind kind.Unit c) (k ∷ us) us) + length (cond (is_same_kind kind.Prefix c) (k ∷ ps) ps))
+    + length (cond (is_same_kind kind.Func c) (k ∷ fs) fs) ≡ length (cond (is_name_kind c) (k ∷ ns) ns)
+one_more kind.Unit k us ps fs ns e = omega (arith, e)
+one_more kind.Prefix k us ps fs ns e = omega (arith, e)
+one_more kind.Func k us ps fs ns e = omega (arith, e)
+one_more kind.List k us ps fs ns e = e
+
+-- names are counted by their kinds
+by_kinds : (ks : List Key)
+    → (length (of_kind kind.Unit ks) + length (of_kind kind.Prefix ks)) + length (of_kind kind.Func ks)
+    ≡ length (names_among ks)
+by_kinds [] = refl
+by_kinds (k ∷ ks) =
+    one_more k.kind k (of_kind kind.Unit ks) (of_kind kind.Prefix ks) (of_kind kind.Func ks) (names_among ks)
+    (by_kinds ks)
+
+-- the number of names of a table
+abbrev name_count : Table → ℕ
+name_count t = (key_count t kind.Unit + key_count t kind.Prefix) + key_count t kind.Func
+
+-- these are the counts of the names of each kind
+pub record AreCounts (t : Table) (u p f : ℕ) : Type 0 where
+  pub units : u ≡ key_count t kind.Unit
+  pub prefixes : p ≡ key_count t kind.Prefix
+  pub functions : f ≡ key_count t kind.Func
+
+-- the sum of the counts is the length of the list of names
+all_counted : WholeLaw → (t : Table) → name_count t ≡ length (present_names t)
+all_counted law t =
+    let count = (law t).count in
+    let u : length (of_kind kind.Unit (table_keys t)) ≡ key_count t kind.Unit = count kind.Unit in
+    let p : length (of_kind kind.Prefix (table_keys t)) ≡ key_count t kind.Prefix = count kind.Prefix in
+    let f : length (of_kind kind.Func (table_keys t)) ≡ key_count t kind.Func = count kind.Func in
+    let all : (length (of_kind kind.Unit (table_keys t)) + length (of_kind kind.Prefix (table_keys t)))
+    + length (of_kind kind.Func (table_keys t)) ≡ length (present_names t) = by_kinds (table_keys t) in
+    omega (arith, u, p, f, all)
+
+-- ---- there are no more names than lines
+shorter : (b : Bool) (k : Key) (ks ls : List Key) → length ks ≤ length ls
+    → length (cond b ks (k ∷ ks)) ≤ length (k ∷ ls)
+shorter true k ks ls h = omega (arith, h)
+shorter false k ks ls h = omega (arith, h)
+
+-- a list without its duplicates is no longer than the list
+once_short : (ks : List Key) → length (each_once ks) ≤ length ks
+once_short [] = omega arith
+once_short (k ∷ ks) = shorter (is_key_among ks k) k (each_once ks) ks (once_short ks)
+
+-- a deck has no more names than lines
+names_few : DeckTableLaw → (d : Contents) → name_count (table d) ≤ length d.lines
+names_few law d =
+    let ks : List Key = each_once (keys_of (table d)) in
+    let a : name_count (table d) ≡ length (names_among ks) = by_kinds ks in
+    let b : length (names_among ks) ≡ count_by (λ (k : Key). is_name_kind k.kind) ks = length-filter _ ks in
+    let c : count_by (λ (k : Key). is_name_kind k.kind) ks ≤ length ks = count_by-le-length _ ks in
+    let e : length ks ≤ length (keys_of (table d)) = once_short (keys_of (table d)) in
+    let f : length (keys_of (table d)) ≡ length (table d) = length-map (table d) _ in
+    let g : length (table d) ≤ length d.lines = law.short d in
+    omega (arith, a, b, c, e, f, g)
+
+module _ (d : Contents) (units prefixes functions : ℕ) (are : AreCounts (table d) units prefixes functions) where
+  is : (units + prefixes) + functions ≡ name_count (table d)
+  is = λ i. (are.units i + are.prefixes i) + are.functions i
+
+  pub names_counted : WholeLaw → (units + prefixes) + functions ≡ length (present_names (table d))
+  names_counted law = is ∙ all_counted law (table d)
+
+  pub names_within : DeckTableLaw → length d.lines ≤ 100000 → (units + prefixes) + functions ≤ 100000
+  names_within law b =
+      let a : name_count (table d) ≤ length d.lines = names_few law d in
+      let c : (units + prefixes) + functions ≡ name_count (table d) = is in
+      omega (arith, a, b, c)
+
+-- ---- as many outcomes are stored as marks are set
+kept_length : (ks : List Key) (os : List (Option Outcome)) → AreApart ks → length os ≡ length ks
+    → length (filter (λ b. b) (map is_some os)) ≡ map_of.len (kept_of ks os)
+kept_length [] [] a h = sym (map_of.len-empty _ _)
+kept_length [] (o ∷ os) a h = absurd (omega (arith, h))
+kept_length (k ∷ ks) [] a h = absurd (omega (arith, h))
+kept_length (k ∷ ks) (None ∷ os) a h = kept_length ks os (apart_tail k ks a) (omega (arith, h))
+kept_length (k ∷ ks) (Some o ∷ os) a h =
+    let rest : length (filter (λ b. b) (map is_some os)) ≡ map_of.len (kept_of ks os) =
+    kept_length ks os (apart_tail k ks a) (omega (arith, h)) in
+    let more : map_of.len (map_of.insert (kept_of ks os) k o) ≡ map_of.len (kept_of ks os) + 1 =
+    map_of.len-insert key_order.total (kept_of ks os) k o
+    ∙ cond-false (is_some (map_of.get (kept_of ks os) k)) (map_of.len (kept_of ks os)) (map_of.len (kept_of ks os) + 1)
+    (ap is_some (absent ks os k (λ n l. first_apart k ks a n l))) in
+    omega (arith, rest, more)
+
+-- as many numbers are settled as outcomes are stored
+pub kept_counted : (t : Table) (l : Listed) → AreNumberedNames t l
+    → count_by (λ b. b) l.settled ≡ map_of.len (kept_of l.keys l.outcomes)
+kept_counted t l nodes =
+    sym (length-filter (λ b. b) l.settled)
+    ∙ (ap (λ (bs : List Bool). length (filter (λ b. b) bs)) nodes.marked
+    ∙ kept_length l.keys l.outcomes nodes.apart nodes.outcome_count)

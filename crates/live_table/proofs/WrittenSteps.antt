@@ -1,0 +1,185 @@
+-- The steps of words, word after word.
+use Rattle.std.proofs.Common.{◌≡◌, ◌+◌, ◌<◌, ℕ, true, false, List, [], ◌∷◌, ◌++◌, take, length, Option, Some, refl}
+use Rattle.std.proofs.Common.{sym, subst, inl, inr, arith, length-append}
+use Rattle.std.specs.Prelude.{Contains, IfOk, Result, Ok, Err}
+use Rattle.std.specs.List.{slice_get}
+use Rattle.expr_tree.specs.declared.word_list.WordUse.{WordUse}
+use Rattle.expr_tree.specs.Names.{is_refused}
+use Rattle.def_entry.specs.declared.key.Key.{Key}
+use Rattle.def_entry.specs.Tables.{Table, is_present}
+use Rattle.table_names.proofs.Lookups.{target_present}
+use Rattle.table_names.proofs.Members.{member_first, member_later}
+use Rattle.name_walk.specs.declared.step.Step.{Step}
+use Rattle.name_walk.specs.declared.step.Step.TheVariants.{Nowhere, To}
+use Rattle.name_walk.specs.Lists.{In}
+use Rattle.name_walk.proofs.Lists.{take_at}
+use Rattle.table_names.specs.declared.fault.NameFault.{NameFault}
+use Rattle.table_names.specs.Leads.{targets}
+use Rattle.name_numbers.specs.NumberedNames.{AreWords, ForRefused, ForUnknown, IsWord}
+use Rattle.live_table.specs.declared.dead_end.DeadEnd.{DeadEnd}
+use Rattle.live_table.specs.ExploredNames.{dead_end_fault, fault_at}
+use Rattle.live_table.specs.Exploration.{AreAdded, AreWritten, AreWrittenBehind, IsKnown}
+use Rattle.live_table.specs.TableContents.{Listed, key_at}
+use Rattle.live_table.specs.Looks.{AllLead, AreLooks}
+use Rattle.live_table.proofs.AddedNames.{added_both, known_within, written_more}
+use Rattle.live_table.proofs.LookedKeys.{in_both, lead_left, lead_right, looks_behind, looks_more}
+
+-- ---- one word after others
+words_behind : (t : Table) (key : ℕ → Key) (ends : ℕ → Option Key → NameFault) (us vs : List WordUse)
+    (xs ys : List Step)
+    → AreWords t key ends us xs → AreWords t key ends vs ys → AreWords t key ends (us ++ vs) (xs ++ ys)
+words_behind t key ends [] vs [] ys w v = v
+words_behind t key ends [] vs (x ∷ xs) ys w v = absurd w
+words_behind t key ends (u ∷ us) vs [] ys w v = absurd w
+words_behind t key ends (u ∷ us) vs (x ∷ []) ys w v = absurd w
+words_behind t key ends (u ∷ us) vs (x ∷ y ∷ xs) ys w v = (w.0, words_behind t key ends us vs xs ys w.1 v)
+
+-- the steps of words after those of others are those of all
+pub written_behind : (t : Table) (l : Listed) (before list : List ℕ) (ends : List DeadEnd) (us vs : List WordUse)
+    (xs ys : List Step)
+    → AreWritten t l before list ends us xs → AreWritten t l before list ends vs ys → AreWritten t l before list ends
+    (us ++ vs) (xs ++ ys)
+written_behind t l before list ends us vs xs ys a b = record {
+  words = words_behind t (key_at l.keys) (fault_at ends) us vs xs ys a.words b.words;
+  targets = λ n i. elim (in_both xs ys (To n) i) [ inl j ↦ a.targets n j | inr j ↦ b.targets n j ];
+  nowhere = λ n i. elim (in_both xs ys (Nowhere n) i) [ inl j ↦ a.nowhere n j | inr j ↦ b.nowhere n j ];
+}
+
+-- without words there are no steps
+pub written_none : (t : Table) (l : Listed) (before list : List ℕ) (ends : List DeadEnd) (xs : List Step) → xs ≡ []
+    → AreWritten t l before list ends [] xs
+written_none t l before list ends xs e =
+    subst (AreWritten t l before list ends []) (sym e)
+    (record { words = tt; targets = λ n i. absurd i; nowhere = λ n i. absurd i })
+
+-- ---- the state of the loop over words
+pub record IsPutting (t : Table) (old now : Listed) (before here list : List ℕ) (ends more : List DeadEnd)
+    (gathered : List ℕ) (us : List WordUse) (xs : List Step) (i : ℕ) : Type 0 where
+  pub added : AreAdded t old now before here list ends more
+  pub written : AreWritten t now before list more (take i us) xs
+  pub looks : AllLead xs → AreLooks t now.keys (take i us) xs gathered
+
+-- the steps of the next word are appended
+pub putting_next : (t : Table) (old now m : Listed) (before here list there : List ℕ) (ends more most : List DeadEnd)
+    (first next : List ℕ) (us : List WordUse) (xs ys : List Step) (i : ℕ) (u : WordUse)
+    → slice_get us i ≡ Some u → IsPutting t old now before here list ends more first us xs i
+    → AreAdded t now m before list there more most
+    → AreWrittenBehind t m before there most first next u xs ys
+    → IsPutting t old m before here there ends most next us ys (i + 1)
+putting_next t old now m before here list there ends more most first next us xs ys i u at s a w = record {
+  added = added_both t old now m before here list there ends more most s.added a;
+  written = subst (λ (p : List WordUse × List Step). AreWritten t m before there most p.0 p.1)
+      (λ j. (sym (take_at us i u at) j, sym w.behind j))
+      (written_behind t m before there most (take i us) (u ∷ []) xs w.own
+      (written_more t now m before list there more most s.added.grown.nodes s.added.grown.listed a.grown
+      (take i us) xs s.written) w.written);
+  looks = λ all.
+      let led : AllLead (xs ++ w.own) = subst AllLead w.behind all in
+      subst (λ (p : List WordUse × List Step). AreLooks t m.keys p.0 p.1 next)
+      (λ j. (sym (take_at us i u at) j, sym w.behind j))
+      (looks_behind t m.keys (take i us) u xs w.own first next
+      (looks_more t now.keys m.keys (take i us) xs first a.grown.keys_more inside (s.looks (lead_left xs w.own led)))
+      (w.looks (lead_right xs w.own led)));
+}
+  where
+    inside : (q : ℕ) → In (To q) xs → q < length now.keys
+    inside q j = known_within t now before list s.added.grown.nodes s.added.grown.listed q (s.written.targets q j)
+
+-- ---- the steps of one word
+module _ (t : Table) (l : Listed) (before list : List ℕ) (u : WordUse) where
+  last_end : (ends : List DeadEnd) (b : DeadEnd) (holder : Option Key)
+      → fault_at (ends ++ b ∷ []) (length ends) holder ≡ dead_end_fault (Some b) holder
+  last_end [] b holder = refl
+  last_end (x ∷ ends) b holder = last_end ends b holder
+
+  not_to : (b n : ℕ) → In (To n) (Nowhere b ∷ Nowhere b ∷ []) → ⊥
+  not_to b n (inl e) = cc
+  not_to b n (inr (inl e)) = cc
+  not_to b n (inr (inr i)) = i
+
+  same_place : (b c : ℕ) → Nowhere c ≡ Nowhere b → c ≡ b
+  same_place b c q = cc
+
+  place_is : (b c : ℕ) → In (Nowhere c) (Nowhere b ∷ Nowhere b ∷ []) → c ≡ b
+  place_is b c (inl e) = same_place b c e
+  place_is b c (inr (inl e)) = same_place b c e
+  place_is b c (inr (inr i)) = absurd i
+
+  dead_written : (ends : List DeadEnd) (b : DeadEnd) → IsWord t (key_at l.keys) (fault_at (ends ++ b ∷ [])) u
+      (Nowhere (length ends)) (Nowhere (length ends))
+      → AreWritten t l before list (ends ++ b ∷ []) (u ∷ []) (Nowhere (length ends) ∷ Nowhere (length ends) ∷ [])
+  dead_written ends b s = record {
+    words = (s, tt);
+    targets = λ n i. absurd (not_to (length ends) n i);
+    nowhere = λ c i.
+        let e : c ≡ length ends = place_is (length ends) c i in
+        let h : length (ends ++ b ∷ []) ≡ length ends + 1 = length-append ends (b ∷ []) in omega arith;
+  }
+
+  moved : (ends more : List DeadEnd) (b : DeadEnd) (x y : Step) → more ≡ ends ++ b ∷ [] → x ≡ Nowhere (length ends)
+      → y ≡ Nowhere (length ends)
+      → AreWritten t l before list (ends ++ b ∷ []) (u ∷ []) (Nowhere (length ends) ∷ Nowhere (length ends) ∷ [])
+      → AreWritten t l before list more (u ∷ []) (x ∷ y ∷ [])
+  moved ends more b x y e p q w =
+      subst (λ (s : List DeadEnd × List Step). AreWritten t l before list s.0 (u ∷ []) s.1)
+      (λ i. (sym e i, sym p i ∷ sym q i ∷ [])) w
+
+  pub refused_written : (ends more : List DeadEnd) (x y : Step) → is_refused u.text ≡ true
+      → more ≡ ends ++ record { text = u.text; is_refused = true } ∷ [] → x ≡ Nowhere (length ends)
+      → y ≡ Nowhere (length ends)
+      → AreWritten t l before list more (u ∷ []) (x ∷ y ∷ [])
+  refused_written ends more x y is e p q =
+      let b : DeadEnd = record { text = u.text; is_refused = true } in
+      moved ends more b x y e p q (dead_written ends b (ForRefused (length ends) is (λ holder. last_end ends b holder)))
+
+  pub unknown_written : (ends more : List DeadEnd) (x y : Step) → is_refused u.text ≡ false → targets t u ≡ []
+      → more ≡ ends ++ record { text = u.text; is_refused = false } ∷ [] → x ≡ Nowhere (length ends)
+      → y ≡ Nowhere (length ends)
+      → AreWritten t l before list more (u ∷ []) (x ∷ y ∷ [])
+  unknown_written ends more x y fine none e p q =
+      let b : DeadEnd = record { text = u.text; is_refused = false } in
+      moved ends more b x y e p q
+      (dead_written ends b (ForUnknown (length ends) fine none (λ holder. last_end ends b holder)))
+
+  same_number : (n m : ℕ) → To n ≡ To m → n ≡ m
+  same_number n m q = cc
+
+  targets_known : (n m : ℕ) → IsKnown l before list n → IsKnown l before list m → (r : ℕ) → In (To r) (To n ∷ To m ∷ [])
+      → IsKnown l before list r
+  targets_known n m a b r (inl e) = subst (IsKnown l before list) (sym (same_number r n e)) a
+  targets_known n m a b r (inr (inl e)) = subst (IsKnown l before list) (sym (same_number r m e)) b
+  targets_known n m a b r (inr (inr i)) = absurd i
+
+  no_end : (n m b : ℕ) → In (Nowhere b) (To n ∷ To m ∷ []) → ⊥
+  no_end n m b (inl e) = cc
+  no_end n m b (inr (inl e)) = cc
+  no_end n m b (inr (inr i)) = i
+
+  pub two_written : (ends : List DeadEnd) (n m : ℕ) → IsWord t (key_at l.keys) (fault_at ends) u (To n) (To m)
+      → IsKnown l before list n → IsKnown l before list m → AreWritten t l before list ends (u ∷ []) (To n ∷ To m ∷ [])
+  two_written ends n m w a b = record {
+    words = (w, tt);
+    targets = targets_known n m a b;
+    nowhere = λ c i. absurd (no_end n m c i);
+  }
+
+-- ---- targets have entries
+pub one_present : (t : Table) (u : WordUse) (k : Key) → targets t u ≡ k ∷ [] → is_present t k ≡ true
+one_present t u k e = target_present t u k (subst (λ (ks : List Key). Contains ks k) (sym e) (member_first k k [] refl))
+
+-- the first of two targets is present
+pub first_present : (t : Table) (u : WordUse) (k l : Key) → targets t u ≡ k ∷ l ∷ [] → is_present t k ≡ true
+first_present t u k l e =
+    target_present t u k (subst (λ (ks : List Key). Contains ks k) (sym e) (member_first k k (l ∷ []) refl))
+
+-- the second of two targets is present
+pub second_present : (t : Table) (u : WordUse) (k l : Key) → targets t u ≡ k ∷ l ∷ [] → is_present t l ≡ true
+second_present t u k l e =
+    target_present t u l (subst (λ (ks : List Key). Contains ks l) (sym e)
+    (member_later l k (l ∷ []) (member_first l l [] refl)))
+
+-- ---- facts of an answer
+pub all_ok : {A E : Type 0} (r : Result A E) (P Q R S : A → Type 0) → IfOk r P → IfOk r Q → IfOk r R
+    → ((x : A) → P x → Q x → R x → S x) → IfOk r S
+all_ok (Ok x) P Q R S p q r f = f x p q r
+all_ok (Err e) P Q R S p q r f = p

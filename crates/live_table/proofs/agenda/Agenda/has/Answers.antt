@@ -1,6 +1,0 @@
-use Rattle.std.proofs.Common.{◌∙◌}
-use Rattle.live_table.proofs.Placing.{there}
-use Rattle.live_table.proofs.agenda.Agenda.has.Goals as goal
-
-pub returns : goal.returns
-returns c = c.is_some.ensures ∙ there c.args.self.now c.args.n c.place_of.result c.place_of.ensures

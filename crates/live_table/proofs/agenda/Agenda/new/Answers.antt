@@ -1,9 +1,0 @@
-use Rattle.std.proofs.Common.{List, ℕ, sym, subst}
-use Rattle.live_table.specs.Agendas.{IsPlaced}
-use Rattle.live_table.proofs.Placing.{nothing_placed}
-use Rattle.live_table.proofs.agenda.Agenda.new.Goals as goal
-
-pub invariant_of-result : goal.invariant_of-result
-invariant_of-result c =
-    subst (λ (p : List ℕ × List ℕ). IsPlaced p.0 p.1) (λ i. (sym c.new-2.ensures.items i, sym c.new.ensures.items i))
-    nothing_placed

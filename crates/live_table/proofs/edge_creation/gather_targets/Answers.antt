@@ -1,0 +1,29 @@
+use Rattle.std.proofs.Common.{ℕ, List, get_or, take, sym, subst}
+use Rattle.std.proofs.lemmas.Option.{slice_get-get_or}
+use Rattle.name_walk.proofs.Lists.{get_In}
+use Rattle.name_walk.specs.declared.step.Step.{Step}
+use Rattle.name_walk.specs.declared.step.Step.TheVariants.{Nowhere}
+use Rattle.name_walk.specs.Lists.{In}
+use Rattle.live_table.proofs.UsedNames.{AreUsed, all_used, none_used, one_used}
+use Rattle.live_table.proofs.edge_creation.gather_targets.Goals as goal
+
+pub loop-step-init : goal.loop-step-init
+loop-step-init c =
+    subst (λ (ns : List ℕ). AreUsed ns (take 0 c.args.steps.now)) (sym c.clear.ensures) (none_used c.args.steps.now)
+
+pub gather_target-requires : goal.gather_target-requires
+gather_target-requires c m e =
+    c.requires m (subst (λ (x : Step). In x c.args.steps.now) e
+    (get_In c.args.steps.now c.loop-step.step-index (get_or c.args.steps.now c.loop-step.step-index (Nowhere 0))
+    (slice_get-get_or c.args.steps.now c.loop-step.step-index (Nowhere 0) c.loop-step-test.true)))
+
+pub loop-step-preserved : goal.loop-step-preserved
+loop-step-preserved c =
+    one_used c.loop-step.targets c.gather_target.new.targets c.args.steps.now c.loop-step.step-index
+    (get_or c.args.steps.now c.loop-step.step-index (Nowhere 0))
+    (slice_get-get_or c.args.steps.now c.loop-step.step-index (Nowhere 0) c.loop-step-test.true)
+    c.loop-step.invariant c.in_ok-gather_target.ensures
+
+pub returns : goal.returns
+returns c = all_used c.loop-step.targets c.args.steps.now c.loop-step.step-index c.loop-step-test.false
+    c.loop-step.invariant

@@ -1,0 +1,95 @@
+use Rattle.std.proofs.Common.{◌≤◌, ◌<◌, length, List, ℕ, nat_eq, arith, subst, sym}
+use Rattle.std.specs.List.{IsDistinct}
+use Rattle.expr_tree.specs.declared.word_list.WordUse.{WordUse}
+use Rattle.def_entry.specs.Views.{what_view}
+use Rattle.deck.specs.Tables.{table}
+use Rattle.table_names.specs.Words.{key_words}
+use Rattle.live_table.specs.Callees.{AreKeyWords}
+use Rattle.live_table.specs.Exploration.{AreWritten}
+use Rattle.live_table.specs.Looks.{AllLead, AreLooks}
+use Rattle.live_table.specs.TableContents.{key_at, node_lists}
+use Rattle.live_table.proofs.DefinitionSearch.{said_words}
+use Rattle.live_table.proofs.AddedNames.{more_length}
+use Rattle.live_table.proofs.ReachedNames.{stepped_grown, stepped_same, stepped_written}
+use Rattle.live_table.proofs.exploration.explore_name.Goals as goal
+use Rattle.live_table.proofs.exploration.explore_name.Goals.{After-put_words, In_ok-steps}
+
+-- the name still has its number
+within : (c : After-put_words) → c.args.n < length c.put_words.new.nodes.keys
+within c =
+    let longer : length c.args.nodes.now.keys ≤ length c.put_words.new.nodes.keys =
+    more_length c.args.nodes.now.keys c.put_words.new.nodes.keys c.put_words.ensures.added.grown.keys_more in
+    let before = c.requires.listed.within c.args.n c.requires.name in
+    omega arith
+
+pub index_mut-requires : goal.index_mut-requires
+index_mut-requires c =
+    let size = c.put_words.new.nodes.callees.ok.0 in
+    let count = c.put_words.ensures.added.grown.nodes.callee_count in
+    let inside = within (goal.at.index_mut-requires c).After-put_words in
+    omega arith
+
+pub index_mut-requires-2 : goal.index_mut-requires-2
+index_mut-requires-2 c =
+    let size = c.put_words.new.nodes.steps.ok.0 in
+    let count = c.put_words.ensures.added.grown.nodes.step_count in
+    let inside = within (goal.at.index_mut-requires-2 c).After-put_words in
+    omega arith
+
+pub index_mut-requires-3 : goal.index_mut-requires-3
+index_mut-requires-3 c =
+    let size = c.put_words.new.nodes.looks.ok.0 in
+    let count = c.put_words.ensures.added.grown.nodes.look_count in
+    let inside = within (goal.at.index_mut-requires-3 c).After-put_words in
+    omega arith
+
+-- the words are those of the key of the name
+words : (c : In_ok-steps)
+    → AreKeyWords (table c.args.deck.now) (key_at c.args.nodes.now.keys c.args.n)
+    c.write_entry_words.new.words c.in_ok-starts.starts
+words c =
+    said_words (table c.args.deck.now) (key_at c.args.nodes.now.keys c.args.n) (what_view c.args.what.now)
+    c.write_entry_words.new.words c.in_ok-starts.starts c.requires.what c.in_ok-starts.ensures
+
+-- the steps are those of the words
+written : (c : In_ok-steps)
+    → AreWritten (table c.args.deck.now) (node_lists c.put_words.new.nodes) c.args.explored.now c.put_words.new.worklist
+    c.put_words.new.dead_ends.items (key_words (table c.args.deck.now) (key_at c.args.nodes.now.keys c.args.n))
+    c.in_ok-steps.steps.items
+written c =
+    subst (λ (us : List WordUse). AreWritten (table c.args.deck.now) (node_lists c.put_words.new.nodes)
+    c.args.explored.now c.put_words.new.worklist c.put_words.new.dead_ends.items us c.in_ok-steps.steps.items)
+    (words c).words c.in_ok-steps.ensures.written
+
+pub returns-clause-grown : goal.returns-clause-grown
+returns-clause-grown c =
+    stepped_grown (table c.args.deck.now) (node_lists c.args.nodes.now) (node_lists c.put_words.new.nodes)
+    c.args.explored.now
+    c.args.worklist.now c.put_words.new.worklist c.args.dead_ends.now.items c.put_words.new.dead_ends.items
+    c.args.n (record { rank = c.index_mut.result.now.rank; starts = c.in_ok-starts.starts }) c.in_ok-steps.steps
+    c.in_ok-looks.looks c.put_words.ensures.added c.requires.listed c.requires.name
+    (written (goal.at.returns-clause-grown c).In_ok-steps)
+
+pub returns-clause-same : goal.returns-clause-same
+returns-clause-same c =
+    stepped_same (table c.args.deck.now) (node_lists c.args.nodes.now) (node_lists c.put_words.new.nodes)
+    c.args.explored.now
+    c.args.worklist.now c.put_words.new.worklist c.args.dead_ends.now.items c.put_words.new.dead_ends.items
+    c.args.n (record { rank = c.index_mut.result.now.rank; starts = c.in_ok-starts.starts }) c.in_ok-steps.steps
+    c.in_ok-looks.looks c.put_words.ensures.added c.requires.listed c.requires.name
+    (written (goal.at.returns-clause-same c).In_ok-steps)
+
+pub returns-clause-written : goal.returns-clause-written
+returns-clause-written c =
+    stepped_written (table c.args.deck.now) (node_lists c.args.nodes.now) (node_lists c.put_words.new.nodes)
+    c.args.explored.now
+    c.args.worklist.now c.put_words.new.worklist c.args.dead_ends.now.items c.put_words.new.dead_ends.items
+    c.args.n (record { rank = c.index_mut.result.now.rank; starts = c.in_ok-starts.starts }) c.in_ok-steps.steps
+    c.in_ok-looks.looks c.put_words.ensures.added c.requires.listed c.requires.name
+    (written (goal.at.returns-clause-written c).In_ok-steps)
+    (words (goal.at.returns-clause-written c).In_ok-steps).starts
+    (subst (λ (p : List WordUse × List ℕ). AllLead c.in_ok-steps.steps.items
+    → AreLooks (table c.args.deck.now) c.put_words.new.nodes.keys p.0 c.in_ok-steps.steps.items p.1)
+    (λ i. ((words (goal.at.returns-clause-written c).In_ok-steps).words i, sym c.in_ok-looks.ensures.copy i))
+    c.in_ok-steps.ensures.looks)
+    (subst (IsDistinct nat_eq) (sym c.in_ok-looks.ensures.copy) c.in_ok-looks.ensures.once)

@@ -1,6 +1,0 @@
-use Rattle.std.proofs.Common.{subst}
-use Rattle.live_table.specs.Shown.{IsRightTable}
-use Rattle.live_table.proofs.live_table.LiveTable.kept_right.Goals as goal
-
-pub returns : goal.returns
-returns c = subst IsRightTable c.self.view_is c.self.invariant.0.sound.right

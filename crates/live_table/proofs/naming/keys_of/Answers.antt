@@ -1,8 +1,0 @@
-use Rattle.std.proofs.Common.{◌∙◌, ap, map, arith}
-use Rattle.std.proofs.lemmas.List.{take_all}
-use Rattle.live_table.specs.Stored.{key_at}
-use Rattle.live_table.proofs.naming.keys_of.Goals as goal
-
-pub returns : goal.returns
-returns c = c.loop-n.invariant ∙ ap (map (key_at c.args.keys.now))
-    (take_all c.loop-n.n-index c.args.names.now (omega arith))

@@ -1,6 +1,0 @@
-use Rattle.std.proofs.Common.{◌≡◌, map, take}
-use Rattle.live_table.specs.Stored.{key_at}
-use Rattle.live_table.proofs.naming.keys_of.Given as goal
-
-abbrev pub invariant-loop-n : goal.invariant-loop-n
-invariant-loop-n l = l.list ≡ map (key_at l.keys) (take l.n-index l.names)

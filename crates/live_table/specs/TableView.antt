@@ -1,0 +1,44 @@
+-- The view of a live table that contracts see.
+use Rattle.std.specs.Prelude.{◌≡◌, ◌≤◌, ℕ, List, refl}
+use Rattle.std.specs.Coded.{Coded, code_by, coded×, coded_ℕ}
+use Rattle.std.specs.FinMap as map_of
+use Rattle.def_entry.specs.KeyOrder.{key_code}
+use Rattle.tree_eval.specs.contracts.outcome.Outcome as outcome
+use Rattle.deck.specs.contracts.deck.Deck as deck
+use Rattle.deck.specs.Decks.{Contents}
+use Rattle.deck.specs.Tables.{table}
+use Rattle.live_table.specs.Right.{IsRight}
+use Rattle.live_table.specs.States.{Event, Kept, TableState, after_all}
+
+-- the deck, the settled names with their outcomes, and the number of names that were settled
+pub record Shown : Type 0 where
+  pub deck : Contents
+  pub kept : Kept
+  pub reductions : ℕ
+
+-- the code of a view is that of its parts
+abbrev pub shown_code : Coded Shown
+shown_code =
+    code_by _ (coded× deck.the_row.coded (coded× (map_of.code key_code outcome.the_row.coded) coded_ℕ))
+    (λ s. (s.deck, (s.kept, s.reductions))) (λ p. record { deck = p.0; kept = p.1.0; reductions = p.1.1 }) (λ _. refl)
+
+-- a live table with this number of steps
+abbrev pub state_with_steps : Shown → ℕ → TableState
+state_with_steps s steps = record { table = table s.deck; kept = s.kept; reductions = s.reductions; steps = steps }
+
+-- the stored outcomes are right, whatever the counts
+abbrev pub IsRightTable : Shown → Type 0
+IsRightTable s = IsRight (state_with_steps s 0)
+
+-- the state after these events
+pub record IsAfterEvents (events : List Event) (before after : Shown) (old new : ℕ) : Type 0 where
+  pub stands : state_with_steps after new ≡ after_all events (state_with_steps before old)
+  pub right : IsRightTable after
+
+-- after memory ran out: the deck is unchanged, each stored outcome is right, and no more steps were taken than by the
+-- whole query
+pub record IsCutOff (events : List Event) (before after : Shown) (old new : ℕ) : Type 0 where
+  pub deck : after.deck ≡ before.deck
+  pub right : IsRightTable after
+  pub least : old ≤ new
+  pub most : new ≤ (after_all events (state_with_steps before old)).steps

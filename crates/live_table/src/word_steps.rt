@@ -1,0 +1,174 @@
+//! Computes the steps of words.
+
+ghost use Rattle.std.specs.Prelude.{◌≡◌, ◌<◌, ◌++◌, ◌∷◌, [], ℕ, List, true, IfOk, length};
+ghost use Rattle.def_entry.specs.Tables.{Table, is_present};
+ghost use Rattle.deck.specs.Tables.{table};
+ghost use Rattle.name_walk.specs.Lists.{In};
+ghost use Rattle.live_table.specs.declared.dead_end.DeadEnd as dead_end_spec;
+ghost use Rattle.live_table.specs.Exploration.{AreAdded, AreListed, AreWritten, AreWrittenBehind, IsKnown, IsMore};
+ghost use Rattle.live_table.specs.WordTargets.{is_refused_lead, numbers, steps_to};
+ghost use Rattle.live_table.specs.Looks.{AllLead, AreLooks, AreLooksPut};
+ghost use Rattle.live_table.specs.Sound.{AreNumberedNames};
+ghost use Rattle.live_table.specs.TableContents.{key_at, node_lists};
+
+use crate::dead_end::DeadEnd;
+use crate::nodes::Nodes;
+use crate::numbered_keys::put_target;
+use crate::tried_keys::TriedKeys;
+use crate::word_targets::{Lead, lead_of};
+use crate::worklist::Worklist;
+use deck::Deck;
+use expr_tree::{WordUse, Words};
+use name_walk::{Step, StepList};
+use std::alloc::{AllocError, Global};
+
+/// Returns the steps of the words of an entry, two for each. If a word has targets, each key that its lookup tries gets
+/// a number, the targets that are not settled go on the agenda, and the other keys are gathered. The only error is lack
+/// of memory.
+pub(crate) fn put_words(
+    alloc: Global,
+    deck: &Deck,
+    nodes: &mut Nodes,
+    explored: &Worklist,
+    worklist: &mut Worklist,
+    dead_ends: &mut Vec<DeadEnd>,
+    tried: &mut TriedKeys,
+    words: &Words<'_>,
+) -> Result<StepList, AllocError>
+    requires nodes { AreNumberedNames (table deck.now) (node_lists nodes.old) }
+    requires listed { AreListed (table deck.now) (node_lists nodes.old) explored.now worklist.old }
+    ensures added { AreAdded (table deck.now) (node_lists nodes.old) (node_lists nodes.new)
+        explored.now worklist.old worklist.new dead_ends.old.items dead_ends.new.items }
+    ensures written { IfOk result (λ steps. AreWritten (table deck.now) (node_lists nodes.new) explored.now worklist.new
+        dead_ends.new.items words.now steps.items) }
+    ensures looks { IfOk result (λ steps. AllLead steps.items
+        → AreLooks (table deck.now) nodes.new.keys words.now steps.items nodes.new.gathered) }
+{
+    nodes.gathered.clear();
+    let mut steps = StepList::new(alloc);
+    for u in words.as_slice() {
+        put_word(
+            alloc, deck, nodes, explored, worklist, dead_ends, tried, u, &mut steps,
+        )?;
+    }
+    Ok(steps)
+}
+
+// Appends the steps of one word.
+fn put_word(
+    alloc: Global,
+    deck: &Deck,
+    nodes: &mut Nodes,
+    explored: &Worklist,
+    worklist: &mut Worklist,
+    dead_ends: &mut Vec<DeadEnd>,
+    tried: &mut TriedKeys,
+    u: &WordUse<'_>,
+    steps: &mut StepList,
+) -> Result<(), AllocError>
+    requires nodes { AreNumberedNames (table deck.now) (node_lists nodes.old) }
+    requires listed { AreListed (table deck.now) (node_lists nodes.old) explored.now worklist.old }
+    ensures added { AreAdded (table deck.now) (node_lists nodes.old) (node_lists nodes.new)
+        explored.now worklist.old worklist.new dead_ends.old.items dead_ends.new.items }
+    ensures written { IfOk result (λ _. AreWrittenBehind (table deck.now) (node_lists nodes.new) explored.now
+        worklist.new dead_ends.new.items nodes.old.gathered nodes.new.gathered u.now steps.old.items steps.new.items) }
+{
+    let word = word_steps(alloc, deck, nodes, explored, worklist, dead_ends, tried, u)?;
+    steps.push(word.first)?;
+    steps.push(word.second)?;
+    Ok(())
+}
+
+/// The two steps of a word.
+#[derive(Clone, Copy, Drop)]
+pub(crate) struct WordSteps {
+    pub(crate) first: Step,
+    pub(crate) second: Step,
+}
+
+// Returns the steps of one word.
+fn word_steps(
+    alloc: Global,
+    deck: &Deck,
+    nodes: &mut Nodes,
+    explored: &Worklist,
+    worklist: &mut Worklist,
+    dead_ends: &mut Vec<DeadEnd>,
+    tried: &mut TriedKeys,
+    u: &WordUse<'_>,
+) -> Result<WordSteps, AllocError>
+    requires nodes { AreNumberedNames (table deck.now) (node_lists nodes.old) }
+    requires listed { AreListed (table deck.now) (node_lists nodes.old) explored.now worklist.old }
+    ensures added { AreAdded (table deck.now) (node_lists nodes.old) (node_lists nodes.new)
+        explored.now worklist.old worklist.new dead_ends.old.items dead_ends.new.items }
+    ensures written { IfOk result (λ steps. AreWritten (table deck.now) (node_lists nodes.new) explored.now worklist.new
+        dead_ends.new.items (u.now ∷ []) (steps.first ∷ steps.second ∷ [])) }
+    ensures looks { IfOk result (λ steps. AllLead (steps.first ∷ steps.second ∷ [])
+        → AreLooksPut (table deck.now) nodes.new.keys u.now (steps.first ∷ steps.second ∷ [])
+        nodes.old.gathered nodes.new.gathered) }
+{
+    let lead = lead_of(alloc, deck, nodes, tried, u)?;
+    match target_steps(nodes, explored, worklist, lead)? {
+        Some(steps) => Ok(steps),
+        None => put_dead_end(alloc, u, lead, dead_ends),
+    }
+}
+
+/// Returns the steps to the targets of a word and puts the targets that are not known on the agenda. Returns `None` if
+/// the word has no target. The only error is lack of memory.
+pub(crate) fn target_steps(
+    nodes: &Nodes,
+    explored: &Worklist,
+    worklist: &mut Worklist,
+    lead: Lead,
+) -> Result<Option<WordSteps>, AllocError>
+    requires nodes { (table : Table) × AreNumberedNames table (node_lists nodes.now) }
+    requires within { (m : ℕ) → In m (numbers lead) → m < length nodes.now.keys }
+    ensures added { (table : Table) (ends : List dead_end_spec.DeadEnd) → AreNumberedNames table (node_lists nodes.now)
+        → AreListed table (node_lists nodes.now) explored.now worklist.old
+        → ((m : ℕ) → In m (numbers lead) → is_present table (key_at nodes.now.keys m) ≡ true)
+        → AreAdded table (node_lists nodes.now) (node_lists nodes.now) explored.now worklist.old worklist.new ends ends }
+    ensures known { IfOk result (λ _. (m : ℕ) → In m (numbers lead)
+        → IsKnown (node_lists nodes.now) explored.now worklist.new m) }
+    ensures steps { IfOk result (λ steps. steps ≡ steps_to lead) }
+{
+    match lead {
+        Lead::Refused | Lead::Nowhere => Ok(None),
+        Lead::One(n) => {
+            put_target(nodes, explored, worklist, n)?;
+            Ok(Some(WordSteps {
+                first: Step::To(n),
+                second: Step::To(n),
+            }))
+        }
+        Lead::Two(n, m) => {
+            put_target(nodes, explored, worklist, n)?;
+            put_target(nodes, explored, worklist, m)?;
+            Ok(Some(WordSteps {
+                first: Step::To(n),
+                second: Step::To(m),
+            }))
+        }
+    }
+}
+
+// Stores a word that leads nowhere and returns its steps.
+fn put_dead_end(
+    alloc: Global,
+    u: &WordUse<'_>,
+    lead: Lead,
+    dead_ends: &mut Vec<DeadEnd>,
+) -> Result<WordSteps, AllocError>
+    ensures more { IsMore dead_ends.old.items dead_ends.new.items }
+    ensures put { IfOk result (λ _. dead_ends.new.items
+        ≡ dead_ends.old.items ++ record { text = u.now.text; is_refused = is_refused_lead lead } ∷ []) }
+    ensures first { IfOk result (λ steps. steps.first ≡ Step.Nowhere (length dead_ends.old.items)) }
+    ensures second { IfOk result (λ steps. steps.second ≡ Step.Nowhere (length dead_ends.old.items)) }
+{
+    let step = Step::Nowhere(dead_ends.len());
+    dead_ends.push(DeadEnd::new(alloc, u, lead)?)?;
+    Ok(WordSteps {
+        first: step,
+        second: step,
+    })
+}

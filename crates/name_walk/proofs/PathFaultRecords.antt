@@ -1,0 +1,131 @@
+-- The names of a path, whose faults are recorded from the last name up.
+use Rattle.std.proofs.Common.{◌≡◌, ℕ, ◌+◌, ◌<◌, List, [], ◌∷◌, ◌++◌, length, set, Option, Some, refl, sym, ◌∙◌, ap}
+use Rattle.std.proofs.Common.{subst, inl, inr, arith, nat_eq, append_assoc, length-append, length-set}
+use Rattle.std.specs.List.{IsDistinct, slice_get}
+use Rattle.name_walk.specs.declared.step.Step.{Step}
+use Rattle.name_walk.specs.declared.step.Step.TheVariants.{To}
+use Rattle.name_walk.specs.declared.traces.Frame.{Frame}
+use Rattle.name_walk.specs.declared.trail.Ending.{Ending}
+use Rattle.name_walk.specs.declared.trail.FaultyStep.{FaultyStep}
+use Rattle.name_walk.specs.Lists.{In}
+use Rattle.name_walk.specs.PathRecords.{AreNoted, above, end_for, ending_above, step_down}
+use Rattle.name_walk.specs.Traces.{Trace, path, with_frame, without_frames}
+use Rattle.name_walk.specs.Trails.{Faults}
+use Rattle.name_walk.proofs.Distinct.{distinct_apart}
+use Rattle.name_walk.proofs.Links.{name_In, path_more}
+use Rattle.name_walk.proofs.Lists.{In-left}
+use Rattle.name_walk.proofs.Marks.{get_set_other, get_set_same}
+
+-- recording the fault of another name does not change the records of some names
+noted_still : (fs : Faults) (n : ℕ) (v : Option FaultyStep) (ending : Ending) (x : Step) (ns : List ℕ) → (In n ns → ⊥)
+    → AreNoted fs ending x ns → AreNoted (set fs n v) ending x ns
+noted_still fs n v ending x [] apart h = tt
+noted_still fs n v ending x (k ∷ ns) apart h = (
+  get_set_other fs n k v (λ e. apart (inl (sym e))) ∙ h.0,
+  noted_still fs n v ending x ns (λ i. apart (inr i)) h.1,
+)
+
+-- the faults of the names below are recorded, and no others
+pub record IsNoting (old now : Trace) (fs hs : Faults) (last : ℕ) (last_step : Step) (last_ending : Ending)
+    (name : ℕ) (step : Step) (ending : Ending) : Type 0 where
+  pub below : List ℕ
+  pub whole : path now.frames name ++ below ≡ path old.frames last
+  pub noted : AreNoted hs last_ending last_step below
+  pub others : (n : ℕ) → (In n below → ⊥) → slice_get hs n ≡ slice_get fs n
+  pub size : length hs ≡ length fs
+  pub step_is : step ≡ step_down last_step below
+  pub ending_is : ending ≡ above last_ending below
+  pub traces : without_frames now ≡ without_frames old
+
+module _ (old : Trace) (fs : Faults) (last : ℕ) (x : Step) (last_ending : Ending)
+    (once : IsDistinct nat_eq (path old.frames last))
+    (there : (n : ℕ) → In n (path old.frames last) → n < length fs) where
+  pub noting_start : IsNoting old old fs fs last x last_ending last x last_ending
+  noting_start = record {
+    below = [];
+    whole = append_nil (path old.frames last);
+    noted = tt;
+    others = λ n i. refl;
+    size = refl;
+    step_is = refl;
+    ending_is = refl;
+    traces = refl;
+  }
+    where
+      append_nil : (xs : List ℕ) → xs ++ [] ≡ xs
+      append_nil [] = refl
+      append_nil (y ∷ xs) = ap (λ ys. y ∷ ys) (append_nil xs)
+
+  module _ (now : Trace) (hs : Faults) (name : ℕ) (step : Step) (ending : Ending)
+      (h : IsNoting old now fs hs last x last_ending name step ending) where
+    here_In : In name (path old.frames last)
+    here_In =
+        subst (λ (ns : List ℕ). In name ns) h.whole
+        (In-left (path now.frames name) h.below name (name_In now.frames name))
+
+    pub noting_there : name < length hs
+    noting_there = subst (λ (k : ℕ). name < k) (sym h.size) (there name here_In)
+
+    apart : In name h.below → ⊥
+    apart i =
+        distinct_apart (path now.frames name) h.below (subst (λ (ns : List ℕ). IsDistinct nat_eq ns) (sym h.whole) once)
+        name (name_In now.frames name) i
+
+    abbrev noted_now : Faults
+    noted_now = set hs name (Some (record { step = step; end = end_for ending name }))
+
+    pub noted_one : AreNoted noted_now last_ending x (name ∷ h.below)
+    noted_one = (
+      get_set_same hs name (Some (record { step = step; end = end_for ending name })) noting_there
+          ∙ (λ i. Some (Some (record { step = h.step_is i; end = end_for (h.ending_is i) name }))),
+      noted_still hs name (Some (record { step = step; end = end_for ending name })) last_ending x h.below apart
+          h.noted,
+    )
+
+    others_one : (n : ℕ) → (In n (name ∷ h.below) → ⊥) → slice_get noted_now n ≡ slice_get fs n
+    others_one n out =
+        get_set_other hs name n (Some (record { step = step; end = end_for ending name })) (λ e. out (inl e))
+        ∙ h.others n (λ i. out (inr i))
+
+    size_one : length noted_now ≡ length fs
+    size_one = length-set hs name (Some (record { step = step; end = end_for ending name })) ∙ h.size
+
+    pub noting_next : (later : Trace) (frame : Frame) → now ≡ with_frame later frame
+        → IsNoting old later fs noted_now last x last_ending frame.name (To name) (ending_above ending name)
+    noting_next later frame e = record {
+      below = name ∷ h.below;
+      whole = sym (append_assoc (path later.frames frame.name) (name ∷ []) h.below)
+          ∙ (ap (λ ns. ns ++ h.below)
+          (sym (path_more later.frames frame name) ∙ ap (λ (t : Trace). path t.frames name) (sym e)) ∙ h.whole);
+      noted = noted_one;
+      others = others_one;
+      size = size_one;
+      step_is = refl;
+      ending_is = ap (λ d. ending_above d name) h.ending_is;
+      traces = ap without_frames (sym e) ∙ h.traces;
+    }
+
+    -- if no frame is left, the faults of all names are recorded
+    module _ (top : now.frames ≡ []) where
+      whole_is : name ∷ h.below ≡ path old.frames last
+      whole_is = ap (λ (fs : List Frame). path fs name ++ h.below) (sym top) ∙ h.whole
+
+      pub noting_all : AreNoted noted_now last_ending x (path old.frames last)
+      noting_all = subst (λ (ns : List ℕ). AreNoted noted_now last_ending x ns) whole_is noted_one
+
+      pub noting_others : (n : ℕ) → (In n (path old.frames last) → ⊥) → slice_get noted_now n ≡ slice_get fs n
+      noting_others n out = others_one n (λ i. out (subst (λ (ns : List ℕ). In n ns) whole_is i))
+
+      pub noting_size : length noted_now ≡ length fs
+      noting_size = size_one
+
+      pub noting_traces : now ≡ without_frames old
+      noting_traces = ap (λ (fs : List Frame). record now { frames = fs }) top ∙ h.traces
+
+-- one frame less
+pub frames_less : (now later : Trace) (frame : Frame) → now ≡ with_frame later frame
+    → length later.frames < length now.frames
+frames_less now later frame e =
+    subst (λ (t : Trace). length later.frames < length t.frames) (sym e)
+    (let l : length (later.frames ++ frame ∷ []) ≡ length later.frames + 1 = length-append later.frames (frame ∷ []) in
+    omega arith)

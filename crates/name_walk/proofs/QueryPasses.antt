@@ -1,0 +1,196 @@
+-- The steps of a query that a walk has passed.
+use Rattle.std.proofs.Common.{◌≡◌, ◌⊎◌, ℕ, zero, suc, ◌+◌, ◌-◌, ◌<◌, Bool, List, [], ◌∷◌, ◌++◌, length, take, replicate}
+use Rattle.std.proofs.Common.{◌≤◌, Some, None, refl, sym, ◌∙◌, ap, subst, inl, inr, arith, length-append}
+use Rattle.std.specs.List.{slice_get}
+use Rattle.std.proofs.lemmas.List.{length-replicate, length-take, take_all}
+use Rattle.std.proofs.lemmas.Option.{slice_get_within}
+use Rattle.name_walk.specs.declared.mark.Mark.{Mark}
+use Rattle.name_walk.specs.declared.mark.Mark.TheVariants.{Closed, OnPath, Open}
+use Rattle.name_walk.specs.declared.step.Step.{Step}
+use Rattle.name_walk.specs.declared.step.Step.TheVariants.{To}
+use Rattle.name_walk.specs.ClosedNames.{IsDone, IsSettled}
+use Rattle.name_walk.specs.Faults.{NameFault, at_step, name_fault_within, steps_fault}
+use Rattle.name_walk.specs.Lists.{In}
+use Rattle.name_walk.specs.Nets.{IsConsistentGraph}
+use Rattle.name_walk.specs.NewlyClosed.{AreNewlyClosed, IsReached}
+use Rattle.name_walk.specs.Steps.{Graph}
+use Rattle.name_walk.specs.Traces.{IsIdle, Trace, trace_with_names, without_order}
+use Rattle.name_walk.specs.Visits.{AreOrdering, IsBetween, IsFaultless, IsMarkFound}
+use Rattle.name_walk.proofs.ClosedPaths.{name_closed}
+use Rattle.name_walk.proofs.Faults.{empty_path}
+use Rattle.name_walk.proofs.Lists.{In-left, In-push, first_at, first_push, or_none, take_at}
+use Rattle.name_walk.proofs.WalkOrder.{ordering_start}
+use Rattle.name_walk.proofs.DoneNames.{done_below, done_closed}
+
+-- these steps of a query have no fault, they reach the names that were closed, and each leads to a name that is done
+pub record ArePassed (g : Graph) (s : List Bool) (query : List Step) (t : Trace) : Type 0 where
+  pub between : IsBetween g s t
+  pub none : steps_fault g [] query ≡ None
+  pub reached : (n : ℕ) → In n t.order → IsReached g query n
+  pub done : (n : ℕ) → In (To n) query → IsDone s t.order n
+
+-- open marks with new open marks appended are all open
+open_front : (n : ℕ) (marks : List Mark) (k : ℕ) → ((m : ℕ) → m < length marks → slice_get marks m ≡ Some Open)
+    → (m : ℕ) → m < length (take n marks ++ replicate k Open)
+    → slice_get (take n marks ++ replicate k Open) m ≡ Some Open
+open_front zero marks zero h m l = absurd (omega arith)
+open_front zero marks (suc k) h zero l = refl
+open_front zero marks (suc k) h (suc m) l = open_front zero marks k h m (omega arith)
+open_front (suc n) [] zero h m l = absurd (omega arith)
+open_front (suc n) [] (suc k) h zero l = refl
+open_front (suc n) [] (suc k) h (suc m) l = open_front (suc n) [] k h m (omega arith)
+open_front (suc n) (x ∷ marks) k h zero l = h 0 (omega arith)
+open_front (suc n) (x ∷ marks) k h (suc m) l = open_front n marks k (λ q j. h (suc q) (omega arith)) m (omega arith)
+
+-- marks that are cut or extended have the wanted length
+cover_length : (n : ℕ) (marks : List Mark) → length (take n marks ++ replicate (n - length marks) Open) ≡ n
+cover_length n marks =
+    let both = length-append (take n marks) (replicate (n - length marks) Open) in
+    let front = length-take n marks in
+    let back = length-replicate (n - length marks) Open in
+    omega arith
+
+-- an idle walk stays idle when it covers n names
+covered_idle : (n : ℕ) (t : Trace) → IsIdle t → IsIdle (trace_with_names n t)
+covered_idle n t idle = record {
+  are_open = open_front n t.marks (n - length t.marks) idle.are_open;
+  entered = idle.entered;
+  frames = idle.frames;
+}
+
+-- an idle walk that covers the names and forgets its order is between two steps
+pub between_idle : (g : Graph) (s : List Bool) (t covered new : Trace) → IsIdle t
+    → covered ≡ trace_with_names (length g) t
+    → new ≡ without_order covered
+    → IsBetween g s new
+between_idle g s t covered new idle c e =
+    still_between g s covered new (subst IsIdle (sym c) (covered_idle (length g) t idle))
+    (ap (λ (x : Trace). length x.marks) c ∙ cover_length (length g) t.marks) e
+  where
+    still_between : (g : Graph) (s : List Bool) (t new : Trace) → IsIdle t → length t.marks ≡ length g
+        → new ≡ without_order t → IsBetween g s new
+    still_between g s t new idle size e = subst (λ (x : Trace). IsBetween g s x) (sym e) (record {
+      in_target_order = subst (λ (es : List ℕ). AreOrdering g s t.marks es []) (sym idle.entered)
+          (ordering_start g s t.marks size idle.are_open);
+      off_path = λ n h. let o : slice_get t.marks n ≡ Some Open =
+          idle.are_open n (slice_get_within t.marks n OnPath h) in absurd (cc);
+      frames = idle.frames;
+    })
+
+-- at the start no step is passed
+pub passed_start : (g : Graph) (s : List Bool) (t : Trace) → IsBetween g s t → t.order ≡ [] → ArePassed g s [] t
+passed_start g s t b e = record {
+  between = b;
+  none = refl;
+  reached = λ n i. absurd (subst (λ (xs : List ℕ). In n xs) e i);
+  done = λ n i. absurd i;
+}
+
+module _ (g : Graph) (s : List Bool) (query : List Step) where
+  reached_push : (x : Step) (n : ℕ) → IsReached g query n → IsReached g (query ++ x ∷ []) n
+  reached_push x n w = (w.0, In-left query (x ∷ []) (To w.0) w.1, w.2)
+
+  last_step : (n r : ℕ) → In (To r) (query ++ To n ∷ []) → In (To r) query ⊎ (r ≡ n)
+  last_step n r i = elim (In-push query (To n) (To r) i) [ inl j ↦ inl j | inr e ↦ inr (cc) ]
+
+  none_push : (x : Step) → steps_fault g [] query ≡ None → steps_fault g [] (x ∷ []) ≡ None
+      → steps_fault g [] (query ++ x ∷ []) ≡ None
+  none_push x e h =
+      first_push (at_step (name_fault_within g (length g - 0)) []) query x e
+      ∙ (sym (or_none (at_step (name_fault_within g (length g - 0)) [] x)) ∙ h)
+
+  -- a step to a name that is done is passed
+  pub passed_done : (net : IsConsistentGraph g s) (t : Trace) (n : ℕ) → ArePassed g s query t → n < length g
+      → IsDone s t.order n
+      → ArePassed g s (query ++ To n ∷ []) t
+  passed_done net t n p there d = record {
+    between = p.between;
+    none = none_push (To n) p.none (or_none _ ∙ name_closed g net.range (length g) [] n
+        (done_closed g s net.settled t.order p.between.in_target_order.closed n d) there (empty_path g)
+        (λ q i. absurd i));
+    reached = λ m i. reached_push (To n) m (p.reached m i);
+    done = λ r i. elim (last_step n r i)
+        [ inl j ↦ p.done r j | inr e ↦ subst (λ (x : ℕ). IsDone s t.order x) (sym e) d ];
+  }
+
+  -- a step to a name that was visited without a fault is passed
+  pub passed_visit : (old new : Trace) (n : ℕ) → ArePassed g s query old → IsFaultless g s n old new
+      → ArePassed g s (query ++ To n ∷ []) new
+  passed_visit old new n p v = record {
+    between = v.between;
+    none = none_push (To n) p.none v.none;
+    reached = λ m i. elim (v.adds.from m i) [
+      | inl j ↦ reached_push (To n) m (p.reached m j)
+      | inr b ↦ (n, In-here, b)
+    ];
+    done = λ r i. elim (last_step n r i) [
+      | inl j ↦ elim (p.done r j) [ inl e ↦ inl e | inr k ↦ inr (v.adds.kept r k) ]
+      | inr e ↦ inr (subst (λ (x : ℕ). In x new.order) (sym e) v.adds.put)
+    ];
+  }
+    where
+      In-here : In (To n) (query ++ To n ∷ [])
+      In-here = at_end query
+        where
+          at_end : (xs : List Step) → In (To n) (xs ++ To n ∷ [])
+          at_end [] = inl refl
+          at_end (x ∷ xs) = inr (at_end xs)
+
+  -- after all steps are passed, the order has the names that the query newly closes
+  pub newly_closed : IsConsistentGraph g s → (t : Trace) → ArePassed g s query t → AreNewlyClosed g s query t.order
+  newly_closed net t p = record {
+    closed = p.between.in_target_order.closed;
+    exactly = λ n. (
+      λ i. (p.reached n i, p.between.in_target_order.fresh n i),
+      λ h. only_new n (done_reached n h.0) h.1,
+    );
+    once = p.between.in_target_order.once;
+    ordered = p.between.in_target_order.ordered;
+  }
+    where
+      only_new : (n : ℕ) → IsDone s t.order n → (IsSettled s n → ⊥) → In n t.order
+      only_new n (inl e) u = absurd (u e)
+      only_new n (inr i) u = i
+
+      done_reached : (n : ℕ) → IsReached g query n → IsDone s t.order n
+      done_reached n w = elim w.2 [
+        | inl e ↦ subst (λ (x : ℕ). IsDone s t.order x) (sym e) (p.done w.0 w.1)
+        | inr r ↦ done_below g s net.settled t.order p.between.in_target_order.ordered (p.done w.0 w.1) r
+      ]
+
+-- the fault of the next step is the fault of the query, if the steps before it have none
+pub fault_next : (g : Graph) (query : List Step) (i : ℕ) (x : Step) (f : NameFault)
+    → steps_fault g [] (take i query) ≡ None
+    → slice_get query i ≡ Some x → steps_fault g [] (x ∷ []) ≡ Some f → steps_fault g [] query ≡ Some f
+fault_next g query i x f none e h =
+    first_at (at_step (name_fault_within g (length g - 0)) []) query i x f none e
+    (sym (or_none (at_step (name_fault_within g (length g - 0)) [] x)) ∙ h)
+
+-- if a name is not on a path and not open, it is found closed
+pub found_closed : (s : List Bool) (ms : List Mark) (n : ℕ) (m : Mark) → IsMarkFound s ms n m → (m ≡ Open → ⊥)
+    → (slice_get ms n ≡ Some OnPath → ⊥) → IsMarkFound s ms n Closed
+found_closed s ms n Open found ne off = absurd (ne refl)
+found_closed s ms n OnPath found ne off = absurd (off found)
+found_closed s ms n Closed found ne off = found
+
+-- ---- one step further in a query
+module _ {g : Graph} {s : List Bool} (net : IsConsistentGraph g s) (query : List Step) (i : ℕ) {n : ℕ} {t : Trace}
+    (passed : ArePassed g s (take i query) t) (here : slice_get query i ≡ Some (To n)) where
+  pub next_done : n < length g → IsMarkFound s t.marks n Closed → ArePassed g s (take (i + 1) query) t
+  next_done there found =
+      subst (λ (xs : List Step). ArePassed g s xs t) (sym (take_at query i (To n) here))
+      (passed_done g s (take i query) net t n passed there
+      (elim found [ inl d ↦ inl d | inr d ↦ inr ((passed.between.in_target_order.marked n).0 d) ]))
+
+  pub next_visit : (new : Trace) → IsFaultless g s n t new → ArePassed g s (take (i + 1) query) new
+  next_visit new v =
+      subst (λ (xs : List Step). ArePassed g s xs new) (sym (take_at query i (To n) here))
+      (passed_visit g s (take i query) t new n passed v)
+
+-- if all steps are passed, they have no fault, and the order has the newly closed names
+pub all_passed : (g : Graph) (s : List Bool) → IsConsistentGraph g s → (query : List Step) (i : ℕ) (t : Trace)
+    → ArePassed g s (take i query) t
+    → length query ≤ i → (steps_fault g [] query ≡ None) × AreNewlyClosed g s query t.order
+all_passed g s net query i t p end =
+    let q : ArePassed g s query t = subst (λ (xs : List Step). ArePassed g s xs t) (take_all i query end) p in
+    (q.none, newly_closed g s query net t q)

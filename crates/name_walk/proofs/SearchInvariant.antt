@@ -1,0 +1,377 @@
+-- A running search, and the invariant that each of its moves preserves.
+use Rattle.std.proofs.Common.{◌≡◌, ◌⊎◌, ℕ, suc, ◌+◌, ◌^◌, ◌<◌, ◌≤◌, Bool, true, false, List, [], ◌∷◌, ◌++◌, length}
+use Rattle.std.proofs.Common.{take, set, Some, refl, sym, ◌∙◌, ap, subst, inl, inr, arith, nat_eq, length-set}
+use Rattle.std.specs.List.{IsDistinct, slice_get}
+use Rattle.std.proofs.lemmas.Bool.{false_from_ne_true}
+use Rattle.std.proofs.lemmas.List.{take_all}
+use Rattle.std.proofs.lemmas.Option.{slice_get_within}
+use Rattle.name_walk.specs.declared.mark.Mark.{Mark}
+use Rattle.name_walk.specs.declared.mark.Mark.TheVariants.{Closed, OnPath, Open}
+use Rattle.name_walk.specs.declared.step.Step.{Step}
+use Rattle.name_walk.specs.declared.step.Step.TheVariants.{Nowhere, To}
+use Rattle.name_walk.specs.declared.traces.Frame.{Frame}
+use Rattle.name_walk.specs.declared.trail.Ending.{Ending}
+use Rattle.name_walk.specs.declared.trail.Ending.TheVariants.{At, Ring}
+use Rattle.name_walk.specs.ClosedNames.{IsClosedName, IsDone, IsSettled, StepLeadsInto}
+use Rattle.name_walk.specs.Faults.{is_on_path}
+use Rattle.name_walk.specs.Findings.{CanClear}
+use Rattle.name_walk.specs.Lists.{In}
+use Rattle.name_walk.specs.Nets.{IsConsistentGraph}
+use Rattle.name_walk.specs.PathRecords.{AreNoted}
+use Rattle.name_walk.specs.Paths.{IsNamePath}
+use Rattle.name_walk.specs.Searches.{IsBetween, IsEnding, IsOpen, IsSearched}
+use Rattle.name_walk.specs.Steps.{Graph, LeadsTo, NameReaches, at_once, further, steps}
+use Rattle.name_walk.specs.Traces.{Trace, path}
+use Rattle.name_walk.specs.Trails.{AreFindings, AreTrails, Faults, IsFaulty, IsFirst}
+use Rattle.name_walk.specs.Visits.{IsBelow}
+use Rattle.name_walk.proofs.ClosedPaths.{any_depth, into_map}
+use Rattle.name_walk.proofs.Distinct.{member_or}
+use Rattle.name_walk.proofs.Faults.{empty_path, path_push}
+use Rattle.name_walk.proofs.Going.{HaveRoom}
+use Rattle.name_walk.proofs.Links.{AreDone, AreLinked, are_done_more, frame, head, head_In, head_more, last_path}
+use Rattle.name_walk.proofs.Links.{linked_more, linked_pop, linked_push, linked_reach, name_In, path_more}
+use Rattle.name_walk.proofs.Lists.{In-last, In-left, In-on, In-push, all_append, all_at, all_front, all_map}
+use Rattle.name_walk.proofs.Lists.{distinct_front, distinct_last, get_In, on-In, take_at}
+use Rattle.name_walk.proofs.Marks.{entered_again, entered_in}
+use Rattle.name_walk.proofs.PathFaults.{PathEnds, noted_faulty, path_findings, path_trails, still_faulty}
+use Rattle.name_walk.proofs.DoneNames.{done_closed}
+use Rattle.name_walk.proofs.SearchMarks.{AreMarks, marks_clear, marks_close, marks_enter}
+
+-- the path, whose frames have the places of the steps by which it goes on
+pub record IsOnTrail (g : Graph) (s : List Bool) (start : ℕ) (os : List ℕ) (frames : List Frame) (name place : ℕ)
+    : Type 0 where
+  pub is_path : IsNamePath g (path frames name)
+  pub begins : head frames name ≡ start
+  pub linked : AreLinked g s os frames name
+  pub passed : AreDone s os (take place (steps g name))
+  pub within : place ≤ length (steps g name)
+  pub room : HaveRoom frames
+
+pub record IsSeeking (g : Graph) (s : List Bool) (start : ℕ) (old : Trace) (ms : List Mark) (es os : List ℕ)
+    (fs : Faults) (frames : List Frame) (name place : ℕ) : Type 0 where
+  pub are : AreFindings g s os fs
+  pub trails : AreTrails fs
+  pub marks : AreMarks ms es os fs (path frames name)
+  pub way : IsOnTrail g s start os frames name place
+  pub marks_size : length g ≤ length ms
+  pub faults_size : length g ≤ length fs
+  pub kept : (n : ℕ) → In n old.order → In n os
+  pub from : (n : ℕ) → In n es → In n old.entered ⊎ (IsBelow g start n × (IsSettled s n → ⊥))
+
+-- a name that is done stays done after one more name is closed
+done_wider : (s : List Bool) (os : List ℕ) (n m : ℕ) → IsDone s os m → IsDone s (os ++ n ∷ []) m
+done_wider s os n m (inl e) = inl e
+done_wider s os n m (inr i) = inr (In-left os (n ∷ []) m i)
+
+first_wider : (g : Graph) (s : List Bool) (os : List ℕ) (k n : ℕ) (x : Step) → IsFirst g s os n x
+    → IsFirst g s (os ++ k ∷ []) n x
+first_wider g s os k n x a = record {
+  place = a.place;
+  at = a.at;
+  before = are_done_more s os k (take a.place (steps g n)) a.before;
+}
+
+findings_close : (g : Graph) (s : List Bool) (os : List ℕ) (fs : Faults) (n : ℕ) → AreFindings g s os fs
+    → IsClosedName g n → ((m : ℕ) → LeadsTo g n m → IsDone s os m) → AreFindings g s (os ++ n ∷ []) fs
+findings_close g s os fs n are closed below = record {
+  sound = λ k i. elim (In-push os n k i) [
+    | inl j ↦ ((are.sound k j).0, λ m l. done_wider s os n m ((are.sound k j).1 m l))
+    | inr e ↦ subst (λ (q : ℕ). IsClosedName g q × ((m : ℕ) → LeadsTo g q m → IsDone s (os ++ n ∷ []) m)) (sym e)
+        (closed, λ m l. done_wider s os n m (below m l))
+  ];
+  first = λ k c e. first_wider g s os n k c.step (are.first k c e);
+}
+
+module _ (g : Graph) (s : List Bool) (net : IsConsistentGraph g s) (start : ℕ) (old : Trace) where
+  -- ---- the start
+  pub seek_begin : (fs : Faults) → IsBetween g s old fs → IsOpen s old.marks fs start
+      → IsSeeking g s start old (set old.marks start OnPath) (old.entered ++ start ∷ []) old.order fs [] start 0
+  seek_begin fs b o =
+      let there : start < length g =
+      (let c : start < length s = slice_get_within s start false o.not_settled in
+      subst (λ (k : ℕ). start < k) net.size c) in
+      record {
+        are = b.are;
+        trails = b.consistent.trails;
+        marks = marks_enter old.marks old.entered old.order fs [] start (record {
+          entered = b.consistent.can_clear.entered;
+          within = b.consistent.can_clear.within;
+          noted = b.consistent.can_clear.noted;
+          closed = b.consistent.closed;
+          sound = b.consistent.sound;
+          marked = λ n e. inr (b.consistent.off_path n e);
+          on_path = λ n i. absurd i;
+          fresh = λ n i f. i;
+        }) o.mark (let l : length g ≤ length fs = b.faults in omega arith) o.faultless;
+        way = record {
+          is_path = path_push g [] start (empty_path g) refl there;
+          begins = refl;
+          linked = tt;
+          passed = tt;
+          within = omega arith;
+          room = tt;
+        };
+        marks_size = subst (λ (k : ℕ). length g ≤ k) (sym (length-set old.marks start OnPath)) b.marks;
+        faults_size = b.faults;
+        kept = λ n i. i;
+        from = λ n i. elim (In-push old.entered start n i) [
+          | inl j ↦ inl j
+          | inr e ↦ inr (inl e, λ q. let f : slice_get s n ≡ Some false = ap (slice_get s) e ∙ o.not_settled in cc)
+        ];
+      }
+
+  module _ (fs : Faults) (ms : List Mark) (es os : List ℕ) (frames : List Frame) (name place : ℕ)
+      (go : IsSeeking g s start old ms es os fs frames name place) where
+    pub seek_there : name < length g
+    seek_there = go.way.is_path.there name (In-on (path frames name) name (name_In frames name))
+
+    seek_mark : slice_get ms name ≡ Some OnPath
+    seek_mark = go.marks.on_path name (name_In frames name)
+
+    seek_below : IsBelow g start name
+    seek_below =
+        elim (linked_reach g s os frames name go.way.linked (head frames name) (head_In frames name)) [
+          | inl e ↦ inl (sym e ∙ go.way.begins)
+          | inr r ↦ inr (subst (λ (x : ℕ). NameReaches g x name) go.way.begins r)
+        ]
+
+    -- ---- passing a step to a name that is done
+    pub seek_pass : (m : ℕ) → slice_get (steps g name) place ≡ Some (To m) → IsDone s os m
+        → IsSeeking g s start old ms es os fs frames name (place + 1)
+    seek_pass m e d = record {
+      are = go.are;
+      trails = go.trails;
+      marks = go.marks;
+      way = record {
+        is_path = go.way.is_path;
+        begins = go.way.begins;
+        linked = go.way.linked;
+        passed = subst (λ (xs : List Step). AreDone s os xs) (sym (take_at (steps g name) place (To m) e))
+            (all_append (StepLeadsInto (IsDone s os)) (take place (steps g name)) (To m ∷ []) go.way.passed (d, tt));
+        within = let l : place < length (steps g name) = slice_get_within _ _ _ e in omega arith;
+        room = go.way.room;
+      };
+      marks_size = go.marks_size;
+      faults_size = go.faults_size;
+      kept = go.kept;
+      from = go.from;
+    }
+
+    -- ---- entering an open name
+    below_next : (m : ℕ) → LeadsTo g name m → IsBelow g start m
+    below_next m l =
+        elim seek_below [
+          | inl e ↦ inr (subst (λ (x : ℕ). NameReaches g x m) e (at_once l))
+          | inr r ↦ inr (onward_to r l)
+        ]
+      where
+        onward_to : {a b : ℕ} → NameReaches g a b → LeadsTo g b m → NameReaches g a m
+        onward_to (at_once k) j = further k (at_once j)
+        onward_to (further k r) j = further k (onward_to r j)
+
+    pub seek_enter : (m : ℕ) → slice_get (steps g name) place ≡ Some (To m) → IsOpen s ms fs m → place + 1 < 2 ^ 64
+        → IsSeeking g s start old (set ms m OnPath) (es ++ m ∷ []) os fs (frames ++ frame name place ∷ []) m 0
+    seek_enter m e o fits =
+        let leads : LeadsTo g name m = get_In _ _ _ e in
+        let there : m < length g = net.range name m leads in
+        let p : path (frames ++ frame name place ∷ []) m ≡ path frames name ++ m ∷ [] =
+        path_more frames (frame name place) m in
+        let new : is_on_path (path frames name) m ≡ false =
+        false_from_ne_true _ (λ f. let a : slice_get ms m ≡ Some OnPath =
+        go.marks.on_path m (on-In (path frames name) m f) in let b : slice_get ms m ≡ Some Open = o.mark in cc) in
+        record {
+          are = go.are;
+          trails = go.trails;
+          marks = subst (λ (q : List ℕ). AreMarks (set ms m OnPath) (es ++ m ∷ []) os fs q) (sym p)
+              (marks_enter ms es os fs (path frames name) m go.marks o.mark
+              (let l : length g ≤ length fs = go.faults_size in omega arith) o.faultless);
+          way = record {
+            is_path = subst (λ (q : List ℕ). IsNamePath g q) (sym p)
+                (path_push g (path frames name) m go.way.is_path new there);
+            begins = head_more frames (frame name place) m ∙ go.way.begins;
+            linked = linked_push g s os frames (frame name place) m go.way.linked e go.way.passed;
+            passed = tt;
+            within = omega arith;
+            room = all_append (λ (f : Frame). f.place + 1 < 2 ^ 64) frames (frame name place ∷ []) go.way.room
+                (fits, tt);
+          };
+          marks_size = subst (λ (k : ℕ). length g ≤ k) (sym (length-set ms m OnPath)) go.marks_size;
+          faults_size = go.faults_size;
+          kept = go.kept;
+          from = λ n i. elim (In-push es m n i) [
+            | inl j ↦ go.from n j
+            | inr q ↦ inr (
+              subst (λ (k : ℕ). IsBelow g start k) (sym q) (below_next m leads),
+              λ t. let f : slice_get s n ≡ Some false = ap (slice_get s) q ∙ o.not_settled in cc,
+            )
+          ];
+        }
+
+    -- ---- after all steps of the name are passed
+    module _ (full : length (steps g name) ≤ place) where
+      all_done : AreDone s os (steps g name)
+      all_done = subst (λ (xs : List Step). AreDone s os xs) (take_all place (steps g name) full) go.way.passed
+
+      name_closes : IsClosedName g name
+      name_closes =
+          any_depth g net.range (suc (length g)) name seek_there
+          (all_map (StepLeadsInto (IsDone s os)) (StepLeadsInto (IsClosedName g))
+          (into_map (IsDone s os) (IsClosedName g) (done_closed g s net.settled os (λ n i. (go.are.sound n i).0)))
+          (steps g name) all_done)
+
+      pub close_findings : AreFindings g s (os ++ name ∷ []) fs
+      close_findings =
+          findings_close g s os fs name go.are name_closes
+          (λ m l. all_at (StepLeadsInto (IsDone s os)) (steps g name) (To m) all_done l)
+
+      pub close_clear : CanClear (set ms name Closed) es fs
+      close_clear =
+          let here : name < length ms = slice_get_within ms name OnPath seek_mark in
+          record {
+            entered = entered_again ms name here Closed es
+                (entered_in OnPath (λ q. cc) ms es name go.marks.entered seek_mark) go.marks.entered;
+            within = go.marks.within;
+            noted = go.marks.noted;
+          }
+
+      pub close_size : length g ≤ length (set ms name Closed)
+      close_size = subst (λ (k : ℕ). length g ≤ k) (sym (length-set ms name Closed)) go.marks_size
+
+      pub close_kept : (n : ℕ) → In n old.order → In n (os ++ name ∷ [])
+      close_kept n i = In-left os (name ∷ []) n (go.kept n i)
+
+  -- ---- leaving a name for the one above it
+  pub seek_leave : (fs : Faults) (ms : List Mark) (es os : List ℕ) (frames : List Frame) (f : Frame) (name place : ℕ)
+      → IsSeeking g s start old ms es os fs (frames ++ f ∷ []) name place → length (steps g name) ≤ place
+      → IsSeeking g s start old (set ms name Closed) es (os ++ name ∷ []) fs frames f.name (f.place + 1)
+  seek_leave fs ms es os frames f name place go full =
+      let pop = linked_pop g s os frames f name go.way.linked in
+      let p : path (frames ++ f ∷ []) name ≡ path frames f.name ++ name ∷ [] = path_more frames f name in
+      let once : IsDistinct nat_eq (path frames f.name ++ name ∷ []) =
+      subst (λ (q : List ℕ). IsDistinct nat_eq q) p go.way.is_path.once in
+      let apart : In name (path frames f.name) → ⊥ = distinct_last (path frames f.name) name once in
+      let short : f.place < length (steps g f.name) = slice_get_within _ _ _ pop.1 in
+      let up : (n : ℕ) → In n (path frames f.name) → In n (path (frames ++ f ∷ []) name) =
+      λ n i. subst (λ (q : List ℕ). In n q) (sym p) (In-left (path frames f.name) (name ∷ []) n i) in
+      record {
+        are = close_findings fs ms es os (frames ++ f ∷ []) name place go full;
+        trails = go.trails;
+        marks = marks_close ms es os fs (path frames f.name) name
+            (subst (λ (q : List ℕ). AreMarks ms es os fs q) p go.marks) apart;
+        way = record {
+          is_path = record {
+            once = distinct_front (path frames f.name) (name ∷ []) once;
+            there = λ q e. go.way.is_path.there q (In-on _ q (up q (on-In _ q e)));
+          };
+          begins = sym (head_more frames f name) ∙ go.way.begins;
+          linked = linked_more g s os name frames f.name pop.0;
+          passed = subst (λ (xs : List Step). AreDone s (os ++ name ∷ []) xs)
+              (sym (take_at (steps g f.name) f.place (To name) pop.1))
+              (all_append (StepLeadsInto (IsDone s (os ++ name ∷ []))) (take f.place (steps g f.name)) (To name ∷ [])
+              (are_done_more s os name _ pop.2) (inr (In-last os name), tt));
+          within = omega arith;
+          room = all_front (λ (h : Frame). h.place + 1 < 2 ^ 64) frames (f ∷ []) go.way.room;
+        };
+        marks_size = close_size fs ms es os (frames ++ f ∷ []) name place go full;
+        faults_size = go.faults_size;
+        kept = close_kept fs ms es os (frames ++ f ∷ []) name place go full;
+        from = go.from;
+      }
+
+  -- ---- leaving the first name, which is sound
+  pub seek_finish : (fs : Faults) (ms : List Mark) (es os : List ℕ) (name place : ℕ)
+      → IsSeeking g s start old ms es os fs [] name place → length (steps g name) ≤ place
+      → IsSearched g s start old
+      (record { marks = set ms name Closed; entered = es; order = os ++ name ∷ []; frames = [] }) fs fs false
+  seek_finish fs ms es os name place go full =
+      let m : AreMarks (set ms name Closed) es (os ++ name ∷ []) fs [] =
+      marks_close ms es os fs [] name go.marks (λ i. i) in
+      record {
+        between = record {
+          are = close_findings fs ms es os [] name place go full;
+          consistent = record {
+            can_clear = marks_clear (set ms name Closed) es (os ++ name ∷ []) fs [] m;
+            closed = m.closed;
+            sound = m.sound;
+            trails = go.trails;
+            off_path = λ n e. elim (m.marked n e) [ inl i ↦ absurd i | inr f ↦ f ];
+            frames = refl;
+          };
+          marks = close_size fs ms es os [] name place go full;
+          faults = go.faults_size;
+        };
+        more = record {
+          sound = close_kept fs ms es os [] name place go full;
+          faulty = λ n f. f;
+          names = go.from;
+        };
+        decision = inr (subst (λ (x : ℕ). In x (os ++ name ∷ [])) go.way.begins (In-last os name));
+      }
+
+  -- ---- meeting a fault, which is recorded for the names of the path
+  module _ (fs hs : Faults) (ms : List Mark) (es os : List ℕ) (frames : List Frame) (name place : ℕ)
+      (go : IsSeeking g s start old ms es os fs frames name place) (x : Step) (ending : Ending)
+      (at : slice_get (steps g name) place ≡ Some x) (is : IsEnding ms fs name x ending) where
+    path_there : (n : ℕ) → In n (path frames name) → n < length fs
+    path_there n i =
+        let l : n < length g = go.way.is_path.there n (In-on (path frames name) n i) in
+        let k : length g ≤ length fs = go.faults_size in
+        omega arith
+
+    path_once : IsDistinct nat_eq (path frames name)
+    path_once = go.way.is_path.once
+
+    ends_so : (y : Step) (d : Ending) → IsEnding ms fs name y d → PathEnds fs (path frames name) name y d
+    ends_so (Nowhere w) d h = (h, last_path [] frames name)
+    ends_so (To m) (At e) h = h
+    ends_so (To m) (Ring k) h = (
+      h.0,
+      elim (go.marks.marked m h.1) [ inl i ↦ i | inr f ↦ absurd (h.2 f) ],
+    )
+
+    module _ (noted : AreNoted hs ending x (path frames name))
+        (others : (n : ℕ) → (In n (path frames name) → ⊥) → slice_get hs n ≡ slice_get fs n)
+        (size : length hs ≡ length fs) where
+      more_faulty : (n : ℕ) → IsFaulty fs n → IsFaulty hs n
+      more_faulty =
+          still_faulty fs hs ending x (path frames name) noted others go.marks.fresh path_once go.trails
+
+      all_noted : (n : ℕ) → IsFaulty hs n → In n es
+      all_noted n f = elim (member_or (path frames name) n) [
+        | inl i ↦ entered_in OnPath (λ q. cc) ms es n go.marks.entered (go.marks.on_path n i)
+        | inr out ↦ go.marks.noted n (f.0, sym (others n out) ∙ f.1)
+      ]
+
+      -- the marks of the path may stay
+      pub fault_clear : CanClear ms es hs
+      fault_clear = record {
+        entered = go.marks.entered;
+        within = λ n i. subst (λ (k : ℕ). n < k) (sym size) (go.marks.within n i);
+        noted = all_noted;
+      }
+
+      pub seek_fault : IsSearched g s start old
+          (record { marks = ms; entered = es; order = os; frames = [] }) fs hs true
+      seek_fault = record {
+        between = record {
+          are = path_findings fs hs ending x (path frames name) noted others go.marks.fresh path_once go.trails
+              g s os frames name refl go.way.linked (record { place = place; at = at; before = go.way.passed }) go.are;
+          consistent = record {
+            can_clear = fault_clear;
+            closed = go.marks.closed;
+            sound = go.marks.sound;
+            trails = path_trails fs hs ending x (path frames name) noted others go.marks.fresh path_once go.trails
+                name (ends_so x ending is);
+            off_path = λ n e. elim (go.marks.marked n e) [
+              | inl i ↦ noted_faulty hs ending x (path frames name) noted n i
+              | inr f ↦ more_faulty n f
+            ];
+            frames = refl;
+          };
+          marks = go.marks_size;
+          faults = subst (λ (k : ℕ). length g ≤ k) (sym size) go.faults_size;
+        };
+        more = record { sound = go.kept; faulty = more_faulty; names = go.from };
+        decision = subst (λ (n : ℕ). IsFaulty hs n) go.way.begins
+            (noted_faulty hs ending x (path frames name) noted (head frames name) (head_In frames name));
+      }

@@ -1,0 +1,154 @@
+-- The steps of a query that a search has passed.
+use Rattle.std.proofs.Common.{◌≡◌, ℕ, ◌+◌, ◌-◌, ◌<◌, ◌≤◌, Bool, true, false, List, [], ◌∷◌, ◌++◌, length, take}
+use Rattle.std.proofs.Common.{Some, None, refl, sym, ◌∙◌, ap, subst, inl, inr}
+use Rattle.std.specs.List.{slice_get}
+use Rattle.std.proofs.lemmas.List.{take_all}
+use Rattle.name_walk.specs.declared.step.Step.{Step}
+use Rattle.name_walk.specs.declared.step.Step.TheVariants.{Nowhere, To}
+use Rattle.name_walk.specs.ClosedNames.{IsDone}
+use Rattle.name_walk.specs.Faults.{Cycle, DeadEnd, NameFault, at_step, from_name, name_fault_within, steps_fault}
+use Rattle.name_walk.specs.Findings.{AreFromQuery, IsFirstFaulty}
+use Rattle.name_walk.specs.Lists.{In}
+use Rattle.name_walk.specs.Nets.{IsConsistentGraph}
+use Rattle.name_walk.specs.NewlyClosed.{IsReached}
+use Rattle.name_walk.specs.Searches.{AreMore, IsBetween, IsSearched}
+use Rattle.name_walk.specs.Steps.{Graph}
+use Rattle.name_walk.specs.Traces.{Trace}
+use Rattle.name_walk.specs.Trails.{AreFindings, AreTrails, EndsAt, Faults, FollowsFaults, IsFaulty, IsTrail}
+use Rattle.name_walk.proofs.ClosedPaths.{name_closed}
+use Rattle.name_walk.proofs.Distinct.{take_In}
+use Rattle.name_walk.proofs.Faults.{empty_path}
+use Rattle.name_walk.proofs.Lists.{In-left, first_push, take_at}
+use Rattle.name_walk.proofs.QueryPasses.{fault_next}
+use Rattle.name_walk.proofs.Trails.{dead_end_fault, is_closed, ring_fault}
+
+-- the fault of a name that has one
+pub record HasFault (g : Graph) (n : ℕ) : Type 0 where
+  pub own : NameFault
+  pub is : steps_fault g [] (To n ∷ []) ≡ Some own
+
+-- these steps of a query have no fault
+pub record ArePassedBy (g : Graph) (s : List Bool) (query : List Step) (old now : Trace) (fs : Faults) : Type 0 where
+  pub between : IsBetween g s now fs
+  pub none : steps_fault g [] query ≡ None
+  pub names : AreFromQuery g s query old.entered now.entered
+
+module _ (g : Graph) (s : List Bool) (net : IsConsistentGraph g s) where
+  trail_has : (os : List ℕ) (fs : Faults) → AreFindings g s os fs → (n e : ℕ) (t : IsTrail fs n e) (x : Step)
+      → t.step ≡ x → HasFault g n
+  trail_has os fs are n e t (Nowhere w) is = record {
+    own = DeadEnd w (Some e);
+    is = dead_end_fault g s net os fs are n t.names w e
+        (subst (λ (y : Step). FollowsFaults fs n t.names y) is t.follows)
+        t.once
+        (subst (λ (y : Step). EndsAt (n ∷ t.names) y e) is t.ends);
+  }
+  trail_has os fs are n e t (To m) is =
+      let end : (m ≡ e) × In e (n ∷ t.names) = subst (λ (y : Step). EndsAt (n ∷ t.names) y e) is t.ends in
+      record {
+        own = Cycle (from_name e (n ∷ t.names) ++ e ∷ []);
+        is = ring_fault g s net os fs are n t.names e
+            (subst (λ (y : Step). FollowsFaults fs n t.names y) (is ∙ ap To end.0) t.follows) t.once end.1;
+      }
+
+  pub has_fault : (os : List ℕ) (fs : Faults) → AreFindings g s os fs → AreTrails fs → (n : ℕ) → IsFaulty fs n
+      → HasFault g n
+  has_fault os fs are trails n f =
+      let t = trails.trails n f.0 f.1 in trail_has os fs are n f.0.end t t.step refl
+
+  pub passed_none : (t : Trace) (fs : Faults) → IsBetween g s t fs → ArePassedBy g s [] t t fs
+  passed_none t fs b = record { between = b; none = refl; names = λ n i. inl i }
+
+  reached_more : (query : List Step) (x : Step) (n : ℕ) → IsReached g query n → IsReached g (query ++ x ∷ []) n
+  reached_more query x n w = (w.0, In-left query (x ∷ []) (To w.0) w.1, w.2)
+
+  at_end : (xs : List Step) (x : Step) → In x (xs ++ x ∷ [])
+  at_end [] x = inl refl
+  at_end (y ∷ xs) x = inr (at_end xs x)
+
+  -- after one more name is searched, each known name was known before or is reached by the query
+  names_more : (query : List Step) (n : ℕ) (old now later : Trace) (fs hs : Faults)
+      → AreFromQuery g s query old.entered now.entered → AreMore g s n now later fs hs
+      → AreFromQuery g s (query ++ To n ∷ []) old.entered later.entered
+  names_more query n old now later fs hs names more k i = elim (more.names k i) [
+    | inl j ↦ elim (names k j) [ inl q ↦ inl q | inr r ↦ inr (reached_more query (To n) k r.0, r.1) ]
+    | inr r ↦ inr ((n, at_end query (To n), r.0), r.1)
+  ]
+
+  names_whole : (query : List Step) (i : ℕ) (old now : List ℕ) → AreFromQuery g s (take i query) old now
+      → AreFromQuery g s query old now
+  names_whole query i old now names n j = elim (names n j) [
+    | inl q ↦ inl q
+    | inr r ↦ inr ((r.0.0, take_In i query (To r.0.0) r.0.1, r.0.2), r.1)
+  ]
+
+  module _ (query : List Step) (i : ℕ) (old now : Trace) (fs : Faults) (p : ArePassedBy g s (take i query) old now fs)
+    where
+      -- a step to a name without a fault is passed
+      pub passed_next : (n : ℕ) → slice_get query i ≡ Some (To n) → n < length g → (later : Trace) (hs : Faults)
+          → IsSearched g s n now later fs hs false → ArePassedBy g s (take (i + 1) query) old later hs
+      passed_next n e there later hs h =
+          subst (λ (xs : List Step). ArePassedBy g s xs old later hs) (sym (take_at query i (To n) e))
+          (record {
+            between = h.between;
+            none = first_push (at_step (name_fault_within g (length g - 0)) []) (take i query) (To n) p.none
+                ∙ name_closed g net.range (length g) [] n
+                (is_closed g s net later.order hs h.between.are n h.decision) there (empty_path g) (λ q j. absurd j);
+            names = names_more (take i query) n old now later fs hs p.names h.more;
+          })
+
+      -- a step that leads nowhere is the first faulty step
+      pub passed_nowhere : (w : ℕ) → slice_get query i ≡ Some (Nowhere w) → IsFirstFaulty g query fs (Some (Nowhere w))
+      passed_nowhere w e = (
+        record {
+          fault_there = DeadEnd w None;
+          of_step = refl;
+          of_query = fault_next g query i (Nowhere w) (DeadEnd w None) p.none e refl;
+        },
+        tt,
+      )
+
+      pub passed_names : AreFromQuery g s query old.entered now.entered
+      passed_names = names_whole query i old.entered now.entered p.names
+
+      -- the next step leads to a name with a fault
+      module _ (n : ℕ) (e : slice_get query i ≡ Some (To n)) (later : Trace) (hs : Faults)
+          (h : IsSearched g s n now later fs hs true) where
+        pub passed_faulty : IsFirstFaulty g query hs (Some (To n))
+        passed_faulty =
+            let f : HasFault g n =
+            has_fault later.order hs h.between.are h.between.consistent.trails n h.decision in (
+              record {
+                fault_there = f.own;
+                of_step = f.is;
+                of_query = fault_next g query i (To n) f.own p.none e f.is;
+              },
+              h.decision,
+            )
+
+        pub faulty_names : AreFromQuery g s query old.entered later.entered
+        faulty_names =
+            names_whole query (i + 1) old.entered later.entered
+            (subst (λ (xs : List Step). AreFromQuery g s xs old.entered later.entered) (sym (take_at query i (To n) e))
+            (names_more (take i query) n old now later fs hs p.names h.more))
+
+      -- if all steps are passed, the query has no fault
+      pub passed_whole : length query ≤ i → steps_fault g [] query ≡ None
+      passed_whole end = subst (λ (xs : List Step). steps_fault g [] xs ≡ None) (take_all i query end) p.none
+
+-- a name that is known to have a fault needs no search
+pub searched_faulty : (g : Graph) (s : List Bool) (t : Trace) (fs : Faults) (n : ℕ) → IsBetween g s t fs
+    → IsFaulty fs n → IsSearched g s n t t fs fs true
+searched_faulty g s t fs n b f = record {
+  between = b;
+  more = record { sound = λ k i. i; faulty = λ k h. h; names = λ k i. inl i };
+  decision = f;
+}
+
+pub searched_sound : (g : Graph) (s : List Bool) (t : Trace) (fs : Faults) (n : ℕ) → IsBetween g s t fs
+    → IsDone s t.order n → IsSearched g s n t t fs fs false
+searched_sound g s t fs n b d = record {
+  between = b;
+  more = record { sound = λ k i. i; faulty = λ k h. h; names = λ k i. inl i };
+  decision = d;
+}

@@ -1,0 +1,147 @@
+-- When findings stay right.
+use Rattle.std.proofs.Common.{◌≡◌, ℕ, zero, suc, ◌+◌, ◌<◌, ◌≤◌, Bool, List, [], ◌∷◌, length, take, Some, refl, sym}
+use Rattle.std.proofs.Common.{subst}
+use Rattle.std.proofs.Common.{inl, inr, arith}
+use Rattle.std.specs.List.{AllByRecursion, slice_get}
+use Rattle.std.proofs.lemmas.Bool.{cases_lt}
+use Rattle.std.proofs.lemmas.Option.{slice_get_within}
+use Rattle.name_walk.specs.declared.mark.Mark.TheVariants.{Closed, OnPath, Open}
+use Rattle.name_walk.specs.declared.step.Step.{Step}
+use Rattle.name_walk.specs.declared.step.Step.TheVariants.{Nowhere, To}
+use Rattle.name_walk.specs.declared.trail.FaultyStep.{FaultyStep}
+use Rattle.name_walk.specs.ClosedNames.{EndsWithin, IsClosedName, IsDone, IsSettled, StepLeadsInto}
+use Rattle.name_walk.specs.Findings.{AreRight, IsConsistent, IsNothing, WalkFindings}
+use Rattle.name_walk.specs.FindingsLaws.{FindingsLaw}
+use Rattle.name_walk.specs.Lists.{In}
+use Rattle.name_walk.specs.Nets.{IsConsistentGraph}
+use Rattle.name_walk.specs.Steps.{Graph, LeadsTo, steps}
+use Rattle.name_walk.specs.Traces.{IsIdle, Trace}
+use Rattle.name_walk.specs.Trails.{AreFindings, Faults, IsFaulty, IsFirst}
+use Rattle.name_walk.proofs.ClosedPaths.{any_depth, ends_longer, into_map}
+use Rattle.name_walk.proofs.Lists.{all_map, all_map_in}
+
+-- a name that is not in the graph has no steps
+no_steps : (g : Graph) (n : ℕ) → length g ≤ n → steps g n ≡ []
+no_steps [] n l = refl
+no_steps (v ∷ g) zero l = absurd (omega arith)
+no_steps (v ∷ g) (suc n) l = no_steps g n (omega arith)
+
+-- names are added, more names are settled, and the steps of the names about which something is known are the same
+module _ (g h : Graph) (s r : List Bool) (os : List ℕ) (fs : Faults) (are : AreFindings g s os fs)
+    (net : IsConsistentGraph h r)
+    (more : length g ≤ length h) (settled : (n : ℕ) → IsSettled s n → IsSettled r n)
+    (sound_same : (n : ℕ) → In n os → steps h n ≡ steps g n)
+    (faulty_same : (n : ℕ) → IsFaulty fs n → steps h n ≡ steps g n) where
+  still_done : (n : ℕ) → IsDone s os n → IsDone r os n
+  still_done n (inl e) = inl (settled n e)
+  still_done n (inr i) = inr i
+
+  next_ends : (k m : ℕ) → IsDone s os m → (In m os → EndsWithin h (k + length h) m) → EndsWithin h (k + length h) m
+  next_ends k m (inl d) f = ends_longer h (length h) k m ((net.settled m (settled m d)).0)
+  next_ends k m (inr j) f = f j
+
+  -- ways down from a sound name go through sound names, and then through settled ones
+  still_ends : (k n : ℕ) → In n os → EndsWithin g k n → EndsWithin h (k + length h) n
+  still_ends zero n i e = absurd e
+  still_ends (suc k) n i e =
+      let depth : suc (k + length h) ≡ suc k + length h = omega arith in
+      subst (λ (j : ℕ). EndsWithin h j n) depth
+      (subst (λ (xs : List Step). AllByRecursion (StepLeadsInto (EndsWithin h (k + length h))) xs)
+      (sym (sound_same n i))
+      (all_map_in (StepLeadsInto (EndsWithin g k)) (StepLeadsInto (EndsWithin h (k + length h))) (steps g n)
+      (into_there k (λ m l f. next_ends k m ((are.sound n i).1 m l) (λ j. still_ends k m j f))) e))
+    where
+      into_there : (j : ℕ) → ((m : ℕ) → LeadsTo g n m → EndsWithin g j m → EndsWithin h (j + length h) m) → (x : Step)
+          → In x (steps g n) → StepLeadsInto (EndsWithin g j) x → StepLeadsInto (EndsWithin h (j + length h)) x
+      into_there j f (Nowhere w) a q = q
+      into_there j f (To m) a q = f m a q
+
+  -- a name ends only within a positive depth
+  some_depth : (k n : ℕ) → EndsWithin g k n → 0 < k
+  some_depth zero n e = absurd e
+  some_depth (suc k) n e = omega arith
+
+  ends_at_once : (k n : ℕ) → 0 < k → steps h n ≡ [] → EndsWithin h k n
+  ends_at_once zero n l e = absurd (omega arith)
+  ends_at_once (suc k) n l e =
+      subst (λ (xs : List Step). AllByRecursion (StepLeadsInto (EndsWithin h k)) xs) (sym e) tt
+
+  still_closed : (n : ℕ) → In n os → IsClosedName h n
+  still_closed n i = elim (cases_lt n (length h)) [
+    | inl there ↦ any_depth h net.range (length g + length h) n there
+        (still_ends (length g) n i (are.sound n i).0)
+    | inr beyond ↦ ends_at_once (length h) n
+        (let some : 0 < length g = some_depth (length g) n (are.sound n i).0 in omega arith)
+        (no_steps h n beyond)
+  ]
+
+  still_first : (n : ℕ) (c : FaultyStep) → slice_get fs n ≡ Some (Some c) → IsFirst h r os n c.step
+  still_first n c e =
+      let a : IsFirst g s os n c.step = are.first n c e in
+      let same : steps h n ≡ steps g n = faulty_same n (c, e) in
+      record {
+        place = a.place;
+        at = subst (λ (xs : List Step). slice_get xs a.place ≡ Some c.step) (sym same) a.at;
+        before = subst (λ (xs : List Step). AllByRecursion (StepLeadsInto (IsDone r os)) (take a.place xs)) (sym same)
+            (all_map (StepLeadsInto (IsDone s os)) (StepLeadsInto (IsDone r os))
+            (into_map (IsDone s os) (IsDone r os) still_done) (take a.place (steps g n)) a.before);
+      }
+
+  still_are : AreFindings h r os fs
+  still_are = record {
+    sound = λ n i. (
+      still_closed n i,
+      λ m l. still_done m ((are.sound n i).1 m (subst (λ (xs : List Step). In (To m) xs) (sound_same n i) l)),
+    );
+    first = still_first;
+  }
+
+-- empty findings are right
+pub nothing_right : (g : Graph) (s : List Bool) (f : WalkFindings) → IsNothing f → AreRight g s f
+nothing_right g s f h = record {
+  are = record {
+    sound = λ n i. absurd (subst (λ (ns : List ℕ). In n ns) h.sound i);
+    first = λ n c e. absurd (h.faultless n (c, e));
+  };
+  sound_named = λ n i. absurd (subst (λ (ns : List ℕ). In n ns) h.sound i);
+  faulty_named = λ n q. absurd (h.faultless n q);
+}
+
+still_right : (g h : Graph) (s r : List Bool) (f : WalkFindings) → AreRight g s f → IsConsistentGraph h r
+    → length g ≤ length h
+    → ((n : ℕ) → IsSettled s n → IsSettled r n) → ((n : ℕ) → In n f.names → steps h n ≡ steps g n)
+    → AreRight h r f
+still_right g h s r f right net more settled same = record {
+  are = still_are g h s r f.sound f.faults right.are net more settled (λ n i. same n (right.sound_named n i))
+      (λ n q. same n (right.faulty_named n q));
+  sound_named = right.sound_named;
+  faulty_named = right.faulty_named;
+}
+
+-- the law of findings
+pub findings_law_holds : FindingsLaw
+findings_law_holds = record { nothing = nothing_right; still = still_right }
+
+-- if no name has a mark or a fault, the marks and faults are consistent
+pub nothing_consistent : (t : Trace) (fs : Faults) → IsIdle t → t.order ≡ [] → ((n : ℕ) → IsFaulty fs n → ⊥)
+    → IsConsistent t fs
+nothing_consistent t fs idle none faultless = record {
+  can_clear = record {
+    entered = record { within = λ n i. absurd (no_name n i); among = λ n l. inl (idle.are_open n l) };
+    within = λ n i. absurd (no_name n i);
+    noted = λ n f. absurd (faultless n f);
+  };
+  closed = λ n e. let o : slice_get t.marks n ≡ Some Open = idle.are_open n (slice_get_within t.marks n Closed e) in
+      absurd (cc);
+  sound = λ n i. absurd (subst (λ (ns : List ℕ). In n ns) none i);
+  trails = record {
+    leads = λ n m b. absurd (faultless n (b.0, b.1));
+    trails = λ n c e. absurd (faultless n (c, e));
+  };
+  off_path = λ n e. let o : slice_get t.marks n ≡ Some Open = idle.are_open n (slice_get_within t.marks n OnPath e) in
+      absurd (cc);
+  frames = idle.frames;
+}
+  where
+    no_name : (n : ℕ) → In n t.entered → ⊥
+    no_name n i = subst (λ (ns : List ℕ). In n ns) idle.entered i

@@ -1,0 +1,34 @@
+-- What is recorded about the names of a path that has come to a fault.
+use Rattle.std.specs.Prelude.{◌≡◌, ℕ, List, [], ◌∷◌, Some, if◌then◌else◌, nat_eq, slice_get}
+use Rattle.name_walk.specs.declared.step.Step.{Step}
+use Rattle.name_walk.specs.declared.step.Step.TheVariants.{To}
+use Rattle.name_walk.specs.declared.trail.Ending.{Ending}
+use Rattle.name_walk.specs.declared.trail.Ending.TheVariants.{At, Ring}
+use Rattle.name_walk.specs.Trails.{Faults}
+
+-- the name at which the fault of a name occurs
+abbrev pub end_for : Ending → ℕ → ℕ
+end_for (At e) n = e
+end_for (Ring m) n = n
+
+-- the ending for the names above n: names above the first name of a ring enter the ring at that name
+abbrev pub ending_above : Ending → ℕ → Ending
+ending_above (At e) n = At e
+ending_above (Ring m) n = if nat_eq n m then At m else Ring m
+
+-- the ending for the names above a list of names
+abbrev pub above : Ending → List ℕ → Ending
+above ending [] = ending
+above ending (n ∷ below) = ending_above (above ending below) n
+
+-- the step to the first name of a list, or x if the list is empty
+abbrev pub step_down : Step → List ℕ → Step
+step_down x [] = x
+step_down x (n ∷ below) = To n
+
+-- each name of a list comes to its fault by the step to the next name, and the last name by the step x
+abbrev pub AreNoted : Faults → Ending → Step → List ℕ → Type 0
+AreNoted fs ending x [] = Unit {0}
+AreNoted fs ending x (n ∷ below) =
+    (slice_get fs n ≡ Some (Some (record { step = step_down x below; end = end_for (above ending below) n })))
+    × AreNoted fs ending x below

@@ -1,0 +1,65 @@
+//! Merging powers into a search tree.
+
+ghost use Rattle.std.specs.Prelude.{◌∷◌, []};
+ghost use Rattle.quantity.specs.Exponents.{IsPower};
+ghost use Rattle.quantity.specs.Factors.{exponent_in};
+ghost use Rattle.quantity.specs.Merges.{AreInOrder, ArePowers, merge_of};
+ghost use Rattle.quantity.specs.Stores.{entry_power, rest_of};
+
+use crate::exponent::Exponent;
+use crate::factor::Factor;
+use crate::fault::ExponentFault;
+use crate::name::Name;
+use crate::walk::{Entry, Walk};
+use frac128::reduced_law;
+use std::alloc::Global;
+use std::collections::BTreeMap;
+
+// Merges the remaining powers of a factor into a tree and returns the tree.
+pub(crate) fn join_all(
+    alloc: Global,
+    left: BTreeMap<Name, Exponent>,
+    right: Walk<'_>,
+    factor: Factor,
+) -> Result<BTreeMap<Name, Exponent>, ExponentFault>
+    requires left { AreInOrder left.entries }
+    requires right { AreInOrder (rest_of right) }
+    ensures { ArePowers (λ tree. tree.entries) result
+        (merge_of (exponent_in factor) left.entries (rest_of right.entry)) }
+{
+    reduced_law();
+    let (mut tree, mut right) = (left, right);
+    while let Some(power) = right.next() {
+        join(alloc, &mut tree, power, factor)?;
+    }
+    Ok(tree)
+}
+
+// Merges one power of a factor into a tree.
+fn join(
+    alloc: Global,
+    tree: &mut BTreeMap<Name, Exponent>,
+    power: Entry<'_>,
+    factor: Factor,
+) -> Result<(), ExponentFault>
+    requires tree { AreInOrder tree.old.entries }
+    requires power { IsPower (entry_power power) }
+    ensures { ArePowers (λ _. tree.new.entries) result
+        (merge_of (exponent_in factor) tree.old.entries (entry_power power.entry ∷ [])) }
+{
+    reduced_law();
+    let exponent = factor.exponent(power.exponent);
+    let Some(old) = tree.get(power.name) else {
+        tree.insert(power.name.copy(alloc)?, exponent)?;
+        return Ok(());
+    };
+    let Some(sum) = old.add(&exponent) else {
+        return Err(ExponentFault::Range);
+    };
+    if sum.is_zero() {
+        tree.remove(power.name);
+    } else {
+        tree.insert(power.name.copy(alloc)?, sum)?;
+    }
+    Ok(())
+}

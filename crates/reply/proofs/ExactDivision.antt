@@ -1,0 +1,181 @@
+-- The result of a division is a fraction if and only if it is the exact quotient.
+use Rattle.std.proofs.Common.{◌≡◌, ◌≢◌, ◌*◌, ◌<◌, ◌≤◌, ◌*ℤ◌, ◌&&◌, ℕ, ℤ, pos, negsuc, neg_ℤ, suc, zero, Bool, true}
+use Rattle.std.proofs.Common.{false}
+use Rattle.std.proofs.Common.{arith, refl, sym, ap, ap₂, subst, ◌∙◌}
+use Rattle.std.specs.Prelude.{int_lt, nat_le, unsigned_abs, Ok, Err, if◌then◌else◌}
+use Rattle.std.proofs.lemmas.Bool.Decides.{nat_tests}
+use Rattle.std.proofs.Math.IntN.{*ℤ-negsuc, neg_ℤ-neg_ℤ, pos-*ℤ-negsuc}
+use Rattle.std.proofs.Math.Nat.{mul-pos, mul-zero, mul_assoc, mul_comm}
+use Rattle.frac128.specs.declared.fault.FracFault.TheVariants.{Overflow}
+use Rattle.frac128.specs.Fraction.{Fraction, IsFrac, IsReduced, SameValue, fits_most, most}
+use Rattle.frac128.specs.Sign.{differ, number_with_sign}
+use Rattle.frac128.specs.Steps.{ReducedLaw, fit_or_overflow, lowest_terms, ratio}
+use Rattle.frac128.proofs.Signs.{mul-signed, neg-times, signed_is}
+use Rattle.reply.specs.Quotients.{QuotientLaw}
+
+-- two factors above 0 as one
+mul-twice : (z : ℤ) (a b : ℕ) → z *ℤ pos a *ℤ pos b ≡ z *ℤ pos (a * b)
+mul-twice z a b =
+    let s = int_lt z (pos 0) in
+    let n = unsigned_abs z in
+    ap (λ k. k *ℤ pos a *ℤ pos b) (signed_is z) ∙ ap (λ k. k *ℤ pos b) (mul-signed s false n a)
+    ∙ mul-signed (differ s false) false (n * a) b
+    ∙ plain s (n * a * b) ∙ ap (number_with_sign (differ s false)) (mul_assoc n a b)
+    ∙ sym (ap (λ k. k *ℤ pos (a * b)) (signed_is z) ∙ mul-signed s false n (a * b))
+  where
+    plain : (s : Bool) (k : ℕ) → number_with_sign (differ (differ s false) false) k ≡ number_with_sign (differ s false)
+        k
+    plain true k = refl
+    plain false k = refl
+
+-- two factors above 0 as one, in the other order
+mul-turned : (z : ℤ) (a b : ℕ) → z *ℤ pos a *ℤ pos b ≡ z *ℤ pos (b * a)
+mul-turned z a b = mul-twice z a b ∙ ap (λ j. z *ℤ pos j) (mul_comm a b)
+
+is-at-most : (m n : ℕ) → nat_le m n ≡ true → m ≤ n
+is-at-most m n h = grind (arith, nat_tests)
+
+at-most-is : (m n : ℕ) → m ≤ n → nat_le m n ≡ true
+at-most-is m n h = grind (arith, nat_tests)
+
+first-true : (a b : Bool) → (a && b) ≡ true → a ≡ true
+first-true true b h = refl
+first-true false b h = absurd (cc)
+
+second-true : (a b : Bool) → (a && b) ≡ true → b ≡ true
+second-true true b h = h
+second-true false b h = absurd (cc)
+
+-- a reduced fraction that fits is the result
+fitting-of : (r v : Fraction) → fit_or_overflow r ≡ Ok v → (fits_most r ≡ true) × (r ≡ v)
+fitting-of r v h = go (fits_most r) refl h
+  where
+    go : (b : Bool) → fits_most r ≡ b → (if b then Ok r else Err Overflow) ≡ Ok v → (fits_most r ≡ true) × (r ≡ v)
+    go true e h = let same : r ≡ v = cc in (e, same)
+    go false e h = absurd (cc)
+
+fraction-of : (r : Fraction) → IsReduced r → fits_most r ≡ true → IsFrac r
+fraction-of r is e = record {
+  reduced = is;
+  num_fits = is-at-most (unsigned_abs r.num) most (first-true _ (nat_le r.den most) e);
+  den_fits = is-at-most r.den most (second-true (nat_le (unsigned_abs r.num) most) _ e);
+}
+
+of-fraction : (v : Fraction) → IsFrac v → fit_or_overflow v ≡ Ok v
+of-fraction v is =
+    ap (λ b. if b then Ok v else Err Overflow)
+    (ap₂ (λ a b. a && b) (at-most-is (unsigned_abs v.num) most is.num_fits) (at-most-is v.den most is.den_fits))
+
+module _ (law : ReducedLaw) (v : Fraction) where
+  -- v is n over d in lowest terms, and fits
+  record IsRatio (n : ℤ) (d : ℕ) : Type 0 where
+    frac : IsFrac v
+    same : SameValue v (record { num = n; den = d })
+
+  fitting-ratio : (n : ℤ) (d : ℕ) → 0 < d → fit_or_overflow (lowest_terms n d) ≡ Ok v → IsRatio n d
+  fitting-ratio n d some h =
+      let found = fitting-of (lowest_terms n d) v h in
+      let is = law n d some in
+      record {
+        frac = subst IsFrac found.1 (fraction-of (lowest_terms n d) is.0 found.0);
+        same = subst (λ (r : Fraction). SameValue r (record { num = n; den = d })) found.1 is.1;
+      }
+
+  ratio-fitting : (n : ℤ) (d : ℕ) → 0 < d → IsFrac v → SameValue v (record { num = n; den = d })
+      → fit_or_overflow (lowest_terms n d) ≡ Ok v
+  ratio-fitting n d some is same = ap fit_or_overflow (sym ((law n d some).2 v is.reduced same)) ∙ of-fraction v is
+
+  -- the ratio over a number above 0
+  ratio-of : (n : ℤ) (d : ℕ) → 0 < d → ratio n (pos d) ≡ Ok v → IsRatio n d
+  ratio-of n zero some h = absurd (omega arith)
+  ratio-of n (suc d) some h = fitting-ratio n (suc d) some h
+
+  of-ratio : (n : ℤ) (d : ℕ) → 0 < d → IsFrac v → SameValue v (record { num = n; den = d }) → ratio n (pos d) ≡ Ok v
+  of-ratio n zero some is same = absurd (omega arith)
+  of-ratio n (suc d) some is same = ratio-fitting n (suc d) some is same
+
+  -- the ratio over a number below 0
+  below-of : (n : ℤ) (j : ℕ) → 0 < j → ratio n (neg_ℤ (pos j)) ≡ Ok v → IsRatio (neg_ℤ n) j
+  below-of n zero some h = absurd (omega arith)
+  below-of n (suc j) some h = fitting-ratio (neg_ℤ n) (suc j) some h
+
+  of-below : (n : ℤ) (j : ℕ) → 0 < j → IsFrac v → SameValue v (record { num = neg_ℤ n; den = j })
+      → ratio n (neg_ℤ (pos j)) ≡ Ok v
+  of-below n zero some is same = absurd (omega arith)
+  of-below n (suc j) some is same = ratio-fitting (neg_ℤ n) (suc j) some is same
+
+  -- there is no ratio over 0
+  no-ratio : (n z : ℤ) → z ≡ pos 0 → ratio n z ≡ Ok v → ⊥
+  no-ratio n (pos zero) e h = cc
+  no-ratio n (pos (suc k)) e h = cc
+  no-ratio n (negsuc k) e h = cc
+
+  zero-times : (m : ℤ) → pos 0 *ℤ m ≡ pos 0
+  zero-times (pos k) = ap pos (mul_comm 0 k ∙ mul-zero k)
+  zero-times (negsuc k) =
+      pos-*ℤ-negsuc 0 k ∙ ap (λ j. neg_ℤ (pos j)) (mul_comm 0 (suc k) ∙ mul-zero (suc k))
+
+  module _ (n : ℤ) (d : ℕ) where
+    -- v times m over b is n over d
+    abbrev IsExact : (b : ℕ) → ℤ → Type 0
+    IsExact b m = v.num *ℤ m *ℤ pos b ≡ n *ℤ pos (v.den * d)
+
+    module _ (b k : ℕ) where
+      below-left : v.num *ℤ negsuc k *ℤ pos b ≡ neg_ℤ (v.num *ℤ pos (b * suc k))
+      below-left = ap (λ j. j *ℤ pos b) (*ℤ-negsuc v.num k) ∙ sym (neg-times (v.num *ℤ pos (suc k)) b)
+          ∙ ap neg_ℤ (mul-turned v.num (suc k) b)
+
+      above-exact : v.num *ℤ pos (b * suc k) ≡ n *ℤ pos d *ℤ pos v.den → IsExact b (pos (suc k))
+      above-exact e = mul-turned v.num (suc k) b ∙ e ∙ mul-turned n d v.den
+
+      exact-above : IsExact b (pos (suc k)) → v.num *ℤ pos (b * suc k) ≡ n *ℤ pos d *ℤ pos v.den
+      exact-above e = sym (mul-turned v.num (suc k) b) ∙ e ∙ sym (mul-turned n d v.den)
+
+      below-exact : v.num *ℤ pos (b * suc k) ≡ neg_ℤ (n *ℤ pos d) *ℤ pos v.den → IsExact b (negsuc k)
+      below-exact e =
+          below-left ∙ ap neg_ℤ (e ∙ sym (neg-times (n *ℤ pos d) v.den)) ∙ neg_ℤ-neg_ℤ (n *ℤ pos d *ℤ pos v.den)
+          ∙ mul-turned n d v.den
+
+      exact-below : IsExact b (negsuc k) → v.num *ℤ pos (b * suc k) ≡ neg_ℤ (n *ℤ pos d) *ℤ pos v.den
+      exact-below e =
+          sym (neg_ℤ-neg_ℤ (v.num *ℤ pos (b * suc k)))
+          ∙ ap neg_ℤ (sym below-left ∙ e ∙ sym (mul-turned n d v.den))
+          ∙ neg-times (n *ℤ pos d) v.den
+
+    -- a quotient by a divisor of either sign
+    record IsOver (b : ℕ) (m : ℤ) : Type 0 where
+      denominator : 0 < b
+      divisor : m ≢ pos 0
+      exact : IsExact b m
+      frac : IsFrac v
+
+    over-some : (b : ℕ) → 0 < b → (m : ℤ) → ratio (n *ℤ pos d) (pos b *ℤ m) ≡ Ok v → IsOver b m
+    over-some b some (pos zero) h = absurd (no-ratio (n *ℤ pos d) (pos (b * 0)) (ap pos (mul-zero b)) h)
+    over-some b some (pos (suc k)) h =
+        let is = ratio-of (n *ℤ pos d) (b * suc k) (mul-pos some (omega arith)) h in
+        record { denominator = some; divisor = λ e. cc; exact = above-exact b k is.same; frac = is.frac }
+    over-some b some (negsuc k) h =
+        let is = below-of (n *ℤ pos d) (b * suc k) (mul-pos some (omega arith))
+        (ap (ratio (n *ℤ pos d)) (sym (pos-*ℤ-negsuc b k)) ∙ h) in
+        record { denominator = some; divisor = λ e. cc; exact = below-exact b k is.same; frac = is.frac }
+
+    over-of : (b : ℕ) (m : ℤ) → ratio (n *ℤ pos d) (pos b *ℤ m) ≡ Ok v → IsOver b m
+    over-of zero m h = absurd (no-ratio (n *ℤ pos d) (pos 0 *ℤ m) (zero-times m) h)
+    over-of (suc b) m h = over-some (suc b) (omega arith) m h
+
+    of-over : (b : ℕ) (m : ℤ) → 0 < b → m ≢ pos 0 → IsFrac v → IsExact b m
+        → ratio (n *ℤ pos d) (pos b *ℤ m) ≡ Ok v
+    of-over b (pos zero) some not_0 is e = absurd (not_0 refl)
+    of-over b (pos (suc k)) some not_0 is e =
+        of-ratio (n *ℤ pos d) (b * suc k) (mul-pos some (omega arith)) is (exact-above b k e)
+    of-over b (negsuc k) some not_0 is e =
+        ap (ratio (n *ℤ pos d)) (pos-*ℤ-negsuc b k)
+        ∙ of-below (n *ℤ pos d) (b * suc k) (mul-pos some (omega arith)) is (exact-below b k e)
+
+pub quotient-law : ReducedLaw → QuotientLaw
+quotient-law law x y v = (
+  λ h.
+      let q = over-of law v x.num y.den x.den y.num h in
+      record { denominator = q.denominator; divisor = q.divisor; exact = q.exact; frac = q.frac },
+  λ q. of-over law v x.num y.den x.den y.num q.denominator q.divisor q.frac q.exact,
+)

@@ -1,0 +1,186 @@
+-- The ending of a session over a source.
+use Rattle.std.proofs.Common.{inl, inr, ◌≡◌, ◌≤◌, ◌⊎◌, [], ℕ, List, Bool}
+use Rattle.std.proofs.Common.{true, false, refl, sym, ap, subst, ◌∙◌, arith}
+use Rattle.std.proofs.Common.{Some, None, Result, Ok, Err}
+use Rattle.std.specs.Prelude.{IsErrOf}
+use Rattle.std.specs.declared.option.Option.{Option}
+use Rattle.std.proofs.lemmas.List.{append-nil}
+use Rattle.units_io.specs.Bytes.{GrowsByFront}
+use Rattle.units_io.specs.Faults.{CountRose}
+use Rattle.session.specs.HeardLines.{heard}
+use Rattle.session.specs.Input.{lines_of}
+use Rattle.session.specs.Outside.{Outside, TookMoreThan}
+use Rattle.session.specs.Runs.{HasItsCause, end_after_feed, end_at_input_end, fault_end}
+use Rattle.session.specs.Sessions.{SessionState}
+use Rattle.session.specs.Talks.{SessionTrace, trace_on, trace_over}
+use Rattle.session.specs.KnownContents.{when_told}
+use Rattle.session.specs.BetweenPieces.{Opens}
+use Rattle.session.specs.Worlds.{FilesSeen, SinkSeen, SourceSeen, World, world_of}
+use Rattle.session.specs.WrittenOutput.{IsAll, IsEnded, IsPartIf, IsPrefixRun, IsPrefixRunExceptFile, output_of}
+use Rattle.session.specs.WrittenOutput.{session_course}
+use Rattle.session.specs.declared.fault.SessionFault.{SessionFault}
+use Rattle.session.specs.declared.fault.SessionFault.TheVariants.{OutOfMemory, ReadFailed, WriteFailed}
+use Rattle.session.specs.declared.over_source.SessionEnd.{SessionEnd}
+use Rattle.session.specs.declared.over_source.SessionEnd.TheVariants.{Done, NoMemory, ReadFault, WriteFault}
+use Rattle.session.specs.declared.over_source.SessionEnd.TheVariants.{InputTooLong}
+use Rattle.session.specs.declared.session_output.Said.{Said}
+use Rattle.session.proofs.Blocks.{any_since, either_rose, of_two, opened_files}
+use Rattle.session.proofs.BrokenAnswers.{left_by, left_whole}
+
+same_end : (x y : SessionEnd) → Some x ≡ Some y → y ≡ x
+same_end x y e = cc
+
+-- the output is a part, whether a store certainly did not fail or may have failed
+module _ (A : Type 0) (fed : Result A SessionFault) (first : SessionTrace) (input : List ℕ) (start after : Outside)
+    (part : IsPartIf (fed ≡ Err WriteFailed) (session_course first input) start after) where
+  part_whole : (fed ≡ Err WriteFailed → ⊥) → IsPrefixRun (session_course first input) start after
+  part_whole calm = record {
+    answered = part.answered;
+    rest = part.rest;
+    split = part.split;
+    front = part.front;
+    files =
+        part.files.1
+        ∙ ap (when_told start.files)
+        (left_whole (fed ≡ Err WriteFailed) part.rest (trace_over first part.answered).state.files part.files.0 calm
+        part.files.2);
+  }
+
+  pub part_but : (fed ≡ Err WriteFailed → CountRose start.store_faults after.store_faults)
+      → IsPrefixRunExceptFile (session_course first input) start after
+  part_but rose = record {
+    answered = part.answered;
+    rest = part.rest;
+    split = part.split;
+    front = part.front;
+    files = (
+      part.files.0,
+      part.files.1,
+      left_by (fed ≡ Err WriteFailed) (CountRose start.store_faults after.store_faults) part.rest
+          (trace_over first part.answered).state.files part.files.0 rose part.files.2,
+    );
+  }
+
+  -- the output of a session that a fault ended
+  pub by_fault : (fault : SessionFault) → fed ≡ Err fault
+      → (fed ≡ Err ReadFailed → CountRose start.fetch_faults after.fetch_faults)
+      → (fed ≡ Err WriteFailed → CountRose start.store_faults after.store_faults)
+      → IsEnded (session_course first input) (fault_end fault) start after
+  by_fault ReadFailed is rose stored = (part_whole (λ other. cc), λ rests. absurd (rests (rose is)))
+  by_fault WriteFailed is rose stored = part_but stored
+  by_fault OutOfMemory is rose stored = part_whole (λ other. cc)
+
+-- the output of a session that ended within a block
+pub ended_by : (fed : Result Bool SessionFault) (ending : SessionEnd) (first : SessionTrace) (input : List ℕ)
+    (start after : Outside) → Some ending ≡ end_after_feed fed
+    → IsPartIf (fed ≡ Err WriteFailed) (session_course first input) start after
+    → (fed ≡ Ok true → IsAll (output_of (trace_on first input)) start after)
+    → (fed ≡ Err ReadFailed → CountRose start.fetch_faults after.fetch_faults)
+    → (fed ≡ Err WriteFailed → CountRose start.store_faults after.store_faults)
+    → IsEnded (session_course first input) ending start after
+ended_by (Ok false) ending first input start after q part all rose stored = cc
+ended_by (Ok true) ending first input start after q part all rose stored =
+    subst (λ (x : SessionEnd). IsEnded (session_course first input) x start after) (same_end ending Done q) (all refl)
+ended_by (Err fault) ending first input start after q part all rose stored =
+    subst (λ (x : SessionEnd). IsEnded (session_course first input) x start after)
+    (same_end ending (fault_end fault) q)
+    (by_fault Bool (Err fault) first input start after part fault refl rose stored)
+
+-- an ending over an equal input is one over this input
+pub ended_at : (first : SessionTrace) (i input : List ℕ) (ending : SessionEnd) (start after : Outside) → i ≡ input
+    → IsEnded (session_course first i) ending start after → IsEnded (session_course first input) ending start after
+ended_at first i input ending start after p ended =
+    subst (λ t. IsEnded (session_course first t) ending start after) p ended
+
+-- the session goes on after the bytes that were fed
+pub goes_on : (fed : Result Bool SessionFault) → None ≡ end_after_feed fed → fed ≡ Ok false
+goes_on (Ok false) e = refl
+goes_on (Ok true) e = cc
+goes_on (Err fault) e = cc
+
+-- a line of the bytes that were fed ended the session
+pub done_by : (fed : Result Bool SessionFault) (ending : SessionEnd) → Some ending ≡ end_after_feed fed → ending ≡ Done
+    → fed ≡ Ok true
+done_by (Ok false) ending e d = cc
+done_by (Ok true) ending e d = refl
+done_by (Err ReadFailed) ending e d = cc
+done_by (Err WriteFailed) ending e d = cc
+done_by (Err OutOfMemory) ending e d = cc
+
+-- the cause of each ending
+module _ (before after : World) where
+  pub read_cause : CountRose before.source.faults after.source.faults → HasItsCause ReadFault before after
+  read_cause r = record { read = λ e. inl r; write = λ e. cc; too_long = λ e. cc }
+
+  pub write_cause : CountRose before.out.faults after.out.faults ⊎ CountRose before.err.faults after.err.faults
+      → HasItsCause WriteFault before after
+  write_cause r = record { read = λ e. cc; write = λ e. of_two r; too_long = λ e. cc }
+
+  pub memory_cause : HasItsCause NoMemory before after
+  memory_cause = record { read = λ e. cc; write = λ e. cc; too_long = λ e. cc }
+
+  pub length_cause : TookMoreThan 4294967296 before.source.taken after.source.taken
+      → HasItsCause InputTooLong before after
+  length_cause more = record { read = λ e. cc; write = λ e. cc; too_long = λ e. more }
+
+  pub fed_cause : (fed : Result Bool SessionFault) (ending : SessionEnd) → Some ending ≡ end_after_feed fed
+      → (IsErrOf fed ReadFailed → CountRose before.files.fetch_faults after.files.fetch_faults)
+      → (IsErrOf fed WriteFailed → CountRose before.files.store_faults after.files.store_faults)
+      → HasItsCause ending before after
+  fed_cause (Ok false) ending e read stored = cc
+  fed_cause (Ok true) ending e read stored = record { read = λ q. cc; write = λ q. cc; too_long = λ q. cc }
+  fed_cause (Err ReadFailed) ending e read stored =
+      record { read = λ q. inr (read refl); write = λ q. cc; too_long = λ q. cc }
+  fed_cause (Err WriteFailed) ending e read stored =
+      record { read = λ q. cc; write = λ q. inr (inr (stored refl)); too_long = λ q. cc }
+  fed_cause (Err OutOfMemory) ending e read stored =
+      record { read = λ q. cc; write = λ q. cc; too_long = λ q. cc }
+
+  -- the cause of an ending at the end of the input
+  pub end_cause : {A : Type 0} (fed : Result A SessionFault) (ending : SessionEnd) → ending ≡ end_at_input_end fed
+      → (IsErrOf fed ReadFailed → CountRose before.files.fetch_faults after.files.fetch_faults)
+      → (IsErrOf fed WriteFailed → CountRose before.files.store_faults after.files.store_faults)
+      → HasItsCause ending before after
+  end_cause (Ok done) ending e read stored = record { read = λ q. cc; write = λ q. cc; too_long = λ q. cc }
+  end_cause (Err ReadFailed) ending e read stored =
+      record { read = λ q. inr (read refl); write = λ q. cc; too_long = λ q. cc }
+  end_cause (Err WriteFailed) ending e read stored =
+      record { read = λ q. cc; write = λ q. inr (inr (stored refl)); too_long = λ q. cc }
+  end_cause (Err OutOfMemory) ending e read stored =
+      record { read = λ q. cc; write = λ q. cc; too_long = λ q. cc }
+
+-- a cause since a later time is a cause since an earlier time
+pub cause_since : (ending : SessionEnd) (source : SourceSeen) (out err out_mid err_mid : SinkSeen)
+    (files files_mid : FilesSeen) (steps steps_mid : ℕ) (after : World)
+    → out.faults ≤ out_mid.faults → err.faults ≤ err_mid.faults
+    → files.fetch_faults ≤ files_mid.fetch_faults → files.store_faults ≤ files_mid.store_faults
+    → HasItsCause ending (world_of source out_mid err_mid files_mid steps_mid) after
+    → HasItsCause ending (world_of source out err files steps) after
+cause_since ending source out err out_mid err_mid files files_mid steps steps_mid after o e f s cause = record {
+  read = λ is.
+      either_rose source.faults source.faults after.source.faults files.fetch_faults files_mid.fetch_faults
+      after.files.fetch_faults (omega arith) f (cause.read is);
+  write = λ is.
+      any_since out.faults out_mid.faults after.out.faults err.faults err_mid.faults after.err.faults
+      files.store_faults files_mid.store_faults after.files.store_faults o e s (cause.write is);
+  too_long = cause.too_long;
+}
+
+-- no bytes are a front of any bytes
+nothing_put : (o out : Option (List ℕ)) (bytes : List ℕ) → out ≡ o → GrowsByFront o out bytes
+nothing_put None out bytes e = (0, omega arith, e)
+nothing_put (Some held) out bytes e = (0, omega arith, e ∙ ap Some (sym (append-nil held)))
+
+-- a session that was opened has written nothing and answered no line
+pub unwritten : (first : SessionTrace) (input : List ℕ) (said : Said) (session : SessionState) (start now : Outside)
+    → Opens first said session start now → IsPrefixRun (session_course first input) start now
+unwritten first input said session start now opened = record {
+  answered = [];
+  rest = heard (lines_of input);
+  split = refl;
+  front = record {
+    out = nothing_put start.out now.out first.out opened.out;
+    err = nothing_put start.err now.err first.err opened.err;
+  };
+  files = opened_files first said session start now opened;
+}

@@ -1,0 +1,40 @@
+use Rattle.std.proofs.Common.{[], refl, sym, ◌∙◌, Some}
+use Rattle.units_io.specs.FileMap.{no_files}
+use Rattle.session.specs.Trials.{silent}
+use Rattle.session.specs.BetweenPieces.{at_first}
+use Rattle.session.proofs.TalkedThrough.{lines_done, lines_on, lines_over, stands_first, talked_at, talked_over}
+use Rattle.session.proofs.trial.run_lines.Goals as goal
+
+pub loop-rest-init : goal.loop-rest-init
+loop-rest-init g c = (
+  [],
+  refl,
+  stands_first c.args.session.now _ _ c.args.steps.now c.new.ensures.items c.new-2.ensures.items c.new-held.ensures,
+)
+
+pub loop-rest-preserved : goal.loop-rest-preserved
+loop-rest-preserved g c =
+    let p = c.loop-rest.invariant in
+    let base = at_first (Some no_files) c.args.steps.now in
+    let first = silent c.args.session.now in
+    lines_on base first c.args.lines.now p.0 c.loop-rest.rest.now p.1 c.in-Ok-false.field-0 _ _ _
+    c.in-Ok-false.field-0-test (c.in-Ok-false.ensures.told base first p.0 [] tt p.2)
+
+pub returns-in-Ok-true : goal.returns-in-Ok-true
+returns-in-Ok-true g c =
+    let p = c.loop-rest.invariant in
+    let base = at_first (Some no_files) c.args.steps.now in
+    let first = silent c.args.session.now in
+    talked_over first c.args.lines.now _ c.args.steps.now
+    (lines_over base first c.args.lines.now p.0 c.loop-rest.rest.now p.1 c.in-Ok-true.field-0 _ _ _
+    c.in-Ok-true.field-0-test (c.in-Ok-true.ensures.told base first p.0 [] tt p.2))
+
+pub returns-in-Ok : goal.returns-in-Ok
+returns-in-Ok g c =
+    let p = c.loop-rest.invariant in
+    let base = at_first (Some no_files) c.args.steps.now in
+    let first = silent c.args.session.now in
+    talked_at _ _ c.args.steps.now
+    (c.in-Ok.ensures.told base first c.args.lines.now tt
+    (lines_done base first c.args.lines.now p.0 c.loop-rest.rest.now p.1 _ _
+    (sym c.is_empty.ensures ∙ c.loop-rest-test.false) p.2))

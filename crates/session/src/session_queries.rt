@@ -1,0 +1,84 @@
+//! Queries of the live table of a session, and the state that they leave it in.
+
+ghost use Rattle.std.specs.Prelude.{◌≡◌};
+ghost use Rattle.deck.specs.Tables as tables;
+ghost use Rattle.reply.specs.Options.{IsPrintable};
+ghost use Rattle.reply.specs.Replies as replies;
+ghost use Rattle.survey.specs.ConversionReplies as spec;
+ghost use Rattle.session.specs.Parts.{IsReplied};
+
+use live_table::LiveTable;
+use reply::{FromValue, Options, convert_reply, definition_reply, from_value};
+use std::alloc::{AllocError, Global};
+use std::sync::ledger::Ledger;
+use survey::conformable_reply;
+use units_io::{Steps, Text};
+
+/// Returns the value of a text as FROM.
+pub(crate) fn evaluate_text<L: Ledger>(
+    alloc: Global,
+    options: &Options,
+    table: &mut LiveTable,
+    text: &[u8],
+    steps: &mut Steps<L>,
+) -> Result<FromValue, AllocError>
+    requires { IsPrintable options.now }
+    ensures reply { IsReplied (replies.value_queries (tables.table table.old.deck) text.now)
+        (replies.from_value (tables.table table.old.deck) options.now text.now) result table.old table.new
+        steps.old steps.new }
+    ensures deck { table.new.deck ≡ table.old.deck }
+{
+    from_value(alloc, table, options, text, steps)
+}
+
+/// Returns the reply to FROM alone.
+pub(crate) fn ask_definition<L: Ledger>(
+    alloc: Global,
+    options: &Options,
+    table: &mut LiveTable,
+    from: &[u8],
+    steps: &mut Steps<L>,
+) -> Result<Text, AllocError>
+    requires { IsPrintable options.now }
+    ensures reply { let asked = spec.asked_definition (tables.table table.old.deck) options.now from.now in
+        IsReplied asked.queries asked.reply.text result table.old table.new steps.old steps.new }
+    ensures deck { table.new.deck ≡ table.old.deck }
+{
+    let reply = definition_reply(alloc, table, options, from, steps)?;
+    Ok(reply.text)
+}
+
+/// Returns the reply to a conversion.
+pub(crate) fn ask_conversion<L: Ledger>(
+    alloc: Global,
+    options: &Options,
+    table: &mut LiveTable,
+    from: &[u8],
+    to: &[u8],
+    steps: &mut Steps<L>,
+) -> Result<Text, AllocError>
+    requires { IsPrintable options.now }
+    ensures reply { let asked = spec.asked_conversion (tables.table table.old.deck) options.now from.now to.now in
+        IsReplied asked.queries asked.reply.text result table.old table.new steps.old steps.new }
+    ensures deck { table.new.deck ≡ table.old.deck }
+{
+    let reply = convert_reply(alloc, table, options, from, to, steps)?;
+    Ok(reply.text)
+}
+
+/// Returns the units that conform to FROM, or the fault of FROM.
+pub(crate) fn conformable<L: Ledger>(
+    alloc: Global,
+    options: &Options,
+    table: &mut LiveTable,
+    from: &[u8],
+    steps: &mut Steps<L>,
+) -> Result<Text, AllocError>
+    requires { IsPrintable options.now }
+    ensures reply { let asked = spec.asked_conformable (tables.table table.old.deck) options.now from.now in
+        IsReplied asked.queries asked.reply.text result table.old table.new steps.old steps.new }
+    ensures deck { table.new.deck ≡ table.old.deck }
+{
+    let reply = conformable_reply(alloc, table, options, from, steps)?;
+    Ok(reply.text)
+}

@@ -1,8 +1,0 @@
-use Rattle.survey.proofs.Places.{row_at, unit_queries_at}
-use Rattle.survey.proofs.Surveying.{IsUnderway}
-use Rattle.survey.proofs.conforming.put_conforming_rows.Given as goal
-
-abbrev pub invariant-loop-place : goal.invariant-loop-place
-invariant-loop-place g l =
-    IsUnderway (row_at l.fn.table.deck l.from) (unit_queries_at l.fn.table.deck) l.places l.place-index l.fn.rows.items
-    l.rows.items l.fn.table l.table l.fn.steps l.steps

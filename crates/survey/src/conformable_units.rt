@@ -1,0 +1,141 @@
+//! The report of the units that conform to a quantity.
+
+ghost use Rattle.std.specs.Prelude.{◌≡◌, ◌++◌, [], IfErr, IfOk, OnOk, if◌then◌else◌};
+ghost use Rattle.std.specs.List.{flat_map};
+ghost use Rattle.std.specs.Option.{option_map};
+ghost use Rattle.def_entry.specs.declared.key.Kind.TheVariants as kinds;
+ghost use Rattle.deck.specs.KeyLists.{of_kind};
+ghost use Rattle.deck.specs.PlacedKeys.{key_there, keys_there};
+ghost use Rattle.deck.specs.Tables as tables;
+ghost use Rattle.expr_tree.specs.Syntax.{Word};
+ghost use Rattle.expr_tree.specs.Trees.{syntax};
+ghost use Rattle.live_table.specs.Calls.{AreQueries};
+ghost use Rattle.live_table.specs.TableView.{IsRightTable};
+ghost use Rattle.survey.specs.Conformable as spec;
+ghost use Rattle.survey.specs.Places.{given_by_key, unit_there};
+ghost use Rattle.survey.specs.Rows.{key_row};
+
+use crate::rows::{put_row_there, rows_or_none};
+use deck::{Deck, key_lists_are_one};
+use def_entry::Kind;
+use expr_tree::Tree;
+use live_table::LiveTable;
+use quantity::Quantity;
+use std::alloc::{AllocError, Global};
+use std::sync::ledger::Ledger;
+use units_io::{Steps, Text};
+
+/// Returns a row for each unit whose value conforms to `from`, in the order of keys, or one line that says that there
+/// is none. Queries each unit. Does not change the deck. The only error is running out of memory.
+pub fn conformable_report<L: Ledger>(
+    alloc: Global,
+    table: &mut LiveTable,
+    from: &Quantity,
+    steps: &mut Steps<L>,
+) -> Result<Text, AllocError>
+    ensures report { IfOk result (λ text. text ≡ spec.conformable_report (tables.table table.old.deck) from.now) }
+    ensures queries { AreQueries (spec.conformable_queries (tables.table table.old.deck)) result
+        table.old table.new steps.old steps.new }
+    ensures deck { table.new.deck ≡ table.old.deck }
+{
+    key_lists_are_one();
+    let places = table.deck().key_places(alloc)?;
+    let mut rows = Vec::new(alloc);
+    put_conforming_rows(alloc, &mut rows, table, places.as_slice(), from, steps)?;
+    rows_or_none(rows)
+}
+
+// Appends a row for each unit at `places` whose value conforms to `from`.
+fn put_conforming_rows<L: Ledger>(
+    alloc: Global,
+    rows: &mut Vec<u8>,
+    table: &mut LiveTable,
+    places: &[usize],
+    from: &Quantity,
+    steps: &mut Steps<L>,
+) -> Result<(), AllocError>
+    requires { IsRightTable table.old }
+    ensures rows { OnOk result (rows.new.items ≡ rows.old.items
+        ++ flat_map (spec.conforming_row (tables.table table.old.deck) from.now)
+        (of_kind kinds.Unit (keys_there table.old.deck.lines places.now))) }
+    ensures queries { AreQueries
+        (spec.unit_queries (tables.table table.old.deck) (keys_there table.old.deck.lines places.now)) result
+        table.old table.new steps.old steps.new }
+    ensures deck { table.new.deck ≡ table.old.deck }
+{
+    for place in places {
+        put_row_at(alloc, rows, table, *place, from, steps)?;
+    }
+    Ok(())
+}
+
+// Appends the row of the unit at `place`, if there is one and its value conforms to `from`.
+fn put_row_at<L: Ledger>(
+    alloc: Global,
+    rows: &mut Vec<u8>,
+    table: &mut LiveTable,
+    place: usize,
+    from: &Quantity,
+    steps: &mut Steps<L>,
+) -> Result<(), AllocError>
+    requires { IsRightTable table.old }
+    ensures rows { OnOk result (rows.new.items ≡ rows.old.items
+        ++ given_by_key (spec.conforming_row (tables.table table.old.deck) from.now)
+        (unit_there table.old.deck place)) }
+    ensures queries { AreQueries (given_by_key (λ k. (spec.unit_worth (tables.table table.old.deck) k).events)
+        (unit_there table.old.deck place)) result table.old table.new steps.old steps.new }
+    ensures deck { table.new.deck ≡ table.old.deck }
+{
+    let Some(word) = unit_word(alloc, table.deck(), place)? else {
+        return Ok(());
+    };
+    let found = table.value_if_any(alloc, &word, steps);
+    put_if_conforming(rows, table.deck(), place, from, &found)
+}
+
+// Returns the word of the unit that the line at `place` defines, or `None` if it defines no unit.
+fn unit_word(alloc: Global, deck: &Deck, place: usize) -> Result<Option<Tree>, AllocError>
+    ensures { IfOk result (λ word. option_map syntax word
+        ≡ option_map (λ k. Word k.name) (unit_there deck.now place)) }
+{
+    let Some(key) = deck.key_at(place) else {
+        return Ok(None);
+    };
+    match key.kind {
+        Kind::Unit => Ok(Some(Tree::Word(Text::from_bytes(alloc, key.name)?))),
+        _ => Ok(None),
+    }
+}
+
+// Appends the row of the key at `place` if its value `found` conforms to `from`. The only error is running out of
+// memory, here or in `found`.
+fn put_if_conforming(
+    rows: &mut Vec<u8>,
+    deck: &Deck,
+    place: usize,
+    from: &Quantity,
+    found: &Result<Option<Quantity>, AllocError>,
+) -> Result<(), AllocError>
+    ensures row { OnOk result (IfOk found.now (λ value. rows.new.items ≡ rows.old.items
+        ++ (if spec.is_value_conforming from.now value
+        then given_by_key (key_row (tables.table deck.now)) (key_there deck.now.lines place)
+        else []))) }
+    ensures memory { OnOk result (IfErr found.now (λ _. ⊥)) }
+{
+    match found {
+        Ok(Some(x)) => put_row_if(rows, x.conforms(from), deck, place),
+        Ok(None) => Ok(()),
+        Err(_) => Err(AllocError),
+    }
+}
+
+// Appends the row of the key at `place`, if it is wanted.
+fn put_row_if(rows: &mut Vec<u8>, wanted: bool, deck: &Deck, place: usize) -> Result<(), AllocError>
+    ensures { OnOk result (rows.new.items ≡ rows.old.items
+        ++ (if wanted then given_by_key (key_row (tables.table deck.now)) (key_there deck.now.lines place) else [])) }
+{
+    if !wanted {
+        return Ok(());
+    }
+    put_row_there(rows, deck, place)
+}

@@ -1,0 +1,234 @@
+-- Keys and words stand for their computed meanings.
+use Rattle.std.proofs.Common.{◌≡◌, ◌≢◌, ℕ, zero, suc, true, false, List, [], ◌∷◌, length, Contains, Option, Some, None}
+use Rattle.std.proofs.Common.{is_some, refl, sym, ◌∙◌, ap, subst, inl, inr}
+use Rattle.expr_tree.specs.declared.word_list.WordUse.{WordUse}
+use Rattle.def_entry.specs.declared.key.Key.{Key}
+use Rattle.def_entry.specs.declared.key.Kind.{Kind}
+use Rattle.def_entry.specs.declared.key.Kind.TheVariants as kind
+use Rattle.def_entry.specs.Entries as what
+use Rattle.def_entry.specs.Entries.{Entry, What}
+use Rattle.def_entry.specs.SameKeys.{is_same_kind}
+use Rattle.def_entry.specs.Tables.{Table, entry_at}
+use Rattle.tree_eval.specs.Entries.{alias, meaning_of}
+use Rattle.tree_eval.specs.Expansions.{Callable, Callee, Expanded, Meaning, One, Two}
+use Rattle.tree_eval.specs.Expansion.{inverted_word}
+use Rattle.table_names.specs.ClosedKeys.{IsClosed, WordLeadsInto}
+use Rattle.table_names.specs.Kinds as kinds
+use Rattle.table_names.specs.Kinds.{FitsKinds, StandsForTargets, may_mean, may_say}
+use Rattle.table_names.specs.Leads.{targets}
+use Rattle.table_names.specs.Meanings.{entry_meaning, key_meaning, word_meaning}
+use Rattle.table_names.specs.Words.{entry_words, key_words, what_words}
+use Rattle.table_names.proofs.ClosedLaws.{closed_law}
+use Rattle.table_names.proofs.EndingWays.{EndsWithin, into_others}
+use Rattle.table_names.proofs.Lookups.{target_present}
+use Rattle.table_names.proofs.MeaningKinds.{kind_law}
+use Rattle.table_names.proofs.Meanings.{closed_meaning_law, entry_same}
+use Rattle.table_names.proofs.Members.{member_cases, member_first, member_later, no_member}
+use Rattle.table_names.proofs.Paths.{closed_ending, closed_key_ending, ending_key_closed}
+use Rattle.table_names.specs.StandsFor.{ByEntry, ByOneTarget, ByPrefixAndUnit, IsMeaning, StandsFor, WordStandsFor}
+use Rattle.table_names.specs.StandsForLaws.{IsName, StandsForLaw}
+use Rattle.table_names.proofs.TargetKinds.{target_no_list}
+
+some_same : {A : Type 0} (x y : A) → Some x ≡ Some y → x ≡ y
+some_same x y e = cc
+
+one_same : (n k : Key) → n ∷ [] ≡ k ∷ [] → n ≡ k
+one_same n k e = cc
+
+not_two : (n k l : Key) → n ∷ [] ≡ k ∷ l ∷ [] → ⊥
+not_two n k l e = cc
+
+two_same : (n m k l : Key) → n ∷ m ∷ [] ≡ k ∷ l ∷ [] → (n ≡ k) × (m ≡ l)
+two_same n m k l e = (cc, cc)
+
+value_same : (x y : Expanded) → One x ≡ One y → x ≡ y
+value_same x y e = cc
+
+-- ---- the meaning of an entry by the rules is the computed one
+meaning_is : (means : WordUse → Meaning) (name : List ℕ) (w : What) (m : Meaning) → IsMeaning means name w m
+    → m ≡ meaning_of means name w
+meaning_is means name what.Primitive m s = s
+meaning_is means name what.Dimensionless m s = s
+meaning_is means name (what.Body e) m s = s
+meaning_is means name (what.Function d) m s = s
+meaning_is means name (what.Alias target) m s = s.2 ∙ sym (ap (alias name) s.1)
+meaning_is means name (what.Table d) m s = s
+meaning_is means name (what.ListOf parts) m s = absurd s
+
+is_meaning : (means : WordUse → Meaning) (name : List ℕ) (k : Kind) (w : What) (m : Meaning)
+    → m ≡ meaning_of means name w
+    → is_same_kind k kind.List ≡ false → may_say k w ≡ true
+    → ((target : List ℕ) → w ≡ what.Alias target → (f : Callable) × (means (inverted_word target) ≡ Callee f))
+    → IsMeaning means name w m
+is_meaning means name k what.Primitive m e free may h = e
+is_meaning means name k what.Dimensionless m e free may h = e
+is_meaning means name k (what.Body b) m e free may h = e
+is_meaning means name k (what.Function d) m e free may h = e
+is_meaning means name k (what.Alias target) m e free may h =
+    let r : (f : Callable) × (means (inverted_word target) ≡ Callee f) = h target refl in
+    (r.0, r.1, e ∙ ap (alias name) r.1)
+is_meaning means name k (what.Table d) m e free may h = e
+is_meaning means name k (what.ListOf parts) m e free may h = let z : true ≡ false = sym may ∙ free in
+    absurd (true_false z)
+  where
+    true_false : true ≡ false → ⊥
+    true_false q = cc
+
+-- a meaning that a function may have is a callable
+callee : (m : Meaning) → may_mean kind.Func m ≡ true → (f : Callable) × (m ≡ Callee f)
+callee (One x) e = cc
+callee (Two x y) e = cc
+callee (Callee f) e = (f, refl)
+
+module _ (table : Table) where
+  -- ---- a key or a word has at most one meaning
+  mutual
+    same : {n : Key} {m k : Meaning} → StandsFor table n m → StandsFor table n k → m ≡ k
+    same {n} {m} {k} (ByEntry e means q stands says) (ByEntry f other r stand says_too) =
+        let same_entry : e ≡ f = some_same e f (sym q ∙ r) in
+        meaning_is means n.name e.what m says
+        ∙ (entry_same means other n.name (Some e)
+        (λ u i. same_word (stands u i) (stand u (subst (λ (x : Entry). Contains (what_words x.what) u) same_entry i)))
+        ∙ (ap (λ (x : Entry). meaning_of other n.name x.what) same_entry
+        ∙ sym (meaning_is other n.name f.what k says_too)))
+
+    same_word : {u : WordUse} {m k : Meaning} → WordStandsFor table u m → WordStandsFor table u k → m ≡ k
+    same_word {u} {m} {k} (ByOneTarget a r t s) (ByOneTarget b p q v) =
+        same s (subst (λ (x : Key). StandsFor table x k) (one_same b a (sym q ∙ t)) v)
+    same_word {u} {m} {k} (ByOneTarget a r t s) (ByPrefixAndUnit b c x y p q v w e) = absurd (not_two a b c (sym t ∙ q))
+    same_word {u} {m} {k} (ByPrefixAndUnit b c x y p q v w e) (ByOneTarget a r t s) = absurd (not_two a b c (sym t ∙ q))
+    same_word {u} {m} {k} (ByPrefixAndUnit a c x y r t s v e) (ByPrefixAndUnit b d z l p q w o f) =
+        let keys : (b ≡ a) × (d ≡ c) = two_same b d a c (sym q ∙ t) in
+        let first : x ≡ z =
+        value_same x z (same s (subst (λ (n : Key). StandsFor table n (One z)) keys.0 w)) in
+        let second : y ≡ l =
+        value_same y l (same v (subst (λ (n : Key). StandsFor table n (One l)) keys.1 o)) in
+        e ∙ ((λ i. Two (first i) (second i)) ∙ sym f)
+
+  -- ---- what has a meaning has no name fault
+  only_one : (ks : List Key) (k n : Key) → ks ≡ n ∷ [] → Contains ks k → k ≡ n
+  only_one ks k n e i =
+      elim (member_cases k n [] (subst (λ (x : List Key). Contains x k) e i))
+      [ inl q ↦ q | inr j ↦ absurd (no_member k j) ]
+
+  some_keys : (ks : List Key) (n : Key) (rest : List Key) → ks ≡ n ∷ rest → ks ≢ []
+  some_keys ks n rest e = λ z. cc
+
+  into_two : (P : Key → Type 0) (ks : List Key) (n m : Key) → ks ≡ n ∷ m ∷ [] → P n → P m → (k : Key) → Contains ks k
+      → P k
+  into_two P ks n m e p q k i =
+      elim (member_cases k n (m ∷ []) (subst (λ (x : List Key). Contains x k) e i)) [
+        | inl f ↦ subst P (sym f) p
+        | inr j ↦ subst P (sym (only_one (m ∷ []) k m refl j)) q
+      ]
+
+  words_close : (n : Key) → ((u : WordUse) → Contains (key_words table n) u → WordLeadsInto table (IsClosed table) u)
+      → IsClosed table n
+  words_close n h = (closed_law.key table n).1 ((closed_law.words table (key_words table n)).1 h)
+
+  mutual
+    closes : {n : Key} {m : Meaning} → StandsFor table n m → IsClosed table n
+    closes {n} (ByEntry e means q stands says) =
+        words_close n (λ u i. leads (stands u (subst (λ (o : Option Entry). Contains (entry_words o) u) q i)))
+
+    leads : {u : WordUse} {m : Meaning} → WordStandsFor table u m → WordLeadsInto table (IsClosed table) u
+    leads {u} (ByOneTarget n r t s) = record {
+      is_accepted = r;
+      known = some_keys (targets table u) n [] t;
+      into = λ k i. subst (IsClosed table) (sym (only_one (targets table u) k n t i)) (closes s);
+    }
+    leads {u} (ByPrefixAndUnit n k x y r t s v e) = record {
+      is_accepted = r;
+      known = some_keys (targets table u) n (k ∷ []) t;
+      into = into_two (IsClosed table) (targets table u) n k t (closes s) (closes v);
+    }
+
+  -- ---- in a table that fits kinds, each closed name stands for its computed meaning
+  module _ (fits : FitsKinds table) where
+    name : (u : WordUse) (n : Key) → Contains (targets table u) n → IsName table n
+    name u n i = record { present = target_present table u n i; no_list = target_no_list table u n i }
+
+    closed_leads : (k : ℕ) (u : WordUse) → WordLeadsInto table (EndsWithin table k) u
+        → WordLeadsInto table (IsClosed table) u
+    closed_leads k u h = into_others table (EndsWithin table k) (IsClosed table) u (λ m t. ending_key_closed table k m)
+        h
+
+    -- a word stands for its computed meaning if its targets do
+    word_from : (u : WordUse) → WordLeadsInto table (IsClosed table) u
+        → ((n : Key) → Contains (targets table u) n → StandsFor table n (key_meaning table n))
+        → WordStandsFor table u (word_meaning table u)
+    word_from u h key_stands = by (kind_law.words table fits u h)
+      where
+        by : StandsForTargets table u → WordStandsFor table u (word_meaning table u)
+        by (kinds.ForOne n t e) =
+            subst (WordStandsFor table u) (sym e)
+            (ByOneTarget n h.is_accepted t
+            (key_stands n (subst (λ (ks : List Key). Contains ks n) (sym t) (member_first n n [] refl))))
+        by (kinds.ForTwo n m x y t kn km en em e) =
+            ByPrefixAndUnit n m x y h.is_accepted t
+            (subst (StandsFor table n) en
+            (key_stands n (subst (λ (ks : List Key). Contains ks n) (sym t) (member_first n n (m ∷ []) refl))))
+            (subst (StandsFor table m) em
+            (key_stands m (subst (λ (ks : List Key). Contains ks m) (sym t)
+            (member_later m n (m ∷ []) (member_first m m [] refl)))))
+            e
+
+    stands : (k : ℕ) (n : Key) → EndsWithin table k n → IsName table n → StandsFor table n (key_meaning table n)
+    stands zero n ends is = absurd ends
+    stands (suc k) n ends is =
+        by (λ u i. word_from u (closed_leads k u (ends u i)) (λ m t. stands k m ((ends u i).into m t) (name u m t)))
+        (entry_at table n) refl is.present
+      where
+        in_key : (e : Entry) (u : WordUse) → entry_at table n ≡ Some e → Contains (what_words e.what) u
+            → Contains (key_words table n) u
+        in_key e u q i = subst (λ (o : Option Entry). Contains (entry_words o) u) (sym q) i
+
+        alias_word : (w : What) (target : List ℕ) → w ≡ what.Alias target
+            → Contains (what_words w) (inverted_word target)
+        alias_word w target a = subst (λ (x : What). Contains (what_words x) (inverted_word target)) (sym a)
+            (member_first (inverted_word target) (inverted_word target) [] refl)
+
+        by : ((u : WordUse) → Contains (key_words table n) u → WordStandsFor table u (word_meaning table u))
+            → (o : Option Entry) → entry_at table n ≡ o → is_some o ≡ true → StandsFor table n (key_meaning table n)
+        by words None q some = cc
+        by words (Some e) q some =
+            ByEntry e (word_meaning table) q (λ u i. words u (in_key e u q i))
+            (is_meaning (word_meaning table) n.name n.kind e.what (key_meaning table n)
+            (closed_meaning_law table n (ending_key_closed table (suc k) n ends)
+            ∙ ap (entry_meaning (word_meaning table) n.name) q)
+            is.no_list (fits n e q)
+            (λ target a. callee (word_meaning table (inverted_word target))
+            (kind_law.inverses table fits target (closed_leads k (inverted_word target)
+            (ends (inverted_word target) (in_key e (inverted_word target) q (alias_word e.what target a)))))))
+
+    word_stands : (k : ℕ) (u : WordUse) → WordLeadsInto table (EndsWithin table k) u
+        → WordStandsFor table u (word_meaning table u)
+    word_stands k u h = word_from u (closed_leads k u h) (λ n i. stands k n (h.into n i) (name u n i))
+
+    inverse : (w : List ℕ) (m : Meaning) → WordStandsFor table (inverted_word w) m → (f : Callable) × (m ≡ Callee f)
+    inverse w m s =
+        let l : WordLeadsInto table (IsClosed table) (inverted_word w) = leads s in
+        let r : (f : Callable) × (word_meaning table (inverted_word w) ≡ Callee f) =
+        callee (word_meaning table (inverted_word w)) (kind_law.inverses table fits w l) in
+        let e : m ≡ word_meaning table (inverted_word w) =
+        same_word s (word_stands (suc (length table)) (inverted_word w)
+        (into_others table (IsClosed table) (EndsWithin table (suc (length table))) (inverted_word w)
+        (λ n t. closed_key_ending table n) l)) in
+        (r.0, e ∙ r.1)
+
+-- the law of the meanings of keys and words
+pub stands_for_law : StandsForLaw
+stands_for_law = record {
+  one = λ table n m k a b. same table a b;
+  one_word = λ table u m k a b. same_word table a b;
+  closed = λ table n m s. closes table s;
+  exactly = λ table fits n is. (
+    λ closed. stands table fits (suc (length table)) n (closed_key_ending table n closed) is,
+    λ s. closes table s,
+  );
+  words = λ table fits words. (
+    λ closed u i. word_stands table fits (length table) u (closed_ending table words closed u i),
+    λ h. (closed_law.words table words).1 (λ u i. leads table (h u i)),
+  );
+  inverse = inverse;
+}

@@ -1,0 +1,74 @@
+//! Quantities that are borrowed or owned.
+
+ghost use Rattle.std.specs.Prelude.{◌≡◌, IfOk, Ok, option_map};
+ghost use Rattle.std.specs.Option.{option_copied};
+ghost use Rattle.tree_eval.specs.Answers.{GivesWorth, amount_in};
+ghost use Rattle.tree_eval.specs.Steps.{negative_amount, one};
+
+use crate::fault::EvalFault;
+use quantity::Quantity;
+use std::alloc::{AllocError, Global};
+use std::mem;
+
+/// A quantity that is borrowed from an environment, or one that a step has computed.
+#[derive(Drop)]
+pub(crate) enum Held<'a> {
+    Lent(&'a Quantity),
+    Own(Quantity),
+}
+
+impl<'a> Held<'a> {
+    // The number 1. It is the placeholder in nested calls until a value is stored.
+    pub(crate) fn unity(alloc: Global) -> Held<'a>
+        ensures { amount_in result ≡ one }
+    {
+        Held::Own(Quantity::unity(alloc))
+    }
+
+    // Takes the quantity out and leaves 1 in its place.
+    pub(crate) fn take(&mut self, alloc: Global) -> Held<'a>
+        ensures { result ≡ self.old }
+    {
+        mem::replace(self, Held::unity(alloc))
+    }
+
+    // Negates the quantity in place.
+    #[inline(never)]
+    pub(crate) fn negate(&mut self, alloc: Global) -> Result<(), EvalFault>
+        ensures { GivesWorth (λ _. amount_in self.new) result (Ok (negative_amount (amount_in self.old))) }
+    {
+        let q = self.take(alloc).own(alloc)?;
+        *self = Held::Own(q.into_negative());
+        Ok(())
+    }
+
+    // Borrows the quantity.
+    pub(crate) fn get(&self) -> &Quantity
+        ensures { result.now ≡ amount_in self.now }
+    {
+        match self {
+            Held::Lent(q) => q,
+            Held::Own(q) => q,
+        }
+    }
+
+    // Returns the quantity, copied if it is borrowed.
+    pub(crate) fn own(self, alloc: Global) -> Result<Quantity, AllocError>
+        ensures { IfOk result (λ q. q ≡ amount_in self.entry) }
+    {
+        match self {
+            Held::Lent(q) => q.copy(alloc),
+            Held::Own(q) => Ok(q),
+        }
+    }
+}
+
+// Borrows the quantity, if there is one.
+pub(crate) fn lend_quantity<'b>(held: &'b Option<Held<'_>>) -> Option<&'b Quantity>
+    ensures { option_copied result ≡ option_map amount_in held.now }
+{
+    match held {
+        Some(held) => Some(held.get()),
+        None => None,
+    }
+}

@@ -1,0 +1,65 @@
+//! Conversions.
+
+ghost use Rattle.std.specs.Prelude.{◌≡◌, IfOk, IfSome, None, length};
+ghost use Rattle.reply.specs.Options.{IsPrintable};
+ghost use Rattle.units_c.specs.Answers as spec;
+ghost use Rattle.units_c.specs.Options.{reply_options};
+ghost use Rattle.units_c.specs.Statuses.{code};
+ghost use Rattle.units_c.specs.Tables.{IsTableAnswered, IsUnedited, definitions_of, query_table};
+ghost use Rattle.units_c.specs.declared.status.Status.TheVariants as statuses;
+
+use crate::answer::{Answer, deliver, reply_answer};
+use crate::laws::statuses_law;
+use crate::options::UnitsOptions;
+use crate::status::Status;
+use crate::unit_table::UnitsTable;
+use edited_table::EditedTable;
+use reply::Options;
+use std::alloc::{AllocError, Global};
+
+/// Converts `from` to `to`. Copies the reply of the program to `out` and stores its length in `written`. Returns the
+/// status code.
+#[unsafe(no_mangle)]
+pub extern "C" fn units_convert(
+    alloc: Global,
+    table: &mut UnitsTable,
+    from: &[u8],
+    to: &[u8],
+    options: &UnitsOptions,
+    out: &mut [u8],
+    written: &mut usize,
+) -> u32
+    ensures answer { IfSome (reply_options options.now) (λ o. IsTableAnswered table.old.handle.held
+        (λ e. spec.conversion_answer (query_table e) o from.now to.now) (length out.old) result written.new out.new) }
+    ensures options { reply_options options.now ≡ None → result ≡ code statuses.BadOptions }
+    ensures unedited { IsUnedited table.old.handle.held table.new.handle.held }
+{
+    *written = 0;
+    let Some(options) = options.read() else {
+        return Status::BadOptions.code();
+    };
+    let Some(mut content) = table.take(alloc) else {
+        return Status::Closed.code();
+    };
+    let answered = answer_conversion(alloc, &mut content, &options, from, to);
+    table.put(content);
+    deliver(answered, out, written)
+}
+
+// Makes a conversion and returns the answer.
+fn answer_conversion(
+    alloc: Global,
+    content: &mut EditedTable,
+    options: &Options,
+    from: &[u8],
+    to: &[u8],
+) -> Result<Answer, AllocError>
+    requires { IsPrintable options.now }
+    ensures answer { IfOk result (λ answer.
+        answer ≡ spec.conversion_answer (query_table content.old) options.now from.now to.now) }
+    ensures unedited { definitions_of content.new ≡ definitions_of content.old }
+{
+    statuses_law();
+    let reply = content.convert(alloc, options, from, to)?;
+    Ok(reply_answer(reply))
+}

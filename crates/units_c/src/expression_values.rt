@@ -1,0 +1,109 @@
+//! Values of expressions.
+
+ghost use Rattle.std.specs.Prelude.{◌≡◌, ◌≢◌, ◌≤◌, IfOk, IfSome, drop, length};
+ghost use Rattle.reply.specs.Options.{IsPrintable};
+ghost use Rattle.units_c.specs.Answers as spec;
+ghost use Rattle.units_c.specs.Statuses.{code};
+ghost use Rattle.units_c.specs.Tables.{IsTableAnswered, IsUnedited, definitions_of, query_table};
+ghost use Rattle.units_c.specs.ValueOptions.{HasNumber, exact_options};
+ghost use Rattle.units_c.specs.declared.status.Status.TheVariants as statuses;
+
+use crate::answer::{Answer, deliver, fault_answer};
+use crate::laws::statuses_law;
+use crate::number::UnitsNumber;
+use crate::status::Status;
+use crate::unit_table::UnitsTable;
+use def_lines::trim;
+use digits_print::{Style, print_number};
+use edited_table::EditedTable;
+use quantity::Quantity;
+use reply::{FromValue, Options};
+use std::alloc::{AllocError, Global};
+use units_io::Text;
+
+/// Evaluates an expression. Stores its number in `number` and copies its dimension, such as `kg m^2 / s^2`, to `out`.
+/// Returns the status code. If the expression has a fault, `out` gets the text of the fault.
+#[unsafe(no_mangle)]
+pub extern "C" fn units_value(
+    alloc: Global,
+    table: &mut UnitsTable,
+    expression: &[u8],
+    number: &mut UnitsNumber,
+    out: &mut [u8],
+    written: &mut usize,
+) -> u32
+    ensures answer { IsTableAnswered table.old.handle.held
+        (λ e. spec.value_answer exact_options (spec.worth_of (query_table e) expression.now))
+        (length out.old) result written.new out.new }
+    ensures number { result ≢ code statuses.NoMemory → IfSome table.old.handle.held
+        (λ e. HasNumber number.new (spec.worth_of (query_table e) expression.now)) }
+    ensures unedited { IsUnedited table.old.handle.held table.new.handle.held }
+{
+    *written = 0;
+    let Some(mut content) = table.take(alloc) else {
+        return Status::Closed.code();
+    };
+    let answered = answer_value(alloc, &mut content, expression, number);
+    table.put(content);
+    deliver(answered, out, written)
+}
+
+// Evaluates an expression, stores its number, and returns the answer.
+fn answer_value(
+    alloc: Global,
+    content: &mut EditedTable,
+    expression: &[u8],
+    number: &mut UnitsNumber,
+) -> Result<Answer, AllocError>
+    ensures answer { IfOk result (λ answer.
+        answer ≡ spec.value_answer exact_options (spec.worth_of (query_table content.old) expression.now)) }
+    ensures number { IfOk result (λ _.
+        HasNumber number.new (spec.worth_of (query_table content.old) expression.now)) }
+    ensures unedited { definitions_of content.new ≡ definitions_of content.old }
+{
+    statuses_law();
+    match content.value(alloc, &exact(), expression)? {
+        FromValue::Good(x) => {
+            number.set(&x.value());
+            let text = dimension(alloc, &x)?;
+            let status = Status::Done;
+            Ok(Answer { status, text })
+        }
+        FromValue::Bad(text) => Ok(fault_answer(text)),
+    }
+}
+
+// Returns the dimension of a quantity: the part of its text after the number.
+fn dimension(alloc: Global, x: &Quantity) -> Result<Text, AllocError>
+    ensures { IfOk result (λ text. text ≡ spec.dimension_text x.now) }
+{
+    let number = print_number(alloc, &x.value(), Style::Exact)?;
+    let whole = x.show(alloc, Style::Exact)?;
+    let powers = after_front(whole.as_bytes(), number.as_bytes());
+    Text::from_bytes(alloc, trim(powers))
+}
+
+// Returns the part of `text` after its first `front.len()` bytes.
+fn after_front<'a>(text: &'a [u8], front: &[u8]) -> &'a [u8]
+    requires { length front.now ≤ length text.now }
+    ensures { result.now ≡ drop (length front.now) text.now }
+{
+    &text[front.len()..]
+}
+
+// Returns options that write exact numbers in the texts of faults.
+fn exact() -> Options
+    ensures is { result ≡ exact_options }
+    ensures printable { IsPrintable result }
+{
+    Options {
+        digits: 8,
+        exact: true,
+        strict: true,
+        one_line: true,
+        compact: true,
+        quiet: true,
+        round: false,
+        verbose: false,
+    }
+}

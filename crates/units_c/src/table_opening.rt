@@ -1,0 +1,80 @@
+//! Opening and closing tables.
+
+ghost use Rattle.std.specs.Prelude.{◌≡◌, ◌≢◌, Some, None, Err, ◌⊎◌, MatchResult};
+ghost use Rattle.deck.specs.FileLoads.{MayFail};
+ghost use Rattle.units_c.specs.Definitions as spec;
+ghost use Rattle.units_c.specs.Statuses.{code};
+ghost use Rattle.units_c.specs.declared.status.Status.TheVariants as statuses;
+
+use crate::definitions::{UnitsDefinitions, read_deck};
+use crate::status::Status;
+use crate::unit_table::UnitsTable;
+use deck::DeckFault;
+use edited_table::EditedTable;
+use std::alloc::Global;
+
+/// Opens a closed table over definitions in memory. Returns the status code. The table changes only if it is that of
+/// `Done`.
+#[unsafe(no_mangle)]
+pub extern "C" fn units_open(
+    alloc: Global,
+    table: &mut UnitsTable,
+    definitions: &UnitsDefinitions<'_>,
+) -> u32
+    ensures opened { result ≡ code statuses.Done → table.old.handle.held ≡ None }
+    ensures content { result ≡ code statuses.Done → spec.IsTableOpened definitions.now table.new.handle.held }
+    ensures refused { result ≢ code statuses.Done → table.new.handle.held ≡ table.old.handle.held }
+    ensures status { table.old.handle.held ≡ None → spec.IsOpenStatus (spec.deck_of_files definitions.now) result }
+    ensures already { (table.old.handle.held ≡ None → ⊥) → result ≡ code statuses.AlreadyOpen }
+{
+    if table.is_open() {
+        return Status::AlreadyOpen.code();
+    }
+    match read_table(alloc, definitions) {
+        Ok(content) => {
+            table.put(content);
+            Status::Done.code()
+        }
+        Err(fault) => load_status(&fault).code(),
+    }
+}
+
+/// Closes a table and frees its memory. Returns the code of `Done`, or of `Closed` if the table was not open.
+#[unsafe(no_mangle)]
+pub extern "C" fn units_close(alloc: Global, table: &mut UnitsTable) -> u32
+    ensures closed { table.new.handle.held ≡ None }
+    ensures done { (table.old.handle.held ≡ None → ⊥) → result ≡ code statuses.Done }
+    ensures already { table.old.handle.held ≡ None → result ≡ code statuses.Closed }
+{
+    match table.take(alloc) {
+        Some(_content) => Status::Done.code(),
+        None => Status::Closed.code(),
+    }
+}
+
+// Allocates a table over `definitions`.
+fn read_table(
+    alloc: Global,
+    definitions: &UnitsDefinitions<'_>,
+) -> Result<Box<EditedTable, Global>, DeckFault>
+    ensures { MatchResult result
+        (λ content. spec.IsTableOpened definitions.now (Some content.value))
+        (λ fault. MayFail fault ⊎ (spec.deck_of_files definitions.now ≡ Err fault)) }
+{
+    let deck = read_deck(alloc, definitions)?;
+    let content = Box::new(alloc, EditedTable::new(alloc, deck))?;
+    Ok(content)
+}
+
+// Returns the status of a failed load.
+fn load_status(fault: &DeckFault) -> Status
+    ensures { result ≡ spec.load_status fault.now }
+{
+    match fault {
+        DeckFault::Absent => Status::NoSuchFile,
+        DeckFault::TooLong => Status::FileTooLong,
+        DeckFault::ReadFailed => Status::ReadFailed,
+        DeckFault::DeckFull => Status::DeckFull,
+        _ => Status::NoMemory,
+    }
+}

@@ -1,0 +1,34 @@
+//! The reply to FROM and TO on a command line.
+ghost use Rattle.deck.specs.Tables as tables;
+ghost use Rattle.reply.specs.Options.{IsPrintable};
+ghost use Rattle.units_run.specs.CommandReply as spec;
+ghost use Rattle.units_run.specs.ProgramPlans.{IsReplyOf};
+
+use live_table::LiveTable;
+use reply::{Options, Reply, convert_reply, definition_reply};
+use std::alloc::{AllocError, Global};
+use std::sync::ledger::Ledger;
+use survey::conformable_reply;
+use units_io::Steps;
+
+/// Returns the reply to FROM with this TO, which may be blank or `?`. The only error is running out of memory.
+pub(crate) fn ask<L: Ledger>(
+    alloc: Global,
+    table: &mut LiveTable,
+    options: &Options,
+    from: &[u8],
+    to: &[u8],
+    steps: &mut Steps<L>,
+) -> Result<Reply, AllocError>
+    requires { IsPrintable options.now }
+    ensures { IsReplyOf (spec.asked_for (tables.table table.old.deck) options.now from.now to.now) result
+        table.old table.new steps.old steps.new }
+{
+    if to.is_empty() {
+        return definition_reply(alloc, table, options, from, steps);
+    }
+    if to == b"?".as_slice() {
+        return conformable_reply(alloc, table, options, from, steps);
+    }
+    convert_reply(alloc, table, options, from, to, steps)
+}
