@@ -58,3 +58,4 @@ pub mod TriedLookups
 pub mod UsedNames
 pub mod WaitingNames
 pub mod WrittenSteps
+pub mod WordReports

@@ -241,11 +241,11 @@ module _ (deck : Contents) (l : Listed) (asked : Asked) (is : IsSurrounding deck
 
     pub is_function : (x : Entry) → entry_at (table deck) (key n) ≡ Some x
         → IsFunction (holder_words s) (word_means s) n (callee_at s n) x.what
-    is_function x entry = (
-      holds_words n callee_hand x entry,
-      ap (λ (name : List ℕ). meaning_of (word_meaning (table deck)) name x.what) callee_named
-          ∙ (sym (meaning_is n callee_hand x entry) ∙ callee_is),
-    )
+    is_function x entry = record {
+      words_held = holds_words n callee_hand x entry;
+      is_meant = ap (λ (name : List ℕ). meaning_of (word_meaning (table deck)) name x.what) callee_named
+          ∙ (sym (meaning_is n callee_hand x entry) ∙ callee_is);
+    }
 
   pub has_function : (n : ℕ) → IsSettled l.settled n → (key n).kind ≡ kind.Func → has_callee s n ≡ true
   has_function n e k =

@@ -6,6 +6,7 @@ pub mod Chains
 pub mod MemberChains
 pub mod Multiples
 pub mod Places
+pub mod Reports
 pub mod Same
 pub mod Targets
 pub mod UnitMaps

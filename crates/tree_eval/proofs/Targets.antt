@@ -39,13 +39,13 @@ pub alias_target : (words : Holder → List WordUse) (means : WordUse → Meanin
     → IsFunction words means id f what → what ≡ entry.Alias target
     → (u : WordUse) → slice_get (words (Of id part.Forward)) 0 ≡ Some u → (x : Callable) × (means u ≡ Callee x)
 alias_target words means id f what target h e u s =
-    let w : words (Of id part.Forward) ≡ inverted_word target ∷ [] = h.0 part.Forward
+    let w : words (Of id part.Forward) ≡ inverted_word target ∷ [] = h.words_held part.Forward
     ∙ ap (λ y. part_words y part.Forward) e in
     let p : Some (inverted_word target) ≡ Some u = ap (λ y. slice_get y 0) (sym w) ∙ s in
     let q : inverted_word target ≡ u = cc in
     let a : alias (callable_name f) (means (inverted_word target)) ≡ Callee f = ap (meaning_of means (callable_name f))
     (sym e)
-    ∙ h.1 in
+    ∙ h.is_meant in
     let r : (x : Callable) × (means (inverted_word target) ≡ Callee x) =
     alias_of (callable_name f) (means (inverted_word target)) f a in
     (r.0, ap means (sym q) ∙ r.1)
