@@ -7,7 +7,8 @@ use Rattle.def_entry.specs.declared.key.Key.{Key}
 use Rattle.def_entry.specs.declared.key.Kind.{Kind}
 use Rattle.def_entry.specs.SameKeys.{is_key_among, is_same, is_same_kind}
 use Rattle.deck.specs.Changes.{AreOnce, each_once}
-use Rattle.deck.specs.KeyLists.{key_count, of_kind}
+use Rattle.deck.specs.KeyLists.{of_kind}
+use Rattle.deck.specs.LastPlaces.{key_tally}
 use Rattle.deck.specs.Tables.{Table, is_present, keys_of}
 use Rattle.deck.proofs.KeyTallies.{among}
 use Rattle.deck.proofs.DistinctKeys.{among_each, among_filter, once_each, once_filter}
@@ -95,7 +96,7 @@ same_length (x ∷ xs) ys h g e =
 
 -- a list with all keys of a table, each once, has as many keys of each kind as the table
 pub counted : (t : Table) (keys : List Key) → ((k : Key) → is_key_among keys k ≡ is_present t k) → AreOnce keys
-    → (kind : Kind) → length (of_kind kind keys) ≡ key_count t kind
+    → (kind : Kind) → length (of_kind kind keys) ≡ key_tally t kind
 counted t keys each once kind =
     same_length (of_kind kind keys) (of_kind kind (each_once (keys_of t))) (once_filter own keys once)
     (once_filter own (each_once (keys_of t)) (once_each (keys_of t)))
@@ -107,6 +108,6 @@ counted t keys each once kind =
 
 -- tables with the same keys have as many keys of each kind
 pub count_same : (t u : Table) → ((k : Key) → is_present t k ≡ is_present u k) → (kind : Kind)
-    → key_count t kind ≡ key_count u kind
+    → key_tally t kind ≡ key_tally u kind
 count_same t u same kind =
     counted u (each_once (keys_of t)) (λ k. among_each (keys_of t) k ∙ among t k ∙ same k) (once_each (keys_of t)) kind

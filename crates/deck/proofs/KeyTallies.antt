@@ -7,7 +7,8 @@ use Rattle.def_entry.specs.declared.key.Kind.{Kind}
 use Rattle.def_entry.specs.Entries.{Entry}
 use Rattle.def_entry.specs.SameKeys.{is_key_among, is_same, is_same_kind}
 use Rattle.deck.specs.Changes.{each_once}
-use Rattle.deck.specs.KeyLists.{key_count, of_kind}
+use Rattle.deck.specs.KeyLists.{of_kind}
+use Rattle.deck.specs.LastPlaces.{key_tally}
 use Rattle.deck.specs.Tables.{Table, entry_at, is_present, keys_of}
 
 -- a key is among the keys of a table exactly if it has an entry there
@@ -21,8 +22,8 @@ among (e ∷ t) k = by (is_same k e.0) (among t k)
     by false ih = ih
 
 -- an entry added in front increases the count of its kind exactly if its key had no entry
-pub count_push : (t : Table) (k : Key) (e : Entry) (kind : Kind) → key_count ((k, e) ∷ t) kind ≡
-    cond (is_same_kind kind k.kind) (cond (is_present t k) (key_count t kind) (key_count t kind + 1)) (key_count t kind)
+pub count_push : (t : Table) (k : Key) (e : Entry) (kind : Kind) → key_tally ((k, e) ∷ t) kind ≡
+    cond (is_same_kind kind k.kind) (cond (is_present t k) (key_tally t kind) (key_tally t kind + 1)) (key_tally t kind)
 count_push t k e kind =
     ap (λ b. length (of_kind kind (cond b (each_once (keys_of t)) (k ∷ each_once (keys_of t))))) (among t k)
     ∙ by (is_present t k) (is_same_kind kind k.kind) refl
@@ -32,17 +33,17 @@ count_push t k e kind =
 
     front : (s : Bool)
         → length (cond s (k ∷ of_kind kind (each_once (keys_of t))) (of_kind kind (each_once (keys_of t))))
-        ≡ cond s (key_count t kind + 1) (key_count t kind)
-    front true = more (key_count t kind)
+        ≡ cond s (key_tally t kind + 1) (key_tally t kind)
+    front true = more (key_tally t kind)
     front false = refl
 
-    same : (s : Bool) → key_count t kind ≡ cond s (key_count t kind) (key_count t kind)
+    same : (s : Bool) → key_tally t kind ≡ cond s (key_tally t kind) (key_tally t kind)
     same true = refl
     same false = refl
 
     by : (b s : Bool) → is_same_kind kind k.kind ≡ s
         → length (of_kind kind (cond b (each_once (keys_of t)) (k ∷ each_once (keys_of t)))) ≡
-        cond s (cond b (key_count t kind) (key_count t kind + 1)) (key_count t kind)
+        cond s (cond b (key_tally t kind) (key_tally t kind + 1)) (key_tally t kind)
     by true s h = same s
     by false s h = ap
         (λ c. length (cond c (k ∷ of_kind kind (each_once (keys_of t))) (of_kind kind (each_once (keys_of t))))) h

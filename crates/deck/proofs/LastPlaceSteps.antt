@@ -15,9 +15,8 @@ use Rattle.deck_lines.specs.Names.{IsOneToOne, Names, key_numbered, names_of_kin
 use Rattle.deck_lines.specs.Readings.{entry_in}
 use Rattle.deck_lines.specs.declared.key_number.KeyNumber.{KeyNumber}
 use Rattle.deck_lines.specs.declared.line.DeckLine.{DeckLine}
-use Rattle.deck.specs.KeyLists.{key_count}
 use Rattle.deck.specs.KindPlaces.{HasSamePlaces, place_count, place_in}
-use Rattle.deck.specs.LastPlaces.{AreLast, HasPlaceRoom, place_at, places_of}
+use Rattle.deck.specs.LastPlaces.{AreLast, HasPlaceRoom, key_tally, place_at, places_of}
 use Rattle.deck.specs.Tables.{Definitions, definition_by, definitions_among, definitions_from, is_present, place_of}
 use Rattle.deck.specs.Tables.{table_of}
 use Rattle.deck.specs.declared.places.last_places.LastPlaces.{LastPlaces}
@@ -65,27 +64,27 @@ module _ (names : Names) (unique : IsOneToOne names) (ds : Definitions) (n : Key
           none_numbered g = cc
       by (Some j) h = with_key j h (is_same j k) refl
 
-  counts_more : (kind : Kind) → place_count (places_of now kind) ≡ key_count (table_of ((k, (at, e)) ∷ ds)) kind
+  counts_more : (kind : Kind) → place_count (places_of now kind) ≡ key_tally (table_of ((k, (at, e)) ∷ ds)) kind
   counts_more kind =
       ap place_count (put kind) ∙ by (is_same_kind kind n.kind) refl
       ∙ ap (λ (a : Kind). cond (is_same_kind kind a)
-      (cond (is_present (table_of ds) k) (key_count (table_of ds) kind) (key_count (table_of ds) kind + 1))
-      (key_count (table_of ds) kind)) (sym (kind_at names n k numbered))
+      (cond (is_present (table_of ds) k) (key_tally (table_of ds) kind) (key_tally (table_of ds) kind + 1))
+      (key_tally (table_of ds) kind)) (sym (kind_at names n k numbered))
       ∙ sym (count_push (table_of ds) k e kind)
     where
       at_kind : n.kind ≡ kind → place_count (set (places_of old kind) n.number (Some at))
-          ≡ cond (is_present (table_of ds) k) (key_count (table_of ds) kind) (key_count (table_of ds) kind + 1)
+          ≡ cond (is_present (table_of ds) k) (key_tally (table_of ds) kind) (key_tally (table_of ds) kind + 1)
       at_kind s =
           count_set (places_of old kind) n.number at (subst (λ a. n.number < length (places_of old a)) s room)
           ∙ ap (λ c. cond (is_some (place_in (places_of old kind) n.number)) c (c + 1)) (before.count kind)
-          ∙ ap (λ b. cond b (key_count (table_of ds) kind) (key_count (table_of ds) kind + 1))
+          ∙ ap (λ b. cond b (key_tally (table_of ds) kind) (key_tally (table_of ds) kind + 1))
           (ap is_some (ap (λ a. place_in (places_of old a) n.number) (sym s) ∙ before.place n
           ∙ ap (option_and_then (place_of ds)) numbered) ∙ place_present ds k)
 
       by : (b : Bool) → is_same_kind kind n.kind ≡ b
           → place_count (cond b (set (places_of old kind) n.number (Some at)) (places_of old kind)) ≡
-          cond b (cond (is_present (table_of ds) k) (key_count (table_of ds) kind) (key_count (table_of ds) kind + 1))
-          (key_count (table_of ds) kind)
+          cond b (cond (is_present (table_of ds) k) (key_tally (table_of ds) kind) (key_tally (table_of ds) kind + 1))
+          (key_tally (table_of ds) kind)
       by true h = at_kind (sym (same_kind kind n.kind h))
       by false h = before.count kind
 

@@ -19,9 +19,8 @@ use Rattle.deck_lines.specs.declared.key_number.KeyNumber.{KeyNumber}
 use Rattle.deck_lines.specs.declared.line.DeckLine.{DeckLine}
 use Rattle.deck_lines.specs.declared.line.Ending.{Ending}
 use Rattle.deck.specs.Changes.{IsTableChange, is_same_entry}
-use Rattle.deck.specs.KeyLists.{key_count}
 use Rattle.deck.specs.KindPlaces.{place_count, place_in}
-use Rattle.deck.specs.LastPlaces.{AreLast, IsIndexed, place_at, places_of}
+use Rattle.deck.specs.LastPlaces.{AreLast, IsIndexed, key_tally, place_at, places_of}
 use Rattle.deck.specs.Numbers.{AreInPlace, entry_there, key_if}
 use Rattle.deck.specs.Tables.{Definitions, active_definitions, entry_at, is_present, place_of, table_of}
 use Rattle.deck.specs.declared.places.last_places.LastPlaces.{LastPlaces}
@@ -85,28 +84,28 @@ module _ (names : Names) (unique : IsOneToOne names) (ds : Definitions) (n : Key
           none_numbered g = cc
       by (Some j) h = with_key j h (is_same j k) refl
 
-  counts_less : (kind : Kind) → place_count (places_of now kind) ≡ key_count (table_of ds) kind
+  counts_less : (kind : Kind) → place_count (places_of now kind) ≡ key_tally (table_of ds) kind
   counts_less kind = ap place_count (put kind) ∙ by (is_same_kind kind n.kind) refl
     where
       before_by : (b : Bool) → is_same_kind kind n.kind ≡ b → place_count (places_of old kind) ≡
-          cond b (cond (is_present (table_of ds) k) (key_count (table_of ds) kind) (key_count (table_of ds) kind + 1))
-          (key_count (table_of ds) kind)
+          cond b (cond (is_present (table_of ds) k) (key_tally (table_of ds) kind) (key_tally (table_of ds) kind + 1))
+          (key_tally (table_of ds) kind)
       before_by b h =
           before.count kind ∙ count_push (table_of ds) k e kind
-          ∙ ap (λ c. cond c (cond (is_present (table_of ds) k) (key_count (table_of ds) kind)
-          (key_count (table_of ds) kind + 1)) (key_count (table_of ds) kind))
+          ∙ ap (λ c. cond c (cond (is_present (table_of ds) k) (key_tally (table_of ds) kind)
+          (key_tally (table_of ds) kind + 1)) (key_tally (table_of ds) kind))
           (ap (is_same_kind kind) (kind_at names n k numbered) ∙ h)
 
       at_kind : n.kind ≡ kind → (b : Bool) → is_present (table_of ds) k ≡ b →
-          place_count (places_of old kind) ≡ cond b (key_count (table_of ds) kind) (key_count (table_of ds) kind + 1) →
+          place_count (places_of old kind) ≡ cond b (key_tally (table_of ds) kind) (key_tally (table_of ds) kind + 1) →
           place_count (set (places_of old kind) n.number place) + 1 ≡ cond b (place_count (places_of old kind) + 1)
           (place_count (places_of old kind)) →
-          place_count (set (places_of old kind) n.number place) ≡ key_count (table_of ds) kind
+          place_count (set (places_of old kind) n.number place) ≡ key_tally (table_of ds) kind
       at_kind s true p c d = omega (arith, c, d)
       at_kind s false p c d = omega (arith, c, d)
 
       by : (b : Bool) → is_same_kind kind n.kind ≡ b
-          → place_count (cond b (set (places_of old kind) n.number place) (places_of old kind)) ≡ key_count
+          → place_count (cond b (set (places_of old kind) n.number place) (places_of old kind)) ≡ key_tally
           (table_of ds) kind
       by true h =
           let s : n.kind ≡ kind = sym (same_kind kind n.kind h) in

@@ -13,13 +13,15 @@ use Rattle.std.specs.Ordering.{eq_by_cmp, is_eq, is_lt}
 use Rattle.std.specs.declared.cmp.Ordering.{Ordering}
 use Rattle.std.specs.declared.cmp.Ordering.TheVariants.{Less, Equal, Greater}
 use Rattle.def_entry.specs.declared.key.Key.{Key}
+use Rattle.def_entry.specs.declared.key.Kind.{Kind}
 use Rattle.def_entry.specs.Entries.{Entry}
 use Rattle.def_entry.specs.KeyOrder.{key_cmp}
 use Rattle.def_entry.specs.SameKeys.{is_key_among, is_same}
 use Rattle.def_entry.proofs.SameKeys.{key_order, same_keys}
 use Rattle.deck.specs.Changes.{AreOnce}
 use Rattle.deck.specs.SubstringKeys.{holds, keys_holding}
-use Rattle.deck.specs.KeyLists.{AreAllKeys, AreKeys, KeyListLaw, WholeLaw, table_keys}
+use Rattle.deck.specs.KeyLists.{AreKeys, KeyListLaw, TableKeysLaw, key_count, table_keys}
+use Rattle.deck.specs.LastPlaces.{key_tally}
 use Rattle.deck.specs.Tables.{Table, is_present, keys_of}
 use Rattle.deck.proofs.KeyTallies.{among}
 use Rattle.deck.proofs.KeyCounts.{counted}
@@ -101,8 +103,8 @@ one_order ks ls order too same =
     btree_set_from_contains key_order.total (record { keys = ks }) (record { keys = ls }) order too
     (λ k. any_alike k ks ∙ same k ∙ sym (any_alike k ls)) key_order.exact
 
--- `table_keys` are all keys of the table
-are_keys : (table : Table) → AreKeys table (table_keys table)
+-- the law of the keys of a table
+pub are_keys : TableKeysLaw
 are_keys table = record { each = each; order = in_order table }
   where
     each : (k : Key) → is_key_among (table_keys table) k ≡ is_present table k
@@ -167,19 +169,17 @@ unfolding IsStrictlySortedBy
 once [] order = tt
 once (k ∷ ks) order = (none_below k ks order.0, once ks order.1)
 
--- the law of whole lists
-pub all_whole : WholeLaw
-all_whole table =
+-- counting each key where it occurs last gives the number of keys in `table_keys`
+pub tallied : (table : Table) (kind : Kind) → key_tally table kind ≡ key_count table kind
+tallied table kind =
     let are = are_keys table in
-    record { all = are; count = counted table (table_keys table) are.each (once (table_keys table) are.order) }
+    sym (counted table (table_keys table) are.each (once (table_keys table) are.order) kind)
 
 -- filtering by a test that all keys pass removes none
 all_pass : (p : Key → Bool) (ks : List Key) → ((k : Key) → p k ≡ true) → filter p ks ≡ ks
 all_pass p [] h = refl
 all_pass p (k ∷ ks) h = ap (λ b. cond b (k ∷ filter p ks) (filter p ks)) (h k) ∙ ap (λ t. k ∷ t) (all_pass p ks h)
 
--- every name contains the empty text, so `keys_holding []` is a whole list
-pub whole_holding : (table : Table) (ks : List Key) → ks ≡ keys_holding [] table → AreAllKeys table ks
-whole_holding table ks is =
-    subst (AreAllKeys table)
-    (sym (is ∙ all_pass (λ k. holds k.name []) (table_keys table) (λ k. holds_nothing k.name))) (all_whole table)
+-- every name contains the empty text, so `keys_holding []` are all keys of the table
+pub all_holding : (table : Table) → keys_holding [] table ≡ table_keys table
+all_holding table = all_pass (λ k. holds k.name []) (table_keys table) (λ k. holds_nothing k.name)

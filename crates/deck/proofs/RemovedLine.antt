@@ -21,9 +21,8 @@ use Rattle.deck_lines.specs.Stores.{Store, definition_at}
 use Rattle.deck_lines.specs.declared.line.DeckLine.{DeckLine}
 use Rattle.deck_lines.specs.declared.line.Ending.{Ending}
 use Rattle.deck.specs.Active.{Surroundings, active_lines, activity, behind_kind, behind_line, is_active, start}
-use Rattle.deck.specs.KeyLists.{key_count}
 use Rattle.deck.specs.KindPlaces.{place_count, place_in, without_gap}
-use Rattle.deck.specs.LastPlaces.{AreLast, IsIndexed, places_of}
+use Rattle.deck.specs.LastPlaces.{AreLast, IsIndexed, key_tally, places_of}
 use Rattle.deck.specs.Tables.{Definitions, active_definitions, definition_by, definitions_among, definitions_from}
 use Rattle.deck.specs.Tables.{place_of}
 use Rattle.deck.specs.Tables.{table_of}
@@ -205,7 +204,7 @@ last_moved names gap ds old now before closed = record {
       ∙ in_mapped (without_gap gap) (places_of old n.kind) n.number
       ∙ ap (option_map (without_gap gap)) (before.place n) ∙ by (key_numbered names n);
   count = λ kind. ap place_count (closed kind) ∙ count_mapped (without_gap gap) (places_of old kind) ∙ before.count kind
-      ∙ ap (λ t. key_count t kind) (sym (table_moved gap ds));
+      ∙ ap (λ t. key_tally t kind) (sym (table_moved gap ds));
 }
   where
     by : (o : Option Key) → option_map (without_gap gap) (option_and_then (place_of ds) o)

@@ -76,7 +76,7 @@ pub record DeckExamplesLaw : Type 0 where
   pub directive : after_define (codes "!set SIZE small") (deck (in_locale (codes "en_US")) all_lines)
       ≡ Err (BadLine BadForm)
   -- the last active line of `g` is removed, and the earlier one stays; `h` has no line
-  pub after_drop : after_drop (deck_unit (codes "g")) (deck (in_locale (codes "en_US")) all_lines)
+  pub g_after_drop : after_drop (deck_unit (codes "g")) (deck (in_locale (codes "en_US")) all_lines)
       ≡ Ok (deck (in_locale (codes "en_US")) (first_lines ++ example_rest))
   pub no_such_definition : after_drop (deck_unit (codes "h")) (deck (in_locale (codes "en_US")) all_lines) ≡ Err
       NoSuchKey

@@ -7,10 +7,9 @@ use Rattle.def_entry.specs.declared.key.Key.{Key}
 use Rattle.def_entry.specs.declared.key.Kind.{Kind}
 use Rattle.def_entry.specs.KeyOrder.{key_cmp}
 use Rattle.def_entry.specs.SameKeys.{is_key_among, is_same_kind}
-use Rattle.deck.specs.Changes.{each_once}
-use Rattle.deck.specs.Tables.{Table, is_present, keys_of}
+use Rattle.deck.specs.Tables.{Table, is_present}
 
--- all keys that have an entry, in order, each once
+-- the list has exactly the keys that have an entry, in order, each once
 pub record AreKeys (table : Table) (keys : List Key) : Type 0 where
   pub each : (k : Key) → is_key_among keys k ≡ is_present table k
   pub order : IsStrictlySortedBy key_cmp keys
@@ -19,7 +18,11 @@ pub record AreKeys (table : Table) (keys : List Key) : Type 0 where
 abbrev pub table_keys : Table → List Key
 table_keys table = map_of.keys (map_of.from_entries {R = key_cmp} table)
 
--- law: `table_keys` is the only list of all keys in order
+-- law: `table_keys` has exactly the keys that have an entry, in order, each once
+abbrev pub TableKeysLaw : Type 0
+TableKeysLaw = (table : Table) → AreKeys table (table_keys table)
+
+-- law: `table_keys` is the only such list
 abbrev pub KeyListLaw : Type 0
 KeyListLaw = (table : Table) (keys : List Key) → AreKeys table keys → keys ≡ table_keys table
 
@@ -29,13 +32,4 @@ of_kind kind keys = filter (λ key. is_same_kind kind key.kind) keys
 
 -- the number of keys of a kind that have an entry
 abbrev pub key_count : Table → Kind → ℕ
-key_count table kind = length (of_kind kind (each_once (keys_of table)))
-
--- a list of all keys in order, in which the number of keys of each kind is `key_count`
-pub record AreAllKeys (table : Table) (keys : List Key) : Type 0 where
-  pub all : AreKeys table keys
-  pub count : (kind : Kind) → length (of_kind kind keys) ≡ key_count table kind
-
--- law: `table_keys` is such a list
-abbrev pub WholeLaw : Type 0
-WholeLaw = (table : Table) → AreAllKeys table (table_keys table)
+key_count table kind = length (of_kind kind (table_keys table))

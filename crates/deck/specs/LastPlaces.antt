@@ -7,9 +7,10 @@ use Rattle.deck_lines.specs.ClosedBlocks.{AreBlocksClosed}
 use Rattle.deck_lines.specs.Names.{Names, key_numbered, names_of_kind}
 use Rattle.deck_lines.specs.Stores.{Store}
 use Rattle.deck_lines.specs.declared.key_number.KeyNumber.{KeyNumber}
-use Rattle.deck.specs.KeyLists.{key_count}
+use Rattle.deck.specs.Changes.{each_once}
+use Rattle.deck.specs.KeyLists.{of_kind}
 use Rattle.deck.specs.KindPlaces.{place_count, place_in, without_gap}
-use Rattle.deck.specs.Tables.{Definitions, active_definitions, place_of, table_of}
+use Rattle.deck.specs.Tables.{Definitions, Table, active_definitions, keys_of, place_of, table_of}
 use Rattle.deck.specs.declared.places.last_places.LastPlaces.{LastPlaces}
 use Rattle.deck.specs.declared.settings.Settings.{Settings}
 
@@ -27,10 +28,15 @@ place_at last n = place_in (places_of last n.kind) n.number
 abbrev pub HasPlaceRoom : Names → LastPlaces → Type 0
 HasPlaceRoom names last = (kind : Kind) → length (names_of_kind names kind) < length (places_of last kind)
 
+-- the number of keys of a kind that have an entry. Each key is counted where it occurs last; this agrees with
+-- `key_count`.
+abbrev pub key_tally : Table → Kind → ℕ
+key_tally table kind = length (of_kind kind (each_once (keys_of table)))
+
 -- the entry at the number of each key is the place of the last definition of the key, if there is one
 pub record AreLast (names : Names) (ds : Definitions) (last : LastPlaces) : Type 0 where
   pub place : (n : KeyNumber) → place_at last n ≡ option_and_then (place_of ds) (key_numbered names n)
-  pub count : (kind : Kind) → place_count (places_of last kind) ≡ key_count (table_of ds) kind
+  pub count : (kind : Kind) → place_count (places_of last kind) ≡ key_tally (table_of ds) kind
 
 -- a place, after the places between `gap` and `end` are decremented
 abbrev pub moved_to : (gap end place : ℕ) → ℕ

@@ -4,7 +4,7 @@ ghost use Rattle.deck.specs.BlockExamples.{BlockExamplesLaw};
 ghost use Rattle.deck.specs.Changes.{ChangedLaw};
 ghost use Rattle.deck.specs.EnclosingBlocks.{EnclosingLaw};
 ghost use Rattle.deck.specs.Examples.{DeckExamplesLaw};
-ghost use Rattle.deck.specs.KeyLists.{KeyListLaw, WholeLaw};
+ghost use Rattle.deck.specs.KeyLists.{KeyListLaw, TableKeysLaw};
 ghost use Rattle.deck.specs.SettingChanges.{SettingLaw};
 ghost use Rattle.deck.specs.Splices.{SpliceInverseLaw};
 ghost use Rattle.deck.specs.Tables.{DeckTableLaw};
@@ -28,14 +28,14 @@ pub fn changes_are_computed()
     same_text_law();
 }
 
-/// There is only one list of all keys in order.
-pub fn key_lists_are_one()
-    ensures { KeyListLaw }
+/// The keys of a table are exactly those that have an entry, in order, each once.
+pub fn table_keys_law()
+    ensures { TableKeysLaw }
 {}
 
-/// The keys of a table are exactly those that have an entry, and the count of each kind is the number of them.
-pub fn table_keys_are_whole()
-    ensures { WholeLaw }
+/// There is only one list of exactly these keys in order.
+pub fn key_lists_are_one()
+    ensures { KeyListLaw }
 {}
 
 /// A table has at most as many entries as the deck has lines, and each entry is defined by a line.

@@ -10,7 +10,7 @@ use Rattle.table_names.specs.Reach.{key_reach}
 use Rattle.table_names.proofs.KeyLists.{among_member}
 use Rattle.table_names.proofs.Members.{member_first, member_later}
 use Rattle.deck.specs.Changes.{ChangedLaw, changed_keys}
-use Rattle.deck.specs.KeyLists.{WholeLaw, table_keys}
+use Rattle.deck.specs.KeyLists.{TableKeysLaw, table_keys}
 use Rattle.deck.specs.Tables.{table}
 use Rattle.def_entry.specs.Tables.{AreChanged}
 use Rattle.live_table.specs.declared.fault.QueryFault.{QueryFault}
@@ -112,13 +112,13 @@ right_after [] s n right h = right
 right_after (d ∷ ds) s n right h =
     right_after ds d.shown d.steps (call_right d.call s d.shown n d.steps right h.0) h.1
 
-module _ (edits : EditsCanBeLaw) (whole : WholeLaw) where
+module _ (edits : EditsCanBeLaw) (keys : TableKeysLaw) where
   call_can : (c : Call) (s t : Shown) (n m : ℕ) → IsCall c s t n m → AllCanBe (events_in c s t) (state_with_steps s n)
   call_can (Value e r) s t n m h = (tt, tt)
   call_can (Unapply name r) s t n m h = (h.0, tt)
   call_can (SettleAll r) s t n m h =
       names_can (table_keys (table s.deck)) (state_with_steps s n) (λ k i.
-      sym ((whole (table s.deck)).all.each k) ∙ among_member (table_keys (table s.deck)) k i)
+      sym ((keys (table s.deck)).each k) ∙ among_member (table_keys (table s.deck)) k i)
   call_can AcceptedEdit s t n m h = (edits s.deck t.deck (state_with_steps s n) refl, tt)
   call_can RefusedEdit s t n m h = tt
 
@@ -155,5 +155,5 @@ module _ (edits : EditsCanBeLaw) (whole : WholeLaw) where
       }
 
 -- the law of lists of calls
-pub call_list_law : EditsCanBeLaw → WholeLaw → CallListLaw
-call_list_law edits whole = record { right = right_after; kept = kept_since edits whole }
+pub call_list_law : EditsCanBeLaw → TableKeysLaw → CallListLaw
+call_list_law edits keys = record { right = right_after; kept = kept_since edits keys }

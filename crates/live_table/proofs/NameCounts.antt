@@ -1,5 +1,5 @@
 -- The numbers of names and of settled names.
-use Rattle.std.proofs.Common.{◌≡◌, ◌+◌, ◌≤◌, ℕ, Bool, true, false, cond, List, [], ◌∷◌, map, filter}
+use Rattle.std.proofs.Common.{◌≡◌, ◌+◌, ◌≤◌, ℕ, suc, Bool, true, false, cond, List, [], ◌∷◌, map, filter}
 use Rattle.std.proofs.Common.{length}
 use Rattle.std.proofs.Common.{Option, Some, None, is_some, refl, sym, ◌∙◌, ap, arith}
 use Rattle.std.specs.FinMap as map_of
@@ -10,12 +10,13 @@ use Rattle.std.proofs.lemmas.List.Sums.{count_by-le-length, length-filter}
 use Rattle.def_entry.specs.declared.key.Key.{Key}
 use Rattle.def_entry.specs.declared.key.Kind.{Kind}
 use Rattle.def_entry.specs.declared.key.Kind.TheVariants as kind
-use Rattle.def_entry.specs.SameKeys.{is_key_among, is_same_kind}
-use Rattle.def_entry.specs.Tables.{Table, keys_of}
+use Rattle.def_entry.specs.Entries.{Entry}
+use Rattle.def_entry.specs.KeyOrder.{key_cmp}
+use Rattle.def_entry.specs.SameKeys.{is_same_kind}
+use Rattle.def_entry.specs.Tables.{Table}
 use Rattle.def_entry.proofs.SameKeys.{key_order}
-use Rattle.deck.specs.Changes.{each_once}
 use Rattle.deck.specs.Decks.{Contents}
-use Rattle.deck.specs.KeyLists.{WholeLaw, key_count, of_kind, table_keys}
+use Rattle.deck.specs.KeyLists.{key_count, of_kind, table_keys}
 use Rattle.deck.specs.Tables.{DeckTableLaw, table}
 use Rattle.tree_eval.specs.declared.outcome.Outcome.{Outcome}
 use Rattle.live_table.specs.Calls.{is_name_kind, names_among, present_names}
@@ -52,45 +53,54 @@ pub record AreCounts (t : Table) (u p f : ℕ) : Type 0 where
   pub functions : f ≡ key_count t kind.Func
 
 -- the sum of the counts is the length of the list of names
-all_counted : WholeLaw → (t : Table) → name_count t ≡ length (present_names t)
-all_counted law t =
-    let count = (law t).count in
-    let u : length (of_kind kind.Unit (table_keys t)) ≡ key_count t kind.Unit = count kind.Unit in
-    let p : length (of_kind kind.Prefix (table_keys t)) ≡ key_count t kind.Prefix = count kind.Prefix in
-    let f : length (of_kind kind.Func (table_keys t)) ≡ key_count t kind.Func = count kind.Func in
-    let all : (length (of_kind kind.Unit (table_keys t)) + length (of_kind kind.Prefix (table_keys t)))
-    + length (of_kind kind.Func (table_keys t)) ≡ length (present_names t) = by_kinds (table_keys t) in
-    omega (arith, u, p, f, all)
+all_counted : (t : Table) → name_count t ≡ length (present_names t)
+all_counted t = by_kinds (table_keys t)
 
 -- ---- there are no more names than lines
-shorter : (b : Bool) (k : Key) (ks ls : List Key) → length ks ≤ length ls
-    → length (cond b ks (k ∷ ks)) ≤ length (k ∷ ls)
-shorter true k ks ls h = omega (arith, h)
-shorter false k ks ls h = omega (arith, h)
+-- the finite map of a table
+abbrev map_of_table : Table → map_of.FinMap key_cmp Entry
+map_of_table t = map_of.from_entries t
 
--- a list without its duplicates is no longer than the list
-once_short : (ks : List Key) → length (each_once ks) ≤ length ks
-once_short [] = omega arith
-once_short (k ∷ ks) = shorter (is_key_among ks k) k (each_once ks) ks (once_short ks)
+shorter : (b : Bool) (m n l : ℕ) → l ≡ cond b m (m + 1) → m ≤ n → l ≤ suc n
+shorter true m n l e h = omega (arith, e, h)
+shorter false m n l e h = omega (arith, e, h)
+
+-- the map of a table has at most as many entries as the table
+map_short : (t : Table) → map_of.len (map_of_table t) ≤ length t
+map_short [] =
+    let none : map_of.len (map_of_table []) ≡ 0 = map_of.len-empty key_cmp Entry in
+    omega (arith, none)
+map_short (e ∷ t) =
+    let m = map_of_table t in
+    shorter (map_of.contains_key m e.0) (map_of.len m) (length t) (map_of.len (map_of_table (e ∷ t)))
+    (map_of.len-insert key_order.total m e.0 e.1) (map_short t)
+
+-- a table has at most as many keys as entries
+keys_short : (t : Table) → length (table_keys t) ≤ length t
+keys_short t =
+    let m = map_of_table t in
+    let a : length (table_keys t) ≡ length (map_of.entries m) = length-map (map_of.entries m) _ in
+    let b : map_of.len m ≡ length (map_of.entries m) = map_of.len-entries m in
+    let c : map_of.len m ≤ length t = map_short t in
+    omega (arith, a, b, c)
 
 -- a deck has no more names than lines
 names_few : DeckTableLaw → (d : Contents) → name_count (table d) ≤ length d.lines
 names_few law d =
-    let ks : List Key = each_once (keys_of (table d)) in
+    let ks : List Key = table_keys (table d) in
     let a : name_count (table d) ≡ length (names_among ks) = by_kinds ks in
     let b : length (names_among ks) ≡ count_by (λ (k : Key). is_name_kind k.kind) ks = length-filter _ ks in
     let c : count_by (λ (k : Key). is_name_kind k.kind) ks ≤ length ks = count_by-le-length _ ks in
-    let e : length ks ≤ length (keys_of (table d)) = once_short (keys_of (table d)) in
-    let f : length (keys_of (table d)) ≡ length (table d) = length-map (table d) _ in
-    let g : length (table d) ≤ length d.lines = law.short d in
-    omega (arith, a, b, c, e, f, g)
+    let e : length ks ≤ length (table d) = keys_short (table d) in
+    let f : length (table d) ≤ length d.lines = law.short d in
+    omega (arith, a, b, c, e, f)
 
 module _ (d : Contents) (units prefixes functions : ℕ) (are : AreCounts (table d) units prefixes functions) where
   is : (units + prefixes) + functions ≡ name_count (table d)
   is = λ i. (are.units i + are.prefixes i) + are.functions i
 
-  pub names_counted : WholeLaw → (units + prefixes) + functions ≡ length (present_names (table d))
-  names_counted law = is ∙ all_counted law (table d)
+  pub names_counted : (units + prefixes) + functions ≡ length (present_names (table d))
+  names_counted = is ∙ all_counted (table d)
 
   pub names_within : DeckTableLaw → length d.lines ≤ 100000 → (units + prefixes) + functions ≤ 100000
   names_within law b =

@@ -9,7 +9,7 @@ ghost use Rattle.live_table.specs.Right.{RightLaw};
 ghost use Rattle.live_table.specs.Runs.{CountLaw, RunLaw, RunStepsLaw};
 ghost use Rattle.live_table.specs.States.{EventOrderLaw};
 
-use deck::{changes_are_computed, table_keys_are_whole};
+use deck::{changes_are_computed, table_keys_law};
 
 /// After any queries and edits each stored outcome is that of the present table.
 pub fn right_law()
@@ -65,7 +65,7 @@ pub fn call_list_law()
     ensures { CallListLaw }
 {
     edits_can_be_law();
-    table_keys_are_whole();
+    table_keys_law();
 }
 
 /// The stored names are a list that can be computed.

@@ -28,7 +28,7 @@ use crate::name_queries::{ask_key, ask_words};
 use crate::nodes::Nodes;
 use crate::scratch::Scratch;
 use crate::stop::{Stop, fault_of_stop};
-use deck::{Deck, key_lists_are_one, table_keys_are_whole, tables_are_of_lines};
+use deck::{Deck, table_keys_law, tables_are_of_lines};
 use def_entry::{Key, Kind};
 use expr_tree::{Tree, words};
 use name_walk::findings_law;
@@ -233,7 +233,7 @@ impl LiveTable {
         ensures deck { self.new.deck ≡ self.old.deck }
         ensures after { AreQueries (all_names (table self.old.deck)) result self.old self.new steps.old steps.new }
     {
-        key_lists_are_one();
+        table_keys_law();
         let keys = self.deck.keys(alloc)?;
         self.settle_keys(alloc, keys.as_slice(), steps)
     }
@@ -292,7 +292,6 @@ impl LiveTable {
         ensures names { result.names ≡ length (present_names (table self.now.deck)) }
         ensures reductions { result.reductions ≡ self.now.reductions }
     {
-        table_keys_are_whole();
         // No deck has so many lines that the sum would not fit.
         tables_are_of_lines();
         self.deck.lines_few();

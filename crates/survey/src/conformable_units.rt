@@ -16,7 +16,7 @@ ghost use Rattle.survey.specs.Places.{given_by_key, unit_there};
 ghost use Rattle.survey.specs.Rows.{key_row};
 
 use crate::rows::{put_row_there, rows_or_none};
-use deck::{Deck, key_lists_are_one};
+use deck::Deck;
 use def_entry::Kind;
 use expr_tree::Tree;
 use live_table::LiveTable;
@@ -38,7 +38,6 @@ pub fn conformable_report<L: Ledger>(
         table.old table.new steps.old steps.new }
     ensures deck { table.new.deck ≡ table.old.deck }
 {
-    key_lists_are_one();
     let places = table.deck().key_places(alloc)?;
     let mut rows = Vec::new(alloc);
     put_conforming_rows(alloc, &mut rows, table, places.as_slice(), from, steps)?;

@@ -19,7 +19,6 @@ use crate::key_expressions::valued_trees;
 use crate::keys::copy_key;
 use crate::prefix_faults::prefix_fault;
 use crate::table_queries::ask_function;
-use deck::key_lists_are_one;
 use def_entry::{Key, Kind};
 use expr_tree::Tree;
 use live_table::{LiveTable, QueryFault};
@@ -62,7 +61,6 @@ pub fn check_places<L: Ledger>(
         table.old table.new steps.old steps.new }
     ensures deck { table.new.deck ≡ table.old.deck }
 {
-    key_lists_are_one();
     let places = table.deck().key_places(alloc)?;
     table.settle_all(alloc, steps)?;
     Ok(places)

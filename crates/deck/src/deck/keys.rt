@@ -2,7 +2,7 @@
 
 ghost use Rattle.std.specs.Prelude.{◌≡◌, ◌++◌, ◌∷◌, [], map, option_map, IfOk, OnOk};
 ghost use Rattle.deck.specs.SubstringKeys.{keys_holding};
-ghost use Rattle.deck.specs.KeyLists.{AreAllKeys};
+ghost use Rattle.deck.specs.KeyLists.{table_keys};
 ghost use Rattle.deck.specs.PlacedKeys.{key_there, keys_there, lent_key, placed_key};
 ghost use Rattle.deck.specs.Tables.{table};
 
@@ -25,7 +25,7 @@ impl Deck {
     /// Returns all keys that have an entry, each once, ordered by the bytes of their names, and for equal names with
     /// units before prefixes, functions and lists. The only error is running out of memory.
     pub fn keys(&self, alloc: Global) -> Result<Keys, AllocError>
-        ensures { IfOk result (λ keys. AreAllKeys (table self.now) keys) }
+        ensures { IfOk result (λ keys. keys ≡ table_keys (table self.now)) }
     {
         let placed = self.placed_keys(alloc)?;
         copied_keys(alloc, placed.as_slice())
@@ -34,7 +34,7 @@ impl Deck {
     /// Returns the places in `lines`, counted from 0, of the last active lines of all keys that have an entry, in the
     /// order of `keys`; `key_at` borrows the key of each. The only error is running out of memory.
     pub fn key_places(&self, alloc: Global) -> Result<Vec<usize>, AllocError>
-        ensures { IfOk result (λ places. AreAllKeys (table self.now) (keys_there self.now.lines places.items)) }
+        ensures { IfOk result (λ places. keys_there self.now.lines places.items ≡ table_keys (table self.now)) }
     {
         let placed = self.placed_keys(alloc)?;
         let places = places_of(alloc, placed.as_slice())?;

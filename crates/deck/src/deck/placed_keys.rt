@@ -6,7 +6,7 @@ ghost use Rattle.def_entry.specs.KeyOrder.{KeyOrderLaw, key_cmp, kind_number};
 ghost use Rattle.deck_lines.specs.Names.{key_numbered, names_of_kind};
 ghost use Rattle.deck_lines.specs.KeyNumbering.{IsNumbering};
 ghost use Rattle.deck.specs.SubstringKeys.{is_found, keys_holding};
-ghost use Rattle.deck.specs.KeyLists.{AreAllKeys};
+ghost use Rattle.deck.specs.KeyLists.{table_keys};
 ghost use Rattle.deck.specs.Numbers.{key_if, keys_where};
 ghost use Rattle.deck.specs.PlacedKeys.{ArePlaced, IsInPlace, placed_key};
 ghost use Rattle.deck.specs.Tables.{table};
@@ -32,7 +32,7 @@ impl Deck {
     /// Returns all keys that have an entry, each once, ordered by the bytes of their names, and for equal names with
     /// units before prefixes, functions and lists.
     pub(super) fn placed_keys(&self, alloc: Global) -> Result<Vec<PlacedKey<'_>>, AllocError>
-        ensures whole { IfOk result (λ keys. AreAllKeys (table self.now) (map placed_key keys.items)) }
+        ensures keys { IfOk result (λ keys. map placed_key keys.items ≡ table_keys (table self.now)) }
         ensures in_place { IfOk result (λ keys. All (IsInPlace self.now.lines) keys.items) }
     {
         let keys = self.placed_keys_holding(alloc, &[])?;

@@ -26,10 +26,7 @@ returns-clause-queries g c =
     let keys : keys_there c.args.table.now.deck.lines c.as_slice.result.now ≡ table_keys (table c.args.table.now.deck) =
     ap (keys_there c.args.table.now.deck.lines) c.as_slice.ensures.value
     ∙ subst (λ (d : Contents). keys_there d.lines c.in_ok-places.places.items ≡ table_keys (table d))
-    c.deck.ensures.deck
-    (c.key_lists_are_one.ensures (table c.deck.result.now)
-    (keys_there c.deck.result.now.lines c.in_ok-places.places.items)
-    (c.in_ok-places.ensures {u = tt}).all) in
+    c.deck.ensures.deck (c.in_ok-places.ensures {u = tt}) in
     subst (λ (ks : List Key). AreQueries (unit_queries (table c.args.table.now.deck) ks) c.rows_or_none.result
     c.args.table.now c.put_conforming_rows.new.table c.args.steps.now c.put_conforming_rows.new.steps) keys
     (made c.rows_or_none.result

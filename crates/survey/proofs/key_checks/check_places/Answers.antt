@@ -21,7 +21,4 @@ returns-in_err-places-clause-queries g c =
 pub returns-clause-keys : goal.returns-clause-keys
 returns-clause-keys g c =
     subst (λ (d : Contents). keys_there d.lines c.in_ok-places.places.items ≡ table_keys (table d))
-    c.deck.ensures.deck
-    (c.key_lists_are_one.ensures (table c.deck.result.now)
-    (keys_there c.deck.result.now.lines c.in_ok-places.places.items)
-    (c.in_ok-places.ensures {u = tt}).all)
+    c.deck.ensures.deck (c.in_ok-places.ensures {u = tt})

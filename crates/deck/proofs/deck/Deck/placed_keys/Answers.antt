@@ -1,9 +1,7 @@
-use Rattle.std.proofs.Common.{map}
-use Rattle.deck.specs.PlacedKeys.{placed_key}
+use Rattle.std.proofs.Common.{◌∙◌}
 use Rattle.deck.specs.Tables.{table}
-use Rattle.deck.proofs.OneKeyList.{whole_holding}
+use Rattle.deck.proofs.OneKeyList.{all_holding}
 use Rattle.deck.proofs.deck.Deck.placed_keys.Goals as goal
 
-pub returns-clause-whole : goal.returns-clause-whole
-returns-clause-whole c =
-    whole_holding (table c.args.self.now) (map placed_key c.in_ok-keys.keys.items) c.in_ok-keys.ensures.keys
+pub returns-clause-keys : goal.returns-clause-keys
+returns-clause-keys c = c.in_ok-keys.ensures.keys ∙ all_holding (table c.args.self.now)

@@ -48,5 +48,4 @@ returns-clause-names c =
       functions =
           c.key_count-functions.ensures;
     })
-    c.table_keys_are_whole.ensures
     ∙ ap (λ (s : Shown). length (present_names (table s.deck))) c.self.view_is
