@@ -8,13 +8,20 @@ use Rattle.live_table.specs.TableView.{IsAfterEvents, IsCutOff, IsRightTable, Sh
 use Rattle.live_table.specs.States.{AsksWords, Event, TableState, after_all}
 use Rattle.live_table.proofs.Events.{order_law}
 use Rattle.live_table.proofs.QuerySequence.{steps_rise}
+use Rattle.live_table.proofs.SettleCounts.{shown_counts}
 use Rattle.reply.proofs.Runs.{cut_after}
 use Rattle.column_convert.specs.CachedValues.{AreBegun}
 use Rattle.column_convert.proofs.Again.{asked_again}
 
 -- no query was made yet
 pub begun_none : (events : List Event) (s : Shown) (n : ℕ) → IsRightTable s → AreBegun events s s n n
-begun_none events s n right = record { same = refl; deck = refl; right = right; later = omega arith }
+begun_none events s n right = record {
+  same = refl;
+  deck = refl;
+  right = right;
+  later = omega arith;
+  counted = λ can. (omega arith, can);
+}
 
 -- the words of some texts were queried
 pub begun_texts : (texts : List (List WordUse)) (rest : List Event) (a b : Shown) (n m : ℕ) → b.deck ≡ a.deck
@@ -28,6 +35,7 @@ begun_texts texts rest a b n m deck few f = record {
   deck = deck;
   right = f.right;
   later = (cut_after (map AsksWords texts) a b n m deck f).least;
+  counted = λ can. (((cut_after (map AsksWords texts) a b n m deck f).counted can).0, few);
 }
 
 module _ (events : List Event) (a b : Shown) (n m : ℕ) (begun : AreBegun events a b n m) where
@@ -41,6 +49,12 @@ module _ (events : List Event) (a b : Shown) (n m : ℕ) (begun : AreBegun event
     right = f.right;
     least = let x : n ≤ m = begun.later in let y : m ≤ k = f.least in omega arith;
     most = subst (λ (s : TableState). k ≤ s.steps) begun.same f.most;
+    counted = λ can.
+        let was = begun.counted can in
+        let now = f.counted was.1 in
+        let x : a.reductions ≤ b.reductions = was.0 in
+        let y : b.reductions ≤ c.reductions = now.0 in
+        (omega arith, subst (λ (s : TableState). c.reductions ≤ s.reductions) begun.same now.1);
   }
 
   pub begun_made : {A : Type 0} (r : Result A AllocError) (c : Shown) (k : ℕ) → AreQueries events r b c m k
@@ -57,4 +71,9 @@ module _ (events : List Event) (a b : Shown) (n m : ℕ) (begun : AreBegun event
     most =
         let x : m ≤ (after_all events (state_with_steps b m)).steps = steps_rise events (state_with_steps b m) in
         subst (λ (s : TableState). m ≤ s.steps) begun.same x;
+    counted = λ can.
+        let was = begun.counted can in
+        let x : b.reductions ≤ (after_all events (state_with_steps b m)).reductions =
+        (shown_counts events b m was.1).0 in
+        (was.0, subst (λ (s : TableState). b.reductions ≤ s.reductions) begun.same x);
   }

@@ -1,5 +1,5 @@
 -- The values of FROM and TO once they were queried.
-use Rattle.std.specs.Prelude.{◌≡◌, ◌≤◌, ℕ, Bool, true, false, not, if◌then◌else◌, List, [], ◌∷◌, codes}
+use Rattle.std.specs.Prelude.{◌≡◌, ◌≤◌, ◌^◌, ◌-◌, ℕ, Bool, true, false, not, if◌then◌else◌, List, [], ◌∷◌, codes}
 use Rattle.std.specs.Prelude.{IfSome, None, Result, Ok, Err}
 use Rattle.std.specs.List.{list_any}
 use Rattle.std.specs.declared.alloc.AllocError.{AllocError}
@@ -81,12 +81,14 @@ abbrev pub IsRemembered : Shown → (from to : List ℕ) → Memory → Type 0
 IsRemembered shown from to memory = IfSome memory.known (AreKnown shown from to)
 
 -- the queries made so far are the first part of these: making all of them now leads to the same state as making them
--- from the start
+-- from the start; they lowered neither count, and the count of newly settled names is at most 2^64 - 1
 pub record AreBegun (events : List Event) (before after : Shown) (old new : ℕ) : Type 0 where
   pub same : after_all events (state_with_steps after new) ≡ after_all events (state_with_steps before old)
   pub deck : after.deck ≡ before.deck
   pub right : IsRightTable after
   pub later : old ≤ new
+  pub counted : before.reductions ≤ 2 ^ 64 - 1 → (before.reductions ≤ after.reductions)
+      × (after.reductions ≤ 2 ^ 64 - 1)
 
 -- a first part of the queries for the conversion of a number was made, or running out of memory cut them off
 abbrev pub AreQueriesBegun : {A : Type 0} → Signed → (from to : List ℕ) → Result A AllocError → Shown → Shown → ℕ → ℕ

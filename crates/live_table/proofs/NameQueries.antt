@@ -20,6 +20,7 @@ use Rattle.live_table.specs.Calls.{AreQueries, is_name_kind, key_queries, names_
 use Rattle.live_table.specs.TableView.{IsAfterEvents, IsCutOff, IsRightTable, Shown, state_with_steps}
 use Rattle.live_table.specs.States.{AsksKey, Event}
 use Rattle.live_table.proofs.QuerySequence.{cut_both, follows_both, follows_none, steps_rise}
+use Rattle.live_table.proofs.SettleCounts.{shown_counts}
 use Rattle.name_walk.proofs.Lists.{drop_at, take_at}
 
 -- ---- a single key
@@ -80,7 +81,13 @@ is_here (x ∷ ks) (suc i) k e = by (is_same k x) (is_here ks i k e)
 -- no key has been queried yet
 pub cut_at_once : (es : List Event) (s : Shown) (n : ℕ) → IsRightTable s → IsCutOff es s s n n
 cut_at_once es s n right =
-    record { deck = refl; right = right; least = omega arith; most = steps_rise es (state_with_steps s n) }
+    record {
+      deck = refl;
+      right = right;
+      least = omega arith;
+      most = steps_rise es (state_with_steps s n);
+      counted = λ can. (omega arith, (shown_counts es s n can).0);
+    }
 
 -- the first of the keys were queried
 pub record IsAsking (keys : List Key) (i : ℕ) (before now : Shown) (old new : ℕ) : Type 0 where

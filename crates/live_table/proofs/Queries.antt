@@ -1,5 +1,6 @@
 -- The postcondition of a query, from the result of its walk and the names that were settled.
-use Rattle.std.proofs.Common.{◌≡◌, ◌⊎◌, ◌↔◌, ◌+◌, ◌<◌, ◌≤◌, ℕ, Bool, true, false, List, [], ◌∷◌, map}
+use Rattle.std.proofs.Common.{◌≡◌, ◌⊎◌, ◌↔◌, ◌+◌, ◌-◌, ◌^◌, ◌<◌, ◌≤◌, ℕ, min, Bool, true, false, List, [], ◌∷◌, map}
+use Rattle.std.proofs.Common.{length-take, take}
 use Rattle.std.proofs.Common.{length, Contains, Option, Some, None, is_none, is_some, option_map, refl, sym, ◌∙◌}
 use Rattle.std.proofs.Common.{ap, subst, inl, inr, arith}
 use Rattle.std.specs.Prelude.{Ok, Err}
@@ -35,10 +36,19 @@ use Rattle.live_table.specs.TableContents.{Listed, key_at, shown_table}
 use Rattle.live_table.proofs.OutcomesByKey.{key_settled, number_settled}
 use Rattle.live_table.proofs.New.{new_law}
 use Rattle.live_table.proofs.Outcomes as outcomes
+use Rattle.live_table.proofs.SettleCounts.{shown_counts}
 
 -- outcomes that are right do not depend on the counts
 right_at : (s : Shown) (old : ℕ) → IsRightTable s → IsRight (state_with_steps s old)
 right_at s old h = record { present = h.present; closed = h.closed; below = h.below; right = h.right }
+
+-- ---- a count of names newly settled that does not exceed 2^64 - 1
+fewer_kept : (before some now : ℕ) → before ≤ 2 ^ 64 - 1 → now ≡ min (2 ^ 64 - 1) (before + some) → before ≤ now
+fewer_kept before some now can few = omega arith
+
+fewer_counted : (before some all now : ℕ) → some ≤ all → now ≡ min (2 ^ 64 - 1) (before + some)
+    → now ≤ min (2 ^ 64 - 1) (before + all)
+fewer_counted before some all now within few = omega arith
 
 -- ---- no query lowers the count of steps or changes the deck
 query_rises : (b : Bool) (keys : List Key) (s : TableState) → s.steps ≤ (after_query b keys s).steps
@@ -64,6 +74,7 @@ module _ (event : Event) (fault : Option NameFault) (reached : List Key) (before
     right = right;
     least = omega arith;
     most = subst (λ (s : TableState). old ≤ s.steps) (sym then) (query_rises (is_none fault) reached was);
+    counted = λ can. (omega arith, (shown_counts (event ∷ []) before old can).0);
   }
 
   pub fault_follows : (f : NameFault) → fault ≡ Some f → IsAfterEvents (event ∷ []) before before old old
@@ -95,6 +106,15 @@ module _ (event : Event) (fault : Option NameFault) (reached : List Key) (before
       most =
           let a : then_steps ≤ old + length keys = some.most in
           subst (λ (s : TableState). then_steps ≤ s.steps) (sym settles) a;
+      counted = λ can.
+          let within : length (take some.count keys) ≤ length keys = omega (arith, length-take some.count keys) in
+          let few : now.reductions ≡ min (2 ^ 64 - 1) (before.reductions + length (take some.count keys)) =
+          ap (λ (s : Shown). s.reductions) some.shown in (
+            fewer_kept before.reductions (length (take some.count keys)) now.reductions can few,
+            subst (λ (s : TableState). now.reductions ≤ s.reductions) (sym settles)
+                (fewer_counted before.reductions (length (take some.count keys)) (length keys) now.reductions within
+                few),
+          );
     }
 
 -- ---- the keys that are new by number are new by name

@@ -10,7 +10,8 @@ use Rattle.live_table.specs.Runs.{RunLaw, RunStepsLaw}
 use Rattle.live_table.specs.TableView.{IsAfterEvents, IsCutOff, Shown, state_with_steps}
 use Rattle.live_table.specs.States.{AsksKey, AsksWords, Becomes, Event, TableState, after, after_all, after_query}
 use Rattle.live_table.proofs.Events.{order_law}
-use Rattle.live_table.proofs.QuerySequence.{cut_both, follows_both, follows_none, steps_rise}
+use Rattle.live_table.proofs.QuerySequence.{cut_both, follows_both, follows_none, further_counts, made_counts}
+use Rattle.live_table.proofs.QuerySequence.{steps_rise}
 
 -- ---- events that are cut off among others
 steps_both : (es fs : List Event) (s : TableState)
@@ -31,6 +32,13 @@ cut_before es fs a b n m q = record {
       steps_rise fs (after_all es (state_with_steps a n)) in
       let z : m ≤ (after_all es (state_with_steps a n)).steps = q.most in
       omega arith;
+  counted = λ can.
+      let part = further_counts es fs a b n m q can in
+      let x : (after_all (es ++ fs) (state_with_steps a n)).reductions
+      ≡ (after_all fs (after_all es (state_with_steps a n))).reductions =
+      ap (λ (s : TableState). s.reductions) (order_law es fs (state_with_steps a n)) in
+      let y : b.reductions ≤ (after_all fs (after_all es (state_with_steps a n))).reductions = part.1 in
+      (part.0, omega arith);
 }
 
 -- events that were cut off are a cut-off run with complete events before them
@@ -50,6 +58,7 @@ cut_after es a b n m same p = record {
       omega arith;
   most = let y : m ≡ (after_all es (state_with_steps a n)).steps = ap (λ (s : TableState). s.steps) p.stands in
       omega arith;
+  counted = made_counts es a b n m p;
 }
 
 -- the law of runs

@@ -4,12 +4,12 @@ use Rattle.std.specs.Option.{is_none}
 use Rattle.def_entry.specs.declared.key.Key.{Key}
 use Rattle.table_names.specs.Faults.{key_fault, name_fault}
 use Rattle.table_names.specs.Reach.{key_reach, reach}
-use Rattle.live_table.specs.TableView.{state_with_steps}
+use Rattle.live_table.specs.TableView.{Shown, state_with_steps}
 use Rattle.live_table.specs.States.{AsksKey, AsksWords, Becomes, Event, TableState, after, after_all, after_query}
 use Rattle.live_table.specs.Runs.{CountLaw}
 
 -- a count that a live table can have, and that is not lower than before
-abbrev Counts : ℕ → TableState → Type 0
+abbrev pub Counts : ℕ → TableState → Type 0
 Counts before s = (before ≤ s.reductions) × (s.reductions ≤ 2 ^ 64 - 1)
 
 more : (before count new : ℕ) → before ≤ count → count ≤ 2 ^ 64 - 1
@@ -32,6 +32,15 @@ all_count : (es : List Event) (before : ℕ) (s : TableState) → Counts before 
 all_count [] before s h = h
 all_count (e ∷ es) before s h = all_count es before (after e s) (event_counts e before s h)
 
+-- events never lower the count of a table, and leave it a count that a live table can have
+pub counts_rise : (es : List Event) (s : TableState) → s.reductions ≤ 2 ^ 64 - 1
+    → Counts s.reductions (after_all es s)
+counts_rise es s can = all_count es s.reductions s (omega arith, can)
+
+pub shown_counts : (es : List Event) (a : Shown) (n : ℕ) → a.reductions ≤ 2 ^ 64 - 1
+    → Counts a.reductions (after_all es (state_with_steps a n))
+shown_counts es a n can = counts_rise es (state_with_steps a n) can
+
 -- the law of the count
 pub count_law : CountLaw
-count_law es before n can = (all_count es before.reductions (state_with_steps before n) (omega arith, can)).0
+count_law es before n can = (shown_counts es before n can).0

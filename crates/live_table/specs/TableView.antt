@@ -1,5 +1,5 @@
 -- The view of a live table that contracts see.
-use Rattle.std.specs.Prelude.{◌≡◌, ◌≤◌, ℕ, List, refl}
+use Rattle.std.specs.Prelude.{◌≡◌, ◌≤◌, ◌^◌, ◌-◌, ℕ, List, refl}
 use Rattle.std.specs.Coded.{Coded, code_by, coded×, coded_ℕ}
 use Rattle.std.specs.FinMap as map_of
 use Rattle.def_entry.specs.KeyOrder.{key_code}
@@ -35,10 +35,13 @@ pub record IsAfterEvents (events : List Event) (before after : Shown) (old new :
   pub stands : state_with_steps after new ≡ after_all events (state_with_steps before old)
   pub right : IsRightTable after
 
--- after memory ran out: the deck is unchanged, each stored outcome is right, and no more steps were taken than by the
--- whole query
+-- after memory ran out: the deck is unchanged; each stored outcome is right; the query lowered neither the count of
+-- steps nor that of newly settled names, and raised neither above that after the whole query (no live table counts more
+-- than 2^64 - 1 names)
 pub record IsCutOff (events : List Event) (before after : Shown) (old new : ℕ) : Type 0 where
   pub deck : after.deck ≡ before.deck
   pub right : IsRightTable after
   pub least : old ≤ new
   pub most : new ≤ (after_all events (state_with_steps before old)).steps
+  pub counted : before.reductions ≤ 2 ^ 64 - 1 → (before.reductions ≤ after.reductions)
+      × (after.reductions ≤ (after_all events (state_with_steps before old)).reductions)

@@ -1,9 +1,9 @@
 //! The check report in blocks, so that its lines can be written as they are made.
 
-ghost use Rattle.std.specs.Prelude.{◌≡◌, ◌++◌, ◌<◌, ◌≤◌, IfOk, length, take};
+ghost use Rattle.std.specs.Prelude.{◌≡◌, ◌++◌, ◌<◌, ◌≤◌, IfOk, OnErr, length, take};
 ghost use Rattle.deck.specs.PlacedKeys.{keys_there};
 ghost use Rattle.deck.specs.Tables as tables;
-ghost use Rattle.live_table.specs.TableView.{IsAfterEvents, IsRightTable};
+ghost use Rattle.live_table.specs.TableView.{IsAfterEvents, IsCutOff, IsRightTable};
 ghost use Rattle.reply.specs.Options.{IsPrintable, style_of};
 ghost use Rattle.survey.specs.Checks as spec;
 
@@ -19,7 +19,7 @@ const BLOCK: usize = 65_536;
 
 /// Checks the keys at `places`, in order, and appends their lines, until the text has 65,536 bytes or no place is left.
 /// Returns the number of places that were done: at least one, if there are any. Does not change the deck. The only
-/// error is running out of memory.
+/// error is running out of memory; some of the queries for `places` were then made.
 pub fn put_check_block<L: Ledger>(
     alloc: Global,
     lines: &mut Vec<u8>,
@@ -37,6 +37,9 @@ pub fn put_check_block<L: Ledger>(
         (keys_there table.old.deck.lines (take n places.now))) }
     ensures queries { IfOk result (λ n. IsAfterEvents
         (spec.queries_among (tables.table table.old.deck) (keys_there table.old.deck.lines (take n places.now)))
+        table.old table.new steps.old steps.new) }
+    ensures cut_off { OnErr result (IsCutOff
+        (spec.queries_among (tables.table table.old.deck) (keys_there table.old.deck.lines places.now))
         table.old table.new steps.old steps.new) }
     ensures deck { table.new.deck ≡ table.old.deck }
 {

@@ -1,11 +1,11 @@
 use Rattle.std.proofs.Common.{◌≡◌, ◌+◌, ◌++◌, List, arith, get_or, subst, take, ℕ}
 use Rattle.std.proofs.lemmas.Option.{slice_get-get_or}
 use Rattle.deck.specs.Decks.{Contents}
-use Rattle.live_table.specs.TableView.{IsAfterEvents}
+use Rattle.live_table.specs.TableView.{IsAfterEvents, IsCutOff}
 use Rattle.reply.specs.Options.{style_of}
-use Rattle.survey.proofs.CheckBlocks.{block_lines, block_queries}
+use Rattle.survey.proofs.CheckBlocks.{block_cut, block_lines, block_queries}
 use Rattle.survey.proofs.Places.{line_at, queries_at}
-use Rattle.survey.proofs.ItemReports.{underway-next, underway-start}
+use Rattle.survey.proofs.ItemReports.{underway-cut, underway-next, underway-start}
 use Rattle.survey.proofs.check_blocks.put_check_block.Goals as goal
 
 pub loop-done-init : goal.loop-done-init
@@ -35,6 +35,22 @@ loop-done-preserved g c =
           c.loop-done.table c.put_check_at.new.table c.loop-done.steps c.put_check_at.new.steps)
           at.deck c.in_ok-put_check_at.ensures.queries);
     }
+
+pub returns-in_err-put_check_at-clause-cut_off : goal.returns-in_err-put_check_at-clause-cut_off
+returns-in_err-put_check_at-clause-cut_off g c =
+    let place = get_or c.args.places.now c.loop-done.done 0 in
+    let deck = c.args.table.now.deck in
+    let at = c.loop-done.invariant.at in
+    block_cut deck c.args.places.now c.from_residual.result c.args.table.now c.put_check_at.new.table c.args.steps.now
+    c.put_check_at.new.steps
+    (underway-cut (line_at deck (style_of c.args.options.now)) (queries_at deck) c.args.places.now c.loop-done.done
+    c.args.lines.now.items c.loop-done.lines.items c.args.table.now c.loop-done.table c.args.steps.now
+    c.loop-done.steps at place
+    (slice_get-get_or c.args.places.now c.loop-done.done 0 (omega (arith, c.loop-done-test.true)))
+    c.put_check_at.new.table c.put_check_at.new.steps
+    (subst (λ (d : Contents). IsCutOff (queries_at d place) c.loop-done.table c.put_check_at.new.table
+    c.loop-done.steps c.put_check_at.new.steps)
+    at.deck c.in_err-put_check_at.ensures.queries))
 
 pub returns-clause-lines : goal.returns-clause-lines
 returns-clause-lines g c =
