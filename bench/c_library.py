@@ -25,9 +25,9 @@ def process_seconds(command: list[str], **options: object) -> float:
         usage = resource.getrusage(resource.RUSAGE_CHILDREN)
         return usage.ru_utime + usage.ru_stime
 
-    before = busy()
+    start = busy()
     subprocess.run(command, check=True, **options)  # type: ignore[call-overload]
-    return busy() - before
+    return busy() - start
 
 
 def own_seconds(act: Callable[[], object]) -> float:
@@ -45,7 +45,7 @@ def clock_seconds(act: Callable[[], object]) -> float:
 
 
 def each(act: Callable[[int], object], count: int) -> float:
-    """Return the microseconds of one of many calls, by the clock: a session works in another process."""
+    """Return the mean microseconds of many calls, by the clock, since a session is another process."""
 
     def act_often() -> None:
         for i in range(count):
@@ -55,20 +55,20 @@ def each(act: Callable[[int], object], count: int) -> float:
 
 
 def least(*acts: Callable[[], float], rounds: int = ROUNDS) -> list[float]:
-    """Return the least of several rounds for each of these measurements, which take turns."""
+    """Return the least of several rounds for each of these measurements, which run in turns."""
     times = [[act() for act in acts] for _ in range(rounds)]
     return [min(column) for column in zip(*times)]
 
 
-def report(what: str, ours: float, theirs: float, aim: str = "", most: float = 0) -> None:
+def report(title: str, ours: float, theirs: float, aim: str = "", most: float = 0) -> None:
     """Print a line with the ratio, and with the aim if there is one."""
     ratio = ours / theirs
     verdict = f" {aim}: {'met' if ratio <= most else 'MISSED'}" if aim else ""
-    print(f"{what:74} {ours:10.4f} {theirs:10.4f} {ratio:8.4f}{verdict}", flush=True)
+    print(f"{title:74} {ours:10.4f} {theirs:10.4f} {ratio:8.4f}{verdict}", flush=True)
 
 
 def report_starts() -> None:
-    """Compare the start of a Python process that converts once with one that does so by pint."""
+    """Compare a Python process that imports the package and converts once with one that uses pint."""
     ours, theirs = least(
         lambda: process_seconds([sys.executable, "-c", IMPORT_EXACT]),
         lambda: process_seconds([sys.executable, "-c", IMPORT_PINT]),
@@ -77,7 +77,7 @@ def report_starts() -> None:
 
 
 def report_pairs() -> None:
-    """Compare conversions of pairs that were not asked before."""
+    """Compare conversions of new pairs."""
     import pint
     from exact_units import Units
 
@@ -89,7 +89,7 @@ def report_pairs() -> None:
         return lambda i: units.convert(f"{i + 1} mile/hour", f"{i % 97 + 1} m/s")
 
     ask(library)(0), ask(session)(0)
-    # Many short rounds, of which some find the processor free.
+    # Many short rounds, so that some find the processor free.
     round_trip, from_c, from_python, by_pint = least(
         lambda: each(ask(session), 500),
         lambda: float(subprocess.run([PAIRS, DEFINITIONS, "2000"], capture_output=True, check=True).stdout),
@@ -116,13 +116,13 @@ def report_columns(count: int, pair: list[str], has_aim: bool) -> None:
 
         def by_program() -> float:
             command = [PROGRAM, "--file", DEFINITIONS, "--column", "1", *pair]
-            with open(lines.name, "rb") as given, tempfile.TemporaryFile() as out:
-                return process_seconds(command, stdin=given, stdout=out, stderr=subprocess.DEVNULL)
+            with open(lines.name, "rb") as source, tempfile.TemporaryFile() as out:
+                return process_seconds(command, stdin=source, stdout=out, stderr=subprocess.DEVNULL)
 
         def by_c() -> float:
             command = [COLUMN, "--seconds", "0", "0", "0", "0", "1", *pair, DEFINITIONS]
-            with open(lines.name, "rb") as given:
-                return float(subprocess.run(command, stdin=given, capture_output=True, check=True).stdout)
+            with open(lines.name, "rb") as source:
+                return float(subprocess.run(command, stdin=source, capture_output=True, check=True).stdout)
 
         def convert() -> object:
             return library.convert_column(numbers, *pair)
@@ -134,11 +134,11 @@ def report_columns(count: int, pair: list[str], has_aim: bool) -> None:
             lambda: clock_seconds(by_program),
             lambda: clock_seconds(convert),
         )
-    what = f"{count:,} numbers, {pair[0]} to {pair[1]},"
+    title = f"{count:,} numbers, {pair[0]} to {pair[1]},"
     aim = "at most 1" if has_aim else ""
-    report(f"{what} convert_column, s, beside --column", python, program, aim, 1)
-    report(f"{what} the same by the clock", python_clock, program_clock, aim, 1)
-    report(f"{what} units_convert_column, s", c, program)
+    report(f"{title} convert_column, s, beside --column", python, program, aim, 1)
+    report(f"{title} the same by the clock", python_clock, program_clock, aim, 1)
+    report(f"{title} units_convert_column, s", c, program)
 
 
 def main() -> None:

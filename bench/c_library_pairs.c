@@ -1,5 +1,5 @@
-/* The time of a conversion from C, each of a pair that was not asked before: c_library_pairs DEFINITIONS COUNT.
-   Prints the microseconds that one conversion takes by the clock. The definitions are one file without includes. */
+/* Times conversions of new pairs from C: c_library_pairs DEFINITIONS COUNT.
+   Prints the microseconds of one conversion by the clock. The definitions are one file without includes. */
 #include "units.h"
 
 #include <stdio.h>

@@ -7,7 +7,7 @@ program=$("$root/tools/built.sh" units) || exit
 folder=$(mktemp -d)
 trap 'rm -rf "$folder"' EXIT
 
-# chain LINES: such a file. A name is a line's number in the letters a to j, after an x.
+# chain LINES: prints such a file. A name is x and the number of its line in the letters a to j.
 chain() {
     awk -v lines="$1" 'function name(i, digits) {
         digits = i ""

@@ -16,12 +16,12 @@ program, count = sys.argv[1], int(sys.argv[2])
 AWK = "BEGIN { FS = OFS = \",\" } { $2 = $2 * 0.3048; print }"
 
 
-def timed(command, path, runs=5):
-    """The lowest seconds of the processor."""
+def processor_seconds(command, path, runs=5):
+    """The lowest processor time of some runs."""
     costs = []
     for _ in range(runs):
-        with open(path, "rb") as given, open(os.devnull, "wb") as to:
-            process = subprocess.Popen(command, stdin=given, stdout=to)
+        with open(path, "rb") as source, open(os.devnull, "wb") as sink:
+            process = subprocess.Popen(command, stdin=source, stdout=sink)
             _, status, usage = os.wait4(process.pid, 0)
         if status:
             sys.exit(f"{command[0]}: status {status}")
@@ -33,6 +33,6 @@ with tempfile.NamedTemporaryFile("w", suffix=".csv") as file:
     file.write("".join(f"{i},{i % 997 / 4}\n" for i in range(count)))
     file.flush()
     for name, command in ("units", [program, "--column", "2", "feet", "m"]), ("awk", ["awk", AWK]):
-        print(f"{name:6} {timed(command, file.name):6.2f} s of the processor", flush=True)
+        print(f"{name:6} {processor_seconds(command, file.name):6.2f} s of the processor", flush=True)
     print(f"{count} rows, {os.stat(file.name).st_size / 1e6:.1f} MB")
 PYTHON

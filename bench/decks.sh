@@ -21,13 +21,13 @@ from timing import say
 
 REAL = sys.argv[2]
 SIZES = [25_000, 50_000, 100_000]
-PASSES = 40  # how many calls that go over the deck are timed together
+PASSES = 40  # calls on the whole deck are timed in groups of this size
 
 timed = functools.partial(timing.timed, sys.argv[1])
 
 
 def lines(count):
-    """A primitive, and units each of which stands for one of half its number."""
+    """A primitive unit, and units, each a multiple of the one with half its number."""
     return ["u_0 !", *(f"u_{i} {1 + i % 3} u_{i // 2}" for i in range(1, count))]
 
 
@@ -40,23 +40,23 @@ def real():
 
 
 def decks(count):
-    written = [line + "\n" for line in lines(count)]
-    Path("first").write_text(written[0])
-    Path("deck").write_text("".join(written))
-    Path("shorter").write_text("".join(written[: count - PASSES]))
-    counted = f"{count} units, 0 prefixes, 0 functions, 0 lists, {count} lines, 0 notices"
-    loading = timed(["load deck", "count"], counted)
+    file_lines = [line + "\n" for line in lines(count)]
+    Path("first").write_text(file_lines[0])
+    Path("deck").write_text("".join(file_lines))
+    Path("shorter").write_text("".join(file_lines[: count - PASSES]))
+    counts = f"{count} units, 0 prefixes, 0 functions, 0 lists, {count} lines, 0 notices"
+    loading = timed(["load deck", "count"], counts)
     say(f"{count} lines, loaded", loading, f", {loading.memory // count} bytes a line")
     defines = [f"define {line}" for line in lines(count)[1:]]
     unread = timed(["load first", *("X" + call for call in defines)], "bad call")
     say("as many calls that are none", unread)
-    say(f"{count} lines, each defined, less those", timed(["load first", *defines, "count"], counted).less(unread))
-    for what, name, passes, last in [
+    say(f"{count} lines, each defined, less those", timed(["load first", *defines, "count"], counts).less(unread))
+    for title, name, passes, last in [
         ("switched", "deck", ["locale en_GB", "switch", "locale en_US", "switch"] * (PASSES // 2), "changed: none"),
         ("a line dropped", "deck", [f"drop u_{i * (count // PASSES) + 1}" for i in range(PASSES)], "changed: u_"),
         ("a file of a line appended", "shorter", ["append first"] * PASSES, "changed: none"),
     ]:
-        say(f"{count} lines, {what}", timed([f"load {name}", *passes], last).less(loading, PASSES))
+        say(f"{count} lines, {title}", timed([f"load {name}", *passes], last).less(loading, PASSES))
 
 
 def itself():

@@ -18,7 +18,7 @@ REAL = "/usr/share/units/definitions.units"
 
 
 def filled(front, pattern, size, back=""):
-    """The pattern over and over between a front and a back, so many bytes in all."""
+    """The pattern repeated between a front and a back, with this size in all."""
     room = size - len(front) - len(back)
     return (front + (pattern * (room // len(pattern) + 1))[:room] + back).encode()
 
@@ -45,7 +45,7 @@ def timed(name, file):
 
 
 def points(size):
-    """A table of 1,000 points, with blanks before each."""
+    """A table of 1,000 points, with blanks before each, of this size."""
     room = (size - 8) // 1000
     return ("t[m]" + "".join(f"{f'{i} {i}':>{room}}" for i in range(1000))).encode()
 

@@ -25,14 +25,14 @@ COUNT, LATER = 60_000, 200_000
 timed = functools.partial(timing.timed, sys.argv[1])
 
 
-def say_each(what, cost):
-    print(f"{what:44} {cost.clock * 1e6:8.2f} µs, {cost.processor * 1e6:8.2f} of the processor", flush=True)
+def say_each(title, cost):
+    print(f"{title:44} {cost.clock * 1e6:8.2f} µs, {cost.processor * 1e6:8.2f} of the processor", flush=True)
 
 
-def say_counts(what, loading, first):
+def say_counts(title, loading, first):
     if loading and first:
         instructions, misses = ((count - load) / COUNT for count, load in zip(first, loading))
-        print(f"{what:44} {instructions:8.0f} instructions, {misses:.1f} misses of a cache of 1 MB", flush=True)
+        print(f"{title:44} {instructions:8.0f} instructions, {misses:.1f} misses of a cache of 1 MB", flush=True)
 
 
 def real():
@@ -60,9 +60,9 @@ def chain():
     say_each("a later one, with its line and its answer", later)
     unread = timed(["load chain", last, *["X" + last] * LATER], "bad call").less(first, LATER)
     say_each("a line that is no call", unread)
-    for what, order in [("first", range(COUNT + 1)), ("last", range(COUNT, -1, -1))]:
-        asked = timed(["load chain", *(f"value u_{i}" for i in order), "counts"], settled)
-        say(f"queries of all, from the {what} on", asked.less(loading))
+    for end, order in [("first", range(COUNT + 1)), ("last", range(COUNT, -1, -1))]:
+        queries = timed(["load chain", *(f"value u_{i}" for i in order), "counts"], settled)
+        say(f"queries of all, from the {end} on", queries.less(loading))
     say("all settled, by one call", timed(["load chain", "settle", "counts"], settled).less(loading))
     ring = timed(["load ring", "counts"], "0 settled, ")
     say("a query of a ring of as many", timed(["load ring", last], f"cycle: u_{COUNT} -> ").less(ring))

@@ -34,18 +34,18 @@ def number(r, bits):
 
 
 def independent(bits, below):
-    """Two fractions of so many bits above and below the bar."""
+    """Two fractions of `bits` bits above the bar and `below` bits below it."""
     return lambda r: [Fraction(number(r, bits), number(r, below)) for _ in "xy"]
 
 
 def shared_below(r):
-    """Two fractions whose denominators have a factor of 60 bits in common."""
+    """Two fractions whose denominators share a factor of 60 bits."""
     factor = number(r, 60)
     return [Fraction(number(r, 60), number(r, 15) * factor) for _ in "xy"]
 
 
 def shared_crosswise(r):
-    """Two fractions, each of whose numerators has a factor of 60 bits in common with the other's denominator."""
+    """Two fractions; each numerator shares a factor of 60 bits with the other denominator."""
     first, second = number(r, 60), number(r, 60)
     top, bottom = first * number(r, 30), second * number(r, 30)
     return [Fraction(top, bottom), Fraction(second * number(r, 30), first * number(r, 30))]

@@ -84,7 +84,7 @@ def number(r):
 
 
 def unlike(count):
-    """Two quantities of so many names each."""
+    """Two quantities of `count` names each."""
     return lambda r: (number(r) + powers(r, count), number(r) + powers(r, count))
 
 

@@ -1,13 +1,13 @@
 #!/usr/bin/env python3
 """Runs measurements and writes their results into bench/README.md.
 
-    bench/record.py [SCRIPT..]   runs bench/SCRIPT.sh (by default all), keeps each output in bench/results, and writes
+    bench/record.py [SCRIPT..]   runs bench/SCRIPT.sh (by default all), saves each output in bench/results, and writes
                                  the page
-    bench/record.py --write      writes the page from the kept outputs
-    bench/record.py --check      compares the page with the kept outputs; the last line is `N passed, M failed`
+    bench/record.py --write      writes the page from the saved outputs
+    bench/record.py --check      compares the page with the saved outputs; the last line is `N passed, M failed`
 
 Run it on an idle machine; each output begins with the processor and the load at its start. The output of a script that
-fails is not kept. Status 1 with an output means that a bound is exceeded; that output is kept.
+fails is not saved. Status 1 with an output means that a bound is exceeded; that output is saved.
 """
 
 from __future__ import annotations
@@ -39,7 +39,7 @@ def scripts() -> list[str]:
 
 
 def purpose_of(name: str) -> str:
-    """The comment at the head of a script, without the usage."""
+    """The comment at the head of a script, up to the usage."""
     lines = (FOLDER / f"{name}.sh").read_text().splitlines()[1:]
     comment = []
     for line in lines:
@@ -56,14 +56,14 @@ def machine() -> str:
 
 
 def record(name: str) -> bool:
-    """Runs a script and keeps its output. Returns False if it fails."""
+    """Runs a script and saves its output. Returns False if it fails."""
     head = machine()
-    run = subprocess.run([FOLDER / f"{name}.sh"], stdout=subprocess.PIPE, check=False)
-    if run.returncode > 1 or run.returncode < 0 or not run.stdout:
-        print(f"{name}.sh ended with status {run.returncode}; its last output is kept", file=sys.stderr)
+    process = subprocess.run([FOLDER / f"{name}.sh"], stdout=subprocess.PIPE, check=False)
+    if process.returncode > 1 or process.returncode < 0 or not process.stdout:
+        print(f"{name}.sh ended with status {process.returncode}; its last output is kept", file=sys.stderr)
         return False
     RESULTS.mkdir(exist_ok=True)
-    output = run.stdout.decode().replace(f"{FOLDER.parent}/", "")
+    output = process.stdout.decode().replace(f"{FOLDER.parent}/", "")
     (RESULTS / f"{name}.txt").write_text(f"{head}\n{output}")
     print(f"{name}.sh: recorded")
     return True
@@ -94,9 +94,9 @@ def main(words: list[str]) -> int:
     if unknown:
         print(f"record.py: no script bench/{unknown[0]}.sh", file=sys.stderr)
         return 2
-    recorded = [record(name) for name in names]
+    successes = [record(name) for name in names]
     PAGE.write_text(page())
-    return int(not all(recorded))
+    return int(not all(successes))
 
 
 if __name__ == "__main__":

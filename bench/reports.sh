@@ -38,7 +38,7 @@ def many():
         Path(file).write_text("".join(line + "\n" for line in [first, *names]))
     loading = timed(["load sound", "options"], "ok")
     say(f"{COUNT} names, loaded", loading, f", {loading.memory >> 20} MiB")
-    for what, call in [
+    for title, call in [
         ("a check", "check"),
         ("what conforms to each of them", "conformable u_0"),
         ("what conforms to none of them", "conformable 1"),
@@ -46,7 +46,7 @@ def many():
         ("a search for one that is in each name", "search u"),
     ]:
         first = timed(["load sound", call, "options"], "ok")
-        say(what, first.less(loading), f", {first.memory - loading.memory >> 10} KiB")
+        say(title, first.less(loading), f", {first.memory - loading.memory >> 10} KiB")
         later = timed(["load sound", call, *[call] * LATER, "options"], "ok")
         say("    a later one", later.less(first, LATER))
     loading = timed(["load faulty", "options"], "ok")

@@ -24,21 +24,21 @@ def busy():
     return usage.ru_utime + usage.ru_stime
 
 
-def timed(deck, lines):
-    """The lowest milliseconds of five sessions, of the processor and passed."""
-    given = "".join(line + "\n" for line in lines).encode()
+def session_times(deck, lines):
+    """The lowest milliseconds of five sessions, by the processor and by the clock."""
+    text = "".join(line + "\n" for line in lines).encode()
     rounds = []
     for _ in range(5):
-        start, before = time.perf_counter(), busy()
-        run = subprocess.run([PROGRAM, "-q", "-f", deck], input=given, stdout=subprocess.PIPE, check=False)
-        rounds.append(((busy() - before) * 1e3, (time.perf_counter() - start) * 1e3))
-        if run.returncode != 0 or run.stdout != b"":
-            sys.exit(f"{lines}: status {run.returncode}, {run.stdout[-200:]!r}")
+        start, busy_before = time.perf_counter(), busy()
+        process = subprocess.run([PROGRAM, "-q", "-f", deck], input=text, stdout=subprocess.PIPE, check=False)
+        rounds.append(((busy() - busy_before) * 1e3, (time.perf_counter() - start) * 1e3))
+        if process.returncode != 0 or process.stdout != b"":
+            sys.exit(f"{lines}: status {process.returncode}, {process.stdout[-200:]!r}")
     return [min(row) for row in zip(*rounds)]
 
 
-def say(what, times):
-    print(f"{what:44} {times[0]:8.1f} ms of the processor {times[1]:8.1f} ms passed", flush=True)
+def say(title, times):
+    print(f"{title:44} {times[0]:8.1f} ms of the processor {times[1]:8.1f} ms passed", flush=True)
 
 
 with tempfile.TemporaryDirectory() as folder:
@@ -46,11 +46,11 @@ with tempfile.TemporaryDirectory() as folder:
     for count in [25_000, 50_000, 100_000]:
         text = "".join(["u_0 !\n", *(f"u_{i} {1 + i % 3} u_{i // 2}\n" for i in range(1, count))])
         Path("deck").write_text(text)
-        loading = timed("deck", [])
+        loading = session_times("deck", [])
         say(f"{count} lines, loaded", loading)
-        saved = timed("deck", [f":save saved-{i}" for i in range(SAVES)])
-        say("  saved", [(a - b) / SAVES for a, b in zip(saved, loading)])
+        save_times = session_times("deck", [f":save saved-{i}" for i in range(SAVES)])
+        say("  saved", [(a - b) / SAVES for a, b in zip(save_times, loading)])
         if any(Path(f"saved-{i}").read_text() != text for i in range(SAVES)):
             sys.exit("what was saved is not what was loaded")
-        say("  what was saved, loaded", timed("saved-0", []))
+        say("  what was saved, loaded", session_times("saved-0", []))
 PYTHON

@@ -3,11 +3,11 @@
 
     bench/scaling.sh [--program PROGRAM] [ROW..]
 
-Each row is run at three sizes. For each size a line has the size, the processor time and the peak memory; then a line
+Each row is run at three sizes. A line for each size has the size, the processor time and the peak memory; then a line
 has the exponents between the larger two: 1 is linear, 2 quadratic. The cost of the smallest input is subtracted, so that
-the start of the program does not hide the growth. A row with an easier input of the same size shows the ratio of the
-times, which is at most 2. A row ends in `ok` or `over`, by its bounds. Without arguments all rows are run, which takes
-some minutes.
+the start of the program does not hide the growth. A row with an easier input of the same size has the ratio of the
+times, which may be at most 2. A row ends in `ok` or `over`, according to its bounds. By default all rows are run, which
+takes some minutes.
 """
 
 from __future__ import annotations
@@ -32,7 +32,7 @@ MOST_TIMES = 2
 
 @dataclass(frozen=True)
 class Run:
-    """The words of a run, its definition file (none: the built-in text), its input, and its variables."""
+    """The words of a run, its definition file (None for the built-in text), its input, and its variables."""
 
     words: tuple[str, ...] = ()
     definitions: str | None = None
@@ -42,10 +42,10 @@ class Run:
 
 @dataclass(frozen=True)
 class Row:
-    """A row: how a run of a size is made, the sizes, and the largest exponents that are allowed.
+    """A row: a function that makes the run of a size, the sizes, and the largest exponents allowed.
 
     The cost of a run of the size `base` is subtracted, or that of `start` for the same size if the start grows too. If
-    there is an easier input, the largest size takes at most twice its time.
+    there is an easier input, the largest size may take at most twice its time.
     """
 
     name: str
@@ -75,7 +75,7 @@ def many(form: str, count: int, *, start: int = 0) -> list[str]:
 
 
 def unknown_words(count: int, length: int) -> Run:
-    """Definitions by words without a common beginning, so that nothing stored for a beginning is shared."""
+    """Definitions by words without a common prefix, so that nothing stored for a prefix is shared."""
     words = ("".join(random.Random(i).choices(ascii_lowercase, k=length)) for i in range(count))
     return Run(("-c",), lines("m !", *(f"u_{i}a {word}" for i, word in enumerate(words))))
 
@@ -84,12 +84,12 @@ def session(*texts: str, definitions: str | None = None, **variables: str) -> Ru
     return Run(("-q",), definitions, lines(*texts), variables)
 
 
-def defined_and_undone(count: int) -> Run:
+def definitions_and_undos(count: int) -> Run:
     words = ("".join(random.Random(i).choices(ascii_lowercase, k=20)) for i in range(count))
     return session(*(f":define v_a {word}\nv_a\n:undo" for word in words))
 
 
-def defined_and_dropped(count: int) -> Run:
+def definitions_and_drops(count: int) -> Run:
     return session(*many(":define v_{i}a {i} m\n:drop v_{i}a", count))
 
 
@@ -135,7 +135,7 @@ def environment(count: int) -> Run:
     return Run(("m",), None, "", {f"V{i}": "x" for i in range(count)})
 
 
-def watched(count: int) -> Run:
+def watches(count: int) -> Run:
     return session(*many(":watch {i} ft ; m", count, start=1), *many(":define w_{i}a 2 s", 200))
 
 
@@ -162,8 +162,8 @@ def hash_after(state: int, number: int, length: int) -> int:
 
 
 def colliding_names(count: int) -> list[str]:
-    """Names with the same tag (by which a table distinguishes the names of a group), whose searches all begin in the
-    first quarter of the groups of a table of this size."""
+    """Names with the same tag, by which a table distinguishes the names of a group. All searches begin in the first
+    quarter of the groups of a table of this size."""
     groups = 1 << max(2, math.ceil(math.log2(count / 9)))
     mask = 0xFF << 24 | groups - groups // 4
     # A single byte is hashed as three equal ones.
@@ -198,8 +198,8 @@ def random_names(count: int) -> Run:
 ROWS = [
     Row("unknown words, more of them", lambda n: unknown_words(n, 60), (1000, 2000, 4000)),
     Row("unknown words, longer ones", lambda n: unknown_words(1000, n), (60, 120, 240), base=20),
-    Row("define a fault, query it, undo", defined_and_undone, (4000, 8000, 16000), memory=0.3),
-    Row("define and drop", defined_and_dropped, (20000, 40000, 80000)),
+    Row("define a fault, query it, undo", definitions_and_undos, (4000, 8000, 16000), memory=0.3),
+    Row("define and drop", definitions_and_drops, (20000, 40000, 80000)),
     Row("1,000 locales after undone definitions", locales_after_dead_names, (12500, 25000, 50000)),
     Row("drops over a deck of that size", drops, (4000, 8000, 16000)),
     Row("sets of distinct variables", distinct_variables, (1000, 2000, 4000)),
@@ -219,7 +219,7 @@ ROWS = [
     Row("the same locale again", repeated_locale, (75000, 150000, 300000)),
     # The toolchain's call walks from the first variable each time (docs/DECISIONS.md).
     Row("variables of the environment", environment, (8000, 16000, 32000), time=2.2),
-    Row("200 edits beside watches", watched, (250, 500, 1000)),
+    Row("200 edits beside watches", watches, (250, 500, 1000)),
     Row("a search in long names", search, (4000, 8000, 16000)),
     Row("a product of distinct primitives", product, (4000, 8000, 16000)),
     Row(
@@ -232,8 +232,8 @@ ROWS = [
 
 
 def cost_of(program: str, row: Row, size: int, folder: Path) -> Cost:
-    """The cost of a run. GNU time starts the program: the peak memory of a process counts from its fork, so that of a
-    child of this interpreter would be that of the interpreter."""
+    """The cost of a run. GNU time starts the program: the peak memory of a process counts from its fork, so a child of
+    this interpreter would have the peak of the interpreter."""
     run = row.make(size)
     words = list(run.words)
     if run.definitions is not None:
@@ -250,12 +250,12 @@ def cost_of(program: str, row: Row, size: int, folder: Path) -> Cost:
 
 
 def exponent(smaller: float, larger: float) -> float:
-    """The exponent of growth between two sizes, of which the second is twice the first."""
+    """The exponent of growth between two sizes, the second twice the first."""
     return math.log2(larger / smaller) if smaller > 0 and larger > 0 else 0.0
 
 
 def measure(program: str, row: Row, folder: Path) -> bool:
-    """Prints the lines of a row, and returns whether it keeps its bounds."""
+    """Prints the lines of a row, and returns whether it is within its bounds."""
     if row.start is None:
         bases = [cost_of(program, row, row.base, folder)] * len(row.sizes)
     else:
@@ -274,34 +274,34 @@ def measure(program: str, row: Row, folder: Path) -> bool:
     print(f"{row.name}:")
     for size, cost in zip(row.sizes, costs):
         print(f"  {size:>8,}  {cost.seconds:8.3f} s  {cost.bytes / 1e6:8.1f} MB")
-    beside = ""
+    comparison = ""
     if row.easier is not None:
         easier = cost_of(program, replace(row, make=row.easier), row.sizes[2], folder)
         times = net[2].seconds / max(easier.seconds - bases[2].seconds, 0.001)
         is_within = is_within and times <= MOST_TIMES
-        beside = f", {times:.1f} times the easier input"
+        comparison = f", {times:.1f} times the easier input"
     verdict = "ok" if is_within else "over"
-    print(f"  exponents: time {time:.2f}, memory {memory:.2f}{beside}: {verdict}", flush=True)
+    print(f"  exponents: time {time:.2f}, memory {memory:.2f}{comparison}: {verdict}", flush=True)
     return is_within
 
 
 def built_program() -> str:
-    built = subprocess.run([ROOT / "tools/built.sh", "units"], stdout=subprocess.PIPE, check=True)
-    return built.stdout.decode().strip()
+    process = subprocess.run([ROOT / "tools/built.sh", "units"], stdout=subprocess.PIPE, check=True)
+    return process.stdout.decode().strip()
 
 
 def main() -> int:
     parser = argparse.ArgumentParser(description=__doc__, formatter_class=argparse.RawDescriptionHelpFormatter)
     parser.add_argument("rows", nargs="*", metavar="ROW", help="a part of the name of a row; without it, all rows")
-    parser.add_argument("--program", help="the program to measure, in place of the built one")
+    parser.add_argument("--program", help="the program to measure, instead of the built one")
     arguments = parser.parse_args()
     program = arguments.program or built_program()
     resource.setrlimit(resource.RLIMIT_STACK, (8 << 20, resource.RLIM_INFINITY))
     rows = [row for row in ROWS if not arguments.rows or any(part in row.name for part in arguments.rows)]
     with tempfile.TemporaryDirectory() as folder:
-        kept = [measure(program, row, Path(folder)) for row in rows]
-    print(f"{sum(kept)} of {len(kept)} rows are within their bounds")
-    return 0 if all(kept) else 1
+        results = [measure(program, row, Path(folder)) for row in rows]
+    print(f"{sum(results)} of {len(results)} rows are within their bounds")
+    return 0 if all(results) else 1
 
 
 if __name__ == "__main__":

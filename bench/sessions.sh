@@ -26,18 +26,18 @@ def busy():
     return usage.ru_utime + usage.ru_stime
 
 
-def timed(what, command, lines, last=""):
-    """The lowest seconds of three runs, which have to end with these bytes."""
-    given = "".join(line + "\n" for line in lines).encode()
+def measure(title, command, lines, last=""):
+    """The lowest seconds of three runs, by the processor and by the clock. The output has to end with `last`."""
+    text = "".join(line + "\n" for line in lines).encode()
     rounds = []
     for _ in range(3):
-        start, before = time.perf_counter(), busy()
-        run = subprocess.run(command, input=given, stdout=subprocess.PIPE, stderr=subprocess.DEVNULL, check=False)
-        rounds.append((busy() - before, time.perf_counter() - start))
-        if not run.stdout.decode(errors="replace").endswith(last):
-            sys.exit(f"{what}: ended with {run.stdout[-200:]!r}")
+        start, busy_before = time.perf_counter(), busy()
+        process = subprocess.run(command, input=text, stdout=subprocess.PIPE, stderr=subprocess.DEVNULL, check=False)
+        rounds.append((busy() - busy_before, time.perf_counter() - start))
+        if not process.stdout.decode(errors="replace").endswith(last):
+            sys.exit(f"{title}: ended with {process.stdout[-200:]!r}")
     times = [min(row) for row in zip(*rounds)]
-    print(f"{what:52} {times[0]:7.3f} s of the processor {times[1]:7.3f} s passed", flush=True)
+    print(f"{title:52} {times[0]:7.3f} s of the processor {times[1]:7.3f} s passed", flush=True)
     return times
 
 
@@ -56,18 +56,19 @@ with tempfile.TemporaryDirectory() as folder:
         names = ["mile", "acre", "horsepower", "gallon", "btu", "lightyear", "psi", "knot", "calorie", "stone"]
         to = ["m", "m^2", "W", "m^3", "J", "m", "Pa", "m/s", "J", "kg"]
         pairs = [line for i in range(50_000) for line in (f"{i + 1} {names[i % 10]}", to[i % 10])]
-        ours = timed("50,000 pairs over GNU's definitions", [program, "-q", "-f", definitions], pairs)
-        theirs = timed("  GNU units", [gnu, "-q", "-f", definitions], pairs)
+        ours = measure("50,000 pairs over GNU's definitions", [program, "-q", "-f", definitions], pairs)
+        theirs = measure("  GNU units", [gnu, "-q", "-f", definitions], pairs)
         print(f"  the part of GNU's time: {ours[0] / theirs[0]:.3f}, {ours[1] / theirs[1]:.3f}")
     long = file_of("long.units", chain(60_000))
     rounds = [line for k in range(1, 30_001) for line in (f":define w {k} u_0", "u_60000", "u_0")]
-    told = "settled 60001 of 60002, reductions 60001\n"
-    timed("a chain of 60,000 names, 30,000 rounds", [program, "-q", "-f", long], [*rounds, ":stats"], told)
+    stats = "settled 60001 of 60002, reductions 60001\n"
+    measure("a chain of 60,000 names, 30,000 rounds", [program, "-q", "-f", long], [*rounds, ":stats"], stats)
     short = file_of("short.units", chain(20_000))
-    asked = ["u_20000", "u_0", ":stats", ":define u_1 2 u_0", ":stats", "u_20000", "u_0", ":stats"]
-    timed("a chain of 20,000 names, edited", [program, "-q", "-f", short], asked, "reductions 40001\n")
+    queries = ["u_20000", "u_0", ":stats", ":define u_1 2 u_0", ":stats", "u_20000", "u_0", ":stats"]
+    measure("a chain of 20,000 names, edited", [program, "-q", "-f", short], queries, "reductions 40001\n")
     ring = file_of("ring.units", ["u_0 u_20000", *chain(20_000)[1:]])
-    timed("a ring of 20,000 names, broken", [program, "-q", "-f", ring], ["u_0", ":define u_0 !", "u_20000", "u_0"], "/ 1\n")
-    timed("1,000,000 blank lines", [program, "-q", "-f", short], [""] * 1_000_000)
-    timed("a trial of 20,000", [program, "--trial", "20000"], [])
+    queries = ["u_0", ":define u_0 !", "u_20000", "u_0"]
+    measure("a ring of 20,000 names, broken", [program, "-q", "-f", ring], queries, "/ 1\n")
+    measure("1,000,000 blank lines", [program, "-q", "-f", short], [""] * 1_000_000)
+    measure("a trial of 20,000", [program, "--trial", "20000"], [])
 PYTHON

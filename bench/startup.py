@@ -17,23 +17,23 @@ DEVICES = [(os.POSIX_SPAWN_OPEN, fd, os.devnull, os.O_RDWR, 0) for fd in (0, 1, 
 
 
 @dataclass
-class Timed:
-    """A command and its times of each round so far, in milliseconds: the mean of the processor's, the lowest passed."""
+class Measurement:
+    """A command and its milliseconds in each round: the mean by the processor, and the lowest by the clock."""
 
     name: str
     command: list[str]
     processor: list[float] = field(default_factory=list)
-    passed: list[float] = field(default_factory=list)
+    elapsed: list[float] = field(default_factory=list)
 
     def run_round(self) -> None:
-        before, fastest = busy(), float("inf")
+        start_busy, fastest = busy(), float("inf")
         for _ in range(RUNS):
             start = time.perf_counter()
             pid = os.posix_spawn(self.command[0], self.command, os.environ, file_actions=DEVICES)
             os.waitpid(pid, 0)
             fastest = min(fastest, time.perf_counter() - start)
-        self.processor.append((busy() - before) / RUNS * 1e3)
-        self.passed.append(fastest * 1e3)
+        self.processor.append((busy() - start_busy) / RUNS * 1e3)
+        self.elapsed.append(fastest * 1e3)
 
 
 def busy() -> float:
@@ -41,21 +41,21 @@ def busy() -> float:
     return usage.ru_utime + usage.ru_stime
 
 
-def commands(root: str, program: str, static: str, file: Path) -> list[Timed]:
+def commands(root: str, program: str, static: str, file: Path) -> list[Measurement]:
     words = ["-f", str(file), "yd", "m"]
-    timed = [Timed("/bin/true", ["/bin/true"]), Timed("units", [program, *words])]
+    measurements = [Measurement("/bin/true", ["/bin/true"]), Measurement("units", [program, *words])]
     if os.path.exists(static):
-        timed.append(Timed("units, static", [static, *words]))
-    timed.append(Timed("bin/units", [f"{root}/bin/units", *words]))
+        measurements.append(Measurement("units, static", [static, *words]))
+    measurements.append(Measurement("bin/units", [f"{root}/bin/units", *words]))
     if gnu := shutil.which("units", path="/usr/bin"):
-        timed.append(Timed("GNU units", [gnu, *words]))
-    return timed
+        measurements.append(Measurement("GNU units", [gnu, *words]))
+    return measurements
 
 
-def ratios(one: Timed, peer: Timed) -> str:
+def ratios(one: Measurement, peer: Measurement) -> str:
     """The ratios of the lowest times and of the medians to those of the peer."""
-    lowest = f"{min(one.processor) / min(peer.processor):5.2f} {min(one.passed) / min(peer.passed):5.2f} of GNU units"
-    middle = f"{median(one.processor) / median(peer.processor):5.2f} {median(one.passed) / median(peer.passed):5.2f}"
+    lowest = f"{min(one.processor) / min(peer.processor):5.2f} {min(one.elapsed) / min(peer.elapsed):5.2f} of GNU units"
+    middle = f"{median(one.processor) / median(peer.processor):5.2f} {median(one.elapsed) / median(peer.elapsed):5.2f}"
     return f"  {lowest}, medians {middle}"
 
 
@@ -66,15 +66,16 @@ def main() -> None:
         if not file.exists():
             print(f"{file}: absent")
             continue
-        timed = commands(root, program, static, file)
+        measurements = commands(root, program, static, file)
         for _ in range(rounds):
-            for one in timed:
-                one.run_round()
+            for measurement in measurements:
+                measurement.run_round()
         print(f"{file}: {len(file.read_text().splitlines())} lines")
-        peer = timed[-1] if timed[-1].name == "GNU units" else None
-        for one in timed:
-            print(f"  {one.name:14} {min(one.processor):6.2f} ms of the processor {min(one.passed):6.2f} ms passed"
-                  + (ratios(one, peer) if peer else ""))
+        peer = measurements[-1] if measurements[-1].name == "GNU units" else None
+        for measurement in measurements:
+            busy_time, clock_time = min(measurement.processor), min(measurement.elapsed)
+            print(f"  {measurement.name:14} {busy_time:6.2f} ms of the processor {clock_time:6.2f} ms passed"
+                  + (ratios(measurement, peer) if peer else ""))
 
 
 if __name__ == "__main__":

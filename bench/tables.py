@@ -9,7 +9,7 @@ TIME = re.compile(r"^(.*?)[ ,:]+(-?[\d.]+ (?:s|ms|µs))\b(.*)$")
 OF_PROCESSOR = re.compile(r"(-?[\d.]+)(?: (s|ms|µs))? of the processor")
 MEMORY = re.compile(r"-?[\d.]+ (?:MiB|KiB|MB|bytes a \w+)")
 RATIO = re.compile(r"the part of GNU's time:?\s+([\d.]+)")
-BESIDE_PYTHON = re.compile(r"(.*?)\s+([\d.]+ s \([\d.]+\)), Python\s+([\d.]+ s \([\d.]+\)), (.*)")
+PYTHON_COMPARISON = re.compile(r"(.*?)\s+([\d.]+ s \([\d.]+\)), Python\s+([\d.]+ s \([\d.]+\)), (.*)")
 LONG_TEXT = re.compile(r"'(.*)'\s+(\d+)\s+MiB\s+([\d.]+ s)\s+(\d+ MiB) of memory, (.*)")
 STARTED = re.compile(r"\s+(.*?)\s\s+([\d.]+ ms) of the processor.*?passed\s+([\d.]+)")
 EXPONENTS = re.compile(r"exponents: time (-?[\d.]+), memory (-?[\d.]+)(.*): (ok|over)")
@@ -26,35 +26,35 @@ def parts(pattern: re.Pattern[str], line: str) -> Row:
 
 
 def table(heads: Row, rows: list[Row], notes: Row) -> str:
-    """The rows as a table without its empty columns, and then the notes."""
-    used = [place for place in range(len(heads)) if any(row[place] for row in rows)]
-    lines = [[heads[place] for place in used], ["---"] * len(used)]
-    lines += [[row[place].replace("|", "\\|") for place in used] for row in rows]
-    written = "\n".join("| " + " | ".join(line) + " |" for line in lines)
-    return "\n\n".join([written, *notes])
+    """The rows as a table without empty columns, followed by the notes."""
+    places = [place for place in range(len(heads)) if any(row[place] for row in rows)]
+    lines = [[heads[place] for place in places], ["---"] * len(places)]
+    lines += [[row[place].replace("|", "\\|") for place in places] for row in rows]
+    text = "\n".join("| " + " | ".join(line) + " |" for line in lines)
+    return "\n\n".join([text, *notes])
 
 
 def processor_time(line: str) -> tuple[str, str] | None:
-    """The label of a line and its time by the processor, or else by the clock."""
-    timed = TIME.match(line)
-    if not timed:
+    """The label of a line and its time, by the processor or else by the clock; None if it has no time."""
+    match = TIME.match(line)
+    if not match:
         return None
-    label, clock, _ = timed.groups()
+    label, clock, _ = match.groups()
     busy = OF_PROCESSOR.search(line)
     time = f"{busy.group(1)} {busy.group(2) or clock.split()[1]}" if busy else clock
-    indented = label.startswith("  ")
-    return ("… " if indented else "") + label.strip(), time
+    is_indented = label.startswith("  ")
+    return ("… " if is_indented else "") + label.strip(), time
 
 
-def measured(output: str) -> str:
+def measurements(output: str) -> str:
     """A line for each measurement: its time, and its memory if it has one."""
     rows, notes = [], []
     for line in output.splitlines():
-        timed = processor_time(line)
+        label_and_time = processor_time(line)
         label, _, rest = line.strip().partition("  ")
-        if timed:
+        if label_and_time:
             memory = MEMORY.search(parts(TIME, line)[2])
-            rows.append([*timed, memory.group() if memory else ""])
+            rows.append([*label_and_time, memory.group() if memory else ""])
         elif rest:
             rows.append([f"… {label}", rest.strip(), ""])
         else:
@@ -62,23 +62,23 @@ def measured(output: str) -> str:
     return table(["", "time", "memory"], rows, notes)
 
 
-def beside_gnu(output: str) -> str:
+def gnu_comparison(output: str) -> str:
     """A line for each measurement; GNU's time and the ratio follow on lines of their own."""
     rows: list[Row] = []
     for line in output.splitlines():
-        ratio, timed = RATIO.search(line), processor_time(line)
+        ratio, label_and_time = RATIO.search(line), processor_time(line)
         if ratio:
             rows[-1][3] = ratio.group(1)
-        elif timed and timed[0] == "… GNU units":
-            rows[-1][2] = timed[1]
-        elif timed:
-            rows.append([*timed, "", ""])
+        elif label_and_time and label_and_time[0] == "… GNU units":
+            rows[-1][2] = label_and_time[1]
+        elif label_and_time:
+            rows.append([*label_and_time, "", ""])
     return table(["", "units", "GNU units", "ratio"], rows, [])
 
 
-def beside_python(output: str) -> str:
-    """A line for each kind of call, with the times of both and what the answers have in common."""
-    rows = [parts(BESIDE_PYTHON, line) for line in output.splitlines()]
+def python_comparison(output: str) -> str:
+    """A line for each kind of call, with the times of both and the comparison of the answers."""
+    rows = [parts(PYTHON_COMPARISON, line) for line in output.splitlines()]
     return table(["", "units", "Python", "answers"], rows, [])
 
 
@@ -90,10 +90,10 @@ def columns(output: str) -> str:
 
 def long_texts(output: str) -> str:
     """A row for each text, with a column for each size."""
-    found = [parts(LONG_TEXT, line) for line in output.splitlines()]
-    sizes = sorted({int(size) for _, size, *_ in found})
+    matches = [parts(LONG_TEXT, line) for line in output.splitlines()]
+    sizes = sorted({int(size) for _, size, *_ in matches})
     rows: dict[str, Row] = {}
-    for text, size, time, memory, answer in found:
+    for text, size, time, memory, answer in matches:
         row = rows.setdefault(text, [f"`{text}`" if text else "blanks", *[""] * len(sizes), ""])
         row[1 + sizes.index(int(size))] = f"{time}, {memory}"
         row[-1] = answer
@@ -105,11 +105,11 @@ def startups(output: str) -> str:
     heads = [""]
     rows: dict[str, Row] = {}
     for line in output.splitlines():
-        started = STARTED.match(line)
-        if not started:
+        match = STARTED.match(line)
+        if not match:
             heads.append(line.rpartition("/")[2])
             continue
-        program, time, ratio = started.groups()
+        program, time, ratio = match.groups()
         rows.setdefault(program, [program]).append(f"{time} ({ratio})")
     return table(heads, list(rows.values()), [])
 
@@ -139,12 +139,12 @@ def plain(output: str) -> str:
 
 FORMS: dict[str, Callable[[str], str]] = {
     "c_library": columns,
-    "conversions": beside_gnu,
+    "conversions": gnu_comparison,
     "expressions": long_texts,
-    "numbers": beside_python,
-    "quantities": beside_python,
+    "numbers": python_comparison,
+    "quantities": python_comparison,
     "scaling": growth,
-    "sessions": beside_gnu,
+    "sessions": gnu_comparison,
     "startup": startups,
     "web": plain,
     "why": plain,
@@ -154,6 +154,6 @@ FORMS: dict[str, Callable[[str], str]] = {
 def shown(name: str, output: str) -> str:
     """The output of a script as the page shows it: as a table, or unchanged if it does not have the expected form."""
     try:
-        return FORMS.get(name, measured)(output)
+        return FORMS.get(name, measurements)(output)
     except (IndexError, ValueError):
         return plain(output)

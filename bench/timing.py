@@ -7,7 +7,7 @@ import sys
 import tempfile
 from typing import NamedTuple
 
-# Runs a program from a small process, whose memory does not hide the program's, and prints its status, its seconds by
+# Runs a program from a small process, so that the peak memory is the program's, and prints its status, its seconds by
 # the clock and by the processor, and its peak memory in KiB.
 TIMER = """
 import os, sys, time
@@ -49,7 +49,7 @@ COUNTER = ["valgrind", "--tool=cachegrind", *CACHES, "--cachegrind-out-file=/dev
 
 
 def counted(program, calls):
-    """The instructions of a run and its misses of a cache of 1 MB, which do not depend on the load of the machine.
+    """The instructions of a run and its misses of a cache of 1 MB, which do not depend on the load of the machine, or
     None if valgrind is not installed."""
     if shutil.which("valgrind") is None:
         return None
@@ -61,5 +61,5 @@ def counted(program, calls):
     return [int(count.group(1).replace(",", "")) for count in counts] if all(counts) else None
 
 
-def say(what, cost, rest=""):
-    print(f"{what:44} {cost.clock * 1e3:8.1f} ms, {cost.processor * 1e3:8.1f} of the processor{rest}", flush=True)
+def say(title, cost, rest=""):
+    print(f"{title:44} {cost.clock * 1e3:8.1f} ms, {cost.processor * 1e3:8.1f} of the processor{rest}", flush=True)

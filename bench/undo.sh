@@ -23,22 +23,23 @@ timed = functools.partial(timing.timed, sys.argv[1])
 def definitions():
     calls = [f"define u_{i * 3 + 1} {i % 7 + 1} u_{i}" for i in range(EDITS)]
     loading = timed(["load shorter", "value 1"], "1", runs=2)
-    before = timed(["load shorter", *calls], "ok", runs=2)
-    say(f"{EDITS} lines defined", before.less(loading))
-    undone = timed(["load shorter", *calls, *["undo"] * EDITS], "ok", runs=2)
-    say(f"{EDITS} of them undone, one by one", undone.less(before))
-    redone = timed(["load shorter", *calls, *["undo"] * EDITS, *["redo"] * EDITS], "ok", runs=2)
-    say(f"{EDITS} of them made again", redone.less(undone))
+    define_time = timed(["load shorter", *calls], "ok", runs=2)
+    say(f"{EDITS} lines defined", define_time.less(loading))
+    undo_time = timed(["load shorter", *calls, *["undo"] * EDITS], "ok", runs=2)
+    say(f"{EDITS} of them undone, one by one", undo_time.less(define_time))
+    redo_time = timed(["load shorter", *calls, *["undo"] * EDITS, *["redo"] * EDITS], "ok", runs=2)
+    say(f"{EDITS} of them made again", redo_time.less(undo_time))
 
 
 def others():
-    for what, name, edit in [
+    for title, name, edit in [
         ("a line dropped", "deck", "drop u_50000"),
         ("another locale", "deck", "switch en_GB"),
         ("a file of a line appended", "shorter", "append line"),
     ]:
-        before = timed([f"load {name}", edit], "ok")
-        say(f"{what}, undone and made again", timed([f"load {name}", edit, *["undo", "redo"] * PASSES], "ok").less(before, PASSES))
+        edit_time = timed([f"load {name}", edit], "ok")
+        both = timed([f"load {name}", edit, *["undo", "redo"] * PASSES], "ok")
+        say(f"{title}, undone and made again", both.less(edit_time, PASSES))
 
 
 with tempfile.TemporaryDirectory() as folder:

@@ -17,16 +17,16 @@ DEFINITIONS = b"kg !\nm !\ns !\nnewton 1|3 kg m / s^2\n"
 
 
 def seconds(expression):
-    given = f"{expression}\n\n".encode() * LINES
+    text = f"{expression}\n\n".encode() * LINES
     best = float("inf")
     for _ in range(RUNS):
         start = time.perf_counter()
-        run = subprocess.run(
+        process = subprocess.run(
             [sys.argv[1], "-q", "-t", "--exact", "-f", file.name],
-            input=given, stdout=subprocess.PIPE, stderr=subprocess.STDOUT, check=True,
+            input=text, stdout=subprocess.PIPE, stderr=subprocess.STDOUT, check=True,
         )
         best = min(best, time.perf_counter() - start)
-    return best, run.stdout.split(b"\n")[0].decode()
+    return best, process.stdout.split(b"\n")[0].decode()
 
 
 file = tempfile.NamedTemporaryFile()
@@ -34,13 +34,13 @@ file.write(DEFINITIONS)
 file.flush()
 for name, product in [("numbers", "2 / 2 * 3 / 3"), ("m", "2 m / m / 2"), ("newton", "2 newton / newton / 2")]:
     expression = " * ".join([product] * (MEMBERS // 4))
-    whole, answer = seconds(expression)
-    unread, refusal = seconds(f"{expression} * nothing")
-    print(f"product of {name:8} {1000 * (whole - unread) / LINES:6.2f} ms  ({answer}; {refusal})")
+    full_time, answer = seconds(expression)
+    parse_time, refusal = seconds(f"{expression} * nothing")
+    print(f"product of {name:8} {1000 * (full_time - parse_time) / LINES:6.2f} ms  ({answer}; {refusal})")
 for name, sum in [("numbers", "2 - 1"), ("m", "2 m - m"), ("newton", "2 newton - newton")]:
     expression = " + ".join([sum] * (MEMBERS // (len(sum.split()) - 1)))
-    whole, answer = seconds(expression)
-    unread, refusal = seconds(f"{expression} + nothing")
-    print(f"sum of {name:12} {1000 * (whole - unread) / LINES:6.2f} ms  ({answer}; {refusal})")
+    full_time, answer = seconds(expression)
+    parse_time, refusal = seconds(f"{expression} + nothing")
+    print(f"sum of {name:12} {1000 * (full_time - parse_time) / LINES:6.2f} ms  ({answer}; {refusal})")
 print(f"{resource.getrusage(resource.RUSAGE_CHILDREN).ru_maxrss >> 10} MiB of memory")
 PYTHON

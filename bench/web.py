@@ -30,7 +30,7 @@ EMPTY_PAGE = """<!doctype html><html lang="en"><meta charset="utf-8"><title>empt
 """
 
 
-def started(browser: Chromium, url: str) -> float:
+def start_time(browser: Chromium, url: str) -> float:
     page = Page(browser, url)
     browser.open(url)
     page.wait_for("document.documentElement.dataset.started")
@@ -40,9 +40,9 @@ def started(browser: Chromium, url: str) -> float:
 def main() -> None:
     page_file, rounds = Path(sys.argv[1]).resolve(), int(sys.argv[2])
     data = json.loads(DATA.search(page_file.read_text()).group(1))
-    packed = base64.b64decode(data["module"])
-    print(f"page {page_file.stat().st_size:,} bytes; module {len(gzip.decompress(packed)):,} bytes, "
-          f"{len(packed):,} by gzip")
+    compressed = base64.b64decode(data["module"])
+    print(f"page {page_file.stat().st_size:,} bytes; module {len(gzip.decompress(compressed)):,} bytes, "
+          f"{len(compressed):,} by gzip")
     browser = Chromium()
     try:
         with tempfile.TemporaryDirectory() as folder:
@@ -52,16 +52,16 @@ def main() -> None:
             times: dict[str, list[float]] = {name: [] for name in urls}
             for _ in range(rounds):
                 for name, url in urls.items():
-                    times[name].append(started(browser, url))
-            for name, found in times.items():
-                print(f"{name:18} {min(found):6.0f} ms at least, {median(found):6.0f} in the middle")
+                    times[name].append(start_time(browser, url))
+            for name, page_times in times.items():
+                print(f"{name:18} {min(page_times):6.0f} ms at least, {median(page_times):6.0f} in the middle")
             one, other = times.values()
             print(f"{'ratio':18} {min(other) / min(one):6.2f} at least, {median(other) / median(one):6.2f} in the middle")
             for name, text in data["library"].items():
                 Path(folder, name).write_text(text)
-            asked = [question for question in cases.questions(QUESTIONS, Path(folder)) if question[0].strip()]
-        found = sorted(time for _, _, time in Page(browser, urls["the first answer"]).ask(asked))
-        print(f"from typing to the answer: {median(found):.0f} ms in the middle, {found[-1]:.0f} at most")
+            pairs = [question for question in cases.questions(QUESTIONS, Path(folder)) if question[0].strip()]
+        page_times = sorted(time for _, _, time in Page(browser, urls["the first answer"]).ask(pairs))
+        print(f"from typing to the answer: {median(page_times):.0f} ms in the middle, {page_times[-1]:.0f} at most")
     finally:
         browser.close()
 

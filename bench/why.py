@@ -26,11 +26,11 @@ def seconds(command: list[str]) -> float:
     return after.ru_utime + after.ru_stime - before.ru_utime - before.ru_stime
 
 
-def compare(what: str, one: list[str], other: list[str], rounds: int) -> None:
+def compare(title: str, one: list[str], other: list[str], rounds: int) -> None:
     """Prints the lowest times of two commands that run in turns, and their ratio."""
     times = [(seconds(one), seconds(other)) for _ in range(rounds)]
     first, second = min(pair[0] for pair in times), min(pair[1] for pair in times)
-    print(f"{what}: {first:.3f} s and {second:.3f} s, ratio {first / second:.2f}")
+    print(f"{title}: {first:.3f} s and {second:.3f} s, ratio {first / second:.2f}")
 
 
 def main() -> int:

@@ -17,7 +17,7 @@
    Texts are bytes with a length; they need no zero at the end. The library opens no file, ends no process, prints
    nothing and keeps nothing outside the table. It needs malloc, realloc, free, memcpy, memmove and memset.
 
-   What the caller has to guarantee:
+   The caller has to guarantee:
    - No pointer is null, except a pointer to zero bytes or entries where UNITS_NO_TEXT, or NULL with the length 0 in a
      units_definitions, is used. Memory that a call writes overlaps nothing else that the call gets.
    - A table begins as UNITS_TABLE, or with all bytes zero. It is not copied or moved while it is open.
@@ -35,7 +35,7 @@
 extern "C" {
 #endif
 
-/* What a call came to. Values that are not listed are never returned by this version; later versions may add some. */
+/* The result of a call. Values that are not listed are never returned by this version; later versions may add some. */
 enum units_status {
     UNITS_DONE = 0,
     UNITS_NO_MEMORY = 1,      /* no memory was left; the table is as before and can be used further */
@@ -105,8 +105,9 @@ typedef struct units_entry {
     size_t content_length;
 } units_entry;
 
-/* What a table is opened over. Of two entries with one name the last counts. No reply depends on the seed: give random
-   bytes if the definitions come from someone who may choose names that collide in a hash table, and none otherwise. */
+/* The definitions of a table. Of two entries with the same name the last one counts. No reply depends on the seed: give
+   random bytes if the definitions come from someone who may choose names that collide in a hash table, and none
+   otherwise. */
 typedef struct units_definitions {
     const uint8_t *main; /* the name of the file to read */
     size_t main_length;
@@ -120,7 +121,7 @@ typedef struct units_definitions {
     size_t seed_length;
 } units_definitions;
 
-/* How a reply is made and written. A flag is set by any value but 0. */
+/* The form of a reply. A flag is set by any value but 0. */
 typedef struct units_options {
     uint8_t digits;   /* significant digits, from 1 to 36; 0 asks for 8 */
     uint8_t exact;    /* numbers as n or n|d; the digits have no effect */
@@ -131,14 +132,14 @@ typedef struct units_options {
     uint8_t verbose;  /* the reply repeats FROM and TO; without effect if compact is set */
 } units_options;
 
-/* A column of a text of records, and what its fields are converted from and to. */
+/* A column of a text of records, and the units to convert its fields from and to. */
 typedef struct units_column {
     const uint8_t *from;
     size_t from_length;
     const uint8_t *to;
     size_t to_length;
     size_t number;  /* of the column, from 1 */
-    uint8_t header; /* unless it is 0, the first record is a header, which stays as it is */
+    uint8_t header; /* unless it is 0, the first record is a header, which is copied */
 } units_column;
 
 /* A fraction in lowest terms; the denominator is at least 1. Each half has at most 127 bits. */
@@ -195,7 +196,7 @@ uint32_t units_define(units_table *table, const uint8_t *line, size_t line_lengt
 uint32_t units_drop(units_table *table, const uint8_t *key, size_t key_length, uint8_t *buffer, size_t size,
                     size_t *length);
 
-/* Takes back the last edit, and makes the last undone edit again. */
+/* Undoes the last edit, and redoes the last undone edit. */
 uint32_t units_undo(units_table *table, uint8_t *buffer, size_t size, size_t *length);
 uint32_t units_redo(units_table *table, uint8_t *buffer, size_t size, size_t *length);
 

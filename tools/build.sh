@@ -1,7 +1,7 @@
 #!/usr/bin/env bash
-# Proves and builds a program, and the libraries below it first. From nothing that takes an hour or more, 4 GB of memory
-# and 1.5 GB of disk; after a change, only the crates that changed and those above them are proved again.
-#   tools/build.sh [NAME]    NAME is a program of crates.txt, `units` if none is given
+# Proves and builds a program after the libraries below it. From nothing that takes an hour or more, 4 GB of memory and
+# 1.5 GB of disk; after a change, only the changed crates and those above them are proved again.
+#   tools/build.sh [NAME]    NAME is a program of crates.txt, `units` by default
 # Statuses: 126 if a crate is not proved or the folder cannot be written, 127 if the toolchain is not installed.
 set -u
 script=$(readlink -f "${BASH_SOURCE[0]}") || exit
@@ -26,8 +26,8 @@ give_up() {
 # put_back: restores the program that an unfinished build set aside.
 put_back() { if [ -e "$program.before" ]; then mv "$program.before" "$program"; fi; }
 
-# prove CRATE: proves and builds a library, or the program. How the program's own run ends does not matter: rt leaves
-# a stamp beside a program that it built.
+# prove CRATE: proves and builds a library, or the program. `rt run` also runs the program, whose status does not
+# matter: rt leaves a stamp next to a program that it built.
 prove() {
     cd "$root/crates/$1" || return
     if [ "$1" != "$name" ]; then rt lib < /dev/null >> "$log" 2>&1; return; fi
@@ -49,7 +49,7 @@ build() {
         place=$((place + 1))
         if ! (prove "$crate"); then
             tail -n 5 "$log" >&2
-            give_up 126 "the crate $crate was not proved, so the program was not built; $log has all that rt wrote"
+            give_up 126 "the crate $crate was not proved, so the program was not built; $log has the output of rt"
         fi
         say "$crate is proved ($place of ${#crates[@]}, after $SECONDS s)"
     done

@@ -1,6 +1,7 @@
 #!/usr/bin/env bash
-# Prints the path of a proved program of the present sources: the one that was built here, else the released one (of
-# `units` alone). If there is neither, it says in one line which command builds one. It never builds anything.
+# Prints the path of a proved program of the present sources: the one that was built here, or else, for `units`, the
+# released one. If there is neither, it prints one line on standard error that names the command to build one. It never
+# builds anything.
 #   tools/built.sh NAME
 # Statuses: 126 if the program has to be built, 127 if the toolchain for that is not installed either.
 set -u
@@ -10,12 +11,12 @@ root=${script%/*/*}
 name=$1
 out=$root/crates/$name/out
 program=$out/$name
-# A second before anything is read, so that each later change is later than this.
+# One second before the first read, so that every later change has a later time.
 since=$(($(date +%s) - 1))
 
-# record PROGRAM: lets bin/units run this program at once as long as nothing changes in its code and its statements.
-# Proofs are two thirds of the files and change neither what it does nor what is proved of it, so they are left out. If
-# the record cannot be written, bin/units asks again each time.
+# record PROGRAM: lets bin/units run this program at once, as long as its code and its statements do not change. Proofs
+# are left out: they are two thirds of the files, and affect neither the program nor the statements proved of it. If the
+# record cannot be written, bin/units calls this script each time.
 record() {
     local folder sources=(crates.txt)
     [ "$name" = units ] || return 0
@@ -33,7 +34,8 @@ if is_built "$name"; then
     exit
 fi
 if [ "$name" = units ] && "$root/tools/release/release.sh" --check > /dev/null; then
-    # bin/units prefers the static program, which starts faster. Checks get the dynamic one, into which they load code.
+    # bin/units runs the static program, which starts faster. Checks get the dynamic one, since they preload code into
+    # it.
     if [ -x "$root/release/units-x86_64-linux-static" ]; then
         record release/units-x86_64-linux-static
     else

@@ -1,9 +1,9 @@
 #!/usr/bin/env bash
 # Makes the C library from the proved crate units_c, which tools/release/c_archive.sh compiles: a static library, a
-# shared library, the header and a pkg-config file. The heap of the toolchain is merged in, so programs link with
-# nothing but the C library of the system.
+# shared library, the header and a pkg-config file. They include the heap of the toolchain, so programs need only the C
+# library of the system.
 #   tools/c_library.sh FOLDER                 after bin/test
-#   tools/c_library.sh FOLDER --prefix PATH   with PATH in the pkg-config file, in place of FOLDER
+#   tools/c_library.sh FOLDER --prefix PATH   with PATH in the pkg-config file, instead of FOLDER
 # FOLDER gets include/units.h and lib/{libunits.a,libunits.so,libunits.so.1,libunits.so.1.0.0,pkgconfig/units.pc}.
 # Needs gcc, binutils and the toolchain. The statuses are those of tools/release/c_archive.sh.
 set -eu
@@ -36,7 +36,8 @@ trap 'rm -rf "$work"' EXIT
 
 cp "$root/lib/units.h" "$folder/include/units.h"
 printf 'create %s\naddlib %s\naddlib %s\nsave\nend\n' "$work/libunits.a" "$archive" "$heap" | ar -M
-# One object, in which only the calls are visible, so that a program may have functions with the names of the heap's.
+# One object in which only the calls are visible, so that a program may define functions with the same names as the
+# heap.
 ld -r --whole-archive "$work/libunits.a" -o "$work/units.o"
 nm -g --defined-only "$work/units.o" | sed -n 's/.* T \(units_[a-z_]*\)$/\1/p' > "$work/calls"
 objcopy --keep-global-symbols="$work/calls" "$work/units.o"

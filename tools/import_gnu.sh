@@ -3,12 +3,12 @@
 #
 #     import_gnu.sh [FILE [TO]]
 #
-# FILE is GNU's definitions.units; if it is not given, the installed one is looked for. TO is the copy, `gnu.units` in
-# the current folder if it is not given, and standard output if it is `-`. A file that this script did not write is
-# never overwritten. Use the copy with `units -f gnu.units`.
+# FILE is GNU's definitions.units, by default the installed one. TO is the copy, by default `gnu.units` in the current
+# folder; `-` means standard output. A file that this script did not write is never overwritten. Use the copy with
+# `units -f gnu.units`.
 #
-# The heading of the copy lists what differs from FILE. The copy is a modified version of GNU's file: the licence
-# that is stated in FILE, the GNU General Public License, holds for it too.
+# The heading of the copy lists the differences from FILE. The copy is a modified version of GNU's file, so the licence
+# in FILE, the GNU General Public License, applies to it too.
 #
 # Exit status: 0 if the copy was written, 1 if a file cannot be read or written, 2 for wrong arguments.
 set -u
@@ -38,11 +38,11 @@ installed_file() {
     return 1
 }
 
-# The program that writes the copy of the file `first`: it reads all lines, collects the names that have to change, and
-# changes the lines.
+# The awk program that writes the copy: it reads all lines, collects the names that have to change, and changes the
+# lines.
 IFS= read -r -d '' program << 'END' || :
-# renamed NAME: a name that ends in a digit gets a `_` before its last digits.
-function renamed(name,    start) {
+# with_underscore NAME: a name that ends in a digit, with a `_` before its last digits.
+function with_underscore(name,    start) {
     match(name, /[0-9]+$/)
     start = RSTART
     return substr(name, 1, start - 1) "_" substr(name, start)
@@ -80,7 +80,7 @@ function refuse(reason) {
     exit status = 1
 }
 
-# read_file FILE: the lines of the file and of the files that it includes, in `lines`.
+# read_file FILE: appends the lines of the file and of its includes to `lines`.
 function read_file(file,    text, length_of_text, i, got, name) {
     if (file in reading) refuse(file " includes itself")
     reading[file]
@@ -101,14 +101,14 @@ function read_file(file,    text, length_of_text, i, got, name) {
     delete reading[file]
 }
 
-# included_name LINE FILE: the path that an !include line of the file names, or nothing.
+# included_name LINE FILE: the path in an !include line of the file, or an empty text.
 function included_name(line, file,    words) {
     split(without_comment(line), words, /[ \t]+/)
     if (words[1] != "!include" || words[2] == "") return ""
     return words[2] ~ /^\// ? words[2] : folder_of(file) words[2]
 }
 
-# collect_names: what is defined, which names end in a digit, and which prefixes are one sign.
+# collect_names: collects the defined names, those that end in a digit, and the prefixes of one character.
 function collect_names(    i, name, goes_on) {
     for (i = 1; i <= count; goes_on = without_comment(lines[i++]) ~ /\\[ \t]*$/) {
         if (goes_on || lines[i] !~ /^[^ \t#!]/) continue
@@ -119,11 +119,11 @@ function collect_names(    i, name, goes_on) {
         if (name ~ /-$/ && is_one_sign(substr(name, 1, length(name) - 1))) signs[++signed] = name
     }
     for (i = 1; i <= ended; i++) {
-        if (!(renamed(endings[i]) in defined)) new_name[endings[i]] = renamed(endings[i])
+        if (!(with_underscore(endings[i]) in defined)) new_name[endings[i]] = with_underscore(endings[i])
     }
 }
 
-# with_a_number LINE: the body `/s` or `per s` of a definition begins with the number 1.
+# with_a_number LINE: the definition, with the number 1 before a body such as `/s` or `per s`.
 function with_a_number(line) {
     if (match(line, /^[^ \t#!]+[ \t]+(\/|per[ \t])/)) {
         changes["number"]++
@@ -141,7 +141,7 @@ function with_short_pi(line) {
     return line
 }
 
-# with_small_range LINE: an interval whose upper end is 2^128 is dropped.
+# with_small_range LINE: the line without an interval whose upper end is 2^128.
 function with_small_range(line) {
     if (sub(/range=\[1,340282366920938463463374607431768211456\][ \t]*/, "", line)) changes["range"]++
     return line
@@ -177,8 +177,8 @@ function print_heading(    i, name) {
     if (signed) print "# - the last lines define the second with each prefix that is one sign, such as the microsecond"
 }
 
-# print_seconds: a word such as the microsecond with its Greek letter is read as the plural of a bare prefix
-# unless it is defined.
+# print_seconds: defines words such as the microsecond with its Greek letter, which would otherwise be read as the
+# plural of a prefix.
 function print_seconds(    i, name) {
     print "\n# Seconds with the prefixes that are one sign"
     for (i = 1; i <= signed; i++) {
@@ -217,7 +217,7 @@ fi
 if [ -e "$to" ] && ! { [ -f "$to" ] && IFS= read -r line < "$to" && [ "$line" = "$mark" ]; }; then
     fail "$to exists and is not a copy that this script made; name another file"
 fi
-new=$(mktemp "$to.XXXXXX") || fail "cannot write beside $to"
+new=$(mktemp "$to.XXXXXX") || fail "cannot write a file next to $to"
 trap 'rm -f "$new"' EXIT
 readable_copy "$file" > "$new" || fail "nothing was written to $to"
 if ! chmod 644 "$new" || ! mv "$new" "$to"; then fail "cannot write $to"; fi

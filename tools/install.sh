@@ -4,19 +4,19 @@
 #        tools/install.sh --help
 #
 # Installs the program, qunits, units-lint, the library, manual pages, documents, examples, completions for bash, zsh
-# and fish, and files for Vim under PREFIX, which is ~/.local unless --prefix gives another one. If units-why is built,
-# it is installed too, with its manual page, the language server and the files for editors.
+# and fish, and files for Vim under PREFIX, which is ~/.local by default. If units-why is built, it is installed too,
+# with its manual page, the language server and the files for editors.
 #
-#   --name NAME   the name of the program, its manual page and its folders; otherwise units
-#   --setup       have your bash, zsh and Vim load the files too, if PREFIX is not a place where they look
-#   --uninstall   remove what was installed, by the list in PREFIX/share/NAME/installed; what qunits wrote for you stays
-#                 in ~/.config/units (your definitions) and ~/.local/state/units (the history)
+#   --name NAME   the name of the program, its manual page and its folders; units by default
+#   --setup       have your bash, zsh and Vim load the files too, if they do not search PREFIX
+#   --uninstall   remove the files in the list PREFIX/share/NAME/installed; the files that qunits wrote for you stay in
+#                 ~/.config/units (your definitions) and ~/.local/state/units (the history)
 #   --force       overwrite or remove files that this script did not install, or that were changed since; they are
 #                 not restored by --uninstall
 #
 # If DESTDIR is set, all files go below that folder, and PREFIX is the place from which they will be used.
-# Nothing is put in place before all of it is checked and copied. The status is 0 if all was done, 1 if nothing was,
-# and 2 for wrong arguments.
+# All files are checked and copied before the first one is put in place. The status is 0 if everything was done, 1 if
+# nothing was, and 2 for wrong arguments.
 set -euo pipefail
 umask 022
 script=$(readlink -f "${BASH_SOURCE[0]}")
@@ -58,8 +58,8 @@ list=$prefix/share/$name/installed
 work=$(mktemp -d)
 trap 'rm -rf "$work"' EXIT
 
-declare -A sum_of=() sum_now=() # of each listed file, by its place: when it was installed, and now
-declare -a folders=() # that were made, the outer ones first
+declare -A sum_of=() sum_now=() # the checksums of each listed file, by place: when it was installed, and now
+declare -a folders=() # the folders that the install made, the outer ones first
 read_list() {
     local line place at present=() sums
     if [ ! -e "$destdir$list" ]; then return; fi
@@ -77,16 +77,16 @@ read_list() {
     for at in "${!present[@]}"; do sum_now[${present[at]}]=${sums[at]%% *}; done
 }
 
-# is_ours PLACE: whether the file there is the one that this script installed.
+# is_ours PLACE: whether the file at this place is the one that this script installed.
 is_ours() { [ "${sum_of[$1]:-}" ] && [ "${sum_of[$1]}" = "${sum_now[$1]:-}" ]; }
 
-# owner_of FILE: the Debian package that the file belongs to, if one does.
+# owner_of FILE: prints the Debian package of the file, if it has one.
 owner_of() {
     local owner
     if owner=$(dpkg -S "$1" 2> /dev/null); then echo " (it belongs to the package ${owner%%:*})"; fi
 }
 
-# problem_of PLACE: why the file may not be put there, or nothing.
+# problem_of PLACE: prints why the file cannot be put there, or nothing.
 problem_of() {
     local target=$destdir$1 folder=$destdir${1%/*}
     if [ -d "$target" ]; then echo "$target is a folder"; return; fi
@@ -108,7 +108,7 @@ check_all() {
     fi
 }
 
-# make_folder FOLDER: makes a folder below DESTDIR with those above it, and notes which ones are new.
+# make_folder FOLDER: makes a folder below DESTDIR and those above it, and adds the new ones to new_folders.
 make_folder() {
     if [ -d "$destdir$1" ]; then return; fi
     if [ "${1%/*}" ]; then make_folder "${1%/*}"; elif [ "$destdir" ]; then mkdir -p "$destdir"; fi
@@ -116,7 +116,7 @@ make_folder() {
     new_folders+=("$1")
 }
 
-# unstage: takes back what stage_all did.
+# unstage: undoes stage_all.
 unstage() {
     local place at
     for place in "${places[@]}" "$list"; do rm -f "$destdir$place.new-$$"; done
@@ -132,7 +132,7 @@ write_list() {
     for at in "${!places[@]}"; do echo "file ${sums[at]%% *} ${places[at]}"; done
 }
 
-# stage_all: a copy of each file beside its place. What is left to do is to rename them.
+# stage_all: copies each file next to its place, so that only renames are left to do.
 stage_all() {
     local at
     trap unstage EXIT
@@ -146,7 +146,7 @@ stage_all() {
     install -m 644 "$work/installed" "$destdir$list.new-$$"
 }
 
-# put_all: gives the staged files their names, the list first, and removes files of an earlier version.
+# put_all: renames the staged files, the list first, and removes files of an earlier version.
 put_all() {
     local place
     trap '' INT TERM HUP PIPE
@@ -177,7 +177,7 @@ add_line() {
 
 has_line() { grep -qxF -- "$2" "$1" 2> /dev/null; }
 
-# remove_line FILE LINE: removes the line, and the file if nothing else is in it.
+# remove_line FILE LINE: removes the line, and the file if it is then empty.
 remove_line() {
     if has_line "$1" "$2"; then
         grep -vxF -- "$2" "$1" > "$work/rest" || :
@@ -204,7 +204,7 @@ undo_setup() {
 
 # --- the two actions ---
 
-# advise: what the user has to do before the installed files are found.
+# advise: prints what the user has to do so that the installed files are found.
 advise() {
     case :$PATH: in *:"$prefix/bin":*) ;; *) echo "$prefix/bin is not on your PATH" ;; esac
     if ! is_system_prefix && [ "$setup" = no ] && ! has_line "$bash_file" "$bash_line"; then
@@ -231,7 +231,7 @@ install_all() {
 }
 
 uninstall_all() {
-    local place folder at gone=() kept=()
+    local place folder at removable=() edits=()
     [ -e "$destdir$list" ] || give_up "there is no list of installed files, $destdir$list"
     read_list
     for place in "${!sum_of[@]}"; do
@@ -241,15 +241,15 @@ uninstall_all() {
     trap '' INT TERM HUP PIPE
     for place in "${!sum_of[@]}"; do
         if [ ! -e "$destdir$place" ] || is_ours "$place" || [ "$force" = yes ]; then
-            gone+=("$destdir$place")
+            removable+=("$destdir$place")
         else
-            kept+=("$place")
+            edits+=("$place")
         fi
     done
-    rm -f -- ${gone[@]+"${gone[@]}"}
+    rm -f -- ${removable[@]+"${removable[@]}"}
     if [ -z "$destdir" ]; then undo_setup; fi
-    if [ "${#kept[@]}" -gt 0 ]; then
-        printf '%s\n' "${kept[@]}" | sort | while read -r place; do say "$destdir$place was changed, so it stays"; done
+    if [ "${#edits[@]}" -gt 0 ]; then
+        printf '%s\n' "${edits[@]}" | sort | while read -r place; do say "$destdir$place was changed, so it stays"; done
         give_up 'the rest was removed (--force removes all of it)'
     fi
     rm "$destdir$list"

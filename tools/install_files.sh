@@ -1,5 +1,5 @@
 # shellcheck shell=bash disable=SC2154 # tools/install.sh sets root, prefix, name and work, and reads this file
-# What tools/install.sh installs: the arrays modes, sources and places, one element for each file.
+# The files that tools/install.sh installs: the arrays modes, sources and places have one element for each.
 modes=() sources=() places=()
 
 # add MODE SOURCE PLACE
@@ -8,24 +8,24 @@ add() {
     modes+=("$1") sources+=("$2") places+=("$3")
 }
 
-# add_edited MODE SOURCE PLACE SCRIPT: a copy that was edited by sed.
+# add_edited MODE SOURCE PLACE SCRIPT: adds a copy that a script of sed edited.
 add_edited() {
     local copy=$work/edited.${#places[@]}
     sed -E "$4" "$2" > "$copy"
     add "$1" "$copy" "$3"
 }
 
-# add_all MODE FOLDER FILE..: files that keep their names.
+# add_all MODE FOLDER FILE..: adds files, which keep their names.
 add_all() {
     local mode=$1 folder=$2 file
     shift 2
     for file in "$@"; do add "$mode" "$file" "$folder/${file##*/}"; done
 }
 
-# is_system_prefix: whether bash and zsh look for completions under the prefix, and /etc goes with it.
+# is_system_prefix: whether bash and zsh search the prefix for completions, and /etc belongs to it.
 is_system_prefix() { [[ $prefix = /usr || $prefix = /usr/local ]]; }
 
-# zsh_folder: where zsh looks under the prefix. Debian's zsh leaves /usr/share/zsh/site-functions out.
+# zsh_folder: prints the folder that zsh searches. Debian's zsh does not search /usr/share/zsh/site-functions.
 zsh_folder() {
     if [ "$prefix" = /usr ] && [ -e /etc/debian_version ]; then
         echo "$prefix/share/zsh/vendor-completions"
@@ -34,7 +34,7 @@ zsh_folder() {
     fi
 }
 
-# fish_folder: where fish looks. Without XDG_DATA_DIRS that is no folder under /usr/local.
+# fish_folder: prints the folder that fish searches. Without XDG_DATA_DIRS it searches no folder under /usr/local.
 fish_folder() {
     case $prefix in /usr/local) echo /etc/fish/completions ;; *) echo "$prefix/share/fish/vendor_completions.d" ;; esac
 }
@@ -57,7 +57,7 @@ add_programs() {
     fi
 }
 
-# add_units_why: units-why, the language server over it, and the files for editors, which name the server's place.
+# add_units_why: adds units-why, its language server, and the files for editors, which name the path of the server.
 add_units_why() {
     local file server=$prefix/share/$name/lsp/units_lsp.py
     add 755 "$units_why" "$prefix/bin/units-why"
@@ -73,7 +73,7 @@ add_library() {
     if [ -e "$root/tools/import_gnu.sh" ]; then add_all 755 "$prefix/share/$name" "$root/tools/import_gnu.sh"; fi
 }
 
-# add_pages: the manual pages, which name the program and its documents as they are installed.
+# add_pages: adds the manual pages, with the installed names of the program and its documents.
 add_pages() {
     local page place_edits edits man=$root/share/man/man1
     place_edits="s#\\bdocs/([A-Z_]+\\.md)#$(as_roff "$prefix/share/doc/$name/docs")/\\1#g
@@ -109,7 +109,7 @@ add_documents() {
     add_all 644 "$prefix/share/doc/$name/examples" "$root"/examples/*
 }
 
-# add_completions: each file of completions is for all commands, under the name of each.
+# add_completions: adds the completions. Each file is for all commands, and is installed under the name of each.
 add_completions() {
     local completions=$root/share/completions command edits="s/\\bunits qunits\\b/$name qunits/"
     for command in "$name" qunits units-lint ${units_why:+units-why}; do
@@ -122,7 +122,8 @@ add_completions() {
     fi
 }
 
-# add_vim_files: Vim looks under /usr/share/vim/vimfiles, Neovim under share/nvim/site of each usual prefix.
+# add_vim_files: adds the files for Vim, which searches /usr/share/vim/vimfiles, and Neovim, which searches
+# share/nvim/site of each usual prefix.
 add_vim_files() {
     local file place edits="s/makeprg=units(\\\\)/makeprg=$name\1/"
     for file in "$root"/share/vim/*/*.vim; do
@@ -134,7 +135,7 @@ add_vim_files() {
 }
 
 collect_files() {
-    # The program units-why. If it is not built, nothing of it is installed.
+    # If units-why is not built, neither it nor its files are installed.
     units_why=$("$root/tools/built.sh" units_why 2> /dev/null) || units_why=
     add_programs
     if [ "$units_why" ]; then add_units_why; fi

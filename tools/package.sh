@@ -3,13 +3,13 @@
 #
 #     tools/package.sh [FOLDER]
 #
-# writes exact-units_VERSION-1_amd64.deb, exact-units-VERSION-x86_64-linux.tar.gz and SHA256SUMS to FOLDER, which is
-# `out` in the repository if it is not given. The version and the date are those of share/man/man1/units.1.
+# writes exact-units_VERSION-1_amd64.deb, exact-units-VERSION-x86_64-linux.tar.gz and SHA256SUMS to FOLDER, by default
+# `out` in the repository. The version and the date are those of share/man/man1/units.1.
 #
 # The package is called exact-units, and so is its program: Debian's package `units` has /usr/bin/units, registers no
-# alternative for it, and stays installed beside this one. If units-why is built here, it is included, with all that
-# tools/install.sh installs with it. Two builds of the same sources are equal byte for byte, whatever the folder, the
-# time and the umask; SOURCE_DATE_EPOCH replaces the date.
+# alternative for it, and can be installed together with this one. If units-why is built here, the package has it and
+# its files. Two builds of the same sources are equal byte for byte, whatever the folder, the time and the umask;
+# SOURCE_DATE_EPOCH replaces the date.
 #
 # The programs contain code of crates of the Rattle kit. Their licences are read from the kit, so `rt` has to be on the
 # path. Exit status: 0 if all files were written, 1 if something is missing, 2 for wrong arguments.
@@ -27,28 +27,28 @@ fail() {
     exit "${2:-1}"
 }
 
-# heading_field NUMBER: a quoted field of the .TH line of the manual page: 1 is the date, 2 the name and the version.
+# heading_field NUMBER: prints a quoted field of the .TH line of the manual page: 1 is the date, 2 the name and version.
 heading_field() { sed -n '/^\.TH /{s/^[^"]*//;p;q;}' "$root/share/man/man1/units.1" | cut -d '"' -f $((2 * $1)); }
 
-# named WORD: what release/MADE_FROM has after this word.
-named() { sed -n "s/^$1 //p" "$root/release/MADE_FROM"; }
+# field WORD: prints the text after this word in release/MADE_FROM.
+field() { sed -n "s/^$1 //p" "$root/release/MADE_FROM"; }
 
-# kit_crates: the crates of the kit that are linked into the programs, directly or through another one, sorted.
+# kit_crates: prints the crates of the kit that are linked into the programs, directly or indirectly, sorted.
 kit_crates() {
-    local pending=() seen=' ' crate
+    local pending=() crates=' ' crate
     mapfile -t pending < <({ lines_of units && if [ "$units_why" ]; then lines_of units_why; fi; } | cut -d : -f 2 | tr ' ' '\n' | grep . | sort -u)
     pending+=(std)
     while [ "${#pending[@]}" -gt 0 ]; do
         crate=${pending[0]}
         pending=("${pending[@]:1}")
-        if [ ! -d "$kit/rlibs/$crate.rlib" ] || [[ $seen = *" $crate "* ]]; then continue; fi
-        seen+="$crate "
+        if [ ! -d "$kit/rlibs/$crate.rlib" ] || [[ $crates = *" $crate "* ]]; then continue; fi
+        crates+="$crate "
         mapfile -t -O "${#pending[@]}" pending < <(grep -a '^dep ' "$kit/rlibs/$crate.rlib/format" | cut -d ' ' -f 2)
     done
-    tr ' ' '\n' <<< "$seen" | grep . | sort
+    tr ' ' '\n' <<< "$crates" | grep . | sort
 }
 
-# licence_files CRATE: the licences that apply. If there is a choice of MIT and Apache, that of MIT.
+# licence_files CRATE: prints the files of the licences that apply: of MIT and Apache, that of MIT.
 licence_files() {
     local file
     for file in "$kit/rattle/$1"/LICENSE*; do
@@ -57,8 +57,8 @@ licence_files() {
     done
 }
 
-# print_licence FILE FORM: the text of a licence. Debian has the Apache licence in a place of its own, and its packages
-# refer to that: so does the form `debian`.
+# print_licence FILE FORM: prints a licence. The form `debian` refers to Debian's own copy of the Apache licence, as its
+# packages have to.
 print_licence() {
     if [ "$2" = debian ] && head -n 1 "$1" | grep -q 'Apache License'; then
         echo 'The Apache License, Version 2.0, is in /usr/share/common-licenses/Apache-2.0.'
@@ -67,7 +67,7 @@ print_licence() {
     fi
 }
 
-# kit_licences FORM: what the kit states of each crate, and the text of its licence.
+# kit_licences FORM: prints the statement of the kit on each crate, and its licence.
 kit_licences() {
     local crate file files silent=()
     while read -r crate; do
@@ -88,19 +88,19 @@ kit_licences() {
     fi
 }
 
-# write_copyright FORM: the licence of the program and those of the crates in it.
+# write_copyright FORM: prints the licence of the program and those of the crates in it.
 write_copyright() {
     printf 'exact units %s\n\n' "$version"
     cat "$root/COPYING.md"
     printf '\n\nThe program was built by %s and contains code of the following crates of that kit.\n' \
-        "$(named toolchain)"
+        "$(field toolchain)"
     kit_licences "$1"
 }
 
-# set_times FOLDER: the date of the release for all that is below the folder.
+# set_times FOLDER: sets the times of all files below the folder to the date of the release.
 set_times() { find "$1" -exec touch --no-dereference --date "@$epoch" {} +; }
 
-# stage_files: the installed files below $stage, in the places that Debian has for them.
+# stage_files: installs the files below $stage, in the places that Debian's policy wants.
 stage_files() {
     local share=$stage/usr/share page
     DESTDIR=$stage "$root/tools/install.sh" --prefix /usr --name "$name" > /dev/null
@@ -157,7 +157,7 @@ build_package() {
         "$work/${name}_$version-1_amd64.deb" > /dev/null
 }
 
-# build_tarball: the layout of the repository without the sources: bin/units is the program itself.
+# build_tarball: the tarball has the layout of the repository without the sources; bin/units is the program itself.
 build_tarball() {
     local top=$work/$name-$version part
     mkdir "$top" "$top/bin" "$top/tools" "$top/tools/lint"

@@ -1,8 +1,8 @@
 #!/usr/bin/env bash
-# Installs the Debian packages that the checks and comparisons use beyond the toolchain. No check needs all of them:
-# one that lacks its package is skipped by name.
+# Installs the Debian packages that the checks and comparisons need besides the toolchain. A check whose package is
+# missing is named and skipped.
 #   tools/packages.sh            installs them all (as root)
-#   tools/packages.sh --list     prints their names, one a line
+#   tools/packages.sh --list     prints their names, one on each line
 set -eu
 
 packages=(

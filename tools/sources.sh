@@ -1,8 +1,8 @@
 # shellcheck shell=bash
 # shellcheck disable=SC2154 # root
-# The sources of a program: for scripts that source this file and have the top of the repository in `root`.
+# Functions on the sources of a program, for scripts that have the top of the repository in `root`.
 
-# lines_of NAME: the lines of crates.txt of the crate and of those below it, the lowest first.
+# lines_of NAME: prints the lines of crates.txt for the crate and those below it, the lowest first.
 lines_of() {
     awk -F: -v name="$1" '
         function print_from_lowest(crate, words, count, i) {
@@ -17,7 +17,7 @@ lines_of() {
     ' "$root/crates.txt"
 }
 
-# folders_of NAME: the folders with their sources, from the top of the repository.
+# folders_of NAME: prints the folders with their sources, relative to the top of the repository.
 folders_of() {
     local crate part
     while IFS=': ' read -r crate _; do
@@ -27,7 +27,7 @@ folders_of() {
     done < <(lines_of "$1")
 }
 
-# sum_of_sources NAME: one checksum over those lines and over the names and bytes of all files in those folders.
+# sum_of_sources NAME: prints one checksum of those lines and of the names and bytes of all files in those folders.
 sum_of_sources() (
     mapfile -t folders < <(folders_of "$1")
     cd "$root" && {
@@ -36,14 +36,14 @@ sum_of_sources() (
     } | sha256sum | cut -d ' ' -f 1
 )
 
-# is_outdated FILE NAME: whether a source is newer than the file, by its times.
+# is_outdated FILE NAME: whether a source is newer than the file.
 is_outdated() {
     local folders
     mapfile -t folders < <(folders_of "$2")
     [ -n "$(cd "$root" && find "${folders[@]}" -newer "$1" -print -quit)" ]
 }
 
-# is_built NAME: whether the program is built here, by a build that was finished, from the present sources.
+# is_built NAME: whether a build here has finished and the program is of the present sources.
 is_built() {
     local program=$root/crates/$1/out/$1
     [ -x "$program" ] && ! [ -e "$program.before" ] && ! is_outdated "$program" "$1"

@@ -1,15 +1,15 @@
 #!/usr/bin/env python3
-"""A language server for definition files of units, over `units-why`.
+"""A language server for definition files of units, which calls `units-why`.
 
     tools/units_lsp.py [--program UNITS_WHY]
 
 It speaks the Language Server Protocol on standard input and output: diagnostics as the text changes, go to definition,
-hover and the symbols of a file. All answers come from `units-why`; only the splitting of lines is done here.
+hover and the symbols of a file. All answers come from `units-why`; this script only splits lines.
 
-A file that another file of its folder includes is checked as a part of that one, so that it may use what the other
-files define. The initialization option `root` names the file to check instead, and `findings` lists the words that
-follow `--lint`, which are `["--captures"]` without it. Text that is not saved is checked in a temporary copy of the
-files that belong together; a file that is included by a path with `..` is not found there.
+If another file in the folder includes a file, it is checked as a part of that one, so that it may use the definitions
+of the other files. The initialization option `root` names the file to check instead, and `findings` lists the words
+after `--lint`, by default `["--captures"]`. Unsaved text is checked in a temporary copy of the files, which lacks files
+that are included by a path with `..`.
 """
 
 from __future__ import annotations
@@ -28,13 +28,13 @@ from pathlib import Path
 from urllib.parse import unquote, urlparse
 
 SEVERITIES = {"error": 1, "warning": 2, "information": 3}
-FINDINGS = ["--captures"]  # asked for without the initialization option `findings`
+FINDINGS = ["--captures"]  # the default of the initialization option `findings`
 FUNCTION, VARIABLE, LIST, CONSTANT = 12, 13, 18, 14  # kinds of symbols in the protocol
 INCLUDE = re.compile(r"^[ \t]*![ \t]*include[ \t]+(\S+)[ \t]*(?:#.*)?$", re.MULTILINE)
 NAME = re.compile(r"[ \t]*\+?([^\s#!+(\[]+)([(\[]?)")
 LIST_NAME = re.compile(r"[ \t]*![ \t]*unitlist[ \t]+(\S+)")
 WORD = re.compile(r"[^\s+\-*/^|()\[\]{},;:=~!#\"'<>?.0-9][^\s+\-*/^|()\[\]{},;:=~!#\"<>?]*")
-SECONDS = 20  # for one run of units-why
+SECONDS = 20  # limit for one run of units-why
 
 
 def path_of(uri: str) -> Path:
@@ -46,7 +46,7 @@ def utf16_length(text: str) -> int:
 
 
 def column_of(line: str, character: int) -> int:
-    """The place in a line of a character that the protocol counts in UTF-16."""
+    """The place in a line of a character, which the protocol counts in UTF-16."""
     units = 0
     for place, char in enumerate(line):
         if units >= character:
@@ -56,7 +56,7 @@ def column_of(line: str, character: int) -> int:
 
 
 def characters_before(line: str, column: int) -> int:
-    """How many characters of a line are before a column that counts bytes from 1."""
+    """The number of characters of a line before a column, which counts bytes from 1."""
     return len(line.encode("utf-8", "surrogateescape")[: column - 1].decode("utf-8", "surrogateescape"))
 
 
@@ -74,7 +74,7 @@ def read_text(path: Path) -> str:
 
 
 class Overlay:
-    """The files to check: those on the disk, or a copy of them with the texts that are not saved."""
+    """The files to check: those on the disk, or a copy of them with the unsaved texts."""
 
     def __init__(self, root: Path, unsaved: dict[Path, str]):
         self.folder = root.parent
@@ -83,13 +83,13 @@ class Overlay:
         if unsaved:
             self.copy = Path(tempfile.mkdtemp(prefix="units-lsp-"))
             self.root = self.copy / root.name
-            self.put(root, unsaved, set())
+            self.copy_file(root, unsaved, set())
 
-    def put(self, path: Path, unsaved: dict[Path, str], done: set[Path]) -> None:
-        """Puts a file and those that it includes into the copy."""
-        if path in done:
+    def copy_file(self, path: Path, unsaved: dict[Path, str], copied: set[Path]) -> None:
+        """Copies a file and its includes."""
+        if path in copied:
             return
-        done.add(path)
+        copied.add(path)
         text = unsaved.get(path)
         if text is None:
             text = read_text(path)
@@ -98,10 +98,10 @@ class Overlay:
             target.parent.mkdir(parents=True, exist_ok=True)
             target.write_text(text, encoding="utf-8", errors="surrogateescape")
         for name in INCLUDE.findall(text):
-            self.put(path.parent / name, unsaved, done)
+            self.copy_file(path.parent / name, unsaved, copied)
 
     def original(self, name: str) -> Path:
-        """The file on the disk that a file of this name stands for."""
+        """The file on the disk for a file of this name in the overlay."""
         path = Path(name)
         if self.copy and self.copy in path.parents:
             return self.folder / path.relative_to(self.copy)
@@ -129,7 +129,7 @@ class Server:
         self.root: str | None = None
         self.findings = FINDINGS
         self.changed: set[str] = set()
-        self.reported: dict[Path, set[str]] = {}
+        self.files_with_findings: dict[Path, set[str]] = {}
 
     def send(self, **message: object) -> None:
         body = json.dumps({"jsonrpc": "2.0", **message}).encode()
@@ -137,13 +137,13 @@ class Server:
         self.out.flush()
 
     def run(self, overlay: Overlay, *words: str) -> list[dict]:
-        """The objects that units-why writes about the files of an overlay."""
+        """The JSON objects that units-why writes about the files of an overlay."""
         command = [self.program, "--json", "-f", str(overlay.root), *words]
-        done = subprocess.run(
+        process = subprocess.run(
             command, stdin=subprocess.DEVNULL, stdout=subprocess.PIPE, stderr=subprocess.DEVNULL,
             timeout=SECONDS, check=False,
         )
-        return [json.loads(line) for line in done.stdout.decode("utf-8", "surrogateescape").splitlines()]
+        return [json.loads(line) for line in process.stdout.decode("utf-8", "surrogateescape").splitlines()]
 
     def unsaved(self) -> dict[Path, str]:
         """The documents whose text differs from the one on the disk."""
@@ -151,20 +151,20 @@ class Server:
         return {path: text for path, text in texts.items() if text != read_text(path)}
 
     def root_of(self, path: Path) -> Path:
-        """The file to check for a document: the first that includes it, directly or not, and is included by none."""
+        """The file to check for a document: the first one that includes it and is included by none itself."""
         if self.root:
             return path.parent / self.root
         includes = {
             other: {other.parent / name for name in INCLUDE.findall(self.text_at(other))}
             for other in sorted(path.parent.glob("*.units"))
         }
-        seen = {path}
+        visited = {path}
         while True:
-            above = [other for other, names in includes.items() if path in names and other not in seen]
-            if not above:
+            includers = [other for other, names in includes.items() if path in names and other not in visited]
+            if not includers:
                 return path
-            path = above[0]
-            seen.add(path)
+            path = includers[0]
+            visited.add(path)
 
     def text_at(self, path: Path) -> str:
         return self.texts.get(path.as_uri()) or read_text(path)
@@ -174,17 +174,17 @@ class Server:
 
     def check(self, uri: str) -> None:
         """Publishes the diagnostics of a document and of the files that are checked with it."""
-        found: dict[str, list[dict]] = {uri: []}
+        diagnostics: dict[str, list[dict]] = {uri: []}
         with self.overlay_of(uri) as overlay:
             root = overlay.original(str(overlay.root))
             for finding in self.run(overlay, "--lint", *self.findings):
                 if "file" in finding:
                     place = overlay.original(finding["file"])
-                    found.setdefault(place.as_uri(), []).append(self.diagnostic(place, finding, overlay))
-        for gone in self.reported.get(root, set()) - set(found):
-            found[gone] = []
-        self.reported[root] = {name for name, findings in found.items() if findings}
-        for name, findings in found.items():
+                    diagnostics.setdefault(place.as_uri(), []).append(self.diagnostic(place, finding, overlay))
+        for old_uri in self.files_with_findings.get(root, set()) - set(diagnostics):
+            diagnostics[old_uri] = []
+        self.files_with_findings[root] = {name for name, findings in diagnostics.items() if findings}
+        for name, findings in diagnostics.items():
             self.notify("textDocument/publishDiagnostics", {"uri": name, "diagnostics": findings})
 
     def diagnostic(self, path: Path, finding: dict, overlay: Overlay) -> dict:
@@ -212,7 +212,7 @@ class Server:
         return next((match.group() for match in words), None)
 
     def rows_at(self, place: dict, overlay: Overlay) -> tuple[dict, list[dict]]:
-        """What units-why says of the word under the cursor: the reply, and the rows of the word itself."""
+        """The reply of units-why on the word under the cursor, and the rows of the word itself."""
         word = self.word_at(place)
         if not word:
             return {}, []
@@ -245,21 +245,21 @@ class Server:
     @staticmethod
     def row_line(overlay: Overlay, row: dict) -> str:
         value = f" = {row['value']}" if "value" in row else ""
-        where = f" ({overlay.original(row['file']).name}:{row['line']})" if "file" in row else ""
-        return f"{row['key']}: {row['how']}, {row.get('text', '')}{value}{where}"
+        place = f" ({overlay.original(row['file']).name}:{row['line']})" if "file" in row else ""
+        return f"{row['key']}: {row['how']}, {row.get('text', '')}{value}{place}"
 
     def symbols(self, place: dict) -> list[dict]:
-        """The definitions of a document, line by line. A line that goes on in the next one is a part of it."""
-        found, continues = [], False
+        """The definitions of a document, line by line. A line that continues another one has none."""
+        symbols, continues = [], False
         for number, line in enumerate(self.texts.get(place["textDocument"]["uri"], "").split("\n")):
             match = None if continues else (LIST_NAME.match(line) or NAME.match(line))
             if match:
                 name, kind = match.group(1), self.symbol_kind(match)
-                where = span(line, number, *match.span(1))
+                selection = span(line, number, *match.span(1))
                 whole = span(line, number, 0, len(line))
-                found.append({"name": name, "kind": kind, "range": whole, "selectionRange": where})
+                symbols.append({"name": name, "kind": kind, "range": whole, "selectionRange": selection})
             continues = line.split("#")[0].rstrip().endswith("\\")
-        return found
+        return symbols
 
     @staticmethod
     def symbol_kind(match: re.Match[str]) -> int:
@@ -304,7 +304,7 @@ class Server:
             self.send(id=message["id"], error={"code": -32603, "message": f"{self.program}: {fault}"})
 
     def take(self, message: dict) -> None:
-        """Takes a notification. Changes are checked once no message is left."""
+        """Handles a notification. Changes are checked when no message is left."""
         document = (message.get("params") or {}).get("textDocument", {})
         uri = document.get("uri", "")
         match message.get("method"):
@@ -331,7 +331,7 @@ class Server:
 
 
 def read_message(source) -> dict | None:
-    """The next message, or none at the end of the input."""
+    """The next message, or None at the end of the input."""
     length = 0
     while header := source.readline():
         if header == b"\r\n":
@@ -343,7 +343,7 @@ def read_message(source) -> dict | None:
 
 
 def fill(messages: queue.Queue, source) -> None:
-    """Puts the messages of the input into a queue, and none after the last one."""
+    """Puts the messages of the input into a queue, and None after the last one."""
     while message := read_message(source):
         messages.put(message)
         if message.get("method") == "exit":
@@ -352,7 +352,7 @@ def fill(messages: queue.Queue, source) -> None:
 
 
 def default_program() -> str:
-    """units-why in the folder bin/ of the repository or of the prefix that the server is in, or else on the PATH."""
+    """units-why in bin/ of the repository or of the prefix that contains the server, or else on the PATH."""
     programs = (folder / "bin/units-why" for folder in Path(__file__).resolve().parents)
     return next((str(program) for program in programs if os.access(program, os.X_OK)), "units-why")
 

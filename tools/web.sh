@@ -1,9 +1,9 @@
 #!/usr/bin/env bash
-# The page in a browser, as one file: the program compiled to WebAssembly, with web/ and share/units.
+# Makes the page for browsers as one file: the program compiled to WebAssembly, with web/ and share/units.
 #   tools/web.sh             after bin/test and tools/release/release.sh: makes release/units.html and its lines in
 #                            release/MADE_FROM. It makes everything twice and compares. web/out has the modules
-#   tools/web.sh --page TO   makes the page of the present web/ and share/units as the file TO, with the module that
-#                            is in release/units.html; this needs no toolchain
+#   tools/web.sh --page TO   makes the page of the present web/ and share/units as the file TO, with the module in
+#                            release/units.html; this needs no toolchain
 set -euo pipefail
 script=$(readlink -f "${BASH_SOURCE[0]}")
 root=${script%/*/*}
@@ -12,7 +12,7 @@ made_from=$root/release/MADE_FROM
 out=$root/web/out
 
 sum_of() { sha256sum "$1" | cut -d ' ' -f 1; }
-named() { sed -n "s/^$1 //p" "$made_from"; }
+field() { sed -n "s/^$1 //p" "$made_from"; }
 
 give_up() {
     echo "web: $*" >&2
@@ -20,7 +20,7 @@ give_up() {
 }
 
 # write_page MODULE TO
-write_page() { python3 "$root/tools/web/page.py" "$1" "$root/share/units" "$(named version)" "$2"; }
+write_page() { python3 "$root/tools/web/page.py" "$1" "$root/share/units" "$(field version)" "$2"; }
 
 make_page_again() {
     [ -e "$page" ] || give_up 'there is no release/units.html: run tools/web.sh after bin/test'
@@ -31,7 +31,7 @@ make_page_again() {
     rm -r "$folder"
 }
 
-# make_modules FOLDER: the modules and the page.
+# make_modules FOLDER: makes the modules and the page.
 make_modules() {
     mkdir -p "$1"
     "$root/tools/web/llvm_code.sh" units "$1"
@@ -40,10 +40,10 @@ make_modules() {
 }
 
 record() {
-    local kept
-    kept=$(grep -v '^page \|^module' "$made_from")
+    local other_lines
+    other_lines=$(grep -v '^page \|^module' "$made_from")
     {
-        echo "$kept"
+        echo "$other_lines"
         echo "page $(sum_of "$page")"
         echo "module32 $(sum_of "$out/units32.wasm")"
         echo "module64 $(sum_of "$out/units64.wasm")"
@@ -55,7 +55,7 @@ record() {
 make() {
     command -v rt > /dev/null || give_up 'there is no command rt (see CONTRIBUTING.md)'
     command -v wasm-opt > /dev/null || give_up 'there is no command wasm-opt: tools/packages.sh installs binaryen'
-    [ "$(sum_of "$root/crates/units/out/units" 2> /dev/null)" = "$(named program)" ] \
+    [ "$(sum_of "$root/crates/units/out/units" 2> /dev/null)" = "$(field program)" ] \
         || give_up 'the built program is not the released one: run bin/test and tools/release/release.sh first'
     KIT=$(dirname "$(dirname "$(readlink -f "$(command -v rt)")")")
     export KIT

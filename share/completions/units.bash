@@ -1,6 +1,7 @@
 # Completions of units, qunits, units-why and units-lint for bash.
 
-# _units_names COMMAND FILE LOCALE: the names that the command converts. An empty file is the built-in definitions.
+# _units_names COMMAND FILE LOCALE: prints the names that the command converts. An empty FILE means the built-in
+# definitions.
 _units_names() {
     local program
     program=$(type -P "$1") || return
@@ -11,7 +12,7 @@ _units_names() {
     fi
 }
 
-# _units_expression COMMAND WORD: the last name in the word, which may begin with a quote.
+# _units_expression COMMAND WORD: completes the last name in the word, which may begin with a quote.
 _units_expression() {
     local word=${2#[\"\']} file='' locale='' option='' at tail
     for ((at = 1; at < COMP_CWORD; at++)); do
@@ -35,12 +36,12 @@ _units_files() {
 }
 
 _units_words() {
-    local word=${COMP_WORDS[COMP_CWORD]} before=${COMP_WORDS[COMP_CWORD - 1]} options
+    local word=${COMP_WORDS[COMP_CWORD]} previous=${COMP_WORDS[COMP_CWORD - 1]} options
     COMPREPLY=()
     if [ "$word" = = ]; then
         word=''
-    elif [ "$before" = = ] && [ "$COMP_CWORD" -gt 2 ]; then
-        before=${COMP_WORDS[COMP_CWORD - 2]}
+    elif [ "$previous" = = ] && [ "$COMP_CWORD" -gt 2 ]; then
+        previous=${COMP_WORDS[COMP_CWORD - 2]}
     fi
     options='--digits --exact --one-line --compact --terse --quiet --strict --round --verbose --file --locale --check
         --column --header --trial'
@@ -49,7 +50,7 @@ _units_words() {
         units-why) options='--digits --exact --json --file --locale --lint --captures --unused' ;;
         units-lint) options='--help --statuses --dimensions --locale --program' ;;
     esac
-    case ${1##*/}:$before in
+    case ${1##*/}:$previous in
         *:-f | *:--file | *:--program) _units_files "$word" ;;
         *:-l | *:--locale) mapfile -t COMPREPLY < <(compgen -W 'en_US en_GB' -- "$word") ;;
         *:-d | *:--digits | *:--column | *:--trial) ;;

@@ -21,7 +21,7 @@ function __units_expression
                 set -a options $words[$at]
         end
     end
-    # An empty file is the built-in definitions.
+    # An empty file name means the built-in definitions.
     if test -n "$file"; or test (path basename $program) != qunits
         set -a options -f (string replace -r '^~/' "$HOME/" -- "$file")
     end

@@ -1,7 +1,7 @@
 # shellcheck shell=sh disable=SC2034,SC2154 # bin/qunits sets and reads from, to, reply and status
-# Functions of bin/qunits: the names of a library, what people write in another way than units reads it, and hints.
+# Functions of bin/qunits: the names of a library, notations that units reads differently, and hints.
 
-# write_own_file: what --new does.
+# write_own_file: the option --new.
 write_own_file() {
     if [ -e "$own" ]; then refuse "$own exists already"; fi
     case $file in *[[:space:]\#\|]*) refuse "!include cannot name a path with blanks: $file" ;; esac
@@ -10,16 +10,16 @@ write_own_file() {
     rm -f "$own.new"; say "could not write $own"; exit 5
 }
 
-# list_names: the units, functions and lists of the file. Each name holds a printing character of ASCII or a leading
-# byte of UTF-8, so these searches find all of them.
+# list_names: prints the units, functions and lists of the file. Each name has a printing character of ASCII or a
+# leading byte of UTF-8, so these searches find all of them.
 list_names() {
     LC_ALL=C awk 'BEGIN { for (i = 33; i < 245; i++) if (i < 127 || i > 193) printf "search %c\n", i }' |
         "$program" -q ${file:+-f "$file"} ${locale:+-l "$locale"} 2> /dev/null | LC_ALL=C sort -u |
         awk -F '\t' 'NF > 2 && $2 !~ /-$/ { sub(/^!unitlist /, "", $2); sub(/\(\)$/, "", $2); print $2 }'
 }
 
-# with_fractions TEXT: 3/4 in is 3|4 in, and 2 1/2 cups are (2+1|2) cups. For units each of them divides by the unit.
-# 1½ cups and 1 ½ cups are (1+½) cups, where units multiplies; m² is m^2.
+# with_fractions TEXT: prints 3/4 in as 3|4 in, and 2 1/2 cups as (2+1|2) cups; units would divide by the unit. Prints
+# 1½ cups and 1 ½ cups as (1+½) cups, since units would multiply, and m² as m^2.
 with_fractions() {
     printf '%s\n' "$1" | sed -E '
         s#²#^2#g
@@ -29,9 +29,9 @@ with_fractions() {
         s#(^|[ (;-])([0-9]+)/([0-9]+)( [^-+*/^|; 0-9.)]|[a-df-zA-DF-Z])#\1\2|\3\4#g'
 }
 
-# ask_joined OPTION..: an unknown word and the next one may be one name. Fluid ounces are fluid_ounces.
+# ask_joined OPTION..: tries to join an unknown word and the next one, such as fluid ounces to fluid_ounces.
 ask_joined() {
-    asked_from=$from asked_to=$to refusal=$reply joined=''
+    first_from=$from first_to=$to first_reply=$reply joined=''
     while word=${reply#*: } && case " $from  $to" in *" $word "[[:alpha:]]*) ;; *) false ;; esac; do
         case " $from" in
             *" $word "[[:alpha:]]*) from="${from%%"$word "*}${word}_${from#*"$word "}" ;;
@@ -41,11 +41,11 @@ ask_joined() {
         reply=$("$program" "$@" -- "$from" ${to:+"$to"}) || status=$?
     done
     case $reply in
-        'unknown unit: '*) from=$asked_from to=$asked_to reply=$refusal joined=$word ;;
+        'unknown unit: '*) from=$first_from to=$first_to reply=$first_reply joined=$word ;;
     esac
 }
 
-# scale_of WORD: F, C or K, if people use the word for a temperature.
+# scale_of WORD: prints F, C or K if the word may mean a temperature.
 scale_of() {
     case ${1#degrees } in
         F | f | degF | °F | tempF | [Ff]ahrenheit) echo F ;;
@@ -54,7 +54,7 @@ scale_of() {
     esac
 }
 
-# hint_at_temperature: whether both sides may mean a temperature. As units, degF and degC are differences.
+# hint_at_temperature: succeeds with a hint if both sides may be temperatures. The units degF and degC are differences.
 hint_at_temperature() {
     target=$(scale_of "$to")
     if [ ! "$target" ]; then return 1; fi
@@ -69,7 +69,7 @@ hint_at_temperature() {
     esac
 }
 
-# hint_at_column: as hint_at_temperature, for a column of numbers.
+# hint_at_column: like hint_at_temperature, for a column of numbers.
 hint_at_column() {
     scale=$(scale_of "$from")
     target=$(scale_of "$to")
@@ -81,8 +81,8 @@ hint_at_column() {
     esac
 }
 
-# similar_names WORD: at most six names, the nearest first, of which the word is at most one typing error away, or two
-# if it is long.
+# similar_names WORD: prints at most six names within one typing error of the word, or two if it is long, the nearest
+# first.
 similar_names() {
     list_names | awk -v word="$1" '
         # The number of letters to insert, drop, replace or exchange with the next one.
@@ -105,10 +105,10 @@ similar_names() {
         }' | sort -n | head -n 6 | cut -d ' ' -f 2 | paste -s -d ' ' -
 }
 
-# conforms FROM TO: whether the library converts it.
+# conforms FROM TO: whether the library converts FROM to TO.
 conforms() { "$program" -ts -f "$file" ${locale:+-l "$locale"} -- "$1" "$2" > /dev/null 2>&1; }
 
-# hint_at_conversion: whether FROM is a quantity and a unit that it can be converted to, such as 60 mph km/h.
+# hint_at_conversion: succeeds with a hint if FROM is a quantity and a unit to convert it to, such as 60 mph km/h.
 hint_at_conversion() {
     quantity=${from% *}
     last_unit=${from##* }
@@ -120,7 +120,7 @@ hint_at_conversion() {
     say "for a conversion: qunits $quantity to $last_unit"
 }
 
-# hint_at_article: whether FROM begins with a or an, which units reads as a prefix.
+# hint_at_article: succeeds with a hint if FROM begins with a or an, which units reads as a unit or a prefix.
 hint_at_article() {
     case $from in
         'a '[a-z]* | 'an '[a-z]*) say "write a number in place of \"${from%% *}\", as in 1 ${from#* }" ;;
@@ -128,7 +128,7 @@ hint_at_article() {
     esac
 }
 
-# hint_at_product: whether FROM is 5 ft 10 in or 5 foot 3, which units multiplies.
+# hint_at_product: succeeds with a hint if FROM is like 5 ft 10 in or 5 foot 3, which units multiplies.
 hint_at_product() {
     case $reply in 'unknown unit: '*) return 1 ;; esac
     case $to:$from in
@@ -139,7 +139,7 @@ hint_at_product() {
     say 'a blank multiplies; "+" adds, as in 5 ft + 6 in'
 }
 
-# hint_at_ounces_and_pounds: whether a mass is meant as a volume or as a force.
+# hint_at_ounces_and_pounds: prints a hint if a mass may be meant as a volume or as a force.
 hint_at_ounces_and_pounds() {
     case "$from $to" in *oz* | *ounce* | *lb* | *pound* | *kg*) ;; *) return ;; esac
     fluid_ounces='s/(fl(uid)? )?\b(oz|ounces?)\b/floz/g'
@@ -151,7 +151,7 @@ hint_at_ounces_and_pounds() {
     fi
 }
 
-# names_in_other_case WORD: what the library knows, if the first letter or all are small.
+# names_in_other_case WORD: prints the word with its first letter or all letters small, if the library has that name.
 names_in_other_case() {
     capital=${1%"${1#?}"}
     small=$(printf '%s\n' "$capital" | tr '[:upper:]' '[:lower:]')${1#?}
@@ -160,7 +160,7 @@ names_in_other_case() {
     done | uniq | paste -s -d ' ' -
 }
 
-# hint_at_unknown WORD: what may be meant by an unknown word.
+# hint_at_unknown WORD: prints what an unknown word may mean.
 hint_at_unknown() {
     case $1 in
         x | X | by) say '"*" multiplies, as in 6 "*" 330 ml' && return ;;
@@ -174,7 +174,7 @@ hint_at_unknown() {
     if [ "$similar" ]; then say "similar names: $similar"; fi
 }
 
-# hint: on standard error, what may be meant.
+# hint: prints on standard error what the user may have meant.
 hint() {
     if hint_at_temperature || hint_at_conversion || hint_at_article || hint_at_product; then return; fi
     case $reply:$from in

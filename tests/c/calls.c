@@ -1,5 +1,5 @@
-/* Every call of the library, and every status that a caller can bring about. The expected answers were worked out by
-   hand. Prints a line for each that differs; the last line is `N passed, M failed`. */
+/* Tries every call of the library, and every status that a caller can cause. The expected answers were worked out by
+   hand. Prints a line for each difference; the last line is `N passed, M failed`. */
 #include "units.h"
 
 #include <stdio.h>
@@ -36,20 +36,21 @@ static uint8_t buffer[ROOM];
 static size_t length;
 static int passed, failed;
 
-static void check(int right, const char *what) {
-    if (right) {
+static void check(int is_right, const char *title) {
+    if (is_right) {
         passed++;
     } else {
         failed++;
-        printf("differs: %s\n", what);
+        printf("differs: %s\n", title);
     }
 }
 
-/* The status, and the text in the buffer. */
-static void expect(const char *what, uint32_t status, uint32_t wanted, const char *text) {
-    int right = status == wanted && length == strlen(text) && memcmp(buffer, text, length) == 0;
-    check(right, what);
-    if (!right) printf("    %u %.*s, wanted %u %s\n", status, (int)(length < ROOM ? length : 0), buffer, wanted, text);
+/* Checks a status, and the text in the buffer. */
+static void expect(const char *title, uint32_t status, uint32_t expected, const char *text) {
+    int is_right = status == expected && length == strlen(text) && memcmp(buffer, text, length) == 0;
+    check(is_right, title);
+    if (!is_right)
+        printf("    %u %.*s, expected %u %s\n", status, (int)(length < ROOM ? length : 0), buffer, expected, text);
 }
 
 #define TEXT(string) (const uint8_t *)(string), strlen(string)
@@ -57,14 +58,14 @@ static void expect(const char *what, uint32_t status, uint32_t wanted, const cha
 static units_options plain = {0}, exact = {.exact = 1, .one_line = 1, .compact = 1};
 
 static void convert(units_table *table, const units_options *options, const char *from, const char *to,
-                    uint32_t wanted, const char *text) {
+                    uint32_t expected, const char *text) {
     memset(buffer, 'x', sizeof buffer);
-    expect(from, units_convert(table, TEXT(from), TEXT(to), options, buffer, sizeof buffer, &length), wanted, text);
+    expect(from, units_convert(table, TEXT(from), TEXT(to), options, buffer, sizeof buffer, &length), expected, text);
 }
 
-static void value(units_table *table, const char *expression, uint32_t wanted, const char *text) {
+static void value(units_table *table, const char *expression, uint32_t expected, const char *text) {
     units_number number;
-    expect(expression, units_value(table, TEXT(expression), &number, buffer, sizeof buffer, &length), wanted, text);
+    expect(expression, units_value(table, TEXT(expression), &number, buffer, sizeof buffer, &length), expected, text);
 }
 
 static units_number number_of(units_table *table, const char *expression) {
@@ -147,11 +148,11 @@ static void values(units_table *table) {
     value(table, "m^(1|2)", UNITS_DONE, "m^1|2");
 }
 
-/* Which column of a text, and from what to what. */
+/* Converts a column of a text and compares the rows. */
 static void convert_column(units_table *table, units_column column, const units_options *options, const char *text,
-                           uint32_t wanted, const char *rows) {
+                           uint32_t expected, const char *rows) {
     memset(buffer, 'x', sizeof buffer);
-    expect(text, units_convert_column(table, &column, TEXT(text), options, buffer, sizeof buffer, &length), wanted,
+    expect(text, units_convert_column(table, &column, TEXT(text), options, buffer, sizeof buffer, &length), expected,
            rows);
 }
 
@@ -185,21 +186,21 @@ static void columns(units_table *table) {
           && length == 6, "a column in a short buffer");
     check(units_convert_column(table, &first, UNITS_NO_TEXT, &plain, buffer, 0, &length) == UNITS_DONE && length == 0,
           "a column of no records in a buffer of no size");
-    /* More records than the program writes at once. */
+    /* More records than the program writes in one block. */
     enum { RECORDS = 5000 };
     static char text[2 * RECORDS + 1];
     static uint8_t rows[3 * RECORDS];
     for (int i = 0; i < RECORDS; i++) memcpy(text + 2 * i, "1\n", 2);
-    int right = units_convert_column(table, &first, TEXT(text), &plain, rows, sizeof rows, &length) == UNITS_DONE
+    int is_right = units_convert_column(table, &first, TEXT(text), &plain, rows, sizeof rows, &length) == UNITS_DONE
         && length == sizeof rows;
-    for (int i = 0; i < RECORDS; i++) right &= memcmp(rows + 3 * i, "12\n", 3) == 0;
-    check(right, "a column of many records");
+    for (int i = 0; i < RECORDS; i++) is_right &= memcmp(rows + 3 * i, "12\n", 3) == 0;
+    check(is_right, "a column of many records");
 }
 
 static void edits(units_table *table) {
-#define EDIT(call, word, wanted, text) \
-    expect(#call " " word, units_##call(table, TEXT(word), buffer, sizeof buffer, &length), wanted, text)
-#define TURN(call, wanted, text) expect(#call, units_##call(table, buffer, sizeof buffer, &length), wanted, text)
+#define EDIT(call, word, expected, text) \
+    expect(#call " " word, units_##call(table, TEXT(word), buffer, sizeof buffer, &length), expected, text)
+#define TURN(call, expected, text) expect(#call, units_##call(table, buffer, sizeof buffer, &length), expected, text)
     TURN(undo, UNITS_NOTHING_TO_UNDO, "nothing to undo");
     TURN(redo, UNITS_NOTHING_TO_REDO, "nothing to redo");
     EDIT(define, "span 9 inch", UNITS_DONE, "");
@@ -228,7 +229,7 @@ static void edits(units_table *table) {
 #undef TURN
 }
 
-/* Functions that call each other, one more than may. */
+/* Functions that call each other, one level deeper than allowed. */
 static void deep_calls(units_table *table) {
     check(units_define(table, TEXT("f_1(x) x"), buffer, sizeof buffer, &length) == UNITS_DONE, "f_1");
     for (int i = 2; i <= 17; i++) {
@@ -240,7 +241,7 @@ static void deep_calls(units_table *table) {
     value(table, "f_17(1)", UNITS_CALLS_TOO_DEEP, "calls too deep: f_17");
 }
 
-/* A buffer that is too short: the length is told, and nothing else is written. */
+/* Buffers that are too short: the length is set, and nothing else is written. */
 static void rooms(units_table *table) {
     uint8_t small[4] = "wxyz";
     check(units_convert(table, TEXT("3 ft"), TEXT("m"), &exact, small, 3, &length) == UNITS_NO_ROOM && length == 10
@@ -259,22 +260,21 @@ static void rooms(units_table *table) {
 }
 
 static units_entry entry(const char *name, const char *content) {
-    units_entry made = {(const uint8_t *)name, strlen(name), (const uint8_t *)content, strlen(content)};
-    return made;
+    return (units_entry){(const uint8_t *)name, strlen(name), (const uint8_t *)content, strlen(content)};
 }
 
 static void openings(void) {
     units_entry files[] = {entry("main", main_file), entry("sub/length.units", "nonsense"),
                            entry("sub/length.units", length_file), entry("sub/inch.units", inch_file)};
     units_entry variables[] = {entry("LENGTHS", "short"), entry("LENGTHS", "long")};
-    units_definitions given = {TEXT("main"), files, 4, variables, 2, TEXT("en_GB"), TEXT("a seed")};
+    units_definitions definitions = {TEXT("main"), files, 4, variables, 2, TEXT("en_GB"), TEXT("a seed")};
     units_table table = UNITS_TABLE;
     check(units_close(&table) == UNITS_CLOSED, "to close a closed table");
     expect("a closed table", units_convert(&table, TEXT("m"), TEXT("m"), &exact, buffer, sizeof buffer, &length),
            UNITS_CLOSED, "");
     convert_column(&table, (units_column){TEXT("m"), TEXT("m"), 1, 0}, &plain, "1", UNITS_CLOSED, "");
-    check(units_open(&table, &given) == UNITS_DONE, "to open");
-    check(units_open(&table, &given) == UNITS_ALREADY_OPEN, "to open an open table");
+    check(units_open(&table, &definitions) == UNITS_DONE, "to open");
+    check(units_open(&table, &definitions) == UNITS_ALREADY_OPEN, "to open an open table");
     convert(&table, &exact, "league", "ft", UNITS_DONE, "15840\n");
     convert(&table, &exact, "gallon", "m^3", UNITS_DONE, "454609|100000000\n");
     conversions(&table);
@@ -286,9 +286,9 @@ static void openings(void) {
     deep_calls(&table);
     check(units_close(&table) == UNITS_DONE, "to close");
     check(units_close(&table) == UNITS_CLOSED, "to close again");
-    given.variables_count = 0;
-    given.locale = (const uint8_t *)"en_US";
-    check(units_open(&table, &given) == UNITS_DONE, "to open again");
+    definitions.variables_count = 0;
+    definitions.locale = (const uint8_t *)"en_US";
+    check(units_open(&table, &definitions) == UNITS_DONE, "to open again");
     convert(&table, &exact, "league", "ft", UNITS_UNKNOWN_UNIT, "unknown unit: league\n");
     convert(&table, &exact, "gallon", "m^3", UNITS_UNKNOWN_UNIT, "unknown unit: gallon\n");
     units_close(&table);
@@ -296,24 +296,24 @@ static void openings(void) {
 
 static void refused_openings(void) {
     units_entry file = entry("a", "m !\n");
-    units_definitions given = {TEXT("b"), &file, 1, NULL, 0, UNITS_NO_TEXT, UNITS_NO_TEXT};
+    units_definitions definitions = {TEXT("b"), &file, 1, NULL, 0, UNITS_NO_TEXT, UNITS_NO_TEXT};
     units_table table = UNITS_TABLE;
-    check(units_open(&table, &given) == UNITS_NO_SUCH_FILE, "no such file");
-    given = (units_definitions){TEXT("a"), NULL, 0, NULL, 0, UNITS_NO_TEXT, UNITS_NO_TEXT};
-    check(units_open(&table, &given) == UNITS_NO_SUCH_FILE, "no files");
+    check(units_open(&table, &definitions) == UNITS_NO_SUCH_FILE, "no such file");
+    definitions = (units_definitions){TEXT("a"), NULL, 0, NULL, 0, UNITS_NO_TEXT, UNITS_NO_TEXT};
+    check(units_open(&table, &definitions) == UNITS_NO_SUCH_FILE, "no files");
     static char longest[16777218];
     memset(longest, '\n', sizeof longest - 1);
     file = entry("a", longest);
-    given = (units_definitions){TEXT("a"), &file, 1, NULL, 0, UNITS_NO_TEXT, UNITS_NO_TEXT};
-    check(units_open(&table, &given) == UNITS_FILE_TOO_LONG, "a file that is too long");
+    definitions = (units_definitions){TEXT("a"), &file, 1, NULL, 0, UNITS_NO_TEXT, UNITS_NO_TEXT};
+    check(units_open(&table, &definitions) == UNITS_FILE_TOO_LONG, "a file that is too long");
     file.content_length = 16777216;
-    check(units_open(&table, &given) == UNITS_DONE, "a file that is just short enough");
+    check(units_open(&table, &definitions) == UNITS_DONE, "a file that is just short enough");
     check(units_close(&table) == UNITS_DONE, "to close it");
     enum { LINES = 100001 };
     static char many[6 * LINES + 1];
     for (int i = 0; i < LINES; i++) memcpy(many + 6 * i, "a 1 m\n", 6);
     file = entry("a", many);
-    check(units_open(&table, &given) == UNITS_DECK_FULL, "too many lines");
+    check(units_open(&table, &definitions) == UNITS_DECK_FULL, "too many lines");
     check(units_close(&table) == UNITS_CLOSED, "nothing was opened");
 }
 

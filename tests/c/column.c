@@ -1,7 +1,7 @@
-/* Converts a column of its standard input over a definition file, for tools/comparisons/compare_c_columns.py and
+/* Converts a column of standard input with a definition file, for tools/comparisons/compare_c_columns.py and
    bench/c_library.py: column [--seconds] DIGITS EXACT ROUND HEADER NUMBER FROM TO DEFINITIONS
-   Writes the text of units_convert_column, and ends with 0, with 1 after UNITS_CELL_ERROR, or else with 2. With
-   --seconds it writes the processor time of the call in seconds. The definitions are one file without includes. */
+   Writes the text of units_convert_column. The status is 0, 1 after UNITS_CELL_ERROR, and 2 after any other fault. With
+   --seconds it writes the processor time of the call instead. The definitions are one file without includes. */
 #include "units.h"
 
 #include <stdio.h>
@@ -37,7 +37,7 @@ int main(int count, char **words) {
     if (count != 9) return 2;
     text definitions = read_all(fopen(words[8], "rb")), input = read_all(stdin);
     units_entry entry = {UNITS_TEXT("main"), definitions.bytes, definitions.length};
-    units_definitions given = {UNITS_TEXT("main"), &entry, 1, NULL, 0, UNITS_TEXT("en_US"), NULL, 0};
+    units_definitions table_definitions = {UNITS_TEXT("main"), &entry, 1, NULL, 0, UNITS_TEXT("en_US"), NULL, 0};
     units_options options = {.digits = (uint8_t)atoi(words[1]), .exact = (uint8_t)atoi(words[2]),
                              .round = (uint8_t)atoi(words[3])};
     units_column column = {(const uint8_t *)words[6], strlen(words[6]), (const uint8_t *)words[7], strlen(words[7]),
@@ -45,7 +45,7 @@ int main(int count, char **words) {
     units_table table = UNITS_TABLE;
     size_t size = 4 * input.length + 65536, length;
     uint8_t *buffer = malloc(size);
-    if (buffer == NULL || units_open(&table, &given) != UNITS_DONE) return 2;
+    if (buffer == NULL || units_open(&table, &table_definitions) != UNITS_DONE) return 2;
     double start = seconds();
     uint32_t status = units_convert_column(&table, &column, input.bytes, input.length, &options, buffer, size, &length);
     if (status == UNITS_NO_ROOM) {

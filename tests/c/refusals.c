@@ -1,5 +1,5 @@
 /* Refuses each allocation of each call in turn. Each such call has to return UNITS_NO_MEMORY and to leave the table as
-   it was, open or closed, with the same answers; and the call has to succeed after it. Linked with
+   it was, open or closed, with the same answers, and the repeated call has to succeed. Linked with
    -Wl,--wrap=malloc,--wrap=realloc. The last line is `N passed, M failed`. */
 #include "units.h"
 
@@ -119,13 +119,13 @@ static const call calls[] = {
     {"undo a drop", dropped, undo, UNITS_DONE, "12\n"},
 };
 
-/* Whether the table is as it has to be before a call. */
+/* Whether the table is as before a call. */
 static int is_as_before(const call *own) {
     if (own->foot == NULL) return convert("ft", "inch") == UNITS_CLOSED;
     return convert("ft", "inch") == UNITS_DONE && length == strlen(own->foot) && !memcmp(buffer, own->foot, length);
 }
 
-/* One try, with the allocation of this number refused. Returns whether the call ended as it has to. */
+/* Tries a call with the allocation of this number refused. Returns whether the call ended as expected. */
 static int try_call(const call *own, long n) {
     units_close(&table);
     own->prepare();
@@ -140,11 +140,11 @@ static int try_call(const call *own, long n) {
 
 static void refuse_each(const call *own) {
     long n = 1;
-    int right = 1;
-    do right &= try_call(own, n++);
+    int is_right = 1;
+    do is_right &= try_call(own, n++);
     while (was_refused);
     printf("%s: %ld allocations refused\n", own->name, n - 2);
-    if (right) passed++; else failed++;
+    if (is_right) passed++; else failed++;
 }
 
 int main(void) {

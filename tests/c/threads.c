@@ -1,4 +1,4 @@
-/* Four threads with a table of their own each, which convert, evaluate and edit at the same time. The last line is
+/* Four threads, each with its own table, convert, evaluate and edit at the same time. The last line is
    `N passed, M failed`. */
 #include "units.h"
 
@@ -19,9 +19,9 @@ typedef struct worker {
 
 static const char text[] = "m !\ns !\nkilo- 1000\ninch 254|10000 m\nft 12 inch\nmin 60 s\nhour 60 min\n";
 
-static void check(worker *own, int right) { own->wrong += !right; }
+static void check(worker *own, int is_right) { own->wrong += !is_right; }
 
-/* A conversion whose answer is known. */
+/* Converts and compares the answer. */
 static void convert(worker *own, units_table *table, const char *from, const char *to, const char *answer) {
     units_options options = {.exact = 1, .one_line = 1, .compact = 1};
     uint8_t buffer[64];
@@ -31,7 +31,7 @@ static void convert(worker *own, units_table *table, const char *from, const cha
     check(own, status == UNITS_DONE && length == strlen(answer) && memcmp(buffer, answer, length) == 0);
 }
 
-/* A column of one number, whose answer is known. */
+/* Converts a column of one number and compares the answer. */
 static void convert_column(worker *own, units_table *table, const char *number, const char *answer) {
     units_options options = {.exact = 1};
     units_column column = {UNITS_TEXT("ft"), UNITS_TEXT("inch"), 1, 0};

@@ -13,7 +13,7 @@
   (princ (format "%s%s\n" (if holds "holds: " "failed: ") text)))
 
 (defun wait-until (test)
-  "Waits until TEST holds, for 20 seconds at most."
+  "Wait until TEST holds, for at most 20 seconds."
   (with-timeout (20) (while (not (funcall test)) (accept-process-output nil 0.05)))
   (funcall test))
 
@@ -34,14 +34,14 @@
                            :position (list :line line :character character))))
   (check (wait-until (lambda () (flymake-start) (cl-some (lambda (text) (string-match-p "unknown unit: missing" text)) (texts))))
          "diagnostics in Emacs")
-  (check (cl-some (lambda (found)
-                    (and (string-match-p "rod: 5 m does not conform to kg" (flymake-diagnostic-text found))
-                         (eq 'eglot-warning (flymake-diagnostic-type found))))
+  (check (cl-some (lambda (diagnostic)
+                    (and (string-match-p "rod: 5 m does not conform to kg" (flymake-diagnostic-text diagnostic))
+                         (eq 'eglot-warning (flymake-diagnostic-type diagnostic))))
                   (flymake-diagnostics))
          "warnings in Emacs")
-  (let ((where (aref (ask :textDocument/definition 0 9) 0)))
-    (check (and (string-suffix-p "base.units" (plist-get where :uri))
-                (= 3 (plist-get (plist-get (plist-get where :range) :start) :line)))
+  (let ((place (aref (ask :textDocument/definition 0 9) 0)))
+    (check (and (string-suffix-p "base.units" (plist-get place :uri))
+                (= 3 (plist-get (plist-get (plist-get place :range) :start) :line)))
            "definition in Emacs"))
   (let ((hover (ask :textDocument/hover 3 10)))
     (check (string-prefix-p "board: plural, 12 in = 0.3048 m" (plist-get (plist-get hover :contents) :value))

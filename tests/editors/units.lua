@@ -16,8 +16,8 @@ vim.lsp.buf_attach_client(0, client)
 vim.wait(20000, function() return #vim.diagnostic.get(0) > 0 end, 50)
 
 local messages, severities = {}, {}
-for _, found in ipairs(vim.diagnostic.get(0)) do
-  messages[found.lnum], severities[found.lnum] = found.message, found.severity
+for _, diagnostic in ipairs(vim.diagnostic.get(0)) do
+  messages[diagnostic.lnum], severities[diagnostic.lnum] = diagnostic.message, diagnostic.severity
 end
 check(messages[1] == 'shelf: unknown unit: missing in shelf', 'diagnostics in Neovim')
 check(
@@ -36,8 +36,11 @@ local function ask(method, line, character)
   return answer and answer.result
 end
 
-local where = ask('textDocument/definition', 0, 9)
-check(where and where[1] and where[1].uri:match('base.units$') and where[1].range.start.line == 3, 'definition in Neovim')
+local places = ask('textDocument/definition', 0, 9)
+check(
+  places and places[1] and places[1].uri:match('base.units$') and places[1].range.start.line == 3,
+  'definition in Neovim'
+)
 local hover = ask('textDocument/hover', 3, 10)
 check(hover and hover.contents.value:match('^board: plural, 12 in = 0.3048 m'), 'hover in Neovim')
 

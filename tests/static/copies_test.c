@@ -1,5 +1,5 @@
-// copies_test: compares the copies of the static program, compiled under the names below, with those of the C library,
-// for all lengths up to 200 and for many distances, also where source and target overlap.
+// copies_test: compares the copy functions of the static program, compiled under the names below, with those of the C
+// library, for all lengths up to 200 and for many distances, including overlaps of source and target.
 #include <assert.h>
 #include <stdio.h>
 #include <stdlib.h>

@@ -1,7 +1,7 @@
-// heap_test SEED ROUNDS: makes, grows, shrinks and frees blocks at random through the heap of the static program, and
-// refuses some of what that asks of the system. Each block keeps its bytes and overlaps no other, and a refusal changes
-// nothing. The heap takes at most three times what was in use at the most, however long it runs, and asks for one huge
-// page. Linked with --wrap=mmap,--wrap=munmap,--wrap=mremap,--wrap=madvise.
+// heap_test SEED ROUNDS: makes, grows, shrinks and frees random blocks in the heap of the static program, and refuses
+// some of its requests to the system. Each block keeps its bytes and overlaps no other, and a refusal changes nothing.
+// The heap takes at most three times the most bytes in use, however long it runs, and requests one huge page.
+// Linked with --wrap=mmap,--wrap=munmap,--wrap=mremap,--wrap=madvise.
 #define _GNU_SOURCE
 #include <assert.h>
 #include <stdbool.h>
@@ -11,13 +11,13 @@
 #include <string.h>
 #include <sys/mman.h>
 
-struct tried {
+struct allocation {
     bool found;
     unsigned char *block;
 };
 
-struct tried rattle_alloc(size_t size, size_t align);
-struct tried rattle_realloc(void *old, size_t kept, size_t size, size_t align);
+struct allocation rattle_alloc(size_t size, size_t align);
+struct allocation rattle_realloc(void *old, size_t kept, size_t size, size_t align);
 void rattle_dealloc(void *old);
 
 enum { BLOCKS = 4096 };
@@ -75,7 +75,7 @@ int __wrap_madvise(void *at, size_t size, int advice) {
     return is_refused() ? -1 : __real_madvise(at, size, advice);
 }
 
-// Sizes as a program has them: mostly a few bytes, now and then vectors up to some 300 kB.
+// Sizes like those of a program: in most cases a few bytes, now and then vectors of up to 400 kB.
 static size_t random_size(void) {
     uint64_t kind = random_below(100);
     if (kind < 70) return random_below(64);
@@ -87,9 +87,9 @@ static void check(const struct owned *one, size_t size) {
     for (size_t i = 0; i < size; i++) assert(one->block[i] == (unsigned char)(one->seed + i));
 }
 
-static void take(struct owned *one, struct tried tried, size_t size) {
-    assert((uintptr_t)tried.block % 16 == 0);
-    one->block = tried.block;
+static void take(struct owned *one, struct allocation allocation, size_t size) {
+    assert((uintptr_t)allocation.block % 16 == 0);
+    one->block = allocation.block;
     one->size = size;
     one->seed = (unsigned char)random_below(256);
     for (size_t i = 0; i < size; i++) one->block[i] = (unsigned char)(one->seed + i);
@@ -99,8 +99,8 @@ static void step(struct owned *one) {
     refusing = random_below(10) == 0;
     if (one->block == NULL) {
         size_t size = random_size();
-        struct tried tried = rattle_alloc(size, 16);
-        if (tried.found) take(one, tried, size);
+        struct allocation allocation = rattle_alloc(size, 16);
+        if (allocation.found) take(one, allocation, size);
         return;
     }
     check(one, one->size);
@@ -110,10 +110,10 @@ static void step(struct owned *one) {
         return;
     }
     size_t size = random_size(), kept = size < one->size ? size : one->size;
-    struct tried tried = rattle_realloc(one->block, kept, size, 16);
-    if (tried.found) one->block = tried.block;
-    check(one, tried.found ? kept : one->size);
-    if (tried.found) take(one, tried, size);
+    struct allocation allocation = rattle_realloc(one->block, kept, size, 16);
+    if (allocation.found) one->block = allocation.block;
+    check(one, allocation.found ? kept : one->size);
+    if (allocation.found) take(one, allocation, size);
 }
 
 int main(int count, char **words) {

@@ -1,5 +1,5 @@
-// other_root WORD..: runs the static program in the root folder ROOT, in the folder where this is called. Checks that
-// run outside of the root call this as the program.
+// other_root WORD..: runs the static program in the root folder ROOT, in the current folder. Checks that run outside
+// of that root run this as the program.
 #include <limits.h>
 #include <stdio.h>
 #include <unistd.h>

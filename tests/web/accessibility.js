@@ -1,4 +1,4 @@
-// What accessibility.py asks of the page. Each function returns what is wrong, as a list of texts.
+// Rules for accessibility.py. Each function returns a list of faults of the page as texts, or a state of it.
 (() => {
   const all = selector => [...document.querySelectorAll(selector)];
   const FIELDS = 'input:not([type=checkbox]), select, textarea';
@@ -19,21 +19,21 @@
     }
     return [255, 255, 255];
   };
-  // A color over a background, with the opacity of the element and of all around it.
-  const seen = (e, color) => {
-    const behind = background(e), front = channels(color);
+  // A color over its background, with the opacity of the element and of all around it.
+  const visibleColor = (e, color) => {
+    const back = background(e), front = channels(color);
     let opacity = front[3] ?? 1;
     for (let at = e; at; at = at.parentElement) opacity *= Number(getComputedStyle(at).opacity);
-    return front.slice(0, 3).map((v, i) => v * opacity + behind[i] * (1 - opacity));
+    return front.slice(0, 3).map((v, i) => v * opacity + back[i] * (1 - opacity));
   };
   const hasText = e => [...e.childNodes].some(n => n.nodeType === Node.TEXT_NODE && n.data.trim());
 
-  // WCAG 2 AA wants 4.5 for text, whatever its size here, and 3 for the edges of fields and the marks of the focus.
+  // WCAG 2 AA requires 4.5 for text (here of any size), and 3 for the edges of fields and the marks of the focus.
   const lowContrast = () => {
-    const found = [];
-    const compare = (e, color, what) => {
-      const ratio = contrast(seen(e, color), background(e));
-      if (ratio < 4.5) found.push(`${name(e)}${what} ${ratio.toFixed(2)}`);
+    const faults = [];
+    const compare = (e, color, part) => {
+      const ratio = contrast(visibleColor(e, color), background(e));
+      if (ratio < 4.5) faults.push(`${name(e)}${part} ${ratio.toFixed(2)}`);
     };
     for (const e of all('body *').filter(e => isShown(e) && !e.disabled)) {
       if (hasText(e) || e.matches(FIELDS)) compare(e, getComputedStyle(e).color, '');
@@ -43,10 +43,10 @@
         if (!['none', 'normal', '""'].includes(style.content)) compare(e, style.color, side);
       }
     }
-    return found;
+    return faults;
   };
   const faintFields = () => all(FIELDS).filter(isShown).map(e => {
-    const ratio = contrast(seen(e, getComputedStyle(e).borderTopColor), background(e.parentElement));
+    const ratio = contrast(visibleColor(e, getComputedStyle(e).borderTopColor), background(e.parentElement));
     return ratio < 3 ? `${name(e)} ${ratio.toFixed(2)}` : '';
   }).filter(Boolean);
   const faintFocus = () => {
@@ -56,7 +56,7 @@
     return isSeen ? [] : [`${name(e)} ${outlineStyle} ${outlineWidth} ${ratio.toFixed(2)}`];
   };
 
-  // The least target of WCAG 2.2 AA has 24 pixels each way.
+  // The smallest target that WCAG 2.2 AA allows has 24 by 24 pixels.
   const smallTargets = () => all('button, input, select, summary').filter(isShown).filter(e => {
     const {width, height} = (e.closest('label') ?? e).getBoundingClientRect();
     return height < 24 || width < 24;
@@ -106,12 +106,12 @@
 
   const excessWidth = () => document.documentElement.scrollWidth - document.documentElement.clientWidth;
 
-  // What the tab key reaches, in its order.
+  // The elements that the tab key reaches, in its order.
   const stops = () => all('a[href], button, input, select, textarea, summary, [tabindex]')
     .filter(e => e.tabIndex >= 0 && !e.disabled && isShown(e));
   const stopIndex = () => stops().indexOf(document.activeElement);
   const focusFirst = () => stops()[0].focus({focusVisible: true});
-  // Stops that are wholly above the one before them on the screen. What is in a list that scrolls counts as the list.
+  // Stops that are wholly above the previous one on the screen. An element in a list that scrolls counts as the list.
   const stopsAgainstReading = () => {
     const boxes = stops().map(e => [e, (e.closest('ul, ol, pre') ?? e).getBoundingClientRect()]);
     return boxes.filter(([, box], i) => i > 0 && box.bottom <= boxes[i - 1][1].top).map(([e]) => name(e));

@@ -1,5 +1,6 @@
-"""Accessibility of the page, checked in the browser: names, contrast, widths, headings, roles, the keyboard alone, and
-what a screen reader is told. Debian has no checker for this. The rules are those of WCAG 2.2 AA that can be computed.
+"""Checks the accessibility of the page in the browser: names, contrast, widths, headings, roles, the keyboard alone,
+and the announcements to a screen reader. Debian has no checker for this. The rules are those of WCAG 2.2 AA that can
+be computed.
 """
 
 from __future__ import annotations
@@ -15,29 +16,29 @@ from pictures import REFUSED
 
 RULES = Path(__file__).with_name("accessibility.js").read_text()
 VIEWS = ("convert", "session", "definitions")
-NARROW, WIDE = (320, 800), (1100, 900)  # WCAG wants no scrolling to the side at 320 pixels
+NARROW, WIDE = (320, 800), (1100, 900)  # at 320 pixels, WCAG forbids horizontal scrolling
 NAMED_ROLES = {"button", "textbox", "searchbox", "combobox", "spinbutton", "checkbox", "tab", "tabpanel", "listbox",
                "log", "option", "form", "region", "heading", "tablist", "menuitem", "link", "DisclosureTriangle"}
 Equal = Callable[[str, Any, Any], None]
 
 
 def ask(browser: Chromium, rule: str) -> Any:
-    """What a function of accessibility.js returns in the page as it is now."""
+    """The result of a function of accessibility.js in the page."""
     return browser.value(f"globalThis.accessibility ?? {RULES}; accessibility.{rule}()")
 
 
 def unnamed_nodes(browser: Chromium) -> list[str]:
     """Roles of the accessibility tree that a screen reader would announce without a name."""
-    found = []
+    roles = []
     for node in browser.accessibility_tree():
         role = node.get("role", {}).get("value", "")
         if not node.get("ignored") and role in NAMED_ROLES and not node.get("name", {}).get("value", "").strip():
-            found.append(role)
-    return found
+            roles.append(role)
+    return roles
 
 
 def show(page: Page, view: str) -> None:
-    """A view with all that it can show: opened details, a refused conversion, replies and faults of a session, a check
+    """Opens a view with all that it can show: details, a refused conversion, replies and faults of a session, a check
     with faults."""
     page.open(f"#from=5+gallons&to=miles&view={view}")
     page.browser.value("document.querySelectorAll('details').forEach(e => e.open = true)")
@@ -51,7 +52,7 @@ def show(page: Page, view: str) -> None:
 
 
 def set_screen(page: Page, size: tuple[int, int], is_dark: bool = False) -> None:
-    """Gives the page a size and a theme, and waits until it is drawn so."""
+    """Sets the size and the theme of the page, and waits until it is drawn."""
     page.browser.resize(*size, is_dark)
     theme = "matchMedia('(prefers-color-scheme: dark)').matches"
     page.wait_for(f"innerWidth === {size[0]} && {theme} === {str(is_dark).lower()}")
@@ -80,18 +81,18 @@ def check_structure(page: Page, view: str, equal: Equal) -> None:
 
 
 def check_stops(page: Page, view: str, equal: Equal) -> None:
-    """The tab key reaches each control once, in the order of the page, both ways, and the focus is seen."""
+    """The tab key reaches each control once, in the order of the page, both ways, and the focus is visible."""
     browser = page.browser
     for is_dark in (False, True):
         set_screen(page, WIDE, is_dark)
         ask(browser, "focusFirst")
         stops = ask(browser, "stops")
-        reached, faint = [ask(browser, "stopIndex")], ask(browser, "faintFocus")
+        indexes, faint = [ask(browser, "stopIndex")], ask(browser, "faintFocus")
         for _ in stops[1:]:
             browser.press("Tab")
-            reached.append(ask(browser, "stopIndex"))
+            indexes.append(ask(browser, "stopIndex"))
             faint += ask(browser, "faintFocus")
-        equal(f"stops of the tab key in {view}", reached, list(range(len(stops))))
+        equal(f"stops of the tab key in {view}", indexes, list(range(len(stops))))
         equal(f"focus that is not seen in {view}, dark {is_dark}", faint, [])
     for expected in reversed(range(len(stops) - 1)):
         browser.press("Tab", is_shifted=True)
@@ -100,7 +101,7 @@ def check_stops(page: Page, view: str, equal: Equal) -> None:
 
 
 def check_lists(page: Page, equal: Equal) -> None:
-    """The list of names while it is open, in both themes."""
+    """Checks the list of names while it is open, in both themes."""
     page.open()
     page.focus("from")
     page.browser.type("3 yar")
@@ -116,12 +117,12 @@ def check_lists(page: Page, equal: Equal) -> None:
 
 
 def check_announcements(page: Page, equal: Equal) -> None:
-    """What a screen reader is told without a change of the focus."""
+    """Checks the announcements to a screen reader without a change of the focus."""
     page.open()
-    for from_, to, said in (("10 m", "ft", "32.808399"), ("m", "s", "conformability"), ("nosuch", "m", "nosuch")):
+    for from_, to, part in (("10 m", "ft", "32.808399"), ("m", "s", "conformability"), ("nosuch", "m", "nosuch")):
         page.ask([(from_, to)])
-        heard = f"document.getElementById('announcement').textContent.includes({said!r})"
-        equal(f"the answer to {from_} in {to} is announced", page.wait_for(heard), True)
+        is_announced = f"document.getElementById('announcement').textContent.includes({part!r})"
+        equal(f"the answer to {from_} in {to} is announced", page.wait_for(is_announced), True)
     page.click("tab-session")
     page.enter_lines(["1 yd", "m"])
     equal("a reply in the log", "0.9144" in page.text("transcript"), True)
@@ -132,7 +133,7 @@ def check_announcements(page: Page, equal: Equal) -> None:
 
 
 def check_keyboard_alone(page: Page, equal: Equal) -> None:
-    """A conversion, an option and a session without a pointer."""
+    """Tries a conversion, a swap, the tabs and a session without a pointer."""
     browser = page.browser
     page.open()
     page.focus("from")

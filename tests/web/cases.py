@@ -1,4 +1,4 @@
-"""What the tests ask of the page: conversions with faults among them, sessions, and a definition file with faults."""
+"""Cases for the page: conversions, some with faults, sessions, and a definition file with faults."""
 
 from __future__ import annotations
 
@@ -9,7 +9,7 @@ OWN_FILE = "my.units"
 OWN_TEXT = "# Your own definitions, after those of the library.\n!include all.units\n\n"
 FAULTY_TEXT = OWN_TEXT + "loopa 2 loopb\nloopb 3 loopa\nsmoot 67 in\nbroken 2 +\n"
 
-# Each setting of the options, as values of the controls.
+# Settings of the options, as values of the controls.
 OPTIONS: list[dict[str, str | bool]] = [
     {}, {"digits": "20"}, {"digits": "3"}, {"exact": True}, {"strict": True}, {"round": True}, {"locale": "en_GB"},
     {"root": "all.units"}, {"root": ""},
@@ -59,13 +59,13 @@ def questions(count: int, library: Path) -> list[tuple[str, str]]:
     """FROM and TO of each question. The same count gives the same questions."""
     rng = random.Random(20)
     names = defined_names(library)
-    asked = list(SPECIAL[:count])
-    while len(asked) < count:
+    pairs = list(SPECIAL[:count])
+    while len(pairs) < count:
         number = rng.choice(["", "2 ", "1|3 ", "0.125 ", "1e5 ", "-7 ", "12345.678 "])
         one, other = rng.choice(names), rng.choice(names)
-        asked.append(rng.choice([
+        pairs.append(rng.choice([
             (f"{number}{one}", ""), (f"{number}{one}", other), (f"{number}{one} + 2 {one}", one),
             (f"{number}{one} / {other}", ""), (f"{number}k{one}", f"m{one}"), (f"{number}{one}^2", f"{one}^2"),
             (f"{number}{one}", f"{one};1|7 {one}"), (f"{one} {other}", f"{other} {one}"), (f"1/{one}", one),
         ]))
-    return asked
+    return pairs

@@ -39,7 +39,7 @@ FIREFOX_SHARE = 3
 
 
 class Tally:
-    """Counts what passed and what failed, and shows the first failures."""
+    """Counts cases that passed, failed and were skipped, and shows the first failures."""
 
     def __init__(self) -> None:
         self.passed = self.failed = self.skipped = 0
@@ -66,7 +66,7 @@ class QuietHandler(SimpleHTTPRequestHandler):
 
 
 class Native:
-    """The native program in a folder of its own with the files of the page's library."""
+    """The native program, in its own folder with the files of the page's library."""
 
     def __init__(self, program: Path, library: dict[str, str], folder: Path) -> None:
         self.program, self.folder = program, folder
@@ -82,8 +82,8 @@ class Native:
                               encoding="utf-8", errors="replace", check=False)
 
     def streams(self, words: list[str], text: str | None = None) -> str:
-        ran = self.run(words, text)
-        return ran.stdout + ran.stderr
+        process = self.run(words, text)
+        return process.stdout + process.stderr
 
 
 def operands(from_: str, to: str) -> list[str]:
@@ -99,15 +99,15 @@ def check_questions(name: str, page: Page, native: Native, tally: Tally, count: 
     times: list[float] = []
     for i, options in enumerate(cases.OPTIONS):
         page.set_options(options)
-        asked = [question for question in questions[i :: len(cases.OPTIONS)] if question[0].strip()]
+        pairs = [question for question in questions[i :: len(cases.OPTIONS)] if question[0].strip()]
         words = cases.arguments(options)
-        for (from_, to), (reply, answer, time) in zip(asked, page.ask(asked)):
+        for (from_, to), (reply, answer, time) in zip(pairs, page.ask(pairs)):
             times.append(time)
             case = f"{name}: {options} {from_!r} {to!r}"
             tally.equal(case, reply, native.streams([*words, *operands(from_, to)]))
             verbose = native.run([*words, "-v", *operands(from_, to)])
-            shown = without_blanks(verbose.stdout or verbose.stderr)
-            tally.equal(f"{case}: the answer contains the verbose reply", shown in without_blanks(answer), True)
+            reply_text = without_blanks(verbose.stdout or verbose.stderr)
+            tally.equal(f"{case}: the answer contains the verbose reply", reply_text in without_blanks(answer), True)
     page.set_options({})
     times.sort()
     print(f"{name}: {len(times)} questions, {times[len(times) // 2]:.0f} ms from typing to the answer in the middle, "
@@ -119,15 +119,15 @@ def check_sessions(name: str, page: Page, native: Native, tally: Tally) -> None:
     for lines in cases.SESSIONS:
         page.click("restart")
         page.enter_lines(lines)
-        ran = native.run(["-f", cases.OWN_FILE], "".join(f"{line}\n" for line in lines))
-        tally.equal(f"{name}: session from {lines[0]!r}", page.session_output(), (ran.stdout, ran.stderr))
+        process = native.run(["-f", cases.OWN_FILE], "".join(f"{line}\n" for line in lines))
+        tally.equal(f"{name}: session from {lines[0]!r}", page.session_output(), (process.stdout, process.stderr))
         (native.folder / "s.units").unlink(missing_ok=True)
     page.click("restart")
     page.enter_lines(["10 m", "ft", "2 m"])
-    before = page.session_output()
+    output = page.session_output()
     page.open("#view=session")
     page.wait_for("document.getElementById('transcript').textContent.includes('2 m')")
-    tally.equal(f"{name}: a session after a reload", page.session_output(), before)
+    tally.equal(f"{name}: a session after a reload", page.session_output(), output)
     page.focus("line")
     for key, line in (("ArrowUp", "2 m"), ("ArrowUp", "ft"), ("ArrowDown", "2 m"), ("ArrowDown", "")):
         page.browser.press(key)
@@ -142,17 +142,17 @@ def check_definitions(name: str, page: Page, native: Native, tally: Tally) -> No
     page.click("tab-definitions")
     page.replace_text(cases.FAULTY_TEXT)
     native.write(cases.OWN_FILE, cases.FAULTY_TEXT)
-    checked = native.run(["-f", cases.OWN_FILE, "--check"])
-    rows = list(dict.fromkeys(row for row in (checked.stderr + checked.stdout).split("\n") if row))
+    report = native.run(["-f", cases.OWN_FILE, "--check"])
+    rows = list(dict.fromkeys(row for row in (report.stderr + report.stdout).split("\n") if row))
     tally.equal(f"{name}: the check of a file with a cycle", page.report(), rows)
     page.browser.value(
         "[...document.querySelectorAll('#check button')].find(row => row.textContent.startsWith('loopb:')).click()")
-    selected = page.browser.value(
+    selection = page.browser.value(
         "(t => t.value.slice(t.selectionStart, t.selectionEnd))(document.getElementById('text'))")
-    tally.equal(f"{name}: the definition of a row of the check", selected, "loopb 3 loopa")
+    tally.equal(f"{name}: the definition of a row of the check", selection, "loopb 3 loopa")
     page.open("#from=smoot&to=m")
-    asked = [("3 loopa", "m"), ("smoot", "m"), ("broken", "")]
-    for (from_, to), (reply, _, _) in zip(asked, page.ask(asked)):
+    pairs = [("3 loopa", "m"), ("smoot", "m"), ("broken", "")]
+    for (from_, to), (reply, _, _) in zip(pairs, page.ask(pairs)):
         expected = native.streams(["-f", cases.OWN_FILE, *operands(from_, to)])
         tally.equal(f"{name}: {from_} after a reload", reply, expected)
     page.click("tab-definitions")
@@ -173,8 +173,8 @@ def check_names(name: str, page: Page, native: Native, tally: Tally) -> None:
     page.focus("from")
     page.browser.type("3 yar")
     page.wait_for("!document.getElementById('from-names').hidden")
-    found = native.run(["-q", "-f", cases.OWN_FILE], "search yar\n").stdout.split("\n")
-    expected = {line.split("\t")[1] for line in found if line.startswith("\t")}
+    lines = native.run(["-q", "-f", cases.OWN_FILE], "search yar\n").stdout.split("\n")
+    expected = {line.split("\t")[1] for line in lines if line.startswith("\t")}
     tally.equal(f"{name}: the names with yar", set(page.options_of("from-names")), expected)
     page.browser.press("ArrowDown")
     tally.equal(f"{name}: the active name", bool(page.browser.value(
@@ -184,10 +184,10 @@ def check_names(name: str, page: Page, native: Native, tally: Tally) -> None:
     page.focus("to")
     page.browser.press("ArrowDown")
     page.wait_for("!document.getElementById('to-names').hidden")
-    shown = page.options_of("to-names")
-    conforming = native.run(["-f", cases.OWN_FILE, "--", "3 yard", "?"]).stdout.split("\n")
-    units = {line.split("\t")[1] for line in conforming if line.startswith("\t")}
-    tally.equal(f"{name}: the units for 3 yard", bool(shown) and set(shown) <= units, True)
+    options = page.options_of("to-names")
+    conformable_lines = native.run(["-f", cases.OWN_FILE, "--", "3 yard", "?"]).stdout.split("\n")
+    units = {line.split("\t")[1] for line in conformable_lines if line.startswith("\t")}
+    tally.equal(f"{name}: the units for 3 yard", bool(options) and set(options) <= units, True)
     page.browser.press("Escape")
     tally.equal(f"{name}: escape closes the list", page.property("to-names", "hidden"), True)
 
@@ -204,7 +204,7 @@ def check_links(name: str, page: Page, native: Native, tally: Tally) -> None:
 
 
 def check_server(page_file: Path, browser: Chromium, tally: Tally) -> None:
-    """From a static server the page needs one request, and none after it."""
+    """The page makes a single request to a static server."""
     handler = partial(QuietHandler, directory=str(page_file.parent))
     with ThreadingHTTPServer(("127.0.0.1", 0), handler) as server:
         threading.Thread(target=server.serve_forever, daemon=True).start()
@@ -213,12 +213,12 @@ def check_server(page_file: Path, browser: Chromium, tally: Tally) -> None:
         page.open("#from=1+ft&to=in")
         server.shutdown()
     tally.equal("an answer after the server has stopped", page.ask([("2 ft", "in")])[0][0], "\t* 24\n\t/ 0.041666667\n")
-    fetched = [url for url in browser.requests() if url.startswith("http")]
-    tally.equal("requests", fetched, [f"{page.url}#from=1+ft&to=in".split("#")[0]])
+    urls = [url for url in browser.requests() if url.startswith("http")]
+    tally.equal("requests", urls, [f"{page.url}#from=1+ft&to=in".split("#")[0]])
 
 
 def check_storage(page: Page, tally: Tally) -> None:
-    """If the browser refuses to keep a change, the page says so and goes on."""
+    """If the browser refuses to store a change, the page says so and still works."""
     page.open("#view=definitions")
     page.browser.value("Storage.prototype.setItem = () => { throw new Error('full'); }, 0")
     page.replace_text(cases.OWN_TEXT + "smoot 67 in\n")
@@ -274,8 +274,8 @@ def check_views(page: Page, native: Native, tally: Tally) -> None:
     name = page.browser.name
     page.open()
     tally.equal(f"{name}: the page starts", page.property("failure", "hidden"), True)
-    started = page.browser.value("document.documentElement.dataset.started")
-    print(f"{name}: ready {started} ms after the page was opened", flush=True)
+    milliseconds = page.browser.value("document.documentElement.dataset.started")
+    print(f"{name}: ready {milliseconds} ms after the page was opened", flush=True)
     for check in (check_names, check_links, check_sessions, check_definitions):
         check(name, page, native, tally)
 
@@ -300,16 +300,16 @@ def main() -> None:
         (Chromium.command, check_chromium), (Chromium.command, ask_chromium), (Firefox.command, check_firefox),
     ]
     with tempfile.TemporaryDirectory() as temporary, ThreadPoolExecutor(len(checks)) as pool:
-        running = []
+        futures = []
         for command, check in checks:
             if not shutil.which(command):
                 tally.skip(f"{check.__name__}: {command} is not installed")
                 continue
             folder = Path(temporary, check.__name__)
             folder.mkdir()
-            running.append(pool.submit(check, arguments, Native(arguments.program, library, folder), tally))
-        for check_run in running:
-            fault = check_run.exception()
+            futures.append(pool.submit(check, arguments, Native(arguments.program, library, folder), tally))
+        for future in futures:
+            fault = future.exception()
             if fault is not None:
                 traceback.print_exception(fault)
             tally.equal("a check that ended early", repr(fault), "None")

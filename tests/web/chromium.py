@@ -21,7 +21,7 @@ class Chromium:
         to_read, self._to = os.pipe()
         self._from, to_write = os.pipe()
         self._profile = tempfile.TemporaryDirectory(ignore_cleanup_errors=True)
-        # The browser expects commands on descriptor 3 and replies on descriptor 4.
+        # The browser reads commands from descriptor 3 and writes replies to descriptor 4.
         self._process = subprocess.Popen(
             ["bash", "-c", f'exec "$@" 3<&{to_read} 4>&{to_write}', "browser", self.command, "--headless=new",
              "--no-sandbox", "--disable-gpu", "--no-first-run", "--hide-scrollbars", "--disable-background-networking",
@@ -29,7 +29,7 @@ class Chromium:
             pass_fds=(to_read, to_write), stderr=subprocess.DEVNULL, stdout=subprocess.DEVNULL)
         os.close(to_read)
         os.close(to_write)
-        self._count, self._received, self._session = 0, b"", ""
+        self._count, self._input, self._session = 0, b"", ""
         self.events: list[dict] = []
         target = self.call("Target.createTarget", url=EMPTY)["targetId"]
         self._session = self.call("Target.attachToTarget", targetId=target, flatten=True)["sessionId"]
@@ -37,12 +37,12 @@ class Chromium:
             self.call(f"{domain}.enable")
 
     def _message(self) -> dict:
-        while b"\0" not in self._received:
+        while b"\0" not in self._input:
             piece = os.read(self._from, 1 << 16)
             if not piece:
                 raise EOFError("the browser ended")
-            self._received += piece
-        message, self._received = self._received.split(b"\0", 1)
+            self._input += piece
+        message, self._input = self._input.split(b"\0", 1)
         return json.loads(message)
 
     def call(self, method: str, **params: object) -> dict:
@@ -52,18 +52,18 @@ class Chromium:
             message["sessionId"] = self._session
         os.write(self._to, json.dumps(message).encode() + b"\0")
         while True:
-            received = self._message()
-            if received.get("id") == self._count:
-                if "error" in received:
-                    raise RuntimeError(received["error"])
-                return received["result"]
-            self.events.append(received)
+            reply = self._message()
+            if reply.get("id") == self._count:
+                if "error" in reply:
+                    raise RuntimeError(reply["error"])
+                return reply["result"]
+            self.events.append(reply)
 
     def _events(self, method: str) -> list[dict]:
         return [event["params"] for event in self.events if event.get("method") == method]
 
     def open(self, url: str) -> None:
-        """Loads a page. An empty page comes first, since another fragment of the same address loads nothing."""
+        """Loads a page, after an empty one: a change of the fragment alone would load nothing."""
         for address in (EMPTY, url):
             self.events = [event for event in self.events if event.get("method") != "Page.loadEventFired"]
             self.call("Page.navigate", url=address)

@@ -20,15 +20,15 @@ class Firefox:
 
     def __init__(self) -> None:
         self._profile = tempfile.TemporaryDirectory(ignore_cleanup_errors=True)
-        with socket.socket() as unused:
-            unused.bind(("127.0.0.1", 0))
-            port = unused.getsockname()[1]
+        with socket.socket() as listener:
+            listener.bind(("127.0.0.1", 0))
+            port = listener.getsockname()[1]
         Path(self._profile.name, "user.js").write_text(f'user_pref("marionette.port", {port});\n')
         self._process = subprocess.Popen(
             [self.command, "--headless", "--marionette", "--no-remote", "--profile", self._profile.name],
             stdout=subprocess.DEVNULL, stderr=subprocess.DEVNULL)
         self._socket = self._connect(port)
-        self._received, self._count = b"", 0
+        self._input, self._count = b"", 0
         self._message()
         self.call("WebDriver:NewSession", capabilities={})
         self.call("WebDriver:SetTimeouts", script=600_000)
@@ -46,16 +46,16 @@ class Firefox:
         piece = self._socket.recv(1 << 16)
         if not piece:
             raise EOFError("the browser ended")
-        self._received += piece
+        self._input += piece
 
     def _message(self) -> list:
-        while b":" not in self._received:
+        while b":" not in self._input:
             self._receive()
-        digits, self._received = self._received.split(b":", 1)
+        digits, self._input = self._input.split(b":", 1)
         length = int(digits)
-        while len(self._received) < length:
+        while len(self._input) < length:
             self._receive()
-        message, self._received = self._received[:length], self._received[length:]
+        message, self._input = self._input[:length], self._input[length:]
         return json.loads(message)
 
     def call(self, method: str, **params: object) -> dict:

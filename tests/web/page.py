@@ -1,12 +1,12 @@
-"""The page in a browser: what the tests do in it and read from it."""
+"""The page in a browser, with the actions and the outputs that the tests use."""
 
 from __future__ import annotations
 
 import json
 from typing import Any
 
-# Asks each question as if it were typed, waits until the page has no more to add, and returns [the reply as in a
-# terminal, the text of the answer, the milliseconds until the answer].
+# Enters each question as if it were typed, waits until the page is settled, and returns [the reply as in a terminal,
+# the text of the answer, the milliseconds until the answer].
 ASK = """(async (questions) => {
   const get = id => document.getElementById(id);
   get('printed').open = true;
@@ -43,10 +43,10 @@ SETTLED = """(async () => {
   return document.documentElement.dataset.settled;
 })()"""
 
-# Both streams of the session as the transcript shows them.
+# Both streams of the session, from the transcript.
 TRANSCRIPT = """(() => {
   const nodes = [...document.getElementById('transcript').childNodes];
-  const text = found => found.map(node => node.textContent).join('');
+  const text = nodes => nodes.map(node => node.textContent).join('');
   return [text(nodes.filter(n => n.className !== 'entered' && n.className !== 'fault')),
     text(nodes.filter(n => n.className === 'fault'))];
 })()"""
@@ -97,18 +97,18 @@ class Page:
             self.browser.press("Enter")
 
     def session_output(self) -> tuple[str, str]:
-        """What the session wrote, with the prompt that waits for the next line."""
+        """The output of the session, with the prompt for the next line, and its faults."""
         out, err = self.browser.value(TRANSCRIPT)
         prompt = self.text("prompt")
         return out + (f"{prompt} " if prompt.startswith("You ") else ""), err
 
     def type_text(self, text: str) -> None:
-        """Types a text in place of the shown file."""
+        """Replaces the shown file by a typed text."""
         self.browser.value("(() => { const t = document.getElementById('text'); t.focus(); t.select(); })()")
         self.browser.type(text)
 
     def replace_text(self, text: str) -> None:
-        """Types a text in place of the shown file, and waits for its check."""
+        """Replaces the shown file by a typed text, and waits for its check."""
         self.type_text(text)
         self.wait(500)
 

@@ -7,7 +7,7 @@ from pathlib import Path
 import cases
 from page import Page
 
-# A refusal looks like one once nothing more is typed.
+# A refusal is marked as one when typing stops.
 REFUSED = "document.getElementById('answer').className === 'refused'"
 WIDE, PHONE = (1000, 780), (390, 844)
 SESSION = ["10 meters", "feet", ":define smoot 67 in", "1 smoot", "m", ":watch 1 smoot ; cm", ":define smoot 68 in",

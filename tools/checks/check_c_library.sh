@@ -1,9 +1,9 @@
 #!/usr/bin/env bash
-# Builds the C library and the Python package from what bin/test proved, and tests them: the calls from C, over the
-# static and the shared library, under valgrind, in four threads, and with each allocation refused; the Python package
-# over both back ends; its wheel; the examples of docs/C_AND_PYTHON.md; and 2,000 random questions and columns of 2,000
-# random numbers that C, Python and the program have to answer alike. What needs a package that is not installed, or a
-# library that bin/test did not build, is skipped by its name. The last line is `N passed, M failed, K skipped`.
+# Builds the C library and the Python package from the crates that bin/test proved, and tests them: the calls from C,
+# with the static and the shared library, under valgrind, in four threads, and with each allocation refused; the Python
+# package with both back ends; its wheel; the examples of docs/C_AND_PYTHON.md; and 2,000 random questions and columns
+# of 2,000 random numbers, which C, Python and the program have to answer alike. A test that needs a missing package, or
+# a library that bin/test did not build, is named and skipped. The last line is `N passed, M failed, K skipped`.
 # shellcheck disable=SC2016,SC2317 # literal backquotes; functions that `step` calls
 set -u
 script=$(readlink -f "${BASH_SOURCE[0]}") || exit
@@ -13,8 +13,8 @@ work=$(mktemp -d) || exit 2
 trap 'rm -rf "$work"' EXIT
 passed=0 failed=0 skipped=0
 
-# step NAME COMMAND WORD..: one check, which passes if the command ends with 0. If its last line is `N passed, M failed`
-# these numbers count.
+# step NAME COMMAND WORD..: runs one check, which passes if the command ends with status 0. If its last line is
+# `N passed, M failed`, these numbers are added instead.
 step() {
     local name=$1 status last
     shift
@@ -75,7 +75,7 @@ esac
 include=$work/units/include static=$work/units/lib/libunits.a shared=$work/units/lib/libunits.so.1
 warnings=(-std=c11 -Wall -Wextra -Werror -O1 -g)
 
-# Only the calls of the header are exported, and only these of the C library's functions are used.
+# Only the calls of the header are exported, and only the listed functions of the C library are used.
 are_symbols_right() {
     diff <(nm -D --defined-only "$shared" | sed -n 's/.* T \([a-z_]*\)@@UNITS_1$/\1/p' | sort) \
         <(sed -n 's/^uint32_t \(units_[a-z_]*\)(.*/\1/p' "$include/units.h" | sort) || return
@@ -131,7 +131,7 @@ else
 fi
 if has mypy; then step 'mypy' mypy --strict lib/python/exact_units; else skip 'mypy' 'there is no command mypy'; fi
 
-# The wheel is the same each time, and works when it is unpacked, by either back end.
+# Two builds of the wheel are equal, and the unpacked wheel works with each back end.
 wheel_works() (
     for folder in first second; do
         wheel=$(tools/release/wheel.py "$work/$folder" --program "$program" --library "$shared" --bundle-program) \

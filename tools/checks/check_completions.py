@@ -3,9 +3,9 @@
 
     tools/checks/check_completions.py [SHELL..]
 
-It installs into temporary folders by tools/install.sh: for a user under ~/.local with --setup, and for a system under
-/usr in a stage, to which variables of bash-completion and of the shells point. A shell that is absent is named and
-counted as skipped. The last line is `N passed, M failed, K skipped`.
+tools/install.sh installs into temporary folders: for a user into ~/.local with --setup, and for a system into a stage
+of /usr, to which variables of bash-completion and of the shells point. The cases of a shell that is not installed are
+skipped. The last line is `N passed, M failed, K skipped`.
 """
 
 from __future__ import annotations
@@ -26,7 +26,7 @@ BASH_COMPLETION = Path("/usr/share/bash-completion/bash_completion")
 
 @dataclass(frozen=True)
 class Shell:
-    """How a shell is started, with the prompt `ready>`."""
+    """A shell, and the commands that give it the prompt `ready>`."""
 
     name: str
     command: list[str]
@@ -55,7 +55,7 @@ SHELLS = [
     ),
 ]
 
-# What is typed before Tab, and a pattern for the line that comes of it. NAME is the name of the program.
+# The keys before Tab, and a pattern of the completed line. NAME is the name of the program.
 OPTIONS = [
     ("NAME --ro", r"NAME --round "),
     ("NAME -t --dig", r"NAME -t --digits"),
@@ -85,7 +85,7 @@ NAMES = [
 
 
 class Tally:
-    """Counts of cases, and why some failed."""
+    """The numbers of cases that passed, failed and were skipped."""
 
     def __init__(self) -> None:
         self.passed = self.failed = self.skipped = 0
@@ -96,9 +96,9 @@ class Tally:
         if not is_well:
             print(f"check_completions: {message}")
 
-    def skip(self, number: int, what: str) -> None:
+    def skip(self, number: int, reason: str) -> None:
         self.skipped += number
-        print(f"check_completions: {what}, so {number} cases are skipped")
+        print(f"check_completions: {number} cases are skipped: {reason}")
 
 
 def is_installed(shell: Shell) -> bool:
@@ -107,7 +107,7 @@ def is_installed(shell: Shell) -> bool:
 
 @dataclass(frozen=True)
 class Install:
-    """An installed program, its name, and what a shell is started with."""
+    """An installed program, and the environment and folder of a shell that runs it."""
 
     kind: str
     name: str
@@ -126,13 +126,13 @@ def try_cases(tally: Tally, shell: Shell, install: Install, cases: list[tuple[st
     try:
         tally.count(terminal.shows("ready> "), f"{title}: no prompt: {terminal.text()!r}")
         for keys, pattern in cases:
-            typed = keys.replace("NAME", install.name)
+            line = keys.replace("NAME", install.name)
             terminal.clear()
-            terminal.type(typed)
-            terminal.shows(re.escape(typed[-3:]))
+            terminal.type(line)
+            terminal.shows(re.escape(line[-3:]))
             terminal.type("\t")
             is_well = terminal.shows(pattern.replace("NAME", install.name))
-            tally.count(is_well, f"{title}: {typed!r} became {terminal.text()!r}")
+            tally.count(is_well, f"{title}: {line!r} became {terminal.text()!r}")
             terminal.type("\x15")
     finally:
         terminal.close()
@@ -140,9 +140,9 @@ def try_cases(tally: Tally, shell: Shell, install: Install, cases: list[tuple[st
 
 def run_install(environment: dict[str, str], *words: str) -> None:
     command = [str(ROOT / "tools/install.sh"), *words]
-    done = subprocess.run(command, env=environment, capture_output=True, text=True)
-    if done.returncode != 0:
-        sys.exit(f"check_completions: {' '.join(command)}: {done.stderr}")
+    process = subprocess.run(command, env=environment, capture_output=True, text=True)
+    if process.returncode != 0:
+        sys.exit(f"check_completions: {' '.join(command)}: {process.stderr}")
 
 
 def environment_of(home: Path, programs: Path, **more: str) -> dict[str, str]:
@@ -159,7 +159,7 @@ def make_lab(folder: Path, home: Path) -> None:
 
 
 def try_user(tally: Tally, room: Path) -> None:
-    """An install under ~/.local with --setup."""
+    """Tries an install into ~/.local with --setup."""
     home = room / "home"
     environment = environment_of(home, home / ".local/bin")
     make_lab(room / "lab", home)
@@ -174,7 +174,7 @@ def try_user(tally: Tally, room: Path) -> None:
 
 
 def try_system(tally: Tally, room: Path, name: str) -> None:
-    """A staged install under /usr, which the shells find as if it were in its place."""
+    """Tries a staged install into /usr, which the shells find as if it were in its place."""
     stage = room / f"stage of {name}"
     share = stage / "usr/share"
     environment = environment_of(
@@ -198,7 +198,7 @@ def try_system(tally: Tally, room: Path, name: str) -> None:
 
 
 def try_claim(tally: Tally, room: Path) -> None:
-    """That bash-completion claims `units`, so that the cases above show something."""
+    """Checks that bash-completion claims `units`; otherwise the other cases show nothing."""
     if not BASH_COMPLETION.exists():
         tally.skip(1, "bash-completion is not installed")
         return

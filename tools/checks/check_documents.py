@@ -7,9 +7,9 @@
   heading of its section, and no crate uses one on its own row or a higher one.
 - The version in CHANGELOG.md, the manual pages and release/MADE_FROM is the same.
 - Each relative link in a document leads to a file.
-- Documents with a limit keep to it.
+- No document exceeds its limit in LIMITS.
 
-Each shortcoming is printed; the last line is `N passed, M failed`.
+Each fault is printed; the last line is `N passed, M failed`.
 """
 
 from __future__ import annotations
@@ -34,22 +34,22 @@ LINK = re.compile(r"\[[^\]]*\]\(([^)#:\s]+)(?:#[^)]*)?\)")
 
 
 def sections() -> dict[str, dict[str, list[str]]]:
-    """The crates of crates.txt by heading, each with what it uses."""
-    found: dict[str, dict[str, list[str]]] = {}
+    """The crates of crates.txt by heading, each with the crates that it uses."""
+    crates: dict[str, dict[str, list[str]]] = {}
     heading = ""
     for line in (ROOT / "crates.txt").read_text().splitlines():
         if line.startswith("# "):
             heading = line[2:]
         elif ":" in line:
             head, uses = line.split(":", 1)
-            found.setdefault(heading, {})[head.split()[0]] = uses.split()
-    return found
+            crates.setdefault(heading, {})[head.split()[0]] = uses.split()
+    return crates
 
 
-def product(found: dict[str, dict[str, list[str]]]) -> dict[str, list[str]]:
+def product(groups: dict[str, dict[str, list[str]]]) -> dict[str, list[str]]:
     """The crates that are part of the product, each with the crates of the repository that it uses."""
-    parts = [crates for heading, crates in found.items() if not heading.startswith(TEST_PROGRAMS)]
-    crates = {name: uses for part in parts for name, uses in part.items()}
+    products = [crates for heading, crates in groups.items() if not heading.startswith(TEST_PROGRAMS)]
+    crates = {name: uses for part in products for name, uses in part.items()}
     return {name: [use for use in uses if use in crates] for name, uses in crates.items()}
 
 
@@ -65,17 +65,17 @@ def diagram_rows(text: str) -> list[tuple[str, list[str]]]:
 
 
 def check_diagram(text: str) -> list[str]:
-    found = sections()
-    crates, faults = product(found), []
+    groups = sections()
+    crates, faults = product(groups), []
     rows = diagram_rows(text)
     row_of: dict[str, int] = {}
     for place, (heading, names) in enumerate(rows):
         for name in names:
             if name not in crates:
-                faults.append(f"the diagram has {name}, which is no product crate")
+                faults.append(f"the diagram has {name}, which is not a product crate")
             elif name in row_of:
                 faults.append(f"the diagram has {name} twice")
-            elif name not in found.get(heading, {}):
+            elif name not in groups.get(heading, {}):
                 faults.append(f"the diagram has {name} under '{heading}', crates.txt does not")
             row_of[name] = place
     faults += [f"the diagram lacks {name}" for name in crates if name not in row_of]
@@ -92,7 +92,8 @@ def check_list(text: str) -> list[str]:
     names = re.findall(r"^- `(\w+)`: ", text, re.MULTILINE)
     crates = product(sections())
     faults = [f"the list of crates lacks {name}" for name in crates if name not in names]
-    return faults + [f"the list of crates has {name} where it does not belong" for name in names if names.count(name) > 1 or name not in crates]
+    faults += [f"the list of crates has {name}, which is not a product crate" for name in names if name not in crates]
+    return faults + [f"the list of crates has {name} twice" for name in names if names.count(name) > 1]
 
 
 def version_in(path: str, pattern: str) -> str | None:
@@ -106,19 +107,19 @@ def check_versions() -> list[str]:
     places = {"release/MADE_FROM": r"^version (\S+)$"}
     for page in sorted((ROOT / "share/man/man1").glob("*.1")):
         places[str(page.relative_to(ROOT))] = r'^\.TH \S+ \S+ "?\S+?"? "?\S+ (\d+\.\d+\.\d+)"?'
-    found = {path: version_in(path, pattern) for path, pattern in places.items()}
-    found = {path: other for path, other in found.items() if other is None or other != version}
-    faults = [f"{path} has the version {other}, CHANGELOG.md has {version}" for path, other in found.items()]
+    versions = {path: version_in(path, pattern) for path, pattern in places.items()}
+    versions = {path: other for path, other in versions.items() if other is None or other != version}
+    faults = [f"{path} has the version {other}, CHANGELOG.md has {version}" for path, other in versions.items()]
     return faults if version else ["CHANGELOG.md has no version"]
 
 
 def documents() -> list[Path]:
-    listed = subprocess.run(
+    output = subprocess.run(
         ["git", "-C", ROOT, "ls-files", "--cached", "--others", "--exclude-standard", "*.md"],
         stdout=subprocess.PIPE,
         check=True,
     )
-    files = [ROOT / name for name in listed.stdout.decode().splitlines() if not name.startswith("wip/")]
+    files = [ROOT / name for name in output.stdout.decode().splitlines() if not name.startswith("wip/")]
     return [file for file in files if file.exists()]
 
 

@@ -4,10 +4,10 @@ live table, and over each kind of edit that a history takes back and makes again
 
     tools/checks/check_edits.py
 
-An edit, an undo or a redo that says `out of memory` has to leave the counts, the lines, what each name is worth, and
-all that can be undone and redone, as they were; and it has to be made when it is asked for again, with the answers that
-it has where memory is found. A run whose other calls want memory ends without an answer. Needs gcc, for the allocator
-that it puts before the C library's. A case is an edit; the last line is `N passed, M failed`.
+If an edit, an undo or a redo says `out of memory`, the counts, the lines, the value of each name, and all that can be
+undone and redone have to stay the same. The repeated edit has to succeed, with the same answers as if nothing had been
+refused. A run in which another call is out of memory ends without an answer. Needs gcc, for an allocator that takes the
+place of the C library's. A case is an edit; the last line is `N passed, M failed`.
 """
 
 import os
@@ -25,7 +25,7 @@ EDITS = ["define b 7 km", "define e 7 d", "drop b", "switch en_GB", "append more
 
 
 class Case(NamedTuple):
-    """What comes before an edit, the edit, and how it is asked for again where it was refused."""
+    """The calls before an edit, the edit, and the call that repeats it after it was refused."""
 
     before: list[str]
     edit: str
@@ -33,11 +33,11 @@ class Case(NamedTuple):
 
 
 class Program(NamedTuple):
-    """Its name, its first calls, what shows how things stand and leaves them, what shows the rest, and its edits."""
+    """Its name, its first calls, calls that show the state, calls that show the rest and change it, and its edits."""
 
     name: str
     start: list[str]
-    asked: list[str]
+    questions: list[str]
     last: list[str]
     cases: list[Case]
 
@@ -53,7 +53,7 @@ LIVE = Program(
         Case(["splice 5 2 b 7 km;e 2 m", "settle"], "back", "back"),
     ],
 )
-# Behind its first calls a history has an edit that can be undone, and one that can be redone.
+# After its first calls, a history has an edit that can be undone and one that can be redone.
 HISTORY = Program(
     "history_calls",
     ["load deck.units", "define c 2 b", "define c 3 b", "undo"],
@@ -74,30 +74,30 @@ def give_up(why):
 
 
 def built(name):
-    """The path of a proved program."""
+    """Returns the path of a proved program."""
     done = subprocess.run([ROOT / "tools/built.sh", name], stdout=subprocess.PIPE, check=False)
     if done.returncode != 0:
         give_up(f"the program {name} is not built")
     return done.stdout.decode().strip()
 
 
-def run(path, calls, refused=0):
-    """The status, the answers, and whether an allocation was refused."""
+def run(path, calls, number=0):
+    """Returns the status, the answers, and whether the allocation of this number was refused."""
     given = "".join(call + "\n" for call in calls).encode()
-    settings = {"LD_PRELOAD": str(Path("refuse.so").resolve()), "REFUSED": str(refused)}
-    with open("refused", "w+b") as told:
-        os.dup2(told.fileno(), 9)
+    settings = {"LD_PRELOAD": str(Path("refuse.so").resolve()), "REFUSED": str(number)}
+    with open("refused", "w+b") as log:
+        os.dup2(log.fileno(), 9)
         streams = {"stdout": subprocess.PIPE, "stderr": subprocess.DEVNULL, "pass_fds": [9]}
         done = subprocess.run([path], input=given, env=settings, check=False, **streams)
         os.close(9)
-        return done.returncode, done.stdout.decode().split("\n")[:-1], os.fstat(told.fileno()).st_size > 0
+        return done.returncode, done.stdout.decode().split("\n")[:-1], os.fstat(log.fileno()).st_size > 0
 
 
-def refusals(path, calls, at, wanted):
-    """How often the call at this place says `out of memory`, with each allocation refused in turn: then the answers
-    have to be the wanted ones. None where a run is wrong."""
-    status, usual, _ = run(path, calls)
-    if status != 0 or len(usual) != len(calls) or usual[at] != "ok":
+def refusals(path, calls, at, expected):
+    """Refuses each allocation in turn. Returns how often the call at this place says `out of memory`, or None if a run
+    is wrong. After `out of memory` the answers have to be the expected ones."""
+    status, full, _ = run(path, calls)
+    if status != 0 or len(full) != len(calls) or full[at] != "ok":
         return None
     count, number = 0, 0
     while True:
@@ -106,28 +106,28 @@ def refusals(path, calls, at, wanted):
         if not was_refused:
             return count
         if status != 0:
-            right = answers == []
+            agrees = answers == []
         elif answers[at : at + 1] == ["out of memory"]:
             count += 1
-            right = answers == wanted
+            agrees = answers == expected
         else:
-            right = answers == usual or "out of memory" in answers
-        if not right:
+            agrees = answers == full or "out of memory" in answers
+        if not agrees:
             print(f"check_edits: {calls[at]}, with allocation {number} refused: status {status}, {answers[at:]}")
             return None
 
 
 def is_right(path, program, case):
-    """Whether an edit is right with each allocation refused, and how often it was refused itself."""
-    start = [*program.start, *case.before, *program.asked]
-    shown = [*program.asked, *program.last]
+    """Returns whether an edit is right with each allocation refused, and how often the edit itself was refused."""
+    start = [*program.start, *case.before, *program.questions]
+    report = [*program.questions, *program.last]
     at = len(start)
-    _, before, _ = run(path, [*start, *shown])
-    _, behind, _ = run(path, [*start, case.edit, *shown])
-    refused = [*before[:at], "out of memory"]
-    kept = refusals(path, [*start, case.edit, *shown], at, [*refused, *before[at:]])
-    made = refusals(path, [*start, case.edit, case.again, *shown], at, [*refused, *behind[at:]])
-    return bool(kept) and kept == made, kept or 0
+    _, unchanged, _ = run(path, [*start, *report])
+    _, changed, _ = run(path, [*start, case.edit, *report])
+    refused = [*unchanged[:at], "out of memory"]
+    alone = refusals(path, [*start, case.edit, *report], at, [*refused, *unchanged[at:]])
+    repeated = refusals(path, [*start, case.edit, case.again, *report], at, [*refused, *changed[at:]])
+    return bool(alone) and alone == repeated, alone or 0
 
 
 def main():
@@ -138,14 +138,14 @@ def main():
         Path("deck.units").write_text("".join(line + "\n" for line in DECK))
         Path("more.units").write_text("".join(line + "\n" for line in MORE))
         gcc = ["gcc", "-O1", "-shared", "-fPIC", "-o", "refuse.so", ROOT / "tools/checks/refuse.c"]
-        made = subprocess.run(gcc, check=False)
-        if made.returncode != 0:
+        compiler = subprocess.run(gcc, check=False)
+        if compiler.returncode != 0:
             give_up("gcc did not build the allocator")
         for path, program in programs:
             for case in program.cases:
                 right, count = is_right(path, program, case)
-                what = f"{program.name}: {' and '.join([*case.before, case.edit])}"
-                print(f"{what}: refused {count} times{'' if right else ', and wrong'}")
+                title = f"{program.name}: {' and '.join([*case.before, case.edit])}"
+                print(f"{title}: refused {count} times{'' if right else ', and wrong'}")
                 passed, failed = (passed + 1, failed) if right else (passed, failed + 1)
         os.chdir("/")
     print(f"{passed} passed, {failed} failed")

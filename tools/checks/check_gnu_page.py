@@ -5,11 +5,10 @@
 
 A row is run if its table begins with the column `Question`. Its first cell has the words after `units` in backquotes,
 or `session:` and the lines of a session, each in backquotes. The second cell has the lines that this program writes,
-and the third those of GNU units, each in backquotes; `...` stands for all further lines. Blanks at both ends of a line
-are not compared, nor is which stream it is written to. This program reads a copy of GNU's definitions made by
-tools/import_gnu.sh.
+and the third those of GNU units, each in backquotes; `...` means all further lines. Blanks at both ends of a line and
+the stream of a line are not compared. This program reads a copy of GNU's definitions made by tools/import_gnu.sh.
 
-The last line is `N passed, M failed, K skipped`. If Debian's package units is absent, all rows are skipped.
+The last line is `N passed, M failed, K skipped`. All rows are skipped if Debian's package units is not installed.
 """
 
 import os
@@ -60,12 +59,12 @@ def rows_of(page: Path) -> list[Row]:
 
 
 def lines_of(program: list[str], row: Row) -> list[str]:
-    """What a program writes on both streams, as lines without blanks at their ends."""
+    """The lines that a program writes on both streams, without empty lines and without blanks at their ends."""
     if row.is_session:
         words, text = ["-q"], "".join(line + "\n" for line in row.question)
     else:
         words, text = shlex.split(row.question[0]), ""
-    done = subprocess.run(
+    process = subprocess.run(
         [*program, *words],
         input=text.encode(),
         stdout=subprocess.PIPE,
@@ -74,14 +73,14 @@ def lines_of(program: list[str], row: Row) -> list[str]:
         check=False,
         env={**os.environ, "LC_ALL": "C"},
     )
-    written = done.stdout.decode(errors="replace").splitlines()
-    return [line.strip() for line in written if line.strip()]
+    output = process.stdout.decode(errors="replace").splitlines()
+    return [line.strip() for line in output if line.strip()]
 
 
-def agrees(wanted: list[str], written: list[str]) -> bool:
-    if wanted[-1:] == [REST]:
-        return written[: len(wanted) - 1] == wanted[:-1]
-    return written == wanted
+def agrees(expected: list[str], lines: list[str]) -> bool:
+    if expected[-1:] == [REST]:
+        return lines[: len(expected) - 1] == expected[:-1]
+    return lines == expected
 
 
 def main() -> int:
@@ -92,7 +91,7 @@ def main() -> int:
         print("0 passed, 1 failed, 0 skipped")
         return 1
     if not shutil.which(GNU) or not DEFINITIONS.exists():
-        print("check_gnu_page: Debian's package units is absent, so no row was run")
+        print("check_gnu_page: skipped: Debian's package units is not installed")
         print(f"0 passed, 0 failed, {2 * len(rows)} skipped")
         return 0
     passed = failed = 0
@@ -101,13 +100,13 @@ def main() -> int:
         subprocess.run([ROOT / "tools/import_gnu.sh", DEFINITIONS, copy], stdout=subprocess.DEVNULL, check=True)
         programs = {"here": [str(ROOT / "bin/units"), "-f", copy], "GNU units": [GNU]}
         for row in rows:
-            for (name, program), wanted in zip(programs.items(), (row.ours, row.gnus)):
-                written = lines_of(program, row)
-                if agrees(wanted, written):
+            for (name, program), expected in zip(programs.items(), (row.ours, row.gnus)):
+                lines = lines_of(program, row)
+                if agrees(expected, lines):
                     passed += 1
                     continue
                 failed += 1
-                print(f"{page.name}:{row.line}: {name}: {row.question}\n  page:    {wanted}\n  program: {written[:6]}")
+                print(f"{page.name}:{row.line}: {name}: {row.question}\n  page:    {expected}\n  program: {lines[:6]}")
     print(f"{passed} passed, {failed} failed, 0 skipped")
     return 1 if failed else 0
 

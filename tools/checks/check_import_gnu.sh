@@ -1,7 +1,7 @@
 #!/usr/bin/env bash
-# Tests tools/import_gnu.sh: over a small file that has each form that it changes, and over the definitions of Debian's
-# package `units`, if that is installed. There the copy has to give no notice, units that GNU's own file loses have to
-# be known, and GNU units has to answer alike over the original and over the copy.
+# Tests tools/import_gnu.sh on a small file that has each form that it changes, and on the definitions of Debian's
+# package `units`, if that is installed. The copy of these has to give no notice and to define the units that GNU's own
+# file loses, and GNU units has to give the same answers with the original and with the copy.
 #
 #     tools/checks/check_import_gnu.sh
 #
@@ -26,13 +26,13 @@ expect() {
     fi
 }
 
-# status_of COMMAND WORD..: the exit status; both streams go to the file `said`.
+# status_of COMMAND WORD..: prints the exit status; both streams go to the file `output`.
 status_of() {
-    "$@" > said 2>&1
+    "$@" > output 2>&1
     echo $?
 }
 
-converted() { "$root/bin/units" -1 "$@" 2>&1; }
+convert() { "$root/bin/units" -1 "$@" 2>&1; }
 
 make_small_file() {
     printf '\357\273\277# The licence\r\n'
@@ -47,25 +47,25 @@ check_small_file() {
     make_small_file > small.units
     printf 'other9 /second\nK_apex1961x 7\n' > other.units
     expect 'the copy is written' 0 "$(status_of "$import" small.units copy.units)"
-    expect 'its name is printed' copy.units "$(cat said)"
-    expect 'the definitions of the copy' "$(wanted_lines)" "$(grep -v '^#' copy.units)"
+    expect 'its name is printed' copy.units "$(cat output)"
+    expect 'the definitions of the copy' "$(expected_lines)" "$(grep -v '^#' copy.units)"
     expect 'the licence stays' '# The licence' "$(grep licence$ copy.units)"
-    expect 'the program has no notice' '' "$(converted -f copy.units --check)"
-    expect 'the microsecond' '	* 1e-06' "$(converted -f copy.units $'\302\265s' s)"
+    expect 'the program has no notice' '' "$(convert -f copy.units --check)"
+    expect 'the microsecond' '	* 1e-06' "$(convert -f copy.units $'\302\265s' s)"
     expect 'the renamed name' $'\tDefinition: 2 K_apex_1961*K_apex1961x    /s = 159.6' \
-        "$(converted -f copy.units twice)"
+        "$(convert -f copy.units twice)"
     cp copy.units first.units
     expect 'a copy is replaced' 0 "$(status_of "$import" small.units copy.units)"
     expect 'by equal bytes' "$(cat first.units)" "$(cat copy.units)"
     expect 'standard output' "$(cat first.units)" "$("$import" small.units -)"
     cp small.units 'a b\t.units'
     expect 'a file with a blank and a backslash' 0 "$(status_of "$import" 'a b\t.units' 'c d\t.units')"
-    expect 'the same definitions' "$(wanted_lines)" "$(grep -v '^#' 'c d\t.units')"
+    expect 'the same definitions' "$(expected_lines)" "$(grep -v '^#' 'c d\t.units')"
     rm 'a b\t.units' 'c d\t.units'
-    expect 'nothing else is left' 'copy.units first.units other.units said small.units' "$(echo *)"
+    expect 'nothing else is left' 'copy.units first.units other.units output small.units' "$(echo *)"
 }
 
-wanted_lines() {
+expected_lines() {
     printf 's !\nsecond s\nmicro- 1e-6\n\302\265- micro\n\342\205\233- 1|8\nhalf- 1|2\n'
     printf 'hertz\t1 /s # per s\nshrimp  1 per s\nother_9 1 /second\nK_apex1961x 7\n'
     printf 'K_apex_1961 11.4 s # K_apex1961\ntwice 2 K_apex_1961*K_apex1961x \\\n  /s\n'
@@ -78,9 +78,9 @@ check_refusals() {
     echo 'my own definitions' > own.units
     expect 'a file of another origin is kept' 1 "$(status_of "$import" small.units own.units)"
     expect 'with its bytes' 'my own definitions' "$(cat own.units)"
-    expect 'a folder is no place for it' 1 "$(status_of "$import" small.units "$folder")"
+    expect 'a folder in its place' 1 "$(status_of "$import" small.units "$folder")"
     expect 'an absent file' 1 "$(status_of "$import" absent.units new.units)"
-    expect 'is named' 'import_gnu: cannot read absent.units' "$(cat said)"
+    expect 'is named' 'import_gnu: cannot read absent.units' "$(cat output)"
     printf 'm !\n!include gone.units\n' > lost.units
     expect 'an absent include' 1 "$(status_of "$import" lost.units new.units)"
     expect 'leaves no copy' 'no' "$([ -e new.units ] && echo yes || echo no)"
@@ -94,14 +94,14 @@ check_refusals() {
 check_gnu_file() {
     expect 'GNU definitions' 0 "$(status_of "$import" "$gnu_file" gnu.units)"
     expect 'no notice' 0 "$("$root/bin/units" -f gnu.units m 2>&1 > /dev/null | wc -l)"
-    expect 'Hz' $'\tDefinition: hertz = 1 / s' "$(converted -f gnu.units Hz)"
-    expect 'the micro sign' $'\t* 0.005' "$(converted -f gnu.units $'5 \302\265s' ms)"
-    expect 'the Greek mu' $'\t* 0.005' "$(converted -f gnu.units $'5 \316\274s' ms)"
+    expect 'Hz' $'\tDefinition: hertz = 1 / s' "$(convert -f gnu.units Hz)"
+    expect 'the micro sign' $'\t* 0.005' "$(convert -f gnu.units $'5 \302\265s' ms)"
+    expect 'the Greek mu' $'\t* 0.005' "$(convert -f gnu.units $'5 \316\274s' ms)"
     expect 'Darcy-Weisbach' $'\t* 43.533969' \
-        "$(converted -f gnu.units '8/pi^2 * lbm/ft^3 * ft * (ft^3/s)^2 /in^5' psi)"
+        "$(convert -f gnu.units '8/pi^2 * lbm/ft^3 * ft * (ft^3/s)^2 /in^5' psi)"
     expect 'Darcy-Weisbach with blanks' $'\t* 43.533969' \
-        "$(converted -f gnu.units '(8/pi^2)(lbm/ft^3) ft (ft^3/s)^2 (1/in^5)' psi)"
-    expect 'an old name' $'\tDefinition: K_apex_1971 = 12.5 / s' "$(converted -f gnu.units K_lum)"
+        "$(convert -f gnu.units '(8/pi^2)(lbm/ft^3) ft (ft^3/s)^2 (1/in^5)' psi)"
+    expect 'an old name' $'\tDefinition: K_apex_1971 = 12.5 / s' "$(convert -f gnu.units K_lum)"
     sed -n 's/^\([^][ \t#!(+]*[^][ \t#!(+1-9-]\)[ \t].*/\1\n/p' "$gnu_file" > names
     for file in "$gnu_file" gnu.units; do
         units -f "$file" -q -d 12 --compact < names 2>&1 | sed 's/.* = //' > "answers.${file##*/}"
@@ -115,7 +115,7 @@ check_refusals
 if [ -r "$gnu_file" ] && command -v units > /dev/null; then
     check_gnu_file
 else
-    echo "check_import_gnu: there is no $gnu_file (Debian's package units), so GNU's own definitions were not tried"
+    echo "check_import_gnu: there is no $gnu_file (Debian's package units), so GNU's own definitions are not tested"
     skipped=1
 fi
 echo "$passed passed, $failed failed, $skipped skipped"

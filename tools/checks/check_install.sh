@@ -1,6 +1,6 @@
 #!/usr/bin/env bash
-# Tries tools/install.sh in temporary folders, as a user and as an administrator: what it puts where, what it refuses,
-# that it leaves nothing half done, and that nothing is left after --uninstall. The last line is
+# Tries tools/install.sh in temporary folders, as a user and as an administrator: which files it installs where, what it
+# refuses, that it installs all or nothing, and that --uninstall leaves nothing. The last line is
 # `N passed, M failed, K skipped`.
 # shellcheck disable=SC2016,SC2034 # commands in single quotes, which use the variables
 set -u
@@ -18,7 +18,7 @@ passed=0 failed=0 skipped=0
 
 count() { if [ "$1" = 0 ]; then passed=$((passed + 1)); else failed=$((failed + 1)); fi; }
 
-# expect NAME STATUS PATTERN COMMAND: a shell command ends so, and all that it writes matches this pattern.
+# expect NAME STATUS PATTERN COMMAND: a shell command ends with this status, and its output matches this pattern.
 expect() {
     local output status
     output=$(eval "$4" 2>&1 < /dev/null)
@@ -28,23 +28,23 @@ expect() {
         count 0
     else
         count 1
-        echo "check_install: $1: status $status in place of $2, and it wrote:"
+        echo "check_install: $1: status $status instead of $2, and it wrote:"
         echo "$output"
     fi
 }
 
 skip() {
-    echo "check_install: $1 is not installed, so this is skipped: $2"
+    echo "check_install: skipped: $2, since $1 is not installed"
     skipped=$((skipped + 1))
 }
 
-# tree FOLDER: all that is in it, with modes and contents.
+# tree FOLDER: lists all files in it, with modes and checksums.
 tree() {
     if ! [ -e "$1" ]; then echo absent; return; fi
     (cd "$1" && find . -printf '%p %y %m %l\n' | sort && find . -type f -print0 | sort -z | xargs -0r sha256sum)
 }
 
-# unchanged NAME FOLDER STATUS PATTERN COMMAND: as expect, and the folder is as before.
+# unchanged NAME FOLDER STATUS PATTERN COMMAND: like expect, and the command does not change the folder.
 unchanged() {
     local before
     before=$(tree "$2")
@@ -62,7 +62,7 @@ as_other() {
 expect 'help' 0 'usage: tools/install.sh*--uninstall*DESTDIR*' '$install --help'
 expect 'an unknown argument' 2 '*unknown argument: /usr*--help*' '$install /usr'
 expect 'a prefix without a value' 2 '*--prefix needs a value*' '$install --prefix'
-expect 'a name that is no name' 2 '*not a name*' '$install --name ../units'
+expect 'a bad name' 2 '*not a name*' '$install --name ../units'
 expect 'the name of another command' 2 '*another command*' '$install --name qunits'
 expect 'no HOME' 2 '*--prefix is needed*' 'HOME= $install'
 expect 'setup with DESTDIR' 2 '*DESTDIR*' 'DESTDIR=/tmp/x $install --setup'
@@ -97,7 +97,7 @@ if [ -e "$HOME/.local/bin/units-why" ]; then
         python3 $HOME/.local/share/units/lsp/units_lsp.py | tail -n 1'
     pages='units qunits units-lint units-why'
 else
-    skip 'the program units_why, which is not built,' 'units-why'
+    skip 'the program units_why' 'units-why'
     expect 'nothing of it is installed' 0 '' 'find $HOME/.local -name "*why*" -o -name lsp -o -name editors'
     pages='units qunits units-lint'
 fi
@@ -145,7 +145,7 @@ expect 'a file of an earlier version goes' 0 '*installed*' \
 expect 'a list of one'\''s own folders' 0 '' '$install --uninstall && find $HOME -mindepth 3'
 rm -r "$HOME/.local"
 
-# --- nothing is half done ---
+# --- an install that fails changes nothing ---
 mkdir -p open/bin open/share/man
 if [ "$(id -u)" = 0 ]; then chown -R 65534:65534 open; fi
 chmod a-w open/share/man

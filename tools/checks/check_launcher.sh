@@ -1,6 +1,6 @@
 #!/usr/bin/env bash
-# Tries bin/units and tools/build.sh in scratch copies of the repository: which program runs, and what a user reads if
-# there is none. The last line is `N passed, M failed`.
+# Tries bin/units and tools/build.sh in scratch copies of the repository: which program runs, and which message a user
+# gets if there is none. The last line is `N passed, M failed`.
 set -u
 script=$(readlink -f "${BASH_SOURCE[0]}") || exit
 root=${script%/*/*/*}
@@ -20,7 +20,7 @@ for tool in awk bash cat cmp cp cut date find head mkdir mv readlink rm sed sh s
     ln -s "$(command -v $tool)" path/
 done
 
-# Two copies of what bin/units needs, the second with a release.
+# Two copies of the files that bin/units needs, the second with a release.
 mkdir -p one/crates
 cp -r "$root"/{bin,tools,examples,crates.txt} one/
 (cd "$root/crates" && tar --exclude=out -cf - ./*/src ./*/specs ./*/proofs) | tar -xf - -C one/crates
@@ -35,8 +35,8 @@ cp "$program" two/release/units-x86_64-linux
 yard='--exact -f two/examples/first.units yd m'
 answer=$'\t* 1143|1250\n\t/ 1250|1143\n'
 
-# expect NAME STATUS OUT ERR COMMAND: a shell command ends with this status, writes this, and its standard error matches
-# this pattern.
+# expect NAME STATUS OUT ERR COMMAND: a shell command ends with this status and writes this output, and its standard
+# error matches this pattern.
 expect() {
     local name=$1 status=$2 out=$3 err=$4 got
     # shellcheck disable=SC2123 # this very path
@@ -47,12 +47,12 @@ expect() {
         passed=$((passed + 1))
     else
         failed=$((failed + 1))
-        echo "check_launcher: $name: status $got in place of $status, and it wrote:"
+        echo "check_launcher: $name: status $got instead of $status, and it wrote:"
         cat out.txt err.txt
     fi
 }
 
-# fake_rt LINE..: a toolchain of these shell commands, in which $1 is what rt is to do.
+# fake_rt LINE..: writes a toolchain of these shell commands, in which $1 is the subcommand of rt.
 fake_rt() {
     mkdir -p rt
     printf '%s\n' '#!/bin/sh' "$@" > rt/rt
@@ -60,7 +60,7 @@ fake_rt() {
 }
 
 expect 'the release, at first' 0 "$answer" '' "two/bin/units $yard"
-# What was decided holds once the sources are some seconds old; then it needs no other script.
+# The choice of the program is stored once the sources are some seconds old; then bin/units needs no other script.
 sleep 2.1
 expect 'the release, again' 0 "$answer" '' "two/bin/units $yard"
 mv two/tools/built.sh two/tools/away.sh

@@ -1,4 +1,4 @@
-"""Checks the library of definitions in share/units, as tools/checks/check_library.sh says.
+"""Checks the library of definitions in share/units; tools/checks/check_library.sh describes the checks.
 
     check_library.py [--program UNITS] [--library FOLDER]
 """
@@ -36,7 +36,7 @@ TRAPS = ROOT / "tests/library/traps.units"
 
 @dataclass
 class Results:
-    """How many checks passed and failed, by subject; each failure is printed as it comes."""
+    """How many checks passed, by subject, and how many failed; each failure is printed at once."""
 
     passed: Counter = field(default_factory=Counter)
     failed: int = 0
@@ -51,18 +51,18 @@ class Results:
 
 
 def variables_of(deck):
-    """The variables of a deck, each with the values that it names and others that no user would expect."""
+    """The variables of a deck, each with the values that the deck names and with odd ones."""
     values = {}
     for line in deck.lines:
         if isinstance(line, Setting):
             values.setdefault(line.variable, []).append(line.value)
         elif isinstance(line, Opening) and line.block.variable:
             values.setdefault(line.block.variable, []).extend(line.block.values)
-    return {variable: [*dict.fromkeys(named), "", "odd", named[0].lower()] for variable, named in values.items()}
+    return {variable: [*dict.fromkeys(known), "", "odd", known[0].lower()] for variable, known in values.items()}
 
 
 def check_reports(session, deck, results):
-    """The program's own check of the library is empty under each locale and with odd variables."""
+    """The program's own check finds nothing in the library, in each locale and with odd variables."""
     settings = [(locale, ()) for locale in LOCALES]
     for variable, values in variables_of(deck).items():
         settings += [(locale, ((variable, value),)) for value in values for locale in LOCALES[:2]]
@@ -74,7 +74,7 @@ def check_reports(session, deck, results):
 
 @contextmanager
 def loadable(folder, file, standard):
-    """The path of a file to load for one of the folder: itself, or one that includes the library before it."""
+    """The path of a file that loads a file of the folder: itself, or one that includes the library before it."""
     if len(read_deck(file).files) > 1 or file.name == "built_in.units":
         yield str(file)
         return
@@ -85,13 +85,13 @@ def loadable(folder, file, standard):
 
 
 def check_files(program, folder, standard, results):
-    """The files that the library does not include can be loaded with it, and the linter is silent on them."""
-    checked = set(standard.files)
+    """The files that the library does not include can be loaded with it, and the linter finds nothing in them."""
+    loaded_files = set(standard.files)
     decks = {file: read_deck(file) for file in folder.glob("*.units")}
     for file in sorted(decks, key=lambda file: (-len(decks[file].files), file)):
-        if str(file) in checked:
+        if str(file) in loaded_files:
             continue
-        checked.update(decks[file].files)
+        loaded_files.update(decks[file].files)
         with loadable(folder, file, "standard.units") as path:
             report = Session(program, path).check()
             results.check(f"file {file.name}", not report, f"{len(report)} lines, the first is: {''.join(report[:1])}")
@@ -102,16 +102,16 @@ def check_files(program, folder, standard, results):
 
 
 def lint(program, file, locale, *options):
-    """The status and the lines of the linter, which runs beside the planted traps."""
-    run = subprocess.run(
+    """The status and the lines of the linter, which runs in the folder of the planted traps."""
+    process = subprocess.run(
         [sys.executable, LINTER, "--program", program, "--locale", locale, *options, file],
         cwd=TRAPS.parent, stdout=subprocess.PIPE, stderr=subprocess.STDOUT, text=True, errors="replace", check=False,
     )  # fmt: skip
-    return run.returncode, run.stdout.splitlines()
+    return process.returncode, process.stdout.splitlines()
 
 
 def check_linter(program, file, results):
-    """The linter is silent on the library, and finds each planted trap and nothing else."""
+    """The linter finds nothing in the library, and in the file of traps it finds each trap and nothing else."""
     for locale in LINTED_LOCALES:
         _, findings = lint(program, file, locale, "--statuses", "--dimensions")
         results.check(f"lint {locale}: no finding", not findings, f"{len(findings)} findings")
@@ -122,16 +122,16 @@ def check_linter(program, file, results):
     results.check("lint: status 2 and one line for an absent file", is_refused, f"status {status}")
     status, findings = lint(program, TRAPS.name, "en_US", "--statuses", "--dimensions")
     results.check("lint: status 1 on the planted traps", status == 1, f"status {status}")
-    found = [finding.removeprefix(f"{TRAPS.name}:") for finding in findings]
+    lines = [finding.removeprefix(f"{TRAPS.name}:") for finding in findings]
     expected = TRAPS.with_suffix(".findings").read_text(encoding="utf-8").splitlines()
     for finding in expected:
-        results.check("lint: a planted trap", finding in found, f"not found: {finding}")
-    for finding in found:
+        results.check("lint: a planted trap", finding in lines, f"not found: {finding}")
+    for finding in lines:
         results.check("lint: no false finding", finding in expected, finding)
 
 
 def check_counts(deck, results):
-    """The number of definitions, and that each has a status; prints the counts by status and by file."""
+    """Checks the number of definitions and that each has a status; prints counts by status, kind and file."""
     definitions = deck.definitions
     count = len(definitions)
     results.check("count of definitions", FEWEST <= count <= MOST, f"{count}, not between {FEWEST} and {MOST}")
@@ -148,31 +148,31 @@ def check_counts(deck, results):
 
 
 def check_dimensions(deck, results):
-    """Each unit and prefix says what it conforms to; the linter compares that with its value."""
+    """Each unit and prefix has a comment with its dimensions; the linter compares these with its value."""
     for definition in deck.definitions:
         if definition.kind in (Kind.FUNCTION, Kind.LIST):
             continue
         results.check("dimension", bool(definition.unit), f"{definition.place}: {definition.name} has no #: UNIT")
 
 
-def covering(names):
-    """Some characters of which each name has one."""
-    left, characters = set(names), []
-    while left:
-        counts = Counter(character for name in left for character in set(name))
+def covering_characters(names):
+    """Characters such that each name has at least one of them."""
+    remaining, characters = set(names), []
+    while remaining:
+        counts = Counter(character for name in remaining for character in set(name))
         characters.append(counts.most_common(1)[0][0])
-        left = {name for name in left if characters[-1] not in name}
+        remaining = {name for name in remaining if characters[-1] not in name}
     return characters
 
 
 def check_reader(program, file, results):
-    """The reader of the linter finds the keys and the texts that the program finds."""
+    """The reader of the linter finds the same keys and texts as the program."""
     for locale in LOCALES:
         session, deck = Session(program, str(file), locale), read_deck(file)
         without_effect = {place for place, _ in notices_of(session, deck.files)}
         active = [line for line in deck.active(locale, os.environ) if line.place not in without_effect]
         ours = {definition.key: definition.text for definition in active}
-        theirs = session.search(covering(definition.name for definition in active))
+        theirs = session.search(covering_characters(definition.name for definition in active))
         different = [key for key in ours.keys() | theirs.keys() if ours.get(key) != theirs.get(key)]
         results.check(f"reader {file.name} {locale}", not different, f"{len(different)} keys, such as {different[:3]}")
 
@@ -202,8 +202,8 @@ def check_all(program, folder, results):
     units = [definition.name for definition in active if definition.kind is Kind.UNIT]
     check_spellings(session, units, results)
     check_functions(session, active, results)
-    is_written = library_queries.TRANSCRIPT.read_text(encoding="utf-8") == library_queries.transcript()
-    results.check("tests/library.t", is_written, "differs from its source: run tools/checks/library_queries.py")
+    is_current = library_queries.TRANSCRIPT.read_text(encoding="utf-8") == library_queries.transcript()
+    results.check("tests/library.t", is_current, "differs from its source: run tools/checks/library_queries.py")
     check_lists(session, [definition for definition in active if definition.kind is Kind.LIST], results)
 
 

@@ -3,8 +3,8 @@
 
     tools/checks/check_lsp.py [--program UNITS_WHY]
 
-An editor that is not installed is named and counted as skipped, and so is everything if no program is given and none
-is built. The last line is `N passed, M failed, K skipped`.
+The checks of an editor that is not installed are skipped, and all checks if there is no program. The last line is
+`N passed, M failed, K skipped`.
 """
 
 from __future__ import annotations
@@ -55,7 +55,7 @@ class Results:
 
 
 class Client:
-    """A client of a server that it starts."""
+    """A client, which starts its server."""
 
     def __init__(self, program: str):
         command = [sys.executable, "-B", str(SERVER), "--program", program]
@@ -74,7 +74,7 @@ class Client:
         return json.loads(self.server.stdout.read(length))
 
     def ask(self, method: str, params: dict) -> dict:
-        """The response to a request. Notifications before it are passed over."""
+        """The response to a request. Notifications before it are skipped."""
         self.last += 1
         self.send({"id": self.last, "method": method, "params": params})
         while (message := self.receive()).get("id") != self.last:
@@ -121,47 +121,48 @@ def check_protocol(program: str, folder: Path, results: Results) -> None:
     answer = client.ask("initialize", {"rootUri": folder.as_uri()})["result"]["capabilities"]
     results.check(answer["hoverProvider"] and answer["definitionProvider"], "capabilities are missing")
     client.tell("initialized", {})
-    found = {place(each): (each["severity"], each["message"]) for each in client.open(shop)}
-    wanted = {
+    diagnostics = {place(each): (each["severity"], each["message"]) for each in client.open(shop)}
+    expected = {
         (1, 10, 17): (1, "shelf: unknown unit: missing in shelf"),
         (2, 0, 5): (1, "heavy: sum of unlike units: 2 m and 1 kg"),
         (4, 0, 3): (2, "rod: 5 m does not conform to kg"),
         (5, 0, 7): (3, "milliin: hides milli in = 2.54e-05 m"),
     }
-    results.check(found == wanted, f"diagnostics are {found}")
+    results.check(diagnostics == expected, f"diagnostics are {diagnostics}")
     lines = shop.read_text().split("\n")
     lines[1] = "shelf 3 in"
-    found = [each["message"] for each in client.change(shop, "\n".join(lines))]
-    results.check(len(found) == 3 and "shelf" not in "".join(found), f"diagnostics of a change are {found}")
+    diagnostics = [each["message"] for each in client.change(shop, "\n".join(lines))]
+    is_right = len(diagnostics) == 3 and "shelf" not in "".join(diagnostics)
+    results.check(is_right, f"diagnostics of a change are {diagnostics}")
     results.check("missing" in shop.read_text(), "the file was changed on the disk")
-    where = client.at("textDocument/definition", shop, 0, 9)
+    places = client.at("textDocument/definition", shop, 0, 9)
     results.check(
-        [each["uri"] for each in where] == [(folder / "base.units").as_uri()]
-        and where[0]["range"]["start"] == {"line": 3, "character": 0}
-        and where[0]["range"]["end"] == {"line": 3, "character": 2},
-        f"the definition of in is {where}",
+        [each["uri"] for each in places] == [(folder / "base.units").as_uri()]
+        and places[0]["range"]["start"] == {"line": 3, "character": 0}
+        and places[0]["range"]["end"] == {"line": 3, "character": 2},
+        f"the definition of in is {places}",
     )
-    where = client.at("textDocument/definition", shop, 3, 10)
-    results.check([each["range"]["start"]["line"] for each in where] == [0], f"the definition of boards is {where}")
+    places = client.at("textDocument/definition", shop, 3, 10)
+    results.check([each["range"]["start"]["line"] for each in places] == [0], f"the definition of boards is {places}")
     hover = client.at("textDocument/hover", shop, 3, 10)
-    wanted_text = "board: plural, 12 in = 0.3048 m (shop.units:1)\nDefinition: 0.3048 m"
-    results.check(hover["contents"]["value"] == wanted_text, f"the hover is {hover}")
+    expected_text = "board: plural, 12 in = 0.3048 m (shop.units:1)\nDefinition: 0.3048 m"
+    results.check(hover["contents"]["value"] == expected_text, f"the hover is {hover}")
     results.check(client.at("textDocument/hover", shop, 0, 6) is None, "a number has a hover")
     symbols = client.ask("textDocument/documentSymbol", {"textDocument": {"uri": shop.as_uri()}})["result"]
     names = [symbol["name"] for symbol in symbols]
     results.check(names == ["board", "shelf", "heavy", "µboard", "rod", "milliin", "dozen"], f"symbols are {names}")
     results.check("error" in client.ask("units/unknown", {}), "an unknown method has a result")
     results.check(client.end() == 0, "the server does not end")
-    check_asked_findings(program, shop, results)
+    check_findings_option(program, shop, results)
 
 
-def check_asked_findings(program: str, shop: Path, results: Results) -> None:
-    """The initialization option `findings` takes the place of `--captures`."""
-    for words, wanted in (([], 3), (["--unused"], 4)):
+def check_findings_option(program: str, shop: Path, results: Results) -> None:
+    """The initialization option `findings` replaces `--captures`."""
+    for words, count in (([], 3), (["--unused"], 4)):
         client = Client(program)
         client.ask("initialize", {"initializationOptions": {"findings": words}})
-        found = [each["message"] for each in client.open(shop)]
-        results.check(len(found) == wanted, f"with the findings {words} the diagnostics are {found}")
+        messages = [each["message"] for each in client.open(shop)]
+        results.check(len(messages) == count, f"with the findings {words} the diagnostics are {messages}")
         client.end()
 
 
@@ -174,35 +175,36 @@ def check_time(program: str, folder: Path, results: Results) -> None:
     client = Client(program)
     client.ask("initialize", {})
     client.open(path)
-    served, linted = [], []
+    server_times, linter_times = [], []
     for _ in range(3):
         start = time.monotonic()
         client.change(path, path.read_text())
-        served.append(time.monotonic() - start)
+        server_times.append(time.monotonic() - start)
         start = time.monotonic()
         command = [program, "--lint", "--json", "-f", str(path)]
         subprocess.run(command, stdin=subprocess.DEVNULL, stdout=subprocess.DEVNULL, check=False)
-        linted.append(time.monotonic() - start)
+        linter_times.append(time.monotonic() - start)
     client.end()
-    ratio = min(served) / min(linted)
-    print(f"diagnostics of {LONG_FILE_LINES} lines: {min(served):.3f} s, the linter {min(linted):.3f} s: {ratio:.2f}")
+    ours, theirs = min(server_times), min(linter_times)
+    ratio = ours / theirs
+    print(f"diagnostics of {LONG_FILE_LINES} lines: {ours:.3f} s, the linter {theirs:.3f} s: {ratio:.2f}")
     results.check(ratio <= 2, "diagnostics take more than twice the time of the linter")
 
 
 def check_editor(command: list[str], name: str, results: Results) -> None:
-    """An editor runs its script, which prints a line for each thing that holds and one `failed: ..` for each other."""
-    done = subprocess.run(
+    """An editor runs its script, which prints a line `holds: ..` or `failed: ..` for each of its checks."""
+    process = subprocess.run(
         command, stdin=subprocess.DEVNULL, stdout=subprocess.PIPE, stderr=subprocess.STDOUT,
         timeout=SECONDS, check=False,
     )
-    lines = [line.strip() for line in done.stdout.decode(errors="replace").splitlines()]
-    held = [line for line in lines if line.startswith("holds: ")]
-    for line in held:
+    lines = [line.strip() for line in process.stdout.decode(errors="replace").splitlines()]
+    successes = [line for line in lines if line.startswith("holds: ")]
+    for line in successes:
         results.check(True, line)
     for line in lines:
         if line.startswith("failed: "):
             results.check(False, f"{name}: {line}")
-    results.check(len(held) == 5, f"{name}: {len(held)} of 5 things hold:\n" + "\n".join(lines[-20:]))
+    results.check(len(successes) == 5, f"{name}: {len(successes)} of 5 checks hold:\n" + "\n".join(lines[-20:]))
 
 
 def has_eglot() -> bool:

@@ -1,13 +1,13 @@
 #!/usr/bin/env bash
-# Refuses each allocation of the built program in turn, and all from each one on, over command lines and sessions:
-# each such run ends with status 6, each stream has a front of what it has otherwise, and a file that is saved is as
-# it was or whole, with no other beside it. Needs gcc, for the allocator that it puts before the C library's. A case
-# is a command line; the last line is `N passed, M failed`.
+# Refuses each allocation of the built program in turn, alone and with all later ones, in command lines and sessions:
+# each such run ends with status 6, each stream has a prefix of its usual output, and a saved file is unchanged or
+# complete, with no temporary file left. Needs gcc, for an allocator that takes the place of the C library's. A case is
+# a command line; the last line is `N passed, M failed`.
 set -u
 script=$(readlink -f "${BASH_SOURCE[0]}") || exit
 root=${script%/*/*/*}
 fail() { echo "check_memory: $*"; echo "0 passed, 1 failed"; exit 1; }
-command -v gcc > /dev/null || fail 'there is no command gcc, so this was not tried'
+command -v gcc > /dev/null || fail 'there is no command gcc'
 program=$("$root/tools/built.sh" units) || fail 'the program is not built'
 
 folder=$(mktemp -d)
@@ -27,7 +27,7 @@ printf '%s\n' 'a 3 m' '!nosuch' 'd 7 m' > more.units
 
 gcc -O1 -shared -fPIC -o refuse.so "$root/tools/checks/refuse.c" || fail 'gcc did not build the allocator'
 
-# run SETTING.. : the words with these variables; gives the status, and what was written and saved.
+# run SETTING..: runs the program on the words with these variables; sets the status, the output and the saved file.
 run() {
     printf 'old\n' > saved.units
     env -i "$@" "$program" "${words[@]}" > out.txt 2> err.txt 9> refused.txt < input.txt
@@ -39,24 +39,24 @@ run() {
 
 total=0 passed=0 failed=0
 
-# try_all STATUS WORD..: a run that ends with this status where memory is found.
+# try_all STATUS WORD..: tries a run that ends with this status if no allocation is refused.
 try_all() {
-    local wanted=$1 whole_out whole_err whole_saved i later count=0 wrong=0
+    local expected=$1 full_out full_err full_saved i later count=0 wrong=0
     shift
     words=("$@")
     run A=1 B=2
-    whole_out=$out whole_err=$err whole_saved=$saved
-    [ "$status" = "$wanted" ] || wrong=1
+    full_out=$out full_err=$err full_saved=$saved
+    [ "$status" = "$expected" ] || wrong=1
     for later in "" LATER=1; do
         for ((i = 1; ; i++)); do
             run A=1 B=2 "LD_PRELOAD=$folder/refuse.so" "REFUSED=$i" ${later:+"$later"}
             [ -s refused.txt ] || break
             count=$((count + 1))
-            if [ "$status" != 6 ] || [[ $whole_out != "$out"* ]] || [[ $whole_err != "$err"* ]]; then
+            if [ "$status" != 6 ] || [[ $full_out != "$out"* ]] || [[ $full_err != "$err"* ]]; then
                 echo "check_memory: units $*: with allocation $i refused ${later:+and all later ones }it ended with $status"
                 wrong=1
             fi
-            if { [ "$saved" != $'old\n' ] && [ "$saved" != "$whole_saved" ]; } || [ -e .units-save-0 ]; then
+            if { [ "$saved" != $'old\n' ] && [ "$saved" != "$full_saved" ]; } || [ -e .units-save-0 ]; then
                 echo "check_memory: units $*: with allocation $i refused ${later:+and all later ones }it saved $saved"
                 wrong=1
             fi
@@ -87,7 +87,7 @@ try_all 3 -f long.units yd m
 try_all 4 -f . yd m
 try_all 0 --trial 3
 
-# Sessions: what is kept, forgotten and asked again, and each command.
+# Sessions: values that are stored, dropped and queried again, and each command.
 session() { printf '%s\n' "$@" > input.txt; }
 session '1 s' ms ':define ms 7 s' '1 s' ms ':drop ms' '1 s' ms
 try_all 0 -q

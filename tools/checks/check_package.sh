@@ -1,7 +1,7 @@
 #!/usr/bin/env bash
-# Tests what tools/package.sh builds: two builds, from two copies of the repository, are equal; lintian finds no error;
-# the package has the released program, nothing that Debian's package `units` has, and installs nothing outside of
-# /usr; the tarball runs, installs and uninstalls.
+# Tests the packages that tools/package.sh builds: two builds, from two copies of the repository, are equal; lintian
+# finds no error; the package has the released program, shares no file with Debian's package `units`, and installs
+# nothing outside of /usr; the tarball runs, installs and uninstalls.
 #
 #     tools/checks/check_package.sh              needs dpkg-deb, lintian and the kit (`rt`)
 #     tools/checks/check_package.sh --chroot     also installs and removes the package beside Debian's `units` in a
@@ -33,7 +33,7 @@ expect() {
 # skip NUMBER REASON
 skip() {
     skipped=$((skipped + $1))
-    echo "check_package: $2, so $1 tests were skipped"
+    echo "check_package: $1 tests are skipped: $2"
 }
 
 finish() {
@@ -42,7 +42,7 @@ finish() {
     exit
 }
 
-# copy_to FOLDER: the repository without its history and without what was built, units-why apart.
+# copy_to FOLDER: copies the repository without its history and, except for units-why, without built files.
 copy_to() {
     mkdir -p "$1"
     tar --create --directory "$root" --exclude=./.git --exclude=./out --exclude='./crates/*/out' . \
@@ -53,7 +53,7 @@ copy_to() {
     fi
 }
 
-# build_in FOLDER COPY: builds with the script of a copy of the repository; its output is shown if that fails.
+# build_in FOLDER COPY: builds with the script of a copy of the repository; shows its output if it fails.
 build_in() { "$2/tools/package.sh" "$1" > "$folder/log" 2>&1 || { cat "$folder/log"; return 1; }; }
 
 build_twice() {

@@ -3,8 +3,8 @@
 
     tools/checks/check_qunits_session.py
 
-With rlwrap a session has line editing, a history at a place of its own and completion of names. The library is the
-repository's. Without rlwrap all cases are skipped but those of a plain session. The last line is
+With rlwrap, a session has line editing, a history file of its own and completion of names. The library is the
+repository's. If rlwrap is not installed, only the cases of a plain session run. The last line is
 `N passed, M failed, K skipped`.
 """
 
@@ -24,19 +24,19 @@ UP, HOME_KEY = "\x1b[A", "\x01"
 
 
 class Check:
-    """Counts of cases."""
+    """The numbers of cases that passed, failed and were skipped."""
 
     def __init__(self) -> None:
         self.passed = self.failed = self.skipped = 0
 
-    def count(self, name: str, is_well: bool, shown: object = "") -> None:
+    def count(self, name: str, is_well: bool, detail: object = "") -> None:
         self.passed += is_well
         self.failed += not is_well
         if not is_well:
-            print(f"check_qunits_session: {name}: {shown!r}")
+            print(f"check_qunits_session: {name}: {detail!r}")
 
     def exchange(self, terminal: Terminal, name: str, keys: str, pattern: str) -> None:
-        """Types the keys, after which the pattern is shown."""
+        """Types the keys; the terminal has to show the pattern."""
         terminal.clear()
         terminal.type(keys)
         self.count(name, terminal.shows(pattern), terminal.text())
@@ -73,9 +73,9 @@ def try_editing(check: Check, room: Path) -> None:
     lines = history.read_text().splitlines() if history.exists() else []
     check.count("the history is at its place", "2 furlong" in lines and "10 yard" in lines, lines)
     check.count("GNU's history is left alone", not (home / ".units_history").exists())
-    below_home = sorted(str(path.relative_to(home)) for path in home.rglob("*") if path.is_file())
-    wanted = [".local/state/units/history", ".local/state/units/names"]
-    check.count("nothing else is written below HOME", below_home == wanted, below_home)
+    files = sorted(str(path.relative_to(home)) for path in home.rglob("*") if path.is_file())
+    expected = [".local/state/units/history", ".local/state/units/names"]
+    check.count("nothing else is written below HOME", files == expected, files)
 
     terminal = start(check, "a second session", environment_of(home))
     check.exchange(terminal, "has the history of the first", UP + UP + UP, "10 yard")
@@ -84,7 +84,7 @@ def try_editing(check: Check, room: Path) -> None:
 
 
 def try_places(check: Check, room: Path) -> None:
-    """Where the history goes, and own definitions among the names."""
+    """Tries the place of the history, and completion of the user's own definitions."""
     home, state, config = room / "other", room / "a state", room / "a config"
     environment = environment_of(home, XDG_STATE_HOME=str(state), XDG_CONFIG_HOME=str(config))
     (config / "units").mkdir(parents=True)
@@ -113,7 +113,7 @@ def try_statuses(check: Check, room: Path) -> None:
 
 
 def try_plain(check: Check, room: Path) -> None:
-    """A session without rlwrap."""
+    """Tries a session without rlwrap."""
     programs = room / "programs"
     programs.mkdir()
     for program in Path("/usr/bin").iterdir():

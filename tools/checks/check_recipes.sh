@@ -3,9 +3,9 @@
 #
 #     tools/checks/check_recipes.sh
 #
-# A block of the page that begins with ```console NAME.. needs these programs. If one is absent, the block is left out,
-# and its cases are counted as skipped. For `ssh` a server is started on the loopback address, with keys and a
-# configuration of its own, and the names `one` and `two` lead to it. The last line is `N passed, M failed, K skipped`.
+# A block of the page that begins with ```console NAME.. needs these programs. If one is not installed, the cases of the
+# block are skipped. For `ssh`, a server with its own keys and configuration is started on the loopback address, and the
+# host names `one` and `two` lead to it. The last line is `N passed, M failed, K skipped`.
 set -u
 script=$(readlink -f "${BASH_SOURCE[0]}") || exit
 root=${script%/*/*/*}
@@ -20,10 +20,10 @@ trap cleanup EXIT
 mkdir "$folder/programs" || exit
 skipped=0
 
-# free_port: prints a port of the loopback address that nothing listens on.
+# free_port: prints a free port of the loopback address.
 free_port() { python3 -c 'import socket; s = socket.socket(); s.bind(("127.0.0.1", 0)); print(s.getsockname()[1])'; }
 
-# write_ssh_files PORT: keys and configurations of a server and its client, and a command `ssh` that uses them.
+# write_ssh_files PORT: writes keys and configurations of a server and its client, and a command `ssh` that uses them.
 write_ssh_files() {
     ssh-keygen -q -t ed25519 -N '' -f "$folder/host_key" && ssh-keygen -q -t ed25519 -N '' -f "$folder/key" || return
     cat > "$folder/server.conf" <<- END
@@ -52,7 +52,7 @@ write_ssh_files() {
     chmod 711 "$folder"
 }
 
-# start_server: an ssh server that answers to the names one and two, with `units` on its path.
+# start_server: starts an ssh server with the host names one and two, which has `units` on its path.
 start_server() {
     local daemon port program
     daemon=$(PATH=$PATH:/usr/sbin:/sbin command -v sshd) && command -v ssh ssh-keygen python3 > /dev/null || return
@@ -73,7 +73,7 @@ start_server() {
     return 1
 }
 
-# is_usable NAME: whether a program that a block needs is here.
+# is_usable NAME: whether a program that a block needs is available.
 is_usable() {
     if [ "$1" = ssh ]; then
         [ -e "$folder/programs/ssh" ] || start_server
@@ -82,22 +82,22 @@ is_usable() {
     fi
 }
 
-# usable_part PAGE: prints the page without the blocks that need an absent program.
+# usable_part PAGE: prints the page without the blocks that need a missing program.
 usable_part() {
-    local line name left_out=
+    local line name missing=
     while IFS= read -r line; do
         if [[ $line = '```console'* ]]; then
-            left_out=
+            missing=
             for name in ${line#'```console'}; do
-                if ! is_usable "$name"; then left_out=$name; fi
+                if ! is_usable "$name"; then missing=$name; fi
             done
         elif [[ $line = '```' ]]; then
-            left_out=
-        elif [[ $left_out && $line = '  $ '* ]]; then
-            echo "check_recipes: skipped without $left_out: ${line#'  $ '}" >&2
+            missing=
+        elif [[ $missing && $line = '  $ '* ]]; then
+            echo "check_recipes: skipped without $missing: ${line#'  $ '}" >&2
             echo skipped >> "$folder/skipped"
         fi
-        if ! [[ $left_out && $line = '  '* ]]; then printf '%s\n' "$line"; fi
+        if ! [[ $missing && $line = '  '* ]]; then printf '%s\n' "$line"; fi
     done < "$1"
 }
 

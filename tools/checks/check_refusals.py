@@ -1,20 +1,20 @@
 #!/usr/bin/env python3
-"""Compares what refused each must-fail edit with what tests/refused_by.tsv says has to refuse it.
+"""Compares the clause that refused each must-fail edit with the one in tests/refused_by.tsv.
 
     tools/checks/check_refusals.py [LOG]
 
 LOG is the output of `rt ci`, by default out/rt-ci.log, which `bin/test` writes. A row of the table has an edit, a
-function or a file of lemmas, and what of it refuses the edit:
+function or a file of lemmas, and the part of it that has to refuse the edit:
 
-    ensures, or ensures CLAUSE      what the function returns
-    requires CALLEE [CLAUSE]        what it has to show where it calls CALLEE
+    ensures, or ensures CLAUSE      a clause on the result of the function
+    requires CALLEE [CLAUSE]        a clause that it has to meet when it calls CALLEE
     invariant                       the invariant of a struct
     loop LABEL                      an invariant or the measure of a loop
     NAME                            an example of a law, or a lemma
 
-A row with `-` for both is that of an edit for which the log says only that it is refused; it counts as skipped.
-The table is no part of the edits, since `rt ci` tries an edit again whenever its file changes. Without a log every edit
-is skipped. A case is an edit; the last line is `N passed, M failed, K skipped`.
+If a row has `-` for both, the log says only that the edit is refused, and the edit is skipped. The table is not part of
+the edits, since `rt ci` tries an edit again if its file has changed. Without a log every edit is skipped. A case is an
+edit; the last line is `N passed, M failed, K skipped`.
 """
 
 from __future__ import annotations
@@ -37,27 +37,27 @@ FUNCTION = re.compile(r"\bfn (\w+)")
 
 @dataclass(frozen=True)
 class Refusal:
-    """The function, or the file of lemmas, and what of it refused an edit. It is cut off where the log cuts it off."""
+    """The function, or the file of lemmas, and the part of it that refused an edit, cut off if the log cuts it off."""
 
     function: str
     part: str
     is_cut: bool = False
 
-    def is_as(self, named: Refusal) -> bool:
-        parts_agree = named.part.startswith(self.part) if self.is_cut else named.part == self.part
-        return named.function == self.function and parts_agree
+    def agrees_with(self, expected: Refusal) -> bool:
+        parts_agree = expected.part.startswith(self.part) if self.is_cut else expected.part == self.part
+        return expected.function == self.function and parts_agree
 
     def __str__(self) -> str:
         return f"{self.function}, {self.part}{'..' if self.is_cut else ''}"
 
 
-# What refuses an edit for which the log has no place.
+# The refusal of an edit for which the log has no place.
 UNKNOWN = Refusal("-", "-")
 
 
 def function_at(crate: str, file: str, line: int) -> str:
-    """The function that has this line of a crate's file, or the one below if the line is an attribute. No edit moves
-    a line."""
+    """The function that contains this line of a crate's file, or the next one if the line is an attribute. No edit
+    moves a line."""
     lines = (ROOT / "crates" / crate / file).read_text().splitlines()
     is_attribute = lines[line - 1 : line] and lines[line - 1].lstrip().startswith("#[")
     nearest = lines[line:] if is_attribute else reversed(lines[:line])
@@ -72,7 +72,7 @@ def owner_of(crate: str, file: str, line: int) -> str:
 
 
 def part_of(goal: str) -> tuple[str | None, str]:
-    """What a goal is of, and the function whose contract it is, if the goal names that."""
+    """The function whose contract a goal belongs to, if the goal names it, and the part of the contract."""
     clause = goal.partition("-clause-")[2]
     if match := re.fullmatch(r"(?:(\w+)-)?returns(?:-.*)?", goal):
         return match[1], f"ensures {clause}".strip()
@@ -85,10 +85,10 @@ def part_of(goal: str) -> tuple[str | None, str]:
     return None, goal
 
 
-def read_refusal(crate: str, told: str) -> Refusal | None:
-    """The refusal that the prover's first line tells of."""
-    place, goals = PLACE.match(told), GOAL.findall(told)
-    # the prover quotes words of the language too, and the goal is the last word that is quoted in a note
+def read_refusal(crate: str, report: str) -> Refusal | None:
+    """The refusal that the first line of the prover reports, or None if it names no place or no goal."""
+    place, goals = PLACE.match(report), GOAL.findall(report)
+    # The prover quotes words of the language too.
     goals = [goal for goal in goals if goal[0] not in ("search", "invariant", "impl")] or goals
     if not place or not goals:
         return None
@@ -102,7 +102,7 @@ def read_refusal(crate: str, told: str) -> Refusal | None:
 
 
 def read_log(log: Path) -> dict[str, str]:
-    """What `rt ci` said of each edit."""
+    """The report of `rt ci` on each edit."""
     lines = map(TRIED.match, log.read_text(errors="replace").splitlines())
     return {match[1]: match[2] for match in lines if match}
 
@@ -113,21 +113,21 @@ def read_table() -> dict[str, Refusal]:
     return {edit: Refusal(function, part) for edit, function, part in rows[1:]}
 
 
-def fault_of(edit: str, named: Refusal | None, said: str | None) -> str | None:
+def fault_of(edit: str, expected: Refusal | None, report: str | None) -> str | None:
     """Why an edit fails the check, or None."""
-    if named is None:
+    if expected is None:
         return "tests/refused_by.tsv does not name what has to refuse it"
-    if said is None:
+    if report is None:
         return "the log does not have it"
-    match = REFUSED.fullmatch(said)
-    if not match or (not match[1] and named != UNKNOWN):
-        return said
+    match = REFUSED.fullmatch(report)
+    if not match or (not match[1] and expected != UNKNOWN):
+        return report
     if not match[1]:
         return None
     refusal = read_refusal(edit.partition("/")[0], match[1])
     if refusal is None:
         return f"no function is named: {match[1]}"
-    return None if refusal.is_as(named) else f"refused by {refusal}, not by {named}"
+    return None if refusal.agrees_with(expected) else f"refused by {refusal}, not by {expected}"
 
 
 def edits_of_crates() -> list[str]:
@@ -141,17 +141,17 @@ def main() -> int:
         return 0 if sys.argv[1:] == ["--help"] else 2
     log, edits, table = Path(sys.argv[1]) if len(sys.argv) == 2 else LOG, edits_of_crates(), read_table()
     if not log.exists():
-        print(f"skipped: the must-fail edits, since there is no {log}")
+        print(f"skipped: the must-fail edits, since {log} does not exist")
         print(f"0 passed, 0 failed, {len(edits)} skipped")
         return 0
-    said = read_log(log)
-    faults = {edit: fault for edit in edits if (fault := fault_of(edit, table.get(edit), said.get(edit)))}
-    faults |= {edit: "tests/refused_by.tsv names it, and there is no such edit" for edit in table.keys() - set(edits)}
+    reports = read_log(log)
+    faults = {edit: fault for edit in edits if (fault := fault_of(edit, table.get(edit), reports.get(edit)))}
+    faults |= {edit: "tests/refused_by.tsv names an edit that does not exist" for edit in table.keys() - set(edits)}
     for edit, fault in faults.items():
         print(f"{edit}: {fault}")
     skipped = [edit for edit in edits if edit not in faults and table[edit] == UNKNOWN]
     for edit in skipped:
-        print(f"skipped: {edit}, since the log does not say what refused it")
+        print(f"skipped: {edit}, since the log does not say which clause refused it")
     passed = len(set(edits) - faults.keys()) - len(skipped)
     print(f"{passed} passed, {len(faults)} failed, {len(skipped)} skipped")
     return 1 if faults else 0

@@ -1,10 +1,10 @@
 #!/usr/bin/env bash
 # Tests the released static program, which is linked from the same object as the dynamic one: the transcripts and the
-# statuses in a root folder that has musl and busybox in place of this system's libraries, or directly if there can be
-# no such folder; what it does when the system refuses memory; and what tools/release/static adds to it.
-#   tools/checks/check_static.sh [PROGRAM [OBJECT]]    tests this static program, and its object, in place of the
+# statuses in a root folder that has musl and busybox instead of this system's libraries, or directly if there can be no
+# such folder; runs in which the system refuses memory; and the code that tools/release/static adds.
+#   tools/checks/check_static.sh [PROGRAM [OBJECT]]    tests this static program, and its object, instead of the
 #                                                      released one
-# Each allocation is refused in turn if the object is there, as bin/test leaves it unless rt kept the program of an
+# Each allocation is refused in turn if the object exists; bin/test leaves it there, unless rt kept the program of an
 # earlier run. The last line is `N passed, M failed, K skipped`.
 # shellcheck disable=SC2317 # functions are called by expect
 set -u
@@ -23,7 +23,7 @@ end() {
 
 skip() { echo "check_static: skipped: $1"; skipped=$((skipped + 1)); }
 
-# expect NAME COMMAND WORD..: one case, which passes if the command does. Shows what the command wrote if it does not.
+# expect NAME COMMAND WORD..: runs one case, which passes if the command succeeds; otherwise shows its output.
 expect() {
     local name=$1
     shift
@@ -38,17 +38,17 @@ expect() {
 
 has() { command -v "$1" > /dev/null; }
 
-# add_last_line: adds the counts that a check reports in its last line. Shows the rest if something failed.
+# add_last_line: adds the counts in the last line of a check. Shows the whole output if something failed.
 add_last_line() {
-    local counts ran broke left
+    local counts new_passed new_failed new_skipped
     counts=$(tail -n 1 "$folder/output" \
         | sed -nE 's/^([0-9]+) passed, ([0-9]+) failed(, ([0-9]+) skipped)?$/\1 \2 \4/p')
-    read -r ran broke left <<< "${counts:-0 1}"
-    if [ "$broke" -ne 0 ]; then cat "$folder/output"; fi
-    passed=$((passed + ran)) failed=$((failed + broke)) skipped=$((skipped + ${left:-0}))
+    read -r new_passed new_failed new_skipped <<< "${counts:-0 1}"
+    if [ "$new_failed" -ne 0 ]; then cat "$folder/output"; fi
+    passed=$((passed + new_passed)) failed=$((failed + new_failed)) skipped=$((skipped + ${new_skipped:-0}))
 }
 
-# check_with PROGRAM CHECK [COMMAND..]: runs a check of tools/checks over this program, by the command if one is given.
+# check_with PROGRAM CHECK [COMMAND..]: runs a check of tools/checks on this program, through the command if any.
 check_with() {
     local program=$1 check=$2
     shift 2
@@ -57,7 +57,7 @@ check_with() {
     add_last_line
 }
 
-# A copy of the checks, in which tools/built.sh names the program that is to be tested.
+# Copies the checks; check_with makes tools/built.sh of the copy name the tested program.
 copy_checks() {
     mkdir "$folder/checks"
     for file in "$root"/*; do ln -s "$file" "$folder/checks/"; done
@@ -76,8 +76,8 @@ check_parts() {
         && gcc -O1 -o "$folder/copies" "$test/copies_test.c" "$folder/musl.o" && expect 'the copies' "$folder/copies"
 }
 
-# refuse_mappings FILE TO: refuses each request for memory that a conversion over the file makes, alone and with all
-# later ones. Each such run ends with status 6 and has written nothing to standard output.
+# refuse_mappings FILE TO: refuses each request for memory of a conversion with this file, alone and with all later
+# ones. Each such run has to end with status 6 and to write nothing to standard output.
 refuse_mappings() {
     local definitions=$1 to=$2 count at later status
     strace -e trace=mmap,mremap,brk -o "$folder/calls" "$static" -f "$definitions" m "$to" > /dev/null 2>&1
@@ -113,7 +113,7 @@ check_refusals() {
     fi
 }
 
-# fill_root: a root folder with another C library, a shell and the program.
+# fill_root: makes a root folder with another C library, a shell and the program.
 fill_root() {
     local at=$folder/root
     mkdir -p "$at"/{bin,lib,dev,proc,tmp} "$at$root"
@@ -123,7 +123,7 @@ fill_root() {
     gcc -O1 -static -DROOT="\"$at\"" -o "$folder/in_root" "$root/tests/static/other_root.c"
 }
 
-# in_other_root COMMAND..: runs it where the root folder has the folders of the tests, too.
+# in_other_root COMMAND..: runs it with the folders of the tests mounted in the root folder.
 in_other_root() {
     local as_root=()
     if [ "$(id -u)" != 0 ]; then as_root=(--map-root-user); fi
@@ -136,7 +136,7 @@ in_other_root() {
         OTHER_ROOT=$at "$@"' bash "$folder/root" "$root" "$@"
 }
 
-# Whether there is such a root folder and programs can run in it; says why not.
+# Whether the root folder can be made and programs can run in it; if not, says why.
 has_other_root() {
     if ! [ -e /lib/ld-musl-x86_64.so.1 ] || ! [ -x /bin/busybox ] || ! has gcc || ! fill_root; then
         skip 'a root folder with another C library, which needs musl, busybox-static and gcc'

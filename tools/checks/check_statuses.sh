@@ -1,7 +1,7 @@
 #!/usr/bin/env bash
-# Tries the built program from outside: each ending that words, files and sinks can make, by its status and by what it
-# writes to each stream. The last line is `N passed, M failed`, with `, K skipped` if some were. Want of memory is tried
-# by tools/checks/check_memory.sh.
+# Checks the status and the output on each stream of the built program for each ending that words, files and sinks can
+# cause. tools/checks/check_memory.sh checks runs that are out of memory. The last line is `N passed, M failed`, or
+# `N passed, M failed, K skipped`.
 set -u
 script=$(readlink -f "${BASH_SOURCE[0]}") || exit
 root=${script%/*/*/*}
@@ -22,7 +22,7 @@ passed=0 failed=0 skipped=0
 
 units() { "$program" "$@"; }
 
-# expect STATUS OUT ERR COMMAND: a shell command over the program ends so and writes so.
+# expect STATUS OUT ERR COMMAND: a shell command ends with this status and writes these outputs.
 expect() {
     local status=$1 out=$2 err=$3 got
     (eval "$4") > out.txt 2> err.txt < /dev/null
@@ -31,7 +31,7 @@ expect() {
         passed=$((passed + 1))
     else
         failed=$((failed + 1))
-        echo "check_statuses: $4 ended with $got in place of $status, and wrote:"
+        echo "check_statuses: $4 ended with $got instead of $status, and wrote:"
         cat out.txt err.txt
     fi
 }
@@ -43,7 +43,7 @@ hear() {
     IFS= read -r -t 5 -N ${#1} heard <&"${COPROC[0]}" && [ "$heard" = "$1" ]
 }
 
-# talk [-q] TEXT LINE ..: a session over a pipe that gets each line when the text before it has come.
+# talk [-q] TEXT LINE ..: holds a session over a pipe, which gets each line after it has written the text before it.
 talk() {
     local options=(-1 -f first.units) pid
     if [ "$1" = -q ]; then options+=("$1"); shift; fi
@@ -57,7 +57,7 @@ talk() {
     wait "$pid"
 }
 
-# cut_off: a session whose standard output is closed behind its first answer, while it goes on to get lines.
+# cut_off: a session whose standard output is closed after its first answer, while more lines follow.
 cut_off() {
     local pid answers
     coproc units -q -f first.units
@@ -65,7 +65,7 @@ cut_off() {
     printf '2 yd\nin\n' >&"${COPROC[1]}"
     hear $'\t* 72\n\t/ 0.013888889\n' || return 99
     exec {answers}<&-
-    # It may have ended before it is given the last line.
+    # It may end before it gets the last line.
     trap '' PIPE
     printf '2 yd\nin\nm\n' 1>&"${COPROC[1]}" 2> /dev/null
     wait "$pid"
@@ -89,7 +89,7 @@ expect 4 '' '' 'units --exact -f first.units/m yd m'
 expect 4 '' '' 'units --exact -f includes.units yd m'
 expect 0 $'definitions 4, edits 3, reply bytes 43, settled 3 of 4, reductions 4\n' '' 'units --trial 3'
 
-# Sessions: the input that ends at each prompt, a file that fails in the middle, and lines that come one by one.
+# Sessions: input that ends at each prompt, a file that fails in the middle, and lines that arrive one by one.
 banner=$'4 units, 0 prefixes, 0 nonlinear units\n'
 expect 0 "${banner}You have: " '' 'units -f first.units'
 expect 0 "${banner}You have: You want: " '' "printf '2 yd' | units -f first.units"
@@ -104,12 +104,12 @@ expect 0 '' '' "talk '$banner$have' '2 yd' '$want' in \$'\t* 72\n$have' :stats \
     'yd # to' '$want' ':define ft 6 in' '$want' '?' \$'\tft\t6 in\n\tin\t254|10000 m\n\tm\t!\n\tyd\t3|1 ft\n$want' '' \
     \$'\tDefinition: 3|1 ft = 0.4572 m\n$have' nosuch \$'unknown unit: nosuch\n$have' exit"
 
-# As much input as a session takes, and a byte more, behind which the line that has not ended has no answer.
+# The longest input that a session takes, and one byte more; then the last line, which has not ended, has no answer.
 expect 0 $'line too long\n\t* 12\n\t/ 0.083333333\n' '' \
     "{ head -c 4294967288 /dev/zero; printf '\\n1 ft\\nin'; } | units -q"
 expect 7 $'line too long\n' '' "{ head -c 4294967289 /dev/zero; printf '\\n1 ft\\nin'; } | units -q"
 
-# Where the modes of files do not bind, as for root, a file whose read fails stands in for one that may not be read.
+# Root may read every file, so a file whose read fails takes the place of an unreadable one.
 cp first.units locked.units
 chmod 000 locked.units
 if [ -r locked.units ]; then locked=/proc/self/mem; else locked=locked.units; fi
@@ -118,33 +118,33 @@ expect 4 $'\t* 72\n\t/ 0.013888889\n' '' \
     "{ printf '2 yd\\nin\\n'; sleep 0.2; printf ':load $locked\\nm\\n\\n'; } | units -q -f first.units"
 expect 4 '' '' "units -q -f first.units < ."
 
-# Files that cannot be saved: a folder, one that is not there, one that takes no file, and what is no file.
+# Saves that fail: to a folder, into a missing folder, into one that takes no files, and to a device.
 for name in . gone/s.units /proc/s.units /dev/full; do
     expect 5 $'\t* 72\n\t/ 0.013888889\n' '' "printf '2 yd\\nin\\n:save $name\\nm\\n\\n' | units -q -f first.units"
 done
 
-# A save through links writes the file behind them, and the links stay.
+# A save through links writes the file that they lead to, and keeps the links.
 printf 'm !\n' > kept.units
 ln -s kept.units near.units
 ln -s near.units nearer.units
 expect 0 $'m !\ng 3 m\n' '' "printf ':define g 3 m\\n:save nearer.units\\n' | units -q -f kept.units \
     && [ -L nearer.units ] && [ -L near.units ] && cat kept.units"
 
-# A save keeps who may read, write and run the file, and no leave to run it as its owner or group.
+# A save keeps the permissions of the file, but not the set-user-ID and set-group-ID bits.
 chmod 6750 kept.units
 expect 0 $'750\n' '' "echo ':save kept.units' | units -q -f kept.units && stat -c %a kept.units"
 
-# A save to what the run writes to is refused by whatever name, and what stands there is not lost.
+# A save to a stream of the run is refused under each of its names, and its contents are not lost.
 ln -s /dev/stdout stream
 for name in out.txt ./err.txt /proc/self/fd/1 //dev/stdout stream; do
     expect 5 $'\t* 72\n\t/ 0.013888889\n' '' "printf '2 yd\\nin\\n:save $name\\nm\\n' | units -q -f first.units"
 done
 
-# A closed stream is no file.
+# A closed stream is not a file.
 expect 0 '' '' "echo ':save kept.units' | units -q -f kept.units >&-"
 
-# Without /proc any file may be the one that the run writes to, so only a new file can be saved. If the program runs in
-# another root folder, as check_static.sh has it, OTHER_ROOT is that folder, whose proc goes too.
+# Without /proc, any file may be a stream of the run, so only a new file can be saved. If check_static.sh runs the
+# program in another root folder, OTHER_ROOT is that folder, and its /proc is unmounted too.
 if unshare -m umount -l /proc 2> /dev/null; then
     alone="unshare -m sh -c 'umount -l ${OTHER_ROOT:+$OTHER_ROOT/proc} /proc; exec \"\$0\" -q -f kept.units' \"$program\""
     expect 5 '' '' "echo ':save kept.units' | $alone"
@@ -154,7 +154,7 @@ else
     skipped=2
 fi
 
-# Definitions of several blocks that come by a pipe.
+# Definitions that arrive through a pipe in several blocks.
 expect 0 $'\t* 3\n\t/ 0.33333333\n' '' \
     "{ echo 'm !'; seq -f 'u_%.0f 2 m' 30000; echo 'last 3 m'; } | units -f /dev/stdin last m"
 

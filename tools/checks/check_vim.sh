@@ -1,6 +1,6 @@
 #!/usr/bin/env bash
-# Tries share/vim in Vim and in Neovim, without a window: the file type, what each part of a definition file is
-# highlighted as, and that `:make` finds the places of notices. The last line is `N passed, M failed, K skipped`.
+# Tries share/vim in Vim and in Neovim, without a window: the file type, the highlighting of each part of a definition
+# file, and the places that `:make` finds in notices. The last line is `N passed, M failed, K skipped`.
 set -u
 script=$(readlink -f "${BASH_SOURCE[0]}") || exit
 root=${script%/*/*/*}
@@ -10,7 +10,7 @@ cd "$folder" || exit 1
 passed=0 failed=0 skipped=0
 export HOME=$folder
 
-# A row for each part: the group of the first mark in the line, and the line, in which ^ marks the byte after it.
+# A row for each part: its highlighting group, and a line in which ^ marks the next byte as part of that group.
 cat > cases << 'END'
 unitsComment	^# a comment TODO
 unitsTodo	# a comment ^TODO
@@ -82,7 +82,7 @@ let s:lines = []
 function! Expect(line, column, group) abort
     let found = synIDattr(synID(a:line, a:column, 1), 'name')
     call add(s:lines, found ==# a:group ? 'passed' : 'failed ' . getline(a:line) . ' at ' . a:column . ': '
-                \ . (empty(found) ? 'nothing' : found) . ' in place of ' . a:group)
+                \ . (empty(found) ? 'nothing' : found) . ' instead of ' . a:group)
 endfunction
 function! s:Is(name, found, wanted) abort
     call add(s:lines, a:found ==# a:wanted ? 'passed' : 'failed ' . a:name . ': ' . string(a:found))

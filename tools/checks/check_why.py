@@ -3,15 +3,15 @@
 
     tools/checks/check_why.py [--program UNITS_WHY] [--library FILE]
 
-With --library it takes another file, such as the definitions of GNU units. For each definition that is in force, it
-compares three things with what Python finds by its own reading of the files:
+--library names another file, such as the definitions of GNU units. For each definition in force, the row is compared
+with the files as Python reads them:
 
-- the file and the line of the row;
-- the value of the row with the value of its text, computed with fractions from the values of the rows below it, or
-  that it has a fault; a definition that calls a function is skipped;
-- the lines that the row says it replaces, which are the other active definitions of its key.
+- its file and line are those of the definition;
+- its value is the value of its text, computed with fractions from the values of the rows below it, or both have a
+  fault; a definition that calls a function is skipped;
+- the lines that it replaces are the other active definitions of its key.
 
-If no program is given and none is built, all of that is skipped. The last line is `N passed, M failed, K skipped`.
+All of that is skipped if there is no program. The last line is `N passed, M failed, K skipped`.
 """
 
 from __future__ import annotations
@@ -52,7 +52,7 @@ class Results:
 
 
 class CallsFunction(Exception):
-    """A definition calls a function, whose value is not in the tree."""
+    """A definition calls a function, and the tree has no values of functions."""
 
 
 @dataclass
@@ -60,7 +60,7 @@ class Node:
     """A row with the rows directly below it."""
 
     row: dict
-    below: list[Node] = field(default_factory=list)
+    children: list[Node] = field(default_factory=list)
 
 
 class Tree:
@@ -74,7 +74,7 @@ class Tree:
             node = Node(row)
             del path[row["depth"] :]
             if path:
-                path[-1].below.append(node)
+                path[-1].children.append(node)
             path.append(node)
             if "text" in row:
                 self.nodes[row["key"]] = node
@@ -82,7 +82,7 @@ class Tree:
     def value(self, key: str) -> Quantity:
         if key not in self.values:
             try:
-                self.values[key] = self.computed(self.nodes[key])
+                self.values[key] = self.compute(self.nodes[key])
             except (Fault, CallsFunction) as fault:
                 self.values[key] = fault
         value = self.values[key]
@@ -90,7 +90,7 @@ class Tree:
             raise value
         return value
 
-    def computed(self, node: Node) -> Quantity:
+    def compute(self, node: Node) -> Quantity:
         text = node.row["text"]
         if text == "!":
             return Quantity(1, {node.row["key"]: 1})
@@ -100,14 +100,14 @@ class Tree:
 
 
 class Words:
-    """The values of the words of a definition, in the form that `Reader` asks for."""
+    """The values of the words of a definition, in the form that `Reader` needs."""
 
     functions: dict = {}
 
     def __init__(self, tree: Tree, node: Node):
         self.tree = tree
         self.keys: dict[str, set[str]] = defaultdict(set)
-        for child in node.below:
+        for child in node.children:
             if "key" in child.row:
                 self.keys[child.row["word"]].add(child.row["key"])
 
@@ -123,12 +123,12 @@ class Words:
 
 
 def run(program: str, library: Path, locale: str, *words: str) -> list[dict]:
-    """The objects that units-why writes."""
+    """The JSON objects that units-why writes."""
     command = [program, "--json", "-f", str(library), "-l", locale, *words]
-    done = subprocess.run(
+    process = subprocess.run(
         command, stdin=subprocess.DEVNULL, stdout=subprocess.PIPE, stderr=subprocess.DEVNULL, check=False
     )
-    return [json.loads(line) for line in done.stdout.splitlines()]
+    return [json.loads(line) for line in process.stdout.splitlines()]
 
 
 def places_without_effect(program: str, library: Path, locale: str) -> set[str]:
@@ -138,7 +138,7 @@ def places_without_effect(program: str, library: Path, locale: str) -> set[str]:
 
 
 def check_value(tree: Tree, row: dict, results: Results) -> None:
-    """Compares the value of a row, or that it has a fault, with what its text gives."""
+    """Compares the value or the fault of a row with that of its text."""
     try:
         text = tree.value(row["key"]).text()
     except CallsFunction:
@@ -150,7 +150,7 @@ def check_value(tree: Tree, row: dict, results: Results) -> None:
 
 
 def check_rows(rows: list[dict], places: dict[str, list[str]], results: Results) -> set[str]:
-    """Checks the rows of one expression, and returns the keys whose definitions it has."""
+    """Checks the rows of one expression, and returns the keys that have a row with a definition."""
     tree = Tree(rows)
     for key, node in tree.nodes.items():
         row = node.row
@@ -165,9 +165,9 @@ def check_rows(rows: list[dict], places: dict[str, list[str]], results: Results)
 
 def check_locale(program: str, library: Path, locale: str, results: Results) -> None:
     deck = read_deck(str(library))
-    ignored = places_without_effect(program, library, locale)
+    places_to_skip = places_without_effect(program, library, locale)
     active = [line for line in deck.active(locale, os.environ) if line.kind is not Kind.LIST]
-    active = [line for line in active if str(line.place) not in ignored]
+    active = [line for line in active if str(line.place) not in places_to_skip]
     places: dict[str, list[str]] = defaultdict(list)
     for definition in active:
         places[definition.key].append(str(definition.place))

@@ -1,13 +1,13 @@
 #!/usr/bin/env python3
-"""Counts what makes the crates harder to maintain, and lists the places.
+"""Counts patterns that make the crates harder to maintain, and lists their places.
 
     tools/checks/count_house.py             prints one line for each count
     tools/checks/count_house.py COUNT..     prints the places of these counts
 
-The counts: lines (by kind), arguments (functions with more than five beside self), clauses (a clause that ten functions
-or more repeat), names (a definition that two crates give different meanings), participles (functions and definitions
-whose whole name is one participle), citations (imports of another crate's proofs), unused (lemmas that no file names).
-Test programs (`*_calls`, `run_faults`) count only in `lines`.
+The counts: lines (by kind), arguments (functions with more than five besides self), clauses (those that ten functions
+or more have), names (words that two crates define), participles (functions and definitions named by a single
+participle), citations (imports of another crate's proofs), unused (lemmas that no file names). Test programs
+(`*_calls`, `run_faults`) count only in `lines`.
 """
 
 from __future__ import annotations
@@ -57,7 +57,7 @@ def place(path: Path, text: str, at: int) -> str:
 
 
 def arguments_at(text: str, start: int) -> int:
-    """How many arguments the list has that begins at start, self aside."""
+    """The number of arguments in the list that begins at `start`, without self."""
     depth, count, word = 0, 0, ""
     for letter in text[start:]:
         if letter in "([{<":

@@ -1,14 +1,15 @@
 #!/usr/bin/env python3
-"""Keeps the reader's pages on definitions in step with the specs/ folders of the crates.
+"""Checks and writes the pages on definitions, docs/DEFINITIONS.md and docs/INDEX.md, from the specs/ of the crates.
 
-    tools/checks/definitions.py            checks docs/DEFINITIONS.md and docs/INDEX.md
+    tools/checks/definitions.py            checks both pages
     tools/checks/definitions.py --write    writes docs/INDEX.md
-    tools/checks/definitions.py --reached  prints each file that the headline reaches and that no page or mark covers
+    tools/checks/definitions.py --reached  prints each file that the headline reaches and no page or mark covers
 
 docs/DEFINITIONS.md introduces the definitions that a reader of the headline meets. A row names definitions in its
 first column and their files, as `crate/File File..`, in its third. docs/definition_marks.txt marks the other files that the
-headline reaches: `library FILE` for general vocabulary, `engine FILE REASON` for computations that a law makes
-credible. The headline is what the contract of `units_main` cites. The last line is `N passed, M failed`.
+headline reaches: `library FILE` for general vocabulary, `engine FILE REASON` for computations whose result a law
+describes. The headline is the set of definitions that the contract of `units_main` cites. The last line is
+`N passed, M failed`.
 """
 
 from __future__ import annotations
@@ -24,7 +25,7 @@ from spec_index import ROOT, Name, all_definitions, reached_from, read_file  # n
 PAGE = ROOT / "docs/DEFINITIONS.md"
 INDEX = ROOT / "docs/INDEX.md"
 MARKS = ROOT / "docs/definition_marks.txt"
-# What the contract of `units_main` cites.
+# The definitions that the contract of `units_main` cites.
 HEADLINE = [
     Name("units_run", "Headline", "IsRun"),
     Name("units_run", "GrantedConversions", "GrantsExactly"),
@@ -52,7 +53,7 @@ class Row:
 
 
 def files_in(cell: str) -> tuple[str, ...]:
-    """The files of a cell, in which `crate/One Other` are two files of a crate."""
+    """The files of a cell; `crate/One Other` names two files of a crate."""
     parts = [text.split("/", 1) for text in QUOTED.findall(cell) if "/" in text]
     return tuple(f"{crate}/{subject}" for crate, subjects in parts for subject in subjects.split())
 
@@ -80,11 +81,12 @@ def words_in(file: str) -> set[str]:
 
 
 def check_page(rows: list[Row]) -> list[str]:
-    """Names that are not in the files of their row, and a page that is too long."""
+    """Faults of the page: names that the files of their row do not define, and too many bytes."""
     faults = []
     for row in rows:
-        found = {word for file in row.files for word in words_in(file)}
-        faults += [f"DEFINITIONS.md: {name} is not defined in {', '.join(row.files)}" for name in row.names if name not in found]
+        words = {word for file in row.files for word in words_in(file)}
+        unknown = [name for name in row.names if name not in words]
+        faults += [f"DEFINITIONS.md: {name} is not defined in {', '.join(row.files)}" for name in unknown]
     if not rows:
         faults.append("DEFINITIONS.md has no row")
     elif PAGE.stat().st_size > MOST_BYTES:
@@ -92,18 +94,18 @@ def check_page(rows: list[Row]) -> list[str]:
     return faults
 
 
-def uncovered(rows: list[Row]) -> list[str]:
-    """The files that the headline reaches and that neither the page nor a mark covers, each with the words reached."""
-    covered = {file for row in rows for file in row.files} | set(marks())
+def files_without_mark(rows: list[Row]) -> list[str]:
+    """The files that the headline reaches and no page or mark covers, each with the definitions reached."""
+    known_files = {file for row in rows for file in row.files} | set(marks())
     open_files: dict[str, list[str]] = {}
     for name in reached_from(HEADLINE):
-        if name.file not in covered:
+        if name.file not in known_files:
             open_files.setdefault(name.file, []).append(name.word)
     return [f"{file}: {' '.join(sorted(words))}" for file, words in sorted(open_files.items())]
 
 
 def check_marks(rows: list[Row]) -> list[str]:
-    """Marks of unknown kinds or files, of files on the page, and of an engine file without a reason."""
+    """Faults of the marks: unknown kinds or files, files that the page has too, engine files without a reason."""
     page = {file for row in rows for file in row.files}
     faults = []
     for line in MARKS.read_text().splitlines() if MARKS.exists() else []:
@@ -115,13 +117,13 @@ def check_marks(rows: list[Row]) -> list[str]:
         elif file in page:
             faults.append(f"definition_marks.txt: {file} is on the page too")
         elif mark == "engine" and not reason:
-            faults.append(f"definition_marks.txt: {file} needs the law that makes it credible")
+            faults.append(f"definition_marks.txt: {file} has no reason: name the law that describes its result")
     return faults
 
 
 def index(rows: list[Row]) -> str:
     """The text of the index: a table for each crate."""
-    page, marked = {file for row in rows for file in row.files}, marks()
+    page, mark_of = {file for row in rows for file in row.files}, marks()
     words: dict[str, list[str]] = {}
     for name in all_definitions():
         words.setdefault(name.file, []).append(f"`{name.word}`")
@@ -130,7 +132,7 @@ def index(rows: list[Row]) -> str:
         if not file.startswith(crate + "/") or not crate:
             crate = file.split("/")[0]
             parts.append(f"\n## {crate}\n\n| file | mark | about | definitions |\n|---|---|---|---|\n")
-        mark = "headline" if file in page else marked.get(file, "engine")
+        mark = "headline" if file in page else mark_of.get(file, "engine")
         heading = read_file(*file.split("/")).heading.replace("|", "\\|")
         parts.append(f"| {file.split('/')[1]} | {mark} | {heading} | {' '.join(names).replace('|', chr(92) + '|')} |\n")
     return "".join(parts)
@@ -142,13 +144,13 @@ def main() -> int:
         INDEX.write_text(index(rows))
         return 0
     if sys.argv[1:] == ["--reached"]:
-        print("\n".join(uncovered(rows)))
+        print("\n".join(files_without_mark(rows)))
         return 0
     if sys.argv[1:]:
         print(__doc__.strip(), file=sys.stderr)
         return 2
     stale = [] if INDEX.exists() and INDEX.read_text() == index(rows) else ["INDEX.md is stale: tools/checks/definitions.py --write"]
-    open_files = [f"no page or mark covers {line}" for line in uncovered(rows)]
+    open_files = [f"no page or mark covers {line}" for line in files_without_mark(rows)]
     results = [check_page(rows), check_marks(rows), open_files, stale]
     for fault in (fault for faults in results for fault in faults):
         print(f"definitions: {fault}")

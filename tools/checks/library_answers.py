@@ -1,8 +1,8 @@
-"""Everyday queries with their answers, which are computed from the definitions of the units in fractions.
+"""Everyday queries with their answers, which fractions compute from the definitions of the units.
 
 A row is FROM, TO and the answer: a number, `("reading", number)` for a conversion to a function,
-`("reciprocal conversion", number)`, a list of counts with their units, or the text of a refusal. Words before FROM are
-options.
+`("reciprocal conversion", number)`, a list of counts with their units, or the text of a refusal. Options come before
+FROM.
 """
 
 from fractions import Fraction as F
@@ -51,7 +51,7 @@ def fahrenheit(celsius):
 
 
 def american_wire(gauge):
-    """The diameter of a wire in inches by its gauge: the 39th root of 92 a step."""
+    """The diameter of a wire in inches by its gauge; a step is the 39th root of 92."""
     return F(0.005 * 92 ** ((36 - gauge) / 39))
 
 
@@ -361,7 +361,7 @@ ANSWERS = [
     ("1 gallon/minute", "l/s", GAL / 60 / LITRE),
     ("30 gpm", "l/min", 30 * GAL / LITRE),
     ("1 cfm", "l/s", FT**3 / 60 / LITRE),
-    # What is refused
+    # Refusals
     ("3 ft", "kg", "conformability error\n\t0.9144 m\n\t1 kg"),
     ("sqrt(2) m", "cm", "no exact root"),
     ("1 USD", "EUR", "unknown unit: USD"),

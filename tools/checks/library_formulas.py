@@ -1,4 +1,4 @@
-"""Formulas over the library with their answers, in the form of library_answers.py: products that have to fit."""
+"""Formulas with units of the library, and their answers in the form of library_answers.py."""
 
 from fractions import Fraction as F
 

@@ -1,6 +1,6 @@
 """Checks that the functions and tables of definition files invert exactly on a grid inside their domains.
 
-A table is compared with its points in both directions by a model of its own, too.
+Tables are also compared with a model of their points, in both directions.
 """
 
 from __future__ import annotations
@@ -53,8 +53,8 @@ class Interval:
 
 
 def number_of(text):
-    above, _, below = text.partition("|")
-    return Fraction(above) / Fraction(below or 1)
+    numerator, _, denominator = text.partition("|")
+    return Fraction(numerator) / Fraction(denominator or 1)
 
 
 def interval_of(text):
@@ -65,7 +65,7 @@ def interval_of(text):
 
 @dataclass(frozen=True)
 class Function:
-    """A function with its in unit, its domain, and whether it has an inverse."""
+    """A function: its name, the unit of its argument, its domain, and whether it has an inverse."""
 
     name: str
     input: str
@@ -86,13 +86,13 @@ class Table:
         return list(zip(self.points, self.points[1:]))
 
     def at(self, x):
-        """The value at a number between the first and the last one of the points."""
+        """The value at a number between the first and the last point."""
         place = max(bisect_left(self.points, (x,)), 1)
         (x0, y0), (x1, y1) = self.points[place - 1 : place + 1]
         return y0 + (y1 - y0) * (x - x0) / (x1 - x0)
 
     def back(self, y):
-        """The number whose value is y, in the first segment that has it."""
+        """The number with the value y, in the first segment that has one."""
         for (x0, y0), (x1, y1) in self.segments:
             if min(y0, y1) <= y <= max(y0, y1):
                 return x0 if y0 == y1 else x0 + (x1 - x0) * (y - y0) / (y1 - y0)
@@ -119,8 +119,8 @@ def function_of(definition):
     return Function(definition.name, unit, domain, ";" in rest)
 
 
-def written(number):
-    """A number as an expression that is one operand."""
+def as_operand(number):
+    """A number as a single operand of an expression."""
     text = str(abs(number)).replace("/", "|")
     return f"(-{text})" if number < 0 else text
 
@@ -134,14 +134,14 @@ def check_functions(session, definitions, results):
         if isinstance(function, Function) and function.has_inverse
         for number in function.domain.grid()
     ]
-    arguments = [f"{written(number)} ({function.input})" for function, number in cases]
+    arguments = [f"{as_operand(number)} ({function.input})" for function, number in cases]
     images = [f"{function.name}({argument})" for (function, _), argument in zip(cases, arguments)]
     backs = [f"~{function.name}({image})" for (function, _), image in zip(cases, images)]
-    wanted, found, image_values = session.values(arguments), session.values(backs), session.values(images)
+    expected, values, image_values = session.values(arguments), session.values(backs), session.values(images)
     counts = Counter()
-    for (function, _), back, argument, value, image in zip(cases, backs, wanted, found, image_values):
+    for (function, _), back, argument, value, image in zip(cases, backs, expected, values, image_values):
         if function.domain == Interval() and image == Fault(f"not in range: {function.name}"):
-            continue  # the range is what bounds the domain
+            continue  # the range bounds the domain
         if Fault("overflow") in (image, value):
             continue  # refused, and not inexact
         counts[function.name] += 1
@@ -158,14 +158,14 @@ def check_table(session, table, results):
     """A table agrees with its points, and between them, in both directions."""
     middles = [((x0 + x1) / 2, (y0 + y1) / 2) for (x0, y0), (x1, y1) in table.segments]
     numbers = [x for x, _ in table.points] + [x for x, _ in middles]
-    unit, *values = session.values([table.unit] + [f"{table.name}({written(number)})" for number in numbers])
+    unit, *values = session.values([table.unit] + [f"{table.name}({as_operand(number)})" for number in numbers])
     for number, value in zip(numbers, values):
-        wanted = table.at(number)
-        is_right = not isinstance(value, Fault) and value.conforms(unit) and value.number == wanted * unit.number
-        results.check(f"table {table.name}({number})", is_right, f"{value}, not {wanted} {table.unit}")
+        expected = table.at(number)
+        is_right = not isinstance(value, Fault) and value.conforms(unit) and value.number == expected * unit.number
+        results.check(f"table {table.name}({number})", is_right, f"{value}, not {expected} {table.unit}")
     images = [table.at(number) for number in numbers]
-    backs = session.values([f"~{table.name}({written(image)} ({table.unit}))" for image in images])
+    backs = session.values([f"~{table.name}({as_operand(image)} ({table.unit}))" for image in images])
     for image, value in zip(images, backs):
-        wanted = table.back(image)
-        is_right = not isinstance(value, Fault) and not value.powers and value.number == wanted
-        results.check(f"table ~{table.name}({image} {table.unit})", is_right, f"{value}, not {wanted}")
+        expected = table.back(image)
+        is_right = not isinstance(value, Fault) and not value.powers and value.number == expected
+        results.check(f"table ~{table.name}({image} {table.unit})", is_right, f"{value}, not {expected}")

@@ -1,10 +1,10 @@
 #!/usr/bin/env python3
-"""Writes the transcript tests/library.t: everyday queries over the library, with answers that are computed here.
+"""Writes the transcript tests/library.t: everyday queries with the library, and the answers that this script computes.
 
     tools/checks/library_queries.py [--check]
 
 The answers come from the definitions of the units, in Python's fractions, and not from the library or the program. With
---check the transcript is compared with what would be written: status 1 if it differs.
+--check the status is 1 if the transcript is not up to date.
 """
 
 from __future__ import annotations
@@ -37,7 +37,7 @@ class Query:
 
 
 def printed(number, digits=DIGITS):
-    """A number with some significant digits: the nearest one, of two the one whose last digit is even."""
+    """The nearest decimal with some significant digits; of two, the one whose last digit is even."""
     number = Fraction(number)
     if number == 0:
         return "0"
@@ -45,10 +45,10 @@ def printed(number, digits=DIGITS):
     power = len(str(magnitude.numerator)) - len(str(magnitude.denominator))
     if magnitude < Fraction(10) ** power:
         power -= 1
-    rounded = round(magnitude / Fraction(10) ** (power - digits + 1))
-    if rounded == 10**digits:
-        rounded, power = rounded // 10, power + 1
-    text = str(rounded)
+    coefficient = round(magnitude / Fraction(10) ** (power - digits + 1))
+    if coefficient == 10**digits:
+        coefficient, power = coefficient // 10, power + 1
+    text = str(coefficient)
     if power < -4 or power >= digits:
         rest = text[1:].rstrip("0")
         return f"{sign}{text[0]}{'.' * bool(rest)}{rest}e{'-' if power < 0 else '+'}{abs(power):02}"
@@ -79,12 +79,12 @@ def queries():
         yield Query(tuple(operands), reply, status)
 
 
-def quoted(word):
+def quote(word):
     return word if word.replace("_", "").replace("/", "").replace("^", "").replace(".", "").isalnum() else f'"{word}"'
 
 
-def escaped(line):
-    """A line of a transcript, whose bytes that do not print are escaped."""
+def escape(line):
+    """A line of a transcript, with escapes for bytes that do not print."""
     text = line.encode()
     if all(32 <= byte < 127 for byte in text):
         return line
@@ -94,8 +94,8 @@ def escaped(line):
 def transcript():
     lines = [HEAD]
     for query in queries():
-        lines.append("  $ over " + " ".join(quoted(word) for word in query.operands) + "\n")
-        lines += [f"  {escaped(line)}\n" for line in query.reply]
+        lines.append("  $ over " + " ".join(quote(word) for word in query.operands) + "\n")
+        lines += [f"  {escape(line)}\n" for line in query.reply]
         lines += [f"  [{query.status}]\n"] * (query.status != 0)
     return "".join(lines)
 

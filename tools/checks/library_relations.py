@@ -10,7 +10,7 @@ from unit_answers import Fault
 PI = Fraction(31415926535897932384626433832795028841971693993751058209749445923, 10**64)
 SCALE = 10**40  # of square roots, so that they are right to forty digits
 
-# Each name with the unit in which its number enters the relations.
+# A name for each symbol, and the unit of its number in the relations.
 CONSTANTS = {
     "c": ("speed_of_light", "m/s"), "e": ("elementary_charge", "C"), "k": ("boltzmann", "J/K"),
     "N": ("avogadro", "1/mol"), "h": ("planck", "J s"), "hbar": ("hbar", "J s"), "R": ("gas_constant", "J/mol K"),
@@ -28,14 +28,14 @@ CONSTANTS = {
 
 
 def root(number):
-    """The square root of a number that may be small, to forty digits of its own."""
+    """The square root of a number, to forty significant digits even if it is small."""
     shift = 10 ** max(0, 2 * (len(str(number.denominator)) - len(str(number.numerator))))
-    scaled = number * shift * SCALE**2
-    return Fraction(isqrt(scaled.numerator // scaled.denominator), SCALE) / Fraction(isqrt(shift))
+    large = number * shift * SCALE**2
+    return Fraction(isqrt(large.numerator // large.denominator), SCALE) / Fraction(isqrt(shift))
 
 
-# A relation is its text, the tolerance, and both sides as functions of the numbers. The tolerance is zero for exact
-# ones, that of the rounded side, or that of the published digits.
+# A relation is its text, the tolerance, and both sides as functions of the numbers. The tolerance is zero if the
+# relation is exact; else it is that of the rounded side or of the published digits.
 RELATIONS = [
     ("R = N k", 0, lambda v: (v["R"], v["N"] * v["k"])),
     ("F = N e", 0, lambda v: (v["F"], v["N"] * v["e"])),

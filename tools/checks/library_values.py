@@ -37,7 +37,7 @@ def rows_of(name):
 
 
 def agrees(number, printed):
-    """Whether a number rounds to a printed decimal, in each of its digits."""
+    """Whether a number rounds to a printed decimal."""
     last_digit = Fraction(10) ** Decimal(printed).as_tuple().exponent
     return abs(number - Fraction(printed)) <= last_digit / 2
 
@@ -45,7 +45,7 @@ def agrees(number, printed):
 def tolerance_of(expression, printed, uncertainty):
     """How far a constant may be from its published value.
 
-    That is nothing if it is exact, a unit of the last digit if digits are cut off (`...`), the uncertainty if it is
+    That is zero if it is exact, a unit of the last digit if digits are cut off (`...`), the uncertainty if it is
     derived from others, and otherwise half a unit of the last digit.
     """
     last_digit = Fraction(10) ** Decimal(printed).as_tuple().exponent
@@ -57,46 +57,46 @@ def tolerance_of(expression, printed, uncertainty):
 
 
 def quotient(value, unit):
-    """How many of a unit a value is, or None if they do not conform or have no value."""
+    """The number of units in a value, or None if the two do not conform or one is a fault."""
     if isinstance(value, Fault) or isinstance(unit, Fault) or not value.conforms(unit) or not unit.number:
         return None
     return value.number / unit.number
 
 
 def mismatch(value, unit):
-    """Why a value is no number of units."""
+    """Why `quotient` of these is None."""
     faults = [str(answer) for answer in (value, unit) if isinstance(answer, Fault)]
     return "; ".join(faults) or f"{value.dimensions} does not conform to {unit.dimensions}"
 
 
 def check_factors(session, results):
-    """Each printed factor is the library's, as a fraction if it is exact, else in each digit."""
+    """Each factor of the library is the printed one: equal if that is exact, else in each digit."""
     rows = list(rows_of("factors.tsv"))
     values = session.values([row[0] for row in rows])
     units = session.values([row[1] for row in rows])
     results.check("factors: at least 250", len(rows) >= 250, f"{len(rows)} rows")
     for (source, target, printed, precision, document), value, unit in zip(rows, values, units):
-        found = quotient(value, unit)
-        if found is None:
+        ratio = quotient(value, unit)
+        if ratio is None:
             results.check(f"factor {source} to {target}", False, mismatch(value, unit))
             continue
-        is_equal = found == Fraction(printed) if precision == "exact" else agrees(found, printed)
-        detail = f"{float(found):.12g}, but {document} prints {printed}"
+        is_equal = ratio == Fraction(printed) if precision == "exact" else agrees(ratio, printed)
+        detail = f"{float(ratio):.12g}, but {document} prints {printed}"
         results.check(f"factor {source} to {target}", is_equal, detail)
 
 
 def check_constants(session, results):
-    """Each constant is the published one in each digit, and one that is derived from others within its uncertainty."""
+    """Each constant is the published one in each digit, or within its uncertainty if it is derived from others."""
     rows = list(rows_of("constants.tsv"))
     values = session.values([row[0] for row in rows])
     units = session.values([row[1] for row in rows])
     for (name, unit_text, printed, uncertainty), value, unit in zip(rows, values, units):
-        found = quotient(value, unit)
-        if found is None:
+        ratio = quotient(value, unit)
+        if ratio is None:
             results.check(f"constant {name} in {unit_text}", False, mismatch(value, unit))
             continue
-        is_near = abs(found - Fraction(printed)) <= tolerance_of(name, printed, uncertainty)
-        results.check(f"constant {name} in {unit_text}", is_near, f"{float(found):.14g}, but published is {printed}")
+        is_near = abs(ratio - Fraction(printed)) <= tolerance_of(name, printed, uncertainty)
+        results.check(f"constant {name} in {unit_text}", is_near, f"{float(ratio):.14g}, but published is {printed}")
 
 
 def check_spellings(session, names, results):
@@ -107,9 +107,9 @@ def check_spellings(session, names, results):
         for spelling, common in SPELLINGS.items():
             plain = plain.replace(spelling, common)
         groups.setdefault(plain, []).append(name)
-    spelled = [group for group in groups.values() if len(group) > 1 and len(group[0]) > 3]
-    values = dict(zip(sum(spelled, []), session.values(sum(spelled, []))))
-    for first, *others in spelled:
+    variants = [group for group in groups.values() if len(group) > 1 and len(group[0]) > 3]
+    values = dict(zip(sum(variants, []), session.values(sum(variants, []))))
+    for first, *others in variants:
         for other in others:
             detail = f"{values[other]}, but {first} is {values[first]}"
             results.check(f"spelling {other}", values[other] == values[first], detail)
@@ -126,29 +126,29 @@ def check_lists(session, lists, results):
         results.check(f"list {definition.name}", not faults and falls, "; ".join(faults) or "its units do not fall")
 
 
-def prefixed(symbol, prefixes):
-    """Each word of a symbol with one of the prefixes, with its factor."""
+def words_with_prefixes(symbol, prefixes):
+    """The symbol with each of the prefixes, and its factor."""
     tables = {"word": WORDS, "symbol": POWERS_OF_TEN}
     table = tables["word"] if prefixes[:1] == ["words"] else tables["symbol"]
     names = list(table) if prefixes[0] in ("words", "all") else [name for name in prefixes if not name.startswith("-")]
-    left_out = {name[1:] for name in prefixes if name.startswith("-")}
+    exceptions = {name[1:] for name in prefixes if name.startswith("-")}
     for name in names:
-        if name in left_out:
+        if name in exceptions:
             continue
         factor = Fraction(1024) ** BINARY[name] if name in BINARY else Fraction(10) ** table[name]
         yield name + symbol, factor
 
 
 def check_symbols(session, results):
-    """Each symbol of a unit has its value, alone and with each of its prefixes."""
-    words, expected = [], []
+    """Each symbol of a unit has the value in the table, alone and with each of its prefixes."""
+    words, numbers = [], []
     for symbol, number, unit, prefixes in rows_of("symbols.tsv"):
-        for word, factor in [(symbol, Fraction(1)), *prefixed(symbol, prefixes.split())]:
+        for word, factor in [(symbol, Fraction(1)), *words_with_prefixes(symbol, prefixes.split())]:
             words.append(word)
-            expected.append((factor * Fraction(number), unit))
-    units = sorted({unit for _, unit in expected})
+            numbers.append((factor * Fraction(number), unit))
+    units = sorted({unit for _, unit in numbers})
     unit_values = dict(zip(units, session.values(units)))
-    for word, (number, unit), value in zip(words, expected, session.values(words)):
+    for word, (number, unit), value in zip(words, numbers, session.values(words)):
         base = unit_values[unit]
-        wanted = base if isinstance(base, Fault) else Value(number * base.number, base.powers)
-        results.check(f"symbol {word}", value == wanted, f"{value}, not {wanted}")
+        expected = base if isinstance(base, Fault) else Value(number * base.number, base.powers)
+        results.check(f"symbol {word}", value == expected, f"{value}, not {expected}")

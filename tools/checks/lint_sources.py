@@ -1,10 +1,10 @@
 #!/usr/bin/env python3
-"""Runs shellcheck over every shell script and pyflakes over every Python file that git knows.
+"""Runs shellcheck on every shell script and pyflakes on every Python file that git lists.
 
     tools/checks/lint_sources.py [FILE..]
 
-A file is a script by its suffix, its first line, or a `shellcheck shell=` comment. A file whose linter is not
-installed counts as skipped. The last line is `N passed, M failed, K skipped`.
+The suffix, the first line or a `shellcheck shell=` comment tells the language of a script. A file is skipped if its
+linter is not installed. The last line is `N passed, M failed, K skipped`.
 """
 
 from __future__ import annotations
@@ -19,17 +19,17 @@ ROOT = Path(__file__).resolve().parents[2]
 SHELL = re.compile(rb"#!\s*\S*/(?:env (?:-S )?)?(?:ba|da)?sh\b|# shellcheck shell=")
 PYTHON = re.compile(rb"#!.*\bpython3?\b")
 SHELLCHECK = [["shellcheck", "--external-sources", "--source-path=SCRIPTDIR"]]
-# The first that is installed; both report the same kind of faults.
+# The first one that is installed is used; both report the same kind of faults.
 PYTHON_LINTERS = [["pyflakes3"], ["ruff", "check", "--select", "F", "--quiet"]]
 
 
 def known_files() -> list[Path]:
-    listed = subprocess.run(
+    output = subprocess.run(
         ["git", "-C", ROOT, "ls-files", "-z", "--cached", "--others", "--exclude-standard"],
         stdout=subprocess.PIPE,
         check=True,
     )
-    names = filter(None, listed.stdout.decode().split("\0"))
+    names = filter(None, output.stdout.decode().split("\0"))
     files = (ROOT / name for name in names if not name.startswith(("crates/", "wip/")))
     return [file for file in files if file.is_file()]
 
@@ -38,8 +38,8 @@ def scripts_among(files: list[Path]) -> tuple[list[Path], list[Path]]:
     """The shell scripts and the Python files."""
     shell, python = [], []
     for file in files:
-        with open(file, "rb") as opened:
-            head = opened.read(200)
+        with open(file, "rb") as source:
+            head = source.read(200)
         if file.suffix == ".py" or PYTHON.match(head):
             python.append(file)
         elif SHELL.match(head):
@@ -48,20 +48,20 @@ def scripts_among(files: list[Path]) -> tuple[list[Path], list[Path]]:
 
 
 def lint(linters: list[list[str]], files: list[Path]) -> tuple[int, int, int]:
-    """How many files passed, failed and were skipped."""
+    """The numbers of files that passed, failed and were skipped."""
     if not files:
         return 0, 0, 0
-    installed = next((words for words in linters if shutil.which(words[0])), None)
-    if not installed:
+    linter = next((words for words in linters if shutil.which(words[0])), None)
+    if not linter:
         names = " or ".join(words[0] for words in linters)
-        print(f"lint_sources: {len(files)} files skipped, since {names} is not installed")
+        print(f"lint_sources: {len(files)} files are skipped: {names} is not installed")
         return 0, 0, len(files)
     # In one call, since a linter takes longer to start than to read a file.
-    done = subprocess.run([*installed, *files], cwd=ROOT, stdout=subprocess.PIPE, stderr=subprocess.STDOUT, check=False)
-    output = done.stdout.decode(errors="replace")
+    process = subprocess.run([*linter, *files], cwd=ROOT, stdout=subprocess.PIPE, stderr=subprocess.STDOUT, check=False)
+    output = process.stdout.decode(errors="replace")
     sys.stdout.write(output)
     failed = sum(1 for file in files if str(file) in output)
-    if done.returncode != 0 and failed == 0:
+    if process.returncode != 0 and failed == 0:
         failed = len(files)
     return len(files) - failed, failed, 0
 

@@ -1,4 +1,4 @@
-"""Runs `rt ci` and shows its progress: what is being proved, how much is done, and how long it has taken so far."""
+"""Runs `rt ci` and shows its progress: the crates that are being proved, how many are done, and the time so far."""
 
 from __future__ import annotations
 
@@ -16,13 +16,13 @@ from typing import TypeVar
 T = TypeVar("T")
 PERIOD = 60.0  # seconds between two lines of progress
 PROVED = re.compile(r"rt: (\w+)(: its tests)? (?:proved|is kept: .*)")
-# What rt writes for a reader; the rest is one line for each function.
-SHOWN = re.compile(r"rt: |error|\d+ passed, ")
+# The lines of rt to show; the rest is one line for each function.
+SUMMARY = re.compile(r"rt: |error|\d+ passed, ")
 
 
 @dataclass
 class Progress:
-    """The crates whose own proof is done, those whose tests are, and how many crates there are."""
+    """The number of crates, the start, the crates whose proof is done, and those whose tests are done."""
 
     crates: int
     begin: float = field(default_factory=time.monotonic)
@@ -37,8 +37,8 @@ class Progress:
     def line(self, running: list[str]) -> str:
         minutes, seconds = divmod(int(time.monotonic() - self.begin), 60)
         now = ", ".join(running) if running else "nothing"
-        done = f"{len(self.proved)} of {self.crates} crates proved, the tests of {len(self.tested)}"
-        return f"[{minutes}:{seconds:02} min] {done}; now: {now}"
+        counts = f"{len(self.proved)} of {self.crates} crates proved, the tests of {len(self.tested)}"
+        return f"[{minutes}:{seconds:02} min] {counts}; now: {now}"
 
 
 def number_of_crates(root: Path) -> int:
@@ -46,7 +46,7 @@ def number_of_crates(root: Path) -> int:
     return sum(1 for line in lines if line.partition("#")[0].strip())
 
 
-def is_below(process: str, ancestor: int) -> bool:
+def is_descendant(process: str, ancestor: int) -> bool:
     """Whether a process descends from another one."""
     while process not in ("0", "1"):
         if process == str(ancestor):
@@ -56,13 +56,13 @@ def is_below(process: str, ancestor: int) -> bool:
     return False
 
 
-def running_below(ancestor: int) -> list[str]:
-    """What the provers below a process work on: the crate, its tests, or an edit of it."""
-    found = set()
+def work_below(ancestor: int) -> list[str]:
+    """The crates, tests and edits on which the provers started by a process are working."""
+    names = set()
     for process in filter(str.isdigit, os.listdir("/proc")):
         try:
             words = Path("/proc", process, "cmdline").read_bytes().decode(errors="replace").split("\0")
-            if not words[0].endswith("/rattle") or "--crate-name" not in words or not is_below(process, ancestor):
+            if not words[0].endswith("/rattle") or "--crate-name" not in words or not is_descendant(process, ancestor):
                 continue
             folder = os.readlink(f"/proc/{process}/cwd")
         except OSError:
@@ -72,18 +72,18 @@ def running_below(ancestor: int) -> list[str]:
             name += " (an edit)"
         elif "--test" in words:
             name += " (tests)"
-        found.add(name)
-    return sorted(found)
+        names.add(name)
+    return sorted(names)
 
 
-def show_periodically(progress: Progress, process: int, ended: threading.Event) -> None:
-    while not ended.wait(PERIOD):
-        print(progress.line(running_below(process)), flush=True)
+def show_periodically(progress: Progress, process: int, end: threading.Event) -> None:
+    while not end.wait(PERIOD):
+        print(progress.line(work_below(process)), flush=True)
 
 
 def prove(root: Path, crates: list[str], result_of: Callable[[str, int], T]) -> T:
-    """The result of `rt ci` over these crates, or over all. Its whole output goes to out/rt-ci.log; if it fails, the
-    end of that is shown too."""
+    """The result of `rt ci` on these crates, or on all. Its whole output goes to out/rt-ci.log; if it fails, the end of
+    that is shown too."""
     (root / "out").mkdir(exist_ok=True)
     log = root / "out/rt-ci.log"
     progress = Progress(number_of_crates(root))
@@ -95,8 +95,8 @@ def prove(root: Path, crates: list[str], result_of: Callable[[str, int], T]) -> 
     except OSError as fault:
         print(f"rt ci: {fault}")
         return result_of("", 127)
-    ended, lines = threading.Event(), []
-    watcher = threading.Thread(target=show_periodically, args=(progress, process.pid, ended), daemon=True)
+    end, lines = threading.Event(), []
+    watcher = threading.Thread(target=show_periodically, args=(progress, process.pid, end), daemon=True)
     watcher.start()
     with open(log, "w") as file:
         for data in process.stdout:
@@ -104,11 +104,11 @@ def prove(root: Path, crates: list[str], result_of: Callable[[str, int], T]) -> 
             file.write(line)
             lines.append(line)
             progress.read(line)
-            if SHOWN.match(line):
+            if SUMMARY.match(line):
                 sys.stdout.write(line)
                 sys.stdout.flush()
     status = process.wait()
-    ended.set()
+    end.set()
     if status != 0:
         print("".join(["rt ci failed; the end of its output:\n", *lines[-200:]]), end="")
     print(progress.line([]), flush=True)

@@ -1,6 +1,6 @@
-// Refuses allocations of a program before which it is put by LD_PRELOAD. Each allocation gets a number from 1. The
-// one of the number REFUSED is refused, and where LATER is set each behind it too. A byte on stream 9 tells each that
-// is.
+// Refuses allocations of a program; LD_PRELOAD loads it. Allocations are numbered from 1. The allocation with the
+// number REFUSED is refused, and if LATER is set, all later ones too. For each refusal a byte is written to descriptor
+// 9.
 #include <errno.h>
 #include <stddef.h>
 #include <stdlib.h>
@@ -32,8 +32,8 @@ void *realloc(void *old, size_t size) { return is_refused() ? NULL : __libc_real
 void *memalign(size_t align, size_t size) { return is_refused() ? NULL : __libc_memalign(align, size); }
 void *aligned_alloc(size_t align, size_t size) { return memalign(align, size); }
 int posix_memalign(void **place, size_t align, size_t size) {
-    void *made = memalign(align, size);
-    if (made == NULL) return ENOMEM;
-    *place = made;
+    void *block = memalign(align, size);
+    if (block == NULL) return ENOMEM;
+    *place = block;
     return 0;
 }

@@ -1,11 +1,11 @@
 #!/usr/bin/env python3
-"""Runs the checks of the repository and adds up what passed, failed and was skipped.
+"""Runs the checks of the repository and adds up how many cases passed, failed and were skipped.
 
     bin/check [CRATE..]    the checks that need no proof; then `rt ci CRATE..`, if crates are named
-    bin/test               the gate: every proof, test and must-fail edit, then the same checks over what that built
+    bin/test               the gate: every proof, test and must-fail edit, then the checks, with the programs built
 
 Each check is a command whose last line is `N passed, M failed` or `N passed, M failed, K skipped`. A check that ends
-with another line, or whose status disagrees with that line, counts as one failure. The last line has the sums, and
+with another line, or whose status disagrees with that line, counts as one more failure. The last line has the sums, and
 the status is 0 exactly if nothing failed.
 """
 
@@ -25,13 +25,13 @@ sys.path.insert(0, str(Path(__file__).resolve().parent))
 from proof_progress import prove  # noqa: E402
 
 ROOT = Path(__file__).resolve().parents[2]
-WORKERS = 4  # more than two processors have work for, since the checks of terminals mostly wait
+WORKERS = 4  # even on two processors, since the checks on terminals mostly wait
 RESULT = re.compile(r"(\d+) passed, (\d+) failed(?:, (\d+) skipped)?")
 
 
 @dataclass(frozen=True)
 class Check:
-    """A check by its name, with its command from the top of the repository."""
+    """A check: its name, and its command relative to the top of the repository."""
 
     name: str
     command: tuple[str, ...]
@@ -55,7 +55,7 @@ class Result:
         return f"{self.passed} passed, {self.failed} failed, {self.skipped} skipped"
 
 
-# The longest ones first.
+# The longest checks come first.
 QUICK = [
     Check("transcripts", ("tools/checks/transcripts.py",)),
     Check("statuses", ("tools/checks/check_statuses.sh",)),
@@ -94,20 +94,20 @@ def last_line(output: str) -> str:
 
 
 def result_of(output: str, status: int) -> Result:
-    """The result that a check reports in its last line; one failure more if the line and the status disagree."""
+    """The result in the last line of a check, with one more failure if the status disagrees with it."""
     match = RESULT.fullmatch(last_line(output))
     if not match:
         return Result(failed=1)
-    reported = Result(*(int(number or 0) for number in match.groups()))
-    agrees = (status == 0) == (reported.failed == 0)
-    return reported if agrees else reported + Result(failed=1)
+    result = Result(*(int(number or 0) for number in match.groups()))
+    agrees = (status == 0) == (result.failed == 0)
+    return result if agrees else result + Result(failed=1)
 
 
 def run(check: Check) -> tuple[str, Result, float]:
-    """What the check wrote, its result, and how many seconds it took."""
+    """The output of a check, its result, and the seconds that it took."""
     begin = time.monotonic()
     try:
-        done = subprocess.run(
+        process = subprocess.run(
             [ROOT / check.command[0], *check.command[1:]],
             cwd=ROOT,
             stdin=subprocess.DEVNULL,
@@ -115,7 +115,7 @@ def run(check: Check) -> tuple[str, Result, float]:
             stderr=subprocess.STDOUT,
             check=False,
         )
-        output, status = done.stdout.decode(errors="replace"), done.returncode
+        output, status = process.stdout.decode(errors="replace"), process.returncode
     except OSError as fault:
         output, status = f"{check.command[0]}: {fault}\n", 127
     return output, result_of(output, status), time.monotonic() - begin
@@ -123,14 +123,14 @@ def run(check: Check) -> tuple[str, Result, float]:
 
 def run_all(checks: list[Check], workers: int) -> tuple[Result, list[str]]:
     """The sum of all results, and the names of the checks that failed."""
-    total, failed = Result(), []
+    total, failures = Result(), []
     with ThreadPoolExecutor(workers) as pool:
         for check, (output, result, seconds) in zip(checks, pool.map(run, checks)):
             print(f"== {check.name} ({seconds:.0f} s)\n{output}", end="" if output.endswith("\n") else "\n", flush=True)
             total += result
             if result.failed:
-                failed.append(check.name)
-    return total, failed
+                failures.append(check.name)
+    return total, failures
 
 
 def quick_checks() -> list[Check]:
@@ -139,22 +139,22 @@ def quick_checks() -> list[Check]:
 
 def check_quickly(crates: list[str]) -> tuple[Result, list[str]]:
     print("bin/check: every check that needs no proof; about a minute on two processors", flush=True)
-    total, failed = run_all(quick_checks(), WORKERS)
+    total, failures = run_all(quick_checks(), WORKERS)
     if crates:
-        print(f"bin/check: rt ci {' '.join(crates)}; minutes to an hour, by how much is below these crates", flush=True)
+        print(f"bin/check: rt ci {' '.join(crates)}; minutes to an hour, with the crates below these", flush=True)
         result = prove(ROOT, crates, result_of_proofs)
-        total, failed = total + result, failed + ["proofs"] * (result.failed > 0)
-    return total, failed
+        total, failures = total + result, failures + ["proofs"] * (result.failed > 0)
+    return total, failures
 
 
 def check_all() -> tuple[Result, list[str]]:
     print("bin/test: proves every crate and its tests, tries the edits that must be refused, and runs every check.")
     print("About 185 processor minutes from nothing (50 minutes on four processors); 5 minutes if all proofs are kept", flush=True)
     total = prove(ROOT, [], result_of_proofs)
-    failed = ["proofs"] if total.failed else []
+    failures = ["proofs"] if total.failed else []
     checks = quick_checks() + [check for check in AFTER_PROOFS if check.exists()]
     result, names = run_all(checks, WORKERS)
-    return total + result, failed + names
+    return total + result, failures + names
 
 
 def result_of_proofs(last: str, status: int) -> Result:
@@ -162,8 +162,8 @@ def result_of_proofs(last: str, status: int) -> Result:
     match = RESULT.match(last)
     if not match:
         return Result(failed=1)
-    reported = Result(int(match[1]), int(match[2]))
-    return reported if (status == 0) == (reported.failed == 0) else reported + Result(failed=1)
+    result = Result(int(match[1]), int(match[2]))
+    return result if (status == 0) == (result.failed == 0) else result + Result(failed=1)
 
 
 def main() -> int:
@@ -176,8 +176,8 @@ def main() -> int:
         print("the proofs need the toolchain, and there is no command rt: see CONTRIBUTING.md", file=sys.stderr)
         if mode == "check":
             return 127
-    total, failed = check_quickly(crates) if mode == "check" else check_all()
-    for name in failed:
+    total, failures = check_quickly(crates) if mode == "check" else check_all()
+    for name in failures:
         print(f"failed: {name}")
     print(total)
     return 1 if total.failed else 0

@@ -1,4 +1,4 @@
-"""Reads the definitions in the specs/ folders of the crates, and which definitions each of them uses."""
+"""Reads the definitions in the specs/ folders of the crates, and finds the definitions that each of them uses."""
 
 from __future__ import annotations
 
@@ -48,7 +48,7 @@ class File:
 
 
 def without_modules(text: str) -> str:
-    """The text with the contents of each outermost `module _ .. where` and `mutual` block moved out by a level."""
+    """The text with the contents of each outermost `module _ .. where` and `mutual` block dedented by one level."""
     lines, inside, in_header = [], False, False
     for line in text.splitlines():
         if re.match(r"module _|(?:\w+ )?mutual\b", line):
@@ -96,8 +96,8 @@ def imports_of(text: str) -> tuple[dict[str, Name], dict[str, tuple[str, str]]]:
         if alias:
             modules[alias] = (parts[0], parts[2])
         for item in filter(None, (item.strip() for item in group.split(","))):
-            word, _, renamed = item.partition(" as ")
-            names[(renamed or word).strip()] = Name(parts[0], parts[2], word.strip())
+            word, _, local_name = item.partition(" as ")
+            names[(local_name or word).strip()] = Name(parts[0], parts[2], word.strip())
     return names, modules
 
 
@@ -109,18 +109,18 @@ def read_file(crate: str, subject: str) -> File:
     text = source.read_text()
     heading = re.match(r"(?:--.*\n)*", text).group(0)
     body = text[len(heading) :]
-    found = {}
+    definitions = {}
     body = re.sub(r"^(?:pub )?use [^\n]*(?:\n +[^\n]*)*\n", "", body, flags=re.MULTILINE)
     for comment, block in split_blocks(without_modules(without_modules(body))):
         head = HEAD.match(block)
         if head and head[2] != "mod":
-            found[head[2]] = Definition(comment, block, CONSTRUCTOR.findall(block) if head[1] == "data" else [])
+            definitions[head[2]] = Definition(comment, block, CONSTRUCTOR.findall(block) if head[1] == "data" else [])
     names, modules = imports_of(text)
-    return File(" ".join(line[2:].strip() for line in heading.splitlines()), found, names, modules)
+    return File(" ".join(line[2:].strip() for line in heading.splitlines()), definitions, names, modules)
 
 
 def home_of(name: Name) -> Name | None:
-    """The definition that a name refers to, through files that pass it on; none if it is not of this repository."""
+    """The definition that a name refers to, through files that export it again; None if it is of no crate here."""
     file = read_file(name.crate, name.subject)
     if name.word in file.definitions:
         return name
@@ -131,15 +131,15 @@ def home_of(name: Name) -> Name | None:
 
 
 def resolve(word: str, crate: str, subject: str) -> Name | None:
-    """The definition that a word of a file refers to, if it is one of this repository."""
+    """The definition that a word of a file refers to; None if it is not in this repository."""
     file = read_file(crate, subject)
     head, _, rest = word.partition(".")
     if rest and head in file.modules:
         return home_of(Name(*file.modules[head], rest.split(".")[0]))
     for candidate in (word, head):
-        found = home_of(Name(crate, subject, candidate))
-        if found:
-            return found
+        definition = home_of(Name(crate, subject, candidate))
+        if definition:
+            return definition
     return None
 
 
@@ -147,23 +147,23 @@ def used_by(name: Name) -> set[Name]:
     """The definitions of this repository that the text of a definition uses."""
     text = re.sub(r"^\s*--.*$", "", read_file(name.crate, name.subject).definitions[name.word].text, flags=re.MULTILINE)
     words = set(WORD.findall(text)) - {name.word}
-    found = {resolve(word, name.crate, name.subject) for word in words}
+    uses = {resolve(word, name.crate, name.subject) for word in words}
     operators = {word for word in read_file(name.crate, name.subject).imported if "◌" in word}
-    found |= {resolve(word, name.crate, name.subject) for word in operators if word.strip("◌") in words}
-    return {use for use in found if use and use != name}
+    uses |= {resolve(word, name.crate, name.subject) for word in operators if word.strip("◌") in words}
+    return {use for use in uses if use and use != name}
 
 
 def reached_from(starts: list[Name]) -> dict[Name, int]:
-    """The definitions that these use, directly or not, each with the least number of steps to it."""
+    """The definitions that these use, directly or indirectly, each with the least number of steps to it."""
     depths, level = {start: 0 for start in starts}, list(starts)
     while level:
-        following = []
+        next_level = []
         for name in level:
             for use in sorted(used_by(name)):
                 if use not in depths:
                     depths[use] = depths[name] + 1
-                    following.append(use)
-        level = following
+                    next_level.append(use)
+        level = next_level
     return depths
 
 

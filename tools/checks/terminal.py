@@ -1,4 +1,4 @@
-"""A program on a pseudo-terminal, for checks of what people see and type."""
+"""A program on a pseudo-terminal, for checks of interactive use."""
 
 from __future__ import annotations
 
@@ -16,7 +16,7 @@ from pathlib import Path
 ESCAPES = re.compile(
     r"\x1b(\[[0-9;?>=]*[@a-zA-Z]|\][^\x07\x1b]*(\x07|\x1b\\)|[()][A-Z0-9]|[=>78cM])|[\r\x07\x0e\x0f]"
 )
-SECONDS = 60  # for one answer of a shell; a machine that runs proofs may need most of it
+SECONDS = 60  # limit for one answer of a shell, which may be slow while proofs run
 
 
 class Terminal:
@@ -31,7 +31,7 @@ class Terminal:
         self.output = b""
 
     def text(self) -> str:
-        """What was written since the last `clear`, without escape sequences."""
+        """The output since the last `clear`, without escape sequences."""
         return ESCAPES.sub("", self.output.decode(errors="replace"))
 
     def clear(self) -> None:
@@ -41,7 +41,7 @@ class Terminal:
         os.write(self.descriptor, keys.encode())
 
     def shows(self, pattern: str) -> bool:
-        """Reads until the pattern is in the text; whether it comes."""
+        """Reads until the text matches the pattern; returns whether it does in time."""
         end = time.monotonic() + SECONDS
         while not re.search(pattern, self.text()):
             if not self.read_more(end - time.monotonic()):
@@ -49,11 +49,11 @@ class Terminal:
         return True
 
     def status(self) -> int:
-        """Reads to the end of the program; the status that it ended with, or -1 if it does not end."""
+        """Reads until the program ends; returns its status, or -1 if it does not end in time."""
         end = time.monotonic() + SECONDS
         while time.monotonic() < end:
-            done, status = os.waitpid(self.process, os.WNOHANG)
-            if done:
+            process, status = os.waitpid(self.process, os.WNOHANG)
+            if process:
                 os.close(self.descriptor)
                 return os.waitstatus_to_exitcode(status)
             self.read_more(0.05)
@@ -61,7 +61,7 @@ class Terminal:
         return -1
 
     def read_more(self, seconds: float) -> bool:
-        """Takes what is written within this time; false at the end of output."""
+        """Reads the output of at most this time; returns False if there is none."""
         ready, _, _ = select.select([self.descriptor], [], [], max(0, seconds))
         try:
             data = os.read(self.descriptor, 65536) if ready else b""

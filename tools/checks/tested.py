@@ -1,10 +1,9 @@
 #!/usr/bin/env python3
-"""Keeps docs/TESTED.md, the tables of what was tested, from the records in docs/tested.tsv.
+"""Writes docs/TESTED.md, the tables of tests, from the records in docs/tested.tsv.
 
-    tools/checks/tested.py                                 checks that the page has the records
+    tools/checks/tested.py                                 checks that the page is up to date
     tools/checks/tested.py --write                         writes the page
-    tools/checks/tested.py --record CHECK COUNT RESULT     gives a check that is run by hand today's date, and writes
-                                                           the page
+    tools/checks/tested.py --record CHECK COUNT RESULT     records today's run of a check by hand, and writes the page
 
 A record has tabs between its fields: when (gate or hand), check, command, date, count, result. The last line is
 `N passed, M failed`.
@@ -42,7 +41,7 @@ BY_HAND = """
 
 @dataclass(frozen=True)
 class Record:
-    """A check: when it runs, its name, its command, when it was run last, how many cases it has, what came out."""
+    """A check: when it runs, its name, its command, the date of its last run, its number of cases, its result."""
 
     when: str
     check: str
@@ -76,12 +75,12 @@ def page(records: list[Record]) -> str:
 def record(check: str, count: str, result: str) -> int:
     records = read_records()
     if not any(it.check == check and it.when == "hand" for it in records):
-        print(f"tested: docs/tested.tsv has no check by hand named {check}", file=sys.stderr)
+        print(f"tested: docs/tested.tsv has no check by hand with the name {check}", file=sys.stderr)
         return 1
     today = datetime.date.today().isoformat()
-    changed = [replace(it, date=today, count=count, result=result) if it.check == check else it for it in records]
-    write_records(changed)
-    PAGE.write_text(page(changed))
+    new_records = [replace(it, date=today, count=count, result=result) if it.check == check else it for it in records]
+    write_records(new_records)
+    PAGE.write_text(page(new_records))
     return 0
 
 

@@ -1,12 +1,12 @@
 #!/usr/bin/env python3
-"""Converts random columns by units_convert_column from C and by the program's --column: the rows have to be the same,
-byte for byte, and both have to say whether a cell is an error.
+"""Converts random columns by units_convert_column from C and by the program's --column. The rows have to be the same,
+byte for byte, and so has the status, which says whether a cell is an error.
 
     tools/comparisons/compare_c_columns.py [--numbers N] [--seed S] [--definitions FILE] [--units FOLDER]
 
-Without N it converts 20,000 numbers in all, cells that are no number among them. FILE is GNU units' definition file of
-Debian if it is installed, or else examples/first.units; it has no includes. FOLDER is what tools/c_library.sh made; it
-is made anew without. The last line is `N passed, M failed`, where a column counts as one.
+N is the number of cells, 20,000 by default; some are not numbers. FILE has no includes; it is Debian's definition file
+of GNU units by default, or examples/first.units if that is not installed. FOLDER is the output of tools/c_library.sh,
+which runs if there is none. The last line is `N passed, M failed`, which counts columns.
 """
 
 from __future__ import annotations
@@ -23,7 +23,7 @@ ROOT = Path(__file__).resolve().parents[2]
 GNU = Path("/usr/share/units/definitions.units")
 RECORDS = 500
 
-# Linear ones, functions, a list, and pairs that are refused in each cell or in some.
+# Linear pairs, functions, a list, and pairs that are refused in all cells or in some.
 PAIRS = [
     ("ft", "m"),
     ("mile/hour", "m/s"),
@@ -43,7 +43,7 @@ FAULTS = ["", "-", "+5", "1|3", "5 ft", "1,234", "0x10", "NaN", "1e99", "9" * 11
 
 
 class Column(NamedTuple):
-    """A text of records, what is converted, and how."""
+    """A text of records, the units of a conversion, and its options."""
 
     text: bytes
     source: str
@@ -61,13 +61,13 @@ class Column(NamedTuple):
         return words
 
     def words(self) -> List[str]:
-        """Return the words of tests/c/column.c."""
+        """Return the arguments of tests/c/column.c."""
         flags = [self.digits, int(self.is_exact), int(self.is_rounded), int(self.has_header), self.number]
         return [*map(str, flags), self.source, self.target]
 
 
 def random_number(rng: random.Random) -> str:
-    """Return a random number as a column may have it."""
+    """Return a random number in one of the forms that a column may have."""
     kind = rng.random()
     if kind < 0.3:
         return repr(rng.uniform(-1e6, 1e6))
@@ -80,15 +80,15 @@ def random_number(rng: random.Random) -> str:
     return f" .{rng.randrange(10**rng.randrange(1, 30))}\t"
 
 
-def quoted(rng: random.Random, field: str) -> str:
-    """Return a field as a record may have it: now and then with quotes that it does not need."""
+def quote(rng: random.Random, field: str) -> str:
+    """Return a field of a record, now and then with quotes that it does not need."""
     if any(byte in field for byte in ',"\r\n') or rng.random() < 0.05:
         return '"' + field.replace('"', '""') + '"'
     return field
 
 
 def random_column(rng: random.Random, number: int) -> Column:
-    """Return a column with so many numbers or faults."""
+    """Return a column with `number` cells, which are numbers or faults."""
     source, target = rng.choice(PAIRS)
     place = rng.choice([1, 1, 1, 2, 3])
     share_of_faults = rng.choice([0, 0.05])
@@ -100,7 +100,7 @@ def random_column(rng: random.Random, number: int) -> Column:
             fields = [cell]
         elif len(fields) >= place:
             fields[place - 1] = cell
-        records.append(",".join(quoted(rng, field) for field in fields))
+        records.append(",".join(quote(rng, field) for field in fields))
     if records and rng.random() < 0.1:
         records[rng.randrange(len(records))] = 'a quote " here and one, "that is not closed'
     text = rng.choice(["", "\ufeff"]) + rng.choice(["\n", "\r\n"]).join(records) + rng.choice(["", "\n"])
@@ -110,12 +110,12 @@ def random_column(rng: random.Random, number: int) -> Column:
 
 def rows_of(command: List[str], column: Column) -> Tuple[int, bytes]:
     """Return the status and the output of a command that reads the column."""
-    run = subprocess.run(command, input=column.text, stdout=subprocess.PIPE, stderr=subprocess.DEVNULL, check=False)
-    return run.returncode, run.stdout
+    process = subprocess.run(command, input=column.text, stdout=subprocess.PIPE, stderr=subprocess.DEVNULL, check=False)
+    return process.returncode, process.stdout
 
 
 def build(units: Path, folder: Path) -> Path:
-    """Return the C program."""
+    """Build the C program and return its path."""
     if not units.exists():
         subprocess.run([ROOT / "tools" / "c_library.sh", units], check=True)
     program = folder / "column"
@@ -132,16 +132,16 @@ def main() -> int:
     parser.add_argument("--units", type=Path)
     arguments = parser.parse_args()
     definitions = str(arguments.definitions)
-    built = subprocess.run([ROOT / "tools" / "built.sh", "units"], stdout=subprocess.PIPE, text=True, check=True)
+    output = subprocess.run([ROOT / "tools" / "built.sh", "units"], stdout=subprocess.PIPE, text=True, check=True)
     rng = random.Random(arguments.seed)
-    counts = [min(RECORDS, arguments.numbers - done) for done in range(0, arguments.numbers, RECORDS)]
+    counts = [min(RECORDS, arguments.numbers - start) for start in range(0, arguments.numbers, RECORDS)]
     wrong = refused = 0
     with tempfile.TemporaryDirectory() as name:
         program = build(arguments.units or Path(name, "units"), Path(name))
         for count in counts:
             column = random_column(rng, count)
             by_c = rows_of([str(program), *column.words(), definitions], column)
-            own = [built.stdout.strip(), "--file", definitions, *column.options(), "--", column.source, column.target]
+            own = [output.stdout.strip(), "--file", definitions, *column.options(), "--", column.source, column.target]
             by_program = rows_of(own, column)
             refused += by_c[1].count(b"error: ")
             if by_c != by_program or by_c[0] > 1:

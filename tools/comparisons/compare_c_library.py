@@ -1,12 +1,12 @@
 #!/usr/bin/env python3
-"""Asks random questions of the library from C, of the Python package over both back ends, and of the program: each has
-to give the same answer, byte for byte.
+"""Asks the library from C, the Python package with both back ends, and the program random questions. All have to give
+the same answer, byte for byte.
 
     tools/comparisons/compare_c_library.py [--questions N] [--seed S] [--definitions FILE] [--units FOLDER]
 
-Without N it asks 20,000. FILE is GNU units' definition file of Debian if it is installed, or else
-examples/first.units. FOLDER is what tools/c_library.sh made; it is made anew without. The last line is
-`N passed, M failed`, where a question counts as one.
+N is the number of questions, 20,000 by default. FILE is Debian's definition file of GNU units by default, or
+examples/first.units if that is not installed. FOLDER is the output of tools/c_library.sh, which runs if there is none.
+The last line is `N passed, M failed`, which counts questions.
 """
 
 from __future__ import annotations
@@ -68,19 +68,19 @@ def expression(rng: random.Random, names: List[str], depth: int = 3) -> str:
 
 
 def questions(count: int, seed: int, names: List[str]) -> List[Question]:
-    """Return random questions, of which half ask for a multiple of what they are of."""
+    """Return random questions; in half of them, TO is a multiple of FROM."""
     rng = random.Random(seed)
-    made = []
+    result = []
     for _ in range(count):
         source = expression(rng, names)
         target = expression(rng, names) if rng.random() < 0.5 else f"3 ({source})"
-        made.append(Question(source, target))
-    return made
+        result.append(Question(source, target))
+    return result
 
 
-def answers_of_c(program: Path, files: List[bytes], asked: List[Question]) -> List[Answers]:
-    """Return the reply and the value of each question, as a C program gets them."""
-    lines = "".join(f"{source}\n{target}\n" for source, target in asked).encode()
+def answers_of_c(program: Path, files: List[bytes], pairs: List[Question]) -> List[Answers]:
+    """Return the reply and the value of each question that a C program gets."""
+    lines = "".join(f"{source}\n{target}\n" for source, target in pairs).encode()
     output = subprocess.run([program, *files], input=lines, stdout=subprocess.PIPE, check=True).stdout
     texts, place = [], 0
     while place < len(output):
@@ -91,11 +91,11 @@ def answers_of_c(program: Path, files: List[bytes], asked: List[Question]) -> Li
     return list(zip(texts[::2], texts[1::2]))
 
 
-def answers_of_program(program: str, definitions: str, asked: List[Question]) -> List[Answers]:
-    """Return the same, as a session of the program writes it."""
+def answers_of_program(program: str, definitions: str, pairs: List[Question]) -> List[Answers]:
+    """Return the reply and the value of each question in a session of the program."""
     session = Session([program, "--compact", "--exact", "--one-line", "--strict", "--file", definitions])
     answers = []
-    for source, target in asked:
+    for source, target in pairs:
         reply = session.ask(source)
         wants = session.wants_target
         value = session.ask("").removesuffix(b"\n").rpartition(b"\n")[2] if wants else reply.removesuffix(b"\n")
@@ -108,7 +108,7 @@ def answers_of_program(program: str, definitions: str, asked: List[Question]) ->
 
 
 class Session:
-    """A session, which is read up to each prompt."""
+    """A session, whose output is read up to each prompt."""
 
     def __init__(self, command: List[str]) -> None:
         streams = {"stdin": subprocess.PIPE, "stdout": subprocess.PIPE, "stderr": subprocess.DEVNULL}
@@ -117,17 +117,17 @@ class Session:
         self._read()
 
     def _read(self) -> bytes:
-        written = b""
-        while not written.endswith((b"You have: ", b"You want: ")):
+        output = b""
+        while not output.endswith((b"You have: ", b"You want: ")):
             piece = os.read(self._process.stdout.fileno(), 1 << 16)
             if not piece:
                 raise SystemExit("compare_c_library: the session ended")
-            written += piece
-        self.wants_target = written.endswith(b"You want: ")
-        return written[:-10]
+            output += piece
+        self.wants_target = output.endswith(b"You want: ")
+        return output[:-10]
 
     def ask(self, line: str) -> bytes:
-        """Write a line, and return what is written up to the next prompt."""
+        """Write a line, and return the output up to the next prompt."""
         self._process.stdin.write(line.encode() + b"\n")
         return self._read()
 
@@ -137,7 +137,7 @@ class Session:
         self._process.wait()
 
 
-def shown(act: Callable[[], object]) -> str:
+def result_of(act: Callable[[], object]) -> str:
     """Return an answer of the package, or its exception by name and text."""
     try:
         return repr(act())
@@ -145,15 +145,15 @@ def shown(act: Callable[[], object]) -> str:
         return f"{type(fault).__name__}: {fault}"
 
 
-def differences(units: Tuple[Units, Units], asked: Question, c: Answers, program: Answers) -> str:
-    """Return where the answers to a question differ, or nothing."""
+def differences(units: Tuple[Units, Units], question: Question, c: Answers, program: Answers) -> str:
+    """Return how the answers to a question differ, or an empty text."""
     if c != program:
         return f"C {c}, the program {program}"
-    for call in (lambda u: u.convert(*asked), lambda u: u.value(asked.source)):
-        one, other = (shown(lambda u=u: call(u)) for u in units)
+    for call in (lambda u: u.convert(*question), lambda u: u.value(question.source)):
+        one, other = (result_of(lambda u=u: call(u)) for u in units)
         if one != other:
             return f"Python over the library {one}, over a session {other}"
-    number = shown(lambda: str(units[0].convert(*asked)).replace("/", "|"))
+    number = result_of(lambda: str(units[0].convert(*question)).replace("/", "|"))
     if not number.startswith(("NotAnExpression", "ConformabilityError")):
         reply = c[0].decode("utf-8", "surrogateescape").removesuffix("\n")
         if number.strip("'") != reply and number.partition(": ")[2] != reply:
@@ -162,7 +162,7 @@ def differences(units: Tuple[Units, Units], asked: Question, c: Answers, program
 
 
 def build(units: Path, folder: Path) -> Tuple[Path, Path]:
-    """Return the C program and the shared library."""
+    """Build the C program and return its path and that of the shared library."""
     if not units.exists():
         subprocess.run([ROOT / "tools" / "c_library.sh", units], check=True)
     source, answers = ROOT / "tests" / "c" / "answers.c", folder / "answers"
@@ -181,25 +181,25 @@ def main() -> int:
     definitions = str(arguments.definitions)
     program = subprocess.run([ROOT / "tools" / "built.sh", "units"], stdout=subprocess.PIPE, text=True, check=True)
     files = _read_with_includes(definitions.encode())
-    asked = questions(arguments.questions, arguments.seed, names_in(files))
+    pairs = questions(arguments.questions, arguments.seed, names_in(files))
     wrong = 0
     with tempfile.TemporaryDirectory() as name:
         folder = Path(name)
         answers, library = build(arguments.units or folder / "units", folder)
-        by_c = answers_of_c(answers, list(files), asked)
-        by_program = answers_of_program(program.stdout.strip(), definitions, asked)
+        by_c = answers_of_c(answers, list(files), pairs)
+        by_program = answers_of_program(program.stdout.strip(), definitions, pairs)
         over_library = Units(definitions, backend="library", library=str(library), variables={})
         over_session = Units(definitions, backend="session", program=program.stdout.strip(), variables={})
         with over_library, over_session:
-            for question, c, written in zip(asked, by_c, by_program):
-                difference = differences((over_library, over_session), question, c, written)
+            for question, c, expected in zip(pairs, by_c, by_program):
+                difference = differences((over_library, over_session), question, c, expected)
                 if difference:
                     wrong += 1
                     print(f"{question.source!r} to {question.target!r}: {difference}")
         refused = sum(not text[:1].isdigit() and not text.startswith(b"-") for text, _ in by_c)
-    print(f"{len(asked)} questions over {definitions}, {refused} of them refused")
-    print(f"{len(asked) - wrong} passed, {wrong} failed")
-    return int(wrong > 0 or len(by_c) != len(asked))
+    print(f"{len(pairs)} questions over {definitions}, {refused} of them refused")
+    print(f"{len(pairs) - wrong} passed, {wrong} failed")
+    return int(wrong > 0 or len(by_c) != len(pairs))
 
 
 if __name__ == "__main__":

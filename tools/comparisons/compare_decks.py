@@ -1,17 +1,17 @@
 #!/usr/bin/env python3
-"""Compares decks with a plain reading of definition files, over many random files and edits.
+"""Compares decks with a plain reading of definition files, on many random files and edits.
 
     tools/comparisons/compare_decks.py [DECKS] [SEED]
 
-makes DECKS sets of small files (300 where none is given) from the SEED (1 where none is given),
+makes DECKS sets of small files (300 by default) from the SEED (1 by default),
 with includes, blocks, variables, faulty lines and continuations, has the program of
 crates/deck_calls load one, edit it and answer after each edit, and compares each answer with that
 of lists which are gone through whole. It prints the first differences and a line with the counts,
-and ends with status 1 where there is a difference.
+and ends with status 1 if there is a difference.
 
     tools/comparisons/compare_decks.py --answer < CALLS
 
-answers calls as the lists have it, over the files of the folder it stands in.
+answers calls by the lists, with the files of the current folder.
 """
 
 import os
@@ -32,13 +32,13 @@ SHOWN = 5  # how many differences are printed
 
 
 def without_order(answer):
-    """In which order changed keys are answered is told nowhere."""
+    """The answer with changed keys sorted, since no contract fixes their order."""
     word, _, keys = answer.partition(": ")
     return f"{word}: {joined(sorted(keys.split(' | ')))}" if word == "changed" else answer
 
 
-def compared(r, folder):
-    """The calls of a set of files, and where the program answers otherwise."""
+def compare(r, folder):
+    """The calls on a set of files, and the places at which the program gives other answers."""
     os.chdir(folder)
     for name in ("dir", "sub", "sub/dir"):
         os.makedirs(name, exist_ok=True)
@@ -59,7 +59,7 @@ def compared(r, folder):
 
 
 def show(calls, at, want, got):
-    """A difference, with the files and the edits before it."""
+    """Prints a difference, the files, and the edits before it."""
     for name in NAMES + LEAVES:
         print(f"    {name}: {Path(name).read_bytes()!r}")
     edits = [call for call, answer in calls[:at] if answer == "ok" or answer.startswith("changed")]
@@ -77,7 +77,7 @@ def main():
     tally, differences = Counter(), 0
     for _ in range(decks):
         with tempfile.TemporaryDirectory() as folder:
-            calls, wrong = compared(r, folder)
+            calls, wrong = compare(r, folder)
             for difference in wrong[: max(0, SHOWN - differences)]:
                 show(calls, *difference)
             os.chdir("/")

@@ -1,16 +1,16 @@
 #!/usr/bin/env python3
-"""Compares linked edges with a plain list of edges, over many random calls.
+"""Compares linked edges with a plain list of edges, on many random calls.
 
     tools/comparisons/compare_edges.py [CALLS] [SEED]
 
 makes CALLS calls (10000 where none is given) over a few nodes from the SEED (1 where none is
 given), has the program of crates/edge_calls answer them, and compares each answer with that of a
 list which is searched whole. It prints the first differences and a line with the counts, and ends
-with status 1 where there is a difference.
+with status 1 if there is a difference.
 
     tools/comparisons/compare_edges.py --answer < CALLS
 
-answers calls by the list, the users of a key in the order of their numbers.
+answers calls by the list; the users of a key are in the order of their numbers.
 """
 
 import random
@@ -35,12 +35,12 @@ class Edges:
         self.spare = 0
 
     def affected(self, key):
-        """The key, and each node from which it is reached."""
-        found, last = {key}, set()
-        while found != last:
-            last = set(found)
-            found |= {user for user, leads_to in self.edges if leads_to in found}
-        return found
+        """The key, and each node that reaches it."""
+        nodes, last = {key}, set()
+        while nodes != last:
+            last = set(nodes)
+            nodes |= {user for user, leads_to in self.edges if leads_to in nodes}
+        return nodes
 
     def link(self, user, key):
         if self.spare == 0:
@@ -50,26 +50,26 @@ class Edges:
         return "ok"
 
     def unsettle(self, key):
-        gone = self.affected(key)
-        kept = [edge for edge in self.edges if edge[0] not in gone]
-        self.spare += len(self.edges) - len(kept)
-        self.edges = kept
-        return spelled(sorted(gone))
+        affected = self.affected(key)
+        edges = [edge for edge in self.edges if edge[0] not in affected]
+        self.spare += len(self.edges) - len(edges)
+        self.edges = edges
+        return numbers_text(sorted(affected))
 
     def users(self, key):
-        return spelled(sorted(user for user, leads_to in self.edges if leads_to == key))
+        return numbers_text(sorted(user for user, leads_to in self.edges if leads_to == key))
 
     def reserve(self, room):
         self.spare = max(self.spare, room)
         return "ok"
 
 
-def spelled(numbers):
+def numbers_text(numbers):
     return " ".join(map(str, numbers)) or "none"
 
 
 def random_calls(count):
-    """Calls with the answers of the list. All nodes come first, and room for a few edges at once."""
+    """Calls with the answers of the list. All nodes come first."""
     edges = Edges()
     yield from (("node", str(node)) for node in range(NODES))
     for _ in range(count):
@@ -89,7 +89,7 @@ def random_calls(count):
 
 
 def answers(calls):
-    """The answers of the list to calls on nodes that are there."""
+    """The answers of the list to calls on existing nodes."""
     edges, nodes = Edges(), 0
     for word, *numbers in map(str.split, calls):
         if word == "node":
@@ -114,13 +114,13 @@ def main():
     if len(told) != len(calls):
         sys.exit(f"{len(told)} answers to {len(calls)} calls")
     differences = 0
-    for (call, wanted), answer in zip(calls, told):
+    for (call, expected), answer in zip(calls, told):
         if call.startswith("users") and answer != "none":
-            answer = spelled(sorted(map(int, answer.split())))
-        if answer != wanted:
+            answer = numbers_text(sorted(map(int, answer.split())))
+        if answer != expected:
             differences += 1
             if differences <= SHOWN:
-                print(f"{call}: {answer}, not {wanted}")
+                print(f"{call}: {answer}, not {expected}")
     kinds = Counter(call.split()[0] for call, _ in calls)
     print(", ".join(f"{n} {kind}" for kind, n in sorted(kinds.items())), f"- {differences} differences")
     sys.exit(differences > 0)

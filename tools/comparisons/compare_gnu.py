@@ -1,11 +1,11 @@
 #!/usr/bin/env python3
-"""Asks the program and GNU units what each unit of GNU's own definitions is, and shows where they differ.
+"""Asks the program and GNU units for the value of each unit of GNU's own definitions, and shows the differences.
 
     tools/comparisons/compare_gnu.py GNU DEFINITIONS [PROGRAM]
 
-GNU is the command of GNU units, DEFINITIONS its definition file (with the files that it includes beside it), PROGRAM
-the program, bin/units where none is named. Of each unit that GNU units answers as a number with dimensions, the program
-answers the same, by 12 digits, or refuses by name: what it refuses is listed by fault. By hand; it proves nothing.
+GNU is the command of GNU units, DEFINITIONS its definition file, in the folder of its includes, and PROGRAM the
+program, bin/units by default. If GNU units answers with a number with dimensions, the program has to give the same one,
+to 12 digits, or to refuse it; refusals are counted by fault. Run it by hand; it proves nothing.
 """
 
 import re
@@ -19,12 +19,12 @@ from pathlib import Path
 ROOT = Path(__file__).resolve().parents[2]
 DIGITS = "12"
 TOLERANCE = Decimal("1e-11")  # GNU units computes in doubles
-MARK = "8675309 kg"  # asked between two names, so that each has its own lines
+MARK = "8675309 kg"  # a query between two names, which separates their answers
 
 
 def names_in(file):
-    """The names of units that a definition file and its includes define, each once, in order, with the first words
-    behind it."""
+    """The names of units that a definition file and its includes define, in order, each with the first word of its
+    definition."""
     names = {}
     text = file.read_text(encoding="utf-8", errors="surrogateescape").replace("\\\n", " ")
     for line in text.split("\n"):
@@ -36,16 +36,16 @@ def names_in(file):
     return names
 
 
-def parsed(text, without=()):
-    """A number and its dimensions, but for some names, or nothing."""
-    above, _, below = text.strip().partition("/")
-    number, *above = above.split() or [""]
+def parse(text, without=()):
+    """A number and its dimensions without some names, or None."""
+    numerator, _, denominator = text.strip().partition("/")
+    number, *numerator = numerator.split() or [""]
     try:
         number = Decimal(number)
     except InvalidOperation:
         return None
     dimensions = Counter()
-    for sign, words in ((1, above), (-1, below.split())):
+    for sign, words in ((1, numerator), (-1, denominator.split())):
         for word in words:
             name, _, power = word.partition("^")
             if not re.fullmatch(r"[0-9]*", power):
@@ -55,20 +55,20 @@ def parsed(text, without=()):
 
 
 def answers_of_gnu(gnu, file, names):
-    """What GNU units answers for each name, if that is a number with dimensions.
+    """The answer of GNU units for each name, if it is a number with dimensions.
 
-    A dimensionless primitive, such as the radian, is no dimension here.
+    A dimensionless primitive, such as the radian, is not a dimension here.
     """
     dimensionless = {name for name, words in names.items() if words == ["!dimensionless"]}
     lines = "".join(f"{MARK}\n\n{name}\n\n" for name in names) + f"{MARK}\n\n"
-    asked = subprocess.run(
+    process = subprocess.run(
         [gnu, "-q", "-d", DIGITS, "-f", file],
         input=lines.encode(errors="surrogateescape"),
         stdout=subprocess.PIPE,
         stderr=subprocess.STDOUT,
         check=True,
     )
-    text = asked.stdout.decode(errors="surrogateescape")
+    text = process.stdout.decode(errors="surrogateescape")
     parts = text.split(f"\tDefinition: {MARK}\n")[1:-1]
     if len(parts) != len(names):
         parts = re.split(rf"\s*Definition: {MARK}\n", text)[1:-1]
@@ -76,25 +76,25 @@ def answers_of_gnu(gnu, file, names):
     for name, part in zip(names, parts):
         line = part.strip()
         if line.startswith("Definition: ") and "\n" not in line:
-            worth = parsed(line.removeprefix("Definition: ").split(" = ")[-1], dimensionless)
-            if worth and worth[1]:
-                yield name, worth
+            value = parse(line.removeprefix("Definition: ").split(" = ")[-1], dimensionless)
+            if value and value[1]:
+                yield name, value
 
 
 def answer_of(program, file, name):
-    """What the program answers, and whether it refuses."""
+    """The answer of the program, and its status."""
     words = [program, "-d", DIGITS, "--compact", "-f", file, "--", name]
-    asked = subprocess.run(
+    process = subprocess.run(
         [word.encode(errors="surrogateescape") if isinstance(word, str) else word for word in words],
         stdout=subprocess.PIPE,
         stderr=subprocess.DEVNULL,
         check=False,
     )
-    return asked.stdout.decode(errors="surrogateescape").rstrip("\n"), asked.returncode
+    return process.stdout.decode(errors="surrogateescape").rstrip("\n"), process.returncode
 
 
 def agree(ours, theirs):
-    """Whether two numbers with dimensions are the same, by the digits that are compared."""
+    """Whether two numbers with dimensions are equal, to the digits that are compared."""
     if ours is None or ours[1] != theirs[1]:
         return False
     return abs(ours[0] - theirs[0]) <= TOLERANCE * abs(theirs[0])
@@ -105,23 +105,23 @@ def main():
         sys.exit(__doc__)
     gnu, file = sys.argv[1], Path(sys.argv[2]).resolve()
     program = sys.argv[3] if len(sys.argv) == 4 else str(ROOT / "bin/units")
-    wanted = list(answers_of_gnu(gnu, file, names_in(file)))
+    expected = list(answers_of_gnu(gnu, file, names_in(file)))
     with ThreadPoolExecutor(4) as pool:
-        answers = list(pool.map(lambda pair: answer_of(program, file, pair[0]), wanted))
-    agreed, refused, differ = 0, Counter(), []
-    for (name, worth), (text, status) in zip(wanted, answers):
+        answers = list(pool.map(lambda pair: answer_of(program, file, pair[0]), expected))
+    agreements, refusals, differences = 0, Counter(), []
+    for (name, value), (text, status) in zip(expected, answers):
         if status == 1:
-            refused[re.split(r"[:]", text)[0]] += 1
-        elif status == 0 and agree(parsed(text), worth):
-            agreed += 1
+            refusals[re.split(r"[:]", text)[0]] += 1
+        elif status == 0 and agree(parse(text), value):
+            agreements += 1
         else:
-            differ.append(f"{name}: {text!r} with status {status}, and GNU units says {worth}")
-    for line in differ:
+            differences.append(f"{name}: {text!r} with status {status}, and GNU units says {value}")
+    for line in differences:
         print(line)
-    for fault, count in refused.most_common():
+    for fault, count in refusals.most_common():
         print(f"refused, {fault}: {count}")
-    print(f"{len(wanted)} names, {agreed} agree, {sum(refused.values())} refused, {len(differ)} differ")
-    sys.exit(1 if differ else 0)
+    print(f"{len(expected)} names, {agreements} agree, {sum(refusals.values())} refused, {len(differences)} differ")
+    sys.exit(1 if differences else 0)
 
 
 if __name__ == "__main__":

@@ -1,23 +1,23 @@
 #!/usr/bin/env python3
-"""Compares a live table with plain recursion over its definitions, over random tables and queries.
+"""Compares a live table with plain recursion over its definitions, on random tables and queries.
 
     tools/comparisons/compare_live.py [TABLES] [SEED]
 
-makes TABLES tables (400 where none is given) from the SEED (1 where none is given), with cycles,
+makes TABLES tables (400 by default) from the SEED (1 by default), with cycles,
 prefixes, plurals, functions, aliases, tables of points and lists, has the program of
 crates/live_calls answer queries of each, and then queries with edits between them, and compares each answer, and
 the counts after each query and edit. Then it does the same with a ring of 20,000 names and with a chain of 60,000.
 
     tools/comparisons/compare_live.py --definitions FILE
 
-asks for each name of a file in turn, in a random order, and compares the answers.
+queries each name of a file, in a random order, and compares the answers.
 
     tools/comparisons/compare_live.py --answer < CALLS
 
-answers calls by the recursion, edits too, over the files of the folder it stands in.
+answers calls, edits among them, by recursion, with the files of the current folder.
 
-Decks are those of plain_decks.py, and values those of plain_tables.py. A name fault is sought
-along each path, and what is reached from each query on; in large tables no name is gone through again.
+Decks are those of plain_decks.py, and values those of plain_tables.py. Each query follows every
+path from its names to find faults and reachable names; in large tables it visits each name once.
 """
 
 import itertools
@@ -47,7 +47,7 @@ class Board:
     """Answers calls as live_calls does."""
 
     def __init__(self, load):
-        """The table that a line loads, or why there is none."""
+        """Loads the table of a line, or stores why there is none."""
         self.decks, self.live, self.refusal = plain_decks.Board(), None, "no deck"
         if load.startswith("load "):
             try:
@@ -71,7 +71,7 @@ class Board:
         return "ok"
 
     def edit(self, word, rest):
-        """Whether an edit is made. A switch names its locale, and a splice leaves the settings."""
+        """Makes an edit and returns the answer. A switch names its locale, and a splice keeps the settings."""
         deck = self.decks.deck
         self.decks.locale, self.decks.vars = (rest, {}) if word == "switch" else (deck.locale, dict(deck.vars))
         answer = self.decks.answer(f"{word} {rest}" if rest and word != "switch" else word)
@@ -89,7 +89,7 @@ class Board:
 
 
 def answers_by_recursion(calls):
-    """The board of the first of some calls, and the answers to all; where there is no table, the first alone."""
+    """The board that the first call loads, and the answers to all calls, or to the first one if there is no table."""
     board = Board(calls[0] if calls else "")
     return board, [board.refusal, *(board.answer(call) for call in calls[1:] if board.live)]
 
@@ -101,27 +101,27 @@ def answers_of_program(calls):
 
 
 class Tally:
-    """Compares answers, shows the first that differ, and counts."""
+    """Compares and counts answers, and shows the first that differ."""
 
     def __init__(self):
         self.kinds, self.differences = Counter(), 0
 
     def compare(self, calls):
-        """Compares the answers to a load and to the calls behind it."""
-        board, wanted = answers_by_recursion(calls)
+        """Compares the answers to a load and to the calls after it."""
+        board, expected = answers_by_recursion(calls)
         answers = answers_of_program(calls)
-        if len(answers) != len(wanted):
-            sys.exit(f"{calls[0]}: {len(answers)} answers in the place of {len(wanted)}")
-        for at, (call, want, got) in enumerate(zip(calls, wanted, answers)):
+        if len(answers) != len(expected):
+            sys.exit(f"{calls[0]}: {len(answers)} answers instead of {len(expected)}")
+        for at, (call, want, answer) in enumerate(zip(calls, expected, answers)):
             self.kinds[kind_of(call, want)] += 1
-            if got != want:
+            if answer != want:
                 self.differences += 1
                 if self.differences <= SHOWN:
-                    show(board, calls[: at + 1], want, got)
+                    show(board, calls[: at + 1], want, answer)
 
-    def say(self, what):
+    def say(self, title):
         print(", ".join(f"{count} {kind}" for kind, count in self.kinds.most_common()))
-        print(f"{what}: {self.kinds.total()} answers, {self.differences} differences")
+        print(f"{title}: {self.kinds.total()} answers, {self.differences} differences")
         return self.differences > 0
 
 
@@ -139,7 +139,7 @@ def show(board, calls, want, got):
 
 
 def random_runs(r, tables):
-    """Writes tables into the present folder, and gives calls on each, and then the same with edits."""
+    """Writes tables to the current folder; yields calls on each, and the same calls with edits."""
     for at in range(tables):
         (lines, queries), (others, _) = tables_at_random.table(r), tables_at_random.table(r)
         Path(f"{at}.units").write_text("".join(line + "\n" for line in lines))
@@ -151,7 +151,7 @@ def random_runs(r, tables):
 
 
 def random_edit(r, lines, others, more):
-    """An edit of a deck of some lines, with lines of another one."""
+    """An edit of a deck with these lines; `others` are lines to add, `more` is a file of them."""
     kind = r.choices(EDITS, [4, 4, 4, 1, 4, 4])[0]
     if kind == "define":
         return f"define {r.choice(others)}"
@@ -162,8 +162,8 @@ def random_edit(r, lines, others, more):
     if kind == "append":
         return f"append {more}"
     if kind == "splice":
-        put = ";".join(line for line in r.sample(others, 2) if ";" not in line)
-        return f"splice {r.randrange(len(lines))} {r.randrange(3)} {put}"
+        new_lines = ";".join(line for line in r.sample(others, 2) if ";" not in line)
+        return f"splice {r.randrange(len(lines))} {r.randrange(3)} {new_lines}"
     return kind
 
 
@@ -179,7 +179,7 @@ def long_runs():
 
 
 def definition_runs(r, file):
-    """Calls that ask for each name of a file in a random order, and for all at once."""
+    """Calls that query each name of a file in a random order, and calls that settle all at once."""
     yield [f"load {file}", "settle", "counts"]
     keys = list(Board(f"load {file}").live.entries)
     r.shuffle(keys)

@@ -1,12 +1,12 @@
 #!/usr/bin/env python3
-"""Compares the number libraries with Python's exact numbers, over many random calls.
+"""Compares the number libraries with Python's exact numbers, on many random calls.
 
     tools/comparisons/compare_numbers.py [CALLS] [SEED]
 
 makes CALLS calls of each kind (100000 where none is given) from the SEED (1 where none is
 given), near the limits of the libraries, has the program of crates/number_calls answer them, and
 compares each answer with the one that Python's int, Fraction and Decimal give. It prints a line
-for each kind and the first differences, and ends with status 1 where there is a difference.
+for each kind and the first differences, and ends with status 1 if there is a difference.
 """
 
 import math
@@ -59,7 +59,7 @@ def new_answer(n, d):
 
 
 def sum_answer(x, y):
-    """Over the least common multiple: it, both numerators over it and their sum are in range."""
+    """Adds over the least common multiple, which has to be in range with both numerators and their sum."""
     multiple = math.lcm(x.denominator, y.denominator)
     left = x.numerator * (multiple // x.denominator)
     right = y.numerator * (multiple // y.denominator)
@@ -75,12 +75,12 @@ def quotient_answer(x, y):
 def power_answer(x, k):
     if x == 0 and k < 0:
         return "division by zero"
-    # Past 127 only the parity counts: a part of 2 or more has left the range by then.
+    # Beyond 127 only the parity matters: a part of 2 or more is out of range by then.
     return answer(x ** (k if abs(k) <= 127 else 128 + k % 2))
 
 
 def whole_root(n, q):
-    """The whole number whose power to q is n, or None."""
+    """The whole number whose q-th power is n, or None."""
     root = root_below(n, q) if n > 0 else 0
     return root if root**q == n else None
 
@@ -97,13 +97,13 @@ def order_answer(x, y):
 
 
 def digits_answer(x, count):
-    """Decimal rounds a quotient once, a tie to the even digit, and 9.5 at one digit up to 10."""
+    """Decimal rounds a quotient once, ties to even; 9.5 to one digit becomes 10."""
     if x == 0:
         return "0"
     context = Context(prec=count, rounding=ROUND_HALF_EVEN, Emax=999, Emin=-999)
-    rounded = context.divide(Decimal(abs(x.numerator)), Decimal(x.denominator))
-    digits = "".join(map(str, rounded.as_tuple().digits)).rstrip("0")
-    power = rounded.adjusted()
+    decimal = context.divide(Decimal(abs(x.numerator)), Decimal(x.denominator))
+    digits = "".join(map(str, decimal.as_tuple().digits)).rstrip("0")
+    power = decimal.adjusted()
     if power < -4 or power >= count:
         mark = f"e{'-' if power < 0 else '+'}{abs(power):02}"
         text = digits[0] + ("." + digits[1:] if digits[1:] else "") + mark
@@ -119,16 +119,16 @@ NUMERAL = re.compile(rb"([0-9]+(?:\.[0-9]*)?|\.[0-9]+)(?:[eE]([+-]?[0-9]+))?")
 
 
 def length_answer(text):
-    found = NUMERAL.match(text)
-    return str(found.end() if found else 0)
+    match = NUMERAL.match(text)
+    return str(match.end() if match else 0)
 
 
 def numeral_answer(text):
-    found = NUMERAL.fullmatch(text)
-    if not found:
+    match = NUMERAL.fullmatch(text)
+    if not match:
         return "not a numeral"
-    whole, _, places = found[1].partition(b".")
-    digits, exponent = whole + places, int(found[2] or b"0")
+    whole, _, places = match[1].partition(b".")
+    digits, exponent = whole + places, int(match[2] or b"0")
     coefficient = int(digits.strip(b"0") or b"0")
     if coefficient > MOST or abs(exponent) > MOST_EXPONENT:
         return "too long"
@@ -142,8 +142,8 @@ def numeral_answer(text):
 # Calls
 
 
-def written(r, x):
-    """A fraction as an argument, which may have a common factor in both parts."""
+def as_argument(r, x):
+    """A fraction as an argument; its parts may have a common factor."""
     n, d = x.numerator, x.denominator
     if r.randrange(3) == 0:
         factor = r.randrange(1, 1 + min(MOST // max(abs(n), d), 2 ** r.randrange(1, 128)))
@@ -154,7 +154,7 @@ def written(r, x):
 def one(answer):
     def make(r, word):
         x = single(r)
-        return f"{word} {written(r, x)}".encode(), answer(x)
+        return f"{word} {as_argument(r, x)}".encode(), answer(x)
 
     return make
 
@@ -162,7 +162,7 @@ def one(answer):
 def two(operands, other, answer):
     def make(r, word):
         x, y = operands(r, other)
-        return f"{word} {written(r, x)} {written(r, y)}".encode(), answer(x, y)
+        return f"{word} {as_argument(r, x)} {as_argument(r, y)}".encode(), answer(x, y)
 
     return make
 
@@ -170,7 +170,7 @@ def two(operands, other, answer):
 def with_number(operands, answer):
     def make(r, word):
         x, number = operands(r)
-        return f"{word} {written(r, x)} {number}".encode(), answer(x, number)
+        return f"{word} {as_argument(r, x)} {number}".encode(), answer(x, number)
 
     return make
 
@@ -182,7 +182,7 @@ def new_call(r, word):
 
 def digits_call(r, word):
     x, count = printed(r)
-    return f"{word} {count} {written(r, x)}".encode(), digits_answer(x, count)
+    return f"{word} {count} {as_argument(r, x)}".encode(), digits_answer(x, count)
 
 
 def text_call(answer):
@@ -225,8 +225,8 @@ KINDS = {
 }
 
 
-def compared(kind, make, count, seed):
-    """How many answers of a kind differ."""
+def compare(kind, make, count, seed):
+    """Compares calls of a kind and returns how many answers differ."""
     r = random.Random(f"{seed} {kind}")
     calls = [make(r, kind) for _ in range(count)]
     lines = b"".join(line + b"\n" for line, _ in calls)
@@ -248,7 +248,7 @@ def main():
     sys.set_int_max_str_digits(0)
     count = int(sys.argv[1]) if len(sys.argv) > 1 else 100_000
     seed = sys.argv[2] if len(sys.argv) > 2 else "1"
-    differences = sum(compared(kind, make, count, seed) for kind, make in KINDS.items())
+    differences = sum(compare(kind, make, count, seed) for kind, make in KINDS.items())
     print(f"{count * len(KINDS)} calls, {differences} differences")
     sys.exit(1 if differences else 0)
 

@@ -1,5 +1,5 @@
 #!/usr/bin/env python3
-"""Compares reports on tables with plain recursion over their definitions, over random tables.
+"""Compares reports on random tables with plain recursion over their definitions.
 
     tools/comparisons/compare_reports.py [TABLES] [SEED]
 
@@ -14,15 +14,15 @@ does the same with the definitions of a file.
 
     tools/comparisons/compare_reports.py --answer < CALLS
 
-answers calls by the recursion, over the files of the folder it stands in.
+answers calls by recursion, with the files of the current folder.
 
     tools/comparisons/compare_reports.py --prefixes FILE
 
-writes what a check of each prefix of a file writes, the shortest first, which is looked for as `p.units`: its notices,
+prints the report of a check of each prefix of a file, the shortest first, which is saved as `p.units`: its notices,
 the faults of its keys, and a line with the status.
 
-Tables and their faults are those of plain_live.py. A prefix is told as faulty where its own entry
-is, gone through from the prefix on. All numbers are exact.
+Tables and their faults are those of plain_live.py. A prefix has a fault if its own entry has one.
+All numbers are exact.
 """
 
 import os
@@ -64,7 +64,7 @@ class Reports:
             if key[0] == "list":
                 return self.list_fault(self.live.entries[key])
             fault = self.live.name_fault(self.live.uses(key), [key])
-            return fault or (self.function_fault(key[1]) if key[0] == "function" else told(self.live.outcome(key)))
+            return fault or (self.function_fault(key[1]) if key[0] == "function" else text_of(self.live.outcome(key)))
         except Fault as fault:
             return str(fault)
 
@@ -83,8 +83,8 @@ class Reports:
         parts = [self.live.value_of(part.strip(BLANKS)) for part in text.split(";")]
         if any(part.exponents != parts[0].exponents for part in parts):
             return "conformability error"
-        bad = [at for at, part in enumerate(parts, 1) if part.value <= 0]
-        return f"list unit not positive: {bad[0]}" if bad else None
+        not_positive = [at for at, part in enumerate(parts, 1) if part.value <= 0]
+        return f"list unit not positive: {not_positive[0]}" if not_positive else None
 
     def search(self, text):
         for key in self.keys:
@@ -110,12 +110,12 @@ class Reports:
             return [str(fault), "refused"]
 
 
-def told(outcome):
+def text_of(outcome):
     return str(outcome) if isinstance(outcome, Fault) else None
 
 
 def deck_of(name):
-    """The deck of a file, or nothing where it is none."""
+    """The deck of a file, or None if it is refused."""
     board = Board()
     try:
         board.load(Files(), name)
@@ -125,13 +125,13 @@ def deck_of(name):
 
 
 def reports_on(name):
-    """The reports on the deck of a file, or nothing where it is none."""
+    """The reports on the deck of a file, or None if it is refused."""
     deck = deck_of(name)
     return deck and Reports({key: text for key, (text, _) in deck.table().items()})
 
 
 def prefix_lines(file):
-    """What checks of all prefixes of a file write."""
+    """The lines of checks of all prefixes of a file."""
     whole = Path(file).read_bytes()
     with tempfile.TemporaryDirectory() as folder:
         os.chdir(folder)
@@ -143,7 +143,7 @@ def prefix_lines(file):
 
 
 def answers_of_program(name, calls):
-    """The lines of each answer; the options that are set before each call mark where it begins."""
+    """The lines of each answer. Options are set before each call, to mark where its answer begins."""
     lines = [f"load {name}", *(line for call in calls for line in ("options exact", call))]
     given = "".join(line + "\n" for line in lines).encode("latin-1")
     run = subprocess.run([program(PROGRAM)], input=given, stdout=subprocess.PIPE, check=True)
@@ -158,20 +158,20 @@ class Tally:
 
     def compare(self, name, calls):
         reports = reports_on(name)
-        wanted = [reports.answer(call) for call in calls]
-        got = answers_of_program(name, calls)
-        if len(got) != len(wanted):
-            sys.exit(f"{name}: {len(got)} answers in the place of {len(wanted)}")
-        self.lines += sum(map(len, wanted))
-        self.answers += len(wanted)
-        for call, want, have in zip(calls, wanted, got):
-            if have != want:
+        expected = [reports.answer(call) for call in calls]
+        answers = answers_of_program(name, calls)
+        if len(answers) != len(expected):
+            sys.exit(f"{name}: {len(answers)} answers instead of {len(expected)}")
+        self.lines += sum(map(len, expected))
+        self.answers += len(expected)
+        for call, lines_wanted, lines in zip(calls, expected, answers):
+            if lines != lines_wanted:
                 self.differences += 1
                 if self.differences <= SHOWN:
-                    show(name, call, want, have)
+                    show(name, call, lines_wanted, lines)
 
-    def say(self, what):
-        print(f"{what}: {self.answers} answers of {self.lines} lines, {self.differences} differences")
+    def say(self, title):
+        print(f"{title}: {self.answers} answers of {self.lines} lines, {self.differences} differences")
         return self.differences > 0
 
 
@@ -189,21 +189,21 @@ def random_lists(r):
         yield f"!unitlist {name} {'; '.join(r.choice(PARTS) for _ in range(r.randrange(1, 4)))}"
 
 
-def random_calls(r, made):
-    names = [name for _, name in made.keys]
+def random_calls(r, maker):
+    names = [name for _, name in maker.keys]
     texts = ["", "nosuch", "()", "-", "1", r.choice(names) + r.choice("ab"), *sorted(set("".join(names)))]
     calls = ["check", *(f"search {text}" for text in texts)]
-    calls += [f"conformable {made.sum(made.keys, 2)}" for _ in range(10)]
+    calls += [f"conformable {maker.sum(maker.keys, 2)}" for _ in range(10)]
     r.shuffle(calls)
     return [*calls, "check"]
 
 
 def compare_random(tally, r, tables):
     for at in range(tables):
-        made = tables_at_random.Made(r)
-        lines = [*made.lines, *random_lists(r)]
+        maker = tables_at_random.Made(r)
+        lines = [*maker.lines, *random_lists(r)]
         Path(f"{at}.units").write_text("".join(line + "\n" for line in lines))
-        tally.compare(f"{at}.units", random_calls(r, made))
+        tally.compare(f"{at}.units", random_calls(r, maker))
 
 
 def compare_definitions(tally, file):

@@ -1,13 +1,13 @@
 #!/usr/bin/env python3
-"""Compares the parser of expressions with the plain rules for tokens, over many token lists.
+"""Compares the parser of expressions with plain rules for tokens, on many token lists.
 
     tools/comparisons/compare_trees.py [LONGEST] [RANDOM] [SEED]
 
-spells all token lists up to the length LONGEST (5 where none is given), and RANDOM longer ones
+writes all token lists up to the length LONGEST (5 by default), and RANDOM longer ones
 (200000 where none is given) from the SEED (1 where none is given), has the program of
 crates/text_calls parse them, and compares each tree or fault with the one that the rules of
 tools/models/plain_trees.py give. It prints a line for each kind of list and the first
-differences, and ends with status 1 where there is a difference.
+differences, and ends with status 1 if there is a difference.
 """
 
 import itertools
@@ -23,7 +23,7 @@ from plain_trees import DEEPEST, MARKS, Token, first_fault, opened, sum_tree  # 
 
 PROGRAM = "text_calls"
 SHOWN = 5  # how many differences of a kind are printed
-BATCH = 200_000  # how many lines one run of the program takes
+BATCH = 200_000  # how many lines one run of the program gets
 
 ALPHABET = [
     Token("numeral", "2"),
@@ -53,14 +53,14 @@ OTHERS = [
     Token("bad", "["),
     Token("bad", ";"),
 ]
-TREES = "([0123456789"  # what a tree may begin with
+TREES = "([0123456789"  # the first characters of trees
 
 
 # Texts
 
 
 def needs_blank(left, right):
-    """Without a blank the two would be other tokens."""
+    """Whether two tokens need a blank between them; without it they would be other tokens."""
     word_like = right.text[0].isalnum() or right.text[0] == "."
     if left.text[-1].isalnum() and word_like:
         return True
@@ -71,8 +71,8 @@ def needs_blank(left, right):
     return left.text[-1] == "*" and right.text[0] == "*"
 
 
-def spelled(tokens, blank):
-    """A text of these tokens, and the place of each."""
+def text_of(tokens, blank):
+    """The text of these tokens, and the place of each."""
     text, places = "", []
     for i, token in enumerate(tokens):
         if i > 0:
@@ -82,7 +82,7 @@ def spelled(tokens, blank):
     return text, places
 
 
-def answered(tokens, text, places, binder):
+def expected_answer(tokens, text, places, binder):
     fault = first_fault(tokens, places, len(text))
     return fault if fault else sum_tree(tokens, binder)
 
@@ -90,16 +90,16 @@ def answered(tokens, text, places, binder):
 def every_list(longest):
     for length in range(longest + 1):
         for tokens in itertools.product(ALPHABET, repeat=length):
-            yield list(tokens), *spelled(tokens, lambda needed: " "), None
+            yield list(tokens), *text_of(tokens, lambda is_needed: " "), None
 
 
-def derived(r, budget):
+def random_sum(r, budget):
     """The tokens of a random sum."""
     tokens = []
     while True:
         if r.randrange(4) == 0:
             tokens.append(Token(*r.choice(["--", "++"])))
-        tokens += derived_power(r, budget)
+        tokens += random_power(r, budget)
         choice = r.randrange(8)
         if choice < 3 or budget <= 0:
             return tokens
@@ -109,17 +109,17 @@ def derived(r, budget):
         budget -= 1
 
 
-def derived_power(r, budget):
-    tokens = derived_atom(r, budget)
+def random_power(r, budget):
+    tokens = random_atom(r, budget)
     if r.randrange(4) == 0:
         tokens.append(Token("^", r.choice(["^", "**"])))
         if r.randrange(3) == 0:
             tokens.append(Token(*r.choice(["--", "++"])))
-        tokens += derived_power(r, budget - 1)
+        tokens += random_power(r, budget - 1)
     return tokens
 
 
-def derived_atom(r, budget):
+def random_atom(r, budget):
     choice = r.randrange(9 if budget > 0 else 4)
     if choice < 4:
         pool = [token for token in ALPHABET + OTHERS if token.kind in ("numeral", "word", "power")]
@@ -127,7 +127,7 @@ def derived_atom(r, budget):
         if token.kind == "numeral" and r.randrange(3) == 0:
             return [token, Token("|", "|"), Token("numeral", "7")]
         return [token]
-    inner = [*derived(r, budget - 2), Token(")", ")")]
+    inner = [*random_sum(r, budget - 2), Token(")", ")")]
     if choice == 4:
         return [Token("root", r.choice(["sqrt", "cuberoot"])), Token("(", "("), *inner]
     if choice == 5:
@@ -137,8 +137,8 @@ def derived_atom(r, budget):
     return [Token("(", "("), *inner]
 
 
-def changed(r, tokens):
-    """The tokens with some replaced, taken out or put in."""
+def mutate(r, tokens):
+    """The tokens with some replaced, removed or inserted."""
     tokens = list(tokens)
     for _ in range(r.choice([0, 0, 1, 1, 2])):
         i = r.randrange(len(tokens) + 1)
@@ -147,9 +147,9 @@ def changed(r, tokens):
 
 
 def deep(r):
-    """Tokens whose depth is about the limit."""
-    tokens, wanted = [], DEEPEST + r.randrange(-2, 3)
-    for _ in range(wanted):
+    """Tokens whose depth is near the limit."""
+    tokens, levels = [], DEEPEST + r.randrange(-2, 3)
+    for _ in range(levels):
         tokens += r.choice([
             [Token("(", "(")],
             [Token("head", "f(")],
@@ -164,13 +164,13 @@ def deep(r):
 def random_lists(count, seed):
     r = random.Random(seed)
 
-    def blank(needed):
-        return r.choice([" ", "\t", "  "] if needed or r.randrange(3) == 0 else [""])
+    def blank(is_needed):
+        return r.choice([" ", "\t", "  "] if is_needed or r.randrange(3) == 0 else [""])
 
     for _ in range(count):
-        tokens = deep(r) if r.randrange(20) == 0 else changed(r, derived(r, r.randrange(8)))
+        tokens = deep(r) if r.randrange(20) == 0 else mutate(r, random_sum(r, r.randrange(8)))
         binder = r.choice([None, "x", "m", "f"])
-        yield tokens, *spelled(tokens, blank), binder
+        yield tokens, *text_of(tokens, blank), binder
 
 
 # Runs
@@ -180,8 +180,8 @@ def line_of(text, binder):
     return f"plain {text}" if binder is None else f"with {binder} {text}"
 
 
-def compared(name, lists):
-    """How many answers differ."""
+def compare(name, lists):
+    """Compares the answers to texts of these lists and returns how many differ."""
     total, differences, words = 0, [], Counter()
     while batch := list(itertools.islice(lists, BATCH)):
         lines = "".join(line_of(text, binder) + "\n" for _, text, _, binder in batch)
@@ -190,7 +190,7 @@ def compared(name, lists):
         if run.returncode != 0 or len(answers) != len(batch):
             sys.exit(f"the program ended with status {run.returncode} after {len(answers)} answers")
         for (tokens, text, places, binder), got in zip(batch, answers):
-            want = answered(tokens, text, places, binder)
+            want = expected_answer(tokens, text, places, binder)
             words["tree" if want[0] in TREES else want.split(" at ")[0]] += 1
             if want != got:
                 differences.append((line_of(text, binder), want, got))
@@ -206,8 +206,8 @@ def main():
     longest = int(sys.argv[1]) if len(sys.argv) > 1 else 5
     count = int(sys.argv[2]) if len(sys.argv) > 2 else 200_000
     seed = sys.argv[3] if len(sys.argv) > 3 else "1"
-    differences = compared(f"all lists up to {longest} tokens", every_list(longest))
-    differences += compared("random lists", random_lists(count, seed))
+    differences = compare(f"all lists up to {longest} tokens", every_list(longest))
+    differences += compare("random lists", random_lists(count, seed))
     sys.exit(1 if differences else 0)
 
 

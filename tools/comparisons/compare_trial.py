@@ -3,16 +3,15 @@
 
     tools/comparisons/compare_trial.py [N..]
 
-has the program make trials of N edits (1, 2, 3, 7, 100 and 20,000 where none is given), each twice, and
-compares the line that it writes.
+runs each trial of N edits (1, 2, 3, 7, 100 and 20,000 by default) twice and compares the line that the program writes.
 
     tools/comparisons/compare_trial.py --answer N..
 
-writes the lines of the model alone.
+writes the lines of the model.
 
-The model keeps a definition for each name in a dict, and goes from a name to the one in its definition. A name
-that is defined anew in other words is forgotten with all that lead to it, those whose numbers are twice as great or
-one more, and so on.
+The model has a definition for each name in a dict, and follows each name to the one in its definition. If a name gets a
+different definition, the values of the name and of all names that lead to it are dropped; these are the names with
+twice its number and with one more than that, and so on.
 """
 
 import subprocess
@@ -29,15 +28,15 @@ DIGITS = 8
 
 
 class Trial:
-    """The definitions of a trial: of each name but `u_0` a number, and the name that it is multiplied with."""
+    """The definitions of a trial: each name but `u_0` has a number and the name that the number multiplies."""
 
     def __init__(self, names):
         self.names = names
         self.definitions = {i: (1 + i % 3, i // 2) for i in range(1, names + 1)}
-        self.settled, self.reductions, self.written = set(), 0, 0
+        self.settled, self.reductions, self.reply_bytes = set(), 0, 0
 
     def path(self, name):
-        """The name, and those that it leads to."""
+        """The name, and the names that it leads to."""
         while name:
             yield name
             name = self.definitions[name][1]
@@ -55,7 +54,7 @@ class Trial:
             self.forget(2 * name + 1)
 
     def value(self, name):
-        """What the name is worth in `u_0`; it is settled, and so are those that it leads to."""
+        """The value of the name in `u_0`. Settles the name and those that it leads to."""
         path = list(self.path(name))
         self.reductions += len(set(path) - self.settled)
         self.settled |= set(path)
@@ -65,17 +64,17 @@ class Trial:
         return product
 
     def step(self, k):
-        edited = 1 + 7 * k % self.names
-        self.define(edited, 2 + k % 3, edited // 2)
+        name = 1 + 7 * k % self.names
+        self.define(name, 2 + k % 3, name // 2)
         value = Fraction(self.value(1 + 11 * k % self.names), self.value(0))
         lines = f"\t* {digits_answer(value, DIGITS)}\n", f"\t/ {digits_answer(1 / value, DIGITS)}\n"
-        self.written += sum(map(len, lines))
+        self.reply_bytes += sum(map(len, lines))
 
-    def told(self):
+    def run(self):
         for k in range(1, self.names + 1):
             self.step(k)
         return (
-            f"definitions {self.names + 1}, edits {self.names}, reply bytes {self.written}, "
+            f"definitions {self.names + 1}, edits {self.names}, reply bytes {self.reply_bytes}, "
             f"settled {len(self.settled)} of {len(self.definitions) + 1}, reductions {self.reductions}"
         )
 
@@ -85,15 +84,15 @@ def main():
     counts = [int(word) for word in sys.argv[1 + answer :]] or [1, 2, 3, 7, 100, 20_000]
     differences = 0
     for count in counts:
-        wanted = Trial(count).told()
+        expected = Trial(count).run()
         if answer:
-            print(wanted)
+            print(expected)
             continue
         for _ in range(2):
-            run = subprocess.run([program(PROGRAM), "--trial", str(count)], stdout=subprocess.PIPE, check=False)
-            if (run.stdout.decode(), run.returncode) != (f"{wanted}\n", 0):
+            process = subprocess.run([program(PROGRAM), "--trial", str(count)], stdout=subprocess.PIPE, check=False)
+            if (process.stdout.decode(), process.returncode) != (f"{expected}\n", 0):
                 differences += 1
-                print(f"{count}: {run.stdout.decode()!r}, status {run.returncode}, not {wanted!r}")
+                print(f"{count}: {process.stdout.decode()!r}, status {process.returncode}, not {expected!r}")
     if not answer:
         print(f"{len(counts)} trials, each twice, {differences} differences")
     return differences > 0

@@ -1,12 +1,12 @@
 #!/usr/bin/env python3
-"""Compares the values that units gives with those that Python's fractions give.
+"""Compares the values of units with those of Python's fractions.
 
     tools/comparisons/compare_values.py [TABLES] [SEED]
 
-evaluates each line that tests/values.t asks for, by an evaluator of its own over fractions and dicts of exponents, and
-compares the result with the answer in the transcript. Then it makes TABLES tables of definitions (none by default)
-with expressions over them at random from SEED (1 by default), asks a session of `units` for each expression, and
-compares each answer. It prints the differences and a line with the counts. The status is 1 if there is a difference.
+evaluates each query of tests/values.t with fractions and dicts of exponents, and compares the result with the answer in
+the transcript. Then it makes TABLES random tables of definitions (none by default) and expressions from SEED (1 by
+default), asks a session of `units` for each expression, and compares each answer. It prints the differences and a line
+with the counts. The status is 1 if there is a difference.
 """
 
 import os
@@ -28,11 +28,11 @@ from plain_quantities import Fault  # noqa: E402
 ROOT = Path(__file__).resolve().parents[2]
 TRANSCRIPT = ROOT / "tests/values.t"
 NAME = "t.units"
-SHOWN = 20  # how many differences over random tables are printed
+SHOWN = 20  # how many differences in random tables are printed
 
 
-def evaluated(definitions, expressions):
-    """The value or the fault of each expression over a table with these lines. Writes them to NAME in this folder."""
+def evaluate(definitions, expressions):
+    """The value or the fault of each expression in a table with these lines, which are written to the file NAME."""
     Path(NAME).write_text("".join(f"{line}\n" for line in definitions))
     decks = plain_decks.Board()
     decks.load(plain_decks.Files(), NAME)
@@ -51,19 +51,19 @@ def here_documents(text):
         if not (line.startswith("  $ ") and line.endswith("<<'END'")):
             continue
         end = lines.index("  > END", at)
-        given = [line[4:] for line in lines[at + 1:end]]
-        shown = [line[2:] for line in lines[end + 1:end + 1 + len(given)]]
-        yield line[4:], at + 2, given, shown
+        inputs = [line[4:] for line in lines[at + 1:end]]
+        outputs = [line[2:] for line in lines[end + 1:end + 1 + len(inputs)]]
+        yield line[4:], at + 2, inputs, outputs
 
 
 def transcript_differences():
     count = differences = 0
     definitions = []
-    for command, place, given, shown in here_documents(TRANSCRIPT.read_text()):
+    for command, place, inputs, outputs in here_documents(TRANSCRIPT.read_text()):
         if command.startswith("cat"):
-            definitions = given
+            definitions = inputs
             continue
-        for offset, (line, answer, expected) in enumerate(zip(given, shown, evaluated(definitions, given))):
+        for offset, (line, answer, expected) in enumerate(zip(inputs, outputs, evaluate(definitions, inputs))):
             count += 1
             if answer != expected:
                 differences += 1
@@ -73,7 +73,7 @@ def transcript_differences():
 
 
 def answers_of_program(expressions):
-    """What a session of units answers, one line for each expression."""
+    """The answers of a session of units, one line for each expression."""
     lines = "".join(f"{expression}\n\n" for expression in expressions)
     command = [program("units"), "-q", "-t", "--exact", "-f", NAME]
     run = subprocess.run(command, input=lines.encode(), stdout=subprocess.PIPE, stderr=subprocess.STDOUT, check=False)
@@ -85,12 +85,12 @@ def random_differences(tables, seed):
     kinds, differences = Counter(), 0
     for _ in range(tables):
         definitions, expressions = values_at_random.table(r)
-        wanted = list(evaluated(definitions, expressions))
+        expected_answers = list(evaluate(definitions, expressions))
         answers = answers_of_program(expressions)
-        if len(answers) != len(wanted):
-            print(f"{len(answers)} answers to {len(wanted)} expressions over", *definitions, sep="\n    ")
+        if len(answers) != len(expected_answers):
+            print(f"{len(answers)} answers to {len(expected_answers)} expressions over", *definitions, sep="\n    ")
             differences += 1
-        for expression, answer, expected in zip(expressions, answers, wanted):
+        for expression, answer, expected in zip(expressions, answers, expected_answers):
             kinds["value" if re.match("-?[0-9]", expected) else expected.split(":")[0]] += 1
             if answer != expected:
                 differences += 1

@@ -1,14 +1,13 @@
 #!/usr/bin/env python3
-"""Compares what the program takes as a command line with what the real clap takes.
+"""Compares the command lines that the program accepts with those that the real clap accepts.
 
     tools/comparisons/compare_words.py [LISTS] [SEED]
 
-makes LISTS random lists of words (20000 where none is given) from the SEED (1 where none is given),
-has the real clap read them, by tools/comparisons/words_by_clap.rs, which it builds against Debian's package
-librust-clap-dev, and runs the built program on each. The status and both streams have to be those
-that follow from clap's fields; of a list that is taken and asks for something else than numbers,
-that it is taken. It prints how many runs had each ending and the first differences, and ends with
-status 1 where there is a difference.
+makes LISTS random lists of words (20000 by default) from the SEED (1 by default), lets the real clap read them, through
+tools/comparisons/words_by_clap.rs, which it builds with Debian's package librust-clap-dev, and runs the built program
+on each. The status and both streams have to be those that follow from clap's fields; if the output does not follow from
+the words alone, the program has to accept them. It prints how many runs had each ending and the first differences, and
+ends with status 1 if there is a difference.
 """
 
 import os
@@ -28,8 +27,8 @@ TOOLS = Path(__file__).resolve().parents[1]
 REGISTRY = Path("/usr/share/cargo/registry")
 SHOWN = 5  # how many differences are printed
 USAGE = (2, b"", b"units: usage: units [options] [FROM [TO]]\n")
-TAKEN = "taken"  # what is written does not follow from the words alone
-INPUT = [["1", "2"], ["3", "4", "5"]]  # the records that each run may read
+TAKEN = "taken"  # the words are accepted, and the output does not follow from them alone
+INPUT = [["1", "2"], ["3", "4", "5"]]  # the records on standard input
 UNITS = ["m", "in", "ft", "yd"]
 VALUES = dict(zip(UNITS, map(Fraction, ["1", "0.0254", "0.3048", "0.9144"])))
 LAYOUT = {"one-line", "compact", "terse", "strict", "verbose"}
@@ -61,7 +60,7 @@ OTHERS += "-qffirst.units --digits -f --no-exact - --= -\u00e9 \u00e9".split()
 
 
 def conversion(r):
-    """Words that mostly are a conversion."""
+    """Words of a conversion, in most cases a valid one."""
     file = "gone.units" if r.randrange(10) == 0 else "first.units"
     words = [["-f", file], [f"--file={file}"], [f"-f{file}"], ["--file", file]]
     parts = [r.choice(words), [r.choice(UNITS)], [r.choice([*UNITS, "kg"])]]
@@ -94,10 +93,10 @@ def word_list(r):
     for _ in range(r.choice([0, 0, 1, 1, 2, 3, 5] if words else [0, 1, 2, 3, 4, 6])):
         at = r.randrange(len(words) + 1)
         words[at:at] = any_word(r)
-    made = [word.encode() for word in words]
-    if made and r.randrange(40) == 0:
-        made[r.randrange(len(made))] += bytes([r.choice([0x80, 0xC3, 0xFF])])
-    return made
+    result = [word.encode() for word in words]
+    if result and r.randrange(40) == 0:
+        result[r.randrange(len(result))] += bytes([r.choice([0x80, 0xC3, 0xFF])])
+    return result
 
 
 # Endings
@@ -117,7 +116,7 @@ def content(text):
 
 
 def fits(fields):
-    """Whether the arguments fit each other, all of which clap takes."""
+    """Whether arguments that clap accepts may be used together."""
     if sum(name in fields for name in ["from", "check", "trial"]) > 1:
         return False
     if "column" in fields:
@@ -125,8 +124,8 @@ def fits(fields):
     return "header" not in fields
 
 
-def converted(fields, factor):
-    """The records with a field converted."""
+def converted_records(fields, factor):
+    """The ending of a run that converts a column of the records."""
     column = int(fields["column"])
     records = [list(record) for record in INPUT]
     for record in records[1 if "header" in fields else 0 :]:
@@ -135,14 +134,14 @@ def converted(fields, factor):
     return 0, "".join(",".join(record) + "\n" for record in records).encode(), b""
 
 
-def ending(line):
-    """The status and the bytes on both streams that follow from what clap finds."""
+def expected_ending(line):
+    """The status and the bytes on both streams that follow from the fields that clap finds."""
     fields = {name: value for name, _, value in (word.partition("=") for word in line.split())}
     if line == "refused" or not fits(fields):
         return USAGE
     file, source, target = (text_in(fields, name) for name in ["file", "from", "to"])
     if file is None or file == b"" or "trial" in fields:
-        return TAKEN  # a trial makes up its own definitions
+        return TAKEN  # a trial makes its own definitions
     if file != b"first.units":
         return 3, b"", b"units: no file: " + file + b"\n"
     names = [text and text.decode() for text in [source, target]]
@@ -150,7 +149,7 @@ def ending(line):
         return TAKEN
     factor = VALUES[names[0]] / VALUES[names[1]]
     if "column" in fields:
-        return converted(fields, factor)
+        return converted_records(fields, factor)
     if LAYOUT & set(fields):
         return TAKEN
     forward, back = number_text(factor, fields), number_text(1 / factor, fields)
@@ -161,7 +160,7 @@ def ending(line):
 
 
 def build(folder):
-    """The program that reads by clap."""
+    """Builds words_by_clap and returns its path."""
     if not any(REGISTRY.glob("clap-4*")):
         sys.exit(f"there is no clap in {REGISTRY}; on Debian: apt-get install librust-clap-dev")
     (folder / "Cargo.toml").write_text(MANIFEST)
@@ -174,40 +173,40 @@ def build(folder):
 
 def by_clap(reader, lists):
     lines = "".join(" ".join("x" + word.hex() for word in words) + "\n" for words in lists)
-    run = subprocess.run([reader], input=lines.encode(), stdout=subprocess.PIPE, check=True)
-    return run.stdout.decode().split("\n")[:-1]
+    process = subprocess.run([reader], input=lines.encode(), stdout=subprocess.PIPE, check=True)
+    return process.stdout.decode().split("\n")[:-1]
 
 
 def by_program(program, folder, words):
-    given = "".join(",".join(record) + "\n" for record in INPUT).encode()
-    how = {"cwd": folder, "input": given, "capture_output": True}
-    run = subprocess.run([os.fsencode(program), *words], check=False, **how)
-    return run.returncode, run.stdout, run.stderr
+    input_bytes = "".join(",".join(record) + "\n" for record in INPUT).encode()
+    options = {"cwd": folder, "input": input_bytes, "capture_output": True}
+    process = subprocess.run([os.fsencode(program), *words], check=False, **options)
+    return process.returncode, process.stdout, process.stderr
 
 
-def agree(want, came):
-    return came[0] in [0, 1, 3, 4] if want == TAKEN else want == came
+def agree(expected, result):
+    return result[0] in [0, 1, 3, 4] if expected == TAKEN else expected == result
 
 
 def main():
     count = int(sys.argv[1]) if len(sys.argv) > 1 else 20_000
     r = random.Random(sys.argv[2] if len(sys.argv) > 2 else "1")
-    built = subprocess.run([TOOLS / "built.sh", "units"], stdout=subprocess.PIPE, check=True)
-    program = built.stdout.decode().strip()
+    output = subprocess.run([TOOLS / "built.sh", "units"], stdout=subprocess.PIPE, check=True)
+    program = output.stdout.decode().strip()
     lists = [word_list(r) for _ in range(count)]
     with tempfile.TemporaryDirectory() as room:
         folder = Path(room)
         (folder / "first.units").write_bytes((TOOLS.parent / "examples/first.units").read_bytes())
-        wanted = [ending(line) for line in by_clap(build(folder), lists)]
+        expected = [expected_ending(line) for line in by_clap(build(folder), lists)]
         with ThreadPoolExecutor(os.cpu_count()) as pool:
-            got = list(pool.map(lambda words: by_program(program, folder, words), lists))
-    rows = list(zip(lists, wanted, got))
+            results = list(pool.map(lambda words: by_program(program, folder, words), lists))
+    rows = list(zip(lists, expected, results))
     different = [row for row in rows if not agree(row[1], row[2])]
-    endings = Counter("taken" if want == TAKEN else f"with status {want[0]}" for _, want, _ in rows)
-    tally = ", ".join(f"{endings[ending]} {ending}" for ending in sorted(endings))
+    endings = Counter("taken" if outcome == TAKEN else f"with status {outcome[0]}" for _, outcome, _ in rows)
+    tally = ", ".join(f"{endings[expected_ending]} {expected_ending}" for expected_ending in sorted(endings))
     print(f"{len(rows)} lists, {len(different)} differences: {tally}")
-    for words, want, came in different[:SHOWN]:
-        print(f"    {words}: {came}, not {want}")
+    for words, outcome, result in different[:SHOWN]:
+        print(f"    {words}: {result}, not {outcome}")
     sys.exit(1 if different else 0)
 
 

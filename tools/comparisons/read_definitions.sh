@@ -1,8 +1,8 @@
 #!/usr/bin/env bash
 # Has the program of crates/entry_calls read the definitions of GNU units, and prints each line that it refuses.
 #   tools/comparisons/read_definitions.sh [FILE]
-# FILE is that of Debian's package units where none is given. For the definitions of GNU units 2.22 it ends with
-# status 1 where other lines are refused than those below; with any other file it only prints them.
+# FILE is that of Debian's package units by default. For the definitions of GNU units 2.22, the status is 1 if the
+# refused lines are not those below; with any other file the script only prints them.
 set -u
 root=$(cd "$(dirname "${BASH_SOURCE[0]}")/../.." && pwd)
 file=${1:-/usr/share/units/definitions.units}
@@ -14,15 +14,15 @@ program=$("$root/tools/built.sh" entry_calls) || exit
 folder=$(mktemp -d)
 trap 'rm -rf "$folder"' EXIT
 
-# refused FAULT NAME..: lines that are refused for this fault.
+# refused FAULT NAME..: prints the names of lines that are refused for this fault.
 refused() {
     local fault=$1
     shift
     printf "%s\t$fault\n" "$@"
 }
 
-# What is refused of the definitions of GNU units 2.22.
-known() {
+# The refused lines in the definitions of GNU units 2.22.
+known_refusals() {
     # Bodies that begin with `/` or `per`.
     refused 'syntax error at 0' hertz diopter sturgeon mired pfu rhe statmho abmho count FIT becquerel percapita
     # Names that end in a digit, and bodies that are such names.
@@ -35,7 +35,7 @@ known() {
 }
 
 "$program" < "$file" > "$folder/report" || exit 1
-# Each refused row of the report with the name that its line begins with.
+# Each refused line of the report, with the name at its beginning.
 sed -n 's/^\([0-9]*\): refused: /\1\t/p' "$folder/report" > "$folder/refused"
 LC_ALL=C awk -F '\t' '
     NR == FNR { fault[$1] = $2; next }
@@ -50,12 +50,13 @@ cat "$folder/rows"
 tail -n 1 "$folder/report"
 
 if ! grep -q '^# September 2022 Version 3\.15$' "$file"; then
-    echo "read_definitions: these are not the definitions of GNU units 2.22, so nothing is known of them"
+    echo "read_definitions: these are not the definitions of GNU units 2.22, so there is nothing to compare with"
     exit 0
 fi
-if [ "$(tail -n 1 "$folder/report")" = '3720 lines, 21 refused' ] && diff <(known | sort) <(cut -f 2- "$folder/rows" | sort); then
-    echo "read_definitions: the lines that are known to be refused, and no other"
+if [ "$(tail -n 1 "$folder/report")" = '3720 lines, 21 refused' ] \
+    && diff <(known_refusals | sort) <(cut -f 2- "$folder/rows" | sort); then
+    echo "read_definitions: the refused lines are the known ones"
     exit 0
 fi
-echo "read_definitions: other lines are refused than are known"
+echo "read_definitions: the refused lines are not the known ones"
 exit 1

@@ -1,5 +1,5 @@
-//! Reads lists of words by the real clap: a line of standard input is a list, each word in hexadecimal behind an `x`,
-//! and a line of standard output has its fields, or `refused`.
+//! Parses lists of words with the real clap. A line of standard input is a list of words, each an `x` and its bytes in
+//! hexadecimal; a line of standard output has the fields of the list, or `refused`.
 
 use clap::{value_parser, Arg, ArgAction, Command};
 use std::ffi::OsString;
@@ -55,29 +55,29 @@ fn fields(words: Vec<OsString>) -> String {
     let Ok(matches) = command().try_get_matches_from(words) else {
         return "refused".to_string();
     };
-    let mut found = Vec::new();
+    let mut fields = Vec::new();
     for name in [
         "exact", "one-line", "compact", "terse", "quiet", "strict", "round", "verbose", "check",
         "header",
     ] {
         if matches.get_flag(name) {
-            found.push(name.to_string());
+            fields.push(name.to_string());
         }
     }
     for name in ["file", "locale", "from", "to"] {
         if let Some(value) = matches.get_one::<String>(name) {
-            found.push(format!("{name}={}", text(OsString::from(value).as_bytes())));
+            fields.push(format!("{name}={}", text(OsString::from(value).as_bytes())));
         }
     }
     if let Some(digits) = matches.get_one::<u8>("digits") {
-        found.push(format!("digits={digits}"));
+        fields.push(format!("digits={digits}"));
     }
     for name in ["trial", "column"] {
         if let Some(number) = matches.get_one::<u16>(name) {
-            found.push(format!("{name}={number}"));
+            fields.push(format!("{name}={number}"));
         }
     }
-    found.join(" ")
+    fields.join(" ")
 }
 
 fn main() {

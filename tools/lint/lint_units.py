@@ -9,14 +9,14 @@ Each file is read with its includes, and each finding is one line `FILE:LINE: me
 - a name that is defined twice, unless the two blocks exclude each other or a block replaces what is outside of it;
 - a prefix with a unit that the program reads as the plural of a symbol (`das` as the plural of `da`);
 - a list or function whose name is also a unit, a plural or a prefix with a unit;
-- a unit whose name says something else: the plural of another unit, or a prefix with one, of another value;
-- a unit or prefix that is named as an English word of queries (`to`, `as`), which would be multiplied silently;
-- `1 / 8 in`, in which the inch is below the line;
+- a unit whose name is also the plural of another unit, or a prefix with one, of another value;
+- a unit or prefix whose name is an English word of queries (`to`, `as`), which would be multiplied silently;
+- `1 / 8 in`, which divides by the inch too;
 - a definition that does not conform to the unit of its comment `#: UNIT`;
 - with --statuses a definition without a status (`#= STATUS: SOURCE`);
 - with --dimensions a unit or a prefix without `#: UNIT`.
 
-The status is 0 if nothing is found, 1 if something is, and 2 if a file cannot be read or the program does not answer.
+The status is 0 without findings, 1 with findings, and 2 if a file cannot be read or the program does not answer.
 """
 
 from __future__ import annotations
@@ -47,12 +47,12 @@ PROBE = "lint_probe"  # a unit of value 1, so that a prefix before it has the va
 
 
 def is_symbol(name):
-    """Whether a name is a symbol, which has no plural in writing, and not a word."""
+    """Whether a name is a symbol, which has no written plural, and not a word."""
     return len(name) <= 2
 
 
 class Linter:
-    """The findings for one deck under one locale."""
+    """The findings for one deck in one locale."""
 
     def __init__(self, deck, session):
         self.session, self.files = session, deck.files
@@ -85,11 +85,11 @@ class Linter:
             number, powers = number * value.number, powers or value.powers
         return Value(number, powers)
 
-    def find_repeated(self):
-        """Names that are defined again where the first definition holds too."""
-        seen = {}
+    def find_repetitions(self):
+        """Names that are defined again while the first definition is in force."""
+        definitions = {}
         for definition in self.definitions:
-            earlier = seen.setdefault((definition.kind, definition.name), {})
+            earlier = definitions.setdefault((definition.kind, definition.name), {})
             for blocks, first in earlier.items():
                 is_exclusive = any(one.excludes(other) for one in blocks for other in definition.blocks)
                 is_within = len(definition.blocks) > len(blocks) and definition.blocks[: len(blocks)] == blocks
@@ -102,24 +102,24 @@ class Linter:
         """Prefixes with a unit that ends in `s`, if the program reads the word as the plural of a symbol."""
         for unit in [name for name in self.names.units if name.endswith("s")]:
             readings = [(prefix + unit, self.plural_reading(prefix, unit)) for prefix in self.names.prefixes]
-            misread = [(word, found) for word, found in readings if found]
+            misread = [(word, reading) for word, reading in readings if reading]
             if misread:
-                word, found = misread[0]
+                word, reading = misread[0]
                 others = "".join(f", {word}" for word, _ in misread[1:])
-                message = f"{word} is read as {found}, not as a prefix with {unit}; define it"
+                message = f"{word} is read as {reading}, not as a prefix with {unit}; define it"
                 message += others.replace(", ", " (also ", 1)
                 self.report(self.names.units[unit], message + ")" * bool(others))
 
     def plural_reading(self, prefix, unit):
-        """The plural of a symbol as which a prefix with a unit is read, if its value is another one, or None."""
+        """The plural of a symbol that the program reads instead of a prefix with a unit of another value, or None."""
         word = prefix + unit
         if len(word) > LONGEST_MISREADING or not is_usual(prefix, unit):
             return None
         if word in self.names.units or word in self.names.functions:
             return None
-        found = self.names.derived(word)
-        is_misread = is_plural_of_symbols(found) and self.value_of(found) != self.value_of(Reading(prefix, unit))
-        return found if is_misread else None
+        reading = self.names.derived_reading(word)
+        is_misread = is_plural_of_symbols(reading) and self.value_of(reading) != self.value_of(Reading(prefix, unit))
+        return reading if is_misread else None
 
     def find_shadowing_targets(self):
         """Lists and functions that take a conversion from a unit of the same name."""
@@ -129,19 +129,19 @@ class Linter:
                     self.report(definition, f"{name} is also a unit; a conversion to {name} takes the {kind.value}")
                 elif kind is Kind.LIST and name in self.names.functions:
                     self.report(definition, f"{name} is also a function; a conversion to {name} takes the function")
-                elif (found := self.names.derived(name)) and not is_plural_of_symbols(found):
-                    message = f"{name} is also read as {found}; a conversion to {name} takes the {kind.value}"
+                elif (reading := self.names.derived_reading(name)) and not is_plural_of_symbols(reading):
+                    message = f"{name} is also read as {reading}; a conversion to {name} takes the {kind.value}"
                     self.report(definition, message)
 
     def find_misleading_units(self):
         """Units whose name is a plural or a prefix with a unit of another value."""
         for name, definition in self.names.units.items():
-            found = self.names.derived(name)
-            if not found or not found.unit or is_symbol(found.unit) or found.prefix and len(found.prefix) < 3:
+            reading = self.names.derived_reading(name)
+            if not reading or not reading.unit or is_symbol(reading.unit) or reading.prefix and len(reading.prefix) < 3:
                 continue
             value = self.value_of(Reading(None, name))
-            if value and value != (meant := self.value_of(found)):
-                self.report(definition, f"{name} is {value}, but {found} is {meant}")
+            if value and value != (expected := self.value_of(reading)):
+                self.report(definition, f"{name} is {value}, but {reading} is {expected}")
 
     def find_english_words(self):
         for definition in [*self.names.units.values(), *self.names.prefixes.values()]:
@@ -150,33 +150,33 @@ class Linter:
 
     def find_divided_units(self):
         for definition in self.active:
-            for numbers, below in divided_units(definition.text):
-                advice = f"put ({numbers} / ..) or ({below}) in parentheses"
-                self.report(definition, f"{numbers} / {below} divides by all of {below}; {advice}")
+            for numbers, divisor in divided_units(definition.text):
+                advice = f"put ({numbers} / ..) or ({divisor}) in parentheses"
+                self.report(definition, f"{numbers} / {divisor} divides by all of {divisor}; {advice}")
 
     def find_wrong_dimensions(self):
-        """Definitions that do not conform to the unit that their comment names."""
-        noted = [definition for definition in self.active if definition.unit]
-        units = sorted({definition.unit for definition in noted})
+        """Definitions that do not conform to the unit in their comment."""
+        with_unit = [definition for definition in self.active if definition.unit]
+        units = sorted({definition.unit for definition in with_unit})
         expected = dict(zip(units, self.session.values(units)))
-        results = [self.result_of(definition) for definition in noted]
+        results = [self.result_of(definition) for definition in with_unit]
         values = dict(zip(results, self.session.values(results, [PROBE + " !dimensionless"])))
-        for definition, result in zip(noted, results):
-            found, wanted = values[result], expected[definition.unit]
+        for definition, result in zip(with_unit, results):
+            value, unit = values[result], expected[definition.unit]
             if not result:
                 continue
-            if isinstance(wanted, Fault):
-                self.report(definition, f"the unit {definition.unit} of {definition.name} has no value: {wanted}")
-            elif isinstance(found, Fault):
-                self.report(definition, f"{definition.name} has no value: {found}")
-            elif not found.conforms(wanted):
-                message = f"{definition.name} conforms to {found.dimensions}, not to {definition.unit}"
+            if isinstance(unit, Fault):
+                self.report(definition, f"the unit {definition.unit} of {definition.name} has no value: {unit}")
+            elif isinstance(value, Fault):
+                self.report(definition, f"{definition.name} has no value: {value}")
+            elif not value.conforms(unit):
+                message = f"{definition.name} conforms to {value.dimensions}, not to {definition.unit}"
                 self.report(definition, message)
 
-    def result_of(self, definition, passed=()):
-        """An expression that conforms to what a definition gives; the empty one if it does not say what it gives.
+    def result_of(self, definition, aliases=()):
+        """An expression that conforms to the result of a definition; empty if the definition does not say its unit.
 
-        An alias gives what its target gives. Those that were passed on the way to it may be on a cycle.
+        The result of an alias is that of its target. `aliases` has the aliases so far, which may form a cycle.
         """
         if definition.kind is Kind.UNIT:
             return definition.name
@@ -189,8 +189,8 @@ class Linter:
         option = UNITS_OPTION.search(definition.text)
         target = re.fullmatch(r"\(\s*\)\s*(\S+?)(\(\))?", definition.text)
         if target and target[1] in self.names.functions:
-            is_cycle = definition.name in passed
-            return "" if is_cycle else self.result_of(self.names.functions[target[1]], (*passed, definition.name))
+            is_cycle = definition.name in aliases
+            return "" if is_cycle else self.result_of(self.names.functions[target[1]], (*aliases, definition.name))
         return option[2].strip() if option else ""
 
     def find_missing_statuses(self):
@@ -225,16 +225,16 @@ def is_plural_of_symbols(reading):
 
 
 def divided_units(text):
-    """Each `NUMBERS / NUMBER UNIT` in an expression, as the numbers and what is below the line."""
+    """Each `NUMBERS / NUMBER UNIT` in an expression, as the numbers and the divisor."""
     tokens = [(match.lastgroup, match.group()) for match in TOKEN.finditer(text)]
     start = 0  # of the product
     for at, (kind, token) in enumerate(tokens):
         if kind == "sign" and token in "+-();[],":
             start = at + 1
         elif token in ("/", "per") and [kind for kind, _ in tokens[at + 1 : at + 3]] == ["number", "word"]:
-            above = tokens[start:at]
-            if above and all(kind == "number" or token in "*/" for kind, token in above):
-                yield " ".join(token for _, token in above), f"{tokens[at + 1][1]} {tokens[at + 2][1]}"
+            dividend = tokens[start:at]
+            if dividend and all(kind == "number" or token in "*/" for kind, token in dividend):
+                yield " ".join(token for _, token in dividend), f"{tokens[at + 1][1]} {tokens[at + 2][1]}"
 
 
 def notices_of(session, files):
@@ -248,7 +248,7 @@ def notices_of(session, files):
 def findings_of(file, options):
     """The findings for a file, in the order of its lines."""
     linter = Linter(read_deck(file), Session(options.program, file, options.locale))
-    linter.find_repeated()
+    linter.find_repetitions()
     linter.find_plural_readings()
     linter.find_shadowing_targets()
     linter.find_misleading_units()
@@ -263,7 +263,7 @@ def findings_of(file, options):
     return sorted(linter.findings, key=lambda finding: (order.get(finding[0].file, 0), finding[0].number))
 
 
-def parsed_options():
+def read_options():
     parser = argparse.ArgumentParser(
         prog="units-lint",
         description=__doc__.partition("\n\n")[0], epilog=__doc__.partition("FILE..\n\n")[2],
@@ -278,7 +278,7 @@ def parsed_options():
 
 
 def write(findings):
-    """Writes the findings with the bytes of the file. A reader that wants no more of them, such as head, ends the run."""
+    """Writes the findings with the bytes of the file. A closed pipe, as by head, ends the run."""
     sys.stdout.reconfigure(encoding="utf-8", errors="surrogateescape")
     try:
         for place, message in findings:
@@ -290,7 +290,7 @@ def write(findings):
 
 
 def main():
-    options, found = parsed_options(), 0
+    options, count = read_options(), 0
     for file in options.files:
         try:
             findings = findings_of(file, options)
@@ -299,8 +299,8 @@ def main():
         except NoAnswers as fault:
             sys.exit(print(f"lint_units: {fault}", file=sys.stderr) or 2)
         write(findings)
-        found += len(findings)
-    sys.exit(1 if found else 0)
+        count += len(findings)
+    sys.exit(1 if count else 0)
 
 
 if __name__ == "__main__":

@@ -1,4 +1,4 @@
-"""Asks the program for exact values, in one session over a definition file."""
+"""Asks the program for exact values, in one session with a definition file."""
 
 from __future__ import annotations
 
@@ -13,12 +13,12 @@ ROOT = Path(__file__).resolve().parents[2]
 
 
 class NoAnswers(Exception):
-    """The program cannot be run, or does not answer as this program does."""
+    """The program cannot be run, or is not this program."""
 
 
 @dataclass(frozen=True)
 class Value:
-    """A number in the primitives of the definitions, with the power of each primitive as it is printed."""
+    """A number and the printed power of each primitive unit."""
 
     number: Fraction
     powers: tuple[tuple[str, str], ...] = ()
@@ -47,15 +47,15 @@ class Fault:
 
 
 def value_of(line):
-    """The value in a line of a compact, exact session, or the fault that it is."""
-    above, _, below = line.partition(" / ")
-    number, *names = above.split(" ")
+    """The value in a line of a compact, exact session, or the fault if the line is one."""
+    numerator, _, denominator = line.partition(" / ")
+    number, *names = numerator.split(" ")
     try:
         number = Fraction(number.replace("|", "/"))
     except (ValueError, ZeroDivisionError):
         return Fault(line)
     powers = []
-    for sign, words in (("", names), ("-", below.split(" ") if below else [])):
+    for sign, words in (("", names), ("-", denominator.split(" ") if denominator else [])):
         for word in words:
             name, _, power = word.partition("^")
             powers.append((name, sign + (power or "1")))
@@ -70,7 +70,7 @@ def default_program():
 
 @dataclass(frozen=True)
 class Session:
-    """How the program is asked: over a file, under a locale, with some variables more in its environment."""
+    """A program, its definition file, its locale, and variables to add to its environment."""
 
     program: str
     file: str
@@ -78,14 +78,14 @@ class Session:
     variables: tuple[tuple[str, str], ...] = ()
 
     def values(self, expressions, definitions=()):
-        """The value or the fault of each expression, which is asked without a unit to convert to.
+        """The value or the fault of each expression, without a conversion.
 
         The definitions are added to those of the file first. Raises NoAnswers if the program cannot be run or does
         not reply with one line to each expression.
         """
         expressions = list(expressions)
         lines = [f":define {line}\n" for line in definitions]
-        # After a fault the session reads the blank line as an operand to convert, which it passes over.
+        # After a fault the session ignores the blank line, since it expects an operand to convert.
         lines += [f"({expression})\n\n" for expression in expressions]
         command = [self.program, "-q", "--exact", "--compact", "-l", self.locale, "-f", self.file]
         run = self.run(command, "".join(lines))
@@ -96,22 +96,22 @@ class Session:
         return [value_of(reply) for reply in replies]
 
     def search(self, texts):
-        """The definitions whose names contain one of some texts: what the program shows of each by its key."""
+        """The definitions whose names contain one of these texts, as the program shows them, by key."""
         command = [self.program, "-q", "-l", self.locale, "-f", self.file]
         run = self.run(command, "".join(f"search {text}\n" for text in texts))
         lines = run.stdout.decode(errors="surrogateescape").split("\n")
         return dict(line[1:].split("\t", 1) for line in lines if line.startswith("\t"))
 
     def check(self):
-        """The lines that the program's own check of the file writes, on both streams."""
+        """The lines of the program's own check of the file, on both streams."""
         run = self.run([self.program, "--check", "-l", self.locale, "-f", self.file], "")
         return (run.stdout + run.stderr).decode(errors="surrogateescape").splitlines()
 
-    def run(self, command, given):
+    def run(self, command, text):
         environment = {**os.environ, **dict(self.variables)}
         try:
             return subprocess.run(
-                command, input=given.encode(errors="surrogateescape"), capture_output=True, env=environment, check=False
+                command, input=text.encode(errors="surrogateescape"), capture_output=True, env=environment, check=False
             )
         except OSError as fault:
             raise NoAnswers(f"{self.program}: {fault.strerror}") from fault

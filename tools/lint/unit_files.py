@@ -1,10 +1,10 @@
-"""Reads definition files of units: their lines, includes and blocks, and what their comments say of a definition.
+"""Reads definition files of units: their lines, includes and blocks, and the comments on definitions.
 
-Lines that have no effect are passed over: the program says why they have none.
+Lines that have no effect are skipped: the program reports them.
 
-The comment `#= STATUS: SOURCE` says how exact a definition is, and `#: UNIT` what it conforms to. A comment on the line
-of a definition holds for that definition. A comment on a line of its own holds for the definitions after it, up to the
-next blank line.
+The comment `#= STATUS: SOURCE` says how exact a definition is, and `#: UNIT` which unit it conforms to. A comment on
+the line of a definition is for that definition. A comment on a line of its own is for the definitions after it, up to
+the next blank line.
 """
 
 from __future__ import annotations
@@ -40,7 +40,7 @@ class Place:
 
 @dataclass(frozen=True)
 class Block:
-    """A block of a locale or a variable, or of UTF-8, which always holds."""
+    """A block for a locale or a variable, or for UTF-8, which is always in force."""
 
     directive: str
     variable: str = ""
@@ -54,7 +54,7 @@ class Block:
         return (variables.get(self.variable) in self.values) == (self.directive == "var")
 
     def excludes(self, other):
-        """Whether this block and the other one never hold together."""
+        """Whether this block and the other one are never in force together."""
         if self.directive == other.directive == "locale":
             return self.values != other.values
         if self.variable != other.variable or "utf8" in (self.directive, other.directive):
@@ -67,7 +67,7 @@ class Block:
 
 @dataclass(frozen=True)
 class Definition:
-    """A definition. The text is that after the name; the status and the unit are those of its comments, if any."""
+    """A definition. The text follows the name; the status and the unit are those of its comments, if any."""
 
     kind: Kind
     name: str
@@ -80,7 +80,7 @@ class Definition:
 
     @property
     def key(self):
-        """The name as the program writes it in reports, with a mark of its kind."""
+        """The name in the form of the program's reports, with a mark of its kind."""
         marks = {Kind.UNIT: "{}", Kind.PREFIX: "{}-", Kind.FUNCTION: "{}()", Kind.LIST: "!unitlist {}"}
         return marks[self.kind].format(self.name)
 
@@ -95,7 +95,7 @@ class Opening:
 
 @dataclass(frozen=True)
 class Setting:
-    """A line that sets a variable where it is not set."""
+    """A line that sets a variable unless it is already set."""
 
     variable: str
     value: str
@@ -104,7 +104,7 @@ class Setting:
 
 @dataclass(frozen=True)
 class LogicalLine:
-    """A line with the lines that continue it. `is_blank` is said of a line without a comment, too."""
+    """A line with the lines that continue it. A blank line has no comment either."""
 
     number: int
     text: str
@@ -124,34 +124,34 @@ class Deck:
         return [line for line in self.lines if isinstance(line, Definition)]
 
     def active(self, locale, variables):
-        """The definitions that count under a locale and variables, in order."""
-        variables, holding, found = dict(variables), {}, []
+        """The definitions in force for a locale and variables, in order."""
+        variables, in_force, definitions = dict(variables), {}, []
         for line in self.lines:
-            if not all(holding[id(block)] for block in line.blocks):
+            if not all(in_force[id(block)] for block in line.blocks):
                 if isinstance(line, Opening):
-                    holding[id(line.block)] = False
+                    in_force[id(line.block)] = False
             elif isinstance(line, Opening):
-                holding[id(line.block)] = line.block.holds(locale, variables)
+                in_force[id(line.block)] = line.block.holds(locale, variables)
             elif isinstance(line, Setting):
                 variables.setdefault(line.variable, line.value)
             else:
-                found.append(line)
-        return found
+                definitions.append(line)
+        return definitions
 
 
 def logical_lines(text):
-    """The logical lines of a text. A comment ends a physical line before a backslash can continue it."""
+    """The logical lines of a text. A backslash in a comment does not continue the line."""
     parts, comments, start = [], [], 1
     for number, physical in enumerate(text.split("\n"), 1):
         if not parts:
             start = number
-        kept, mark, comment = physical.removesuffix("\r").partition("#")
+        code, mark, comment = physical.removesuffix("\r").partition("#")
         comments += [mark + comment] * bool(mark)
-        kept = kept.rstrip(BLANKS)
-        if kept.endswith("\\"):
-            parts.append(kept[:-1] + " ")
+        code = code.rstrip(BLANKS)
+        if code.endswith("\\"):
+            parts.append(code[:-1] + " ")
             continue
-        whole = ("".join(parts) + kept).strip(BLANKS)
+        whole = ("".join(parts) + code).strip(BLANKS)
         yield LogicalLine(start, whole, " ".join(comments), not whole and not comments)
         parts, comments = [], []
     if parts:
@@ -159,9 +159,9 @@ def logical_lines(text):
 
 
 def notes_of(comment):
-    """The status and the unit that a comment names, each None if it names none."""
-    found = {mark: text.strip() for mark, text in NOTE.findall(comment)}
-    return found.get("="), found.get(":")
+    """The status and the unit in a comment, each None if there is none."""
+    notes = {mark: text.strip() for mark, text in NOTE.findall(comment)}
+    return notes.get("="), notes.get(":")
 
 
 def words_of(text):
@@ -188,12 +188,12 @@ class FileReader:
 
     def __init__(self, deck, file, blocks, depth):
         self.deck, self.file, self.outer, self.depth = deck, file, blocks, depth
-        self.opened = []  # the blocks of this file
+        self.open_blocks = []  # those that this file opened
         self.group = (None, None)
 
     @property
     def blocks(self):
-        return (*self.outer, *self.opened)
+        return (*self.outer, *self.open_blocks)
 
     def read(self, text):
         self.deck.files.append(self.file)
@@ -210,7 +210,7 @@ class FileReader:
     def define(self, line):
         kind, name, text = key_of(line.text)
         if name and text:
-            notes = [own or shared for own, shared in zip(notes_of(line.comment), self.group)]
+            notes = [own or group for own, group in zip(notes_of(line.comment), self.group)]
             place = Place(self.file, line.number)
             self.deck.lines.append(Definition(kind, name, text, place, self.blocks, *notes, line.comment))
 
@@ -229,16 +229,16 @@ class FileReader:
             self.open(Block(word, rest[0], tuple(rest[1:])))
         elif word == "utf8" and not rest:
             self.open(Block(word))
-        elif self.opened and not rest and self.opened[-1].directive in ENDS.get(word, ()):
-            self.opened.pop()
+        elif self.open_blocks and not rest and self.open_blocks[-1].directive in ENDS.get(word, ()):
+            self.open_blocks.pop()
 
     def open(self, block):
         self.deck.lines.append(Opening(block, self.blocks))
-        self.opened.append(block)
+        self.open_blocks.append(block)
 
 
 def read_into(deck, includer, name, blocks, depth):
-    """Reads an included file into a deck, if it is there and not too deep."""
+    """Reads an included file into a deck, if it exists and is not nested too deep."""
     file = name if name.startswith("/") else includer[: includer.rfind("/") + 1] + name
     if depth <= DEEPEST_INCLUDE and Path(file).is_file():
         FileReader(deck, file, blocks, depth).read(Path(file).read_bytes().decode(errors="surrogateescape"))

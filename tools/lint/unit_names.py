@@ -1,4 +1,4 @@
-"""What a word of a query leads to among the names of some definitions, in the order in which the program looks."""
+"""Looks up words of a query among the names of definitions, in the same order as the program."""
 
 from __future__ import annotations
 
@@ -12,7 +12,7 @@ def size_of(text):
 
 
 def stems(word):
-    """The words whose plural a word may be, in the order in which they are tried."""
+    """The words whose plural a word may be, in the order in which the program tries them."""
     if word.endswith("s") and size_of(word) > 2:
         yield word[:-1]
     if word.endswith("es") and size_of(word) > 3:
@@ -52,11 +52,11 @@ class Names:
                 return Reading(prefix, rest or None, is_plural)
         return None
 
-    def derived(self, word):
-        """What a word leads to that is no name itself: a plural, or a prefix with a unit; or None."""
+    def derived_reading(self, word):
+        """The reading of a word that is not a name itself: a plural, or a prefix with a unit; or None."""
         for stem in stems(word):
             if stem in self.units:
                 return Reading(None, stem, True)
-            if found := self.with_prefix(stem, True):
-                return found
+            if reading := self.with_prefix(stem, True):
+                return reading
         return self.with_prefix(word)

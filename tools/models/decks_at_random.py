@@ -1,4 +1,4 @@
-"""Random files of definitions, and random calls on the decks that they make."""
+"""Random definition files, and random calls on their decks."""
 
 from plain_lines import BLANKS, ENDS, key_text, kind_of
 
@@ -24,7 +24,7 @@ KEYS = ["a", "b", "c_1", "k", "k-", "f()", "g()", "ab()", "!unitlist a", "!unitl
 
 
 def random_line(r, open_ends):
-    """A line, most often one whose block or end fits."""
+    """A line; in most cases a closing line closes the innermost block."""
     kind = r.choices(["define", "faulty", "open", "close", "set", "other", "leaf"], [40, 8, 14, 18, 8, 8, 4])[0]
     if kind == "close" and open_ends and r.randrange(6):
         return "!" + open_ends.pop()
@@ -86,7 +86,7 @@ def random_edit(r, board):
 
 
 def random_calls(r, board, edits):
-    """Calls with the answers of lists."""
+    """Calls with the answers of the board, which stores decks as lists."""
     questions = ["count", "keys", "lines", "notices", "messages", "defining", "settings", "compare"]
     questions += [f"{word} {key}" for word in ("entry", "place") for key in KEYS]
     calls = [f"load {r.choice(NAMES)}"]

@@ -1,6 +1,6 @@
-"""Numbers and texts of numerals near the limits of the number libraries, made at random.
+"""Random numbers and texts of numerals near the limits of the number libraries.
 
-Each function takes the random.Random that it makes its values from.
+The first argument of each function is a random.Random.
 """
 
 import math
@@ -14,7 +14,7 @@ def fits(x):
 
 
 def root_below(n, q):
-    """The greatest whole number whose power to q is at most n, which is above 0."""
+    """The greatest whole number whose q-th power is at most n; n is above 0."""
     if q >= n.bit_length():
         return 1
     low, high = 1, 2 ** (n.bit_length() // q + 1)
@@ -55,12 +55,12 @@ def fraction(r):
 
 
 def near(r, x):
-    """A fraction beside x, or x itself."""
+    """A fraction next to x, or x itself."""
     return Fraction(x.numerator + r.randrange(-1, 2), max(1, x.denominator + r.randrange(-1, 2)))
 
 
 def single(r):
-    """A fraction that fits, which may be beside a whole number."""
+    """A fraction that fits, which may be next to a whole number."""
     while True:
         x, d = fraction(r), size(r)
         x = r.choice([x, Fraction(math.floor(x) * d + r.randrange(-1, 2), d)])
@@ -69,13 +69,13 @@ def single(r):
 
 
 def edge(r):
-    """A fraction at the limit of what fits, or just above it."""
+    """A fraction at the limit of the range, or just above it."""
     n, d = MOST + r.randrange(-3, 3), r.choice([1, 1, 2, 3, 7, size(r)])
     return r.choice([1, -1]) * r.choice([Fraction(n, d), Fraction(d, n)])
 
 
 def pair(r, other):
-    """Two fractions that fit, of which the second may be what leads from the first to an edge."""
+    """Two fractions that fit. The second may lead from the first to an edge, as `other` computes it."""
     while True:
         x = fraction(r)
         y = r.choice([fraction, lambda r: near(r, x), lambda r: other(x, edge(r))])(r)
@@ -84,7 +84,7 @@ def pair(r, other):
 
 
 def sum_pair(r, other):
-    """Two fractions, of which the denominators may have a common multiple at the limit."""
+    """Two fractions whose denominators may have a common multiple at the limit."""
     if r.randrange(2):
         return pair(r, other)
     p, q = r.choice([1, 2, 3, 5, 8, 9]), r.choice([1, 2, 4, 7, 9, 25])
@@ -97,7 +97,7 @@ def sum_pair(r, other):
 
 
 def rooted(r):
-    """A power of a fraction, or a fraction beside it, and the degree."""
+    """A power of a fraction, or a fraction next to it, and the degree of the root."""
     q = r.choice([1, 2, 2, 3, 3, 4, 5, 6, 7, 8, 31, 63, 64, 126, 127, 128, 2**31, 2**32 - 1])
     most = root_below(MOST, q)
     top, bottom = (r.choice([size(r, most), r.randrange(1, most + 1)]) for _ in "ab")
@@ -107,7 +107,7 @@ def rooted(r):
 
 
 def power(r):
-    """A fraction and an exponent, about where the power stops to fit."""
+    """A fraction and an exponent whose power is near the limit of the range."""
     k = r.choice([2**31 - 1, -(2**31), r.randrange(-(2**31), 2**31), r.randrange(-130, 131)])
     if r.randrange(4) == 0:
         return r.choice([Fraction(0), Fraction(1), Fraction(-1), Fraction(1, 2)]), k
@@ -119,17 +119,17 @@ def power(r):
 
 
 def tie(r, count):
-    """Halfway between two numbers of so many digits, or beside that."""
+    """A number halfway between two numbers of `count` digits, or next to that."""
     low, high = 10 ** (count - 1), 10**count
     digits = r.choice([r.randrange(low, high), low, high - 1])
     place = r.randrange(-38, 39 - count)
     x = Fraction(digits * 10 + 5) * Fraction(10) ** place
-    beside = x + r.choice([0, 0, 0, 1, -1]) * Fraction(10) ** (place - r.randrange(3))
-    return (beside if fits(beside) else x) * r.choice([1, -1])
+    neighbor = x + r.choice([0, 0, 0, 1, -1]) * Fraction(10) ** (place - r.randrange(3))
+    return (neighbor if fits(neighbor) else x) * r.choice([1, -1])
 
 
 def layout_edge(r, count):
-    """A number whose first digit is about where the notation changes."""
+    """A number whose first digit is near the place at which the notation changes."""
     at = r.choice([-6, -5, -4, -1, 0, 1, count - 1, count, count + 1])
     digits = r.choice([1, 9, 95, 995, 99999999, 10**count - 1])
     return digits * Fraction(10) ** (at - r.randrange(3))
@@ -147,7 +147,7 @@ def printed(r):
 
 
 def digits_text(r):
-    """Digits about the largest coefficient, with zeros at both ends."""
+    """Digits of a number near the largest coefficient, with zeros at both ends."""
     number = r.choice([0, size(r), MOST + r.randrange(-2, 3)])
     return "0" * r.choice([0, 0, 1, 3, 50]) + str(number) + "0" * r.choice([0, 0, 1, 30, 60])
 
@@ -166,10 +166,10 @@ def numeral_text(r):
 
 
 def damaged(r, text):
-    """The text with some bytes exchanged, dropped or added."""
-    found = bytearray(text)
+    """The text with some bytes replaced, removed or added."""
+    result = bytearray(text)
     for _ in range(r.choice([0, 1, 1, 2])):
-        at = r.randrange(len(found) + 1)
+        at = r.randrange(len(result) + 1)
         byte = r.choice(b"0123456789..eEeE+- x|\r\0\xff")
-        found[at : at + r.randrange(2)] = bytes([byte] * r.randrange(2))
-    return bytes(found)
+        result[at : at + r.randrange(2)] = bytes([byte] * r.randrange(2))
+    return bytes(result)

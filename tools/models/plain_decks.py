@@ -21,14 +21,14 @@ from plain_lines import (
 LONGEST_FILE, MOST_LINES, MOST_BYTES, MOST_DEPTH = 1 << 24, 100_000, 1 << 26, 16
 
 
-# Decks. A line is its number, its text and its mark.
+# Decks. A line has a number, a text and a mark.
 
 
 class Files:
-    """The files of the present folder."""
+    """The files of the current folder."""
 
     def fetch(self, name):
-        """The bytes of a file, or a word for why there are none."""
+        """The fault, if any, and the text of a file."""
         try:
             size = os.stat(name).st_size
             with open(name, "rb") as file:
@@ -45,7 +45,7 @@ class NoFiles:
 
 
 class Reader:
-    """Goes through a file and its includes."""
+    """Reads a file and its includes."""
 
     def __init__(self, files, lines):
         self.files = files
@@ -81,7 +81,7 @@ class Reader:
 
     @staticmethod
     def fault_of(kind, line, number, blocks):
-        """Opens or closes a block, and gives the fault of a line, if it has one."""
+        """Opens or closes a block, and returns the fault of a line, or None."""
         if kind == "define":
             try:
                 entry_of(line)
@@ -125,7 +125,7 @@ class Deck:
         self.notices = notices
 
     def active(self):
-        """The places of the lines around which each block holds."""
+        """The places of the lines whose blocks are all in force."""
         variables, holds = dict(self.vars), []
         for place, (_, text, mark) in enumerate(self.lines):
             if mark:
@@ -138,17 +138,17 @@ class Deck:
             elif kind == "locale":
                 holds.append(arguments[0] == self.locale)
             elif kind in ("var", "varnot"):
-                listed = variables.get(arguments[0]) in re.split(r"[ \t]+", arguments[1])
-                holds.append(listed == (kind == "var"))
+                is_listed = variables.get(arguments[0]) in re.split(r"[ \t]+", arguments[1])
+                holds.append(is_listed == (kind == "var"))
             elif kind == "utf8":
                 holds.append(True)
             elif kind in ENDS.values():
                 holds.pop()
 
     def table(self):
-        """For each key its entry and its place."""
-        found = ((place, definition_of(self.lines[place][1])) for place in self.active())
-        return {definition[0]: (definition[1], place) for place, definition in found if definition}
+        """The entry and the place of each key."""
+        definitions = ((place, definition_of(self.lines[place][1])) for place in self.active())
+        return {definition[0]: (definition[1], place) for place, definition in definitions if definition}
 
     def is_closed(self):
         blocks = []
@@ -184,7 +184,7 @@ class Board:
 
     def __init__(self):
         self.locale, self.vars = "en_US", {}
-        self.deck = self.kept = self.inverse = None
+        self.deck = self.snapshot = self.inverse = None
 
     def settings(self):
         return self.locale, dict(self.vars)
@@ -197,8 +197,8 @@ class Board:
         self.deck = Deck(reader.lines, self.settings(), reader.notices)
         return "ok"
 
-    def edited(self, edit, *arguments):
-        """The keys that an edit changes."""
+    def changes(self, edit, *arguments):
+        """Makes an edit and returns the answer, which lists the changed keys."""
         old = self.deck
         self.deck = old.copy()
         try:
@@ -207,8 +207,8 @@ class Board:
             self.deck = old
             raise
         before, after = old.table(), self.deck.table()
-        changed = {k for k in before.keys() | after.keys() if before.get(k, [None])[0] != after.get(k, [None])[0]}
-        return f"changed: {joined(map(key_text, keys_in_order(changed)))}"
+        keys = {k for k in before.keys() | after.keys() if before.get(k, [None])[0] != after.get(k, [None])[0]}
+        return f"changed: {joined(map(key_text, keys_in_order(keys)))}"
 
     def define(self, line):
         line = line.strip(BLANKS)
@@ -268,8 +268,8 @@ class Board:
         if word == "defining":
             return joined(text for text in active if definition_of(text))
         need(word == "compare", "bad call")
-        need(self.kept, "no snapshot")
-        return "equal" if self.kept.state() == deck.state() else "different"
+        need(self.snapshot, "no snapshot")
+        return "equal" if self.snapshot.state() == deck.state() else "different"
 
     def answer(self, line):
         word, _, rest = line.partition(" ")
@@ -290,25 +290,25 @@ class Board:
 
     def deck_answer(self, word, rest):
         if word == "snapshot":
-            self.kept = self.deck.copy()
+            self.snapshot = self.deck.copy()
             return "ok"
         if word == "define":
-            return self.edited(self.define, rest)
+            return self.changes(self.define, rest)
         if word == "drop":
             key = key_of(rest)
             need(key, "not a key")
-            return self.edited(self.drop, key)
+            return self.changes(self.drop, key)
         if word == "append":
-            return self.edited(self.append, rest)
+            return self.changes(self.append, rest)
         if word == "switch":
-            return self.edited(self.switch)
+            return self.changes(self.switch)
         if word == "splice":
             self.inverse = None
             at, cut, put = rest.split(" ", 2)
             put = [(0, text.removeprefix("~"), text.startswith("~")) for text in put.split(";") if text]
-            return self.edited(self.splice, int(at), int(cut), put, self.settings())
+            return self.changes(self.splice, int(at), int(cut), put, self.settings())
         if word == "back":
             inverse, self.inverse = self.inverse, None
             need(inverse, "no splice")
-            return self.edited(self.splice, *inverse)
+            return self.changes(self.splice, *inverse)
         return self.ask(word, rest)

@@ -1,4 +1,4 @@
-"""A plain reading of definition lines: their keys, their entries and why they are refused."""
+"""A plain reading of definition lines: their keys, their entries and their faults."""
 
 import re
 from fractions import Fraction
@@ -8,7 +8,7 @@ from plain_trees import MARKS, Token, first_fault
 BLANKS = " \t"
 KINDS = ["unit", "prefix", "function", "list"]
 
-# Texts are those of latin-1, so that each character is a byte.
+# Texts are decoded as Latin-1, so that each character is a byte.
 CONTROL = "\x00-\x08\x0a-\x1f\x7f"
 WORD = re.compile(rf"[^ \t{CONTROL}+\-*/|^;~#()\[\]]+")
 NUMERAL = re.compile(r"(?:\d+(?:\.\d*)?|\.\d+)(?:[eE][+-]?\d+)?", re.ASCII)
@@ -35,13 +35,13 @@ def is_name(word):
     return word[-1] not in "123456789" or re.search(r"_[0-9.,]*$", word) is not None
 
 
-def word_kind(word, following):
+def word_kind(word, next_character):
     if word == "per":
         return "/"
     if word in ("sqrt", "cuberoot"):
         return "root"
     if is_name(word) or word in REFUSED:
-        return "head" if following == "(" else "word"
+        return "head" if next_character == "(" else "word"
     return "power" if word[-1] in "23456789" and is_name(word[:-1]) else "bad"
 
 
@@ -103,11 +103,11 @@ def need(condition, fault="bad definition"):
 
 
 def options_of(text):
-    """The expressions of the options, and the text behind them."""
-    seen, expressions, text = set(), [], text.lstrip(BLANKS)
+    """The expressions of the options, and the text after them."""
+    names, expressions, text = set(), [], text.lstrip(BLANKS)
     while option := re.match(r"units=|domain=|range=|noerror(?=[ \t]|$)", text):
-        need(option[0] not in seen)
-        seen.add(option[0])
+        need(option[0] not in names)
+        names.add(option[0])
         if option[0] == "units=":
             whole = re.compile(r"units=\[([^;]*);([^\]]*)\]", re.DOTALL).match(text)
             need(whole)
@@ -126,7 +126,7 @@ def options_of(text):
 
 
 def number_of(text, fault):
-    """The fraction that a bound or a number of a table stands for, of at most 127 bits."""
+    """The value of a bound or a number of a table, of at most 127 bits."""
     top, _, bottom = text.partition("|")
     need(not is_long(top.lstrip("+-")) and not is_long(bottom or "1"), fault)
     top, bottom = Fraction(top), Fraction(bottom or "1")
@@ -148,17 +148,17 @@ def check_points(text):
 def function_of(name, rest):
     close = rest.find(")")
     parameter = rest[1:close].strip(BLANKS) if close >= 0 else None
-    behind = rest[close + 1 :]
+    definition = rest[close + 1 :]
     check_name(name)
     need(parameter is not None)
     if parameter == "":
-        target = behind.strip(BLANKS).removesuffix("()")
+        target = definition.strip(BLANKS).removesuffix("()")
         if target:
             check_name(target)
         need(target)
         return
     check_name(parameter)
-    expressions, text = options_of(behind)
+    expressions, text = options_of(definition)
     bodies = [body.strip(BLANKS) for body in text.split(";", 1)]
     need(all(bodies))
     for expression in expressions + bodies:
@@ -174,7 +174,7 @@ def table_of(name, rest):
 
 
 def list_of(rest):
-    """The key and the entry of what stands behind `!unitlist`."""
+    """The key and the entry of the text after `!unitlist`."""
     name, _, parts = rest.replace("\t", " ").partition(" ")
     parts = rest[len(name) :].strip(BLANKS)
     need(name)
@@ -227,7 +227,7 @@ def key_text(key):
 
 
 def key_of(text):
-    """The key that is written so, if there is one."""
+    """The key with this text, or None."""
     for end, kind in ((")", "function"), ("-", "prefix"), ("", "list" if text.startswith("!") else "unit")):
         if text.endswith(end):
             name = text.removeprefix("!unitlist ") if kind == "list" else text
@@ -246,17 +246,17 @@ def logical_lines(text):
     lines, part = [], None
     for number, line in enumerate(physical, 1):
         line = line.removesuffix("\r").split("#")[0].rstrip(BLANKS)
-        first, before = part or (number, "")
-        part = (first, before + line[:-1] + " ") if line.endswith("\\") else None
+        first, start = part or (number, "")
+        part = (first, start + line[:-1] + " ") if line.endswith("\\") else None
         if part is None:
-            lines.append((first, before + line))
+            lines.append((first, start + line))
     if part:
         lines.append(part)
     return [(number, line.strip(BLANKS)) for number, line in lines]
 
 
 def words_of(line):
-    """The directive of a line that begins with `!`, and what stands behind it."""
+    """The directive of a line that begins with `!`, and the text after it."""
     word, rest = re.match(r"![ \t]*([^ \t]*)(.*)", line, re.DOTALL).groups()
     return word, rest.strip(BLANKS)
 
@@ -265,7 +265,7 @@ ENDS = {"locale": "endlocale", "var": "endvar", "varnot": "endvar", "utf8": "end
 
 
 def kind_of(line):
-    """What kind of line a line is that is not blank, and its arguments."""
+    """The kind of a line that is not blank, and its arguments."""
     if not line.startswith("!"):
         return ["define"]
     word, rest = words_of(line)
@@ -277,8 +277,8 @@ def kind_of(line):
     if word in ("include", "locale"):
         return [word, *words] if len(words) == 1 else ["bad directive"]
     if word in ("set", "var", "varnot"):
-        behind = rest[len(words[0]) :].strip(BLANKS) if words else ""
-        return [word, words[0], behind] if behind else ["bad directive"]
+        value = rest[len(words[0]) :].strip(BLANKS) if words else ""
+        return [word, words[0], value] if value else ["bad directive"]
     if word in ("endlocale", "endvar", "utf8", "endutf8"):
         return ["bad directive"] if rest else [word]
     return ["unknown directive"]

@@ -1,4 +1,4 @@
-"""A live table as plain recursion over its definitions: what names lead to, their faults, and which are settled."""
+"""A live table as plain recursion over its definitions: the targets of names, their faults, and which are settled."""
 
 from plain_decks import keys_in_order
 from plain_lines import BLANKS, KINDS, REFUSED, key_text, tokens_of
@@ -6,11 +6,11 @@ from plain_quantities import Fault, Quantity
 from plain_tables import Alias, Reader, Table
 from plain_trees import first_fault
 
-LARGE = 100  # how many entries a table has that is gone through once
+LARGE = 100  # in a table with more entries, each name is visited once
 
 
 class Expression(Reader):
-    """An expression, with the place of each of its words."""
+    """An expression, with the kind of place of each of its words."""
 
     def __init__(self, text, binder=None):
         super().__init__(text.replace("**", "^"), binder)
@@ -23,16 +23,16 @@ class Expression(Reader):
         return super().called(name, way)
 
     def word(self, token):
-        before = len(self.words)
+        count = len(self.words)
         if token in REFUSED:
             self.words.append(token)
         value = None if token in REFUSED else super().word(token)
-        self.places += ["plain"] * (len(self.words) - before)
+        self.places += ["plain"] * (len(self.words) - count)
         return value
 
 
 def stems(word):
-    """What a word may be the plural of."""
+    """The words whose plural a word may be."""
     if len(word) > 2 and word.endswith("s"):
         yield word[:-1]
     if len(word) > 3 and word.endswith("es"):
@@ -42,7 +42,7 @@ def stems(word):
 
 
 class Functions:
-    """The functions of a table by name, as values ask for them."""
+    """The functions of a table by name, in the form that values need."""
 
     def __init__(self, live):
         self.live = live
@@ -62,7 +62,7 @@ class Live(Table):
         self.entries = entries
         self.functions = Functions(self)
         self.read_entries, self.callables = {}, {}
-        self.closed = set() if len(entries) > LARGE else None
+        self.sound_keys = set() if len(entries) > LARGE else None
         self.settled, self.reductions = set(), 0
 
     # Entries
@@ -74,11 +74,11 @@ class Live(Table):
         return expression.value
 
     def entry(self, key):
-        """The words of the trees of an entry, in order, and what its trees are worth."""
+        """The words of the trees of an entry, in order, and the value of the trees."""
         if key not in self.read_entries:
             self.uses_read = []
-            made = self.read_entry(key[0], key[1], self.entries[key])
-            self.read_entries[key] = self.uses_read, made
+            value = self.read_entry(key[0], key[1], self.entries[key])
+            self.read_entries[key] = self.uses_read, value
         return self.read_entries[key]
 
     def read_entry(self, kind, name, text):
@@ -98,98 +98,98 @@ class Live(Table):
 
     # Names
 
-    def targets(self, use, looked=None):
-        """The targets of a word at its place. The keys at which it looks are put into a list, where one is given."""
+    def targets(self, use, lookups=None):
+        """The targets of a word at its place. Adds the keys that it looks up to `lookups`, if there is one."""
         place, word = use
 
-        def found(*key):
-            if looked is not None:
-                looked.append(key)
+        def find(*key):
+            if lookups is not None:
+                lookups.append(key)
             return [key] if key in self.entries else []
 
-        def behind_prefix(word):
+        def with_prefix(word):
             for end in range(len(word), 0, -1):
-                prefix, rest = found("prefix", word[:end]), word[end:]
+                prefix, rest = find("prefix", word[:end]), word[end:]
                 if prefix and not rest:
                     return prefix
-                if prefix and (unit := found("unit", rest)):
+                if prefix and (unit := find("unit", rest)):
                     return prefix + unit
             return []
 
         if place == "inverse":
-            return found("function", word)
+            return find("function", word)
         first, second = ("unit", "function") if place == "plain" else ("function", "unit")
-        if whole := found(first, word) or found(second, word):
+        if whole := find(first, word) or find(second, word):
             return whole
         for stem in stems(word):
-            if part := found("unit", stem) or behind_prefix(stem):
+            if part := find("unit", stem) or with_prefix(stem):
                 return part
-        return behind_prefix(word)
+        return with_prefix(word)
 
     def name_fault(self, uses, path=()):
-        """The text of the first name fault of words behind a path. What is left to go through stands on a stack:
-        words, or the targets of one, and for each entry its key in the path."""
+        """The text of the first name fault of words at the end of a path, or None. The stack has the words and targets
+        that are still to be visited, and whether they belong to an entry, whose key is then on the path."""
         path = list(path)
-        on_path, left = set(path), [(iter(uses), False)]
-        while left:
-            steps, is_entry = left[-1]
+        on_path, stack = set(path), [(iter(uses), False)]
+        while stack:
+            steps, is_entry = stack[-1]
             step = next(steps, None)
             if step is None:
-                left.pop()
+                stack.pop()
                 if is_entry:
                     on_path.remove(path[-1])
                     key = path.pop()
-                    if self.closed is not None:
-                        self.closed.add(key)
+                    if self.sound_keys is not None:
+                        self.sound_keys.add(key)
             elif step[0] not in KINDS:
                 if step[1] in REFUSED:
-                    return f"refused function: {step[1]}{standing_in(path)}"
+                    return f"refused function: {step[1]}{location_text(path)}"
                 targets = self.targets(step)
                 if not targets:
-                    return f"unknown unit: {step[1]}{standing_in(path)}"
-                left.append((iter(targets), False))
+                    return f"unknown unit: {step[1]}{location_text(path)}"
+                stack.append((iter(targets), False))
             elif step in on_path:
                 return "cycle: " + " -> ".join(map(key_text, path[path.index(step) :] + [step]))
-            elif self.closed is None or step not in self.closed:
+            elif self.sound_keys is None or step not in self.sound_keys:
                 path.append(step)
                 on_path.add(step)
-                left.append((iter(self.uses(step)), True))
+                stack.append((iter(self.uses(step)), True))
         return None
 
     def reach(self, uses):
-        """The keys that words reach, each behind those that it reaches; in a large table those that are not settled."""
-        seen, order, left = set(), [], [(None, iter(uses))]
-        known = set() if self.closed is None else self.settled
-        while left:
-            key, rest = left[-1]
+        """The keys that words reach, each after those that it reaches; in a large table only those not yet settled."""
+        visited, order, stack = set(), [], [(None, iter(uses))]
+        settled = set() if self.sound_keys is None else self.settled
+        while stack:
+            key, rest = stack[-1]
             use = next(rest, None)
             if use is None:
-                left.pop()
+                stack.pop()
                 if key:
                     order.append(key)
                 continue
             for target in self.targets(use):
-                if target not in seen and target not in known:
-                    seen.add(target)
-                    left.append((target, iter(self.uses(target))))
+                if target not in visited and target not in settled:
+                    visited.add(target)
+                    stack.append((target, iter(self.uses(target))))
         return order
 
     def query(self, uses, path=()):
-        """Settles what words reach behind a path, or raises their name fault."""
+        """Settles the names that words at the end of a path reach, or raises their name fault."""
         fault = self.name_fault(uses, path)
         if fault:
             raise Fault(fault)
-        reached = [*self.reach(uses), *path]
-        new = set(reached) - self.settled
+        keys = [*self.reach(uses), *path]
+        new = set(keys) - self.settled
         self.settled |= new
         self.reductions += len(new)
-        for key in reached:
+        for key in keys:
             self.outcome(key)
 
     # Values
 
     def outcome(self, key):
-        """The value of a key or its fault, or nothing of a function."""
+        """The value or the fault of a key, or None for a function."""
         kind, name = key
         if kind == "function":
             return None
@@ -207,7 +207,7 @@ class Live(Table):
             return fault
 
     def worth(self, word):
-        """What a word is worth that stands for no function with an argument."""
+        """The value of a word that is not called."""
         product = None
         for key in self.targets(("plain", word)):
             if key[0] == "function":
@@ -220,12 +220,12 @@ class Live(Table):
 
     def callable(self, name):
         if name not in self.callables:
-            uses, made = self.entry(("function", name))
-            called = [key[1] for use in uses for key in self.targets(use) if key[0] == "function"]
-            if made is None:
-                made = Alias(name, self.callable(called[0]))
-            made.rank = 1 + max((self.callable(other).rank for other in called), default=0)
-            self.callables[name] = made
+            uses, function = self.entry(("function", name))
+            names = [key[1] for use in uses for key in self.targets(use) if key[0] == "function"]
+            if function is None:
+                function = Alias(name, self.callable(names[0]))
+            function.rank = 1 + max((self.callable(other).rank for other in names), default=0)
+            self.callables[name] = function
         return self.callables[name]
 
     # Calls
@@ -257,25 +257,25 @@ class Live(Table):
     # Edits
 
     def affected(self, changed):
-        """The settled names that a change of keys affects."""
+        """The settled names that a change of these keys affects."""
         users = {}
         for key in self.settled:
             for use in self.uses(key):
-                looked = []
-                self.targets(use, looked)
-                for other in looked:
+                lookups = []
+                self.targets(use, lookups)
+                for other in lookups:
                     users.setdefault(other, set()).add(key)
-        # What is affected is forgotten through names alone: a key at which a word looked has users, and is none itself.
-        affected, left = set(), [key for at in changed for key in {at} | users.get(at, set()) if key in self.settled]
-        while left:
-            key = left.pop()
-            if key not in affected:
-                affected.add(key)
-                left += (user for user in users.get(key, ()) if key in targets_of(self, user))
-        return affected
+        # Effects spread through names alone: a key that a word looked up has users, but is not one.
+        result, stack = set(), [key for at in changed for key in {at} | users.get(at, set()) if key in self.settled]
+        while stack:
+            key = stack.pop()
+            if key not in result:
+                result.add(key)
+                stack += (user for user in users.get(key, ()) if key in targets_of(self, user))
+        return result
 
     def after(self, entries):
-        """The table of other entries, in which what the change affects is forgotten."""
+        """The table of other entries, in which the names that the change affects are no longer settled."""
         keys = self.entries.keys() | entries.keys()
         live = Live(entries)
         live.settled = self.settled - self.affected({k for k in keys if self.entries.get(k) != entries.get(k)})
@@ -292,7 +292,7 @@ def targets_of(live, key):
     return {target for use in live.uses(key) for target in live.targets(use)}
 
 
-def standing_in(path):
+def location_text(path):
     return f" in {key_text(path[-1])}" if path else ""
 
 

@@ -12,9 +12,9 @@ class Fault(Exception):
 
 
 def number(text):
-    """The number that a bound or a number of a table stands for."""
-    above, _, below = text.strip().partition("|")
-    return Fraction(above) / Fraction(below or 1)
+    """The value of a bound or a number of a table."""
+    numerator, _, denominator = text.strip().partition("|")
+    return Fraction(numerator) / Fraction(denominator or 1)
 
 
 def fitting(x):
@@ -24,7 +24,7 @@ def fitting(x):
 
 
 def added(x, y):
-    """The sum over the least common multiple: it, both numerators over it and their sum fit."""
+    """The sum over the least common multiple, which has to fit with both numerators and their sum."""
     multiple = math.lcm(x.denominator, y.denominator)
     left = x.numerator * (multiple // x.denominator)
     right = y.numerator * (multiple // y.denominator)
@@ -55,9 +55,9 @@ class Quantity:
         x = self.value
         number = str(x.numerator) + (f"|{x.denominator}" if x.denominator > 1 else "")
         names = sorted(self.exponents.items())
-        above = "".join(power(n, by) for n, by in names if by > 0)
-        below = "".join(power(n, -by) for n, by in names if by < 0)
-        return number + above + (" /" + below if below else "")
+        positive = "".join(power(n, by) for n, by in names if by > 0)
+        negative = "".join(power(n, -by) for n, by in names if by < 0)
+        return number + positive + (" /" + negative if negative else "")
 
     def scaled(self, other, sign):
         value = fitting(self.value * other.value) if sign > 0 else over(self.value, other.value)

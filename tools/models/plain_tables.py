@@ -1,4 +1,4 @@
-"""The values of expressions, calls and inverses over a table of definitions, by plain recursion over fractions."""
+"""The values of expressions, calls and inverses in a table of definitions, by plain recursion with fractions."""
 
 import re
 from fractions import Fraction
@@ -13,12 +13,12 @@ OPTION = re.compile(
 
 
 class Reader:
-    """Reads an expression into a function from the table and the argument to its value."""
+    """Parses an expression into a function of the table and the argument, which returns its value."""
 
     def __init__(self, text, binder):
-        found = list(TOKEN.finditer(text.strip(" \t")))
-        self.tokens = [m.group(1) for m in found]
-        self.spaced = [m.group(0) != m.group(1) for m in found]
+        matches = list(TOKEN.finditer(text.strip(" \t")))
+        self.tokens = [m.group(1) for m in matches]
+        self.has_blank_before = [m.group(0) != m.group(1) for m in matches]
         self.at, self.binder, self.words = 0, binder, []
 
     def peek(self):
@@ -35,10 +35,10 @@ class Reader:
             rest.append((step, part()))
 
         def value(table, a):
-            running = first(table, a)
+            result = first(table, a)
             for step, operand in rest:
-                running = step(running, operand(table, a))
-            return running
+                result = step(result, operand(table, a))
+            return result
 
         return value
 
@@ -49,24 +49,24 @@ class Reader:
 
     def product(self):
         times, over_by = (lambda x, y: x.scaled(y, 1)), (lambda x, y: x.scaled(y, -1))
-        return self.chain(self.beside, {"*": times, "/": over_by, "per": over_by})
+        return self.chain(self.juxtaposition, {"*": times, "/": over_by, "per": over_by})
 
-    def beside(self):
+    def juxtaposition(self):
         if self.peek() in SIGNS:
-            return self.signed(self.beside)
+            return self.with_sign(self.juxtaposition)
         first, rest = self.power(), []
         while self.peek() not in ("", "+", "-", "*", "/", "per", "^", ")"):
             rest.append(self.power())
 
         def value(table, a):
-            running = first(table, a)
+            result = first(table, a)
             for operand in rest:
-                running = running.scaled(operand(table, a), 1)
-            return running
+                result = result.scaled(operand(table, a), 1)
+            return result
 
         return value
 
-    def signed(self, part):
+    def with_sign(self, part):
         sign, operand = SIGNS[self.next()], part()
 
         def value(table, a):
@@ -83,42 +83,42 @@ class Reader:
         exponent = self.exponent()
 
         def value(table, a):
-            below = base(table, a)
-            return below.power(exponent(table, a))
+            base_value = base(table, a)
+            return base_value.power(exponent(table, a))
 
         return value
 
     def exponent(self):
-        return self.signed(self.exponent) if self.peek() in SIGNS else self.power()
+        return self.with_sign(self.exponent) if self.peek() in SIGNS else self.power()
 
     def atom(self):
         token = self.next()
         if token[0].isdigit() or token[0] == ".":
-            below = None
+            denominator = None
             if self.peek() == "|":
                 self.next()
-                below = self.next()
+                denominator = self.next()
             return lambda table, a: Quantity(
-                fitting(Fraction(token)) if below is None
-                else over(fitting(Fraction(token)), fitting(Fraction(below)))
+                fitting(Fraction(token)) if denominator is None
+                else over(fitting(Fraction(token)), fitting(Fraction(denominator)))
             )
         if token == "(":
-            return self.closed()
+            return self.parenthesized()
         if token in ("sqrt", "cuberoot"):
             self.next()
-            operand, degree = self.closed(), 2 if token == "sqrt" else 3
+            operand, degree = self.parenthesized(), 2 if token == "sqrt" else 3
             return lambda table, a: operand(table, a).power(Quantity(Fraction(1, degree)))
         if token == "~":
             return self.called(self.next(), "unapply")
-        if self.peek() == "(" and not self.spaced[self.at]:
+        if self.peek() == "(" and not self.has_blank_before[self.at]:
             if token != self.binder:
                 return self.called(token, "apply")
             self.next()
-            operand = self.closed()
+            operand = self.parenthesized()
             return lambda table, a: a.scaled(operand(table, a), 1)
         return self.word(token)
 
-    def closed(self):
+    def parenthesized(self):
         operand = self.sum()
         self.next()
         return operand
@@ -126,7 +126,7 @@ class Reader:
     def called(self, name, way):
         self.next()
         self.words.append(name)
-        operand = self.closed()
+        operand = self.parenthesized()
 
         def value(table, a):
             if name not in table.functions:
@@ -165,8 +165,8 @@ class End:
 
 def holds(interval, x):
     opening, low, high, closing = interval
-    above = low is None or low < x or (opening == "[" and low == x)
-    return above and (high is None or x < high or (closing == "]" and x == high))
+    is_above = low is None or low < x or (opening == "[" and low == x)
+    return is_above and (high is None or x < high or (closing == "]" and x == high))
 
 
 class Function:
@@ -239,19 +239,19 @@ class Points:
 
 
 class Table:
-    """A table of definitions. What its words lead to, and how it reads an expression, is for its subclass to say."""
+    """A table of definitions. A subclass looks up its words and parses its expressions."""
 
     def __init__(self):
         self.outcomes, self.functions = {}, {}
 
-    def points(self, name, behind):
-        unit, _, numbers = behind[1:].partition("]")
-        read = self.read(unit)
+    def points(self, name, definition):
+        unit, _, numbers = definition[1:].partition("]")
+        unit_value = self.read(unit)
         numbers = [number(n) for n in re.findall(r"[^\s,]+", numbers) if n != "noerror"]
-        return Points(name, read.rank + 1, read, list(zip(numbers[::2], numbers[1::2])))
+        return Points(name, unit_value.rank + 1, unit_value, list(zip(numbers[::2], numbers[1::2])))
 
-    def function(self, name, behind):
-        parameter, _, text = behind[1:].partition(")")
+    def function(self, name, definition):
+        parameter, _, text = definition[1:].partition(")")
         parameter = parameter.strip()
         units, domain, range_ = ("", ""), None, None
         while option := OPTION.match(text):

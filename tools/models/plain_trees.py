@@ -1,7 +1,7 @@
-"""The rules of expressions, plainly: which tokens are refused, and the tree of the others.
+"""Plain rules for expressions: which tokens are refused, and the tree of the others.
 
-A token may stand or not by the tokens before it, and a tree is found by splitting its tokens at the operator that
-binds least.
+The tokens before a token decide whether it is allowed. Trees are built by splitting the tokens at the operators that
+bind least.
 """
 
 from collections import namedtuple
@@ -23,8 +23,8 @@ def opened(tokens):
     return kinds.count("(") + kinds.count("head") - kinds.count(")")
 
 
-def may_stand(tokens, i):
-    """By the rules of what may follow what."""
+def is_allowed(tokens, i):
+    """Whether a token is allowed after those before it."""
     kind = "numeral" if tokens[i].kind == "long" else tokens[i].kind
     last = tokens[i - 1].kind if i > 0 else "("
     if kind == "bad":
@@ -41,7 +41,7 @@ def may_stand(tokens, i):
 
 
 def depth(tokens, i):
-    """Of a token: `(`, heads, signs and `^` before it, less `)` before it."""
+    """The depth of a token: the number of `(`, heads, signs and `^` before it, less the number of `)`."""
     count = 0
     for j, token in enumerate(tokens[:i]):
         follows = j > 0 and tokens[j - 1].kind in ENDS
@@ -54,7 +54,7 @@ def depth(tokens, i):
 
 def first_fault(tokens, places, length):
     for i, token in enumerate(tokens):
-        if not may_stand(tokens, i):
+        if not is_allowed(tokens, i):
             return f"syntax error at {places[i]}"
         if token.kind == "long":
             return "numeral too long"
@@ -80,13 +80,13 @@ def levels(tokens):
 
 
 def parts(tokens, splits, keep):
-    """The tokens, split outside parentheses at each place that `splits` tells."""
+    """The tokens, split outside parentheses at each place for which `splits` is true."""
     places = [i for i, level in enumerate(levels(tokens)) if level == 0 and i > 0 and splits(i)]
     starts, ends = [0, *[i + 1 - keep for i in places]], [*places, len(tokens)]
     return [tokens[i] for i in places], [tokens[i:j] for i, j in zip(starts, ends)]
 
 
-def listed(name, marks, members):
+def tree_text(name, marks, members):
     return f"({name}" + "".join(f" {mark} {member}" for mark, member in zip(marks, members)) + ")"
 
 
@@ -96,13 +96,13 @@ def sum_tree(tokens, binder):
 
     marks, members = parts(tokens, splits, 0)
     trees = [product_tree(member, binder) for member in members]
-    return listed("sum", ["+", *[mark.kind for mark in marks]], trees) if marks else trees[0]
+    return tree_text("sum", ["+", *[mark.kind for mark in marks]], trees) if marks else trees[0]
 
 
 def product_tree(tokens, binder):
     marks, members = parts(tokens, lambda i: tokens[i].kind in ("*", "/"), 0)
     trees = [side_tree(member, binder) for member in members]
-    return listed("product", ["*", *[mark.kind for mark in marks]], trees) if marks else trees[0]
+    return tree_text("product", ["*", *[mark.kind for mark in marks]], trees) if marks else trees[0]
 
 
 def side_tree(tokens, binder):
@@ -130,7 +130,7 @@ def power_tree(tokens, binder):
 
 
 def numeral_text(text):
-    """The digits without zeros at their end, and the power of ten behind them."""
+    """The digits without final zeros, and the power of ten."""
     _, digits, power = Decimal(text).normalize().as_tuple()
     return "".join(map(str, digits)) + (f"e{power}" if power else "")
 

@@ -1,7 +1,7 @@
-"""Tables of names that lead to one another, with queries, made at random.
+"""Random tables of names that lead to one another, with queries.
 
-Names are short and made of few letters, so that words have several readings: as a name, as a
-plural, behind a prefix. Most entries lead to keys before them in an order of the table's own; some lead anywhere.
+Names are short and made of few letters, so that words have several readings: as a name, as a plural, after a prefix.
+The keys of a table are in a random order. Most entries lead to earlier keys; some lead anywhere.
 """
 
 UNITS = ["a", "b", "ab", "ba", "dab", "y", "bay", "bas", "abes", "m", "s", "f"]
@@ -11,12 +11,12 @@ LISTS = ["a", "l", "da"]
 NUMBERS = ["2", "3", "1|2", "0.5", "4", "10", "0", "7|3", "1e20"]
 UNKNOWN = ["nosuch", "z", "q_1", "l", "zs"]
 REFUSED = ["sin", "ln", "log2", "exp"]
-BEHIND = ["", "", "", " + 1", " - 1"]
+ADDITIONS = ["", "", "", " + 1", " - 1"]
 DOMAINS = ["", "", "", " domain=[0,10]", " domain=(,4)", " range=[1,)", " domain=[-5,) range=(0,30]"]
 
 
 class Made:
-    """The keys of a table in an order of its own, and its lines."""
+    """The keys of a table in a random order, and its lines."""
 
     def __init__(self, r):
         self.r = r
@@ -25,7 +25,7 @@ class Made:
             (kind, name) for kind, names, most in kinds for name in r.sample(names, r.randrange(most // 2, most + 1))
         ]
         r.shuffle(self.keys)
-        self.loose = r.choice([4, 8, 20, 1000])  # one in so many words leads anywhere
+        self.loose = r.choice([4, 8, 20, 1000])  # one word in this many leads anywhere
         self.lines = [self.line(at) for at in range(len(self.keys))]
         r.shuffle(self.lines)
 
@@ -35,7 +35,7 @@ class Made:
     def number(self):
         return self.r.choice(NUMBERS)
 
-    def named(self, keys, kind):
+    def names(self, keys, kind):
         return [name for k, name in keys if k == kind]
 
     def plural(self, name):
@@ -44,11 +44,11 @@ class Made:
         return name + self.r.choice(["s", "es"])
 
     def unit(self, keys):
-        """A word for a unit, which may stand behind a prefix and be a plural."""
-        name = self.r.choice(self.named(keys, "unit") or ["m"])
+        """A word for a unit, which may have a prefix and be a plural."""
+        name = self.r.choice(self.names(keys, "unit") or ["m"])
         if self.one_in(4):
             name = self.plural(name)
-        prefixes = self.named(keys, "prefix")
+        prefixes = self.names(keys, "prefix")
         return self.r.choice(prefixes) + name if prefixes and self.one_in(4) else name
 
     def atom(self, keys, depth, binder=None):
@@ -58,14 +58,14 @@ class Made:
             return self.r.choice(UNKNOWN + REFUSED)
         if self.one_in(self.loose):
             keys = self.keys
-        functions, kind = self.named(keys, "function"), self.r.randrange(10)
+        functions, kind = self.names(keys, "function"), self.r.randrange(10)
         if kind < 3 and functions:
             name = self.r.choice(functions)
             if self.one_in(12):
                 return name
             return f"{self.r.choice(['', '~'])}{name}({self.sum(keys, depth - 1, binder)})"
         if kind == 3:
-            return self.r.choice(self.named(keys, "prefix") or ["k"])
+            return self.r.choice(self.names(keys, "prefix") or ["k"])
         if kind == 4:
             return f"{self.unit(keys)}({self.sum(keys, depth - 1, binder)})"
         return self.unit(keys) if kind < 9 else self.number()
@@ -89,40 +89,41 @@ class Made:
 
     def line(self, at):
         kind, name = self.keys[at]
-        before = self.keys[:at]
+        earlier = self.keys[:at]
         if kind == "unit":
             if self.one_in(5) or at == 0:
                 return f"{name} {self.r.choice(['!', '!', '!', '!dimensionless'])}"
-            return f"{name} {self.sum(before, 2)}"
+            return f"{name} {self.sum(earlier, 2)}"
         if kind == "prefix":
-            return f"{name}- {self.number() if self.one_in(2) else self.sum(before, 1)}"
+            return f"{name}- {self.number() if self.one_in(2) else self.sum(earlier, 1)}"
         if kind == "list":
-            return f"!unitlist {name} {self.unit(before)};{self.unit(before)}"
-        return self.function(name, before)
+            return f"!unitlist {name} {self.unit(earlier)};{self.unit(earlier)}"
+        return self.function(name, earlier)
 
-    def function(self, name, before):
+    def function(self, name, earlier):
         form = self.r.randrange(6)
-        others = self.named(self.keys if self.one_in(self.loose) else before, "function")
+        others = self.names(self.keys if self.one_in(self.loose) else earlier, "function")
         if form == 0 and (others or self.one_in(4)):
             return f"{name}() {self.r.choice(others or UNITS)}"
         if form == 1:
-            return f"{name}[{self.sum(before, 1)}] 0 1, 2 {self.r.choice(['3', '1', '-4'])}, 5 9"
+            return f"{name}[{self.sum(earlier, 1)}] 0 1, 2 {self.r.choice(['3', '1', '-4'])}, 5 9"
         options = self.r.choice(DOMAINS)
         if self.one_in(3):
-            given, taken = self.r.choice(["", self.unit(before)]), self.r.choice(["1", self.unit(before)])
-            options = f" units=[{given};{taken}]" + options
+            argument_unit = self.r.choice(["", self.unit(earlier)])
+            result_unit = self.r.choice(["1", self.unit(earlier)])
+            options = f" units=[{argument_unit};{result_unit}]" + options
         if others and self.one_in(2):
             inner = self.r.choice(others)
-            bodies = f"{inner}(x){self.r.choice(BEHIND)}", f"~{inner}({name})"
+            bodies = f"{inner}(x){self.r.choice(ADDITIONS)}", f"~{inner}({name})"
         elif self.one_in(2):
-            bodies = f"2 x{self.r.choice(BEHIND)}", f"{name} / 2"
+            bodies = f"2 x{self.r.choice(ADDITIONS)}", f"{name} / 2"
         else:
-            bodies = self.sum(before, 1, "x"), self.sum(before, 1, name)
+            bodies = self.sum(earlier, 1, "x"), self.sum(earlier, 1, name)
         return f"{name}(x){options} {bodies[0]}" + ("" if self.one_in(4) else f" ; {bodies[1]}")
 
     def query(self):
         kind = self.r.randrange(1, 20)
-        functions = self.named(self.keys, "function") or ["f"]
+        functions = self.names(self.keys, "function") or ["f"]
         if self.one_in(50):
             return "settle"
         if kind < 5:
@@ -132,16 +133,16 @@ class Made:
         return f"value {self.unit(self.keys) if kind < 14 else self.sum(self.keys, 2)}"
 
 
-def entry_points(made):
-    """Each key asked for by itself, in a random order."""
+def entry_points(maker):
+    """A query of each key, in a random order."""
     words = {"unit": "value {}", "prefix": "value {}", "function": "unapply {} 2", "list": "value {}"}
-    queries = [words[kind].format(name) for kind, name in made.keys]
-    made.r.shuffle(queries)
+    queries = [words[kind].format(name) for kind, name in maker.keys]
+    maker.r.shuffle(queries)
     return queries
 
 
 def table(r):
     """The lines of one table, and queries."""
-    made = Made(r)
-    queries = entry_points(made) if made.one_in(3) else []
-    return made.lines, queries + [made.query() for _ in range(20)]
+    maker = Made(r)
+    queries = entry_points(maker) if maker.one_in(3) else []
+    return maker.lines, queries + [maker.query() for _ in range(20)]

@@ -1,6 +1,4 @@
-"""Tables of definitions with expressions over them, made at random.
-
-Each function takes the random.Random that it makes its lines from.
+"""Random tables of definitions, and expressions with their names. The argument of `table` is a random.Random.
 """
 
 from numbers_at_limits import MOST, size
@@ -8,13 +6,13 @@ from numbers_at_limits import MOST, size
 PRIMITIVES = ["m", "s", "kg"]
 SMALL = ["0", "1", "2", "3", "4", "8", "9", "16", "27", "0.5", "0.25", "1.5", "1e3", "1e-3", "12"]
 BOUNDS = ["-2", "-1", "-1|2", "0", "1|3", "0.5", "1", "2", "3", "4", "273.15"]
-BESIDE = ["", "", "", "", " + 1e-20", " - 1e-20", " + 1|7", " - 1"]
+ADDITIONS = ["", "", "", "", " + 1e-20", " - 1e-20", " + 1|7", " - 1"]
 EXPONENTS = ["0", "1", "2", "3", "-1", "-2", "1|2", "1|3", "-1|2", "2|3", "3|2", "1|60", "1|61", "5|7"]
 LIMITS = ["127", "-127", "32767", "-32767", "32768", "-32768", "1|32767", "1|32768"]
 
 
 class Made:
-    """What the lines of a table have defined so far, and the lines."""
+    """The lines of a table, and the names that they have defined so far."""
 
     def __init__(self, r):
         self.r, self.lines = r, []
@@ -68,10 +66,10 @@ class Made:
         return f"{self.r.choice(self.units)}({self.sum(depth - 1, binder)})"
 
     def argument(self, name, way, depth, binder=None):
-        """What a function may take this way: mostly a number in its unit, which may be a bound."""
+        """An argument of a function or its inverse: in most cases a number in its unit, which may be a bound."""
         if self.one_in(4):
             return self.sum(depth, binder)
-        number = f"({self.r.choice(BOUNDS)}{self.r.choice(BESIDE)})" if self.one_in(2) else self.number()
+        number = f"({self.r.choice(BOUNDS)}{self.r.choice(ADDITIONS)})" if self.one_in(2) else self.number()
         return f"{number} ({self.ends[name][way]})"
 
     def power(self, depth, binder):
@@ -107,26 +105,26 @@ class Made:
         return f"{opening}{low},{high}{closing}"
 
     def function(self, name):
-        options, given, taken = "", "1", "1"
+        options, argument_unit, result_unit = "", "1", "1"
         inner = self.r.choice(self.functions) if self.functions and self.one_in(3) else None
         if not self.one_in(3):
-            given, taken = (self.product(0, None) if self.one_in(4) else self.unit() for _ in "ab")
+            argument_unit, result_unit = (self.product(0, None) if self.one_in(4) else self.unit() for _ in "ab")
             if inner and not self.one_in(4):
-                given, taken = self.ends[inner]
-            options += f" units=[{'' if self.one_in(8) else given};{'' if self.one_in(8) else taken}]"
+                argument_unit, result_unit = self.ends[inner]
+            options += f" units=[{'' if self.one_in(8) else argument_unit};{'' if self.one_in(8) else result_unit}]"
         if self.one_in(2):
             options += f" domain={self.span()}"
         if self.one_in(2):
             options += f" range={self.span()}"
-        self.ends[name] = given, taken
+        self.ends[name] = argument_unit, result_unit
         if inner:
             forward, inverse = f"{inner}(x)", f"~{inner}({name})"
         elif self.one_in(4):
             forward, inverse = self.sum(2, "x"), self.sum(2, name)
         else:
             by, more = self.number(), self.number()
-            forward = f"({by} x / ({given}) + {more}) ({taken})"
-            inverse = f"({name} / ({taken}) - {more}) / {by} ({given})"
+            forward = f"({by} x / ({argument_unit}) + {more}) ({result_unit})"
+            inverse = f"({name} / ({result_unit}) - {more}) / {by} ({argument_unit})"
         return f"{name}(x){options} {forward}" + ("" if self.one_in(6) else f" ; {inverse}")
 
     def table(self, name):
@@ -163,7 +161,7 @@ class Made:
             self.define(line, self.functions, f"f{name}")
 
     def deep(self):
-        """Functions that call one another, of ranks about the greatest."""
+        """Functions that call one another, with ranks near the greatest one."""
         for count in range(self.r.randrange(15, 19)):
             name, inner = f"d{chr(97 + count)}", f"d{chr(96 + count)}"
             kind = self.r.randrange(4) if count else 3
@@ -184,9 +182,9 @@ class Made:
 
 
 def table(r):
-    """The lines of one table, and expressions over it."""
-    made = Made(r)
-    made.definitions()
-    if made.one_in(10):
-        made.deep()
-    return made.lines, [made.query() for _ in range(40)]
+    """The lines of one table, and expressions with its names."""
+    maker = Made(r)
+    maker.definitions()
+    if maker.one_in(10):
+        maker.deep()
+    return maker.lines, [maker.query() for _ in range(40)]

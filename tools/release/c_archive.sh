@@ -1,11 +1,11 @@
 #!/usr/bin/env bash
 # Compiles the proved crate units_c: tools/release/c_archive.sh prints the path of crates/units_c/out/libunits_c.a.
 #
-# It builds over the libraries crates/NAME/out/rlib/NAME.rlib that `rt ci` left, and takes one only if no source of its
-# crate is newer. `rt ci` writes a library after the proof of its crate alone. `rattle build` then checks every proof of
-# units_c over these libraries and compiles the code that it checked, in one command; if a proof fails, it writes
-# nothing. crates/units_c/out/made_from has the toolchain, the checksums of the sources, of each library and of the
-# archive, and the verdict. As long as these are the same, the archive is not made again.
+# It uses the libraries crates/NAME/out/rlib/NAME.rlib of `rt ci`, which writes a library only after the proof of its
+# crate; no source of the crate may be newer. `rattle build` then checks every proof of units_c with these libraries and
+# compiles the checked code, in one command; if a proof fails, it writes nothing. crates/units_c/out/made_from has the
+# toolchain, the checksums of the sources, of each library and of the archive, and the verdict. The archive is built
+# again only if these change.
 # Statuses: 1 if units_c is not proved, 3 if a library is missing or older than its sources, 127 without the toolchain.
 set -euo pipefail
 script=$(readlink -f "${BASH_SOURCE[0]}")
@@ -27,12 +27,12 @@ if ! kit=$(readlink -f "$(command -v rt)"); then
 fi
 kit=${kit%/bin/rt}
 
-# sum_of_library NAME: one checksum over the lists in a library, which have the checksum of each of its parts.
+# sum_of_library NAME: prints one checksum of the lists in a library, which have the checksum of each of its parts.
 sum_of_library() (
     cd "$root/crates/$1/out/rlib/$1.rlib" && sha256sum format toolchain/*.json | sha256sum | cut -d ' ' -f 1
 )
 
-# is_current NAME: whether there is a library of the crate, and no source of the crate is newer.
+# is_current NAME: whether the crate has a library that is not older than its sources.
 is_current() {
     local library=$root/crates/$1/out/rlib/$1.rlib folders=() part
     [ -e "$library/format" ] || return
@@ -42,10 +42,10 @@ is_current() {
     [ -z "$(find "${folders[@]}" -newer "$library" -print -quit)" ]
 }
 
-# The libraries below, the lowest first, and those that units_c itself names: of this repository, else of the toolchain.
-below=() used=()
+# The libraries below units_c, the lowest first, and those that it uses directly, of this repository or the toolchain.
+below=() direct=()
 while IFS=: read -r head names; do
-    if [ "${head%% *}" = "$crate" ]; then read -ra used <<< "$names"; else below+=("$head"); fi
+    if [ "${head%% *}" = "$crate" ]; then read -ra direct <<< "$names"; else below+=("$head"); fi
 done < <(lines_of "$crate")
 for name in "${below[@]}"; do
     if ! is_current "$name"; then
@@ -73,7 +73,7 @@ fi
 
 words=(--crate-name "$crate" src/lib.rt --crate-type staticlib -L "dependency=$kit/rlibs")
 words+=(--extern "std=$kit/rlibs/std.rlib")
-for name in "${used[@]}"; do
+for name in "${direct[@]}"; do
     path=$root/crates/$name/out/rlib/$name.rlib
     if ! [ -d "$root/crates/$name" ]; then path=$kit/rlibs/$name.rlib; fi
     words+=(--extern "$name=$path")

@@ -1,13 +1,13 @@
 #!/usr/bin/env bash
-# The released program, release/units-x86_64-linux, the same object linked statically, release/units-x86_64-linux-static,
-# and release/MADE_FROM, which has the version, the checksums of both, of the parts that the static one has from the
-# system (musl-dev), and of the sources, and the toolchain. tools/web.sh adds the lines of the page.
-#   tools/release/release.sh             makes them from what `rt ci` proved and built
-#   tools/release/release.sh --check     whether they are whole and of the present sources, by its status; it builds
-#                                        nothing
-#   tools/release/release.sh --compare   after `rt ci`: whether the programs are byte for byte what that built. Two kits
-#                                        may compile the same sources differently, and two systems have other libraries
-#                                        for the static link; then it says so
+# Makes and checks the released program, release/units-x86_64-linux, the same object linked statically,
+# release/units-x86_64-linux-static, and release/MADE_FROM, which has the version, the toolchain, and the checksums of
+# both programs, of the sources and of the system's parts of the static program (musl-dev). tools/web.sh adds the lines
+# of the page.
+#   tools/release/release.sh             makes them from the program that `rt ci` proved and built
+#   tools/release/release.sh --check     succeeds if they are unchanged and of the present sources; it builds nothing
+#   tools/release/release.sh --compare   after `rt ci`: compares them byte for byte with the programs that it built. Two
+#                                        kits may compile the same sources differently, and two systems may have
+#                                        different libraries for the static link; then it says so
 #   tools/release/release.sh --sources   prints the checksum of the present sources
 set -u
 script=$(readlink -f "${BASH_SOURCE[0]}") || exit
@@ -20,16 +20,16 @@ out=$root/crates/units/out
 
 sum_of() { sha256sum "$1" | cut -d ' ' -f 1; }
 
-# named WORD: what follows this word in MADE_FROM.
-named() { sed -n "s/^$1 //p" "$made_from" 2> /dev/null; }
+# field WORD: prints the text after this word in MADE_FROM.
+field() { sed -n "s/^$1 //p" "$made_from" 2> /dev/null; }
 
-# version: the newest version of CHANGELOG.md that has a number.
+# version: prints the newest version number of CHANGELOG.md.
 version() { sed -n 's/^## \[\{0,1\}\([0-9][0-9.]*\).*/\1/p' "$root/CHANGELOG.md" | head -n 1; }
 
-# is_whole FILE WORD: whether it is the program that MADE_FROM names.
-is_whole() { [ -x "$1" ] && [ "$(sum_of "$1")" = "$(named "$2")" ]; }
+# is_whole FILE WORD: whether the file has the checksum in MADE_FROM.
+is_whole() { [ -x "$1" ] && [ "$(sum_of "$1")" = "$(field "$2")" ]; }
 
-# is_proved: whether out/ has what `rt ci` leaves: the program as two compilers build it, and what it wrote.
+# is_proved: whether out/ has the results of `rt ci`: the program from two compilers, and its output.
 is_proved() {
     [ -x "$out/units" ] && [ -x "$out/units.by-rattle" ] && cmp -s "$out/stdout" "$root/crates/units/stdout" \
         && ! [ "$out/units" -nt "$out/stdout" ] && ! is_outdated "$out/units" units
@@ -37,7 +37,7 @@ is_proved() {
 
 make() {
     if ! is_proved; then
-        echo "release: crates/units/out/ does not have what rt ci leaves of these sources: run bin/test first" >&2
+        echo "release: crates/units/out/ does not have the results of rt ci for these sources: run bin/test first" >&2
         exit 1
     fi
     local toolchain
@@ -58,24 +58,24 @@ make() {
 
 check() {
     if [ ! -e "$released" ]; then echo "release: there is no released program"; exit 1; fi
-    if ! is_whole "$released" program || { [ -n "$(named static)" ] && ! is_whole "$static" static; }; then
+    if ! is_whole "$released" program || { [ -n "$(field static)" ] && ! is_whole "$static" static; }; then
         echo "release: a program is not the one that release/MADE_FROM names"
         exit 1
     fi
-    if [ "$(sum_of_sources units)" != "$(named sources)" ]; then echo "release: the program is of other sources"; exit 1; fi
+    if [ "$(sum_of_sources units)" != "$(field sources)" ]; then echo "release: the program is of other sources"; exit 1; fi
     echo "release: the programs are whole and of the present sources"
 }
 
 # compare_static: links the static program again and compares, if this system has the same parts for it.
 compare_static() {
     local again status
-    if [ -z "$(named static)" ]; then echo "1 passed, 0 failed"; exit; fi
+    if [ -z "$(field static)" ]; then echo "1 passed, 0 failed"; exit; fi
     if [ ! -e "$out/units.o" ]; then
         echo "release: rt kept the program of an earlier run and not its object, so the static program is not compared"
         echo "1 passed, 0 failed, 1 skipped"
         exit
     fi
-    if [ "$("$root/tools/release/static.sh" --parts 2> /dev/null)" != "$(named static-parts)" ]; then
+    if [ "$("$root/tools/release/static.sh" --parts 2> /dev/null)" != "$(field static-parts)" ]; then
         echo "release: the static program has other parts of a system than this one's, so it is not compared"
         echo "1 passed, 0 failed, 1 skipped"
         exit
@@ -93,15 +93,15 @@ compare_static() {
 compare() {
     if [ -e "$released" ] && ! is_whole "$released" program; then
         echo "release: the program is not the one that release/MADE_FROM names"
-    elif [ "$(sum_of_sources units)" != "$(named sources)" ]; then
+    elif [ "$(sum_of_sources units)" != "$(field sources)" ]; then
         echo "release: the released program is of other sources, so it is not compared with what was proved"
         echo "0 passed, 0 failed"
         exit
     elif cmp "$released" "$out/units"; then
         echo "release: the released program is byte for byte what was proved and built here"
         compare_static
-    elif [ -x "$out/units" ] && kit=$(rt version) && [ "$kit" != "$(named toolchain)" ]; then
-        echo "release: the released program was built by the kit $(named toolchain), so it is not compared with this one's"
+    elif [ -x "$out/units" ] && kit=$(rt version) && [ "$kit" != "$(field toolchain)" ]; then
+        echo "release: the released program was built by the kit $(field toolchain), so it is not compared with this one's"
         echo "0 passed, 0 failed"
         exit
     else

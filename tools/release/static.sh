@@ -1,28 +1,27 @@
 #!/usr/bin/env bash
-# Links the object of a proved program statically, with musl: such a program needs no library of the system.
+# Links the object of a proved program statically, with musl, so that it needs no library of the system.
 #   tools/release/static.sh OBJECT TO             writes the program TO. The same parts give the same bytes
-#   tools/release/static.sh --refusing OBJECT TO  the same program with tools/release/static/refuse.c before its heap
-#   tools/release/static.sh --parts               prints one checksum over the parts that the system adds, and their
-#                                                 package
-#   tools/release/static.sh --order OBJECT        makes tools/release/static/order.txt anew, by valgrind
-# The same program starts in a third to two thirds of the time of GNU units (bench/startup.sh).
+#   tools/release/static.sh --refusing OBJECT TO  writes the same program with tools/release/static/refuse.c before its
+#                                                 heap
+#   tools/release/static.sh --parts               prints one checksum of the parts of the system, and their package
+#   tools/release/static.sh --order OBJECT        writes tools/release/static/order.txt, with valgrind
+# The program starts in a third to two thirds of the time of GNU units (bench/startup.sh).
 #
-# The toolchain adds its compiler, its linker and its C libraries; Debian's musl-dev adds the C library. Two files of
-# tools/release/static replace parts of them and are trusted as they are:
-# - heap.c replaces the toolchain's heap over malloc. A conversion over GNU's definitions asks for 25,000 blocks; malloc
-#   takes 22 % of its instructions, this heap 4 %.
-# - musl.c has the calls that musl lacks, copies that begin faster than musl's (10 % of the time of that conversion),
-#   and maps the stack at once (5 % of the time of a small one).
-# musl, because a start with glibc takes 0.13 ms more, of 0.4: glibc asks the processor for its features and caches
-# before main, and in a virtual machine each question is slow. musl's own malloc would be slower than glibc's.
-# tools/release/static/order.txt puts the functions that run most together, so that fewer pages of the file are read: 7
-# % of a small conversion. Names that the object no longer has do no harm.
-# A program that reads a definition file of some 200 kB or more takes a huge page for its heap: 7 to 10 % of the time
-# over GNU's definitions, for up to 2 MB more of memory. Over a smaller file a huge page costs more than it saves.
-# Tried and left out: larger chunks and mapping blocks that grow save nothing. One call that maps the pages of the code
-# costs what it saves. The program's LLVM code, compiled again without the toolchain's limits on its optimizer, takes
-# at most 3 % less time over GNU's definitions, and then the program is no longer the object that bin/test proved and
-# built.
+# The toolchain has the compiler, the linker and its own C code; Debian's musl-dev has the C library. Two files of
+# tools/release/static replace parts of these, and are trusted:
+# - heap.c replaces the toolchain's heap, which calls malloc. A conversion with GNU's definitions allocates 25,000
+#   blocks; malloc takes 22 % of its instructions, this heap 4 %.
+# - musl.c has calls that musl lacks, copies that start faster than musl's (which saves 10 % of the time of that
+#   conversion), and maps the stack at once (5 % of the time of a small one).
+# A start with glibc would take 0.13 ms more, of 0.4: glibc asks the processor for its features and caches before main,
+# and each question is slow in a virtual machine. The malloc of musl would be slower than that of glibc.
+# tools/release/static/order.txt puts the functions that run most together, so that fewer pages of the file are read;
+# that saves 7 % of a small conversion. Names that the object no longer has are ignored. A program that reads a
+# definition file of 200 kB or more uses a huge page for its heap. That saves 7 to 10 % of the time with GNU's
+# definitions and takes up to 2 MB more memory. With a smaller file a huge page costs more than it saves. Rejected:
+# larger chunks and mappings for growing blocks save nothing. Mapping the pages of the code in one call costs as much as
+# it saves. Compiling the program's LLVM code again without the toolchain's limits on its optimizer saves at most 3 % of
+# the time with GNU's definitions, but then the program is not the object that bin/test proved and built.
 set -euo pipefail
 script=$(readlink -f "${BASH_SOURCE[0]}")
 here=${script%.sh}
@@ -63,7 +62,7 @@ link() {
         exit 1
     fi
     if grep -q pthread_create "$object"; then
-        echo "static: $object has threads, for which tools/release/static/heap.c is not made" >&2
+        echo "static: $object has threads, which tools/release/static/heap.c does not support" >&2
         exit 1
     fi
     compile "$here/heap.c" "$folder/heap.o"
@@ -75,7 +74,7 @@ link() {
         --start-group "$kit/toolchain/lib/libgcc.a" "$libc/libc.a" --end-group "$libc/crtn.o"
 }
 
-# functions_of PROGRAM DEFINITIONS: the functions of a conversion over this file, first those that run most.
+# functions_of PROGRAM DEFINITIONS: prints the functions of a conversion with this file, those that run most first.
 functions_of() {
     valgrind --tool=callgrind --callgrind-out-file="$folder/calls" "$1" -f "$2" yd m > /dev/null 2>&1
     callgrind_annotate --threshold=100 "$folder/calls" \

@@ -3,10 +3,9 @@
 
     tools/release/wheel.py FOLDER --program PROGRAM [--library LIBRARY] [--bundle-program]
 
-The wheel is written into FOLDER, and its path is printed. PROGRAM gives the built-in definitions, which the wheel
-holds for the library. With LIBRARY (libunits.so.1) the wheel holds that too, and with --bundle-program the program; it
-is then for Linux on x86-64 with glibc 2.34 or later, and else for any platform. Two wheels of the same files are equal
-byte for byte.
+Writes the wheel to FOLDER and prints its path. The wheel has the built-in definitions of PROGRAM, LIBRARY
+(libunits.so.1) if it is named, and PROGRAM itself with --bundle-program. With a library or a program it is for Linux on
+x86-64 with glibc 2.34 or later, otherwise for any platform. Two wheels of the same files are equal byte for byte.
 """
 
 from __future__ import annotations
@@ -46,7 +45,7 @@ Tag: {tag}
 
 
 def version() -> str:
-    """Return the version that the package has."""
+    """Return the version of the package."""
     for line in (PACKAGE / "__init__.py").read_text().splitlines():
         if line.startswith("__version__"):
             return line.split('"')[1]
@@ -54,18 +53,18 @@ def version() -> str:
 
 
 def built_in_definitions(program: Path) -> bytes:
-    """Return the built-in definitions, as the program saves them."""
+    """Return the built-in definitions, which the program saves to a file."""
     with tempfile.TemporaryDirectory() as folder:
-        saved = Path(folder, "built_in.units")
-        command = f":save {saved}\n".encode()
-        run = subprocess.run([program, "--quiet"], input=command, capture_output=True, check=False)
-        if run.returncode != 0 or not saved.exists():
-            raise SystemExit(f"wheel.py: {program} did not save its definitions: {run.stdout.decode()}")
-        return saved.read_bytes()
+        file = Path(folder, "built_in.units")
+        command = f":save {file}\n".encode()
+        process = subprocess.run([program, "--quiet"], input=command, capture_output=True, check=False)
+        if process.returncode != 0 or not file.exists():
+            raise SystemExit(f"wheel.py: {program} did not save its definitions: {process.stdout.decode()}")
+        return file.read_bytes()
 
 
 def contents(arguments: argparse.Namespace) -> dict[str, bytes]:
-    """Return the files of the wheel but its RECORD, by their names."""
+    """Return the files of the wheel without its RECORD, by name."""
     is_pure = arguments.library is None and not arguments.bundle_program
     tag = "py3-none-any" if is_pure else PLATFORM_TAG
     files = {f"exact_units/{path.name}": path.read_bytes() for path in PACKAGE.glob("*.py")}
@@ -83,7 +82,7 @@ def contents(arguments: argparse.Namespace) -> dict[str, bytes]:
 
 
 def record(files: dict[str, bytes], name: str) -> bytes:
-    """Return the RECORD of these files, which lies at `name`."""
+    """Return the RECORD of these files; `name` is its own name."""
     rows = []
     for path, data in sorted(files.items()):
         digest = base64.urlsafe_b64encode(hashlib.sha256(data).digest()).rstrip(b"=").decode()
@@ -92,7 +91,7 @@ def record(files: dict[str, bytes], name: str) -> bytes:
 
 
 def write_wheel(path: Path, files: dict[str, bytes]) -> None:
-    """Write a zip archive in which only names and bytes count."""
+    """Write a zip archive that depends on names and bytes alone."""
     with zipfile.ZipFile(path, "w", zipfile.ZIP_DEFLATED) as archive:
         for name, data in sorted(files.items()):
             entry = zipfile.ZipInfo(name, MOMENT)

@@ -1,7 +1,7 @@
 #!/usr/bin/env bash
 # Writes the LLVM code from which the proved program was compiled.
 #   tools/web/llvm_code.sh NAME FOLDER
-# proves the crate NAME over the libraries that bin/test built, compiles it, and keeps the code that clang got as
+# proves the crate NAME with the libraries that bin/test built, compiles it, and saves the input of clang as
 # FOLDER/module.bc. The object has to be byte for byte the one that bin/test built, crates/NAME/out/NAME.o.
 # The environment has KIT, the folder of the toolchain.
 set -euo pipefail
@@ -17,7 +17,7 @@ if ! [ -e "$object" ]; then
     exit 1
 fi
 
-# A toolchain whose clang keeps a copy of the code that it compiles. It runs without variables of the environment.
+# A toolchain whose clang saves a copy of the code that it compiles. It runs with an empty environment.
 tools=$folder/toolchain
 mkdir -p "$tools/bin"
 ln -sfn "${KIT:?}/toolchain/lib" "$tools/lib"
@@ -34,9 +34,9 @@ CLANG
 chmod +x "$tools/bin/clang"
 
 words=(--crate-name "$name" src/main.rt --extern "std=$KIT/rlibs/std.rlib" -L "dependency=$KIT/rlibs")
-while IFS=': ' read -r crate used; do
+while IFS=': ' read -r crate libraries; do
     if [ "$crate" = "$name" ]; then
-        for library in $used; do
+        for library in $libraries; do
             path=$root/crates/$library/out/rlib/$library.rlib
             if ! [ -d "$root/crates/$library" ]; then path=$KIT/rlibs/$library.rlib; fi
             words+=(--extern "$library=$path")

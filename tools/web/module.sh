@@ -31,7 +31,7 @@ options=(--target=wasm64-unknown-unknown -mcpu=lime1 -O3 --no-default-config -ff
 "$clang" "${options[@]}" -ffreestanding -fno-builtin -nostdinc -mbulk-memory -Wall -Wextra -Werror \
     -Wno-unused-parameter -x c "$root/web/runtime.c" -o runtime.o
 
-# The stack is below the data, so an overflow traps and never reaches data. A run has at most 1 GiB of memory.
+# The stack is below the data, so an overflow traps before it reaches data. A run has at most 1 GiB of memory.
 "$KIT/toolchain/bin/ld.lld" -flavor wasm -mwasm64 --no-entry --stack-first -z stack-size=8388608 \
     --max-memory=1073741824 --gc-sections --strip-all --threads=1 program.o runtime.o -o units64.wasm
 # Binaryen lowers memories but not tables of functions. With -O2 the lowered module stays below 1.2 MB.

@@ -1,5 +1,5 @@
 #!/usr/bin/env python3
-"""module_of.py PAGE TO: writes the WebAssembly module that is in the page."""
+"""module_of.py PAGE TO: writes the WebAssembly module of the page."""
 
 import base64
 import gzip

@@ -2,7 +2,7 @@
 """narrow_tables.py FROM TO: copies a WebAssembly module and gives its tables of functions 32-bit indices.
 
 Binaryen lowers 64-bit memories to 32 bits, but not 64-bit tables. Here each indirect call wraps its index to 32 bits.
-The indices of a program are those of its own functions, far fewer than 2^32, so a wrapped index is the same one.
+The indices are those of the program's functions, far fewer than 2^32, so wrapping does not change them.
 """
 
 import sys
@@ -79,7 +79,7 @@ def narrow_tables(section: bytes) -> bytes:
 
 
 def narrow_elements(section: bytes) -> bytes:
-    """The functions of the table, from a constant index on, which becomes a 32-bit one."""
+    """The list of functions of the table, whose constant first index becomes a 32-bit one."""
     count, at = read_number(section, 0)
     if count == 0:
         return section

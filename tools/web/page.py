@@ -24,10 +24,10 @@ def source_hash(text: str) -> str:
 
 
 def data_of(module: bytes, library: Path, version: str) -> str:
-    # mtime=0 leaves no time in the file, and level 9 no choice.
-    packed = base64.b64encode(gzip.compress(module, 9, mtime=0)).decode()
+    # Without a time and with a fixed level, the bytes depend on the module alone.
+    compressed = base64.b64encode(gzip.compress(module, 9, mtime=0)).decode()
     sources = {file.name: file.read_text() for file in sorted(library.glob("*.units"))}
-    data = {"library": sources, "module": packed, "version": version}
+    data = {"library": sources, "module": compressed, "version": version}
     return json.dumps(data, ensure_ascii=False, sort_keys=True).replace("</", "<\\/")
 
 

@@ -1,4 +1,4 @@
-"""Exact unit conversion, over the shared library of `units` or over a session of the program.
+"""Exact unit conversion, by the shared library of `units` or by a session of the program.
 
 >>> from exact_units import Units
 >>> units = Units()

@@ -1,4 +1,4 @@
-"""The back end over the shared library, by ctypes."""
+"""The back end that calls the shared library, by ctypes."""
 
 from __future__ import annotations
 
@@ -118,11 +118,11 @@ class LibraryBackEnd:
             files = {main: built_in() if definitions.text is None else definitions.text.encode()}
         variables = _encodable(definitions.variables)
         locale, seed = definitions.locale.encode(), os.urandom(16)
-        given = _Definitions(
+        arguments = _Definitions(
             main, len(main), _entries(files), len(files), _entries(variables), len(variables), locale, len(locale),
             seed, len(seed),
         )
-        status = self._calls.units_open(self._table_at, byref(given))
+        status = self._calls.units_open(self._table_at, byref(arguments))
         if status == _NO_MEMORY:
             raise OutOfMemory("out of memory")
         if status != _DONE:
@@ -206,13 +206,13 @@ def _entries(texts: Dict[bytes, bytes]) -> Any:
 
 def _encodable(variables: Dict[str, str]) -> Dict[bytes, bytes]:
     """Return the variables that are UTF-8; the program skips the others too."""
-    encoded: Dict[bytes, bytes] = {}
+    texts: Dict[bytes, bytes] = {}
     for name, value in variables.items():
         try:
-            encoded[name.encode()] = value.encode()
+            texts[name.encode()] = value.encode()
         except UnicodeEncodeError:
             continue
-    return encoded
+    return texts
 
 
 def _read_with_includes(main: bytes) -> Dict[bytes, bytes]:
@@ -223,17 +223,17 @@ def _read_with_includes(main: bytes) -> Dict[bytes, bytes]:
     files = {main: text}
     includers = [main]
     for _ in range(_DEEPEST_INCLUDE):
-        names = [_beside(includer, word) for includer in includers for word in _included_words(files[includer])]
+        names = [_included_name(includer, word) for includer in includers for word in _included_words(files[includer])]
         includers = []
         for name in names:
-            found = None if name in files else _read(name)
-            if found is not None:
-                files[name] = found
+            text_of_file = None if name in files else _read(name)
+            if text_of_file is not None:
+                files[name] = text_of_file
                 includers.append(name)
     return files
 
 
-def _beside(includer: bytes, word: bytes) -> bytes:
+def _included_name(includer: bytes, word: bytes) -> bytes:
     """Return the name that the library looks up for an included file."""
     return word if word.startswith(b"/") else includer[: includer.rfind(b"/") + 1] + word
 

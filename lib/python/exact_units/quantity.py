@@ -95,9 +95,9 @@ class Quantity:
         return f"Quantity({self._magnitude!r}, {self._dimension!r})"
 
     def __str__(self) -> str:
-        above = self._powers(1)
-        below = self._powers(-1)
-        return show_fraction(self._magnitude) + above + (f" /{below}" if below else "")
+        numerator = self._powers(1)
+        denominator = self._powers(-1)
+        return show_fraction(self._magnitude) + numerator + (f" /{denominator}" if denominator else "")
 
     def _powers(self, sign: int) -> str:
         powers = [(name, sign * e) for name, e in self._dimension.items() if sign * e > 0]
@@ -156,7 +156,7 @@ class Quantity:
 
     def __mul__(self, other: Union[Quantity, Number]) -> "Quantity":
         that = _quantity(other)
-        return Quantity(self._magnitude * that._magnitude, self._merged(that, 1))
+        return Quantity(self._magnitude * that._magnitude, self._exponents_of_product(that, 1))
 
     __rmul__ = __mul__
 
@@ -164,7 +164,7 @@ class Quantity:
         that = _quantity(other)
         if that._magnitude == 0:
             raise DivisionByZero("division by zero")
-        return Quantity(self._magnitude / that._magnitude, self._merged(that, -1))
+        return Quantity(self._magnitude / that._magnitude, self._exponents_of_product(that, -1))
 
     def __rtruediv__(self, other: Union[Quantity, Number]) -> "Quantity":
         return _quantity(other) / self
@@ -184,11 +184,11 @@ class Quantity:
             raise UnlikeSum(f"sum of unlike units: {self} and {that}")
         return that
 
-    def _merged(self, other: "Quantity", sign: int) -> Dict[str, Fraction]:
-        merged = dict(self._dimension)
+    def _exponents_of_product(self, other: "Quantity", sign: int) -> Dict[str, Fraction]:
+        exponents = dict(self._dimension)
         for name, exponent in other._dimension.items():
-            merged[name] = merged.get(name, Fraction(0)) + sign * exponent
-        return merged
+            exponents[name] = exponents.get(name, Fraction(0)) + sign * exponent
+        return exponents
 
 
 def _as_quantity(x: object) -> Optional[Quantity]:

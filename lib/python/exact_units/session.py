@@ -1,4 +1,4 @@
-"""The back end over a session of the program. Each reply is read up to the next prompt."""
+"""The back end that runs a session of the program. Each reply is read up to the next prompt."""
 
 from __future__ import annotations
 
@@ -49,7 +49,7 @@ class SessionBackEnd:
         self._read()
 
     def _collect_errors(self, stream: Iterable[bytes]) -> None:
-        # Notices are written there too, and the session would block if nobody emptied the pipe.
+        # The session writes notices to this stream, and would block if nobody emptied the pipe.
         for line in stream:
             self._errors[-20:] = [*self._errors[-19:], line]
 
@@ -58,16 +58,16 @@ class SessionBackEnd:
         process = self._process
         if process is None or process.stdout is None:
             raise BackEndError("the session is closed")
-        written = b""
-        while not written.endswith((_HAVE, _WANT)):
+        output = b""
+        while not output.endswith((_HAVE, _WANT)):
             piece = os.read(process.stdout.fileno(), 65536)
             if not piece:
-                raise self._ended()
-            written += piece
-        return written[: -len(_HAVE)].decode("utf-8", "surrogateescape"), written.endswith(_WANT)
+                raise self._end_fault()
+            output += piece
+        return output[: -len(_HAVE)].decode("utf-8", "surrogateescape"), output.endswith(_WANT)
 
-    def _ended(self) -> UnitsError:
-        """Close the session, which has ended, and return the reason."""
+    def _end_fault(self) -> UnitsError:
+        """Close a session that has ended, and return the reason."""
         status = self._close()
         words = b"".join(self._errors).decode("utf-8", "replace").strip().rpartition("\n")[2]
         fault = fault_of_text(words[len("units: ") :] if words.startswith("units: ") else words)
@@ -82,7 +82,7 @@ class SessionBackEnd:
         try:
             process.stdin.write(line.encode() + b"\n")
         except BrokenPipeError:
-            raise self._ended() from None
+            raise self._end_fault() from None
         return self._read()
 
     def _question(self, first: str, second: str) -> str:

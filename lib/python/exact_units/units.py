@@ -1,4 +1,4 @@
-"""The class `Units`: definitions that can be asked and edited."""
+"""The class `Units`: definitions that can be queried and edited."""
 
 from __future__ import annotations
 
@@ -60,8 +60,8 @@ class Units:
     ) -> None:
         if path is not None and text is not None:
             raise TypeError("path and text exclude each other")
-        known = dict(os.environ if variables is None else variables)
-        definitions = Definitions(None if path is None else os.fspath(path), text, locale, known)
+        environment = dict(os.environ if variables is None else variables)
+        definitions = Definitions(None if path is None else os.fspath(path), text, locale, environment)
         self._back_end = _open(definitions, backend, library, program)
 
     @property
@@ -127,7 +127,7 @@ class Units:
     def _column(self, numbers: Iterable[Real], source: str, target: str) -> Iterator[float]:
         one, unit = self.unit(source), self.unit(target)
         if one is None or unit is None:
-            yield from self._evaluated(numbers, _expression(source), _expression(target), is_function=one is None)
+            yield from self._function_column(numbers, _expression(source), _expression(target), is_function=one is None)
             return
         if not one.conforms(unit):
             raise ConformabilityError(f"conformability error: {one} and {unit}")
@@ -138,12 +138,12 @@ class Units:
             # Python rounds the quotient of two integers to the nearest float.
             yield n * top / (d * bottom)
 
-    def _evaluated(self, numbers: Iterable[Real], source: str, target: str, is_function: bool) -> Iterator[float]:
-        before, after = (f"{source}(", ")") if is_function else ("", f" ({source})")
+    def _function_column(self, numbers: Iterable[Real], source: str, target: str, is_function: bool) -> Iterator[float]:
+        prefix, suffix = (f"{source}(", ")") if is_function else ("", f" ({source})")
         convert = self._back_end.convert
         for x in numbers:
             n, d = x.as_integer_ratio()
-            top, _, bottom = _plain(convert(f"{before}{n}|{d}{after}", target)).partition("|")
+            top, _, bottom = _plain(convert(f"{prefix}{n}|{d}{suffix}", target)).partition("|")
             yield int(top) / int(bottom or 1)
 
     def unit(self, text: str) -> Optional[Quantity]:
@@ -245,15 +245,15 @@ def _open(definitions: Definitions, backend: str, library: Optional[str], progra
 def _open_library(definitions: Definitions, library: Optional[str], program: Optional[str]) -> BackEnd:
     from .library import LibraryBackEnd, load_library
 
-    path = library or os.environ.get("EXACT_UNITS_LIBRARY") or _packaged("libunits.so.1")
+    path = library or os.environ.get("EXACT_UNITS_LIBRARY") or _packaged_path("libunits.so.1")
     return LibraryBackEnd(load_library(path), definitions, lambda: _built_in(program))
 
 
 def _program(program: Optional[str]) -> str:
-    return program or os.environ.get("EXACT_UNITS_PROGRAM") or _packaged("units")
+    return program or os.environ.get("EXACT_UNITS_PROGRAM") or _packaged_path("units")
 
 
-def _packaged(name: str) -> str:
+def _packaged_path(name: str) -> str:
     """Return the path of a file of this package, or else its name, which the system looks up."""
     path = os.path.join(_FOLDER, name)
     return path if os.path.exists(path) else name

@@ -1,4 +1,4 @@
-"""Tests of exact_units over each back end.
+"""Tests of exact_units with each back end.
 
 EXACT_UNITS_LIBRARY and EXACT_UNITS_PROGRAM name the library and the program. The tests of a back end whose variable is
 not set are skipped, and so are those of numpy and pandas if these are not installed.
@@ -80,7 +80,7 @@ def _module(name: str) -> Any:
 
 
 class BackEndTests:
-    """What both back ends have to do."""
+    """Tests for both back ends."""
 
     def open(self, **options: object) -> Units:
         raise NotImplementedError
@@ -108,19 +108,19 @@ class BackEndTests:
     def test_faults_keep_in_step(self) -> None:
         for (source, target), (kind, text) in FAULTS.items():
             with self.subTest(source=source[:20], target=target):
-                with self.assertRaises(exact_units.UnitsError) as raised:
+                with self.assertRaises(exact_units.UnitsError) as context:
                     self.units.convert(source, target)
-                self.assertIs(type(raised.exception), kind)
-                self.assertEqual(str(raised.exception), text)
+                self.assertIs(type(context.exception), kind)
+                self.assertEqual(str(context.exception), text)
                 self.assertEqual(self.units.convert("3 ft", "inch"), 36)
 
     def test_faults_of_values(self) -> None:
         for (source, target), (kind, text) in FAULTS.items():
             if target == "m" and kind is not faults.ConformabilityError:
                 with self.subTest(source=source[:20]):
-                    with self.assertRaises(kind) as raised:
+                    with self.assertRaises(kind) as context:
                         self.units.value(source)
-                    self.assertEqual(str(raised.exception), text)
+                    self.assertEqual(str(context.exception), text)
 
     def test_texts_that_are_not_passed_on(self) -> None:
         for text in ("", " ", "m\ns", "m\rs", "m\0s", ":undo", "?", "# m", "m # s", "ft;inch", "search", "quit", "help",
@@ -144,9 +144,9 @@ class BackEndTests:
         with self.assertRaises(exact_units.NothingToRedo):
             self.units.redo()
         self.units.drop("span")
-        with self.assertRaises(exact_units.NoSuchDefinition) as raised:
+        with self.assertRaises(exact_units.NoSuchDefinition) as context:
             self.units.drop("span")
-        self.assertEqual(str(raised.exception), "no such definition: span")
+        self.assertEqual(str(context.exception), "no such definition: span")
         for line, kind in {"2x 3 m": faults.BadName, "x": faults.BadDefinition, "x[m] 1 2 1 3": faults.BadTable,
                            "x 2 +": faults.SyntaxFault}.items():
             with self.assertRaises(kind):
@@ -177,10 +177,10 @@ class BackEndTests:
     def test_arrays(self) -> None:
         numpy = _module("numpy")
         array = numpy.array([[1.5, -2.0], [0.0, float("nan")]])
-        converted = arrays.convert_array(self.units, array, "ft", "inch")
-        self.assertEqual(converted.shape, (2, 2))
-        self.assertEqual(converted[0].tolist() + converted[1][:1].tolist(), [18.0, -24.0, 0.0])
-        self.assertTrue(numpy.isnan(converted[1][1]))
+        result = arrays.convert_array(self.units, array, "ft", "inch")
+        self.assertEqual(result.shape, (2, 2))
+        self.assertEqual(result[0].tolist() + result[1][:1].tolist(), [18.0, -24.0, 0.0])
+        self.assertTrue(numpy.isnan(result[1][1]))
         self.assertEqual(arrays.convert_array(self.units, [1, 2.5], "half", "1").tolist(), [0.5, 1.25])
         with self.assertRaises(exact_units.ConformabilityError):
             arrays.convert_array(self.units, array, "ft", "s")
@@ -188,8 +188,8 @@ class BackEndTests:
     def test_series(self) -> None:
         pandas = _module("pandas")
         series = pandas.Series([1.0, 2.5], index=["a", "b"], name="length")
-        converted = arrays.convert_series(self.units, series, "ft", "inch")
-        self.assertEqual((converted.name, converted.to_dict()), ("length", {"a": 12.0, "b": 30.0}))
+        result = arrays.convert_series(self.units, series, "ft", "inch")
+        self.assertEqual((result.name, result.to_dict()), ("length", {"a": 12.0, "b": 30.0}))
 
     def test_files(self) -> None:
         with tempfile.TemporaryDirectory() as folder:
@@ -201,44 +201,44 @@ class BackEndTests:
             (root / "sub/b.units").write_text("b 3 a\n")
             (root / "c.units").write_text("c 5 b\n")
             (root / "d.units").write_text("d 7 c\n")
-            with self.open(path=root / "main.units") as given:
-                self.assertEqual(given.convert("c", "m"), 30)
-                self.assertEqual(given.convert("d", "m"), 210)
+            with self.open(path=root / "main.units") as instance:
+                self.assertEqual(instance.convert("c", "m"), 30)
+                self.assertEqual(instance.convert("d", "m"), 210)
             with self.assertRaises(exact_units.NoSuchFile):
                 self.open(path=root / "absent.units")
             (root / "long.units").write_bytes(b"\n" * 16_777_217)
             with self.assertRaises(exact_units.FileTooLong):
                 self.open(path=root / "long.units")
             (root / "longest.units").write_bytes(b"\n" * 16_777_216)
-            with self.open(path=root / "longest.units") as given:
-                self.assertEqual(given.convert("6", "3"), 2)
+            with self.open(path=root / "longest.units") as instance:
+                self.assertEqual(instance.convert("6", "3"), 2)
             (root / "full.units").write_text("a 1\n" * 100_001)
             with self.assertRaises(exact_units.DeckFull):
                 self.open(path=root / "full.units")
 
     def test_locales_and_variables(self) -> None:
         text = "m !\n!locale en_GB\nx 2 m\n!endlocale\n!var V w\ny 3 m\n!endvar\n"
-        with self.open(text=text, locale="en_GB", variables={"V": "w"}) as given:
-            self.assertEqual(given.convert("x", "m"), 2)
-            self.assertEqual(given.convert("y", "m"), 3)
-        with self.open(text=text, variables={}) as given:
+        with self.open(text=text, locale="en_GB", variables={"V": "w"}) as instance:
+            self.assertEqual(instance.convert("x", "m"), 2)
+            self.assertEqual(instance.convert("y", "m"), 3)
+        with self.open(text=text, variables={}) as instance:
             for name in "xy":
                 with self.assertRaises(exact_units.UnknownUnit):
-                    given.convert(name, "m")
+                    instance.convert(name, "m")
 
     def test_built_in_definitions(self) -> None:
-        with self.open() as given:
-            self.assertEqual(given.convert("mile", "ft"), 5280)
-            self.assertEqual(given.convert("tempF(45)", "tempC"), Fraction(65, 9))
+        with self.open() as instance:
+            self.assertEqual(instance.convert("mile", "ft"), 5280)
+            self.assertEqual(instance.convert("tempF(45)", "tempC"), Fraction(65, 9))
 
     def test_a_long_fault(self) -> None:
         names = ["a" + "".join("abcdefghij"[int(digit)] for digit in str(n)) + "x" * 40 for n in range(800)]
         names.append(names[0])
         rows = zip(names, names[1:])
-        with self.open(text="".join(f"{name} {other}\n" for name, other in rows)) as given:
-            with self.assertRaises(exact_units.CyclicDefinition) as raised:
-                given.convert(names[0], "1")
-        self.assertGreater(len(str(raised.exception)), 16_384)
+        with self.open(text="".join(f"{name} {other}\n" for name, other in rows)) as instance:
+            with self.assertRaises(exact_units.CyclicDefinition) as context:
+                instance.convert(names[0], "1")
+        self.assertGreater(len(str(context.exception)), 16_384)
 
     def test_closing(self) -> None:
         self.units.close()
@@ -263,8 +263,8 @@ class LibraryTests(BackEndTests, unittest.TestCase):
         return Units(backend="library", **options)  # type: ignore[arg-type]
 
     def test_auto_is_the_library(self) -> None:
-        with Units(text=TEXT) as given:
-            self.assertEqual(given.backend, "library")
+        with Units(text=TEXT) as instance:
+            self.assertEqual(instance.backend, "library")
 
     def test_a_missing_library(self) -> None:
         with self.assertRaises(exact_units.BackEndError):
@@ -274,8 +274,8 @@ class LibraryTests(BackEndTests, unittest.TestCase):
         right = []
 
         def work() -> None:
-            with self.open(text=TEXT) as given:
-                right.append(all(given.convert(f"{n} ft", "inch") == 12 * n for n in range(300)))
+            with self.open(text=TEXT) as instance:
+                right.append(all(instance.convert(f"{n} ft", "inch") == 12 * n for n in range(300)))
 
         threads = [threading.Thread(target=work) for _ in range(4)]
         for thread in threads:
@@ -300,15 +300,15 @@ class SessionTests(BackEndTests, unittest.TestCase):
                 Units(text=TEXT, backend="session", program=program)
 
     def test_a_session_that_is_killed(self) -> None:
-        given = self.open(text=TEXT)
-        process = given._back_end._process  # type: ignore[attr-defined]
+        instance = self.open(text=TEXT)
+        process = instance._back_end._process  # type: ignore[attr-defined]
         process.kill()
         process.wait()
         with self.assertRaises(exact_units.BackEndError):
-            given.convert("ft", "m")
+            instance.convert("ft", "m")
         with self.assertRaises(exact_units.BackEndError):
-            given.convert("ft", "m")
-        given.close()
+            instance.convert("ft", "m")
+        instance.close()
 
 
 class QuantityTests(unittest.TestCase):

@@ -25,7 +25,7 @@ syntax match unitsContinued /\\\ze\s*\%(#.*\)\?$/ contained
 syntax cluster unitsExpression contains=unitsNumber,unitsWord,unitsOperator,unitsPrimitive,unitsOption,unitsContinued,
             \unitsComment,unitsExpected,unitsStatus
 
-" Definitions go on over lines that end in a backslash.
+" A backslash at the end of a line continues a definition.
 syntax region unitsDefinition matchgroup=unitsName keepend contains=@unitsExpression
             \ start=/^\s*+\?\s*[^[:blank:]0-9_,.!#+*\/|^;~()\[\]\-][^[:blank:]#+*\/|^;~()\[\]\-]*\ze\s/
             \ skip=/\\\s*\%(#.*\)\?$/ end=/$/

@@ -1,13 +1,13 @@
-// The heap of the static program, in place of the toolchain's three functions over malloc. It is made for a program
+// The heap of the static program, instead of the toolchain's three functions that call malloc. It is made for a program
 // that runs for milliseconds and keeps most of its blocks: a block is a freed one of its class or the next part of a
-// chunk, whose pages are mapped in one call. Freed blocks are not joined, but the sizes of a class differ by an eighth
-// at most, and a freed block above 1 KiB serves as a chunk before more memory is asked for. A block above 128 KiB is a
-// mapping of its own, which grows without a copy and is given back. The first block of 256 KiB, in which a program
-// reads a long definition file, makes a huge page the chunk: the kernel maps it faster than the small pages that the
-// definitions would fill. The next block above 128 KiB, which holds the lines of the definitions, begins in the end of
-// that page and can grow past it in place. In long sessions the program takes at most a tenth more memory than with
-// malloc, beside the rest of that page. Programs with threads cannot use this heap: tools/release/static.sh refuses
-// them.
+// chunk, whose pages are mapped in one call. Freed blocks are not joined, but the sizes in a class differ by at most an
+// eighth, and a freed block above 1 KiB is used as a chunk before more memory is requested. A block above 128 KiB is a
+// mapping of its own, which grows without a copy and is unmapped when it is freed. The first block of 256 KiB, into
+// which a program reads a long definition file, makes a huge page the chunk: the kernel maps it faster than the small
+// pages that the definitions would fill. The next block above 128 KiB, which has the lines of the definitions, begins
+// near the end of that page and can grow past it in place. In long sessions the program takes at most a tenth more
+// memory than with malloc, besides the rest of that page. Programs with threads cannot use this heap:
+// tools/release/static.sh refuses them.
 #define _GNU_SOURCE
 #include <stdbool.h>
 #include <stddef.h>
@@ -15,14 +15,14 @@
 #include <string.h>
 #include <sys/mman.h>
 
-// What the toolchain's functions return: whether there was memory, and the block.
-struct tried {
+// The result of the toolchain's functions: whether there was memory, and the block.
+struct allocation {
     bool found;
     void *block;
 };
 
-// A block begins with its size, which includes this header. What the program gets follows, aligned to 16 bytes, the
-// widest alignment that the toolchain asks for. A freed block leads to the next one of its class.
+// A block begins with its size, which includes this header. The program's part follows, aligned to 16 bytes, the widest
+// alignment that the toolchain requests. A freed block leads to the next one of its class.
 struct block {
     size_t size;
     struct block *next;
@@ -50,7 +50,7 @@ static struct block *freed[CLASSES];
 static char *unused, *end_of_chunk; // the rest of the chunk
 static size_t in_chunks;            // the bytes of all chunks
 static char *huge_page;             // NULL if the program has none
-static char *room_to_grow;          // the end of the huge page, NULL once it has been given to a block
+static char *room_to_grow;          // the end of the huge page, NULL after a block has taken it
 static struct block *growing;       // that block, NULL before it is made and after it is freed
 
 static size_t rounded(size_t size, size_t unit) { return (size + unit - 1) & -unit; }
@@ -58,14 +58,14 @@ static size_t rounded(size_t size, size_t unit) { return (size + unit - 1) & -un
 // An eighth of the largest power of two that is at most the size.
 static size_t step_from(size_t size) { return ((size_t)1 << (63 - __builtin_clzl(size))) / STEPS; }
 
-// The size of a block for so many bytes: that of a class, or of whole pages.
+// The size of a block for a number of bytes: that of a class, or of whole pages.
 static size_t block_size(size_t bytes) {
     size_t size = bytes + HEADER;
     if (size <= SMALL) return rounded(size, UNIT);
     return size <= LARGE ? rounded(size, step_from(size - 1)) : rounded(bytes + UNIT, PAGE);
 }
 
-// The class of a size that block_size gives, up to LARGE.
+// The class of a size that block_size returns, up to LARGE.
 static size_t class_of(size_t size) {
     if (size <= SMALL) return size / UNIT;
     size_t step = step_from(size - 1), doublings = __builtin_ctzl(step) - __builtin_ctzl(SMALL / STEPS);
@@ -96,8 +96,8 @@ static void leave_chunk(void) {
     unused = end_of_chunk;
 }
 
-// New memory from the system. This call maps all pages, in half the time that each takes when it is written first,
-// unless there are so many that the program may well leave most of them unused.
+// New memory from the system. Mapping all pages here takes half the time of mapping each at its first write. Large
+// memory is not mapped at once, since the program may leave most of it unused.
 static char *new_pages(size_t size) {
     int at_once = size <= LONGEST_MAPPED ? MAP_POPULATE : 0;
     return mmap(NULL, size, PROT_READ | PROT_WRITE, MAP_PRIVATE | MAP_ANONYMOUS | at_once, -1, 0);
@@ -130,15 +130,15 @@ static bool begin_chunk(size_t size) {
     return true;
 }
 
-// Makes a huge page the chunk, except its end, if the system has the memory. If it has no huge page, these are small
-// ones. The pages after it are mapped when the growing block comes to them.
+// Makes a huge page the chunk, except for its end, if the system has the memory. If it has no huge page, these are
+// small pages. The pages after it are mapped when the growing block reaches them.
 static void begin_huge_page(void) {
-    const size_t kept = HUGE_PAGE + GROWING_ROOM - GROWING_INSIDE, asked = kept + HUGE_PAGE;
-    char *memory = mmap(NULL, asked, PROT_READ | PROT_WRITE, MAP_PRIVATE | MAP_ANONYMOUS, -1, 0);
+    const size_t length = HUGE_PAGE + GROWING_ROOM - GROWING_INSIDE, mapped = length + HUGE_PAGE;
+    char *memory = mmap(NULL, mapped, PROT_READ | PROT_WRITE, MAP_PRIVATE | MAP_ANONYMOUS, -1, 0);
     if (memory == MAP_FAILED) return;
-    char *page = (char *)rounded((size_t)memory, HUGE_PAGE), *end = memory + asked;
+    char *page = (char *)rounded((size_t)memory, HUGE_PAGE), *end = memory + mapped;
     if (page > memory) munmap(memory, (size_t)(page - memory));
-    if (page + kept < end) munmap(page + kept, (size_t)(end - page - kept));
+    if (page + length < end) munmap(page + length, (size_t)(end - page - length));
     madvise(page, HUGE_PAGE, MADV_HUGEPAGE);
     madvise(page, HUGE_PAGE, POPULATE_WRITE);
     leave_chunk();
@@ -147,36 +147,36 @@ static void begin_huge_page(void) {
     room_to_grow = page + HUGE_PAGE - GROWING_INSIDE;
 }
 
-// Whether a block above LARGE is a part of the huge page, and no mapping of its own.
+// Whether a block above LARGE is a part of the huge page, and not a mapping of its own.
 static bool is_in_huge_page(const struct block *block) {
     return huge_page != NULL && (uintptr_t)block - (uintptr_t)huge_page < HUGE_PAGE;
 }
 
-static struct tried none(void) {
+static struct allocation none(void) {
     static char nothing;
-    return (struct tried){false, &nothing};
+    return (struct allocation){false, &nothing};
 }
 
-static struct tried some(struct block *block, size_t size) {
+static struct allocation some(struct block *block, size_t size) {
     block->size = size;
-    return (struct tried){true, &block->next};
+    return (struct allocation){true, &block->next};
 }
 
-static struct tried mapping(char *memory, size_t size) {
+static struct allocation mapping(char *memory, size_t size) {
     return memory == MAP_FAILED ? none() : some((struct block *)(memory + UNIT - HEADER), size);
 }
 
-static struct tried next_block(size_t size) {
+static struct allocation next_block(size_t size) {
     struct block *block = (struct block *)unused;
     unused += size;
     return some(block, size);
 }
 
-__attribute__((noinline)) static struct tried block_of_new_chunk(size_t size) {
+__attribute__((noinline)) static struct allocation block_of_new_chunk(size_t size) {
     return begin_chunk(size) ? next_block(size) : none();
 }
 
-static inline struct tried block_of_class(size_t class, size_t size) {
+static inline struct allocation block_of_class(size_t class, size_t size) {
     struct block *block = freed[class];
     if (block != NULL) {
         freed[class] = block->next;
@@ -189,7 +189,7 @@ static inline struct tried block_of_class(size_t class, size_t size) {
 static bool fits_growing(size_t size) { return size > LARGE && size <= GROWING_ROOM - UNIT; }
 
 // A block above LARGE.
-static struct tried large_block(size_t size) {
+static struct allocation large_block(size_t size) {
     if (size >= LONG && huge_page == NULL) {
         begin_huge_page();
         if (huge_page != NULL && (size_t)(end_of_chunk - unused) >= size) return next_block(size);
@@ -201,13 +201,13 @@ static struct tried large_block(size_t size) {
     return mapping(new_pages(size), size);
 }
 
-// What rattle_alloc does for all but small blocks, which are most.
-__attribute__((noinline)) static struct tried new_block(size_t size) {
+// rattle_alloc for blocks that are not small; most are.
+__attribute__((noinline)) static struct allocation new_block(size_t size) {
     return size > LARGE ? large_block(size) : block_of_class(class_of(size), size);
 }
 
-struct tried rattle_alloc(size_t bytes, size_t align) {
-    (void)align; // each block is aligned to 16 bytes, also an empty one, which has 8
+struct allocation rattle_alloc(size_t bytes, size_t align) {
+    (void)align; // each block is aligned to 16 bytes, even an empty one, which has 8
     size_t size = rounded(bytes + HEADER, UNIT);
     return size <= SMALL ? block_of_class(size / UNIT, size) : new_block(block_size(bytes));
 }
@@ -220,7 +220,7 @@ void rattle_dealloc(void *old) {
     else munmap((char *)old - UNIT, block->size);
 }
 
-struct tried rattle_realloc(void *old, size_t kept, size_t bytes, size_t align) {
+struct allocation rattle_realloc(void *old, size_t kept, size_t bytes, size_t align) {
     struct block *block = (struct block *)((char *)old - HEADER);
     size_t size = block_size(bytes), before = block->size;
     if (size == before) return some(block, size);
@@ -231,7 +231,7 @@ struct tried rattle_realloc(void *old, size_t kept, size_t bytes, size_t align) 
         unused = (char *)block + size;
         return some(block, size);
     }
-    struct tried moved = rattle_alloc(bytes, align);
+    struct allocation moved = rattle_alloc(bytes, align);
     if (!moved.found) return moved;
     memcpy(moved.block, old, kept < bytes ? kept : bytes);
     rattle_dealloc(old);

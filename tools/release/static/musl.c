@@ -1,4 +1,4 @@
-// What the static program calls and musl lacks, or has only in a slow form. Linked with --wrap=main.
+// Functions that the static program calls and that musl lacks or has only in a slow form. Linked with --wrap=main.
 #define _GNU_SOURCE
 #include <signal.h>
 #include <stddef.h>
@@ -7,13 +7,13 @@
 #include <sys/syscall.h>
 #include <unistd.h>
 
-// The toolchain keeps the words in a constructor, to which glibc passes them. musl passes them to main alone.
+// The toolchain stores the arguments in a constructor, to which glibc passes them. musl passes them to main alone.
 static size_t word_count;
 static char **words;
 int __real_main(void);
 
-// A run uses 112 KiB of the stack at least. One call maps these pages sooner than each is when it is first written. If
-// the kernel cannot, the pages are mapped as usual.
+// A run uses at least 112 KiB of the stack. Mapping these pages in one call is faster than mapping each at its first
+// write. If the kernel cannot do that, the pages are mapped as usual.
 static void map_stack(void) {
     enum { PAGE = 4096, PAGES = 28, POPULATE_WRITE = 23 }; // an advice of Linux 5.14, which musl's headers lack
     char here;
@@ -21,16 +21,16 @@ static void map_stack(void) {
     madvise((void *)first, PAGES * PAGE, POPULATE_WRITE);
 }
 
-int __wrap_main(int count, char **given) {
+int __wrap_main(int count, char **arguments) {
     word_count = (size_t)count;
-    words = given;
+    words = arguments;
     map_stack();
     return __real_main();
 }
 
 size_t rattle_arg_count(void) { return word_count; }
 
-// Copies word i without its end and returns its length, -1 if there is no such word, -2 if there is no room for it.
+// Copies word i without its final zero and returns its length, -1 if there is no such word, -2 if it is too long.
 ssize_t rattle_arg(size_t i, char *to, size_t room) {
     if (i >= word_count) return -1;
     size_t length = 0;
@@ -41,8 +41,8 @@ ssize_t rattle_arg(size_t i, char *to, size_t room) {
     return (ssize_t)length;
 }
 
-// What the processor can do, as glibc reports it by leaves of cpuid. A program is built for x86-64-v2 and asks for its
-// features before anything else. Only these are reported as active; others would need the system's leave, too.
+// The features of the processor, as glibc reports them by leaves of cpuid. A program is built for x86-64-v2 and first
+// checks for its features. Only these are reported as active; others would need support of the system too.
 struct features {
     unsigned registers[4], active[4]; // eax, ebx, ecx, edx
 };
@@ -52,15 +52,15 @@ enum { BASIC_OF_V2 = 1 << 0 | 1 << 9 | 1 << 13 | 1 << 19 | 1 << 20 | 1 << 23 }; 
 enum { EXTENDED_OF_V2 = 1 << 0 };                                               // LAHF
 
 const struct features *__x86_get_cpuid_feature_leaf(unsigned leaf) {
-    static struct features found[EXTENDED + 1];
+    static struct features leaves[EXTENDED + 1];
     static const struct features none;
     if (leaf != BASIC && leaf != EXTENDED) return &none;
-    unsigned *r = found[leaf].registers;
+    unsigned *r = leaves[leaf].registers;
     __asm__("cpuid"
             : "=a"(r[0]), "=b"(r[1]), "=c"(r[2]), "=d"(r[3])
             : "a"(leaf == BASIC ? 1 : 0x80000001), "c"(0));
-    found[leaf].active[2] = r[2] & (leaf == BASIC ? BASIC_OF_V2 : EXTENDED_OF_V2);
-    return &found[leaf];
+    leaves[leaf].active[2] = r[2] & (leaf == BASIC ? BASIC_OF_V2 : EXTENDED_OF_V2);
+    return &leaves[leaf];
 }
 
 ssize_t __write(int file, const void *from, size_t count) { return write(file, from, count); }
@@ -68,16 +68,16 @@ ssize_t __write(int file, const void *from, size_t count) { return write(file, f
 typedef void (*handler)(int);
 
 handler __sysv_signal(int number, handler to) {
-    struct sigaction action = {.sa_handler = to, .sa_flags = SA_RESETHAND | SA_NODEFER}, before;
-    return sigaction(number, &action, &before) == 0 ? before.sa_handler : SIG_ERR;
+    struct sigaction action = {.sa_handler = to, .sa_flags = SA_RESETHAND | SA_NODEFER}, old;
+    return sigaction(number, &action, &old) == 0 ? old.sa_handler : SIG_ERR;
 }
 
-int statx(int folder, const char *name, int flags, unsigned wanted, void *to) {
-    return (int)syscall(SYS_statx, folder, name, flags, wanted, to);
+int statx(int folder, const char *name, int flags, unsigned mask, void *to) {
+    return (int)syscall(SYS_statx, folder, name, flags, mask, to);
 }
 
-// musl copies and fills by string instructions, which take long to begin. These take 16 bytes at a time, the first and
-// the last of which may overlap. Up to 64 bytes, all are read before the first is written.
+// musl copies and fills with string instructions, which are slow to start. These functions use 16 bytes at a time; the
+// first and the last 16 may overlap. Up to 64 bytes, all are read before the first is written.
 typedef long long wide __attribute__((vector_size(16), aligned(1), may_alias));
 typedef uint64_t eight __attribute__((aligned(1), may_alias));
 typedef uint32_t four __attribute__((aligned(1), may_alias));
@@ -114,7 +114,7 @@ void *memmove(void *target, const void *source, size_t n) {
     const char *from = source;
     if (n <= 64) {
         copy_to_64(to, from, n);
-    } else if ((uintptr_t)to - (uintptr_t)from >= n) { // no byte is read after it was written
+    } else if ((uintptr_t)to - (uintptr_t)from >= n) { // no byte is read after it is written
         wide last = *(const wide *)(from + n - 16);
         for (size_t i = 0; i < n - 16; i += 16) *(wide *)(to + i) = *(const wide *)(from + i);
         *(wide *)(to + n - 16) = last;

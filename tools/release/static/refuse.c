@@ -1,22 +1,22 @@
-// Refuses allocations of the static program, as tools/checks/refuse.c does those of the dynamic one. Each allocation
-// gets a number from 1. The one of the number REFUSED is refused, and if LATER is set each later one too. A byte on
-// stream 9 tells of each. Linked with --wrap=rattle_alloc and --wrap=rattle_realloc.
+// Refuses allocations of the static program, as tools/checks/refuse.c does for the dynamic one. Allocations are
+// numbered from 1. The allocation with the number REFUSED is refused, and if LATER is set, all later ones too. For each
+// refusal a byte is written to descriptor 9. Linked with --wrap=rattle_alloc and --wrap=rattle_realloc.
 #include <stdbool.h>
 #include <stddef.h>
 #include <stdlib.h>
 #include <unistd.h>
 
-struct tried {
+struct allocation {
     bool found;
     void *block;
 };
 
-struct tried __real_rattle_alloc(size_t bytes, size_t align);
-struct tried __real_rattle_realloc(void *old, size_t kept, size_t bytes, size_t align);
+struct allocation __real_rattle_alloc(size_t bytes, size_t align);
+struct allocation __real_rattle_realloc(void *old, size_t kept, size_t bytes, size_t align);
 
-static struct tried none(void) {
+static struct allocation none(void) {
     static char nothing;
-    return (struct tried){false, &nothing};
+    return (struct allocation){false, &nothing};
 }
 
 static bool is_refused(void) {
@@ -29,10 +29,10 @@ static bool is_refused(void) {
     return true;
 }
 
-struct tried __wrap_rattle_alloc(size_t bytes, size_t align) {
+struct allocation __wrap_rattle_alloc(size_t bytes, size_t align) {
     return is_refused() ? none() : __real_rattle_alloc(bytes, align);
 }
 
-struct tried __wrap_rattle_realloc(void *old, size_t kept, size_t bytes, size_t align) {
+struct allocation __wrap_rattle_realloc(void *old, size_t kept, size_t bytes, size_t align) {
     return is_refused() ? none() : __real_rattle_realloc(old, kept, bytes, align);
 }
