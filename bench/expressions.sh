@@ -1,9 +1,9 @@
 #!/usr/bin/env bash
-# Times the program of crates/text_calls on long texts of 4, 8 and 16 MiB. It parses a text and prints `tree` or the
+# Times the program of crates/test_values on long texts of 4, 8 and 16 MiB. It parses a text and prints `tree` or the
 # fault. Prints the seconds, the lower of two runs, the peak memory, and the answer.
 set -u
 root=$(cd "$(dirname "${BASH_SOURCE[0]}")/.." && pwd)
-program=$("$root/tools/built.sh" text_calls) || exit
+program=$("$root/tools/built.sh" test_values) || exit
 folder=$(mktemp -d)
 trap 'rm -rf "$folder"' EXIT
 
@@ -28,7 +28,7 @@ best, answer = float("inf"), ""
 for _ in range(2):
     with open(text, "rb") as given:
         start = time.perf_counter()
-        run = subprocess.run([program], stdin=given, stdout=subprocess.PIPE, check=True)
+        run = subprocess.run([program, "texts"], stdin=given, stdout=subprocess.PIPE, check=True)
         best, answer = min(best, time.perf_counter() - start), run.stdout.decode().strip()
 memory = resource.getrusage(resource.RUSAGE_CHILDREN).ru_maxrss >> 10
 print(f"{pattern * 3!r:14} {size:2} MiB  {best:6.2f} s  {memory:5} MiB of memory, {answer}")

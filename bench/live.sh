@@ -1,5 +1,5 @@
 #!/usr/bin/env bash
-# Times the program of crates/live_calls. Over a chain of 60,000 names, each a multiple of the one before: the first
+# Times the program of crates/test_tables. Over a chain of 60,000 names, each a multiple of the one before: the first
 # query of the last name, later queries, queries of all names in both orders, and the memory of a name; if valgrind is
 # installed, also the instructions and cache misses of the first query, which do not depend on the load. Over a ring of
 # as many names: a query, which ends in a cycle of all. Over the definitions of GNU units, if installed: the values of
@@ -8,7 +8,7 @@
 # DEFINITIONS are those of Debian's package units unless they are given.
 set -u
 root=$(cd "$(dirname "${BASH_SOURCE[0]}")/.." && pwd)
-program=$("$root/tools/built.sh" live_calls) || exit
+program=$("$root/tools/built.sh" test_tables) || exit
 definitions=$(realpath -ms -- "${1:-/usr/share/units/definitions.units}") || exit
 PYTHONPATH="$root/bench" PYTHONDONTWRITEBYTECODE=1 exec python3 - "$program" "$definitions" <<'PYTHON'
 import functools
@@ -22,7 +22,7 @@ from timing import counted, say
 
 REAL = sys.argv[2]
 COUNT, LATER = 60_000, 200_000
-timed = functools.partial(timing.timed, sys.argv[1])
+timed = functools.partial(timing.timed, [sys.argv[1], "values"])
 
 
 def say_each(title, cost):
@@ -55,7 +55,7 @@ def chain():
     settled = f"{COUNT + 1} settled, {COUNT + 1} names, {COUNT + 1} reductions"
     memory = timed(["load chain", last, "counts"], settled).memory
     say("the first query of the last one", first.less(loading), f", {(memory - loading.memory) // COUNT} bytes a name")
-    say_counts("  a name of it", *(counted(sys.argv[1], ["load chain", call]) for call in ("counts", last)))
+    say_counts("  a name of it", *(counted([sys.argv[1], "values"], ["load chain", call]) for call in ("counts", last)))
     later = timed(["load chain", last, *[last] * LATER], "1 u_0").less(first, LATER)
     say_each("a later one, with its line and its answer", later)
     unread = timed(["load chain", last, *["X" + last] * LATER], "bad call").less(first, LATER)

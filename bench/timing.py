@@ -27,14 +27,14 @@ class Cost(NamedTuple):
         return Cost((self.clock - other.clock) / parts, (self.processor - other.processor) / parts)
 
 
-def timed(program, calls, wanted, runs=5):
+def timed(command, calls, wanted, runs=5):
     """The lowest times of some runs, and the peak memory in bytes. The last answer has to contain `wanted`."""
     costs = []
     for _ in range(runs):
         with tempfile.TemporaryFile() as given:
             given.write("".join(call + "\n" for call in calls).encode())
             given.seek(0)
-            run = subprocess.run([sys.executable, "-I", "-S", "-c", TIMER, program], stdin=given, capture_output=True)
+            run = subprocess.run([sys.executable, "-I", "-S", "-c", TIMER, *command], stdin=given, capture_output=True)
         status, clock, processor, memory = run.stderr.split()
         last = run.stdout.decode().splitlines()[-1]
         if status != b"0" or wanted not in last:
@@ -48,7 +48,7 @@ CACHES = ["--cache-sim=yes", "--I1=32768,8,64", "--D1=32768,8,64", "--LL=1048576
 COUNTER = ["valgrind", "--tool=cachegrind", *CACHES, "--cachegrind-out-file=/dev/null"]
 
 
-def counted(program, calls):
+def counted(command, calls):
     """The instructions of a run and its misses of a cache of 1 MB, which do not depend on the load of the machine, or
     None if valgrind is not installed."""
     if shutil.which("valgrind") is None:
@@ -56,7 +56,7 @@ def counted(program, calls):
     with tempfile.TemporaryFile() as given:
         given.write("".join(call + "\n" for call in calls).encode())
         given.seek(0)
-        run = subprocess.run([*COUNTER, program], stdin=given, capture_output=True, text=True)
+        run = subprocess.run([*COUNTER, *command], stdin=given, capture_output=True, text=True)
     counts = [re.search(rf"{name}:\s+([\d,]+)", run.stderr) for name in ("I\\s+refs", "LL misses")]
     return [int(count.group(1).replace(",", "")) for count in counts] if all(counts) else None
 

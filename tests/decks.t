@@ -13,7 +13,7 @@ An include stands beside its includer, not beside the first file. One that begin
   $ printf 'c 3 m\n' > sub/c.units
   $ printf 'wrong 1 m\n' > c.units
   $ printf 'd 4 m\n!include ../c.units\n!include /no/such.units\n' > sub/deep/d.units
-  $ deck_calls <<'END'
+  $ test_decks decks <<'END'
   > load a.units
   > lines
   > notices
@@ -36,7 +36,7 @@ An include stands beside its includer, not beside the first file. One that begin
 
 The same files where nothing but the first is read.
 
-  $ deck_calls <<'END'
+  $ test_decks decks <<'END'
   > text a.units
   > lines
   > notices
@@ -50,7 +50,7 @@ Absent files and files that are too long. A file of the greatest length is read.
   $ head -c 16777216 /dev/zero | tr '\0' '\n' > longest.units
   $ head -c 16777217 /dev/zero | tr '\0' '\n' > long.units
   $ printf 'm !\n!include none.units\n!include long.units\n!include longest.units\n a m\n' > e.units
-  $ deck_calls <<'END'
+  $ test_decks decks <<'END'
   > load none.units
   > lines
   > load long.units
@@ -83,7 +83,7 @@ Files that include one another, down to the depth of 16. The next one is not loo
 
   $ for i in $(seq 0 15); do printf 'u_%s0 !\n!include in_%s.units\n' $i $((i + 1)) > in_$i.units; done
   $ printf 'u_160 !\n' > in_16.units
-  $ deck_calls <<'END'
+  $ test_decks decks <<'END'
   > load in_0.units
   > count
   > notices
@@ -96,7 +96,7 @@ Files that include one another, down to the depth of 16. The next one is not loo
   ok
   16 units, 0 prefixes, 0 functions, 0 lists, 31 lines, 0 notices
   $ printf '!include in_17.units\nu_160 !\n' > in_16.units
-  $ deck_calls <<'END'
+  $ test_decks decks <<'END'
   > load in_0.units
   > count
   > notices
@@ -116,7 +116,7 @@ Files that include one another, down to the depth of 16. The next one is not loo
 A file that includes itself in each of its lines but one is read 17 times.
 
   $ printf 'm !\n!include self.units\n!endvar\n' > self.units
-  $ deck_calls <<'END'
+  $ test_decks decks <<'END'
   > load self.units
   > count
   > notices
@@ -129,7 +129,7 @@ A file that cannot be read ends the load and the append, which leave the deck as
 
   $ printf 'm !\n!include sub\n' > f.units
   $ printf 'n !\n!include f.units\n' > g.units
-  $ deck_calls <<'END'
+  $ test_decks decks <<'END'
   > load sub
   > load f.units
   > lines
@@ -180,7 +180,7 @@ Each of the fetches of a file in turn, of which the third is that of a file in a
   >   cp -r whole cut
   >   rm "cut/$file"
   >   mkdir "cut/$file"
-  >   printf '%s\n' 'load cut/a' 'load whole/d' snapshot 'append cut/a' compare 'append whole/a' count | deck_calls
+  >   printf '%s\n' 'load cut/a' 'load whole/d' snapshot 'append cut/a' compare 'append whole/a' count | test_decks decks
   > done
   read failed
   ok
@@ -214,7 +214,7 @@ Each of the fetches of a file in turn, of which the third is that of a file in a
 Stray ends, and blocks that are closed in the wrong order.
 
   $ printf '!endvar\nm !\n!locale en_US\n!endvar\na m\n!utf8\n!endlocale\n!endutf8\n!endlocale\n!endlocale\n' > h.units
-  $ deck_calls <<'END'
+  $ test_decks decks <<'END'
   > load h.units
   > lines
   > notices
@@ -230,7 +230,7 @@ innermost first, with the numbers of the lines that opened their blocks, and the
 
   $ printf '!locale en_US\n!var V x\nv 1 m\n!endvar\n!varnot V x\n\n!utf8\ni 2 m\n' > open.units
   $ printf 'm !\n!locale en_GB\n!include open.units\n!endutf8\nno 2 m\n' > j.units
-  $ deck_calls <<'END'
+  $ test_decks decks <<'END'
   > load j.units
   > lines
   > notices
@@ -266,7 +266,7 @@ a `!var` block open too.
 
   $ printf '!utf8\n!varnot V x\n!var V x\na 1 m\n!locale en_US\n' > four.units
   $ printf 'm !\n!var V x\n!include four.units\nb 1 m\n' > five.units
-  $ deck_calls <<'END'
+  $ test_decks decks <<'END'
   > load four.units
   > lines
   > notices
@@ -291,7 +291,7 @@ A file that is cut off in a continuation, and one in the name of an include.
 
   $ printf 'm !\nft 12 \\\n  in\\' > k.units
   $ printf 'in m\n!include \\\n k.units \\\n' > l.units
-  $ deck_calls <<'END'
+  $ test_decks decks <<'END'
   > load k.units
   > lines
   > load l.units
@@ -307,7 +307,7 @@ A file that is cut off in a continuation, and one in the name of an include.
 Lines that are refused stay, and have no effect.
 
   $ printf 'm !\nh- \n1a m\n!nosuch\n!var V\n!include\n!locale a b\na 3 *\nt[m] 1 2\nf() \n a 2 m \n\na\t5  m\n' > n.units
-  $ deck_calls <<'END'
+  $ test_decks decks <<'END'
   > load n.units
   > lines
   > notices
@@ -334,7 +334,7 @@ A variable in a list of several values, and one that is not set, for which each 
 values are parted by blanks of both kinds.
 
   $ printf 'm !\n!var V x y\na 1 m\n!endvar\n!var V y\tz\nb 1 m\n!endvar\n!varnot V x\nc_0 1 m\n!endvar\n!var V xy\nd 1 m\n!endvar\n' > o.units
-  $ deck_calls <<'END'
+  $ test_decks decks <<'END'
   > load o.units
   > keys
   > set V x
@@ -363,7 +363,7 @@ Of two `!set` lines the first counts, and the settings count before both. One in
 
   $ printf 'm !\n!set V x\n!set V y\n!var V x\na 1 m\n!endvar\n!var V y\na 2 m\n!endvar\n' > p.units
   $ printf 'm !\n!locale de_DE\n!set V x\n!endlocale\n!var V x\na 1 m\n!endvar\n!set V y z\n!var V y z\na 2 m\n!endvar\n!varnot V y z\na 3 m\n!endvar\n' > q.units
-  $ deck_calls <<'END'
+  $ test_decks decks <<'END'
   > load p.units
   > entry a
   > set V y
@@ -387,7 +387,7 @@ Of two `!set` lines the first counts, and the settings count before both. One in
   changed: none
   2 m
   ok
-  $ deck_calls <<'END'
+  $ test_decks decks <<'END'
   > load q.units
   > entry a
   > locale de_DE
@@ -404,7 +404,7 @@ A variable that a file sets is in force in those that it includes and behind the
 
   $ printf '!set V x\n!include s.units\n!var W y\na 1 m\n!endvar\n' > r.units
   $ printf '!var V x\nb 1 m\n!set W y\n!endvar\n' > s.units
-  $ deck_calls <<'END'
+  $ test_decks decks <<'END'
   > load r.units
   > keys
   > load s.units
@@ -424,7 +424,7 @@ A variable that a file sets is in force in those that it includes and behind the
 Messages, in force and not, one without text and one with blanks.
 
   $ printf '!message hello\n!message\n!locale en_GB\n!message  cheerio \n!endlocale\n!message a  b # c\n!prompt no\n!var V x\n!message x\n!endvar\n!endvar\n' > t.units
-  $ deck_calls <<'END'
+  $ test_decks decks <<'END'
   > load t.units
   > messages
   > locale en_GB
@@ -447,7 +447,7 @@ Messages, in force and not, one without text and one with blanks.
 
 The two gallons of the built-in definitions, to and fro. Where neither locale is in force there is none.
 
-  $ deck_calls <<END
+  $ test_decks decks <<END
   > text $BUILTIN
   > count
   > notices
@@ -492,7 +492,7 @@ The two gallons of the built-in definitions, to and fro. Where neither locale is
 A line is trimmed, and has the number 0. Two entries are equal exactly where their texts are.
 
   $ printf 'm !\na 2 m\n' > u.units
-  $ deck_calls <<'END'
+  $ test_decks decks <<'END'
   > load u.units
   > define a 2 m
   > define   a 2 m 	
@@ -553,7 +553,7 @@ A line is trimmed, and has the number 0. Two entries are equal exactly where the
 not in force has none.
 
   $ printf 'm !\na 2 m\n!locale en_GB\na 3 m\nb 4 m\n!endlocale\na 2 m\na 5 m\n' > v.units
-  $ deck_calls <<'END'
+  $ test_decks decks <<'END'
   > load v.units
   > drop a
   > place a
@@ -600,7 +600,7 @@ not in force has none.
 the earlier ones, and a block of the deck does not go on in it.
 
   $ printf 'a 7 m\n!locale en_GB\nb 4 m\n!nosuch\n' > w.units
-  $ deck_calls <<'END'
+  $ test_decks decks <<'END'
   > load v.units
   > append v.units
   > append w.units
@@ -625,7 +625,7 @@ the earlier ones, and a block of the deck does not go on in it.
 
 A snapshot stays as it is whatever becomes of the deck.
 
-  $ deck_calls <<'END'
+  $ test_decks decks <<'END'
   > compare
   > load v.units
   > compare
@@ -673,7 +673,7 @@ A snapshot stays as it is whatever becomes of the deck.
   different
 
   $ printf 'm !\na 2 m\nb 3 a\nc 5 m\n' > abc.units
-  $ deck_calls <<'END'
+  $ test_decks decks <<'END'
   > load abc.units
   > snapshot
   > define a 7 m
@@ -710,7 +710,7 @@ A snapshot stays as it is whatever becomes of the deck.
   $ (cat most.units; echo '!utf8') > added.units
   $ (cat most.units; printf '!include none.units\n!include sub\n') > order.units
   $ (cat most.units; printf '!include sub\n!include none.units\nm !\n') > fails.units
-  $ deck_calls <<'END'
+  $ test_decks decks <<'END'
   > load over.units
   > load added.units
   > load order.units
@@ -766,7 +766,7 @@ So are 67,108,864 bytes of the texts of lines, the include lines too.
   $ message() { printf '!message '; head -c $1 /dev/zero | tr '\0' x; }
   $ message 16777207 > w; message 16777167 > r; message 16777168 > o; message 16777164 > l
   $ for end in r o l; do printf '!include w\n!include w\n!include w\n!include %s\n' $end > all_$end; done
-  $ deck_calls <<'END'
+  $ test_decks decks <<'END'
   > load all_o
   > load all_r
   > count
@@ -789,7 +789,7 @@ So are 67,108,864 bytes of the texts of lines, the include lines too.
 
 Each prefix of the built-in definitions gives a deck: what its last line is, and how many blocks are open, is told in notices.
 
-  $ deck_calls > prefixes <<END
+  $ test_decks decks > prefixes <<END
   > $(for i in $(seq 0 1057); do head -c $i $BUILTIN > p_$i; echo "text p_$i"; echo notices; echo count; echo lines; done)
   > END
   $ grep -c '^ok$' prefixes
@@ -835,7 +835,7 @@ places are not there, or that leaves a block open or closes none, is refused.
   >     done
   >   done
   > }
-  $ (printf 'load x.units\nsnapshot\n'; splices) | deck_calls > spliced
+  $ (printf 'load x.units\nsnapshot\n'; splices) | test_decks decks > spliced
   $ grep -c '^no such splice$' spliced
   421
   $ grep -c '^changed' spliced
@@ -847,7 +847,7 @@ places are not there, or that leaves a block open or closes none, is refused.
 
 The same to other settings and back.
 
-  $ (printf 'load x.units\nsnapshot\nlocale en_GB\nset V y\n'; splices) | deck_calls > spliced
+  $ (printf 'load x.units\nsnapshot\nlocale en_GB\nset V y\n'; splices) | test_decks decks > spliced
   $ sort spliced | uniq -c | grep -E 'equal|different'
       637 equal
   $ md5sum < spliced
@@ -855,7 +855,7 @@ The same to other settings and back.
 
 What is no call, and what needs a deck.
 
-  $ deck_calls <<'END'
+  $ test_decks decks <<'END'
   > 
   > nothing
   > load

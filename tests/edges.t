@@ -3,7 +3,7 @@ the users of the edges to a key, and `unsettle` the nodes that were cleared.
 
 Two edges lead to node 0, one of them over node 1. Nothing is left, and all room is back.
 
-  $ edge_calls <<END
+  $ test_decks edges <<END
   > node
   > node
   > node
@@ -37,7 +37,7 @@ Two edges lead to node 0, one of them over node 1. Nothing is left, and all room
 An edge of a node to itself, and two equal edges. Node 2 reaches no other. A node that was
 forgotten has no edge that could be forgotten again.
 
-  $ edge_calls <<END
+  $ test_decks edges <<END
   > node
   > node
   > node
@@ -76,7 +76,7 @@ forgotten has no edge that could be forgotten again.
 
 Only the edges of the forgotten node go, not those of another user of the same key.
 
-  $ edge_calls <<END
+  $ test_decks edges <<END
   > node
   > node
   > node
@@ -99,7 +99,7 @@ Only the edges of the forgotten node go, not those of another user of the same k
 
 Nodes and room that are not there.
 
-  $ edge_calls <<END
+  $ test_decks edges <<END
   > users 0
   > unsettle 0
   > node
@@ -148,7 +148,7 @@ numbers.
      1428 spare
      1371 unsettle
      1428 users
-  $ edge_calls < calls > answers
+  $ test_decks edges < calls > answers
   $ paste -d ' ' calls answers | awk '$1 == "link" { print $4 }' | sort | uniq -c
      7906 ok
       723 refused

@@ -1,10 +1,10 @@
-Definition lines, as entry_calls answers them: it reads a definition file, and writes for each definition and
+Definition lines, as `test_values entries` answers them: it reads a definition file, and writes for each definition and
 each list its number, and its key, what its entry says and the text of that, or why the line is refused. The
 keys, entries and faults are found by hand from the rules of the format.
 
 Each form: a unit, a prefix, a function with its options, an alias, a table and a list.
 
-  $ entry_calls <<'END'
+  $ test_values entries <<'END'
   > m !
   > radian !dimensionless
   > yard  3 ft 
@@ -48,7 +48,7 @@ Each form: a unit, a prefix, a function with its options, an alias, a table and 
 
 Options stand in any order, and each part of a function is told where it stands.
 
-  $ entry_calls <<'END'
+  $ test_values entries <<'END'
   > f(x) units=[m;] noerror domain=[0,1] x
   > f(x) domain=[0,1] units=[m;] noerror x
   > f(x) noerror domain=[0,1] units=[m;] x
@@ -70,7 +70,7 @@ The first fault of each line: a name, a parameter or an alias target that is non
 that before points that are no table, and those before expressions. A blank at the end of a line is trimmed, and
 ` m !` is `m !`: a line of a file has no blanks at its ends.
 
-  $ entry_calls <<'END'
+  $ test_values entries <<'END'
   > foo2 m
   > 2foo(
   > sin
@@ -163,98 +163,98 @@ that before points that are no table, and those before expressions. A blank at t
 A place counts from 0, and parentheses are nested 64 deep at most.
 
   $ { printf 'a '; printf '1%.0s' $(seq 20); printf ' m%.0s' $(seq 592); echo ' +'; } > places
-  $ entry_calls < places
+  $ test_values entries < places
   1: refused: syntax error at 1206
   1 lines, 1 refused
   $ nested() { printf 'a '; printf '(%.0s' $(seq $1); printf m; printf ')%.0s' $(seq $1); echo; }
-  $ nested 64 | entry_calls | cut -c 1-12
+  $ nested 64 | test_values entries | cut -c 1-12
   1: a | body\x20 (esc)
   1 lines, 0 r
-  $ nested 65 | entry_calls
+  $ nested 65 | test_values entries
   1: refused: nested too deep
   1 lines, 1 refused
 
 Which lines count: comments, blank lines and other directives do not, and a line that goes on is one line.
 
-  $ printf '' | entry_calls
+  $ printf '' | test_values entries
   0 lines, 0 refused
-  $ printf 'm !' | entry_calls
+  $ printf 'm !' | test_values entries
   1: m | primitive | !
   1 lines, 0 refused
-  $ printf 'm !\nfoo2 m\n' | entry_calls
+  $ printf 'm !\nfoo2 m\n' | test_values entries
   1: m | primitive | !
   2: refused: bad name: foo2
   2 lines, 1 refused
-  $ printf '+foo2 m\n' | entry_calls
+  $ printf '+foo2 m\n' | test_values entries
   1: refused: bad name: foo2
   1 lines, 1 refused
-  $ printf '# foo2 m\n\n!include\n!nothing\n!var A\n' | entry_calls
+  $ printf '# foo2 m\n\n!include\n!nothing\n!var A\n' | test_values entries
   0 lines, 0 refused
-  $ printf '!unitlist hms hr;min;sec\n!unitlist z m;;s\n' | entry_calls
+  $ printf '!unitlist hms hr;min;sec\n!unitlist z m;;s\n' | test_values entries
   1: !unitlist hms | list of 3 | hr;min;sec
   2: refused: syntax error at 0
   2 lines, 1 refused
-  $ printf 'a \\\n!\nfoo2 m' | entry_calls
+  $ printf 'a \\\n!\nfoo2 m' | test_values entries
   1: a | primitive | !
   3: refused: bad name: foo2
   2 lines, 1 refused
-  $ printf 'f(x) \\\r\n;x\r\n' | entry_calls
+  $ printf 'f(x) \\\r\n;x\r\n' | test_values entries
   1: refused: bad definition
   1 lines, 1 refused
-  $ printf 't[m] 1 2' | entry_calls
+  $ printf 't[m] 1 2' | test_values entries
   1: refused: bad table
   1 lines, 1 refused
-  $ printf 'm 2 +' | entry_calls
+  $ printf 'm 2 +' | test_values entries
   1: refused: syntax error at 3
   1 lines, 1 refused
-  $ printf 'm 1e10000\nm /s' | entry_calls
+  $ printf 'm 1e10000\nm /s' | test_values entries
   1: refused: numeral too long
   2: refused: syntax error at 0
   2 lines, 2 refused
 
 A file of more than 16 MiB is not read.
 
-  $ head -c 16777216 /dev/zero | tr '\0' '#' > long; entry_calls < long
+  $ head -c 16777216 /dev/zero | tr '\0' '#' > long; test_values entries < long
   0 lines, 0 refused
-  $ printf '#' >> long; entry_calls < long
+  $ printf '#' >> long; test_values entries < long
   file too long
 
 A table has 1,000 points at most; what stands behind those is not looked at.
 
   $ points() { printf 't[m]'; seq 0 $1 | sed 's/.*/ & 1|3,/' | tr -d '\n'; }
-  $ points 999 | entry_calls | cut -c 1-42
+  $ points 999 | test_values entries | cut -c 1-42
   1: t() | table | [m] 0 1|3, 1 1|3, 2 1|3,\x20 (esc)
   1 lines, 0 refused
-  $ { points 999; echo ' 1000 2'; } | entry_calls
+  $ { points 999; echo ' 1000 2'; } | test_values entries
   1: refused: bad table
   1 lines, 1 refused
-  $ { points 999; echo ' 1000'; } | entry_calls
+  $ { points 999; echo ' 1000'; } | test_values entries
   1: refused: bad table
   1 lines, 1 refused
-  $ { points 999; echo ' ,'; } | entry_calls
+  $ { points 999; echo ' ,'; } | test_values entries
   1: refused: bad table
   1 lines, 1 refused
 
 Long lines.
 
   $ long() { printf "$1"; yes "$2" | head -n 50000 | tr -d '\n'; }
-  $ long '!unitlist z m' ';m' | entry_calls | cut -c 1-40
+  $ long '!unitlist z m' ';m' | test_values entries | cut -c 1-40
   1: !unitlist z | list of 50001 | m;m;m;m
   1 lines, 0 refused
-  $ long 't[m] 1 2' ' 3 4' | entry_calls
+  $ long 't[m] 1 2' ' 3 4' | test_values entries
   1: refused: bad table
   1 lines, 1 refused
-  $ long n n | entry_calls | cut -c 1-26
+  $ long n n | test_values entries | cut -c 1-26
   1: refused: bad name: nnnn
   1 lines, 1 refused
-  $ long 'a m' ' m' | entry_calls | cut -c 1-25
+  $ long 'a m' ' m' | test_values entries | cut -c 1-25
   1: a | body | m m m m m m
   1 lines, 0 refused
 
 Two entries of one key are equal exactly where their texts are: the first two lines of each three are, the third is
 another.
 
-  $ entry_calls <<'END'
+  $ test_values entries <<'END'
   > a 2 m
   > + a	2 m
   > a 2  m
@@ -290,7 +290,7 @@ another.
 
 The built-in definitions.
 
-  $ entry_calls <<'END'
+  $ test_values entries <<'END'
   > # primitives
   > m !
   > kg !
@@ -442,7 +442,7 @@ The built-in definitions.
 
 A file of a million lines, and one line of a million continuations.
 
-  $ yes 'm !' | head -n 1000000 | entry_calls | tail -n 1
+  $ yes 'm !' | head -n 1000000 | test_values entries | tail -n 1
   1000000 lines, 0 refused
-  $ { printf 'm '; yes '\' | head -n 1000000; echo '!'; } | entry_calls | tail -n 1
+  $ { printf 'm '; yes '\' | head -n 1000000; echo '!'; } | test_values entries | tail -n 1
   1 lines, 0 refused

@@ -1,4 +1,4 @@
-Histories, by the calls of the crate history_calls: a first `load FILE` makes the table of a file's deck, `value EXPRESSION` is a
+Histories, by the calls of `test_tables history`: a first `load FILE` makes the table of a file's deck, `value EXPRESSION` is a
 query, and `lines` tells the lines of the deck, a `;` behind each. `define LINE`, `drop KEY`, `switch LOCALE` and `append FILE` are
 edits, which `undo` takes back and `redo` makes again. A value is printed exactly.
 
@@ -10,7 +10,7 @@ An undo gives back what was before an edit, and a redo what that took.
   > b 3 a
   > c 5 m
   > END
-  $ history_calls <<'END'
+  $ test_tables history <<'END'
   > load small.units
   > value b
   > define a 7 m
@@ -39,7 +39,7 @@ An undo gives back what was before an edit, and a redo what that took.
 
 A refused edit is none, and a new one leaves nothing to redo.
 
-  $ history_calls <<'END'
+  $ test_tables history <<'END'
   > load small.units
   > define d 2 a
   > undo
@@ -78,7 +78,7 @@ A dropped line comes back at its place, under its number and its mark, and the l
   > a 3 m
   > b 5 a
   > END
-  $ history_calls <<'END'
+  $ test_tables history <<'END'
   > load covered.units
   > value b
   > drop a
@@ -121,7 +121,7 @@ A dropped line comes back at its place, under its number and its mark, and the l
 
 A line that is defined again covers one before it, which an undo uncovers, in any depth; a line that says the same is an edit too.
 
-  $ history_calls <<'END'
+  $ test_tables history <<'END'
   > load covered.units
   > define a 7 m
   > define a 7 m
@@ -181,7 +181,7 @@ Other settings and whole files, one behind another. A file whose blocks are not 
   > !locale en_GB
   > a 5 m
   > END
-  $ history_calls <<'END'
+  $ test_tables history <<'END'
   > load local.units
   > value a
   > switch en_GB

@@ -1,11 +1,11 @@
-Quantities split into counts of units, as amount_calls answers them. The expected counts come from Python's
+Quantities split into counts of units, as `test_values amounts` answers them. The expected counts come from Python's
 fractions.
 
 Of each unit but the last the greatest whole count, of the last one what is left. A negative quantity has the
 counts of its magnitude, negated. Places of units count from 0; other exponents are looked at before numbers that
 are not above 0, and both before any step.
 
-  $ amount_calls <<END
+  $ test_values amounts <<END
   > split 7|5 m;381|1250 m;127|5000 m
   > split -7|5 m;381|1250 m;127|5000 m
   > split 0 m;381|1250 m;127|5000 m
@@ -42,7 +42,7 @@ are not above 0, and both before any step.
 
 The same with the last unit rounded: the nearest whole multiple of it is split, of two the even one.
 
-  $ amount_calls <<END
+  $ test_values amounts <<END
   > round 7|5 m;381|1250 m;127|5000 m
   > round 75819|125000 m;381|1250 m;127|5000 m
   > round -75819|125000 m;381|1250 m;127|5000 m

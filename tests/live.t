@@ -14,7 +14,7 @@ A cycle has the chain of the name by which it is entered. No name fault is kept:
   > d c b
   > s s
   > END
-  $ live_calls <<'END'
+  $ test_tables values <<'END'
   > load cycle.units
   > counts
   > value a
@@ -72,7 +72,7 @@ table of points, and a prefix. The trees of a function are gone through in the o
   > p- p
   > q- pq
   > END
-  $ live_calls <<'END'
+  $ test_tables values <<'END'
   > load cycles.units
   > value f(1)
   > value ~f(1)
@@ -155,7 +155,7 @@ stand in the query. Behind `~` a function alone is sought, and a list leads nowh
   > r_a() cos
   > r_l- exp m
   > END
-  $ live_calls <<'END'
+  $ test_tables values <<'END'
   > load unknown.units
   > value nosuch
   > value 2 m nosuch
@@ -235,7 +235,7 @@ each kind. What stands before one in the text is told before it.
   > p[f(sin) m] 0 1, 1 2
   > a() h
   > END
-  $ live_calls <<'END'
+  $ test_tables values <<'END'
   > load under.units
   > value f(sin)
   > value f(2 cos(1) nosuch)
@@ -292,7 +292,7 @@ A word with a prefix and a unit has two targets, gone through in that order, the
   > v 1/0
   > w m + 1
   > END
-  $ live_calls <<'END'
+  $ test_tables values <<'END'
   > load targets.units
   > value goodm
   > counts
@@ -337,7 +337,7 @@ a call and after them alone. A unit at the place of a call is multiplied.
   > g(x) units=[m;] x / m
   > gs 17 m
   > END
-  $ live_calls <<'END'
+  $ test_tables values <<'END'
   > load lookup.units
   > value dab
   > value daab
@@ -408,7 +408,7 @@ its names lead somewhere; what the text of an expression itself lacks is told be
   > t[b] 0 1, 2 3
   > !unitlist l m;a
   > END
-  $ live_calls <<'END'
+  $ test_tables values <<'END'
   > load counts.units
   > counts
   > value a
@@ -478,7 +478,7 @@ its names lead somewhere; what the text of an expression itself lacks is told be
   10 settled, 11 names, 10 reductions
   ok
   10 settled, 11 names, 10 reductions
-  $ live_calls <<'END'
+  $ test_tables values <<'END'
   > load counts.units
   > counts
   > settle
@@ -491,7 +491,7 @@ its names lead somewhere; what the text of an expression itself lacks is told be
 
 Queries of kept names are answered alike, and the order of queries does not matter.
 
-  $ live_calls > forth <<'END'
+  $ test_tables values > forth <<'END'
   > load counts.units
   > value a
   > value d
@@ -501,7 +501,7 @@ Queries of kept names are answered alike, and the order of queries does not matt
   > value t(1)
   > counts
   > END
-  $ live_calls > back <<'END'
+  $ test_tables values > back <<'END'
   > load counts.units
   > value t(1)
   > value ~g(3 s)
@@ -537,7 +537,7 @@ Value faults of functions behind names, in the order of their tests, and the fir
   > big 1e30 1e30
   > root m^(1|61)
   > END
-  $ live_calls <<'END'
+  $ test_tables values <<'END'
   > load faults.units
   > value sq(3 m)
   > unapply sq 9 m^2
@@ -588,7 +588,7 @@ Functions that call one another: the greatest rank is 16.
 
   $ (echo 'f_1(x) x + 1 ; f_1 - 1'; for i in $(seq 2 16); do echo "f_$i(x) f_$((i - 1))(x) ; ~f_$((i - 1))(f_$i)"; done) > deep.units
   $ printf 'g() f_16\nt[f_16(1)] 0 1, 1 2\nh(x) g\nu f_16(2)\nw g(2)\n' >> deep.units
-  $ live_calls <<'END'
+  $ test_tables values <<'END'
   > load deep.units
   > value f_16(2)
   > unapply f_16 2
@@ -613,24 +613,24 @@ Functions that call one another: the greatest rank is 16.
 
 What is loaded, and what is no call. Where nothing is loaded, that is the only answer.
 
-  $ printf 'value 2\ncounts\n' | live_calls
+  $ printf 'value 2\ncounts\n' | test_tables values
   no deck
-  $ printf 'load nosuch.units\nvalue 2\n' | live_calls
+  $ printf 'load nosuch.units\nvalue 2\n' | test_tables values
   absent
-  $ printf 'load counts.units' | live_calls
+  $ printf 'load counts.units' | test_tables values
   ok
-  $ printf '' | live_calls
+  $ printf '' | test_tables values
   no deck
-  $ printf 'load counts.units\nvalue c' | live_calls
+  $ printf 'load counts.units\nvalue c' | test_tables values
   ok
   1 m^3
   $ head -c 16777217 /dev/zero | tr '\0' '\n' > long.units
   $ mkdir folder
-  $ printf 'load long.units\ncounts\n' | live_calls
+  $ printf 'load long.units\ncounts\n' | test_tables values
   too long
-  $ printf 'load folder\ncounts\n' | live_calls
+  $ printf 'load folder\ncounts\n' | test_tables values
   read failed
-  $ live_calls <<'END'
+  $ test_tables values <<'END'
   > load lookup.units
   > load counts.units
   > values
@@ -660,7 +660,7 @@ What is loaded, and what is no call. Where nothing is loaded, that is the only a
 A locale and variables choose among entries, and a name that is refused by its line has no entry.
 
   $ printf 'm !\n!locale en_US\ng 3 m\n!endlocale\n!locale en_GB\ng 2 m\n!endlocale\n1a m\nb 1a\n!set V x\n!var V x\nh 5 m\n!endvar\n' > blocks.units
-  $ live_calls <<'END'
+  $ test_tables values <<'END'
   > load blocks.units
   > value g h
   > value b
@@ -675,7 +675,7 @@ A ring of 20,000 names has its whole chain from each of its names on, and settle
 where it enters. Each key of the chain is followed by the one before it.
 
   $ (echo 'u_0 2 u_19999'; for i in $(seq 1 19999); do echo "u_$i 3 u_$((i - 1))"; done; echo 'in u_12345') > ring.units
-  $ live_calls > answers <<'END'
+  $ test_tables values > answers <<'END'
   > load ring.units
   > value u_0
   > value u_12345
@@ -716,7 +716,7 @@ where it enters. Each key of the chain is followed by the one before it.
 A chain of 20,000 names is settled by its last, each once, and each later query of it settles nothing.
 
   $ (echo 'u_0 !'; for i in $(seq 1 20000); do echo "u_$i $((2 - i % 2))|$((1 + i % 2)) u_$((i - 1))"; done) > chain.units
-  $ live_calls <<'END'
+  $ test_tables values <<'END'
   > load chain.units
   > value u_10001
   > counts
@@ -742,7 +742,7 @@ forgotten with its users and no other; an equal definition puts its line and for
 nothing either; a drop uncovers the line before. A refused edit changes nothing.
 
   $ printf 'm !\na 2 m\nb 3 a\nc 5 m\n' > edits.units
-  $ live_calls <<'END'
+  $ test_tables values <<'END'
   > load edits.units
   > value b
   > value c
@@ -789,7 +789,7 @@ A prefix that a name shadows and uncovers again, a name that was absent when it 
 broken.
 
   $ printf 'm !\nk- 1000\nx 2 km\ny zz\np q\nq 4 m\n' > shadow.units
-  $ live_calls <<'END'
+  $ test_tables values <<'END'
   > load shadow.units
   > value x
   > counts
@@ -834,7 +834,7 @@ A prefix that led nowhere, behind the one that did, and the name that would have
 them is forgotten, a query that did is answered anew, and no other name is touched. A cycle that is made and broken.
 
   $ printf 'm !\nda- 10\nd- 1|10\nab 7 m\nx dab\ny ab\np q\nq 4 m\n' > nowhere.units
-  $ live_calls <<'END'
+  $ test_tables values <<'END'
   > load nowhere.units
   > value x
   > value y
@@ -911,7 +911,7 @@ Both locales to and fro, and an append that redefines half of the names.
 
   $ printf 'm !\n!locale en_US\ngal 3 m\n!endlocale\n!locale en_GB\ngal 4 m\n!endlocale\nv 2 gal\nw 9 m\n' > locales.units
   $ printf 'gal 5 m\nw 8 m\n' > half.units
-  $ live_calls <<'END'
+  $ test_tables values <<'END'
   > load locales.units
   > value v
   > value w
@@ -971,7 +971,7 @@ worth before and behind it.
   >     done
   >   done
   > }
-  $ (printf 'load spliced.units\n'; asked; splices) | live_calls > spliced
+  $ (printf 'load spliced.units\n'; asked; splices) | test_tables values > spliced
   $ grep -c '^no such splice$' spliced
   172
   $ grep -c '^no splice$' spliced

@@ -1,7 +1,7 @@
 What words lead to in tables of a few keys: what each is found as, and the keys that are looked at on
 the way, absent ones too. A prefix is written with a `-`, a function with `()`. Found by hand.
 
-  $ found() { while IFS= read -r call; do printf '%s => ' "$call"; echo "find $call" | text_calls; done; }
+  $ found() { while IFS= read -r call; do printf '%s => ' "$call"; echo "find $call" | test_values texts; done; }
 
 A unit before a function alone, a function before a unit in front of an operand, and a function only
 behind a `~`.
@@ -76,5 +76,5 @@ a prefix.
 
 Of a long word each prefix is looked at once.
 
-  $ { printf 'find plain '; yes a | head -n 255 | tr -d '\n'; echo ' m'; } | text_calls | wc -w
+  $ { printf 'find plain '; yes a | head -n 255 | tr -d '\n'; echo ' m'; } | test_values texts | wc -w
   260

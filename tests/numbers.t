@@ -1,9 +1,9 @@
-Steps on fractions of 127 bits, as number_calls answers them, a call a line. The expected numbers are those of
+Steps on fractions of 127 bits, as `test_values numbers` answers them, a call a line. The expected numbers are those of
 Python's fractions.
 
 A numerator over a denominator. The least number of 128 bits is no numerator, but a quotient by it may fit.
 
-  $ number_calls <<END
+  $ test_values numbers <<END
   > new 6 -4
   > new -6 -4
   > new 100 10
@@ -40,7 +40,7 @@ A numerator over a denominator. The least number of 128 bits is no numerator, bu
 
 Products are reduced before they are made, so that one that fits never overflows.
 
-  $ number_calls <<END
+  $ test_values numbers <<END
   > mul 85070591730234615865843651857942052864 3|4
   > mul -85070591730234615865843651857942052864 3|4
   > mul 85070591730234615865843651857942052864 -2
@@ -65,7 +65,7 @@ Products are reduced before they are made, so that one that fits never overflows
 
 Quotients.
 
-  $ number_calls <<END
+  $ test_values numbers <<END
   > div 85070591730234615865843651857942052864 3|4
   > div -85070591730234615865843651857942052864 3|4
   > div 85070591730234615865843651857942052864 -2
@@ -90,7 +90,7 @@ Quotients.
 
 Which fractions are 0.
 
-  $ number_calls <<END
+  $ test_values numbers <<END
   > zero 85070591730234615865843651857942052864
   > zero -85070591730234615865843651857942052864
   > zero 85070591730234615865843651857942052864
@@ -115,7 +115,7 @@ Which fractions are 0.
 
 Sums overflow where the least common multiple of the denominators, a numerator over it or the sum is too large.
 
-  $ number_calls <<END
+  $ test_values numbers <<END
   > add 1|6 1|10
   > add -1|3 1|3
   > add 170141183460469231731687303715884105727|2 170141183460469231731687303715884105727|2
@@ -140,7 +140,7 @@ Sums overflow where the least common multiple of the denominators, a numerator o
 
 Differences.
 
-  $ number_calls <<END
+  $ test_values numbers <<END
   > sub 1|6 1|10
   > sub -1|3 1|3
   > sub 170141183460469231731687303715884105727|2 170141183460469231731687303715884105727|2
@@ -165,7 +165,7 @@ Differences.
 
 The order, at full width.
 
-  $ number_calls <<END
+  $ test_values numbers <<END
   > cmp 1|6 1|10
   > cmp -1|3 1|3
   > cmp 170141183460469231731687303715884105727|2 170141183460469231731687303715884105727|2
@@ -190,7 +190,7 @@ The order, at full width.
 
 The other sign, and the sum with it.
 
-  $ number_calls <<END
+  $ test_values numbers <<END
   > negate 1|6
   > add 1|6 -1|6
   > negate -1|3
@@ -235,7 +235,7 @@ The other sign, and the sum with it.
 
 The whole part is rounded down.
 
-  $ number_calls <<END
+  $ test_values numbers <<END
   > floor 7|2
   > floor -7|2
   > floor -6|2
@@ -252,7 +252,7 @@ The whole part is rounded down.
 
 Powers stop at the first product that is too large, whatever the exponent.
 
-  $ number_calls <<END
+  $ test_values numbers <<END
   > pow 0 0
   > pow 0 5
   > pow 0 -1
@@ -293,7 +293,7 @@ Powers stop at the first product that is too large, whatever the exponent.
 
 Roots are exact or none.
 
-  $ number_calls <<END
+  $ test_values numbers <<END
   > root 4|9 2
   > root 9|4 2
   > root 2 2

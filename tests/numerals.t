@@ -1,8 +1,8 @@
-Numerals, as number_calls reads them. The expected values are those of Python's fractions.
+Numerals, as `test_values numbers` reads them. The expected values are those of Python's fractions.
 
 The length of the longest numeral at the front of a text, 0 where none is.
 
-  $ number_calls <<END
+  $ test_values numbers <<END
   > length 5.
   > length .5
   > length 0.0254
@@ -57,7 +57,7 @@ The length of the longest numeral at the front of a text, 0 where none is.
 
 The value of a numeral that is the whole text.
 
-  $ number_calls <<END
+  $ test_values numbers <<END
   > numeral 5.
   > numeral .5
   > numeral 0.0254
@@ -112,7 +112,7 @@ The value of a numeral that is the whole text.
 
 No text is no numeral.
 
-  $ printf 'length \nnumeral \n' | number_calls
+  $ printf 'length \nnumeral \n' | test_values numbers
   0
   not a numeral
 
@@ -121,7 +121,7 @@ Zeros do not count, however many stand before, among or after the digits.
   $ zeros=$(printf %060000d 0)
   $ for text in "$zeros" "1$zeros" "${zeros}1.5" "2.5$zeros"; do
   >     printf 'length %s\nnumeral %s\n' "$text" "$text"
-  > done | number_calls
+  > done | test_values numbers
   60000
   0
   60001

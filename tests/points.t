@@ -1,9 +1,9 @@
-Tables of points, as amount_calls reads them both ways: `at` an x, and `back` at a y. The expected values come
+Tables of points, as `test_values amounts` reads them both ways: `at` an x, and `back` at a y. The expected values come
 from Python's fractions.
 
 A table that rises.
 
-  $ sed 's:POINTS:1 1|500;10 1|50;15 1|25;19 3|50;23 1|10:' <<END | amount_calls
+  $ sed 's:POINTS:1 1|500;10 1|50;15 1|25;19 3|50;23 1|10:' <<END | test_values amounts
   > at 1;POINTS
   > back 1;POINTS
   > at 10;POINTS
@@ -64,7 +64,7 @@ A table that rises.
 
 Flat and falling segments: the first one that holds the number counts, and a flat one gives its left end.
 
-  $ sed 's:POINTS:1 5;2 5;3 4;5 -4;6 7:' <<END | amount_calls
+  $ sed 's:POINTS:1 5;2 5;3 4;5 -4;6 7:' <<END | test_values amounts
   > at 1;POINTS
   > back 1;POINTS
   > at 3|2;POINTS
@@ -121,7 +121,7 @@ Flat and falling segments: the first one that holds the number counts, and a fla
 
 A step that does not fit is named, though what it leads to may fit.
 
-  $ sed 's:POINTS:0 0;85070591730234615865843651857942052864 85070591730234615865843651857942052864:' <<END | amount_calls
+  $ sed 's:POINTS:0 0;85070591730234615865843651857942052864 85070591730234615865843651857942052864:' <<END | test_values amounts
   > at 0;POINTS
   > back 0;POINTS
   > at 1;POINTS
@@ -148,7 +148,7 @@ A step that does not fit is named, though what it leads to may fit.
   outside the table
   outside the table
 
-  $ sed 's:POINTS:0 -170141183460469231731687303715884105727;1 1;2 1|2:' <<END | amount_calls
+  $ sed 's:POINTS:0 -170141183460469231731687303715884105727;1 1;2 1|2:' <<END | test_values amounts
   > at 0;POINTS
   > back 0;POINTS
   > at 1|2;POINTS
@@ -169,7 +169,7 @@ A step that does not fit is named, though what it leads to may fit.
 
 Points are a table where there are 2 to 1,000 whose x rise strictly.
 
-  $ amount_calls <<END
+  $ test_values amounts <<END
   > at 1|2;
   > at 1|2;1 1
   > at 1|2;1|3 1;1|2 1
@@ -184,9 +184,9 @@ Points are a table where there are 2 to 1,000 whose x rise strictly.
   no table
   no table
 
-  $ { printf 'at 0'; for i in $(seq 0 998); do printf ';%d %d|7' $i $i; done; echo; } | amount_calls
+  $ { printf 'at 0'; for i in $(seq 0 998); do printf ';%d %d|7' $i $i; done; echo; } | test_values amounts
   0
-  $ { printf 'at 0'; for i in $(seq 0 999); do printf ';%d %d|7' $i $i; done; echo; } | amount_calls
+  $ { printf 'at 0'; for i in $(seq 0 999); do printf ';%d %d|7' $i $i; done; echo; } | test_values amounts
   0
-  $ { printf 'at 0'; for i in $(seq 0 1000); do printf ';%d %d|7' $i $i; done; echo; } | amount_calls
+  $ { printf 'at 0'; for i in $(seq 0 1000); do printf ';%d %d|7' $i $i; done; echo; } | test_values amounts
   no table

@@ -1,8 +1,8 @@
-The texts of fractions, as number_calls prints them. The expected texts come from Python's decimal and fractions.
+The texts of fractions, as `test_values numbers` prints them. The expected texts come from Python's decimal and fractions.
 
 With so many significant digits: the nearest such number.
 
-  $ number_calls <<END
+  $ test_values numbers <<END
   > digits 2 199|2
   > digits 1 5|2
   > digits 1 7|2
@@ -65,7 +65,7 @@ With so many significant digits: the nearest such number.
 
 Exactly.
 
-  $ number_calls <<END
+  $ test_values numbers <<END
   > exact 3
   > exact -3
   > exact 0

@@ -1,10 +1,10 @@
-Steps on quantities, as amount_calls answers them, a call a line. The expected values come from the rules by
+Steps on quantities, as `test_values amounts` answers them, a call a line. The expected values come from the rules by
 hand and from Python's fractions. Each step has two forms: one borrows the quantity on its left, the other takes
 it over.
 
 Products: the exponents are added. A fault of the numbers comes before one of an exponent.
 
-  $ amount_calls <<END
+  $ test_values amounts <<END
   > mul 2 m;3 m^2
   > times 2 m;3 m^2
   > mul 1 m^1|2;1 m^1|2
@@ -41,7 +41,7 @@ Products: the exponents are added. A fault of the numbers comes before one of an
 
 Quotients: the exponents are subtracted.
 
-  $ amount_calls <<END
+  $ test_values amounts <<END
   > div 2 m;3 m^2
   > over 2 m;3 m^2
   > div 1 m^1|2;1 m^1|2
@@ -78,7 +78,7 @@ Quotients: the exponents are subtracted.
 
 Sums and differences: the exponents have to be equal, which is looked at before the numbers.
 
-  $ amount_calls <<END
+  $ test_values amounts <<END
   > add 1|2 m;1|3 m
   > plus 1|2 m;1|3 m
   > add 1|2 m;1|3 m^1|2
@@ -101,7 +101,7 @@ Sums and differences: the exponents have to be equal, which is looked at before 
   2
   2
 
-  $ amount_calls <<END
+  $ test_values amounts <<END
   > sub 1|2 m;1|3 m
   > minus 1|2 m;1|3 m
   > sub 1|2 m;1|3 m^1|2
@@ -126,7 +126,7 @@ Sums and differences: the exponents have to be equal, which is looked at before 
 
 Both quantities that do not conform are told, with all their names.
 
-  $ amount_calls <<END
+  $ test_values amounts <<END
   > add 2 m;3 s
   > plus 2 m;3 s
   > END
@@ -136,7 +136,7 @@ Both quantities that do not conform are told, with all their names.
 Powers with a fraction as exponent: the numerator is a power, the denominator a root, of the number and of each
 exponent. The exponent of a power has no exponents of its own, and is looked at first.
 
-  $ amount_calls <<END
+  $ test_values amounts <<END
   > pow 1 m;32767
   > raised 1 m;32767
   > pow 1 m;32768
@@ -221,7 +221,7 @@ exponent. The exponent of a power has no exponents of its own, and is looked at 
 
 Names stand in the order of their bytes, those with negative exponents behind a slash.
 
-  $ amount_calls <<END
+  $ test_values amounts <<END
   > copy 1 m^2 s^-2 mol^-1 kg K^-1
   > digits 8;1 m^2 s^-2 mol^-1 kg K^-1
   > END
@@ -230,7 +230,7 @@ Names stand in the order of their bytes, those with negative exponents behind a 
 
 Numbers, with eight digits and exactly, and exponents.
 
-  $ amount_calls <<END
+  $ test_values amounts <<END
   > digits 8;1|2 m^-1
   > copy 1|2 m^-1
   > digits 8;1 m^1|2
@@ -255,7 +255,7 @@ Numbers, with eight digits and exactly, and exponents.
 
 A copy, and the number with the other sign.
 
-  $ amount_calls <<END
+  $ test_values amounts <<END
   > digits 8;2|3 m^-3|2
   > copy 2|3 m^-3|2
   > digits 8;-2|3 m^-3|2
@@ -275,7 +275,7 @@ A copy, and the number with the other sign.
 Quantities conform where each name has the same exponent in both, and are reciprocal where each has the other's
 with the other sign.
 
-  $ amount_calls <<END
+  $ test_values amounts <<END
   > conforms 2 m^1|2;2 m^1|2
   > reciprocal 2 m^1|2;2 m^1|2
   > conforms 2 m^1|2;3 m^-1|2
@@ -298,7 +298,7 @@ with the other sign.
 
 What is no call.
 
-  $ amount_calls <<END
+  $ test_values amounts <<END
   > half 3
   > mul 2
   > copy

@@ -5,7 +5,7 @@ digits. Behind a reply that is refused, and behind a fault in the place of a val
 
 A conversion to a unit, in each layout.
 
-  $ answer_calls <<END
+  $ test_tables answers <<END
   > load $BUILTIN
   > convert 10 meters to feet
   > convert   10 meters   to 	feet 
@@ -65,7 +65,7 @@ A conversion to a unit, in each layout.
 
 Digits, and numbers that are exact whatever the digits are.
 
-  $ answer_calls <<END
+  $ test_tables answers <<END
   > load $BUILTIN
   > options 3
   > convert 10 meters to feet
@@ -111,7 +111,7 @@ Digits, and numbers that are exact whatever the digits are.
 
 What is 0 goes in no whole number of times, and nothing goes into a unit of 0.
 
-  $ answer_calls <<END
+  $ test_tables answers <<END
   > load $BUILTIN
   > convert 0 m to ft
   > convert tempF(-459.67) to K
@@ -152,7 +152,7 @@ What is 0 goes in no whole number of times, and nothing goes into a unit of 0.
 
 A reciprocal conversion, in each layout. The line that says so does not stand before a fault.
 
-  $ answer_calls <<END
+  $ test_tables answers <<END
   > load $BUILTIN
   > convert 2 Hz to s
   > convert sqrt(m) to 1/sqrt(m)
@@ -212,7 +212,7 @@ A reciprocal conversion, in each layout. The line that says so does not stand be
 
 Numbers conform to numbers. With `strict` there is no reciprocal conversion.
 
-  $ answer_calls <<END
+  $ test_tables answers <<END
   > load $BUILTIN
   > options strict
   > convert 2 Hz to s
@@ -275,7 +275,7 @@ Numbers conform to numbers. With `strict` there is no reciprocal conversion.
 A target that is the name of a function, an alias or a table, in each layout. `to` a name with anything behind it is
 to an expression.
 
-  $ answer_calls <<END
+  $ test_tables answers <<END
   > load $BUILTIN
   > convert tempF(45) to tempC
   > convert tempcelsius(100) to tempF
@@ -346,7 +346,7 @@ function may have a unit.
   > t[m] 1 5, 2 5, 3 4
   > back[m] 3 1, 4 -1
   > END
-  $ answer_calls <<END
+  $ test_tables answers <<END
   > load names.units
   > convert 4 m to gauge
   > convert 4 m to pair
@@ -391,7 +391,7 @@ function may have a unit.
 
 A target that is a list, by its name or with semicolons, in each layout.
 
-  $ answer_calls <<END
+  $ test_tables answers <<END
   > load $BUILTIN
   > convert 1.4 m to ft;in
   > convert 1.4 m to   ft ;  in  
@@ -470,7 +470,7 @@ the list has a definition.
   > !unitlist one m
   > !unitlist spread  m ; 1|10   m
   > END
-  $ answer_calls <<END
+  $ test_tables answers <<END
   > load lists.units
   > convert m to nosuch;m+
   > convert m to m;
@@ -562,7 +562,7 @@ that an expression defines.
   > d 3  (m  +  m)  # of all
   > p- 7
   > END
-  $ answer_calls <<END
+  $ test_tables answers <<END
   > load texts.units
   > define m
   > define rad
@@ -607,7 +607,7 @@ that an expression defines.
   \tDefinition: 3|2 m (esc)
   \tDefinition: 1|6 m (esc)
 
-  $ answer_calls <<END
+  $ test_tables answers <<END
   > load $BUILTIN
   > define 1/2 m
   > define m/s s/day
@@ -688,7 +688,7 @@ The text of each fault, which is the whole reply in every layout.
   > f_1(x) x
   > $(for i in $(seq 2 17); do echo "f_$i(x) f_$((i - 1))(x)"; done)
   > END
-  $ answer_calls <<END
+  $ test_tables answers <<END
   > load faults.units
   > define 2 +
   > define
@@ -795,7 +795,7 @@ The text of each fault, which is the whole reply in every layout.
 The faults of FROM come before those of TO, those of a text before those of its names, and these before those of its
 value. The quantities of a fault are written as the options ask.
 
-  $ answer_calls <<END
+  $ test_tables answers <<END
   > load faults.units
   > convert nosuch to 2 +
   > convert 1/0 to 2 +
@@ -859,7 +859,7 @@ value. The quantities of a fault are written as the options ask.
 
 What texts are worth, in whatever layout.
 
-  $ answer_calls <<END
+  $ test_tables answers <<END
   > load $BUILTIN
   > value 2 ft
   > value   2 ft  
@@ -888,7 +888,7 @@ What texts are worth, in whatever layout.
 
 Lines that are no call, and no deck.
 
-  $ answer_calls <<END
+  $ test_tables answers <<END
   > load $BUILTIN
   > 
   > load $BUILTIN
@@ -903,13 +903,13 @@ Lines that are no call, and no deck.
   bad call
   bad call
 
-  $ answer_calls <<END
+  $ test_tables answers <<END
   > load none.units
   > define m
   > END
   no deck
 
-  $ answer_calls <<END
+  $ test_tables answers <<END
   > define m
   > END
   no deck

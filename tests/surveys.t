@@ -5,7 +5,7 @@ a line that says so. `options` are those of replies.
 
 Nothing is wrong with the definitions that are built in.
 
-  $ answer_calls <<END
+  $ test_tables answers <<END
   > load $BUILTIN
   > check
   > options
@@ -33,7 +33,7 @@ Units: a word that leads nowhere, in their own definition or in another, refused
   > later nosuch
   > later 7 m
   > END
-  $ answer_calls <<END
+  $ test_tables answers <<END
   > load names.units
   > check
   > define two
@@ -102,7 +102,7 @@ Units without a value. A fault of names is told before one of values. Quantities
   > off gauge(4)
   > good gauge(2) square(3 m)
   > END
-  $ answer_calls <<END
+  $ test_tables answers <<END
   > load values.units
   > check
   > options exact
@@ -167,7 +167,7 @@ Prefixes: the faults of their bodies. A chain that holds the prefix begins and e
   > pf- 2 f(3)
   > f(x) pfm x
   > END
-  $ answer_calls <<END
+  $ test_tables answers <<END
   > load prefixes.units
   > check
   > END
@@ -211,7 +211,7 @@ order, and then the values of both units. What they give is not asked.
   > rung ring(3)
   > inner(x) 2 refused(x)
   > END
-  $ answer_calls <<END
+  $ test_tables answers <<END
   > load functions.units
   > check
   > END
@@ -236,7 +236,7 @@ A function of too high a rank is no fault of its own, but of what calls it.
   >   for i in $(seq 2 17); do echo "f_$i(x) f_$((i - 1))(x)"; done
   >   printf '%s\n' 'deep f_17(1)' 'less f_16(1)' 'to() f_17' 'deeper to(1)'
   > } > deep.units
-  $ answer_calls <<END
+  $ test_tables answers <<END
   > load deep.units
   > check
   > END
@@ -266,7 +266,7 @@ Aliases and tables. An alias has no unit of its own, so of what it leads to the 
   > flat[0 m] 1 2, 3 4
   > to() sum
   > END
-  $ answer_calls <<END
+  $ test_tables answers <<END
   > load tables.units
   > check
   > END
@@ -308,7 +308,7 @@ first one, then the first that is not above 0. A word of a part stands in no def
   > !unitlist l m;1|2 m;1|3 m
   > !unitlist m m
   > END
-  $ answer_calls <<END
+  $ test_tables answers <<END
   > load lists.units
   > check
   > END
@@ -349,7 +349,7 @@ counts.
   > aa 3 m
   > !endlocale
   > END
-  $ answer_calls <<END
+  $ test_tables answers <<END
   > load order.units
   > check
   > search a
@@ -385,7 +385,7 @@ A search seeks in names alone, at each place of them, and asks for nothing. What
   > mil 5 m
   > milli- 1|1000
   > END
-  $ answer_calls <<END
+  $ test_tables answers <<END
   > load search.units
   > search mil
   > search in
@@ -422,7 +422,7 @@ A search seeks in names alone, at each place of them, and asks for nothing. What
   no matching names
   no matching names
 
-  $ answer_calls <<END
+  $ test_tables answers <<END
   > load $BUILTIN
   > search temp
   > search tempC()
@@ -443,7 +443,7 @@ A search seeks in names alone, at each place of them, and asks for nothing. What
   no matching names
 
   $ printf '' > empty.units
-  $ answer_calls <<END
+  $ test_tables answers <<END
   > load empty.units
   > check
   > search 
@@ -457,7 +457,7 @@ A search seeks in names alone, at each place of them, and asks for nothing. What
 
 What conforms to a quantity: units alone, those that have a value. Its magnitude counts for nothing.
 
-  $ answer_calls <<END
+  $ test_tables answers <<END
   > load search.units
   > conformable 2 s
   > conformable   0 m  
@@ -489,7 +489,7 @@ What conforms to a quantity: units alone, those that have a value. Its magnitude
   syntax error at 0
   refused
 
-  $ answer_calls <<END
+  $ test_tables answers <<END
   > load $BUILTIN
   > conformable 3 K
   > conformable tempC(20)
@@ -528,7 +528,7 @@ What conforms to a quantity: units alone, those that have a value. Its magnitude
   > p- sqrt(m)
   > !unitlist l m
   > END
-  $ answer_calls <<END
+  $ test_tables answers <<END
   > load fractions.units
   > conformable sqrt(m)
   > conformable odd

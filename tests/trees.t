@@ -1,8 +1,8 @@
-Expressions, and the tree or the fault of each, found by hand. `text_calls` reads a call a line; these
+Expressions, and the tree or the fault of each, found by hand. `test_values texts` reads a call a line; these
 functions write each text before its answer. A tree has its kind before its parts, words stand in
 brackets, `[]` is the argument, and a numeral is its digits with the power of ten behind them.
 
-  $ answers() { while IFS= read -r text; do printf '%s => ' "$text"; printf '%s\n' "$1 $text" | text_calls; done; }
+  $ answers() { while IFS= read -r text; do printf '%s => ' "$text"; printf '%s\n' "$1 $text" | test_values texts; done; }
   $ trees() { answers plain; }
   $ bound() { answers "with $1"; }
   $ naming() { answers name; }
@@ -39,7 +39,7 @@ What is no word, no numeral and no mark.
   sin2 => syntax error at 0
   2 ; 3 => syntax error at 2
   2[3] => syntax error at 1
-  $ printf 'plain a\001b\n' | text_calls
+  $ printf 'plain a\001b\n' | test_values texts
   syntax error at 1
 
 What may not stand where it stands, and texts that may not end.
@@ -112,7 +112,7 @@ The first fault is told, and a long numeral only where a numeral may stand.
   ) 1e10000 => syntax error at 0
   ~1e10000 => syntax error at 1
   170141183460469231731687303715884105728 => numeral too long
-  $ printf 'plain \t1e39 \n' | text_calls
+  $ printf 'plain \t1e39 \n' | test_values texts
   1e39
 
 Numerals and words: a point behind a blank begins a numeral, a head has its parenthesis directly
@@ -232,7 +232,7 @@ told apart.
 A name has at most 255 bytes, and one more as a word with a power.
 
   $ repeated() { yes -- "$2" | head -n "$1" | tr -d '\n'; }
-  $ verdict() { printf 'parse %s\n' "$1" | text_calls; }
+  $ verdict() { printf 'parse %s\n' "$1" | test_values texts; }
   $ verdict "$(repeated 255 a)"
   tree
   $ verdict "$(repeated 255 a)2"
@@ -268,7 +268,7 @@ not.
 
 The words of a tree from left to right, each with how it stands, and the tree of a copy.
 
-  $ text_calls <<'END'
+  $ test_values texts <<'END'
   > words a + b(c2 / ~d(2 - 1)) sqrt(-e) ^ 2 | 3 (f 3) g * 4
   > words 2 + 1|2
   > words 2 +
@@ -330,17 +330,17 @@ Names, and names that are refused. A byte above 127 may stand in a name.
   log2 => refused name
   sinn => name
 
-  $ printf 'name m\310\n' | text_calls
+  $ printf 'name m\310\n' | test_values texts
   name
 
 A million members are parsed, copied, listed and let go without a call for each.
 
   $ for pattern in 'm ' m+ 'm*' m-; do
-  >     { printf 'words '; repeated 1000000 "$pattern"; echo m; } | text_calls | wc -w
+  >     { printf 'words '; repeated 1000000 "$pattern"; echo m; } | test_values texts | wc -w
   > done
   1000002
   1000002
   1000002
   1000002
-  $ { printf 'copy '; repeated 1000000 'm '; echo m; } | text_calls | wc -w
+  $ { printf 'copy '; repeated 1000000 'm '; echo m; } | test_values texts | wc -w
   1000002

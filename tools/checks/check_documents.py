@@ -54,13 +54,14 @@ def product(groups: dict[str, dict[str, list[str]]]) -> dict[str, list[str]]:
 
 
 def diagram_rows(text: str) -> list[tuple[str, list[str]]]:
-    """The rows of the diagram, each with its heading, the highest first."""
+    """The rows of the diagram, each with its heading, the highest first. A heading is a line that is not indented."""
     rows, heading = [], ""
     block = re.search(r"^```\n(.*?)^```", text, re.DOTALL | re.MULTILINE)
     for line in block.group(1).splitlines() if block else []:
-        label, names = re.fullmatch(r"(\S.*?\S(?=   )|)\s*(.*)", line).groups()
-        heading = label or heading
-        rows.append((heading, names.split()))
+        if line.startswith(" "):
+            rows.append((heading, line.split()))
+        else:
+            heading = line
     return rows
 
 

@@ -1,6 +1,6 @@
 #!/usr/bin/env python3
-"""Refuses each allocation of the programs of crates/live_calls and crates/history_calls in turn, over each edit of a
-live table, and over each kind of edit that a history takes back and makes again.
+"""Refuses each allocation of the program of crates/test_tables in turn, over each edit of a live table, and over each
+kind of edit that a history takes back and makes again.
 
     tools/checks/check_edits.py
 
@@ -33,9 +33,9 @@ class Case(NamedTuple):
 
 
 class Program(NamedTuple):
-    """Its name, its first calls, calls that show the state, calls that show the rest and change it, and its edits."""
+    """The kind of its calls, its first calls, calls that show the state, calls that show the rest, and its edits."""
 
-    name: str
+    kind: str
     start: list[str]
     questions: list[str]
     last: list[str]
@@ -43,7 +43,7 @@ class Program(NamedTuple):
 
 
 LIVE = Program(
-    "live_calls",
+    "values",
     ["load deck.units", "settle"],
     ["counts", *VALUES, "value g(3)", "counts"],
     [],
@@ -55,7 +55,7 @@ LIVE = Program(
 )
 # After its first calls, a history has an edit that can be undone and one that can be redone.
 HISTORY = Program(
-    "history_calls",
+    "history",
     ["load deck.units", "define c 2 b", "define c 3 b", "undo"],
     ["lines", *VALUES, "value c"],
     [*["redo", "lines"] * 3, *["undo", "lines"] * 4, *["redo", "lines"] * 4],
@@ -81,28 +81,28 @@ def built(name):
     return done.stdout.decode().strip()
 
 
-def run(path, calls, number=0):
+def run(command, calls, number=0):
     """Returns the status, the answers, and whether the allocation of this number was refused."""
     given = "".join(call + "\n" for call in calls).encode()
     settings = {"LD_PRELOAD": str(Path("refuse.so").resolve()), "REFUSED": str(number)}
     with open("refused", "w+b") as log:
         os.dup2(log.fileno(), 9)
         streams = {"stdout": subprocess.PIPE, "stderr": subprocess.DEVNULL, "pass_fds": [9]}
-        done = subprocess.run([path], input=given, env=settings, check=False, **streams)
+        done = subprocess.run(command, input=given, env=settings, check=False, **streams)
         os.close(9)
         return done.returncode, done.stdout.decode().split("\n")[:-1], os.fstat(log.fileno()).st_size > 0
 
 
-def refusals(path, calls, at, expected):
+def refusals(command, calls, at, expected):
     """Refuses each allocation in turn. Returns how often the call at this place says `out of memory`, or None if a run
     is wrong. After `out of memory` the answers have to be the expected ones."""
-    status, full, _ = run(path, calls)
+    status, full, _ = run(command, calls)
     if status != 0 or len(full) != len(calls) or full[at] != "ok":
         return None
     count, number = 0, 0
     while True:
         number += 1
-        status, answers, was_refused = run(path, calls, number)
+        status, answers, was_refused = run(command, calls, number)
         if not was_refused:
             return count
         if status != 0:
@@ -117,21 +117,21 @@ def refusals(path, calls, at, expected):
             return None
 
 
-def is_right(path, program, case):
+def is_right(command, program, case):
     """Returns whether an edit is right with each allocation refused, and how often the edit itself was refused."""
     start = [*program.start, *case.before, *program.questions]
     report = [*program.questions, *program.last]
     at = len(start)
-    _, unchanged, _ = run(path, [*start, *report])
-    _, changed, _ = run(path, [*start, case.edit, *report])
+    _, unchanged, _ = run(command, [*start, *report])
+    _, changed, _ = run(command, [*start, case.edit, *report])
     refused = [*unchanged[:at], "out of memory"]
-    alone = refusals(path, [*start, case.edit, *report], at, [*refused, *unchanged[at:]])
-    repeated = refusals(path, [*start, case.edit, case.again, *report], at, [*refused, *changed[at:]])
+    alone = refusals(command, [*start, case.edit, *report], at, [*refused, *unchanged[at:]])
+    repeated = refusals(command, [*start, case.edit, case.again, *report], at, [*refused, *changed[at:]])
     return bool(alone) and alone == repeated, alone or 0
 
 
 def main():
-    programs = [(built(program.name), program) for program in [LIVE, HISTORY]]
+    path = built("test_tables")
     passed = failed = 0
     with tempfile.TemporaryDirectory() as folder:
         os.chdir(folder)
@@ -141,10 +141,10 @@ def main():
         compiler = subprocess.run(gcc, check=False)
         if compiler.returncode != 0:
             give_up("gcc did not build the allocator")
-        for path, program in programs:
+        for program in [LIVE, HISTORY]:
             for case in program.cases:
-                right, count = is_right(path, program, case)
-                title = f"{program.name}: {' and '.join([*case.before, case.edit])}"
+                right, count = is_right([path, program.kind], program, case)
+                title = f"{program.kind}: {' and '.join([*case.before, case.edit])}"
                 print(f"{title}: refused {count} times{'' if right else ', and wrong'}")
                 passed, failed = (passed + 1, failed) if right else (passed, failed + 1)
         os.chdir("/")

@@ -7,7 +7,7 @@
 The counts: lines (by kind), arguments (functions with more than five besides self), clauses (those that ten functions
 or more have), names (words that two crates define), participles (functions and definitions named by a single
 participle), citations (imports of another crate's proofs), unused (lemmas that no file names). Test programs
-(`*_calls`, `run_faults`) count only in `lines`.
+(`test_*`, `run_faults`) count only in `lines`.
 """
 
 from __future__ import annotations
@@ -36,7 +36,7 @@ IRREGULAR = {
 
 
 def is_product(crate: str) -> bool:
-    return not crate.endswith("_calls") and crate != "run_faults"
+    return not crate.startswith("test_") and crate != "run_faults"
 
 
 @lru_cache

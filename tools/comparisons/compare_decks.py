@@ -5,7 +5,7 @@
 
 makes DECKS sets of small files (300 by default) from the SEED (1 by default),
 with includes, blocks, variables, faulty lines and continuations, has the program of
-crates/deck_calls load one, edit it and answer after each edit, and compares each answer with that
+crates/test_decks load one, edit it and answer after each edit, and compares each answer with that
 of lists which are gone through whole. It prints the first differences and a line with the counts,
 and ends with status 1 if there is a difference.
 
@@ -27,7 +27,7 @@ from built import program  # noqa: E402
 from decks_at_random import EDITS, LEAVES, NAMES, random_calls, random_file  # noqa: E402
 from plain_decks import Board, joined  # noqa: E402
 
-PROGRAM = "deck_calls"
+PROGRAM, KIND = "test_decks", "decks"
 SHOWN = 5  # how many differences are printed
 
 
@@ -46,7 +46,7 @@ def compare(r, folder):
         Path(name).write_bytes(random_file(r, name).encode("latin-1"))
     calls = list(random_calls(r, Board(), 12))
     spelled = "".join(call + "\n" for call, _ in calls)
-    run = subprocess.run([program(PROGRAM)], input=spelled.encode("latin-1"), stdout=subprocess.PIPE, check=False)
+    run = subprocess.run([program(PROGRAM), KIND], input=spelled.encode("latin-1"), stdout=subprocess.PIPE, check=False)
     answers = run.stdout.decode("latin-1").split("\n")[:-1]
     if run.returncode != 0 or len(answers) != len(calls):
         sys.exit(f"the program ended with status {run.returncode} after {len(answers)} answers to {calls}")

@@ -4,7 +4,7 @@
     tools/comparisons/compare_edges.py [CALLS] [SEED]
 
 makes CALLS calls (10000 where none is given) over a few nodes from the SEED (1 where none is
-given), has the program of crates/edge_calls answer them, and compares each answer with that of a
+given), has the program of crates/test_decks answer them, and compares each answer with that of a
 list which is searched whole. It prints the first differences and a line with the counts, and ends
 with status 1 if there is a difference.
 
@@ -22,7 +22,7 @@ from pathlib import Path
 sys.path.insert(0, str(Path(__file__).resolve().parents[1]))
 from built import program  # noqa: E402
 
-PROGRAM = "edge_calls"
+PROGRAM, KIND = "test_decks", "edges"
 NODES = 12
 SHOWN = 5  # how many differences are printed
 
@@ -109,7 +109,7 @@ def main():
     random.seed(int(sys.argv[2]) if len(sys.argv) > 2 else 1)
     calls = list(random_calls(count))
     spelled_calls = "".join(call + "\n" for call, _ in calls)
-    run = subprocess.run([program(PROGRAM)], input=spelled_calls, capture_output=True, text=True, check=True)
+    run = subprocess.run([program(PROGRAM), KIND], input=spelled_calls, capture_output=True, text=True, check=True)
     told = run.stdout.splitlines()
     if len(told) != len(calls):
         sys.exit(f"{len(told)} answers to {len(calls)} calls")

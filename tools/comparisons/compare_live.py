@@ -5,7 +5,7 @@
 
 makes TABLES tables (400 by default) from the SEED (1 by default), with cycles,
 prefixes, plurals, functions, aliases, tables of points and lists, has the program of
-crates/live_calls answer queries of each, and then queries with edits between them, and compares each answer, and
+crates/test_tables answer queries of each, and then queries with edits between them, and compares each answer, and
 the counts after each query and edit. Then it does the same with a ring of 20,000 names and with a chain of 60,000.
 
     tools/comparisons/compare_live.py --definitions FILE
@@ -37,14 +37,14 @@ from plain_lines import Refusal, need  # noqa: E402
 from plain_live import LARGE, Live, entries_of  # noqa: E402
 from plain_quantities import Fault  # noqa: E402
 
-PROGRAM = "live_calls"
+PROGRAM, KIND = "test_tables", "values"
 SHOWN = 5  # how many differences are printed
 RING, CHAIN = 20_000, 60_000
 EDITS = ["define", "drop", "switch", "append", "splice", "back"]
 
 
 class Board:
-    """Answers calls as live_calls does."""
+    """Answers calls as `test_tables values` does."""
 
     def __init__(self, load):
         """Loads the table of a line, or stores why there is none."""
@@ -96,7 +96,7 @@ def answers_by_recursion(calls):
 
 def answers_of_program(calls):
     given = "".join(call + "\n" for call in calls).encode("latin-1")
-    run = subprocess.run([program(PROGRAM)], input=given, stdout=subprocess.PIPE, check=True)
+    run = subprocess.run([program(PROGRAM), KIND], input=given, stdout=subprocess.PIPE, check=True)
     return run.stdout.decode("latin-1").split("\n")[:-1]
 
 

@@ -4,7 +4,7 @@
     tools/comparisons/compare_numbers.py [CALLS] [SEED]
 
 makes CALLS calls of each kind (100000 where none is given) from the SEED (1 where none is
-given), near the limits of the libraries, has the program of crates/number_calls answer them, and
+given), near the limits of the libraries, has the program of crates/test_values answer them, and
 compares each answer with the one that Python's int, Fraction and Decimal give. It prints a line
 for each kind and the first differences, and ends with status 1 if there is a difference.
 """
@@ -36,7 +36,7 @@ from numbers_at_limits import (  # noqa: E402
     whole,
 )
 
-PROGRAM = "number_calls"
+PROGRAM, KIND = "test_values", "numbers"
 MOST_EXPONENT = 9_999  # the largest exponent of a numeral
 SHOWN = 5  # how many differences of a kind are printed
 NUMBER = re.compile(r"-?[0-9.]+(\|[0-9]+|e[+-][0-9]+)?")
@@ -230,7 +230,7 @@ def compare(kind, make, count, seed):
     r = random.Random(f"{seed} {kind}")
     calls = [make(r, kind) for _ in range(count)]
     lines = b"".join(line + b"\n" for line, _ in calls)
-    run = subprocess.run([program(PROGRAM)], input=lines, stdout=subprocess.PIPE, check=False)
+    run = subprocess.run([program(PROGRAM), KIND], input=lines, stdout=subprocess.PIPE, check=False)
     answers = run.stdout.decode().split("\n")[:-1]
     different = [(call, want, got) for (call, want), got in zip(calls, answers) if want != got]
     words = Counter(want for _, want in calls if not NUMBER.fullmatch(want))

@@ -4,7 +4,7 @@
     tools/comparisons/compare_reports.py [TABLES] [SEED]
 
 makes TABLES tables (400 where none is given) from the SEED (1 where none is given), with lists of
-parts that are unlike or not above 0, has the program of crates/answer_calls check each, search it
+parts that are unlike or not above 0, has the program of crates/test_tables check each, search it
 for each byte of its names and for other texts, and say what conforms to random expressions, and
 compares the answers.
 
@@ -41,7 +41,7 @@ from plain_live import Live  # noqa: E402
 from plain_quantities import Fault  # noqa: E402
 from plain_tables import Alias, Points  # noqa: E402
 
-PROGRAM = "answer_calls"
+PROGRAM, KIND = "test_tables", "answers"
 SHOWN = 5  # how many differences are printed
 PARTS = ["m", "2 m", "0 m", "-1 m", "1|2 a", "a", "s", "b / 0", "1e20 1e20", "nosuch", "sin(2)", "ab", "fa(2)", "3"]
 
@@ -146,7 +146,7 @@ def answers_of_program(name, calls):
     """The lines of each answer. Options are set before each call, to mark where its answer begins."""
     lines = [f"load {name}", *(line for call in calls for line in ("options exact", call))]
     given = "".join(line + "\n" for line in lines).encode("latin-1")
-    run = subprocess.run([program(PROGRAM)], input=given, stdout=subprocess.PIPE, check=True)
+    run = subprocess.run([program(PROGRAM), KIND], input=given, stdout=subprocess.PIPE, check=True)
     answers = run.stdout.decode("latin-1").split("\n")[:-1]
     starts = [at for at, line in enumerate(answers) if line == "ok"][1:]
     return [answers[start + 1 : end] for start, end in zip(starts, [*starts[1:], len(answers)])]

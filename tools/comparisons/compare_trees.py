@@ -5,7 +5,7 @@
 
 writes all token lists up to the length LONGEST (5 by default), and RANDOM longer ones
 (200000 where none is given) from the SEED (1 where none is given), has the program of
-crates/text_calls parse them, and compares each tree or fault with the one that the rules of
+crates/test_values parse them, and compares each tree or fault with the one that the rules of
 tools/models/plain_trees.py give. It prints a line for each kind of list and the first
 differences, and ends with status 1 if there is a difference.
 """
@@ -21,7 +21,7 @@ sys.path[:0] = [str(Path(__file__).resolve().parents[1] / name) for name in ("."
 from built import program  # noqa: E402
 from plain_trees import DEEPEST, MARKS, Token, first_fault, opened, sum_tree  # noqa: E402
 
-PROGRAM = "text_calls"
+PROGRAM, KIND = "test_values", "texts"
 SHOWN = 5  # how many differences of a kind are printed
 BATCH = 200_000  # how many lines one run of the program gets
 
@@ -185,7 +185,7 @@ def compare(name, lists):
     total, differences, words = 0, [], Counter()
     while batch := list(itertools.islice(lists, BATCH)):
         lines = "".join(line_of(text, binder) + "\n" for _, text, _, binder in batch)
-        run = subprocess.run([program(PROGRAM)], input=lines.encode(), stdout=subprocess.PIPE, check=False)
+        run = subprocess.run([program(PROGRAM), KIND], input=lines.encode(), stdout=subprocess.PIPE, check=False)
         answers = run.stdout.decode().split("\n")[:-1]
         if run.returncode != 0 or len(answers) != len(batch):
             sys.exit(f"the program ended with status {run.returncode} after {len(answers)} answers")

@@ -1,5 +1,5 @@
 #!/usr/bin/env bash
-# Has the program of crates/entry_calls read the definitions of GNU units, and prints each line that it refuses.
+# Has the program of crates/test_values read the definitions of GNU units, and prints each line that it refuses.
 #   tools/comparisons/read_definitions.sh [FILE]
 # FILE is that of Debian's package units by default. For the definitions of GNU units 2.22, the status is 1 if the
 # refused lines are not those below; with any other file the script only prints them.
@@ -10,7 +10,7 @@ if [ ! -r "$file" ]; then
     echo "read_definitions: no file $file; on Debian: apt-get install units" >&2
     exit 1
 fi
-program=$("$root/tools/built.sh" entry_calls) || exit
+program=$("$root/tools/built.sh" test_values) || exit
 folder=$(mktemp -d)
 trap 'rm -rf "$folder"' EXIT
 
@@ -34,7 +34,7 @@ known_refusals() {
     refused 'bad definition' ipv6subnetsize 'byte order mark'
 }
 
-"$program" < "$file" > "$folder/report" || exit 1
+"$program" entries < "$file" > "$folder/report" || exit 1
 # Each refused line of the report, with the name at its beginning.
 sed -n 's/^\([0-9]*\): refused: /\1\t/p' "$folder/report" > "$folder/refused"
 LC_ALL=C awk -F '\t' '

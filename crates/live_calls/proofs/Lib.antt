@@ -1,4 +1,0 @@
-pub mod ToldEdits
-pub mod Inverses
-pub mod Told
-pub mod Written

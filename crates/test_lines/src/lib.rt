@@ -1,0 +1,17 @@
+//! The library of the test programs: the loop over the lines of standard input, the word that names the kind of the
+//! calls, the arguments of calls, and the texts that answers consist of.
+#![tactic(auto)]
+
+mod answers;
+mod change;
+mod fault;
+mod faults;
+mod run;
+mod words;
+
+pub use answers::{Answers, put_answers};
+pub use change::{Change, read_change};
+pub use fault::CallFault;
+pub use faults::{entry_refusal, parse_refusal};
+pub use run::{first_word, read_all, refuse_kind, write_all};
+pub use words::{key_in, put_count, put_line, read_number, split_at_space};

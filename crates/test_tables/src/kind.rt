@@ -1,0 +1,70 @@
+//! The kinds of calls, and the load before them.
+
+use crate::history_board::history_answers;
+use crate::reply_board::reply_answers;
+use crate::texts::settings_of;
+use crate::value_board::value_answers;
+use deck::{Deck, DeckFault};
+use def_entry::cut_at;
+use live_table::LiveTable;
+use std::alloc::{AllocError, Global};
+use std::sync::ledger::Ledger;
+use units_io::{Files, Steps};
+
+// A kind of calls.
+#[derive(Clone, Copy)]
+pub(crate) enum Kind {
+    // Queries and edits of a live table.
+    Values,
+    // Edits with their history.
+    History,
+    // Replies and reports.
+    Answers,
+}
+
+// Returns the kind with this name.
+pub(crate) fn read_kind(name: &[u8]) -> Option<Kind> {
+    match name {
+        b"values" => Some(Kind::Values),
+        b"history" => Some(Kind::History),
+        b"answers" => Some(Kind::Answers),
+        _ => None,
+    }
+}
+
+// Returns the answers to the lines. The first line, `load FILE`, loads a deck; if that fails, its answer is the only
+// one. Fails only if memory runs out.
+pub(crate) fn answers_to<F: Files + Drop, L: Ledger>(
+    alloc: Global,
+    mut files: F,
+    steps: Steps<L>,
+    kind: Kind,
+    lines: &[u8],
+) -> Result<Vec<u8>, AllocError> {
+    let (first, calls) = cut_at(lines, b'\n').unwrap_or((lines, b""));
+    let Some(name) = first.strip_prefix(b"load ".as_slice()) else {
+        return Vec::from_slice(alloc, b"no deck\n");
+    };
+    let settings = settings_of(alloc, b"en_US")?;
+    let live = match Deck::load(alloc, &mut files, name, settings) {
+        Ok(deck) => LiveTable::new(alloc, deck),
+        Err(DeckFault::OutOfMemory) => return Err(AllocError),
+        Err(fault) => return Vec::from_slice(alloc, load_fault_text(kind, &fault)),
+    };
+    match kind {
+        Kind::Values => value_answers(alloc, files, live, steps, calls),
+        Kind::History => history_answers(alloc, files, live, steps, calls),
+        Kind::Answers => reply_answers(alloc, live, steps, calls),
+    }
+}
+
+// Returns a line that says why the load of a file failed. Calls for values have an answer for each reason.
+fn load_fault_text(kind: Kind, fault: &DeckFault) -> &'static [u8] {
+    match (kind, fault) {
+        (Kind::History, _) | (Kind::Answers, _) => b"no deck\n",
+        (Kind::Values, DeckFault::Absent) => b"absent\n",
+        (Kind::Values, DeckFault::TooLong) => b"too long\n",
+        (Kind::Values, DeckFault::ReadFailed) => b"read failed\n",
+        (Kind::Values, _) => b"deck full\n",
+    }
+}
