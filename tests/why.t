@@ -85,11 +85,13 @@ The locale decides which of two lines is in force.
     liter: unit, 1|1000 m^3 = 0.001 m^3 [builtin:45]
       m: unit, ! = 1 m [builtin:2]
 
-Functions, by an expression and by their inverse. The parts of a function are named, whichever is called.
+Functions, by an expression and by their inverse. The parts of a function are named, whichever is called. Below the
+function is what the call goes through.
 
   $ why 'tempF(32)'
   \tDefinition: 273.15 K (esc)
   tempF(): function, (x) units=[1;K] domain=[-459.67,) range=[0,) (x+(-32)) degF + stdtemp ;      (tempF+(-stdtemp))/degF + 32 [builtin:72]
+    called at 32; 32 is in the domain [-459.67,); 273.15 is in the range [0,)
     K: unit (result unit), ! = 1 K [builtin:6]
     degF: unit (forward), 5|9 K = 0.55555556 K [builtin:69]
       K: unit, see above
@@ -100,6 +102,7 @@ Functions, by an expression and by their inverse. The parts of a function are na
   $ why '~tempF(273.15 K)'
   \tDefinition: 32 (esc)
   tempF(): inverse function, (x) units=[1;K] domain=[-459.67,) range=[0,) (x+(-32)) degF + stdtemp ;      (tempF+(-stdtemp))/degF + 32 [builtin:72]
+    its inverse is called at 273.15 K; 273.15 is in the range [0,); 32 is in the domain [-459.67,)
     K: unit (result unit), ! = 1 K [builtin:6]
     degF: unit (forward), 5|9 K = 0.55555556 K [builtin:69]
       K: unit, see above
@@ -111,6 +114,7 @@ Functions, by an expression and by their inverse. The parts of a function are na
   $ why 'tempcelsius(20)'
   \tDefinition: 293.15 K (esc)
   tempcelsius(): function, () tempC [builtin:74]
+    called at 20; 20 is in the domain [-273.15,); 293.15 is in the range [0,)
     tempC(): function (alias), (x) units=[1;K] domain=[-273.15,) range=[0,) x K + stdtemp ; (tempC +(-stdtemp))/K [builtin:71]
       K: unit (result unit), ! = 1 K [builtin:6]
       K: unit (forward), see above
@@ -124,14 +128,183 @@ A table of points, and its inverse.
   $ why 'zincgauge(10)'
   \tDefinition: 0.000508 m (esc)
   zincgauge(): function, [in] 1 0.002, 10 0.02, 15 0.04,      19 0.06, 23 0.1 [builtin:75]
+    called at 10; between the points 1 0.002 and 10 0.02
     in: unit (table unit), 254|10000 m = 0.0254 m [builtin:48]
       m: unit, ! = 1 m [builtin:2]
   $ why '~zincgauge(0.02 in)'
   \tDefinition: 10 (esc)
   zincgauge(): inverse function, [in] 1 0.002, 10 0.02, 15 0.04,      19 0.06, 23 0.1 [builtin:75]
+    its inverse is called at 0.000508 m; between the points 1 0.002 and 10 0.02
     in: unit (table unit), 254|10000 m = 0.0254 m [builtin:48]
       m: unit, ! = 1 m [builtin:2]
   in: unit, see above
+
+Calls inside of calls and of definitions, a call whose test fails, and one whose operand has no value.
+
+  $ cat > calls.units <<'end'
+  > m !
+  > kg !
+  > f(x) units=[m;kg] domain=(0,10] range=[1,5) x kg/m ; f m/kg
+  > g() f
+  > h(x) units=[1;1] domain=[0,1] range=[0,) x^2 ; h^(1|2)
+  > t[m] 0 0 10 5, 20 0
+  > two 2 f(2 m) + g(h(1) 4 m)
+  > short 3 m
+  > k- 1000
+  > bad(x) domain=[0,1] x gone
+  > end
+  $ why -f calls.units two
+  \tDefinition: 2 f(2 m) + g(h(1) 4 m) = 8 kg (esc)
+  two: unit, 2 f(2 m) + g(h(1) 4 m) = 8 kg [calls.units:7]
+    f(): function, (x) units=[m;kg] domain=(0,10] range=[1,5) x kg/m ; f m/kg [calls.units:3]
+      called at 2 m; 2 is in the domain (0,10]; 2 is in the range [1,5)
+      m: unit (argument unit), ! = 1 m [calls.units:1]
+      kg: unit (result unit), ! = 1 kg [calls.units:2]
+      kg: unit (forward), see above
+      m: unit (forward), see above
+      m: unit (inverse), see above
+      kg: unit (inverse), see above
+    m: unit, see above
+    g(): function, () f [calls.units:4]
+      called at 4 m; 4 is in the domain (0,10]; 4 is in the range [1,5)
+      f(): function (alias), see above
+    h(): function, (x) units=[1;1] domain=[0,1] range=[0,) x^2 ; h^(1|2) [calls.units:5]
+      called at 1; 1 is in the domain [0,1]; 1 is in the range [0,)
+    m: unit, see above
+  $ why -f calls.units '~f(2 kg)'
+  \tDefinition: 2 m (esc)
+  f(): inverse function, (x) units=[m;kg] domain=(0,10] range=[1,5) x kg/m ; f m/kg [calls.units:3]
+    its inverse is called at 2 kg; 2 is in the range [1,5); 2 is in the domain (0,10]
+    m: unit (argument unit), ! = 1 m [calls.units:1]
+    kg: unit (result unit), ! = 1 kg [calls.units:2]
+    kg: unit (forward), see above
+    m: unit (forward), see above
+    m: unit (inverse), see above
+    kg: unit (inverse), see above
+  kg: unit, see above
+  $ why -f calls.units 'g(0 m)'
+  not in domain: f
+  in g(0 m)
+  g(): function, () f [calls.units:4]
+    called at 0 m; 0 is not in the domain (0,10]
+    f(): function (alias), (x) units=[m;kg] domain=(0,10] range=[1,5) x kg/m ; f m/kg [calls.units:3]
+      m: unit (argument unit), ! = 1 m [calls.units:1]
+      kg: unit (result unit), ! = 1 kg [calls.units:2]
+      kg: unit (forward), see above
+      m: unit (forward), see above
+      m: unit (inverse), see above
+      kg: unit (inverse), see above
+  m: unit, see above
+  [1]
+  $ why -f calls.units 'f(8 m)'
+  not in range: f
+  in f(8 m)
+  f(): function, (x) units=[m;kg] domain=(0,10] range=[1,5) x kg/m ; f m/kg [calls.units:3]
+    called at 8 m; 8 is in the domain (0,10]; 8 is not in the range [1,5)
+    m: unit (argument unit), ! = 1 m [calls.units:1]
+    kg: unit (result unit), ! = 1 kg [calls.units:2]
+    kg: unit (forward), see above
+    m: unit (forward), see above
+    m: unit (inverse), see above
+    kg: unit (inverse), see above
+  m: unit, see above
+  [1]
+  $ why -f calls.units '~f(6 kg)'
+  not in range: f
+  in ~f(6 kg)
+  f(): inverse function, (x) units=[m;kg] domain=(0,10] range=[1,5) x kg/m ; f m/kg [calls.units:3]
+    its inverse is called at 6 kg; 6 is not in the range [1,5)
+    m: unit (argument unit), ! = 1 m [calls.units:1]
+    kg: unit (result unit), ! = 1 kg [calls.units:2]
+    kg: unit (forward), see above
+    m: unit (forward), see above
+    m: unit (inverse), see above
+    kg: unit (inverse), see above
+  kg: unit, see above
+  [1]
+  $ why -f calls.units '~h(4)'
+  not in domain: h
+  in ~h(4)
+  h(): inverse function, (x) units=[1;1] domain=[0,1] range=[0,) x^2 ; h^(1|2) [calls.units:5]
+    its inverse is called at 4; 4 is in the range [0,); 2 is not in the domain [0,1]
+  [1]
+  $ why -f calls.units 'f(2 kg)'
+  wrong argument: f
+  in f(2 kg)
+  f(): function, (x) units=[m;kg] domain=(0,10] range=[1,5) x kg/m ; f m/kg [calls.units:3]
+    called at 2 kg
+    m: unit (argument unit), ! = 1 m [calls.units:1]
+    kg: unit (result unit), ! = 1 kg [calls.units:2]
+    kg: unit (forward), see above
+    m: unit (forward), see above
+    m: unit (inverse), see above
+    kg: unit (inverse), see above
+  kg: unit, see above
+  [1]
+  $ why -f calls.units 'h(m / 0)'
+  division by zero
+  in (1 m) / 0
+  h(): function, (x) units=[1;1] domain=[0,1] range=[0,) x^2 ; h^(1|2) [calls.units:5]
+  m: unit, ! = 1 m [calls.units:1]
+  [1]
+  $ why -f calls.units 't(3)'
+  \tDefinition: 1.5 m (esc)
+  t(): function, [m] 0 0 10 5, 20 0 [calls.units:6]
+    called at 3; between the points 0 0 and 10 5
+    m: unit (table unit), ! = 1 m [calls.units:1]
+  $ why -f calls.units '~t(2 m)'
+  \tDefinition: 4 (esc)
+  t(): inverse function, [m] 0 0 10 5, 20 0 [calls.units:6]
+    its inverse is called at 2 m; between the points 0 0 and 10 5
+    m: unit (table unit), ! = 1 m [calls.units:1]
+  m: unit, see above
+  $ why -f calls.units 't(21)'
+  outside table: t
+  in t(21)
+  t(): function, [m] 0 0 10 5, 20 0 [calls.units:6]
+    called at 21
+    m: unit (table unit), ! = 1 m [calls.units:1]
+  [1]
+  $ why -f calls.units 'kshort(2) + f(1 m)'
+  sum of unlike units: 6000 m and 1 kg
+  in (6000 m) + (1 kg)
+  k-: prefix in kshort, 1000 = 1000 [calls.units:9]
+  short: unit in kshort, 3 m = 3 m [calls.units:8]
+    m: unit, ! = 1 m [calls.units:1]
+  f(): function, (x) units=[m;kg] domain=(0,10] range=[1,5) x kg/m ; f m/kg [calls.units:3]
+    called at 1 m; 1 is in the domain (0,10]; 1 is in the range [1,5)
+    m: unit (argument unit), see above
+    kg: unit (result unit), ! = 1 kg [calls.units:2]
+    kg: unit (forward), see above
+    m: unit (forward), see above
+    m: unit (inverse), see above
+    kg: unit (inverse), see above
+  m: unit, see above
+  [1]
+  $ why -f calls.units 'bad(2)'
+  unknown unit: gone in bad()
+  bad(): function, (x) domain=[0,1] x gone [calls.units:10]
+    gone: unknown unit
+  [1]
+  $ why -f calls.units --json 'g(2 m) t(15) m / kg'
+  {"expression":"g(2 m) t(15) m / kg","reply":"\u0009Definition: 5 m^2","refused":false}
+  {"word":"g","depth":0,"key":"g()","how":"function","text":"() f","file":"calls.units","line":4,"call":{"branch":"forward","operand":"2 m","domain":{"interval":"(0,10]","number":"2","inside":true},"range":{"interval":"[1,5)","number":"2","inside":true}}}
+  {"word":"f","depth":1,"key":"f()","how":"function","part":"alias","text":"(x) units=[m;kg] domain=(0,10] range=[1,5) x kg/m ; f m/kg","file":"calls.units","line":3}
+  {"word":"m","depth":2,"key":"m","how":"unit","part":"argument unit","text":"!","value":"1 m","file":"calls.units","line":1}
+  {"word":"kg","depth":2,"key":"kg","how":"unit","part":"result unit","text":"!","value":"1 kg","file":"calls.units","line":2}
+  {"word":"kg","depth":2,"key":"kg","how":"unit","part":"forward","above":true}
+  {"word":"m","depth":2,"key":"m","how":"unit","part":"forward","above":true}
+  {"word":"m","depth":2,"key":"m","how":"unit","part":"inverse","above":true}
+  {"word":"kg","depth":2,"key":"kg","how":"unit","part":"inverse","above":true}
+  {"word":"m","depth":0,"key":"m","how":"unit","above":true}
+  {"word":"t","depth":0,"key":"t()","how":"function","text":"[m] 0 0 10 5, 20 0","file":"calls.units","line":6,"call":{"branch":"forward","operand":"15","segment":[{"x":"10","y":"5"},{"x":"20","y":"0"}]}}
+  {"word":"m","depth":1,"key":"m","how":"unit","part":"table unit","above":true}
+  {"word":"m","depth":0,"key":"m","how":"unit","above":true}
+  {"word":"kg","depth":0,"key":"kg","how":"unit","above":true}
+  $ why -f calls.units --json '~h(4)'
+  {"expression":"~h(4)","reply":"not in domain: h","refused":true,"step":{"operator":"~h","operands":["4"]}}
+  {"word":"h","depth":0,"key":"h()","how":"inverse function","text":"(x) units=[1;1] domain=[0,1] range=[0,) x^2 ; h^(1|2)","file":"calls.units","line":5,"call":{"branch":"inverse","operand":"4","range":{"interval":"[0,)","number":"4","inside":true},"domain":{"interval":"[0,1]","number":"2","inside":false}}}
+  [1]
 
 Lines that a later one replaces are named with their places, but not those of another locale.
 
@@ -257,38 +430,39 @@ Faults, each at its place in the tree: an unknown word, a refused function, a cy
   sum: unit, m far ! see below [faults.units:11]
     m: unit, ! = 1 m [faults.units:1]
     far: unit, 2 near ! see below [faults.units:12]
-      near: unit, 3 m + kg ! sum of unlike units: 3 m and 1 kg [faults.units:13]
+      near: unit, 3 m + kg ! sum of unlike units: 3 m and 1 kg in (3 m) + (1 kg) [faults.units:13]
         m: unit, see above
         kg: unit, ! = 1 kg [faults.units:2]
   [1]
   $ why -f faults.units 'huge'
   overflow
-  huge: unit, 1e30 m vast ! overflow [faults.units:14]
+  huge: unit, 1e30 m vast ! overflow in (1e+30 m) * (1e+30 s) [faults.units:14]
     m: unit, ! = 1 m [faults.units:1]
     vast: unit, 1e30 s = 1e+30 s [faults.units:15]
       s: unit, ! = 1 s [faults.units:3]
   [1]
   $ why -f faults.units zero
   division by zero
-  zero: unit, 1 / (m - m) ! division by zero [faults.units:16]
+  zero: unit, 1 / (m - m) ! division by zero in 1 / (0 m) [faults.units:16]
     m: unit, ! = 1 m [faults.units:1]
     m: unit, see above
   [1]
   $ why -f faults.units root
   no exact root
-  root: unit, sqrt(2) m ! no exact root [faults.units:17]
+  root: unit, sqrt(2) m ! no exact root in sqrt(2) [faults.units:17]
     m: unit, ! = 1 m [faults.units:1]
   [1]
   $ why -f faults.units halves
   exponent is not a number
-  halves: unit, m^(kg) ! exponent is not a number [faults.units:18]
+  halves: unit, m^(kg) ! exponent is not a number in (1 m) ^ (1 kg) [faults.units:18]
     m: unit, ! = 1 m [faults.units:1]
     kg: unit, ! = 1 kg [faults.units:2]
   [1]
   $ why -f faults.units outside
   not in domain: f
-  outside: unit, f(11) ! not in domain: f [faults.units:20]
+  outside: unit, f(11) ! not in domain: f in f(11) [faults.units:20]
     f(): function, (x) units=[1;m] domain=[0,10] x m ; f/m [faults.units:19]
+      called at 11; 11 is not in the domain [0,10]
       m: unit (result unit), ! = 1 m [faults.units:1]
       m: unit (forward), see above
       m: unit (inverse), see above
@@ -320,6 +494,79 @@ Faults, each at its place in the tree: an unknown word, a refused function, a cy
   s: unit, ! = 1 s [faults.units:3]
   [1]
 
+The step that has no value may be one of the expression itself. Its operands are shown as values.
+
+  $ why -f faults.units '2 1e30 m vast'
+  overflow
+  in (2e+30 m) * (1e+30 s)
+  m: unit, ! = 1 m [faults.units:1]
+  vast: unit, 1e30 s = 1e+30 s [faults.units:15]
+    s: unit, ! = 1 s [faults.units:3]
+  [1]
+  $ why -f faults.units 'm / (s - s)'
+  division by zero
+  in (1 m) / (0 s)
+  m: unit, ! = 1 m [faults.units:1]
+  s: unit, ! = 1 s [faults.units:3]
+  s: unit, see above
+  [1]
+  $ why -f faults.units '2 m - kg (3 m)'
+  sum of unlike units: 2 m and 3 kg m
+  in (2 m) - (3 kg m)
+  m: unit, ! = 1 m [faults.units:1]
+  kg: unit, ! = 1 kg [faults.units:2]
+  m: unit, see above
+  [1]
+  $ why -f faults.units '4 (m s)^(2 m)'
+  exponent is not a number
+  in (1 m s) ^ (2 m)
+  m: unit, ! = 1 m [faults.units:1]
+  s: unit, ! = 1 s [faults.units:3]
+  m: unit, see above
+  [1]
+  $ why -f faults.units 'cuberoot(2 m^3)'
+  no exact root
+  in cuberoot(2 m^3)
+  m: unit, ! = 1 m [faults.units:1]
+  [1]
+  $ why -f faults.units '1|0'
+  division by zero
+  in 1 / 0
+  [1]
+  $ why -f faults.units '2 f(-1)'
+  not in domain: f
+  in f(-1)
+  f(): function, (x) units=[1;m] domain=[0,10] x m ; f/m [faults.units:19]
+    called at -1; -1 is not in the domain [0,10]
+    m: unit (result unit), ! = 1 m [faults.units:1]
+    m: unit (forward), see above
+    m: unit (inverse), see above
+  [1]
+  $ why -f faults.units '3 m + 2 m' '~f(11 m)'
+  not in domain: f
+  in ~f(11 m)
+  m: unit, ! = 1 m [faults.units:1]
+  m: unit, see above
+  f(): inverse function, (x) units=[1;m] domain=[0,10] x m ; f/m [faults.units:19]
+    its inverse is called at 11 m; 11 is not in the domain [0,10]
+    m: unit (result unit), ! = 1 m [faults.units:1]
+    m: unit (forward), see above
+    m: unit (inverse), see above
+  m: unit, see above
+  [1]
+  $ why -f faults.units --json 'm + (s s - 1 kg)'
+  {"expression":"m + (s s - 1 kg)","reply":"sum of unlike units: 1 s^2 and 1 kg","refused":true,"step":{"operator":"-","operands":["1 s^2","1 kg"]}}
+  {"word":"m","depth":0,"key":"m","how":"unit","text":"!","value":"1 m","file":"faults.units","line":1}
+  {"word":"s","depth":0,"key":"s","how":"unit","text":"!","value":"1 s","file":"faults.units","line":3}
+  {"word":"s","depth":0,"key":"s","how":"unit","above":true}
+  {"word":"kg","depth":0,"key":"kg","how":"unit","text":"!","value":"1 kg","file":"faults.units","line":2}
+  [1]
+  $ why -f faults.units --json root
+  {"expression":"root","reply":"no exact root","refused":true}
+  {"word":"root","depth":0,"key":"root","how":"unit","text":"sqrt(2) m","fault":"no exact root","step":{"operator":"sqrt","operands":["2"]},"file":"faults.units","line":17}
+  {"word":"m","depth":1,"key":"m","how":"unit","text":"!","value":"1 m","file":"faults.units","line":1}
+  [1]
+
 Each row is an object in JSON, after one of the reply.
 
   $ why --json km
@@ -336,7 +583,7 @@ Each row is an object in JSON, after one of the reply.
   {"word":"sum","depth":0,"key":"sum","how":"unit","text":"m far","fault_below":true,"file":"faults.units","line":11}
   {"word":"m","depth":1,"key":"m","how":"unit","text":"!","value":"1 m","file":"faults.units","line":1}
   {"word":"far","depth":1,"key":"far","how":"unit","text":"2 near","fault_below":true,"file":"faults.units","line":12}
-  {"word":"near","depth":2,"key":"near","how":"unit","text":"3 m + kg","fault":"sum of unlike units: 3 m and 1 kg","file":"faults.units","line":13}
+  {"word":"near","depth":2,"key":"near","how":"unit","text":"3 m + kg","fault":"sum of unlike units: 3 m and 1 kg","step":{"operator":"+","operands":["3 m","1 kg"]},"file":"faults.units","line":13}
   {"word":"m","depth":3,"key":"m","how":"unit","above":true}
   {"word":"kg","depth":3,"key":"kg","how":"unit","text":"!","value":"1 kg","file":"faults.units","line":2}
   [1]

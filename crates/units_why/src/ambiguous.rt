@@ -1,17 +1,16 @@
 //! Words of definitions that are read as a plural or with a prefix, and that have other possible readings.
 
 use crate::entries::{entry_words, key_at, what_at};
+use crate::evaluator::Evaluator;
 use crate::finding::{Finding, LineFinding, Severity, key_text};
 use crate::mark::Mark;
 use crate::reading::{put_reading, reading_tree};
-use crate::values::value_of;
 use deck::Deck;
 use def_entry::Kind;
 use expr_tree::{WordKind, WordUse};
-use live_table::LiveTable;
 use std::alloc::{AllocError, Global};
 use std::sync::ledger::Ledger;
-use units_io::{Steps, Text};
+use units_io::Text;
 use word_readings::{Reading, word_readings};
 
 // A word of a definition with two or more readings.
@@ -25,16 +24,15 @@ struct AmbiguousWord {
 /// Appends a finding for each word of the definitions at the places `keys` that has another reading with different
 /// dimensions.
 pub(crate) fn put_ambiguous<L: Ledger>(
-    alloc: Global,
-    table: &mut LiveTable,
+    evaluator: &mut Evaluator<L>,
     keys: &[usize],
     findings: &mut Vec<LineFinding>,
-    steps: &mut Steps<L>,
 ) -> Result<(), AllocError> {
-    let words = ambiguous_words(alloc, table.deck(), keys)?;
+    let alloc = evaluator.alloc;
+    let words = ambiguous_words(alloc, evaluator.deck(), keys)?;
     for word in words.as_slice() {
-        if let Some(other) = unlike_reading(alloc, table, word.readings.as_slice(), steps)? {
-            let finding = ambiguous_finding(alloc, table.deck(), word, other)?;
+        if let Some(other) = unlike_reading(evaluator, word.readings.as_slice())? {
+            let finding = ambiguous_finding(alloc, evaluator.deck(), word, other)?;
             findings.push(LineFinding {
                 place: word.place,
                 finding,
@@ -93,26 +91,25 @@ fn put_if_ambiguous(
 // Returns the first reading that does not conform to the preferred one, which is at the front. A prefix alone does not
 // count.
 fn unlike_reading<'a, L: Ledger>(
-    alloc: Global,
-    table: &mut LiveTable,
+    evaluator: &mut Evaluator<L>,
     readings: &'a [Reading],
-    steps: &mut Steps<L>,
 ) -> Result<Option<&'a Reading>, AllocError> {
+    let alloc = evaluator.alloc;
     let Some((first, others)) = readings.split_first() else {
         return Ok(None);
     };
-    let Some(tree) = reading_tree(alloc, table.deck(), first)? else {
+    let Some(tree) = reading_tree(alloc, evaluator.deck(), first)? else {
         return Ok(None);
     };
-    let Some(meant) = value_of(alloc, table, &tree, steps)? else {
+    let Some(meant) = evaluator.value_if_any(&tree)? else {
         return Ok(None);
     };
     for reading in others {
         if matches!(reading, Reading::Prefix(_)) {
             continue;
         }
-        if let Some(tree) = reading_tree(alloc, table.deck(), reading)? {
-            if let Some(value) = value_of(alloc, table, &tree, steps)? {
+        if let Some(tree) = reading_tree(alloc, evaluator.deck(), reading)? {
+            if let Some(value) = evaluator.value_if_any(&tree)? {
                 if !value.conforms(&meant) {
                     return Ok(Some(reading));
                 }

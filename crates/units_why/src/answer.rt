@@ -1,4 +1,4 @@
-//! The output of a run.
+//! The answer to a run for findings.
 
 use std::alloc::Global;
 
@@ -6,7 +6,6 @@ use std::alloc::Global;
 #[derive(Drop)]
 pub(crate) struct Answer {
     pub(crate) out: Vec<u8>,
-    pub(crate) err: Vec<u8>,
     pub(crate) is_refused: bool,
 }
 
@@ -15,7 +14,6 @@ impl Answer {
     pub(crate) fn new(alloc: Global) -> Answer {
         Answer {
             out: Vec::new(alloc),
-            err: Vec::new(alloc),
             is_refused: false,
         }
     }

@@ -3,34 +3,33 @@
 ghost use Rattle.reply.specs.Options.{IsPrintable};
 
 use crate::entries::key_at;
+use crate::evaluator::Evaluator;
 use crate::finding::{Finding, LineFinding, Severity, key_text};
 use crate::mark::Mark;
 use crate::reading::{put_reading, reading_tree};
-use crate::values::{value_of, value_text};
+use crate::values::value_text;
+use deck::Deck;
 use def_entry::{Key, Kind};
 use expr_tree::Tree;
-use live_table::LiveTable;
 use quantity::Quantity;
 use reply::Options;
 use std::alloc::{AllocError, Global};
 use std::sync::ledger::Ledger;
-use units_io::{Steps, Text};
+use units_io::Text;
 use word_readings::{Reading, word_readings};
 
 /// Appends a finding for each unit at the places `keys` that hides a reading with a different value.
 pub(crate) fn put_captures<L: Ledger>(
-    alloc: Global,
-    table: &mut LiveTable,
+    evaluator: &mut Evaluator<L>,
     options: &Options,
     keys: &[usize],
     findings: &mut Vec<LineFinding>,
-    steps: &mut Steps<L>,
 ) -> Result<(), AllocError>
     requires { IsPrintable options.now }
 {
     for place in keys {
-        if let Some(key) = unit_at(alloc, table, *place)? {
-            if let Some(finding) = capture_finding(alloc, table, options, key, steps)? {
+        if let Some(key) = unit_at(evaluator.alloc, evaluator.deck(), *place)? {
+            if let Some(finding) = capture_finding(evaluator, options, key)? {
                 findings.push(LineFinding {
                     place: *place,
                     finding,
@@ -42,8 +41,8 @@ pub(crate) fn put_captures<L: Ledger>(
 }
 
 // Returns the unit that the line at a place defines.
-fn unit_at(alloc: Global, table: &LiveTable, place: usize) -> Result<Option<Key>, AllocError> {
-    match key_at(alloc, table.deck(), place)? {
+fn unit_at(alloc: Global, deck: &Deck, place: usize) -> Result<Option<Key>, AllocError> {
+    match key_at(alloc, deck, place)? {
         Some(key) => match key.kind {
             Kind::Unit => Ok(Some(key)),
             Kind::Prefix | Kind::Func | Kind::List => Ok(None),
@@ -53,26 +52,25 @@ fn unit_at(alloc: Global, table: &LiveTable, place: usize) -> Result<Option<Key>
 }
 
 fn capture_finding<L: Ledger>(
-    alloc: Global,
-    table: &mut LiveTable,
+    evaluator: &mut Evaluator<L>,
     options: &Options,
     key: Key,
-    steps: &mut Steps<L>,
 ) -> Result<Option<Finding>, AllocError>
     requires { IsPrintable options.now }
 {
-    let readings = word_readings(alloc, table.deck(), key.name.as_bytes())?;
+    let alloc = evaluator.alloc;
+    let readings = word_readings(alloc, evaluator.deck(), key.name.as_bytes())?;
     let Some(hidden) = first_with_unit(readings.as_slice()) else {
         return Ok(None);
     };
-    let Some(tree) = reading_tree(alloc, table.deck(), hidden)? else {
+    let Some(tree) = reading_tree(alloc, evaluator.deck(), hidden)? else {
         return Ok(None);
     };
     let word = Tree::Word(key.name.copy(alloc)?);
-    let Some(own) = value_of(alloc, table, &word, steps)? else {
+    let Some(own) = evaluator.value_if_any(&word)? else {
         return Ok(None);
     };
-    let Some(other) = value_of(alloc, table, &tree, steps)? else {
+    let Some(other) = evaluator.value_if_any(&tree)? else {
         return Ok(None);
     };
     if is_same(&own, &other) {

@@ -1,6 +1,7 @@
 //! Findings in definitions, and their output formats.
 
-use crate::json::{put_number, put_number_member, put_string, put_text_member};
+use crate::decimal::put_number;
+use crate::json::{put_number_member, put_string, put_text_member};
 use crate::mark::Mark;
 use def_entry::Key;
 use std::alloc::{AllocError, Global};
@@ -64,7 +65,6 @@ pub(crate) fn key_text(alloc: Global, key: Option<Key>) -> Result<Text, AllocErr
 
 /// Appends `FILE:LINE:COLUMN: KEY: message`, without the place or the key if there is none.
 pub(crate) fn put_finding_text(
-    alloc: Global,
     out: &mut Vec<u8>,
     spot: Option<Spot<'_>>,
     finding: &Finding,
@@ -72,9 +72,9 @@ pub(crate) fn put_finding_text(
     if let Some(spot) = spot {
         out.extend_from_slice(spot.file)?;
         out.push(b':')?;
-        put_number(alloc, out, spot.line)?;
+        put_number(out, spot.line)?;
         out.push(b':')?;
-        put_number(alloc, out, spot.column)?;
+        put_number(out, spot.column)?;
         out.extend_from_slice(b": ".as_slice())?;
     }
     let key = finding.key.as_bytes();
@@ -89,7 +89,6 @@ pub(crate) fn put_finding_text(
 
 /// Appends a finding as a JSON object on a line of its own.
 pub(crate) fn put_finding_json(
-    alloc: Global,
     out: &mut Vec<u8>,
     spot: Option<Spot<'_>>,
     finding: &Finding,
@@ -98,9 +97,9 @@ pub(crate) fn put_finding_json(
     put_string(out, finding.severity.word())?;
     if let Some(spot) = spot {
         put_text_member(out, b"file", spot.file)?;
-        put_number_member(alloc, out, b"line", spot.line)?;
-        put_number_member(alloc, out, b"column", spot.column)?;
-        put_number_member(alloc, out, b"end", spot.end)?;
+        put_number_member(out, b"line", spot.line)?;
+        put_number_member(out, b"column", spot.column)?;
+        put_number_member(out, b"end", spot.end)?;
     }
     let key = finding.key.as_bytes();
     if !key.is_empty() {

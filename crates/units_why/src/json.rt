@@ -1,6 +1,7 @@
 //! JSON output.
 
-use std::alloc::{AllocError, Global};
+use crate::decimal::put_number;
+use std::alloc::AllocError;
 use std::str;
 
 /// Appends a string. If the text is not UTF-8, each byte outside of ASCII becomes U+FFFD.
@@ -62,23 +63,12 @@ pub(crate) fn put_text_member(
 
 /// Appends a comma and a member whose value is a number.
 pub(crate) fn put_number_member(
-    alloc: Global,
     out: &mut Vec<u8>,
     name: &[u8],
     number: usize,
 ) -> Result<(), AllocError> {
     put_name(out, name)?;
-    put_number(alloc, out, number)
-}
-
-/// Appends a number in decimal.
-pub(crate) fn put_number(
-    alloc: Global,
-    out: &mut Vec<u8>,
-    number: usize,
-) -> Result<(), AllocError> {
-    out.extend_from_slice(number.to_string(alloc)?.as_bytes())?;
-    Ok(())
+    put_number(out, number)
 }
 
 /// Appends a comma and a member whose value is true or false.

@@ -7,104 +7,74 @@ use crate::answer::Answer;
 use crate::captures::put_captures;
 use crate::definitions::Definitions;
 use crate::entries::key_at;
+use crate::evaluator::Evaluator;
 use crate::finding::{Finding, LineFinding, Severity, key_text};
 use crate::mark::{Mark, mark_of};
 use crate::places::{Places, put_place};
-use crate::report::{put_findings, put_notices};
+use crate::report::{Report, put_findings, put_notices};
 use crate::shadows::Shadows;
 use crate::unmet::put_unmet;
 use crate::unused_definitions::put_unused;
 use deck::Deck;
-use live_table::LiveTable;
 use reply::Options;
 use std::alloc::{AllocError, Global};
 use std::sync::ledger::Ledger;
-use survey::{check_places, put_check_block};
-use units_io::{Files, Steps, Text};
+use survey::check_places;
+use units_io::{Files, Text};
 use why_words::Findings;
 
 /// Reports the findings in the definitions. The lines without effect come first. Then, in the order of the files and
 /// their lines, come each key that has a fault, each definition that a later one replaces or that does not conform to
 /// the unit in its comment, each word that could be read in another way, and the optional findings that are requested.
 pub(crate) fn lint<F: Files, L: Ledger>(
-    alloc: Global,
-    definitions: &mut Definitions,
+    definitions: &mut Definitions<L>,
     options: &Options,
     asked: Findings,
     json: bool,
     files: &mut F,
-    steps: &mut Steps<L>,
 ) -> Result<Answer, AllocError>
     requires { IsPrintable options.now }
 {
-    let mut findings = Vec::new(alloc);
-    let keys = check_places(alloc, &mut definitions.table, steps)?;
+    let evaluator = &mut definitions.evaluator;
+    let alloc = evaluator.alloc;
+    let keys = check_places(alloc, &mut evaluator.table, &mut evaluator.steps)?;
     let keys = keys.as_slice();
-    put_faults(
-        alloc,
-        &mut definitions.table,
-        options,
-        keys,
-        &mut findings,
-        steps,
-    )?;
-    put_unmet(
-        alloc,
-        definitions,
-        options,
-        keys,
-        files,
-        &mut findings,
-        steps,
-    )?;
-    put_ambiguous(alloc, &mut definitions.table, keys, &mut findings, steps)?;
+    let mut findings = Vec::new(alloc);
+    put_faults(evaluator, options, keys, &mut findings)?;
+    put_unmet(definitions, options, keys, files, &mut findings)?;
+    let evaluator = &mut definitions.evaluator;
+    put_ambiguous(evaluator, keys, &mut findings)?;
     if asked.captures {
-        put_captures(
-            alloc,
-            &mut definitions.table,
-            options,
-            keys,
-            &mut findings,
-            steps,
-        )?;
+        put_captures(evaluator, options, keys, &mut findings)?;
     }
     if asked.unused {
-        put_unused(alloc, &mut definitions.table, keys, &mut findings, steps)?;
+        put_unused(evaluator, keys, &mut findings)?;
     }
     let places = Places::of(definitions);
     put_replaced(alloc, places, &mut findings)?;
     let mut answer = Answer::new(alloc);
-    put_notices(alloc, places, json, files, &mut answer.out)?;
-    put_findings(
-        alloc,
-        places,
-        json,
-        files,
-        findings.as_slice(),
-        &mut answer.out,
-    )?;
+    let report = Report { places, json };
+    put_notices(alloc, report, files, &mut answer.out)?;
+    put_findings(alloc, report, files, findings.as_slice(), &mut answer.out)?;
     answer.is_refused = !answer.out.is_empty();
     Ok(answer)
 }
 
 // Appends a finding for each of the keys at the places `keys` that has a fault.
 fn put_faults<L: Ledger>(
-    alloc: Global,
-    table: &mut LiveTable,
+    evaluator: &mut Evaluator<L>,
     options: &Options,
     keys: &[usize],
     findings: &mut Vec<LineFinding>,
-    steps: &mut Steps<L>,
 ) -> Result<(), AllocError>
     requires { IsPrintable options.now }
 {
+    let alloc = evaluator.alloc;
     let mut line = Vec::new(alloc);
     for place in keys {
-        // The cached outcomes in the table are correct.
-        table.outcomes_are_right();
-        let _ = put_check_block(alloc, &mut line, table, options, &[*place], steps)?;
+        evaluator.put_check(&mut line, options, *place)?;
         if !line.is_empty() {
-            let finding = fault_finding(alloc, table.deck(), *place, line.as_slice())?;
+            let finding = fault_finding(alloc, evaluator.deck(), *place, line.as_slice())?;
             findings.push(LineFinding {
                 place: *place,
                 finding,
@@ -157,7 +127,7 @@ fn replaced_finding(
     last: usize,
 ) -> Result<Finding, AllocError> {
     let mut message = Vec::from_slice(alloc, b"replaced by the definition at ")?;
-    put_place(alloc, &mut message, places, last)?;
+    put_place(&mut message, places, last)?;
     Ok(Finding {
         severity: Severity::Warning,
         key: key_text(alloc, key_at(alloc, places.deck, place)?)?,

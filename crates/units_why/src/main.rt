@@ -5,29 +5,44 @@ mod aliases;
 mod ambiguous;
 mod answer;
 mod built_in;
+mod call_trace;
+mod callee;
 mod captures;
+mod decimal;
 mod definitions;
 mod entries;
 mod environment;
+mod evaluator;
+mod fault_step;
 mod finding;
+mod interval;
 mod json;
+mod line_names;
 mod lint;
 mod mark;
 mod notice;
+mod open_calls;
 mod open_file;
 mod outcome;
+mod output;
 mod path;
 mod places;
+mod ports;
 mod reading;
 mod report;
 mod row_json;
+mod row_note;
+mod row_style;
 mod row_text;
+mod row_view;
 mod row_words;
 mod run;
+mod segment;
 mod shadows;
 mod span;
 mod status;
 mod stop;
+mod substitution;
 mod text_part;
 mod tree;
 mod unit_notes;
@@ -39,6 +54,7 @@ mod why;
 ghost use Rattle.std.specs.Prelude.{◌≡◌, ◌<◌};
 
 use environment::{collect_vars, collect_words};
+use ports::Ports;
 use run::run;
 use status::Status;
 use std::marker::Brand;
@@ -52,19 +68,13 @@ fn run_on<L: Ledger>(rt: HostRuntime, words: &Texts, vars: &Vars, blank: Blank) 
     requires parts { blank.parts ≡ L.parts }
     requires some { 0 < blank.parts }
 {
-    let mut steps: Steps<L> = Steps::new(blank);
-    let mut out = StdSink::new(rt.stdout());
-    let mut err = StdSink::new(rt.stderr());
-    let mut files = DirFiles::new(rt);
-    run(
-        rt.alloc(),
-        words.as_slice(),
-        vars,
-        &mut out,
-        &mut err,
-        &mut files,
-        &mut steps,
-    )
+    let steps: Steps<L> = Steps::new(blank);
+    let mut ports = Ports {
+        out: StdSink::new(rt.stdout()),
+        err: StdSink::new(rt.stderr()),
+        files: DirFiles::new(rt),
+    };
+    run(rt.alloc(), words.as_slice(), vars, &mut ports, steps)
 }
 
 fn main(rt: HostRuntime) -> ExitCode {

@@ -1,85 +1,204 @@
 //! The outcomes of keys.
 
-ghost use Rattle.digits_print.specs.Styles.{IsStyle};
 ghost use Rattle.reply.specs.Options.{IsPrintable};
 
+use crate::evaluator::Evaluator;
+use crate::fault_step::FaultStep;
 use def_entry::Key;
-use digits_print::Style;
 use expr_tree::Tree;
 use live_table::{LiveTable, QueryFault};
 use quantity::Quantity;
 use reply::{Options, ReplyFault, fault_text};
 use std::alloc::{AllocError, Global};
 use std::sync::ledger::Ledger;
-use units_io::{Steps, Text};
-use value_sources::value_tree;
+use tree_eval::{Outcome as CachedOutcome, ValueFault};
+use units_io::Text;
+use value_sources::{FailedStep, Row, value_tree};
 
 /// The outcome of a row.
 #[derive(Drop)]
 pub(crate) enum Outcome {
     /// The reduced value of its definition.
-    Value(Text),
-    /// The fault of a step, in its definition or in one below it, that has no value.
-    Fault(Text),
-    /// A name that its definition reaches is unknown, refused or on a cycle.
-    NameFault,
+    Value(Quantity),
+    /// Its definition has no value, although all keys that it mentions have theirs.
+    Fault(Box<OwnFault>),
+    /// The fault is in a row below.
+    FaultBelow,
     /// The key is a function, which has no value of its own.
     Function,
 }
 
-/// Returns the outcome of a key that has an entry.
-pub(crate) fn outcome_of<L: Ledger>(
-    alloc: Global,
-    table: &mut LiveTable,
-    options: &Options,
-    key: &Key,
-    steps: &mut Steps<L>,
-) -> Result<Outcome, AllocError>
-    requires { IsPrintable options.now }
-{
-    match value_tree(alloc, table.deck(), key)? {
-        Some(tree) => tree_outcome(alloc, table, options, &tree, steps),
-        None => Ok(Outcome::Function),
+/// The fault of a definition: its text, and the step without a value if it is known.
+#[derive(Drop)]
+pub(crate) struct OwnFault {
+    pub(crate) text: Text,
+    pub(crate) step: Option<FaultStep>,
+}
+
+/// A borrowed outcome.
+#[derive(Clone, Copy)]
+pub(crate) enum LentOutcome<'a> {
+    Value(&'a Quantity),
+    Fault(&'a OwnFault),
+    FaultBelow,
+    Function,
+}
+
+impl Outcome {
+    /// Borrows the outcome.
+    pub(crate) fn lent(&self) -> LentOutcome<'_> {
+        match self {
+            Outcome::Value(value) => LentOutcome::Value(value),
+            Outcome::Fault(fault) => LentOutcome::Fault(fault),
+            Outcome::FaultBelow => LentOutcome::FaultBelow,
+            Outcome::Function => LentOutcome::Function,
+        }
     }
 }
 
-// Returns the outcome of an expression.
-fn tree_outcome<L: Ledger>(
+/// Returns the cached value of a key, or `None` if the key has another outcome or none.
+pub(crate) fn cached_value<'a>(
     alloc: Global,
-    table: &mut LiveTable,
+    table: &'a LiveTable,
+    key: &Key,
+) -> Result<Option<&'a Quantity>, AllocError> {
+    match table.cached_outcome(alloc, key)? {
+        Some(CachedOutcome::Value(value)) => Ok(Some(value)),
+        _ => Ok(None),
+    }
+}
+
+/// Returns the outcome of the key of a row at this depth. The rows `below` follow that row.
+pub(crate) fn outcome_of<L: Ledger>(
+    evaluator: &mut Evaluator<L>,
     options: &Options,
-    tree: &Tree,
-    steps: &mut Steps<L>,
+    key: &Key,
+    depth: usize,
+    below: &[Row],
 ) -> Result<Outcome, AllocError>
     requires { IsPrintable options.now }
 {
-    match table.value(alloc, tree, steps) {
-        Ok(value) => Ok(Outcome::Value(value_text(alloc, options, &value)?)),
-        Err(QueryFault::Name(_)) => Ok(Outcome::NameFault),
-        Err(QueryFault::Value(fault)) => Ok(Outcome::Fault(fault_text(
-            alloc,
-            &ReplyFault::Value(fault),
-            options,
-        )?)),
+    let alloc = evaluator.alloc;
+    let found = match evaluator.table.cached_outcome(alloc, key)? {
+        Some(CachedOutcome::Value(value)) => return Ok(Outcome::Value(value.copy(alloc)?)),
+        Some(CachedOutcome::Callable) => return Ok(Outcome::Function),
+        Some(CachedOutcome::Fault(fault)) => Queried::Fault(fault.get().copy(alloc)?),
+        None => ask_key(evaluator, key)?,
+    };
+    let fault = match found {
+        Queried::Fault(fault) => fault,
+        Queried::Known(outcome) => return Ok(outcome),
+    };
+    if is_fault_below(evaluator, depth, below)? {
+        return Ok(Outcome::FaultBelow);
+    }
+    own_fault(evaluator, options, key, fault)
+}
+
+// The answer of a query for a key.
+#[derive(Drop)]
+enum Queried {
+    Known(Outcome),
+    Fault(ValueFault),
+}
+
+// Queries a key without a cached outcome: a name fault ended the query of the expression before it reached the key.
+fn ask_key<L: Ledger>(evaluator: &mut Evaluator<L>, key: &Key) -> Result<Queried, AllocError> {
+    let Some(tree) = value_tree(evaluator.alloc, evaluator.deck(), key)? else {
+        return Ok(Queried::Known(Outcome::Function));
+    };
+    match evaluator.value(&tree) {
+        Ok(value) => Ok(Queried::Known(Outcome::Value(value))),
+        Err(QueryFault::Name(_)) => Ok(Queried::Known(Outcome::FaultBelow)),
+        Err(QueryFault::Value(fault)) => Ok(Queried::Fault(fault)),
         Err(QueryFault::OutOfMemory) => Err(AllocError),
     }
 }
 
-// Returns the text of a value in the format that the options select.
-fn value_text(alloc: Global, options: &Options, value: &Quantity) -> Result<Text, AllocError>
+// Returns the fault of the definition of a key itself.
+fn own_fault<L: Ledger>(
+    evaluator: &mut Evaluator<L>,
+    options: &Options,
+    key: &Key,
+    fault: ValueFault,
+) -> Result<Outcome, AllocError>
     requires { IsPrintable options.now }
 {
-    value.show(alloc, style_of(options))
+    let alloc = evaluator.alloc;
+    let text = fault_text(alloc, &ReplyFault::Value(fault), options)?;
+    let step = match step_of_key(evaluator, key)? {
+        Some(step) => Some(FaultStep::of(alloc, options, &step)?),
+        None => None,
+    };
+    let own = OwnFault { text, step };
+    Ok(Outcome::Fault(Box::new(alloc, own)?))
 }
 
-// Returns the style of numbers that the options select.
-fn style_of(options: &Options) -> Style
-    requires { IsPrintable options.now }
-    ensures { IsStyle result }
-{
-    if options.exact {
-        Style::Exact
-    } else {
-        Style::Digits(options.digits)
+// Returns whether a row directly below a row at this depth has a fault. The rows `below` follow that row.
+fn is_fault_below<L: Ledger>(
+    evaluator: &mut Evaluator<L>,
+    depth: usize,
+    below: &[Row],
+) -> Result<bool, AllocError> {
+    for row in below {
+        if row.depth() <= depth {
+            return Ok(false);
+        }
+        if row.depth() == depth.saturating_add(1) && has_fault(evaluator, row)? {
+            return Ok(true);
+        }
+    }
+    Ok(false)
+}
+
+/// Returns whether the word of a row is unknown or refused, or its key has a fault.
+pub(crate) fn has_fault<L: Ledger>(
+    evaluator: &mut Evaluator<L>,
+    row: &Row,
+) -> Result<bool, AllocError> {
+    if row.is_refused() {
+        return Ok(true);
+    }
+    let Some(key) = row.key() else {
+        return Ok(true);
+    };
+    match evaluator.table.cached_outcome(evaluator.alloc, key)? {
+        Some(CachedOutcome::Fault(_)) => Ok(true),
+        Some(CachedOutcome::Value(_)) | Some(CachedOutcome::Callable) => Ok(false),
+        None => has_queried_fault(evaluator, key),
+    }
+}
+
+fn has_queried_fault<L: Ledger>(
+    evaluator: &mut Evaluator<L>,
+    key: &Key,
+) -> Result<bool, AllocError> {
+    let Some(tree) = value_tree(evaluator.alloc, evaluator.deck(), key)? else {
+        return Ok(false);
+    };
+    Ok(evaluator.value_if_any(&tree)?.is_none())
+}
+
+// Returns the step of the definition of a key that has no value, if there is one.
+fn step_of_key<L: Ledger>(
+    evaluator: &mut Evaluator<L>,
+    key: &Key,
+) -> Result<Option<FailedStep>, AllocError> {
+    match value_tree(evaluator.alloc, evaluator.deck(), key)? {
+        Some(tree) => evaluator.failed_step(&tree),
+        None => Ok(None),
+    }
+}
+
+/// Returns the step of an expression that has no value. `None` if the expression has a value, or a name that it reaches
+/// is unknown, refused or on a cycle.
+pub(crate) fn step_of_tree<L: Ledger>(
+    evaluator: &mut Evaluator<L>,
+    tree: &Tree,
+) -> Result<Option<FailedStep>, AllocError> {
+    match evaluator.value(tree) {
+        Err(QueryFault::Value(_)) => evaluator.failed_step(tree),
+        Err(QueryFault::OutOfMemory) => Err(AllocError),
+        Ok(_) | Err(QueryFault::Name(_)) => Ok(None),
     }
 }

@@ -1,16 +1,18 @@
 //! The places of lines in files.
 
+use crate::decimal::put_number;
 use crate::definitions::Definitions;
-use crate::json::{put_number, put_number_member, put_text_member};
+use crate::json::{put_number_member, put_text_member};
+use crate::line_names::LineNames;
 use deck::Deck;
-use line_files::LineFiles;
-use std::alloc::{AllocError, Global};
+use std::alloc::AllocError;
+use std::sync::ledger::Ledger;
 
 /// Maps the lines of a deck to files.
 #[derive(Clone, Copy)]
 pub(crate) struct Places<'a> {
     pub(crate) deck: &'a Deck,
-    pub(crate) files: Option<&'a LineFiles>,
+    pub(crate) names: Option<&'a LineNames>,
     /// Whether the lines are the built-in definitions, which are in no file.
     pub(crate) are_built_in: bool,
 }
@@ -24,18 +26,18 @@ pub(crate) struct FileLine<'a> {
 
 impl<'a> Places<'a> {
     /// Returns the places of the lines of `definitions`.
-    pub(crate) fn of(definitions: &'a Definitions) -> Places<'a> {
+    pub(crate) fn of<L: Ledger>(definitions: &'a Definitions<L>) -> Places<'a> {
         Places {
-            deck: definitions.table.deck(),
-            files: definitions.files.as_ref(),
+            deck: definitions.evaluator.deck(),
+            names: definitions.names.as_ref(),
             are_built_in: definitions.are_built_in,
         }
     }
 
     /// Returns the number of the file of the line at this place in the deck, or 0 if it is unknown.
     pub(crate) fn file_number(self, place: usize) -> usize {
-        match self.files {
-            Some(files) => files.file_number(place).unwrap_or(0),
+        match self.names {
+            Some(names) => names.file_number(place).unwrap_or(0),
             None => 0,
         }
     }
@@ -43,7 +45,7 @@ impl<'a> Places<'a> {
     /// Returns the file and the line number of the line at this place in the deck, if the files of the lines are known.
     pub(crate) fn line(self, place: usize) -> Option<FileLine<'a>> {
         let line = self.deck.lines().get(place)?;
-        let file = self.files?.name(place)?;
+        let file = self.names?.name(place)?;
         Some(FileLine {
             file,
             number: line.number as usize,
@@ -53,7 +55,6 @@ impl<'a> Places<'a> {
 
 /// Appends `FILE:LINE`, or `?` if the files of the lines are unknown.
 pub(crate) fn put_place(
-    alloc: Global,
     out: &mut Vec<u8>,
     places: Places<'_>,
     place: usize,
@@ -62,7 +63,7 @@ pub(crate) fn put_place(
         Some(line) => {
             out.extend_from_slice(line.file)?;
             out.push(b':')?;
-            put_number(alloc, out, line.number)
+            put_number(out, line.number)
         }
         None => Ok(out.push(b'?')?),
     }
@@ -70,7 +71,6 @@ pub(crate) fn put_place(
 
 /// Appends the members `file` and `line`, each after a comma, if they are known.
 pub(crate) fn put_place_members(
-    alloc: Global,
     out: &mut Vec<u8>,
     places: Places<'_>,
     place: usize,
@@ -78,7 +78,7 @@ pub(crate) fn put_place_members(
     match places.line(place) {
         Some(line) => {
             put_text_member(out, b"file", line.file)?;
-            put_number_member(alloc, out, b"line", line.number)
+            put_number_member(out, b"line", line.number)
         }
         None => Ok(()),
     }

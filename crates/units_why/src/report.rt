@@ -9,15 +9,22 @@ use std::alloc::{AllocError, Global};
 use std::cmp::Ordering;
 use units_io::{Files, Text};
 
+/// A report: the places of its findings, and whether it is JSON.
+#[derive(Clone, Copy)]
+pub(crate) struct Report<'a> {
+    pub(crate) places: Places<'a>,
+    pub(crate) json: bool,
+}
+
 /// Appends findings in the order of the files and their lines.
 pub(crate) fn put_findings<F: Files>(
     alloc: Global,
-    places: Places<'_>,
-    json: bool,
+    report: Report<'_>,
     files: &mut F,
     findings: &[LineFinding],
     out: &mut Vec<u8>,
 ) -> Result<(), AllocError> {
+    let places = report.places;
     let order = order_of(alloc, places, findings)?;
     let mut open = OpenFile::none(alloc)?;
     for (number, _, index) in order.as_slice() {
@@ -30,7 +37,7 @@ pub(crate) fn put_findings<F: Files>(
                 }
                 None => None,
             };
-            put_finding(alloc, out, json, spot, &found.finding)?;
+            put_finding(out, report.json, spot, &found.finding)?;
         }
     }
     Ok(())
@@ -71,24 +78,23 @@ struct NumberedNotice<'a> {
 /// Appends the notices of the load, in the order in which they were reported.
 pub(crate) fn put_notices<F: Files>(
     alloc: Global,
-    places: Places<'_>,
-    json: bool,
+    report: Report<'_>,
     files: &mut F,
     out: &mut Vec<u8>,
 ) -> Result<(), AllocError> {
-    let notices = places.deck.notices().as_slice();
-    let spans = notice_spans(alloc, places, files, notices)?;
+    let notices = report.places.deck.notices().as_slice();
+    let spans = notice_spans(alloc, report.places, files, notices)?;
     for index in 0..notices.len() {
         let text = notices[index].as_bytes();
         match (read_notice(text), spans.get(index)) {
             (Some(notice), Some(span)) => {
                 let finding = notice_finding(alloc, notice.message)?;
                 let spot = spot_of(notice.file, notice.line, *span);
-                put_finding(alloc, out, json, Some(spot), &finding)?;
+                put_finding(out, report.json, Some(spot), &finding)?;
             }
             _ => {
                 let finding = notice_finding(alloc, text)?;
-                put_finding(alloc, out, json, None, &finding)?;
+                put_finding(out, report.json, None, &finding)?;
             }
         }
     }
@@ -142,15 +148,14 @@ fn compare(one: &NumberedNotice<'_>, other: &NumberedNotice<'_>) -> Ordering {
 }
 
 fn put_finding(
-    alloc: Global,
     out: &mut Vec<u8>,
     json: bool,
     spot: Option<Spot<'_>>,
     finding: &Finding,
 ) -> Result<(), AllocError> {
     if json {
-        put_finding_json(alloc, out, spot, finding)
+        put_finding_json(out, spot, finding)
     } else {
-        put_finding_text(alloc, out, spot, finding)
+        put_finding_text(out, spot, finding)
     }
 }

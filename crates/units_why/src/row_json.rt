@@ -1,38 +1,53 @@
 //! The JSON format of rows, one object per line.
 
+ghost use Rattle.reply.specs.Options.{IsPrintable};
+
+use crate::call_trace::{Branch, CallTrace};
+use crate::decimal::put_number;
+use crate::interval::{End, EndTest};
 use crate::json::{put_flag_member, put_name, put_number_member, put_string, put_text_member};
-use crate::outcome::Outcome;
+use crate::outcome::{LentOutcome, OwnFault};
 use crate::places::{Places, put_place_members};
-use crate::row_words::{fault_word, resolution_word, site_word};
+use crate::row_note::Standing;
+use crate::row_style::RowStyle;
+use crate::row_view::RowView;
+use crate::row_words::{definition_text, fault_word, resolution_word, site_word};
+use crate::segment::{Point, Segment};
 use crate::shadows::Shadows;
-use crate::tree::{Standing, TreeRow};
+use crate::values::value_text;
 use def_entry::put_key;
+use reply::Options;
 use std::alloc::{AllocError, Global};
 use value_sources::Row;
 
-/// Appends the object for a row.
+/// Appends the object of a row.
 pub(crate) fn put_row_json(
     alloc: Global,
     out: &mut Vec<u8>,
     places: Places<'_>,
-    shadows: &Shadows,
-    tree_row: &TreeRow,
-) -> Result<(), AllocError> {
-    let row = &tree_row.row;
+    style: RowStyle<'_>,
+    view: RowView<'_, '_>,
+) -> Result<(), AllocError>
+    requires { IsPrintable style.options.now }
+{
+    let row = view.row;
     out.extend_from_slice(b"{\"word\":".as_slice())?;
     put_string(out, row.word())?;
-    put_number_member(alloc, out, b"depth", row.depth())?;
+    put_number_member(out, b"depth", row.depth())?;
     put_key_members(alloc, out, row)?;
-    match &tree_row.standing {
+    match view.note.standing {
         Standing::Unknown => put_text_member(out, b"fault", fault_word(row))?,
         Standing::Above => put_flag_member(out, b"above", true)?,
         Standing::Cycle => put_text_member(out, b"fault", b"cycle")?,
-        Standing::Defined(place, outcome) => {
-            put_definition(out, places, row, *place)?;
-            put_outcome(out, outcome, tree_row.is_explained)?;
-            put_place_members(alloc, out, places, *place)?;
-            put_replaced(alloc, out, places, shadows, *place)?;
+        Standing::Defined(place) => {
+            put_definition(out, places, row, place)?;
+            put_outcome(alloc, out, style.options, view.outcome)?;
+            put_place_members(out, places, place)?;
+            put_replaced(out, places, style.shadows, place)?;
         }
+    }
+    if let Some(call) = &view.note.call {
+        put_call(out, call)?;
     }
     out.extend_from_slice(b"}\n".as_slice())?;
     Ok(())
@@ -62,27 +77,96 @@ fn put_definition(
     let Some(key) = row.key() else {
         return Ok(());
     };
-    match places
-        .deck
-        .entry_with_hint(place, key.kind, key.name.as_bytes())
-    {
-        Some(entry) => put_text_member(out, b"text", entry.text()),
+    match definition_text(places.deck, key, place) {
+        Some(text) => put_text_member(out, b"text", text),
         None => Ok(()),
     }
 }
 
-fn put_outcome(out: &mut Vec<u8>, outcome: &Outcome, is_explained: bool) -> Result<(), AllocError> {
+fn put_outcome(
+    alloc: Global,
+    out: &mut Vec<u8>,
+    options: &Options,
+    outcome: LentOutcome<'_>,
+) -> Result<(), AllocError>
+    requires { IsPrintable options.now }
+{
     match outcome {
-        Outcome::Value(value) => put_text_member(out, b"value", value.as_bytes()),
-        Outcome::Fault(fault) if !is_explained => put_text_member(out, b"fault", fault.as_bytes()),
-        Outcome::Fault(_) | Outcome::NameFault => put_flag_member(out, b"fault_below", true),
-        Outcome::Function => Ok(()),
+        LentOutcome::Value(value) => {
+            let text = value_text(alloc, options, value)?;
+            put_text_member(out, b"value", text.as_bytes())
+        }
+        LentOutcome::Fault(fault) => put_fault(out, fault),
+        LentOutcome::FaultBelow => put_flag_member(out, b"fault_below", true),
+        LentOutcome::Function => Ok(()),
     }
+}
+
+// Appends the member `fault`, and the member `step` if the step is known, each after a comma.
+fn put_fault(out: &mut Vec<u8>, fault: &OwnFault) -> Result<(), AllocError> {
+    put_text_member(out, b"fault", fault.text.as_bytes())?;
+    match &fault.step {
+        Some(step) => step.put_member(out),
+        None => Ok(()),
+    }
+}
+
+// Appends a comma and the member `call`.
+fn put_call(out: &mut Vec<u8>, call: &CallTrace) -> Result<(), AllocError> {
+    put_name(out, b"call")?;
+    out.extend_from_slice(b"{\"branch\":".as_slice())?;
+    let branch = match call.branch {
+        Branch::Forward => b"forward".as_slice(),
+        Branch::Inverse => b"inverse".as_slice(),
+    };
+    put_string(out, branch)?;
+    put_text_member(out, b"operand", call.operand.as_bytes())?;
+    for test in call.tests.as_slice() {
+        put_test(out, test)?;
+    }
+    if let Some(segment) = &call.segment {
+        put_segment(out, segment)?;
+    }
+    out.push(b'}')?;
+    Ok(())
+}
+
+// Appends a comma and the member `domain` or `range`.
+fn put_test(out: &mut Vec<u8>, test: &EndTest) -> Result<(), AllocError> {
+    let end = match test.end {
+        End::Domain => b"domain".as_slice(),
+        End::Range => b"range".as_slice(),
+    };
+    put_name(out, end)?;
+    out.extend_from_slice(b"{\"interval\":".as_slice())?;
+    put_string(out, test.interval.as_bytes())?;
+    put_text_member(out, b"number", test.number.as_bytes())?;
+    put_flag_member(out, b"inside", test.is_inside)?;
+    out.push(b'}')?;
+    Ok(())
+}
+
+// Appends a comma and the member `segment`, a list of two points.
+fn put_segment(out: &mut Vec<u8>, segment: &Segment) -> Result<(), AllocError> {
+    put_name(out, b"segment")?;
+    out.push(b'[')?;
+    put_point(out, &segment.left)?;
+    out.push(b',')?;
+    put_point(out, &segment.right)?;
+    out.push(b']')?;
+    Ok(())
+}
+
+fn put_point(out: &mut Vec<u8>, point: &Point) -> Result<(), AllocError> {
+    out.extend_from_slice(b"{\"x\":".as_slice())?;
+    put_string(out, point.x.as_bytes())?;
+    put_text_member(out, b"y", point.y.as_bytes())?;
+    out.push(b'}')?;
+    Ok(())
 }
 
 // Appends the places of the lines that a definition replaces.
 fn put_replaced(
-    alloc: Global,
     out: &mut Vec<u8>,
     places: Places<'_>,
     shadows: &Shadows,
@@ -99,7 +183,7 @@ fn put_replaced(
             break;
         };
         out.extend_from_slice(before)?;
-        put_line_object(alloc, out, places, line)?;
+        put_line_object(out, places, line)?;
         before = b",".as_slice();
         replaced = shadows.after(line);
     }
@@ -108,15 +192,10 @@ fn put_replaced(
 }
 
 // Appends the object for a line.
-fn put_line_object(
-    alloc: Global,
-    out: &mut Vec<u8>,
-    places: Places<'_>,
-    place: usize,
-) -> Result<(), AllocError> {
+fn put_line_object(out: &mut Vec<u8>, places: Places<'_>, place: usize) -> Result<(), AllocError> {
     out.extend_from_slice(b"{\"deck_line\":".as_slice())?;
-    crate::json::put_number(alloc, out, place)?;
-    put_place_members(alloc, out, places, place)?;
+    put_number(out, place)?;
+    put_place_members(out, places, place)?;
     out.push(b'}')?;
     Ok(())
 }

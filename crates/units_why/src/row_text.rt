@@ -1,13 +1,25 @@
 //! The text format of rows, one line per row.
 
-use crate::outcome::Outcome;
+ghost use Rattle.reply.specs.Options.{IsPrintable};
+
+use crate::call_trace::{Branch, CallTrace};
+use crate::decimal::put_number_between;
+use crate::interval::{End, EndTest};
+use crate::outcome::{LentOutcome, OwnFault};
 use crate::places::{Places, put_place};
-use crate::row_words::{fault_word, is_rewritten, put_name, resolution_word, site_word};
+use crate::row_note::Standing;
+use crate::row_style::RowStyle;
+use crate::row_view::RowView;
+use crate::row_words::{
+    definition_text, fault_word, is_rewritten, put_name, resolution_word, site_word,
+};
+use crate::segment::{Point, Segment};
 use crate::shadows::Shadows;
-use crate::tree::{Standing, TreeRow};
-use def_entry::Key;
+use crate::values::put_value;
+use def_entry::{Key, Kind};
+use reply::Options;
 use std::alloc::{AllocError, Global};
-use value_sources::Row;
+use value_sources::{Resolution, Row};
 
 // A row is indented by two blanks for each row above it, up to this many rows. Deeper rows begin with their depth, so
 // that the output for a long chain does not grow with the square of its length.
@@ -15,45 +27,97 @@ const MOST_INDENTED: usize = 20;
 
 const BLANKS: &[u8] = b"                                        ";
 
-/// Appends the line for a row.
+/// Appends the line of a row, and a line for its call if its word is a function that is called.
 pub(crate) fn put_row_text(
     alloc: Global,
     out: &mut Vec<u8>,
     places: Places<'_>,
-    shadows: &Shadows,
-    tree_row: &TreeRow,
-) -> Result<(), AllocError> {
-    let row = &tree_row.row;
-    put_indent(alloc, out, row.depth())?;
+    style: RowStyle<'_>,
+    view: RowView<'_, '_>,
+) -> Result<(), AllocError>
+    requires { IsPrintable style.options.now }
+{
+    let row = view.row;
+    put_indent(out, row.depth())?;
     put_name(out, row)?;
-    out.extend_from_slice(b": ".as_slice())?;
-    match &tree_row.standing {
-        Standing::Unknown => out.extend_from_slice(fault_word(row))?,
-        Standing::Above => put_mention(out, row, b"see above")?,
-        Standing::Cycle => put_mention(out, row, b"a cycle: this definition is above")?,
-        Standing::Defined(place, outcome) => {
-            put_definition(out, places, row, *place)?;
-            put_outcome(out, outcome, tree_row.is_explained)?;
-            put_places(alloc, out, places, shadows, *place)?;
+    match view.note.standing {
+        Standing::Unknown => {
+            out.extend_from_slice(b": ".as_slice())?;
+            out.extend_from_slice(fault_word(row))?;
+            out.push(b'\n')?;
         }
+        Standing::Above => put_mention(out, row, b"see above\n")?,
+        Standing::Cycle => put_mention(out, row, b"a cycle: this definition is above\n")?,
+        Standing::Defined(place) => {
+            put_definition(out, places, row, place)?;
+            put_outcome(alloc, out, style.options, view.outcome)?;
+            put_places(out, places, style.shadows, place)?;
+        }
+    }
+    match &view.note.call {
+        Some(call) => put_call(out, row.depth(), call),
+        None => Ok(()),
+    }
+}
+
+// Appends the line of a call.
+fn put_call(out: &mut Vec<u8>, depth: usize, call: &CallTrace) -> Result<(), AllocError> {
+    put_indent(out, depth.saturating_add(1))?;
+    let words = match call.branch {
+        Branch::Forward => b"called at ".as_slice(),
+        Branch::Inverse => b"its inverse is called at ".as_slice(),
+    };
+    out.extend_from_slice(words)?;
+    out.extend_from_slice(call.operand.as_bytes())?;
+    for test in call.tests.as_slice() {
+        put_test(out, test)?;
+    }
+    if let Some(segment) = &call.segment {
+        put_segment(out, segment)?;
     }
     out.push(b'\n')?;
     Ok(())
 }
 
-fn put_indent(alloc: Global, out: &mut Vec<u8>, depth: usize) -> Result<(), AllocError> {
-    let indented = if depth < MOST_INDENTED {
-        depth
+// Appends a number and the interval that it was tested against.
+fn put_test(out: &mut Vec<u8>, test: &EndTest) -> Result<(), AllocError> {
+    out.extend_from_slice(b"; ".as_slice())?;
+    out.extend_from_slice(test.number.as_bytes())?;
+    let verb = if test.is_inside {
+        b" is in the ".as_slice()
     } else {
-        MOST_INDENTED
+        b" is not in the ".as_slice()
     };
-    out.extend_from_slice(BLANKS.get(..2 * indented).unwrap_or(b""))?;
+    out.extend_from_slice(verb)?;
+    let end = match test.end {
+        End::Domain => b"domain ".as_slice(),
+        End::Range => b"range ".as_slice(),
+    };
+    out.extend_from_slice(end)?;
+    Ok(out.extend_from_slice(test.interval.as_bytes())?)
+}
+
+// Appends the two points of a segment.
+fn put_segment(out: &mut Vec<u8>, segment: &Segment) -> Result<(), AllocError> {
+    out.extend_from_slice(b"; between the points ".as_slice())?;
+    put_point(out, &segment.left)?;
+    out.extend_from_slice(b" and ".as_slice())?;
+    put_point(out, &segment.right)
+}
+
+fn put_point(out: &mut Vec<u8>, point: &Point) -> Result<(), AllocError> {
+    out.extend_from_slice(point.x.as_bytes())?;
+    out.push(b' ')?;
+    Ok(out.extend_from_slice(point.y.as_bytes())?)
+}
+
+// Appends the blanks before a row. A deep row has its depth after them.
+fn put_indent(out: &mut Vec<u8>, depth: usize) -> Result<(), AllocError> {
     if depth > MOST_INDENTED {
-        out.push(b'(')?;
-        crate::json::put_number(alloc, out, depth)?;
-        out.extend_from_slice(b") ".as_slice())?;
+        out.extend_from_slice(BLANKS)?;
+        return put_number_between(out, b'(', depth, [b')', b' ']);
     }
-    Ok(())
+    Ok(out.extend_from_slice(BLANKS.get(..2 * depth).unwrap_or(b""))?)
 }
 
 // Appends how the word leads to its key, and the text of the definition.
@@ -66,39 +130,39 @@ fn put_definition(
     let Some(key) = row.key() else {
         return Ok(());
     };
-    out.extend_from_slice(resolution_word(row, key))?;
-    put_word(out, row, key)?;
-    put_site(out, row)?;
-    out.extend_from_slice(b", ".as_slice())?;
-    match places
-        .deck
-        .entry_with_hint(place, key.kind, key.name.as_bytes())
-    {
-        Some(entry) => Ok(out.extend_from_slice(entry.text())?),
+    put_lead(out, row, key)?;
+    match definition_text(places.deck, key, place) {
+        Some(text) => Ok(out.extend_from_slice(text)?),
         None => Ok(()),
     }
 }
 
 // Appends how the word leads to its key, followed by `words`.
 fn put_mention(out: &mut Vec<u8>, row: &Row, words: &[u8]) -> Result<(), AllocError> {
-    if let Some(key) = row.key() {
-        out.extend_from_slice(resolution_word(row, key))?;
-        put_word(out, row, key)?;
-        put_site(out, row)?;
-        out.extend_from_slice(b", ".as_slice())?;
+    match row.key() {
+        Some(key) => put_lead(out, row, key)?,
+        None => out.extend_from_slice(b": ".as_slice())?,
     }
     out.extend_from_slice(words)?;
     Ok(())
 }
 
-// Appends which part of the definition above contains the word.
-fn put_site(out: &mut Vec<u8>, row: &Row) -> Result<(), AllocError> {
-    if let Some(site) = site_word(row.site()) {
+// Appends how the word leads to its key: the kind of the key, the word if it differs from the name, and the part of the
+// definition above that contains the word.
+fn put_lead(out: &mut Vec<u8>, row: &Row, key: &Key) -> Result<(), AllocError> {
+    let site = site_word(row.site());
+    if let (Kind::Unit, Resolution::Name, None) = (key.kind, row.resolution(), site) {
+        return Ok(out.extend_from_slice(b": unit, ".as_slice())?);
+    }
+    out.extend_from_slice(b": ".as_slice())?;
+    out.extend_from_slice(resolution_word(row, key))?;
+    put_word(out, row, key)?;
+    if let Some(site) = site {
         out.extend_from_slice(b" (".as_slice())?;
         out.extend_from_slice(site)?;
         out.push(b')')?;
     }
-    Ok(())
+    Ok(out.extend_from_slice(b", ".as_slice())?)
 }
 
 // Appends the word as it is written, if it differs from the name.
@@ -110,45 +174,76 @@ fn put_word(out: &mut Vec<u8>, row: &Row, key: &Key) -> Result<(), AllocError> {
     Ok(())
 }
 
-fn put_outcome(out: &mut Vec<u8>, outcome: &Outcome, is_explained: bool) -> Result<(), AllocError> {
+fn put_outcome(
+    alloc: Global,
+    out: &mut Vec<u8>,
+    options: &Options,
+    outcome: LentOutcome<'_>,
+) -> Result<(), AllocError>
+    requires { IsPrintable options.now }
+{
     match outcome {
-        Outcome::Value(value) => {
+        LentOutcome::Value(value) => {
             out.extend_from_slice(b" = ".as_slice())?;
-            out.extend_from_slice(value.as_bytes())?;
+            put_value(alloc, out, options, value)
         }
-        Outcome::Fault(fault) if !is_explained => {
-            out.extend_from_slice(b" ! ".as_slice())?;
-            out.extend_from_slice(fault.as_bytes())?;
-        }
-        Outcome::Fault(_) | Outcome::NameFault => out.extend_from_slice(
-            b" ! see below".as_slice(),
-        )?,
-        Outcome::Function => {}
+        LentOutcome::Fault(fault) => put_fault(out, fault),
+        LentOutcome::FaultBelow => Ok(out.extend_from_slice(b" ! see below".as_slice())?),
+        LentOutcome::Function => Ok(()),
     }
-    Ok(())
 }
 
-// Appends the place of a definition, and the places of the definitions that it replaces.
+// Appends a fault, and the step without a value if it is known.
+fn put_fault(out: &mut Vec<u8>, fault: &OwnFault) -> Result<(), AllocError> {
+    out.extend_from_slice(b" ! ".as_slice())?;
+    out.extend_from_slice(fault.text.as_bytes())?;
+    match &fault.step {
+        Some(step) => {
+            out.extend_from_slice(b" in ".as_slice())?;
+            step.put_text(out)
+        }
+        None => Ok(()),
+    }
+}
+
+// Appends the place of a definition, the places of the definitions that it replaces, and the end of the line.
 fn put_places(
-    alloc: Global,
     out: &mut Vec<u8>,
     places: Places<'_>,
     shadows: &Shadows,
     place: usize,
 ) -> Result<(), AllocError> {
     out.extend_from_slice(b" [".as_slice())?;
-    put_place(alloc, out, places, place)?;
+    match (places.line(place), shadows.after(place)) {
+        (Some(line), None) => {
+            out.extend_from_slice(line.file)?;
+            put_number_between(out, b':', line.number, [b']', b'\n'])
+        }
+        (_, replaced) => {
+            put_place(out, places, place)?;
+            put_replaced(out, places, shadows, replaced)?;
+            Ok(out.extend_from_slice(b"]\n".as_slice())?)
+        }
+    }
+}
+
+// Appends the places of the lines that a definition replaces, of which `first` is the first.
+fn put_replaced(
+    out: &mut Vec<u8>,
+    places: Places<'_>,
+    shadows: &Shadows,
+    first: Option<usize>,
+) -> Result<(), AllocError> {
     let mut words = b"; replaces ".as_slice();
-    let mut replaced = shadows.after(place);
+    let mut replaced = first;
     for _ in 0..places.deck.lines().len() {
         let Some(line) = replaced else {
             break;
         };
         out.extend_from_slice(words)?;
-        put_place(alloc, out, places, line)?;
+        put_place(out, places, line)?;
         words = b", ".as_slice();
         replaced = shadows.after(line);
     }
-    out.push(b']')?;
     Ok(())
 }

@@ -1,6 +1,8 @@
 //! The words that describe rows.
 
+use deck::Deck;
 use def_entry::{Key, Kind, put_key};
+use def_lines::trim;
 use expr_tree::WordKind;
 use std::alloc::AllocError;
 use value_sources::{Resolution, Row, Site};
@@ -39,7 +41,10 @@ pub(crate) fn site_word(site: Site) -> Option<&'static [u8]> {
 
 /// Returns whether the word of a row differs from the name of its key.
 pub(crate) fn is_rewritten(row: &Row, key: &Key) -> bool {
-    row.word() != key.name.as_bytes()
+    match row.resolution() {
+        Resolution::Name => false,
+        _ => row.word() != key.name.as_bytes(),
+    }
 }
 
 /// Appends the name of a row: its key, or its word if the word is unknown.
@@ -50,7 +55,32 @@ pub(crate) fn put_name(out: &mut Vec<u8>, row: &Row) -> Result<(), AllocError> {
     }
 }
 
-/// Returns the fault of a row that leads to no definition.
+/// Returns the text of the definition of a key whose line in force is at this place.
+pub(crate) fn definition_text<'a>(deck: &'a Deck, key: &Key, place: usize) -> Option<&'a [u8]> {
+    let line = deck.lines().get(place)?;
+    match text_after_name(line.text.as_bytes(), key) {
+        Some(text) => Some(trim(text)),
+        None => Some(
+            deck.entry_with_hint(place, key.kind, key.name.as_bytes())?
+                .text(),
+        ),
+    }
+}
+
+// Returns the text after the name of a key on its line, if the line begins with the name.
+fn text_after_name<'a>(line: &'a [u8], key: &Key) -> Option<&'a [u8]> {
+    if let b'+' | b'!' = line.first()? {
+        return None;
+    }
+    let after = line.get(key.name.as_bytes().len()..)?;
+    match key.kind {
+        Kind::Prefix => after.strip_prefix(b"-".as_slice()),
+        Kind::Unit | Kind::Func => Some(after),
+        Kind::List => None,
+    }
+}
+
+/// Returns the words for a row that leads to no definition.
 pub(crate) fn fault_word(row: &Row) -> &'static [u8] {
     if row.is_refused() {
         b"refused function"

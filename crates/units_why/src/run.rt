@@ -3,9 +3,10 @@
 ghost use Rattle.reply.specs.Options.{IsPrintable};
 ghost use Rattle.why_words.specs.Digits.{HasWhyDigits};
 
-use crate::answer::Answer;
 use crate::definitions::{Definitions, load};
 use crate::lint::lint;
+use crate::output::OutputFault;
+use crate::ports::Ports;
 use crate::status::Status;
 use crate::stop::Stop;
 use crate::why::{Question, explain};
@@ -23,14 +24,12 @@ pub(crate) fn run<O: Sink, E: Sink, F: Files, L: Ledger>(
     alloc: Global,
     words: &[Text],
     vars: &Vars,
-    out: &mut O,
-    err: &mut E,
-    files: &mut F,
-    steps: &mut Steps<L>,
+    ports: &mut Ports<O, E, F>,
+    steps: Steps<L>,
 ) -> Status {
     match read_words(alloc, words) {
-        Ok(request) => run_request(alloc, &request, vars, out, err, files, steps),
-        Err(WordsFault::Usage) => complain(err, usage_text(), Status::Usage),
+        Ok(request) => run_request(alloc, &request, vars, ports, steps),
+        Err(WordsFault::Usage) => complain(&mut ports.err, usage_text(), Status::Usage),
         Err(WordsFault::OutOfMemory) => Status::NoMemory,
     }
 }
@@ -47,23 +46,22 @@ fn run_request<O: Sink, E: Sink, F: Files, L: Ledger>(
     alloc: Global,
     request: &Request,
     vars: &Vars,
-    out: &mut O,
-    err: &mut E,
-    files: &mut F,
-    steps: &mut Steps<L>,
+    ports: &mut Ports<O, E, F>,
+    steps: Steps<L>,
 ) -> Status
     requires { HasWhyDigits request.now }
 {
-    let mut definitions = match load(alloc, files, request, vars) {
+    let mut definitions = match load(alloc, &mut ports.files, request, vars, steps) {
         Ok(definitions) => definitions,
-        Err(stop) => return report_stop(alloc, err, request, stop),
+        Err(stop) => return report_stop(alloc, &mut ports.err, request, stop),
     };
-    let answer = answer_to(alloc, &mut definitions, request, files, steps);
+    let answer = answer(&mut definitions, request, ports);
     // The process ends next, and freeing the table costs more than its last query.
     mem::forget(definitions);
     match answer {
-        Ok(answer) => write(out, err, &answer),
-        Err(AllocError) => Status::NoMemory,
+        Ok(true) => Status::Refused,
+        Ok(false) => Status::Done,
+        Err(fault) => fault.status(),
     }
 }
 
@@ -88,41 +86,47 @@ fn complaint(alloc: Global, words: &[u8], request: &Request) -> Result<Text, All
     Ok(Text::from(text))
 }
 
-// Returns the answer to a request.
-fn answer_to<F: Files, L: Ledger>(
-    alloc: Global,
-    definitions: &mut Definitions,
+// Writes the answer to a request, error messages first. Returns whether the request is refused.
+fn answer<O: Sink, E: Sink, F: Files, L: Ledger>(
+    definitions: &mut Definitions<L>,
     request: &Request,
-    files: &mut F,
-    steps: &mut Steps<L>,
-) -> Result<Answer, AllocError>
+    ports: &mut Ports<O, E, F>,
+) -> Result<bool, OutputFault>
     requires { HasWhyDigits request.now }
 {
     let options = options_of(request);
-    let mut answer = match &request.inquiry {
+    let messages = messages(definitions, &request.inquiry)?;
+    put_all(&mut ports.err, messages.as_slice())?;
+    match &request.inquiry {
         Inquiry::Value(from, to) => {
             let question = question_of(from, to, request.json);
-            let notices = notice_lines(alloc, definitions.table.deck())?;
-            let mut answer = explain(alloc, definitions, &options, question, steps)?;
-            answer.err = notices;
-            answer
+            explain(&mut ports.out, definitions, &options, question)
         }
-        Inquiry::Lint(asked) => lint(
-            alloc,
-            definitions,
-            &options,
-            *asked,
-            request.json,
-            files,
-            steps,
-        )?,
+        Inquiry::Lint(asked) => {
+            let files = &mut ports.files;
+            let answer = lint(definitions, &options, *asked, request.json, files)?;
+            put_all(&mut ports.out, answer.out.as_slice())?;
+            Ok(answer.is_refused)
+        }
+    }
+}
+
+// Returns the error messages of a run. The findings of `--lint` contain the notices of the load.
+fn messages<L: Ledger>(
+    definitions: &Definitions<L>,
+    inquiry: &Inquiry,
+) -> Result<Vec<u8>, AllocError> {
+    let evaluator = &definitions.evaluator;
+    let mut text = match inquiry {
+        Inquiry::Value(_, _) => notice_lines(evaluator.alloc, evaluator.deck())?,
+        Inquiry::Lint(_) => Vec::new(evaluator.alloc),
     };
-    if definitions.files.is_none() {
-        answer.err.extend_from_slice(
+    if definitions.names.is_none() {
+        text.extend_from_slice(
             b"units-why: a file changed while it was read, so no line has a place\n".as_slice(),
         )?;
     }
-    Ok(answer)
+    Ok(text)
 }
 
 // Returns the notices of the load, one per line.
@@ -161,20 +165,5 @@ fn options_of(request: &Request) -> Options
         quiet: false,
         round: false,
         verbose: false,
-    }
-}
-
-// Writes an answer, error messages first.
-fn write<O: Sink, E: Sink>(out: &mut O, err: &mut E, answer: &Answer) -> Status {
-    let Ok(()) = put_all(err, answer.err.as_slice()) else {
-        return Status::WriteFault;
-    };
-    let Ok(()) = put_all(out, answer.out.as_slice()) else {
-        return Status::WriteFault;
-    };
-    if answer.is_refused {
-        Status::Refused
-    } else {
-        Status::Done
     }
 }

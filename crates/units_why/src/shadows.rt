@@ -14,8 +14,14 @@ pub(crate) struct Shadows {
 }
 
 impl Shadows {
-    /// Finds the replaced lines of a deck.
+    /// Finds the replaced lines of a deck. There are none if it has no more lines than keys.
     pub(crate) fn of(alloc: Global, deck: &Deck) -> Result<Shadows, AllocError> {
+        if deck.lines().len() <= key_count(deck) {
+            return Ok(Shadows {
+                next: Vec::new(alloc),
+                active: Vec::new(alloc),
+            });
+        }
         let active = deck.active_lines(alloc)?;
         let mut next = Vec::new(alloc);
         next.resize(active.len(), None)?;
@@ -41,11 +47,7 @@ impl Shadows {
                 lines = lines.saturating_add(1);
             }
         }
-        let mut keys = 0usize;
-        for kind in [Kind::Unit, Kind::Prefix, Kind::Func, Kind::List] {
-            keys = keys.saturating_add(deck.key_count(kind));
-        }
-        lines > keys
+        lines > key_count(deck)
     }
 
     /// Returns the line in force of the key of an active line, if that is a different line.
@@ -78,4 +80,13 @@ impl Shadows {
             self.next[place] = next;
         }
     }
+}
+
+// Counts the keys that have an entry.
+fn key_count(deck: &Deck) -> usize {
+    let mut count = 0usize;
+    for kind in [Kind::Unit, Kind::Prefix, Kind::Func, Kind::List] {
+        count = count.saturating_add(deck.key_count(kind));
+    }
+    count
 }

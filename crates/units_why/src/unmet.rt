@@ -5,20 +5,20 @@ ghost use Rattle.reply.specs.Options.{IsPrintable};
 use crate::aliases::Aliases;
 use crate::definitions::Definitions;
 use crate::entries::{key_at, what_at};
+use crate::evaluator::{Evaluated, Evaluator};
 use crate::finding::{Finding, LineFinding, Severity, key_text};
 use crate::mark::Mark;
 use crate::open_file::OpenFile;
 use crate::places::Places;
 use crate::unit_notes::UnitNotes;
-use crate::values::{Evaluated, evaluate, value_of, value_text};
+use crate::values::value_text;
 use deck::Deck;
 use def_entry::{Kind, What, parse_fault_text};
 use expr_tree::{ParseFault, Tree, parse_expr};
-use live_table::LiveTable;
 use reply::Options;
 use std::alloc::{AllocError, Global};
 use std::sync::ledger::Ledger;
-use units_io::{Files, Steps, Text};
+use units_io::{Files, Text};
 use value_sources::value_tree;
 
 // A definition whose comment names a unit.
@@ -31,29 +31,26 @@ struct NotedUnit {
 /// Appends a finding for each definition at the places `keys` whose value does not conform to the unit in its comment,
 /// or whose comment names a unit without a value.
 pub(crate) fn put_unmet<F: Files, L: Ledger>(
-    alloc: Global,
-    definitions: &mut Definitions,
+    definitions: &mut Definitions<L>,
     options: &Options,
     keys: &[usize],
     files: &mut F,
     findings: &mut Vec<LineFinding>,
-    steps: &mut Steps<L>,
 ) -> Result<(), AllocError>
     requires { IsPrintable options.now }
 {
+    let alloc = definitions.evaluator.alloc;
     let noted = noted_units(alloc, Places::of(definitions), keys, files)?;
     if noted.is_empty() {
         return Ok(());
     }
-    let mut aliases = Aliases::new(alloc, definitions.table.deck())?;
+    let evaluator = &mut definitions.evaluator;
+    let mut aliases = Aliases::new(alloc, evaluator.deck())?;
     for noted in noted.as_slice() {
-        let deck = definitions.table.deck();
-        let place = aliases.end(alloc, deck, noted.place)?;
-        if let Some(tree) = result_tree(alloc, deck, place)? {
-            let table = &mut definitions.table;
-            let message = unmet_message(alloc, table, options, &noted.unit, &tree, steps)?;
-            if let Some(message) = message {
-                let finding = unmet_finding(alloc, definitions.table.deck(), noted.place, message)?;
+        let place = aliases.end(alloc, evaluator.deck(), noted.place)?;
+        if let Some(tree) = result_tree(alloc, evaluator.deck(), place)? {
+            if let Some(message) = unmet_message(evaluator, options, &noted.unit, &tree)? {
+                let finding = unmet_finding(alloc, evaluator.deck(), noted.place, message)?;
                 findings.push(LineFinding {
                     place: noted.place,
                     finding,
@@ -124,17 +121,16 @@ fn copy_if(alloc: Global, tree: Option<&Tree>) -> Result<Option<Tree>, AllocErro
 // Returns what is wrong with an expression that must conform to a unit. An expression without a value is reported
 // elsewhere.
 fn unmet_message<L: Ledger>(
-    alloc: Global,
-    table: &mut LiveTable,
+    evaluator: &mut Evaluator<L>,
     options: &Options,
     unit: &Text,
     tree: &Tree,
-    steps: &mut Steps<L>,
 ) -> Result<Option<Text>, AllocError>
     requires { IsPrintable options.now }
 {
+    let alloc = evaluator.alloc;
     let wanted = match parse_expr(alloc, unit.as_bytes(), None) {
-        Ok(unit) => evaluate(alloc, table, options, &unit, steps)?,
+        Ok(unit) => evaluator.evaluate(options, &unit)?,
         Err(ParseFault::OutOfMemory) => return Err(AllocError),
         Err(fault) => Evaluated::Fault(parse_fault_text(alloc, fault)?),
     };
@@ -142,7 +138,7 @@ fn unmet_message<L: Ledger>(
         Evaluated::Value(wanted) => wanted,
         Evaluated::Fault(fault) => return Ok(Some(unit_fault(alloc, unit, &fault)?)),
     };
-    let Some(found) = value_of(alloc, table, tree, steps)? else {
+    let Some(found) = evaluator.value_if_any(tree)? else {
         return Ok(None);
     };
     if found.conforms(&wanted) {

@@ -1,16 +1,15 @@
 //! Definitions that no other definition uses.
 
 use crate::entries::{entry_words, key_at, what_at};
+use crate::evaluator::Evaluator;
 use crate::finding::{Finding, LineFinding, Severity, key_text};
 use crate::mark::Mark;
-use crate::values::value_of;
 use deck::Deck;
 use def_entry::{Key, Kind, What};
 use expr_tree::{Tree, WordKind, WordUse};
-use live_table::LiveTable;
 use std::alloc::{AllocError, Global};
 use std::sync::ledger::Ledger;
-use units_io::{Steps, Text};
+use units_io::Text;
 use word_readings::{Reading, word_readings};
 
 // For each line of a deck, whether another definition uses the definition on it.
@@ -22,19 +21,18 @@ struct Uses {
 /// Appends a finding for each definition at the places `keys` that no other definition uses, except units of measure
 /// and lists: a unit of measure is for the user, and no definition can use a list.
 pub(crate) fn put_unused<L: Ledger>(
-    alloc: Global,
-    table: &mut LiveTable,
+    evaluator: &mut Evaluator<L>,
     keys: &[usize],
     findings: &mut Vec<LineFinding>,
-    steps: &mut Steps<L>,
 ) -> Result<(), AllocError> {
-    let uses = Uses::of(alloc, table.deck(), keys)?;
+    let alloc = evaluator.alloc;
+    let uses = Uses::of(alloc, evaluator.deck(), keys)?;
     for place in keys {
         if uses.is_used_at(*place) {
             continue;
         }
-        if let Some(key) = key_at(alloc, table.deck(), *place)? {
-            if !is_for_readers(alloc, table, &key, *place, steps)? {
+        if let Some(key) = key_at(alloc, evaluator.deck(), *place)? {
+            if !is_for_readers(evaluator, &key, *place)? {
                 findings.push(LineFinding {
                     place: *place,
                     finding: Finding {
@@ -52,22 +50,20 @@ pub(crate) fn put_unused<L: Ledger>(
 
 // Returns whether a key is a list, or a unit whose value is not a number.
 fn is_for_readers<L: Ledger>(
-    alloc: Global,
-    table: &mut LiveTable,
+    evaluator: &mut Evaluator<L>,
     key: &Key,
     place: usize,
-    steps: &mut Steps<L>,
 ) -> Result<bool, AllocError> {
     match key.kind {
         Kind::List => return Ok(true),
         Kind::Prefix | Kind::Func => return Ok(false),
         Kind::Unit => {}
     }
-    if let Some(What::Primitive | What::Dimensionless) = what_at(table.deck(), place) {
+    if let Some(What::Primitive | What::Dimensionless) = what_at(evaluator.deck(), place) {
         return Ok(true);
     }
-    let word = Tree::Word(key.name.copy(alloc)?);
-    match value_of(alloc, table, &word, steps)? {
+    let word = Tree::Word(key.name.copy(evaluator.alloc)?);
+    match evaluator.value_if_any(&word)? {
         Some(value) => Ok(!value.is_number()),
         None => Ok(true),
     }

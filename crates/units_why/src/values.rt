@@ -1,56 +1,14 @@
-//! The values of expressions, and their text.
+//! The text of values.
 
 ghost use Rattle.digits_print.specs.Styles.{IsStyle};
 ghost use Rattle.reply.specs.Options.{IsPrintable};
 
 use digits_print::Style;
-use expr_tree::Tree;
-use live_table::{LiveTable, QueryFault};
+use frac128::Frac;
 use quantity::Quantity;
-use reply::{Options, ReplyFault, fault_text};
+use reply::Options;
 use std::alloc::{AllocError, Global};
-use std::sync::ledger::Ledger;
-use units_io::{Steps, Text};
-
-/// The value of an expression, or the text of its fault.
-#[derive(Drop)]
-pub(crate) enum Evaluated {
-    Value(Quantity),
-    Fault(Text),
-}
-
-/// Evaluates an expression. Fails only if memory runs out.
-pub(crate) fn evaluate<L: Ledger>(
-    alloc: Global,
-    table: &mut LiveTable,
-    options: &Options,
-    tree: &Tree,
-    steps: &mut Steps<L>,
-) -> Result<Evaluated, AllocError>
-    requires { IsPrintable options.now }
-{
-    let fault = match table.value(alloc, tree, steps) {
-        Ok(value) => return Ok(Evaluated::Value(value)),
-        Err(QueryFault::Name(fault)) => ReplyFault::Name(fault),
-        Err(QueryFault::Value(fault)) => ReplyFault::Value(fault),
-        Err(QueryFault::OutOfMemory) => return Err(AllocError),
-    };
-    Ok(Evaluated::Fault(fault_text(alloc, &fault, options)?))
-}
-
-/// Returns the value of an expression, or `None` if it has a fault. Fails only if memory runs out.
-pub(crate) fn value_of<L: Ledger>(
-    alloc: Global,
-    table: &mut LiveTable,
-    tree: &Tree,
-    steps: &mut Steps<L>,
-) -> Result<Option<Quantity>, AllocError> {
-    match table.value(alloc, tree, steps) {
-        Ok(value) => Ok(Some(value)),
-        Err(QueryFault::OutOfMemory) => Err(AllocError),
-        Err(QueryFault::Name(_) | QueryFault::Value(_)) => Ok(None),
-    }
-}
+use units_io::Text;
 
 /// Returns the text of a value in the format that the options select.
 pub(crate) fn value_text(
@@ -60,17 +18,35 @@ pub(crate) fn value_text(
 ) -> Result<Text, AllocError>
     requires { IsPrintable options.now }
 {
-    value.show(alloc, style_of(options))
+    value.show(alloc, style_of(options, &value.value()))
 }
 
-// Returns the style of numbers that the options select.
-fn style_of(options: &Options) -> Style
+/// Appends a value in the format that the options select.
+pub(crate) fn put_value(
+    alloc: Global,
+    out: &mut Vec<u8>,
+    options: &Options,
+    value: &Quantity,
+) -> Result<(), AllocError>
+    requires { IsPrintable options.now }
+{
+    value.put(alloc, out, style_of(options, &value.value()))
+}
+
+// Returns the style of a number. Both styles write a whole number of few digits alike, and the exact one is faster.
+fn style_of(options: &Options, number: &Frac) -> Style
     requires { IsPrintable options.now }
     ensures { IsStyle result }
 {
-    if options.exact {
+    if options.exact || is_whole_below(number, options.digits) {
         Style::Exact
     } else {
         Style::Digits(options.digits)
     }
+}
+
+// Returns whether a number is whole and short: at most 8 digits if `digits` is at least 8, and at most one otherwise.
+fn is_whole_below(number: &Frac, digits: u8) -> bool {
+    let most = if digits >= 8 { 99_999_999 } else { 9 };
+    number.den() == 1 && -most <= number.num() && number.num() <= most
 }

@@ -2,20 +2,26 @@
 
 ghost use Rattle.reply.specs.Options.{IsPrintable};
 
-use crate::answer::Answer;
 use crate::definitions::Definitions;
+use crate::evaluator::Evaluator;
 use crate::json::{put_flag_member, put_string, put_text_member};
+use crate::outcome::{LentOutcome, cached_value, outcome_of};
+use crate::output::{OutputFault, put_block};
 use crate::places::Places;
 use crate::row_json::put_row_json;
+use crate::row_note::{RowNote, RowWalk, Standing};
+use crate::row_style::RowStyle;
 use crate::row_text::put_row_text;
+use crate::row_view::RowView;
 use crate::shadows::Shadows;
-use crate::tree::{TreeRow, tree_of};
+use crate::tree::{RowTree, tree_of};
 use def_lines::line_content;
-use live_table::LiveTable;
 use reply::{Options, Reply, convert_reply, definition_reply};
 use std::alloc::{AllocError, Global};
+use std::mem;
 use std::sync::ledger::Ledger;
-use units_io::Steps;
+use units_io::{Sink, put_all};
+use value_sources::Row;
 
 /// A query: an expression, the unit to convert it to, which may be blank, and whether the answer is JSON.
 #[derive(Clone, Copy)]
@@ -25,60 +31,66 @@ pub(crate) struct Question<'a> {
     pub(crate) json: bool,
 }
 
-/// Returns the reply to a question, followed by the trees of its expression and its unit.
-pub(crate) fn explain<L: Ledger>(
-    alloc: Global,
-    definitions: &mut Definitions,
+/// Writes the reply to a question, followed by the trees of its expression and its unit. Returns whether it is refused.
+pub(crate) fn explain<O: Sink, L: Ledger>(
+    sink: &mut O,
+    definitions: &mut Definitions<L>,
     options: &Options,
     question: Question<'_>,
-    steps: &mut Steps<L>,
-) -> Result<Answer, AllocError>
+) -> Result<bool, OutputFault>
     requires { IsPrintable options.now }
 {
     let from = line_content(question.from);
     let to = line_content(question.to);
-    let table = &mut definitions.table;
-    let reply = reply_to(alloc, table, options, from, to, steps)?;
-    let mut tree = tree_of(alloc, table, options, from, steps)?;
-    if !to.is_empty() {
-        for row in tree_of(alloc, table, options, to, steps)? {
-            tree.push(row)?;
-        }
-    }
-    let mut answer = Answer::new(alloc);
-    answer.is_refused = reply.refused;
-    put_reply(&mut answer.out, question, &reply)?;
-    put_rows(
-        alloc,
-        &mut answer.out,
-        definitions,
-        question.json,
-        tree.as_slice(),
-    )?;
-    Ok(answer)
+    let evaluator = &mut definitions.evaluator;
+    let alloc = evaluator.alloc;
+    let reply = reply_to(evaluator, options, from, to)?;
+    let tree = tree_of(evaluator, options, from)?;
+    let unit_tree = tree_of(evaluator, options, to)?;
+    let shadows = Shadows::of(alloc, evaluator.deck())?;
+    let mut out = Vec::new(alloc);
+    put_reply(&mut out, question, &reply, &tree, &unit_tree)?;
+    let style = RowStyle {
+        options,
+        shadows: &shadows,
+        json: question.json,
+    };
+    put_rows(sink, &mut out, definitions, style, tree)?;
+    put_rows(sink, &mut out, definitions, style, unit_tree)?;
+    put_all(sink, out.as_slice())?;
+    Ok(reply.refused)
 }
 
 fn reply_to<L: Ledger>(
-    alloc: Global,
-    table: &mut LiveTable,
+    evaluator: &mut Evaluator<L>,
     options: &Options,
     from: &[u8],
     to: &[u8],
-    steps: &mut Steps<L>,
 ) -> Result<Reply, AllocError>
     requires { IsPrintable options.now }
 {
+    let alloc = evaluator.alloc;
+    let table = &mut evaluator.table;
+    let steps = &mut evaluator.steps;
     if to.is_empty() {
         return definition_reply(alloc, table, options, from, steps);
     }
     convert_reply(alloc, table, options, from, to, steps)
 }
 
-fn put_reply(out: &mut Vec<u8>, question: Question<'_>, reply: &Reply) -> Result<(), AllocError> {
+// Appends a reply, and the steps without a value of the expression and the unit themselves.
+fn put_reply(
+    out: &mut Vec<u8>,
+    question: Question<'_>,
+    reply: &Reply,
+    tree: &RowTree,
+    unit_tree: &RowTree,
+) -> Result<(), AllocError> {
     let text = reply.text.as_bytes();
     if !question.json {
         out.extend_from_slice(text)?;
-        return Ok(());
+        put_step_line(out, tree)?;
+        return put_step_line(out, unit_tree);
     }
     out.extend_from_slice(b"{\"expression\":".as_slice())?;
     put_string(out, question.from)?;
@@ -87,25 +99,94 @@ fn put_reply(out: &mut Vec<u8>, question: Question<'_>, reply: &Reply) -> Result
     }
     put_text_member(out, b"reply", text.strip_suffix(b"\n").unwrap_or(text))?;
     put_flag_member(out, b"refused", reply.refused)?;
+    match (&tree.step, &unit_tree.step) {
+        (Some(step), _) | (None, Some(step)) => step.put_member(out)?,
+        (None, None) => {}
+    }
     out.extend_from_slice(b"}\n".as_slice())?;
     Ok(())
 }
 
-fn put_rows(
+// Appends a line for the step of an expression itself that has no value.
+fn put_step_line(out: &mut Vec<u8>, tree: &RowTree) -> Result<(), AllocError> {
+    match &tree.step {
+        Some(step) => {
+            out.extend_from_slice(b"in ".as_slice())?;
+            step.put_text(out)?;
+            Ok(out.push(b'\n')?)
+        }
+        None => Ok(()),
+    }
+}
+
+// Appends the rows of a tree to `out`, and writes `out` block by block.
+fn put_rows<O: Sink, L: Ledger>(
+    sink: &mut O,
+    out: &mut Vec<u8>,
+    definitions: &mut Definitions<L>,
+    style: RowStyle<'_>,
+    tree: RowTree,
+) -> Result<(), OutputFault>
+    requires { IsPrintable style.options.now }
+{
+    let RowTree { rows, calls, .. } = tree;
+    if rows.is_empty() {
+        return Ok(());
+    }
+    let evaluator = &definitions.evaluator;
+    let mut walk = RowWalk::new(evaluator.alloc, evaluator.deck(), calls)?;
+    for at in 0..rows.len() {
+        let note = walk.note(&mut definitions.evaluator, style.options, &rows, at)?;
+        let (_, rest) = rows.split_at(at);
+        put_next(out, definitions, style, rest, &note)?;
+        put_block(sink, out)?;
+    }
+    // The process ends soon, and freeing the rows of a long chain takes time.
+    mem::forget(rows);
+    Ok(())
+}
+
+// Appends the first of the remaining rows.
+fn put_next<'r, L: Ledger>(
+    out: &mut Vec<u8>,
+    definitions: &mut Definitions<L>,
+    style: RowStyle<'_>,
+    rest: &'r [Row],
+    note: &'r RowNote,
+) -> Result<(), AllocError>
+    requires { IsPrintable style.options.now }
+{
+    let Some((row, below)) = rest.split_first() else {
+        return Ok(());
+    };
+    let alloc = definitions.evaluator.alloc;
+    let (Standing::Defined(_), Some(key)) = (note.standing, row.key()) else {
+        let view = RowView::new(row, note, LentOutcome::Function);
+        return put_row(alloc, out, Places::of(definitions), style, view);
+    };
+    if let Some(value) = cached_value(alloc, &definitions.evaluator.table, key)? {
+        let view = RowView::new(row, note, LentOutcome::Value(value));
+        return put_row(alloc, out, Places::of(definitions), style, view);
+    }
+    let evaluator = &mut definitions.evaluator;
+    let outcome = outcome_of(evaluator, style.options, key, row.depth(), below)?;
+    let view = RowView::new(row, note, outcome.lent());
+    put_row(alloc, out, Places::of(definitions), style, view)
+}
+
+// Appends a row.
+fn put_row(
     alloc: Global,
     out: &mut Vec<u8>,
-    definitions: &Definitions,
-    json: bool,
-    rows: &[TreeRow],
-) -> Result<(), AllocError> {
-    let places = Places::of(definitions);
-    let shadows = Shadows::of(alloc, places.deck)?;
-    for row in rows {
-        if json {
-            put_row_json(alloc, out, places, &shadows, row)?;
-        } else {
-            put_row_text(alloc, out, places, &shadows, row)?;
-        }
+    places: Places<'_>,
+    style: RowStyle<'_>,
+    view: RowView<'_, '_>,
+) -> Result<(), AllocError>
+    requires { IsPrintable style.options.now }
+{
+    if style.json {
+        put_row_json(alloc, out, places, style, view)
+    } else {
+        put_row_text(alloc, out, places, style, view)
     }
-    Ok(())
 }

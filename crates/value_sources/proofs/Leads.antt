@@ -1,19 +1,28 @@
 -- The keys that a word leads to, by the keys that were tried.
 use Rattle.std.proofs.Common.{◌≡◌, ◌-◌, ◌<◌, ◌≤◌, ◌∷◌, [], ℕ, zero, suc, List, length, drop, refl, sym, ◌∙◌}
-use Rattle.std.proofs.Common.{ap, subst, arith}
+use Rattle.std.proofs.Common.{Bool, Some, true, ap, subst, arith}
+use Rattle.std.specs.Prelude.{if◌then◌else◌}
 use Rattle.std.proofs.lemmas.List.{drop_all, length-drop}
+use Rattle.std.proofs.lemmas.Option.{same_Some}
 use Rattle.expr_tree.specs.declared.word_list.WordKind.{WordKind}
+use Rattle.expr_tree.specs.declared.word_list.WordKind.TheVariants as word_kind
 use Rattle.expr_tree.specs.declared.word_list.WordUse.{WordUse}
 use Rattle.def_entry.specs.declared.key.Key.{Key}
+use Rattle.def_entry.specs.declared.key.Kind.{Kind}
+use Rattle.def_entry.specs.declared.key.Kind.TheVariants as key_kind
+use Rattle.def_entry.specs.Keys.{key}
 use Rattle.def_entry.specs.SameKeys.{is_key_among}
 use Rattle.def_entry.specs.Tables.{Table, keys_of}
+use Rattle.deck.specs.Decks.{Contents}
+use Rattle.deck.specs.Tables.{last_place, table}
 use Rattle.name_lookup.specs.declared.targets.Targets.{Targets}
 use Rattle.name_lookup.specs.declared.targets.Targets.TheVariants as which
-use Rattle.name_lookup.specs.Order.{plan}
-use Rattle.name_lookup.specs.Plans.{Found, run}
+use Rattle.name_lookup.specs.Order.{plan, try_key, try_parts}
+use Rattle.name_lookup.specs.Plans.{Found, Gives, LookupPlan, run}
 use Rattle.name_lookup.specs.Targets.{AreFound, count, last_keys}
 use Rattle.table_names.specs.Leads.{LookupLaw, targets, word_lookup}
-use Rattle.value_sources.specs.Leads.{key_at_place}
+use Rattle.value_sources.specs.Leads.{first_kind, key_at_place}
+use Rattle.value_sources.proofs.Placing.{placed_among}
 
 -- ---- the last keys of a list
 at_place : (ks : List Key) (i : ℕ) → i < length ks → drop i ks ≡ key_at_place ks i ∷ drop (suc i) ks
@@ -76,3 +85,37 @@ module _ (t : Table) (u : WordUse) (tried : List Key) where
       let h : 2 ≤ length tried = enough t u which.LastTwo tried found in
       targets_are t u which.LastTwo tried found
       ∙ (ap (λ (x : ℕ). drop x tried) (sym e) ∙ two_last tried i j (omega (arith, h, e, f)) (omega (arith, h, e, f)))
+
+-- ---- the first key that is tried
+-- a key that is present is the target of a plan that tries it first
+first_asked : (has : Key → Bool) (k : Key) (next : LookupPlan) → has k ≡ true
+    → (run has (try_key k next)).targets ≡ k ∷ []
+first_asked has k next h =
+    ap (λ (b : Bool). (if b then run has (Gives (k ∷ [])) else run has next).targets) h
+
+-- a word leads to the first key that its lookup tries, if that key is present
+named : (t : Table) (u : WordUse) → LookupLaw
+    → is_key_among (keys_of t) (key (first_kind u.kind) u.text) ≡ true
+    → targets t u ≡ key (first_kind u.kind) u.text ∷ []
+named t u law h = ap (λ (f : Found). f.targets) (sym (law t u)) ∙ by u.kind h
+  where
+    by : (k : WordKind) → is_key_among (keys_of t) (key (first_kind k) u.text) ≡ true
+        → (run (is_key_among (keys_of t)) (plan k u.text)).targets ≡ key (first_kind k) u.text ∷ []
+    by word_kind.Plain e =
+        first_asked (is_key_among (keys_of t)) (key key_kind.Unit u.text)
+        (try_key (key key_kind.Func u.text) (try_parts u.text (Gives []))) e
+    by word_kind.Call e =
+        first_asked (is_key_among (keys_of t)) (key key_kind.Func u.text)
+        (try_key (key key_kind.Unit u.text) (try_parts u.text (Gives []))) e
+    by word_kind.Inverse e = first_asked (is_key_among (keys_of t)) (key key_kind.Func u.text) (Gives []) e
+
+-- the same in a deck in which that key has a line in force
+pub named_by : (d : Contents) (u : WordUse) → LookupLaw → (k : Kind) (text : List ℕ) (place : ℕ)
+    → k ≡ first_kind u.kind → text ≡ u.text → last_place d.settings d.lines (key k text) ≡ Some place
+    → (answer : Kind) → Some k ≡ Some answer → targets (table d) u ≡ key answer u.text ∷ []
+named_by d u law k text place is_first is_word found answer chosen =
+    let same : is_key_among (keys_of (table d)) (key k text)
+    ≡ is_key_among (keys_of (table d)) (key (first_kind u.kind) u.text) =
+    λ i. is_key_among (keys_of (table d)) (key (is_first i) (is_word i)) in
+    named (table d) u law (sym same ∙ placed_among d (key k text) place found)
+    ∙ ap (λ (z : Kind). key z u.text ∷ []) (sym is_first ∙ same_Some k answer chosen)

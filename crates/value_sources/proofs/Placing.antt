@@ -4,13 +4,16 @@ use Rattle.std.proofs.Common.{subst}
 use Rattle.std.proofs.Common.{◌∙◌, arith, append_assoc, Option, Some, None, length-append, option_map, slice_get}
 use Rattle.std.proofs.Common.{reverse}
 use Rattle.std.proofs.lemmas.List.{reverse-append}
+use Rattle.std.proofs.lemmas.Map.Made.{is_some-lookup, keys_of-map_values}
 use Rattle.std.proofs.lemmas.Option.{same_Some, slice_get_within}
 use Rattle.std.specs.Bool.{⊤}
+use Rattle.std.specs.List.{list_any}
 use Rattle.std.specs.Map.{lookup}
 use Rattle.std.specs.Option.{is_some, option_and_then}
 use Rattle.def_entry.specs.declared.key.Key.{Key}
 use Rattle.def_entry.specs.Entries.{Entry}
-use Rattle.def_entry.specs.SameKeys.{is_same}
+use Rattle.def_entry.specs.SameKeys.{is_key_among, is_same}
+use Rattle.def_entry.specs.Tables.{keys_of}
 use Rattle.def_entry.proofs.SameKeys.{same_keys}
 use Rattle.deck_lines.specs.Readings.{entry_in}
 use Rattle.deck_lines.specs.Stores.{definition_at}
@@ -109,6 +112,21 @@ place_present ds k = by (lookup (is_same k) ds) ∙ ap is_some (sym (entry_found
     by : (o : Option (ℕ × Entry)) → is_some (option_map (λ v. v.0) o) ≡ is_some (option_map (λ v. v.1) o)
     by None = refl
     by (Some v) = refl
+
+-- a key has a place exactly if it is among those of the table
+pub placed : (ds : Definitions) (k : Key) → is_some (place_of ds k) ≡ is_key_among (keys_of (table_of ds)) k
+placed ds k =
+    by (lookup (is_same k) ds)
+    ∙ (is_some-lookup (is_same k) ds ∙ ap (list_any (is_same k)) (sym (keys_of-map_values (λ p. p.1) ds)))
+  where
+    by : (o : Option (ℕ × Entry)) → is_some (option_map (λ v. v.0) o) ≡ is_some o
+    by None = refl
+    by (Some v) = refl
+
+-- a key that has a line in force is among those of the table
+pub placed_among : (d : Contents) (k : Key) (place : ℕ) → last_place d.settings d.lines k ≡ Some place
+    → is_key_among (keys_of (table d)) k ≡ true
+placed_among d k place e = sym (placed (active_definitions d.settings d.lines) k) ∙ ap is_some e
 
 -- a key that has an entry has a line in force
 pub no_entry : (d : Contents) (k : Key) → last_place d.settings d.lines k ≡ None → is_present (table d) k ≡ true → ⊥

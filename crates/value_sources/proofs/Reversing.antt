@@ -1,13 +1,20 @@
 -- Mentions on a stack, the next one last.
 use Rattle.std.proofs.Common.{◌≡◌, ◌++◌, ◌∷◌, ◌+◌, ◌<◌, [], ℕ, List, drop, length, get_or, reverse, sym, ap, ◌∙◌, refl}
-use Rattle.std.proofs.Common.{append_assoc}
+use Rattle.std.proofs.Common.{Bool, true, append_assoc}
+use Rattle.std.specs.Prelude.{if◌then◌else◌}
+use Rattle.std.specs.Str.{bytes_eq}
 use Rattle.std.proofs.lemmas.List.{at_drop_more, reverse-append, reverse-reverse}
+use Rattle.std.proofs.lemmas.Slice.Eq.{bytes_eq-Decides}
+use Rattle.expr_tree.specs.declared.word_list.WordKind.{WordKind}
 use Rattle.expr_tree.specs.declared.word_list.WordUse.{WordUse}
-use Rattle.def_entry.specs.declared.key.Key.{Key}
+use Rattle.def_entry.specs.declared.key.Kind.{Kind}
+use Rattle.def_entry.specs.Keys.{key}
 use Rattle.def_entry.specs.Tables.{Table}
 use Rattle.table_names.specs.Leads.{targets}
+use Rattle.value_sources.specs.declared.resolution.Resolution.TheVariants.{Name, Plural}
 use Rattle.value_sources.specs.declared.site.Site.{Site}
-use Rattle.value_sources.specs.Mentions.{Mention, mentions, mentions_to}
+use Rattle.value_sources.specs.Examples.{mention_by_name}
+use Rattle.value_sources.specs.Mentions.{Mention, mention_by, mentions, mentions_to}
 use Rattle.value_sources.specs.Uses.{Use, use_at, uses_at}
 
 module _ {A : Type 0} where
@@ -28,14 +35,14 @@ module _ {A : Type 0} where
 
 -- the mentions of one more word are appended
 pub mentions_next : (t : Table) (depth : ℕ) (s : Site) (words : List WordUse) (i : ℕ) (d : WordUse) → i < length words
-    → (ns : List Key) → targets t (get_or words i d) ≡ ns → (before now all : List Mention)
-    → now ≡ before ++ mentions_to depth (use_at s (get_or words i d)) ns
+    → (before now all : List Mention)
+    → now ≡ before ++ mentions_to depth (use_at s (get_or words i d)) (targets t (get_or words i d))
     → before ++ mentions t depth (uses_at s (drop i words)) ≡ all
     → now ++ mentions t depth (uses_at s (drop (i + 1) words)) ≡ all
-mentions_next t depth s words i d lt ns led before now all n h =
+mentions_next t depth s words i d lt before now all n h =
     let u : Use = use_at s (get_or words i d) in
     let rest : List Mention = mentions t depth (uses_at s (drop (i + 1) words)) in
-    ap (λ (ms : List Mention). ms ++ rest) (n ∙ ap (λ (ks : List Key). before ++ mentions_to depth u ks) (sym led))
+    ap (λ (ms : List Mention). ms ++ rest) n
     ∙ (append_assoc before (mentions_to depth u (targets t (get_or words i d))) rest
     ∙ (ap (λ (ms : List Mention). before ++ ms)
     (sym (at_drop_more (λ (ws : List WordUse). mentions t depth (uses_at s ws)) words i d lt)) ∙ h))
@@ -61,3 +68,12 @@ mentions_four t depth a b c e zero one two three four p q r s =
         g ∙ (ap (λ (ms : List Mention). ms ++ mentions t depth y) f
         ∙ (append_assoc zero (mentions t depth x) (mentions t depth y)
         ∙ ap (λ (ms : List Mention). zero ++ ms) (sym (mentions_both t depth x y))))
+
+-- the mention of a key by its name is the only mention of a word that leads to this key alone
+pub mention_named : (depth : ℕ) (s : Site) (u : WordUse) (kind : Kind) (text : List ℕ) (w : WordKind) → text ≡ u.text
+    → w ≡ u.kind
+    → mention_by_name depth s w (key kind text) ∷ [] ≡ mentions_to depth (use_at s u) (key kind u.text ∷ [])
+mention_named depth s u kind text w is_text is_kind =
+    let same : bytes_eq u.text u.text ≡ true = (bytes_eq-Decides u.text u.text).1 refl in
+    (λ i. mention_by_name depth s (is_kind i) (key kind (is_text i)) ∷ [])
+    ∙ ap (λ (b : Bool). mention_by (if b then Name else Plural) depth (use_at s u) (key kind u.text) ∷ []) (sym same)

@@ -1,6 +1,9 @@
 -- The keys that a word leads to, as the code represents them.
 use Rattle.std.specs.Prelude.{ℕ, List, [], ◌∷◌, slice_index_or}
+use Rattle.expr_tree.specs.declared.word_list.WordKind.{WordKind}
+use Rattle.expr_tree.specs.declared.word_list.WordKind.TheVariants as word_kind
 use Rattle.def_entry.specs.declared.key.Key.{Key}
+use Rattle.def_entry.specs.declared.key.Kind.{Kind}
 use Rattle.def_entry.specs.declared.key.Kind.TheVariants as kind
 use Rattle.def_entry.specs.Keys.{key}
 use Rattle.value_sources.specs.declared.word_keys.Lead.{Lead}
@@ -14,3 +17,9 @@ lead_keys (Two n m) = n ∷ m ∷ []
 -- the key at a place; its name is empty beyond the last
 abbrev pub key_at_place : List Key → ℕ → Key
 key_at_place keys n = slice_index_or keys n (key kind.Unit [])
+
+-- the kind of the key that the lookup of a word tries first
+abbrev pub first_kind : WordKind → Kind
+first_kind word_kind.Plain = kind.Unit
+first_kind word_kind.Call = kind.Func
+first_kind word_kind.Inverse = kind.Func

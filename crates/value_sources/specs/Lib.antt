@@ -1,9 +1,14 @@
+pub mod Calls
 pub mod Cycles
 pub mod Examples
+pub mod FailedSteps
+pub mod Joinings
 pub mod Laws
 pub mod Leads
 pub mod Mentions
 pub mod Rows
+pub mod StepExamples
+pub mod StepFaults
 pub mod TriedKeys
 pub mod Uses
 pub mod Values

@@ -19,6 +19,12 @@ pub record Mention : Type 0 where
   pub resolution : Resolution
   pub target : Option Key
 
+-- the text of a word that is not stored if it is the name of its key
+abbrev pub written : (word : Option (List ℕ)) → Option Key → List ℕ
+written (Some word) key = word
+written None (Some n) = n.name
+written None None = []
+
 abbrev pub unknown_mention : ℕ → Use → Mention
 unknown_mention depth u =
     record { depth = depth; site = u.site; word = u.word; resolution = Unknown; target = None }

@@ -85,7 +85,7 @@ fn line_of(deck: &Deck, key: Option<&Key>) -> Option<usize>
     }
 }
 
-// Whether the line at a place is that of a key on the path.
+// Returns whether the line at a place is that of a key on the path.
 fn is_open(depths: &[usize], places: &[usize], place: usize) -> bool
     requires { place < length depths.now }
     ensures { result ≡ spec.is_open depths.now places.now place }

@@ -12,10 +12,10 @@ ghost use Rattle.value_sources.specs.Uses as uses;
 
 use crate::lookup::Lookup;
 use crate::mention::{Location, Mention};
+use crate::scratch::Scratch;
 use crate::site::Site;
-use crate::tried_keys::TriedKeys;
 use def_entry::{FunctionDef, What};
-use expr_tree::{Tree, WordKind, WordUse, Words, words};
+use expr_tree::{Tree, WordKind, WordUse, put_words};
 use std::alloc::AllocError;
 use units_io::Text;
 
@@ -23,21 +23,21 @@ impl<'a> Lookup<'a> {
     /// Appends the mentions of the words of an entry, tree after tree. The only error is lack of memory.
     pub(crate) fn put_entry_mentions(
         &self,
-        tried: &mut TriedKeys,
+        scratch: &mut Scratch<'a>,
         mentions: &mut Vec<Mention>,
         depth: usize,
-        what: &What,
+        what: &'a What,
     ) -> Result<(), AllocError>
         ensures { OnOk result (mentions.new.items ≡ mentions.old.items
             ++ spec.mentions (table self.now.deck.now) depth (uses.what_uses (what_view what.now))) }
     {
         match what {
             What::Primitive | What::Dimensionless | What::ListOf(_) => Ok(()),
-            What::Body(tree) => self.put_tree(tried, mentions, at(depth, Site::Body), tree),
-            What::Function(function) => self.put_function(tried, mentions, depth, function),
-            What::Alias(target) => self.put_alias(tried, mentions, depth, target),
+            What::Body(tree) => self.put_tree(scratch, mentions, at(depth, Site::Body), tree),
+            What::Function(function) => self.put_function(scratch, mentions, depth, function),
+            What::Alias(target) => self.put_alias(scratch, mentions, depth, target),
             What::Table(table) => {
-                self.put_tree(tried, mentions, at(depth, Site::TableUnit), &table.unit)
+                self.put_tree(scratch, mentions, at(depth, Site::TableUnit), &table.unit)
             }
         }
     }
@@ -45,28 +45,28 @@ impl<'a> Lookup<'a> {
     // Appends the mentions of the words of the trees of a function.
     fn put_function(
         &self,
-        tried: &mut TriedKeys,
+        scratch: &mut Scratch<'a>,
         mentions: &mut Vec<Mention>,
         depth: usize,
-        function: &FunctionDef,
+        function: &'a FunctionDef,
     ) -> Result<(), AllocError>
         ensures { OnOk result (mentions.new.items ≡ mentions.old.items
             ++ spec.mentions (table self.now.deck.now) depth (uses.function_uses (function_view function.now))) }
     {
         let in_unit = function.in_unit.as_ref();
-        self.put_tree_if(tried, mentions, at(depth, Site::InUnit), in_unit)?;
+        self.put_tree_if(scratch, mentions, at(depth, Site::InUnit), in_unit)?;
         let out_unit = function.out_unit.as_ref();
-        self.put_tree_if(tried, mentions, at(depth, Site::OutUnit), out_unit)?;
+        self.put_tree_if(scratch, mentions, at(depth, Site::OutUnit), out_unit)?;
         let forward = &function.forward;
-        self.put_tree(tried, mentions, at(depth, Site::Forward), forward)?;
+        self.put_tree(scratch, mentions, at(depth, Site::Forward), forward)?;
         let inverse = function.inverse.as_ref();
-        self.put_tree_if(tried, mentions, at(depth, Site::Inverse), inverse)
+        self.put_tree_if(scratch, mentions, at(depth, Site::Inverse), inverse)
     }
 
     // Appends the mention of the function that an alias names.
     fn put_alias(
         &self,
-        tried: &mut TriedKeys,
+        scratch: &mut Scratch<'a>,
         mentions: &mut Vec<Mention>,
         depth: usize,
         target: &Text,
@@ -74,44 +74,48 @@ impl<'a> Lookup<'a> {
         ensures { OnOk result (mentions.new.items ≡ mentions.old.items
             ++ spec.mentions (table self.now.deck.now) depth (uses.alias_uses target.now)) }
     {
-        let mut words = Words::new(self.alloc);
         let word = WordUse::new(target.as_bytes(), WordKind::Inverse);
-        words.push(self.alloc, word)?;
-        self.put_mentions(tried, mentions, at(depth, Site::AliasTarget), &words)
+        self.put_word(
+            &mut scratch.tried,
+            mentions,
+            at(depth, Site::AliasTarget),
+            &word,
+        )
     }
 
     // Appends the mentions of the words of a tree, if there is one.
     fn put_tree_if(
         &self,
-        tried: &mut TriedKeys,
+        scratch: &mut Scratch<'a>,
         mentions: &mut Vec<Mention>,
         location: Location,
-        tree: Option<&Tree>,
+        tree: Option<&'a Tree>,
     ) -> Result<(), AllocError>
         ensures { OnOk result (mentions.new.items ≡ mentions.old.items
             ++ spec.mentions (table self.now.deck.now) location.depth
             (uses.uses_at location.site (words_if (option_map syntax (option_copied tree.entry))))) }
     {
         match tree {
-            Some(tree) => self.put_tree(tried, mentions, location, tree),
+            Some(tree) => self.put_tree(scratch, mentions, location, tree),
             None => Ok(()),
         }
     }
 
-    // Appends the mentions of the words of a tree.
-    fn put_tree(
+    /// Appends the mentions of the words of a tree. The only error is lack of memory.
+    pub(crate) fn put_tree(
         &self,
-        tried: &mut TriedKeys,
+        scratch: &mut Scratch<'a>,
         mentions: &mut Vec<Mention>,
         location: Location,
-        tree: &Tree,
+        tree: &'a Tree,
     ) -> Result<(), AllocError>
         ensures { OnOk result (mentions.new.items ≡ mentions.old.items
             ++ spec.mentions (table self.now.deck.now) location.depth
             (uses.uses_at location.site (words_in (syntax tree.now)))) }
     {
-        let words = words(self.alloc, tree)?;
-        self.put_mentions(tried, mentions, location, &words)
+        scratch.words.clear();
+        put_words(self.alloc, &mut scratch.words, tree)?;
+        self.put_mentions(&mut scratch.tried, mentions, location, &scratch.words)
     }
 }
 

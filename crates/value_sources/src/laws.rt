@@ -1,11 +1,13 @@
-//! Laws of rows.
+//! Laws of rows, of values and of failed steps.
 
 ghost use Rattle.value_sources.specs.Examples.{SourceExamplesLaw};
 ghost use Rattle.value_sources.specs.Laws.{SourceRowsLaw};
+ghost use Rattle.value_sources.specs.StepExamples.{StepExamplesLaw};
+ghost use Rattle.value_sources.specs.StepFaults.{FailedStepLaw};
 ghost use Rattle.value_sources.specs.Uses.{UsesLaw};
 ghost use Rattle.value_sources.specs.Values.{ValueLaw};
 
-use table_names::{closed_law, closed_meaning_law};
+use table_names::{closed_law, closed_meaning_law, kind_law};
 
 /// An expression has exactly one list of rows, and the keys that they visit are exactly those that it reaches, each
 /// once.
@@ -30,3 +32,16 @@ pub fn value_law()
     closed_law();
     closed_meaning_law();
 }
+
+/// If an expression has a value fault, that fault is the fault of its failed step, if there is one.
+pub fn failed_step_law()
+    ensures { FailedStepLaw }
+{
+    closed_law();
+    kind_law();
+}
+
+/// An expression has the calls, and another the failed step, that were found by hand.
+pub fn step_examples_law()
+    ensures { StepExamplesLaw }
+{}

@@ -1,6 +1,6 @@
 //! Words together with the keys that they lead to.
 
-ghost use Rattle.std.specs.Prelude.{◌≡◌};
+ghost use Rattle.std.specs.Prelude.{◌≡◌, Some};
 ghost use Rattle.std.specs.Option.{option_copied};
 
 use crate::resolution::Resolution;
@@ -21,7 +21,8 @@ pub(crate) struct Location {
 #[derive(Drop)]
 pub(crate) struct Mention {
     location: Location,
-    word: Text,
+    // The word, or `None` if it is the name of the key.
+    word: Option<Text>,
     word_kind: WordKind,
     resolution: Resolution,
     key: Option<Key>,
@@ -35,7 +36,7 @@ impl Model for Mention {
     ghost view = { λ m. record {
       depth = m.location.depth;
       site = m.location.site;
-      word = record { text = m.word; kind = m.word_kind };
+      word = record { text = spec.written m.word m.key; kind = m.word_kind };
       resolution = m.resolution;
       target = m.key;
     } };
@@ -60,10 +61,34 @@ impl Mention {
     {
         Mention {
             location,
-            word,
+            word: Some(word),
             word_kind,
             resolution,
             key,
+        }
+    }
+
+    /// Creates a mention of a key by its name.
+    pub(crate) fn named(
+        location: Location,
+        word_kind: WordKind,
+        resolution: Resolution,
+        key: Key,
+    ) -> Mention
+        ensures { result ≡ record {
+          depth = location.depth;
+          site = location.site;
+          word = record { text = key.name; kind = word_kind };
+          resolution = resolution;
+          target = Some key;
+        } }
+    {
+        Mention {
+            location,
+            word: None,
+            word_kind,
+            resolution,
+            key: Some(key),
         }
     }
 
@@ -85,7 +110,11 @@ impl Mention {
     pub(crate) fn word(&self) -> &[u8]
         ensures { result.now ≡ self.now.word.text }
     {
-        self.word.as_bytes()
+        match (&self.word, &self.key) {
+            (Some(word), _) => word.as_bytes(),
+            (None, Some(key)) => key.name.as_bytes(),
+            (None, None) => b"".as_slice(),
+        }
     }
 
     /// How the word is used.

@@ -1,7 +1,9 @@
 //! The mentions of words.
 
-ghost use Rattle.std.specs.Prelude.{◌≡◌, ◌++◌, ◌∷◌, [], IfOk, OnOk, reverse};
+ghost use Rattle.std.specs.Prelude.{◌≡◌, ◌++◌, ◌∷◌, [], IfOk, OnOk, Some, reverse};
 ghost use Rattle.deck.specs.Tables.{table};
+ghost use Rattle.def_entry.specs.Keys.{key};
+ghost use Rattle.table_names.specs.Leads.{targets};
 ghost use Rattle.value_sources.specs.Leads.{lead_keys};
 ghost use Rattle.value_sources.specs.Mentions as spec;
 ghost use Rattle.value_sources.specs.Uses.{use_at, uses_at};
@@ -11,7 +13,7 @@ use crate::mention::{Location, Mention};
 use crate::resolution::Resolution;
 use crate::tried_keys::TriedKeys;
 use crate::word_keys::Lead;
-use def_entry::Key;
+use def_entry::{Key, Kind};
 use expr_tree::{WordUse, Words};
 use std::alloc::{AllocError, Global};
 use units_io::Text;
@@ -29,24 +31,60 @@ impl<'a> Lookup<'a> {
             ++ spec.mentions (table self.now.deck.now) location.depth (uses_at location.site words.now)) }
     {
         for word in words.as_slice() {
-            let lead = self.keys_of_word(tried, word)?;
-            put_lead(self.alloc, mentions, location, word, lead)?;
+            self.put_word(tried, mentions, location, word)?;
         }
         Ok(())
+    }
+
+    /// Appends the mentions of a word. Most words are the names of their keys, and then one lookup is enough. The only
+    /// error is lack of memory.
+    pub(crate) fn put_word(
+        &self,
+        tried: &mut TriedKeys,
+        mentions: &mut Vec<Mention>,
+        location: Location,
+        word: &WordUse,
+    ) -> Result<(), AllocError>
+        ensures { OnOk result (mentions.new.items ≡ mentions.old.items
+            ++ spec.mentions_to location.depth (use_at location.site word.now)
+            (targets (table self.now.deck.now) word.now)) }
+    {
+        if let Some(kind) = self.named_kind(word) {
+            return put_named(self.alloc, mentions, location, word, kind);
+        }
+        let lead = self.keys_of_word(tried, word)?;
+        put_lead(self.alloc, mentions, location, word, lead)
     }
 }
 
 /// Moves mentions to the end of `pending`, the last one first.
 pub(crate) fn push_reversed(
     pending: &mut Vec<Mention>,
-    mut mentions: Vec<Mention>,
+    mentions: &mut Vec<Mention>,
 ) -> Result<(), AllocError>
-    ensures { OnOk result (pending.new.items ≡ pending.old.items ++ reverse mentions.items) }
+    ensures { OnOk result (pending.new.items ≡ pending.old.items ++ reverse mentions.old.items) }
 {
     while let Some(mention) = mentions.pop() {
         pending.push(mention)?;
     }
     Ok(())
+}
+
+// Appends the mention of a word that is the name of its key, which has this kind.
+fn put_named(
+    alloc: Global,
+    mentions: &mut Vec<Mention>,
+    location: Location,
+    word: &WordUse,
+    kind: Kind,
+) -> Result<(), AllocError>
+    ensures { OnOk result (mentions.new.items ≡ mentions.old.items
+        ++ spec.mentions_to location.depth (use_at location.site word.now) (key kind word.now.text ∷ [])) }
+{
+    let name = Text::from_bytes(alloc, word.text())?;
+    let key = Key { kind, name };
+    let mention = Mention::named(location, word.kind(), Resolution::Name, key);
+    push_mention(mentions, mention)
 }
 
 // Appends the mentions of a word with this lead.
@@ -66,8 +104,7 @@ fn put_lead(
             push_mention(mentions, mention)
         }
         Lead::One(key) => {
-            let resolution = sole_resolution(word, &key);
-            let mention = mention(alloc, location, word, resolution, Some(key))?;
+            let mention = sole_mention(alloc, location, word, key)?;
             push_mention(mentions, mention)
         }
         Lead::Two(prefix, unit) => {
@@ -79,15 +116,25 @@ fn put_lead(
     }
 }
 
-// Returns how a word leads to a key that is its only one.
-fn sole_resolution(word: &WordUse, key: &Key) -> Resolution
-    ensures { result ≡ spec.sole_resolution word.now key.now }
+// Returns the mention of the only key that a word leads to.
+fn sole_mention(
+    alloc: Global,
+    location: Location,
+    word: &WordUse,
+    key: Key,
+) -> Result<Mention, AllocError>
+    ensures { IfOk result (λ mention. mention ≡ record {
+      depth = location.depth;
+      site = location.site;
+      word = word.now;
+      resolution = spec.sole_resolution word.now key;
+      target = Some key;
+    }) }
 {
     if word.text() == key.name.as_bytes() {
-        Resolution::Name
-    } else {
-        Resolution::Plural
+        return Ok(Mention::named(location, word.kind(), Resolution::Name, key));
     }
+    mention(alloc, location, word, Resolution::Plural, Some(key))
 }
 
 // Creates a mention of a key, or of none.

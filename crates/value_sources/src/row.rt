@@ -1,7 +1,7 @@
 //! The rows of the tree below an expression.
 
 ghost use Rattle.std.specs.Prelude.{◌≡◌};
-ghost use Rattle.std.specs.Option.{option_copied};
+ghost use Rattle.std.specs.Option.{is_some, option_copied};
 ghost use Rattle.expr_tree.specs.Names as names;
 
 use crate::mention::Mention;
@@ -16,23 +16,25 @@ use std::marker::Model;
 #[derive(Drop)]
 pub struct Row {
     mention: Mention,
-    is_visit: bool,
+    // The place of the line in force of the key, if the row visits it.
+    place: Option<usize>,
 }
 
 impl Model for Row {
+    ghost use Rattle.std.specs.Option.{is_some};
     ghost use Rattle.value_sources.specs.Rows as spec;
 
     ghost Value = { spec.Row };
 
-    ghost view = { λ r. record { mention = r.mention; is_visit = r.is_visit } };
+    ghost view = { λ r. record { mention = r.mention; is_visit = is_some r.place } };
 }
 
 impl Row {
-    // Creates the row of a mention.
-    pub(crate) fn new(mention: Mention, is_visit: bool) -> Row
-        ensures { result ≡ record { mention = mention; is_visit = is_visit } }
+    // Creates the row of a mention. It visits its key if there is a place.
+    pub(crate) fn new(mention: Mention, place: Option<usize>) -> Row
+        ensures { result ≡ record { mention = mention; is_visit = is_some place } }
     {
-        Row { mention, is_visit }
+        Row { mention, place }
     }
 
     /// The number of entries that contain the word: 0 in the expression itself, 1 in the entry of a key of the
@@ -91,6 +93,14 @@ impl Row {
     pub fn is_visit(&self) -> bool
         ensures { result ≡ self.now.is_visit }
     {
-        self.is_visit
+        self.place.is_some()
+    }
+
+    /// Returns the place in the deck of the line in force of the key, if the key is mentioned for the first time. No
+    /// contract says which place that is.
+    pub fn place(&self) -> Option<usize>
+        ensures { is_some result ≡ self.now.is_visit }
+    {
+        self.place
     }
 }

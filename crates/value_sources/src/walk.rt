@@ -16,10 +16,10 @@ use crate::lookup::Lookup;
 use crate::mention::{Location, Mention};
 use crate::mentions::push_reversed;
 use crate::row::Row;
+use crate::scratch::Scratch;
 use crate::site::Site;
-use crate::tried_keys::TriedKeys;
 use def_entry::Key;
-use expr_tree::{Tree, words};
+use expr_tree::Tree;
 use live_table::LiveTable;
 use name_lookup::targets_are_present;
 use std::alloc::{AllocError, Global};
@@ -28,7 +28,7 @@ use std::alloc::{AllocError, Global};
 /// leads to. The rows of the words of an entry follow the first row of its key. The cost is proportional to the words
 /// of these entries: no entry is read twice, the table is not queried, and nothing recurses. The only error is lack of
 /// memory.
-pub fn rows(alloc: Global, table: &LiveTable, tree: &Tree) -> Result<Vec<Row>, AllocError>
+pub fn rows<'a>(alloc: Global, table: &'a LiveTable, tree: &'a Tree) -> Result<Vec<Row>, AllocError>
     ensures { IfOk result (λ rows.
         spec.AreRowsOf (tables.table table.now.deck) (words_in (syntax tree.now)) rows.items) }
 {
@@ -48,26 +48,29 @@ pub fn rows(alloc: Global, table: &LiveTable, tree: &Tree) -> Result<Vec<Row>, A
 // The rows so far, and the pending mentions, the next one last. A line of the deck is marked if the key for which it is
 // in force was visited.
 #[derive(Drop)]
-struct Walk {
-    tried: TriedKeys,
+struct Walk<'a> {
+    scratch: Scratch<'a>,
+    // The mentions of the last visited entry. Their memory is reused for the next entry.
+    found: Vec<Mention>,
     marks: Vec<bool>,
     pending: Vec<Mention>,
     rows: Vec<Row>,
 }
 
-impl Walk {
+impl<'a> Walk<'a> {
     // Returns the walk over an expression before its first row.
-    fn begin(lookup: &Lookup, tree: &Tree) -> Result<Walk, AllocError>
+    fn begin(lookup: &Lookup<'a>, tree: &'a Tree) -> Result<Walk<'a>, AllocError>
         ensures marked { IfOk result (λ walk. AreMarked lookup.now.deck.now walk.marks.items []) }
         ensures rows { IfOk result (λ walk. walk.rows.items ≡ []) }
         ensures pending { IfOk result (λ walk. reverse walk.pending.items
             ≡ spec.first_mentions (tables.table lookup.now.deck.now) (words_in (syntax tree.now))) }
     {
-        let mut tried = TriedKeys::new(lookup.alloc);
-        let pending = first_mentions(lookup, &mut tried, tree)?;
+        let mut scratch = Scratch::new(lookup.alloc);
+        let pending = first_mentions(lookup, &mut scratch, tree)?;
         let marks = no_marks(lookup)?;
         Ok(Walk {
-            tried,
+            scratch,
+            found: Vec::new(lookup.alloc),
             marks,
             pending,
             rows: Vec::new(lookup.alloc),
@@ -75,7 +78,7 @@ impl Walk {
     }
 
     // Appends the row of the next mention and, if the row visits its key, pushes the mentions of the entry of the key.
-    fn step(&mut self, lookup: &Lookup, mention: Mention) -> Result<(), AllocError>
+    fn step(&mut self, lookup: &Lookup<'a>, mention: Mention) -> Result<(), AllocError>
         requires found { IsFound (tables.table lookup.now.deck.now) mention }
         requires marked { AreMarked lookup.now.deck.now self.old.marks.items self.old.rows.items }
         ensures marked { OnOk result (AreMarked lookup.now.deck.now self.new.marks.items self.new.rows.items) }
@@ -86,33 +89,32 @@ impl Walk {
     {
         targets_are_present();
         let Some(place) = unvisited_place(lookup, &self.marks, mention.key()) else {
-            return put_row(&mut self.rows, Row::new(mention, false));
+            return put_row(&mut self.rows, Row::new(mention, None));
         };
         self.marks[place] = true;
-        let mentions = entry_mentions(lookup, &mut self.tried, &mention, place)?;
-        push_reversed(&mut self.pending, mentions)?;
-        put_row(&mut self.rows, Row::new(mention, true))
+        put_found(lookup, &mut self.scratch, &mut self.found, &mention, place)?;
+        push_reversed(&mut self.pending, &mut self.found)?;
+        put_row(&mut self.rows, Row::new(mention, Some(place)))
     }
 }
 
 // Returns the mentions of the words of an expression, the first one last.
-fn first_mentions(
-    lookup: &Lookup,
-    tried: &mut TriedKeys,
-    tree: &Tree,
+fn first_mentions<'a>(
+    lookup: &Lookup<'a>,
+    scratch: &mut Scratch<'a>,
+    tree: &'a Tree,
 ) -> Result<Vec<Mention>, AllocError>
     ensures { IfOk result (λ pending. reverse pending.items
         ≡ spec.first_mentions (tables.table lookup.now.deck.now) (words_in (syntax tree.now))) }
 {
-    let words = words(lookup.alloc, tree)?;
     let location = Location {
         depth: 0,
         site: Site::Expression,
     };
     let mut mentions = Vec::new(lookup.alloc);
-    lookup.put_mentions(tried, &mut mentions, location, &words)?;
+    lookup.put_tree(scratch, &mut mentions, location, tree)?;
     let mut pending = Vec::new(lookup.alloc);
-    push_reversed(&mut pending, mentions)?;
+    push_reversed(&mut pending, &mut mentions)?;
     Ok(pending)
 }
 
@@ -144,15 +146,16 @@ fn unvisited_place(lookup: &Lookup, marks: &[bool], key: Option<&Key>) -> Option
     }
 }
 
-// Returns the mentions of the words of the entry of a key, in order. The entry is found faster if its line is at
-// `place`.
-fn entry_mentions(
-    lookup: &Lookup,
-    tried: &mut TriedKeys,
+// Finds the mentions of the words of the entry of a key, in order. The entry is found faster if its line is at this
+// place.
+fn put_found<'a>(
+    lookup: &Lookup<'a>,
+    scratch: &mut Scratch<'a>,
+    found: &mut Vec<Mention>,
     mention: &Mention,
     place: usize,
-) -> Result<Vec<Mention>, AllocError>
-    ensures { IfOk result (λ mentions. (n : AnyKey) → mention.now.target ≡ Some n → mentions.items
+) -> Result<(), AllocError>
+    ensures { OnOk result ((n : AnyKey) → mention.now.target ≡ Some n → found.new.items
         ≡ mentions_spec.mentions (tables.table lookup.now.deck.now) (mention.now.depth + 1)
         (key_uses (tables.table lookup.now.deck.now) n)) }
 {
@@ -160,18 +163,17 @@ fn entry_mentions(
     let Some(depth) = mention.depth().checked_add(1) else {
         return Err(AllocError);
     };
-    let mut mentions = Vec::new(lookup.alloc);
+    found.clear();
     let Some(key) = mention.key() else {
-        return Ok(mentions);
+        return Ok(());
     };
     let Some(entry) = lookup
         .deck
         .entry_with_hint(place, key.kind, key.name.as_bytes())
     else {
-        return Ok(mentions);
+        return Ok(());
     };
-    lookup.put_entry_mentions(tried, &mut mentions, depth, entry.what)?;
-    Ok(mentions)
+    lookup.put_entry_mentions(scratch, found, depth, entry.what)
 }
 
 // Appends a row.

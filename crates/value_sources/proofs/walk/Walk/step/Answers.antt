@@ -64,8 +64,8 @@ returns-clause-underway c =
     let found = place_found d c.args.self.now.marks.items c.deref.result.now rows c.args.mention.target _
     (Some c.in-Some.place) _ c.requires.marked c.deref.ensures.value c.key.ensures c.in-Some.is
     c.unvisited_place.ensures in
-    let put = pushed_all left now c.in_ok-mentions.mentions.items c.in_ok-push_reversed.ensures
-    ∙ ap (λ (ms : List Mention). ms ++ reverse left) (c.in_ok-mentions.ensures found.0 found.1) in
+    let put = pushed_all left now c.put_found.new.found.items c.in_ok-push_reversed.ensures
+    ∙ ap (λ (ms : List Mention). ms ++ reverse left) (c.in_ok-put_found.ensures found.0 found.1) in
     on_ok c.put_row-2.result
     (λ e start h. subst (λ (rs : List Row). IsUnderway d start rs now)
     (sym (e ∙ ap (λ (r : Row). rows ++ r ∷ []) c.new-2.ensures))

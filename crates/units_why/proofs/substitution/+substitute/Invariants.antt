@@ -1,0 +1,19 @@
+use Rattle.std.proofs.Common.{◌+◌, ◌*◌}
+use Rattle.expr_tree.specs.Trees.{factors_of, factors_syntax, members, syntax, terms, terms_of, trees_of}
+use Rattle.value_sources.proofs.Weights.{weight, weight_factors, weight_members, weight_terms}
+use Rattle.units_why.proofs.substitution.+substitute.Given as goal
+
+abbrev pub decreases-substituted : goal.decreases-substituted
+decreases-substituted l = 2 * weight (syntax l.tree.now)
+
+abbrev pub decreases-boxed : goal.decreases-boxed
+decreases-boxed l = 2 * weight (syntax l.tree.now) + 1
+
+abbrev pub decreases-trees_with : goal.decreases-trees_with
+decreases-trees_with l = 2 * weight_members (members (trees_of l.trees.now)) + 1
+
+abbrev pub decreases-factors_with : goal.decreases-factors_with
+decreases-factors_with l = 2 * weight_factors (factors_syntax (factors_of l.product.now)) + 1
+
+abbrev pub decreases-terms_with : goal.decreases-terms_with
+decreases-terms_with l = 2 * weight_terms (terms (terms_of l.sum.now)) + 1

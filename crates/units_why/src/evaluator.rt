@@ -1,0 +1,85 @@
+//! Evaluates expressions over the table of a run.
+
+ghost use Rattle.reply.specs.Options.{IsPrintable};
+
+use deck::Deck;
+use expr_tree::Tree;
+use live_table::{LiveTable, QueryFault};
+use quantity::Quantity;
+use reply::{Options, ReplyFault, fault_text};
+use std::alloc::{AllocError, Global};
+use std::sync::ledger::Ledger;
+use survey::put_check_block;
+use units_io::{Steps, Text};
+use value_sources::{FailedStep, failed_step};
+
+/// The table of a run, the memory of its queries, and the count of their steps.
+#[derive(Drop)]
+pub(crate) struct Evaluator<L: Ledger> {
+    pub(crate) alloc: Global,
+    pub(crate) table: LiveTable,
+    pub(crate) steps: Steps<L>,
+}
+
+/// The value of an expression, or the text of its fault.
+#[derive(Drop)]
+pub(crate) enum Evaluated {
+    Value(Quantity),
+    Fault(Text),
+}
+
+impl<L: Ledger> Evaluator<L> {
+    /// Returns the deck of the table.
+    pub(crate) fn deck(&self) -> &Deck {
+        self.table.deck()
+    }
+
+    /// Returns the value of an expression, or its fault.
+    pub(crate) fn value(&mut self, tree: &Tree) -> Result<Quantity, QueryFault> {
+        self.table.value(self.alloc, tree, &mut self.steps)
+    }
+
+    /// Returns the value of an expression, or `None` if it has a fault. Fails only if memory runs out.
+    pub(crate) fn value_if_any(&mut self, tree: &Tree) -> Result<Option<Quantity>, AllocError> {
+        self.table.value_if_any(self.alloc, tree, &mut self.steps)
+    }
+
+    /// Returns the step of an expression without a value, if there is one. Fails only if memory runs out.
+    pub(crate) fn failed_step(&mut self, tree: &Tree) -> Result<Option<FailedStep>, AllocError> {
+        failed_step(self.alloc, &mut self.table, tree, &mut self.steps)
+    }
+
+    /// Appends the line of a check report for the key whose line in force is at `place`, if the key has a fault.
+    pub(crate) fn put_check(
+        &mut self,
+        lines: &mut Vec<u8>,
+        options: &Options,
+        place: usize,
+    ) -> Result<(), AllocError>
+        requires { IsPrintable options.now }
+    {
+        // The cached outcomes in the table are correct.
+        self.table.outcomes_are_right();
+        let table = &mut self.table;
+        let steps = &mut self.steps;
+        let _ = put_check_block(self.alloc, lines, table, options, &[place], steps)?;
+        Ok(())
+    }
+
+    /// Evaluates an expression. Fails only if memory runs out.
+    pub(crate) fn evaluate(
+        &mut self,
+        options: &Options,
+        tree: &Tree,
+    ) -> Result<Evaluated, AllocError>
+        requires { IsPrintable options.now }
+    {
+        let fault = match self.value(tree) {
+            Ok(value) => return Ok(Evaluated::Value(value)),
+            Err(QueryFault::Name(fault)) => ReplyFault::Name(fault),
+            Err(QueryFault::Value(fault)) => ReplyFault::Value(fault),
+            Err(QueryFault::OutOfMemory) => return Err(AllocError),
+        };
+        Ok(Evaluated::Fault(fault_text(self.alloc, &fault, options)?))
+    }
+}

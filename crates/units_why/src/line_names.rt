@@ -1,0 +1,114 @@
+//! The names of the files that contain the lines of a deck.
+
+use deck::Deck;
+use def_lines::{LineKind, classify};
+use line_files::{LineFiles, LineFilesFault, find_line_files};
+use memchr::memchr_iter;
+use std::alloc::{AllocError, Global};
+use units_io::{FetchFault, Files, Text};
+
+/// The file of each line of a deck.
+#[derive(Drop)]
+pub(crate) enum LineNames {
+    /// All lines are in the file of this name.
+    One(Text),
+    /// Lines are in these files.
+    Many(LineFiles),
+}
+
+impl LineNames {
+    /// Returns the name of the file of the line at this place.
+    pub(crate) fn name(&self, place: usize) -> Option<&[u8]> {
+        match self {
+            LineNames::One(name) => Some(name.as_bytes()),
+            LineNames::Many(files) => files.name(place),
+        }
+    }
+
+    /// Returns the number of the file of the line at this place.
+    pub(crate) fn file_number(&self, place: usize) -> Option<usize> {
+        match self {
+            LineNames::One(_) => Some(0),
+            LineNames::Many(files) => files.file_number(place),
+        }
+    }
+}
+
+/// Returns the files of the lines of a deck that was loaded from the file `name`, or `None` if the files changed. All
+/// lines of a deck that includes no file are in that file: then it is read again only to test that it still has that
+/// many lines.
+pub(crate) fn line_names<F: Files>(
+    alloc: Global,
+    files: &mut F,
+    name: &[u8],
+    deck: &Deck,
+) -> Result<Option<LineNames>, AllocError> {
+    let text = match files.fetch(alloc, name) {
+        Ok(text) => text,
+        Err(FetchFault::OutOfMemory) => return Err(AllocError),
+        Err(_) => return Ok(None),
+    };
+    if !has_includes(deck) {
+        return sole_name(alloc, name, text.as_bytes(), deck);
+    }
+    let lines = deck.lines().as_slice();
+    match find_line_files(alloc, files, name, text.as_bytes(), lines) {
+        Ok(found) => Ok(Some(LineNames::Many(found))),
+        Err(LineFilesFault::Changed) => Ok(None),
+        Err(LineFilesFault::OutOfMemory) => Err(AllocError),
+    }
+}
+
+// Returns whether a line of a deck includes a file.
+fn has_includes(deck: &Deck) -> bool {
+    for line in deck.lines().as_slice() {
+        if is_include(line.text.as_bytes()) {
+            return true;
+        }
+    }
+    false
+}
+
+// Returns whether a line includes a file. Only a line with a `!` at its start can be a directive.
+fn is_include(line: &[u8]) -> bool {
+    match line.first() {
+        Some(b'!') => matches!(classify(line), LineKind::Include(_)),
+        _ => false,
+    }
+}
+
+// Returns the name of the only file of a deck, or `None` if the file has fewer lines now.
+fn sole_name(
+    alloc: Global,
+    name: &[u8],
+    text: &[u8],
+    deck: &Deck,
+) -> Result<Option<LineNames>, AllocError> {
+    if line_count(text) < last_number(deck) {
+        return Ok(None);
+    }
+    Ok(Some(LineNames::One(Text::from_bytes(alloc, name)?)))
+}
+
+// Counts the lines of a text. A last line without a line feed counts too.
+fn line_count(text: &[u8]) -> usize {
+    let mut count = 0usize;
+    for _ in memchr_iter(b'\n', text) {
+        count = count.saturating_add(1);
+    }
+    match text.last() {
+        None | Some(b'\n') => count,
+        Some(_) => count.saturating_add(1),
+    }
+}
+
+// Returns the largest line number.
+fn last_number(deck: &Deck) -> usize {
+    let mut last = 0;
+    for line in deck.lines().as_slice() {
+        if line.number > last {
+            last = line.number;
+        }
+    }
+    last as usize
+}

@@ -1,0 +1,112 @@
+-- The step at which an expression has no value, with the values of its operands.
+use Rattle.std.specs.Prelude.{Bool, true, false, List, [], ◌∷◌, Option, Some, None, Result, Ok, Err}
+use Rattle.std.specs.Prelude.{if◌then◌else◌}
+use Rattle.frac128.specs.Decimals.{value_of_decimal}
+use Rattle.frac128.specs.Fraction.{Fraction}
+use Rattle.frac128.specs.declared.fault.FracFault.{FracFault}
+use Rattle.expr_tree.specs.declared.word_list.WordUse.{WordUse}
+use Rattle.expr_tree.specs.Syntax.{Syntax, Number, Bar, Word, Argument, Call, Inverse, Root, Group, Negate, Power}
+use Rattle.expr_tree.specs.Syntax.{Juxtaposed, Product, Sum}
+use Rattle.expr_tree.specs.Syntax.{Members, NoMember, Member, Factors, NoFactor, Factor, Terms, NoTerm, Term}
+use Rattle.quantity.specs.Amount.{Amount}
+use Rattle.quantity.specs.declared.fault.QuantityFault.{QuantityFault}
+use Rattle.def_entry.specs.declared.key.Key.{Key}
+use Rattle.def_entry.specs.declared.key.Kind.{Kind}
+use Rattle.def_entry.specs.declared.key.Kind.TheVariants as kind
+use Rattle.def_entry.specs.Tables.{Table}
+use Rattle.tree_eval.specs.declared.step.Step.{Step}
+use Rattle.tree_eval.specs.declared.step.Step.TheVariants.{Multiply, Divide}
+use Rattle.tree_eval.specs.Expansion.{called_word, inverted_word, scale_step, sign_step}
+use Rattle.tree_eval.specs.Steps.{plain_number, step_of}
+use Rattle.table_names.specs.Leads.{targets}
+use Rattle.live_table.specs.Answers.{answer, value_in}
+use Rattle.value_sources.specs.declared.failure.FailedStep.{FailedStep}
+use Rattle.value_sources.specs.declared.failure.FailedStep.TheVariants.{Called, Inverted, Joined, Raised, Rooted}
+
+-- the value of an expression, if a query of it alone answers with one
+unfoldable pub value_of_tree : Table → Syntax → Option Amount
+value_of_tree table e = value_in (answer table e)
+
+abbrev pub is_function_kind : Kind → Bool
+is_function_kind kind.Func = true
+is_function_kind _ = false
+
+-- whether these keys are a single function
+abbrev pub are_function : List Key → Bool
+are_function (n ∷ []) = is_function_kind n.kind
+are_function _ = false
+
+-- whether a word leads to a function
+unfoldable pub is_function_word : Table → WordUse → Bool
+is_function_word table u = are_function (targets table u)
+
+-- the failed step from a member on: the one inside the member if it has no value, or else the one after its value
+abbrev pub after : Option Amount → (inside : Option FailedStep) → (Amount → Option FailedStep) → Option FailedStep
+after None inside next = inside
+after (Some v) inside next = next v
+
+-- the step from a running value to one more member if it has no value, or else the failed step after it
+abbrev pub unless_joined : Step → (left right : Amount) → Result Amount QuantityFault → (Amount → Option FailedStep)
+    → Option FailedStep
+unless_joined step left right (Ok v) next = next v
+unless_joined step left right (Err fault) next = Some (Joined step left right)
+
+-- the failed step from one more member on: the first member is the running value, and each further one is joined to it
+abbrev pub joined : Step → (running : Option Amount) → Amount → (Amount → Option FailedStep) → Option FailedStep
+joined step None right next = next right
+joined step (Some left) right next = unless_joined step left right (step_of step left right) next
+
+-- the failed step of the product of a word that is no function and its operand, by their values
+abbrev pub multiplied : (word operand : Option Amount) → (inside : Option FailedStep) → Option FailedStep
+multiplied word operand inside =
+    after word None (λ left. after operand inside (λ right. Some (Joined Multiply left right)))
+
+-- the quotient of two numerals that each have a value
+abbrev pub quotient_step : Result Fraction FracFault → Result Fraction FracFault → Option FailedStep
+quotient_step (Ok x) (Ok y) = Some (Joined Divide (plain_number x) (plain_number y))
+quotient_step _ _ = None
+
+-- is_function: whether a word is a function; value: the value of an expression, if it has one
+module _ (is_function : WordUse → Bool) (value : Syntax → Option Amount) where
+  abbrev mutual
+    -- the first step of an expression, from left to right, that has no value although its operands have values; None
+    -- if there is no such step, because a word has no value or a numeral is out of range. The expression has no value
+    pub failed : Syntax → Option FailedStep
+    failed (Number x) = None
+    failed (Bar x y) = quotient_step (value_of_decimal x) (value_of_decimal y)
+    failed (Word w) = None
+    failed Argument = None
+    failed (Call w e) =
+        if is_function (called_word w) then after (value e) (failed e) (λ v. Some (Called w v))
+        else multiplied (value (Word w)) (value e) (failed e)
+    failed (Inverse w e) =
+        if is_function (inverted_word w) then after (value e) (failed e) (λ v. Some (Inverted w v))
+        else multiplied (value (Word w)) (value e) (failed e)
+    failed (Root kind e) = after (value e) (failed e) (λ v. Some (Rooted kind v))
+    failed (Group e) = failed e
+    failed (Negate e) = failed e
+    failed (Power e f) =
+        after (value e) (failed e) (λ base. after (value f) (failed f) (λ exponent. Some (Raised base exponent)))
+    failed (Juxtaposed es) = failed_members None es
+    failed (Product fs) = failed_factors None fs
+    failed (Sum ts) = failed_terms None ts
+
+    -- the failed step of the members of a list after a running value
+    pub failed_members : (running : Option Amount) → Members → Option FailedStep
+    failed_members running NoMember = None
+    failed_members running (Member e es) =
+        after (value e) (failed e) (λ v. joined Multiply running v (λ next. failed_members (Some next) es))
+
+    pub failed_factors : (running : Option Amount) → Factors → Option FailedStep
+    failed_factors running NoFactor = None
+    failed_factors running (Factor scale e fs) =
+        after (value e) (failed e) (λ v. joined (scale_step scale) running v (λ next. failed_factors (Some next) fs))
+
+    pub failed_terms : (running : Option Amount) → Terms → Option FailedStep
+    failed_terms running NoTerm = None
+    failed_terms running (Term sign e ts) =
+        after (value e) (failed e) (λ v. joined (sign_step sign) running v (λ next. failed_terms (Some next) ts))
+
+-- the step at which an expression has no value
+abbrev pub failed_step : Table → Syntax → Option FailedStep
+failed_step table e = failed (is_function_word table) (value_of_tree table) e
