@@ -3,7 +3,6 @@ use Rattle.std.proofs.Common.{◌≡◌, ◌-◌, ◌<◌, ◌≤◌, ◌∷◌,
 use Rattle.std.proofs.Common.{Bool, Some, true, ap, subst, arith}
 use Rattle.std.specs.Prelude.{if◌then◌else◌}
 use Rattle.std.proofs.lemmas.List.{drop_all, length-drop}
-use Rattle.std.proofs.lemmas.Option.{same_Some}
 use Rattle.expr_tree.specs.declared.word_list.WordKind.{WordKind}
 use Rattle.expr_tree.specs.declared.word_list.WordKind.TheVariants as word_kind
 use Rattle.expr_tree.specs.declared.word_list.WordUse.{WordUse}
@@ -112,10 +111,10 @@ named t u law h = ap (λ (f : Found). f.targets) (sym (law t u)) ∙ by u.kind h
 -- the same in a deck in which that key has a line in force
 pub named_by : (d : Contents) (u : WordUse) → LookupLaw → (k : Kind) (text : List ℕ) (place : ℕ)
     → k ≡ first_kind u.kind → text ≡ u.text → last_place d.settings d.lines (key k text) ≡ Some place
-    → (answer : Kind) → Some k ≡ Some answer → targets (table d) u ≡ key answer u.text ∷ []
-named_by d u law k text place is_first is_word found answer chosen =
+    → targets (table d) u ≡ key k u.text ∷ []
+named_by d u law k text place is_first is_word found =
     let same : is_key_among (keys_of (table d)) (key k text)
     ≡ is_key_among (keys_of (table d)) (key (first_kind u.kind) u.text) =
     λ i. is_key_among (keys_of (table d)) (key (is_first i) (is_word i)) in
     named (table d) u law (sym same ∙ placed_among d (key k text) place found)
-    ∙ ap (λ (z : Kind). key z u.text ∷ []) (sym is_first ∙ same_Some k answer chosen)
+    ∙ ap (λ (z : Kind). key z u.text ∷ []) (sym is_first)

@@ -22,7 +22,7 @@ use Rattle.value_sources.specs.Cycles.{path_after, path_at}
 use Rattle.value_sources.specs.Mentions.{Mention, mentions}
 use Rattle.value_sources.specs.Rows.{AreRows, AreRowsOf, Row, Skipped, Visited, first_mentions, visited_key}
 use Rattle.value_sources.specs.Uses.{key_uses}
-use Rattle.value_sources.specs.Walks.{IsFound}
+use Rattle.value_sources.specs.PlacedMentions.{IsFound}
 use Rattle.value_sources.proofs.Lists.{member_first, member_later}
 use Rattle.value_sources.proofs.Members.{among_is, is_among_of}
 use Rattle.value_sources.proofs.Placing.{no_entry, one_key, within}

@@ -1,6 +1,7 @@
 -- The lines that are in force for keys.
 use Rattle.std.proofs.Common.{◌≡◌, ◌<◌, ◌++◌, ◌∷◌, ◌+◌, [], ℕ, List, Bool, true, false, cond, length, refl, sym, ap}
-use Rattle.std.proofs.Common.{subst}
+use Rattle.std.proofs.Common.{get_or, subst}
+use Rattle.std.specs.Prelude.{if◌then◌else◌}
 use Rattle.std.proofs.Common.{◌∙◌, arith, append_assoc, Option, Some, None, length-append, option_map, slice_get}
 use Rattle.std.proofs.Common.{reverse}
 use Rattle.std.proofs.lemmas.List.{reverse-append}
@@ -24,6 +25,8 @@ use Rattle.deck.specs.PlacedKeys.{key_there}
 use Rattle.deck.specs.Tables.{Definitions, active_definitions, definition_by, definitions_among, definitions_from}
 use Rattle.deck.specs.Tables.{entry_at}
 use Rattle.deck.specs.Tables.{is_present, last_place, place_of, table, table_of}
+use Rattle.value_sources.specs.PlacedMentions.{target_place}
+use Rattle.value_sources.specs.Visits.{IsUnvisitedPlace, MarksVisits, is_marked, unmarked_place}
 
 -- each definition that a key finds is that of the line at its place
 abbrev AreInPlace : List DeckLine → Definitions → Type 0
@@ -164,3 +167,20 @@ within d k place e = by (slice_get d.lines place) refl (there d k place e)
     by None q h =
         let z : None ≡ Some k = ap (λ o. option_map (λ d. d.0) (option_and_then entry_in o)) (sym q) ∙ h in cc
     by (Some line) q h = slice_get_within d.lines place line q
+
+-- the place of a key whose line is not marked is that of a key that was not visited
+pub unvisited : (d : Contents) (marks : List Bool) (visited : List Key) → MarksVisits d marks visited → (key : Option Key)
+    (place : Option ℕ) → ((n : Key) → key ≡ Some n → is_present (table d) n ≡ true) → place ≡ target_place d key
+    → IsUnvisitedPlace d visited key (unmarked_place marks place)
+unvisited d marks visited marked None place there e =
+    subst (λ (o : Option ℕ). IsUnvisitedPlace d visited None (unmarked_place marks o)) (sym e) refl
+unvisited d marks visited marked (Some n) None there e = absurd (no_entry d n (sym e) (there n refl))
+unvisited d marks visited marked (Some n) (Some p) there e = by (get_or marks p false) refl
+  where
+    known : get_or marks p false ≡ is_key_among visited n
+    known = ap (is_marked marks) e ∙ marked n
+
+    by : (b : Bool) → get_or marks p false ≡ b
+        → IsUnvisitedPlace d visited (Some n) (if b then None else Some p)
+    by true h = sym known ∙ h
+    by false h = (n, refl, sym known ∙ h, sym e)

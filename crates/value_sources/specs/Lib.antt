@@ -6,6 +6,7 @@ pub mod Joinings
 pub mod Laws
 pub mod Leads
 pub mod Mentions
+pub mod PlacedMentions
 pub mod Rows
 pub mod StepExamples
 pub mod StepFaults

@@ -1,5 +1,5 @@
 -- Marks of the lines of a deck: whether the key for which a line is in force was visited.
-use Rattle.std.specs.Prelude.{◌≡◌, ℕ, Bool, true, false, List, Option, Some, None, get_or}
+use Rattle.std.specs.Prelude.{◌≡◌, ℕ, Bool, true, false, List, Option, Some, None, get_or, if◌then◌else◌}
 use Rattle.def_entry.specs.declared.key.Key.{Key}
 use Rattle.def_entry.specs.SameKeys.{is_key_among}
 use Rattle.deck.specs.Decks.{Contents}
@@ -14,6 +14,11 @@ is_marked marks (Some place) = get_or marks place false
 -- the line in force for a key is marked exactly if the key was visited
 abbrev pub MarksVisits : Contents → (marks : List Bool) → (visited : List Key) → Type 0
 MarksVisits d marks visited = (n : Key) → is_marked marks (last_place d.settings d.lines n) ≡ is_key_among visited n
+
+-- the place of the key of a mention, if there is one and it is not marked
+abbrev pub unmarked_place : (marks : List Bool) → Option ℕ → Option ℕ
+unmarked_place marks None = None
+unmarked_place marks (Some place) = if get_or marks place false then None else Some place
 
 -- no place, because the key of a mention needs no visit; or the place of the line in force for a key that was not
 -- visited

@@ -1,6 +1,6 @@
 //! Rows that close a cycle.
 
-ghost use Rattle.std.specs.Prelude.{◌≡◌, ◌++◌, ◌∷◌, ◌<◌, [], IfOk, List, OnOk, length};
+ghost use Rattle.std.specs.Prelude.{◌≡◌, ◌<◌, [], IfOk, List, length};
 ghost use Rattle.std.specs.Option.{option_and_then, option_copied};
 ghost use Rattle.def_entry.specs.declared.key.Key.{Key as AnyKey};
 ghost use Rattle.deck.specs.Tables as tables;

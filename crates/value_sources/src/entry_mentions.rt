@@ -7,11 +7,11 @@ ghost use Rattle.def_entry.specs.Views.{function_view, what_view};
 ghost use Rattle.expr_tree.specs.Trees.{syntax};
 ghost use Rattle.expr_tree.specs.Words.{words_in};
 ghost use Rattle.tree_eval.specs.Entries.{words_if};
-ghost use Rattle.value_sources.specs.Mentions as spec;
+ghost use Rattle.value_sources.specs.PlacedMentions.{placed_mentions};
 ghost use Rattle.value_sources.specs.Uses as uses;
 
 use crate::lookup::Lookup;
-use crate::mention::{Location, Mention};
+use crate::mention::{Location, Placed};
 use crate::scratch::Scratch;
 use crate::site::Site;
 use def_entry::{FunctionDef, What};
@@ -24,12 +24,12 @@ impl<'a> Lookup<'a> {
     pub(crate) fn put_entry_mentions(
         &self,
         scratch: &mut Scratch<'a>,
-        mentions: &mut Vec<Mention>,
+        mentions: &mut Vec<Placed>,
         depth: usize,
         what: &'a What,
     ) -> Result<(), AllocError>
         ensures { OnOk result (mentions.new.items ≡ mentions.old.items
-            ++ spec.mentions (table self.now.deck.now) depth (uses.what_uses (what_view what.now))) }
+            ++ placed_mentions self.now.deck.now depth (uses.what_uses (what_view what.now))) }
     {
         match what {
             What::Primitive | What::Dimensionless | What::ListOf(_) => Ok(()),
@@ -46,12 +46,12 @@ impl<'a> Lookup<'a> {
     fn put_function(
         &self,
         scratch: &mut Scratch<'a>,
-        mentions: &mut Vec<Mention>,
+        mentions: &mut Vec<Placed>,
         depth: usize,
         function: &'a FunctionDef,
     ) -> Result<(), AllocError>
         ensures { OnOk result (mentions.new.items ≡ mentions.old.items
-            ++ spec.mentions (table self.now.deck.now) depth (uses.function_uses (function_view function.now))) }
+            ++ placed_mentions self.now.deck.now depth (uses.function_uses (function_view function.now))) }
     {
         let in_unit = function.in_unit.as_ref();
         self.put_tree_if(scratch, mentions, at(depth, Site::InUnit), in_unit)?;
@@ -67,12 +67,12 @@ impl<'a> Lookup<'a> {
     fn put_alias(
         &self,
         scratch: &mut Scratch<'a>,
-        mentions: &mut Vec<Mention>,
+        mentions: &mut Vec<Placed>,
         depth: usize,
         target: &Text,
     ) -> Result<(), AllocError>
         ensures { OnOk result (mentions.new.items ≡ mentions.old.items
-            ++ spec.mentions (table self.now.deck.now) depth (uses.alias_uses target.now)) }
+            ++ placed_mentions self.now.deck.now depth (uses.alias_uses target.now)) }
     {
         let word = WordUse::new(target.as_bytes(), WordKind::Inverse);
         self.put_word(
@@ -87,12 +87,12 @@ impl<'a> Lookup<'a> {
     fn put_tree_if(
         &self,
         scratch: &mut Scratch<'a>,
-        mentions: &mut Vec<Mention>,
+        mentions: &mut Vec<Placed>,
         location: Location,
         tree: Option<&'a Tree>,
     ) -> Result<(), AllocError>
         ensures { OnOk result (mentions.new.items ≡ mentions.old.items
-            ++ spec.mentions (table self.now.deck.now) location.depth
+            ++ placed_mentions self.now.deck.now location.depth
             (uses.uses_at location.site (words_if (option_map syntax (option_copied tree.entry))))) }
     {
         match tree {
@@ -105,12 +105,12 @@ impl<'a> Lookup<'a> {
     pub(crate) fn put_tree(
         &self,
         scratch: &mut Scratch<'a>,
-        mentions: &mut Vec<Mention>,
+        mentions: &mut Vec<Placed>,
         location: Location,
         tree: &'a Tree,
     ) -> Result<(), AllocError>
         ensures { OnOk result (mentions.new.items ≡ mentions.old.items
-            ++ spec.mentions (table self.now.deck.now) location.depth
+            ++ placed_mentions self.now.deck.now location.depth
             (uses.uses_at location.site (words_in (syntax tree.now)))) }
     {
         scratch.words.clear();

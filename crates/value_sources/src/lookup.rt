@@ -1,9 +1,7 @@
 //! The lookup of words in a deck.
 
-ghost use Rattle.std.specs.Prelude.{◌≡◌, ◌-◌, ◌≤◌, ◌∷◌, [], IfOk, Some, length};
+ghost use Rattle.std.specs.Prelude.{◌≡◌, ◌-◌, ◌≤◌, IfOk, length};
 ghost use Rattle.deck.specs.Tables.{table};
-ghost use Rattle.def_entry.specs.Keys.{key};
-ghost use Rattle.def_entry.specs.declared.key.Kind.{Kind as AnyKind};
 ghost use Rattle.table_names.specs.Leads.{targets};
 ghost use Rattle.value_sources.specs.Leads as spec;
 ghost use Rattle.value_sources.specs.Leads.{key_at_place, lead_keys};
@@ -27,20 +25,6 @@ pub(crate) struct Lookup<'a> {
 }
 
 impl<'a> Lookup<'a> {
-    /// Returns the kind of the key that a word leads to, if the first key that its lookup tries has an entry. The name
-    /// of this key is the word itself.
-    pub(crate) fn named_kind(&self, word: &WordUse) -> Option<Kind>
-        ensures { (kind : AnyKind) → result ≡ Some kind
-            → targets (table self.now.deck.now) word.now ≡ key kind word.now.text ∷ [] }
-    {
-        lookup_law();
-        let kind = first_kind(word.kind());
-        match self.deck.place_of(kind, word.text()) {
-            Some(_) => Some(kind),
-            None => None,
-        }
-    }
-
     /// Returns the keys that a word leads to. The only error is lack of memory.
     pub(crate) fn keys_of_word(
         &self,
@@ -76,8 +60,8 @@ impl<'a> Lookup<'a> {
     }
 }
 
-// Returns the kind of the key that the lookup of a word tries first.
-fn first_kind(kind: WordKind) -> Kind
+/// Returns the kind of the key that the lookup of a word tries first.
+pub(crate) fn first_kind(kind: WordKind) -> Kind
     ensures { result ≡ spec.first_kind kind }
 {
     match kind {

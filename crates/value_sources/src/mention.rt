@@ -28,6 +28,13 @@ pub(crate) struct Mention {
     key: Option<Key>,
 }
 
+/// A mention with the place of the line in force for its key, if it has a key.
+#[derive(Drop)]
+pub(crate) struct Placed {
+    pub(crate) mention: Mention,
+    pub(crate) place: Option<usize>,
+}
+
 impl Model for Mention {
     ghost use Rattle.value_sources.specs.Mentions as spec;
 

@@ -4,18 +4,21 @@ ghost use Rattle.std.specs.Prelude.{◌≡◌, ◌++◌, ◌∷◌, [], IfOk, On
 ghost use Rattle.deck.specs.Tables.{table};
 ghost use Rattle.def_entry.specs.Keys.{key};
 ghost use Rattle.table_names.specs.Leads.{targets};
+ghost use Rattle.value_sources.specs.Examples.{mention_by_name};
 ghost use Rattle.value_sources.specs.Leads.{lead_keys};
 ghost use Rattle.value_sources.specs.Mentions as spec;
+ghost use Rattle.value_sources.specs.PlacedMentions.{placed_mentions, placed_to};
 ghost use Rattle.value_sources.specs.Uses.{use_at, uses_at};
 
-use crate::lookup::Lookup;
-use crate::mention::{Location, Mention};
+use crate::lookup::{Lookup, first_kind};
+use crate::mention::{Location, Mention, Placed};
 use crate::resolution::Resolution;
 use crate::tried_keys::TriedKeys;
 use crate::word_keys::Lead;
 use def_entry::{Key, Kind};
 use expr_tree::{WordUse, Words};
 use std::alloc::{AllocError, Global};
+use table_names::lookup_law;
 use units_io::Text;
 
 impl<'a> Lookup<'a> {
@@ -23,12 +26,12 @@ impl<'a> Lookup<'a> {
     pub(crate) fn put_mentions(
         &self,
         tried: &mut TriedKeys,
-        mentions: &mut Vec<Mention>,
+        mentions: &mut Vec<Placed>,
         location: Location,
         words: &Words,
     ) -> Result<(), AllocError>
         ensures { OnOk result (mentions.new.items ≡ mentions.old.items
-            ++ spec.mentions (table self.now.deck.now) location.depth (uses_at location.site words.now)) }
+            ++ placed_mentions self.now.deck.now location.depth (uses_at location.site words.now)) }
     {
         for word in words.as_slice() {
             self.put_word(tried, mentions, location, word)?;
@@ -41,26 +44,67 @@ impl<'a> Lookup<'a> {
     pub(crate) fn put_word(
         &self,
         tried: &mut TriedKeys,
-        mentions: &mut Vec<Mention>,
+        mentions: &mut Vec<Placed>,
         location: Location,
         word: &WordUse,
     ) -> Result<(), AllocError>
         ensures { OnOk result (mentions.new.items ≡ mentions.old.items
-            ++ spec.mentions_to location.depth (use_at location.site word.now)
+            ++ placed_to self.now.deck.now location.depth (use_at location.site word.now)
             (targets (table self.now.deck.now) word.now)) }
     {
-        if let Some(kind) = self.named_kind(word) {
-            return put_named(self.alloc, mentions, location, word, kind);
+        lookup_law();
+        let kind = first_kind(word.kind());
+        if let Some(place) = self.deck.place_of(kind, word.text()) {
+            let mention = named_mention(self.alloc, location, word, kind)?;
+            return put_placed(mentions, mention, Some(place));
         }
         let lead = self.keys_of_word(tried, word)?;
-        put_lead(self.alloc, mentions, location, word, lead)
+        self.put_lead(mentions, location, word, lead)
+    }
+
+    // Appends the mentions of a word with this lead.
+    fn put_lead(
+        &self,
+        mentions: &mut Vec<Placed>,
+        location: Location,
+        word: &WordUse,
+        lead: Lead,
+    ) -> Result<(), AllocError>
+        ensures { OnOk result (mentions.new.items ≡ mentions.old.items
+            ++ placed_to self.now.deck.now location.depth (use_at location.site word.now) (lead_keys lead)) }
+    {
+        match lead {
+            Lead::Nowhere => {
+                let mention = mention(self.alloc, location, word, Resolution::Unknown, None)?;
+                put_placed(mentions, mention, None)
+            }
+            Lead::One(key) => {
+                let place = self.deck.last_place(&key);
+                let mention = sole_mention(self.alloc, location, word, key)?;
+                put_placed(mentions, mention, place)
+            }
+            Lead::Two(prefix, unit) => {
+                let place = self.deck.last_place(&prefix);
+                let first = mention(self.alloc, location, word, Resolution::Prefix, Some(prefix))?;
+                put_placed(mentions, first, place)?;
+                let place = self.deck.last_place(&unit);
+                let second = mention(
+                    self.alloc,
+                    location,
+                    word,
+                    Resolution::PrefixedUnit,
+                    Some(unit),
+                )?;
+                put_placed(mentions, second, place)
+            }
+        }
     }
 }
 
 /// Moves mentions to the end of `pending`, the last one first.
 pub(crate) fn push_reversed(
-    pending: &mut Vec<Mention>,
-    mentions: &mut Vec<Mention>,
+    pending: &mut Vec<Placed>,
+    mentions: &mut Vec<Placed>,
 ) -> Result<(), AllocError>
     ensures { OnOk result (pending.new.items ≡ pending.old.items ++ reverse mentions.old.items) }
 {
@@ -70,50 +114,19 @@ pub(crate) fn push_reversed(
     Ok(())
 }
 
-// Appends the mention of a word that is the name of its key, which has this kind.
-fn put_named(
+// Returns the mention of a word that is the name of its key, which has this kind.
+fn named_mention(
     alloc: Global,
-    mentions: &mut Vec<Mention>,
     location: Location,
     word: &WordUse,
     kind: Kind,
-) -> Result<(), AllocError>
-    ensures { OnOk result (mentions.new.items ≡ mentions.old.items
-        ++ spec.mentions_to location.depth (use_at location.site word.now) (key kind word.now.text ∷ [])) }
+) -> Result<Mention, AllocError>
+    ensures { IfOk result (λ mention. mention
+        ≡ mention_by_name location.depth location.site word.now.kind (key kind word.now.text)) }
 {
     let name = Text::from_bytes(alloc, word.text())?;
     let key = Key { kind, name };
-    let mention = Mention::named(location, word.kind(), Resolution::Name, key);
-    push_mention(mentions, mention)
-}
-
-// Appends the mentions of a word with this lead.
-fn put_lead(
-    alloc: Global,
-    mentions: &mut Vec<Mention>,
-    location: Location,
-    word: &WordUse,
-    lead: Lead,
-) -> Result<(), AllocError>
-    ensures { OnOk result (mentions.new.items ≡ mentions.old.items
-        ++ spec.mentions_to location.depth (use_at location.site word.now) (lead_keys lead)) }
-{
-    match lead {
-        Lead::Nowhere => {
-            let mention = mention(alloc, location, word, Resolution::Unknown, None)?;
-            push_mention(mentions, mention)
-        }
-        Lead::One(key) => {
-            let mention = sole_mention(alloc, location, word, key)?;
-            push_mention(mentions, mention)
-        }
-        Lead::Two(prefix, unit) => {
-            let first = mention(alloc, location, word, Resolution::Prefix, Some(prefix))?;
-            push_mention(mentions, first)?;
-            let second = mention(alloc, location, word, Resolution::PrefixedUnit, Some(unit))?;
-            push_mention(mentions, second)
-        }
-    }
+    Ok(Mention::named(location, word.kind(), Resolution::Name, key))
 }
 
 // Returns the mention of the only key that a word leads to.
@@ -157,10 +170,15 @@ fn mention(
     Ok(Mention::new(location, text, word.kind(), resolution, key))
 }
 
-// Appends a mention.
-fn push_mention(mentions: &mut Vec<Mention>, mention: Mention) -> Result<(), AllocError>
-    ensures { OnOk result (mentions.new.items ≡ mentions.old.items ++ mention ∷ []) }
+// Appends a mention with its place.
+fn put_placed(
+    mentions: &mut Vec<Placed>,
+    mention: Mention,
+    place: Option<usize>,
+) -> Result<(), AllocError>
+    ensures { OnOk result (mentions.new.items ≡ mentions.old.items
+        ++ record { mention = mention; place = place } ∷ []) }
 {
-    mentions.push(mention)?;
+    mentions.push(Placed { mention, place })?;
     Ok(())
 }

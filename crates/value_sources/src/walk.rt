@@ -1,24 +1,24 @@
 //! The walk over all names that an expression reaches.
 
-ghost use Rattle.std.specs.Prelude.{◌≡◌, ◌++◌, ◌+◌, ◌∷◌, [], IfOk, List, OnOk, Some, length, reverse, true};
-ghost use Rattle.std.specs.Option.{option_copied};
+ghost use Rattle.std.specs.Prelude.{◌≡◌, ◌++◌, ◌+◌, ◌∷◌, [], IfOk, List, OnOk, Some, length, reverse};
 ghost use Rattle.def_entry.specs.declared.key.Key.{Key as AnyKey};
 ghost use Rattle.deck.specs.Tables as tables;
 ghost use Rattle.expr_tree.specs.Trees.{syntax};
 ghost use Rattle.expr_tree.specs.Words.{words_in};
 ghost use Rattle.value_sources.specs.Mentions as mentions_spec;
 ghost use Rattle.value_sources.specs.Rows as spec;
-ghost use Rattle.value_sources.specs.Uses.{key_uses};
-ghost use Rattle.value_sources.specs.Visits.{IsUnvisitedPlace, MarksVisits};
-ghost use Rattle.value_sources.specs.Walks.{AreMarked, IsFound, IsUnderway};
+ghost use Rattle.value_sources.specs.PlacedMentions.{IsSound, placed_mentions};
+ghost use Rattle.value_sources.specs.declared.site.Site.TheVariants as site;
+ghost use Rattle.value_sources.specs.Uses.{key_uses, uses_at};
+ghost use Rattle.value_sources.specs.Visits.{unmarked_place};
+ghost use Rattle.value_sources.specs.Walks.{AreMarked, IsUnderway};
 
 use crate::lookup::Lookup;
-use crate::mention::{Location, Mention};
+use crate::mention::{Location, Mention, Placed};
 use crate::mentions::push_reversed;
 use crate::row::Row;
 use crate::scratch::Scratch;
 use crate::site::Site;
-use def_entry::Key;
 use expr_tree::Tree;
 use live_table::LiveTable;
 use name_lookup::targets_are_present;
@@ -38,8 +38,8 @@ pub fn rows<'a>(alloc: Global, table: &'a LiveTable, tree: &'a Tree) -> Result<V
         deck: table.deck(),
     };
     let mut walk = Walk::begin(&lookup, tree)?;
-    while let Some(mention) = walk.pending.pop() {
-        walk.step(&lookup, mention)?;
+    while let Some(next) = walk.pending.pop() {
+        walk.step(&lookup, next)?;
     }
     let Walk { rows, .. } = walk;
     Ok(rows)
@@ -51,9 +51,9 @@ pub fn rows<'a>(alloc: Global, table: &'a LiveTable, tree: &'a Tree) -> Result<V
 struct Walk<'a> {
     scratch: Scratch<'a>,
     // The mentions of the last visited entry. Their memory is reused for the next entry.
-    found: Vec<Mention>,
+    found: Vec<Placed>,
     marks: Vec<bool>,
-    pending: Vec<Mention>,
+    pending: Vec<Placed>,
     rows: Vec<Row>,
 }
 
@@ -63,7 +63,7 @@ impl<'a> Walk<'a> {
         ensures marked { IfOk result (λ walk. AreMarked lookup.now.deck.now walk.marks.items []) }
         ensures rows { IfOk result (λ walk. walk.rows.items ≡ []) }
         ensures pending { IfOk result (λ walk. reverse walk.pending.items
-            ≡ spec.first_mentions (tables.table lookup.now.deck.now) (words_in (syntax tree.now))) }
+            ≡ placed_mentions lookup.now.deck.now 0 (uses_at site.Expression (words_in (syntax tree.now)))) }
     {
         let mut scratch = Scratch::new(lookup.alloc);
         let pending = first_mentions(lookup, &mut scratch, tree)?;
@@ -78,17 +78,18 @@ impl<'a> Walk<'a> {
     }
 
     // Appends the row of the next mention and, if the row visits its key, pushes the mentions of the entry of the key.
-    fn step(&mut self, lookup: &Lookup<'a>, mention: Mention) -> Result<(), AllocError>
-        requires found { IsFound (tables.table lookup.now.deck.now) mention }
+    fn step(&mut self, lookup: &Lookup<'a>, next: Placed) -> Result<(), AllocError>
+        requires sound { IsSound lookup.now.deck.now next }
         requires marked { AreMarked lookup.now.deck.now self.old.marks.items self.old.rows.items }
         ensures marked { OnOk result (AreMarked lookup.now.deck.now self.new.marks.items self.new.rows.items) }
         ensures underway { OnOk result ((start : List mentions_spec.Mention)
-            → IsUnderway lookup.now.deck.now start self.old.rows.items (self.old.pending.items ++ mention ∷ [])
+            → IsUnderway lookup.now.deck.now start self.old.rows.items (self.old.pending.items ++ next ∷ [])
             → IsUnderway lookup.now.deck.now start self.new.rows.items self.new.pending.items) }
         ensures longer { OnOk result (length self.new.rows.items ≡ length self.old.rows.items + 1) }
     {
         targets_are_present();
-        let Some(place) = unvisited_place(lookup, &self.marks, mention.key()) else {
+        let Placed { mention, place } = next;
+        let Some(place) = unvisited_place(&self.marks, place) else {
             return put_row(&mut self.rows, Row::new(mention, None));
         };
         self.marks[place] = true;
@@ -103,9 +104,9 @@ fn first_mentions<'a>(
     lookup: &Lookup<'a>,
     scratch: &mut Scratch<'a>,
     tree: &'a Tree,
-) -> Result<Vec<Mention>, AllocError>
+) -> Result<Vec<Placed>, AllocError>
     ensures { IfOk result (λ pending. reverse pending.items
-        ≡ spec.first_mentions (tables.table lookup.now.deck.now) (words_in (syntax tree.now))) }
+        ≡ placed_mentions lookup.now.deck.now 0 (uses_at site.Expression (words_in (syntax tree.now)))) }
 {
     let location = Location {
         depth: 0,
@@ -127,17 +128,11 @@ fn no_marks(lookup: &Lookup) -> Result<Vec<bool>, AllocError>
     Ok(marks)
 }
 
-// Returns the place of the line that is in force for a key, if the key was not visited.
-fn unvisited_place(lookup: &Lookup, marks: &[bool], key: Option<&Key>) -> Option<usize>
-    requires { (n : AnyKey) → option_copied key ≡ Some n
-        → tables.is_present (tables.table lookup.now.deck.now) n ≡ true }
-    ensures { (visited : List AnyKey) → MarksVisits lookup.now.deck.now marks.now visited
-        → IsUnvisitedPlace lookup.now.deck.now visited (option_copied key.entry) result }
+// Returns the place of the line in force for the key of a mention, if the mention has a key that was not visited.
+fn unvisited_place(marks: &[bool], place: Option<usize>) -> Option<usize>
+    ensures { result ≡ unmarked_place marks.now place }
 {
-    let Some(key) = key else {
-        return None;
-    };
-    let Some(place) = lookup.deck.last_place(key) else {
+    let Some(place) = place else {
         return None;
     };
     match marks.get(place) {
@@ -151,12 +146,12 @@ fn unvisited_place(lookup: &Lookup, marks: &[bool], key: Option<&Key>) -> Option
 fn put_found<'a>(
     lookup: &Lookup<'a>,
     scratch: &mut Scratch<'a>,
-    found: &mut Vec<Mention>,
+    found: &mut Vec<Placed>,
     mention: &Mention,
     place: usize,
 ) -> Result<(), AllocError>
     ensures { OnOk result ((n : AnyKey) → mention.now.target ≡ Some n → found.new.items
-        ≡ mentions_spec.mentions (tables.table lookup.now.deck.now) (mention.now.depth + 1)
+        ≡ placed_mentions lookup.now.deck.now (mention.now.depth + 1)
         (key_uses (tables.table lookup.now.deck.now) n)) }
 {
     // No memory holds so many entries that the depth of a word would not fit.

@@ -3,14 +3,14 @@ use Rattle.deck.specs.Decks.{Contents}
 use Rattle.deck.specs.Tables.{table}
 use Rattle.expr_tree.specs.Trees.{syntax}
 use Rattle.expr_tree.specs.Words.{words_in}
-use Rattle.value_sources.specs.Mentions.{Mention}
+use Rattle.value_sources.specs.declared.mention.Placed.{Placed}
 use Rattle.value_sources.specs.Rows.{AreRowsOf, Row, first_mentions}
 use Rattle.value_sources.specs.Walks.{AreMarked, IsUnderway}
-use Rattle.value_sources.proofs.Walking.{next_found, none_left, underway_end, underway_start}
+use Rattle.value_sources.proofs.Walking.{next_sound, none_left, underway_end, underway_start}
 use Rattle.value_sources.proofs.walk.rows.Goals as goal
 
-pub loop-mention-init : goal.loop-mention-init
-loop-mention-init c =
+pub loop-next-init : goal.loop-next-init
+loop-next-init c =
     let d = c.deck.result.now in
     let words = words_in (syntax c.args.tree.now) in
     let walk = c.in_ok-walk.walk in (
@@ -20,19 +20,19 @@ loop-mention-init c =
           c.in_ok-walk.ensures.marked,
     )
 
-pub step-requires-clause-found : goal.step-requires-clause-found
-step-requires-clause-found c =
+pub step-requires-clause-sound : goal.step-requires-clause-sound
+step-requires-clause-sound c =
     let d = c.deck.result.now in
     let start = first_mentions (table d) (words_in (syntax c.args.tree.now)) in
-    let rows = c.loop-mention.walk.rows.items in
-    next_found d start rows c.in-Some.mention c.pop.new.self.items
-    (subst (λ (ms : List Mention). IsUnderway d start rows ms) c.in-Some.ensures.items c.loop-mention.invariant.0)
+    let rows = c.loop-next.walk.rows.items in
+    next_sound d start rows c.in-Some.next c.pop.new.self.items
+    (subst (λ (ps : List Placed). IsUnderway d start rows ps) c.in-Some.ensures.items c.loop-next.invariant.0)
 
 pub returns : goal.returns
 returns c =
     let d = c.deck.result.now in
     let words = words_in (syntax c.args.tree.now) in
-    let walk = c.loop-mention.walk in
+    let walk = c.loop-next.walk in
     subst (λ (contents : Contents). AreRowsOf (table contents) words walk.rows.items) c.deck.ensures.deck
     (underway_end d (first_mentions (table d) words) walk.rows.items walk.pending.items
-    (none_left walk.pending.items (sym walk.pending.ok.0 ∙ c.in_default.ensures.cases.0)) c.loop-mention.invariant.0)
+    (none_left walk.pending.items (sym walk.pending.ok.0 ∙ c.in_default.ensures.cases.0)) c.loop-next.invariant.0)

@@ -1,6 +1,5 @@
 use Rattle.std.proofs.Common.{◌≡◌, ◌++◌, drop}
-use Rattle.deck.specs.Tables.{table}
-use Rattle.value_sources.specs.Mentions.{mentions}
+use Rattle.value_sources.specs.PlacedMentions.{placed_mentions}
 use Rattle.value_sources.specs.Uses.{uses_at}
 use Rattle.value_sources.proofs.lookup.Lookup.put_mentions.Given as goal
 
@@ -8,6 +7,6 @@ use Rattle.value_sources.proofs.lookup.Lookup.put_mentions.Given as goal
 abbrev pub invariant-loop-word : goal.invariant-loop-word
 invariant-loop-word l =
     l.mentions.items
-    ++ mentions (table l.self.deck.now) l.location.depth (uses_at l.location.site (drop l.word-index l.words))
+    ++ placed_mentions l.self.deck.now l.location.depth (uses_at l.location.site (drop l.word-index l.words))
     ≡ l.initial.mentions.items
-    ++ mentions (table l.self.deck.now) l.location.depth (uses_at l.location.site l.words)
+    ++ placed_mentions l.self.deck.now l.location.depth (uses_at l.location.site l.words)
