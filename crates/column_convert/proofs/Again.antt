@@ -17,18 +17,24 @@ use Rattle.deck.specs.Tables.{table}
 use Rattle.live_table.specs.New.{AreNew}
 use Rattle.live_table.specs.Right.{IsKeySettled, IsRight}
 use Rattle.live_table.specs.TableView.{IsAfterEvents, IsRightTable, Shown, state_with_steps}
-use Rattle.live_table.specs.States.{AsksWords, Kept, TableState, after, after_all, after_query, with_outcomes}
+use Rattle.live_table.specs.States.{AsksWords, Kept, TableState, after_all, after_event, after_query, with_outcomes}
 use Rattle.live_table.proofs.New.{new_law}
 use Rattle.live_table.proofs.Outcomes.{inserted, put_in}
 
 right_at : (b : Shown) (k : ℕ) → IsRightTable b → IsRight (state_with_steps b k)
-right_at b k r = record { present = r.present; closed = r.closed; below = r.below; right = r.right }
+right_at b k r = record {
+  settled_have_entries = r.settled_have_entries;
+  settled_closed =
+      r.settled_closed;
+  reached_settled = r.reached_settled;
+  outcomes_right = r.outcomes_right;
+}
 
 none_new : (keys : List Key) (s : TableState) → ((n : Key) → Contains keys n → IsKeySettled s n) → AreNew s keys []
 unfolding IsDistinct
 none_new keys s settled = record {
-  exactly = λ n. ((λ i. absurd (let none : i.0 < 0 = i.1 in omega arith)), (λ p. absurd (p.1 (settled n p.0))));
-  once = tt;
+  unsettled_names = λ n. ((λ i. absurd (let none : i.0 < 0 = i.1 in omega arith)), (λ p. absurd (p.1 (settled n p.0))));
+  names_distinct = tt;
 }
 
 same_counts : (s : TableState) (reductions steps : ℕ) → reductions ≡ s.reductions → steps ≡ s.steps
@@ -53,14 +59,14 @@ stays_in t (k ∷ keys) kept n is =
 
 query_keeps : (c : Bool) (keys : List Key) (s : TableState) (n : Key) → IsKeySettled s n
     → IsKeySettled (after_query c keys s) n
-query_keeps true keys s n is = stays_in s.table keys s.kept n is
+query_keeps true keys s n is = stays_in s.table keys s.kept_outcomes n is
 query_keeps false keys s n is = is
 
 all_keep : (texts : List (List WordUse)) (s : TableState) (n : Key) → IsKeySettled s n
     → IsKeySettled (after_all (map AsksWords texts) s) n
 all_keep [] s n is = is
 all_keep (words ∷ texts) s n is =
-    all_keep texts (after (AsksWords words) s) n
+    all_keep texts (after_event (AsksWords words) s) n
     (query_keeps (is_none (name_fault s.table words)) (reach s.table words) s n is)
 
 -- ---- everything that words reach is settled, if they have no fault
@@ -72,33 +78,34 @@ abbrev AllAsked : Table → List (List WordUse) → Kept → Type 0
 AllAsked t [] kept = ⊤
 AllAsked t (words ∷ texts) kept = AreAsked t words kept × AllAsked t texts kept
 
-asked_one : (words : List WordUse) (s : TableState) → AreAsked s.table words (after (AsksWords words) s).kept
+asked_one : (words : List WordUse) (s : TableState)
+    → AreAsked s.table words (after_event (AsksWords words) s).kept_outcomes
 asked_one words s free n i = go (is_none (name_fault s.table words)) free
   where
     go : (c : Bool) → c ≡ true → IsKeySettled (after_query c (reach s.table words) s) n
-    go true e = ap is_some (put_in s.table (reach s.table words) s.kept n (inl i))
+    go true e = ap is_some (put_in s.table (reach s.table words) s.kept_outcomes n (inl i))
     go false e = cc
 
 asked_all : (texts : List (List WordUse)) (s : TableState)
-    → AllAsked s.table texts (after_all (map AsksWords texts) s).kept
+    → AllAsked s.table texts (after_all (map AsksWords texts) s).kept_outcomes
 asked_all [] s = tt
 asked_all (words ∷ texts) s =
-    let next = after (AsksWords words) s in (
+    let next = after_event (AsksWords words) s in (
       (λ free n i. all_keep texts next n (asked_one words s free n i)),
-      subst (λ (t : Table). AllAsked t texts (after_all (map AsksWords texts) next).kept)
+      subst (λ (t : Table). AllAsked t texts (after_all (map AsksWords texts) next).kept_outcomes)
           (table_after (is_none (name_fault s.table words)) (reach s.table words) s) (asked_all texts next),
     )
 
 tables_same : (texts : List (List WordUse)) (s : TableState) → (after_all (map AsksWords texts) s).table ≡ s.table
 tables_same [] s = refl
 tables_same (words ∷ texts) s =
-    tables_same texts (after (AsksWords words) s)
+    tables_same texts (after_event (AsksWords words) s)
     ∙ table_after (is_none (name_fault s.table words)) (reach s.table words) s
 
 -- ---- querying again
 one_again : (words : List WordUse) (s : TableState) → IsRight s → s.reductions ≤ 2 ^ 64 - 1
-    → AreAsked s.table words s.kept
-    → after (AsksWords words) s ≡ s
+    → AreAsked s.table words s.kept_outcomes
+    → after_event (AsksWords words) s ≡ s
 one_again words s right few asked = go (is_none (name_fault s.table words)) refl
   where
     go : (c : Bool) → is_none (name_fault s.table words) ≡ c → after_query c (reach s.table words) s ≡ s
@@ -108,7 +115,7 @@ one_again words s right few asked = go (is_none (name_fault s.table words)) refl
         ∙ same_counts s (min (2 ^ 64 - 1) (s.reductions + 0)) (s.steps + 0) (omega arith) (omega arith)
 
 all_again : (texts : List (List WordUse)) (s : TableState) → IsRight s → s.reductions ≤ 2 ^ 64 - 1
-    → AllAsked s.table texts s.kept → after_all (map AsksWords texts) s ≡ s
+    → AllAsked s.table texts s.kept_outcomes → after_all (map AsksWords texts) s ≡ s
 all_again [] s right few asked = refl
 all_again (words ∷ texts) s right few asked =
     ap (after_all (map AsksWords texts)) (one_again words s right few asked.0) ∙ all_again texts s right few asked.1
@@ -119,11 +126,11 @@ pub asked_again : (texts : List (List WordUse)) (a b : Shown) (n m k : ℕ) → 
 asked_again texts a b n m k few f =
     let same : table b.deck ≡ table a.deck =
     ap (λ (t : TableState). t.table) f.stands ∙ tables_same texts (state_with_steps a n) in
-    let asked : AllAsked (table a.deck) texts b.kept =
-    subst (λ (s : TableState). AllAsked (table a.deck) texts s.kept) (sym f.stands)
+    let asked : AllAsked (table a.deck) texts b.kept_outcomes =
+    subst (λ (s : TableState). AllAsked (table a.deck) texts s.kept_outcomes) (sym f.stands)
     (asked_all texts (state_with_steps a n)) in
     record {
-      stands = sym (all_again texts (state_with_steps b k) (right_at b k f.right) few
-          (subst (λ (t : Table). AllAsked t texts b.kept) (sym same) asked));
-      right = f.right;
+      stands = sym (all_again texts (state_with_steps b k) (right_at b k f.is_right) few
+          (subst (λ (t : Table). AllAsked t texts b.kept_outcomes) (sym same) asked));
+      is_right = f.is_right;
     }

@@ -16,11 +16,11 @@ use Rattle.column_convert.proofs.Again.{asked_again}
 -- no query was made yet
 pub begun_none : (events : List Event) (s : Shown) (n : ℕ) → IsRightTable s → AreBegun events s s n n
 begun_none events s n right = record {
-  same = refl;
+  same_events = refl;
   deck = refl;
-  right = right;
-  later = omega arith;
-  counted = λ can. (omega arith, can);
+  table_right = right;
+  steps_grow = omega arith;
+  reductions_bounded = λ can. (omega arith, can);
 }
 
 -- the words of some texts were queried
@@ -28,33 +28,33 @@ pub begun_texts : (texts : List (List WordUse)) (rest : List Event) (a b : Shown
     → b.reductions ≤ 2 ^ 64 - 1 → IsAfterEvents (map AsksWords texts) a b n m
     → AreBegun (map AsksWords texts ++ rest) a b n m
 begun_texts texts rest a b n m deck few f = record {
-  same =
+  same_events =
       order_law (map AsksWords texts) rest (state_with_steps b m)
       ∙ ap (after_all rest) (sym (asked_again texts a b n m m few f).stands ∙ f.stands)
       ∙ sym (order_law (map AsksWords texts) rest (state_with_steps a n));
   deck = deck;
-  right = f.right;
-  later = (cut_after (map AsksWords texts) a b n m deck f).least;
-  counted = λ can. (((cut_after (map AsksWords texts) a b n m deck f).counted can).0, few);
+  table_right = f.is_right;
+  steps_grow = (cut_after (map AsksWords texts) a b n m deck f).steps_least;
+  reductions_bounded = λ can. (((cut_after (map AsksWords texts) a b n m deck f).reductions_counted can).0, few);
 }
 
 module _ (events : List Event) (a b : Shown) (n m : ℕ) (begun : AreBegun events a b n m) where
   -- all queries are made afterwards
   pub begun_follows : (c : Shown) (k : ℕ) → IsAfterEvents events b c m k → IsAfterEvents events a c n k
-  begun_follows c k f = record { stands = f.stands ∙ begun.same; right = f.right }
+  begun_follows c k f = record { stands = f.stands ∙ begun.same_events; is_right = f.is_right }
 
   pub begun_cut : (c : Shown) (k : ℕ) → IsCutOff events b c m k → IsCutOff events a c n k
   begun_cut c k f = record {
     deck = f.deck ∙ begun.deck;
-    right = f.right;
-    least = let x : n ≤ m = begun.later in let y : m ≤ k = f.least in omega arith;
-    most = subst (λ (s : TableState). k ≤ s.steps) begun.same f.most;
-    counted = λ can.
-        let was = begun.counted can in
-        let now = f.counted was.1 in
+    is_right = f.is_right;
+    steps_least = let x : n ≤ m = begun.steps_grow in let y : m ≤ k = f.steps_least in omega arith;
+    steps_most = subst (λ (s : TableState). k ≤ s.steps) begun.same_events f.steps_most;
+    reductions_counted = λ can.
+        let was = begun.reductions_bounded can in
+        let now = f.reductions_counted was.1 in
         let x : a.reductions ≤ b.reductions = was.0 in
         let y : b.reductions ≤ c.reductions = now.0 in
-        (omega arith, subst (λ (s : TableState). c.reductions ≤ s.reductions) begun.same now.1);
+        (omega arith, subst (λ (s : TableState). c.reductions ≤ s.reductions) begun.same_events now.1);
   }
 
   pub begun_made : {A : Type 0} (r : Result A AllocError) (c : Shown) (k : ℕ) → AreQueries events r b c m k
@@ -66,14 +66,14 @@ module _ (events : List Event) (a b : Shown) (n m : ℕ) (begun : AreBegun event
   pub begun_stopped : IsCutOff events a b n m
   begun_stopped = record {
     deck = begun.deck;
-    right = begun.right;
-    least = begun.later;
-    most =
+    is_right = begun.table_right;
+    steps_least = begun.steps_grow;
+    steps_most =
         let x : m ≤ (after_all events (state_with_steps b m)).steps = steps_rise events (state_with_steps b m) in
-        subst (λ (s : TableState). m ≤ s.steps) begun.same x;
-    counted = λ can.
-        let was = begun.counted can in
+        subst (λ (s : TableState). m ≤ s.steps) begun.same_events x;
+    reductions_counted = λ can.
+        let was = begun.reductions_bounded can in
         let x : b.reductions ≤ (after_all events (state_with_steps b m)).reductions =
         (shown_counts events b m was.1).0 in
-        (was.0, subst (λ (s : TableState). b.reductions ≤ s.reductions) begun.same x);
+        (was.0, subst (λ (s : TableState). b.reductions ≤ s.reductions) begun.same_events x);
   }

@@ -15,8 +15,8 @@ use Rattle.live_table.specs.States.{Event}
 use Rattle.live_table.proofs.QuerySequence.{cut_both, follows_both, follows_none}
 use Rattle.live_table.proofs.Runs.{run_law}
 use Rattle.reply.specs.declared.options.Options.{Options}
-use Rattle.column_convert.specs.Blocks.{BlocksLaw, block_of, first, input_after, is_error_row, text_of}
-use Rattle.column_convert.specs.Inputs.{Input, behind}
+use Rattle.column_convert.specs.Blocks.{BlocksLaw, block_of, first_records, input_after, is_error_row, text_of}
+use Rattle.column_convert.specs.Inputs.{Input, rest_of_input}
 use Rattle.column_convert.specs.Records.{Fields}
 use Rattle.column_convert.specs.Rows.{before_rows, next_queries, next_row, queries, row, row_queries, rows}
 use Rattle.column_convert.specs.RecordWriter.{IsNextWritten, IsRowWritten}
@@ -26,36 +26,36 @@ use Rattle.column_convert.specs.Rows.{ColumnRow}
 module _ (t : Table) (options : Options) (from to : List ℕ) where
   abbrev IsFirst : ℕ → Input → Type 0
   IsFirst n i =
-      (rows t options from to (first (suc n) i)
-      ≡ before_rows (next_row t options from to i) (rows t options from to (first n (behind i))))
-      × (queries t options from to (first (suc n) i)
-      ≡ next_queries t options from to i ++ queries t options from to (first n (behind i)))
+      (rows t options from to (first_records (suc n) i)
+      ≡ before_rows (next_row t options from to i) (rows t options from to (first_records n (rest_of_input i))))
+      × (queries t options from to (first_records (suc n) i)
+      ≡ next_queries t options from to i ++ queries t options from to (first_records n (rest_of_input i)))
 
   -- the next rows are the next row and the rows after it
   pub one_first : (n : ℕ) (i : Input) → IsFirst n i
-  one_first n i = go i.left i.place i.headed
+  one_first n i = go i.records i.place i.has_header
     where
-      none : (n place : ℕ) (headed : Bool) → IsFirst n (record { left = []; place = place; headed = headed })
+      none : (n place : ℕ) (headed : Bool) → IsFirst n (record { records = []; place = place; has_header = headed })
       none zero place headed = (refl, refl)
       none (suc n) place headed = (refl, refl)
 
       go : (left : List Fields) (place : ℕ) (headed : Bool)
-          → IsFirst n (record { left = left; place = place; headed = headed })
+          → IsFirst n (record { records = left; place = place; has_header = headed })
       go [] place headed = none n place headed
       go (fields ∷ left) place headed = (refl, refl)
 
   abbrev IsOver : ℕ → Input → Type 0
   IsOver n i =
-      (rows t options from to (first n i) ≡ []) × (queries t options from to (first n i) ≡ [])
-      × (next_queries t options from to i ≡ []) × (input_after n i ≡ behind i)
+      (rows t options from to (first_records n i) ≡ []) × (queries t options from to (first_records n i) ≡ [])
+      × (next_queries t options from to i ≡ []) × (input_after n i ≡ rest_of_input i)
 
   -- no row is left
   pub over : (n : ℕ) (i : Input) → next_row t options from to i ≡ None → IsOver n i
   unfolding input_after
-  over n i is = go n i.left i.place i.headed is
+  over n i is = go n i.records i.place i.has_header is
     where
       at : List Fields → ℕ → Bool → Input
-      at left place headed = record { left = left; place = place; headed = headed }
+      at left place headed = record { records = left; place = place; has_header = headed }
 
       go : (n : ℕ) (left : List Fields) (place : ℕ) (headed : Bool)
           → next_row t options from to (at left place headed) ≡ None → IsOver n (at left place headed)
@@ -67,17 +67,17 @@ module _ (t : Table) (options : Options) (from to : List ℕ) where
 abbrev IsCut : Table → Options → (from to : List ℕ) → ℕ → Input → Type 0
 IsCut t options from to n i =
     (rows t options from to i
-    ≡ rows t options from to (first n i) ++ rows t options from to (input_after n i))
+    ≡ rows t options from to (first_records n i) ++ rows t options from to (input_after n i))
     × (queries t options from to i
-    ≡ queries t options from to (first n i) ++ queries t options from to (input_after n i))
+    ≡ queries t options from to (first_records n i) ++ queries t options from to (input_after n i))
 
 -- law: the rows are those of the next n records and the rows after them, and so are the queries
 pub rows_by_block : BlocksLaw
 unfolding input_after
-rows_by_block t options from to n i = go n i.left i.place i.headed
+rows_by_block t options from to n i = go n i.records i.place i.has_header
   where
     at : List Fields → ℕ → Bool → Input
-    at left place headed = record { left = left; place = place; headed = headed }
+    at left place headed = record { records = left; place = place; has_header = headed }
 
     go : (n : ℕ) (left : List Fields) (place : ℕ) (headed : Bool) → IsCut t options from to n (at left place headed)
     go zero left place headed = (refl, refl)
@@ -89,7 +89,7 @@ rows_by_block t options from to n i = go n i.left i.place i.headed
           ap (λ rs. row t options from to place headed fields ∷ rs) later.0,
           ap (λ es. row_queries t options from to place headed fields ++ es) later.1
               ∙ sym (append_assoc (row_queries t options from to place headed fields)
-              (queries t options from to (first n (at left place false)))
+              (queries t options from to (first_records n (at left place false)))
               (queries t options from to (input_after n (at left place false)))),
         )
 
@@ -109,10 +109,10 @@ or_assoc true b c = refl
 or_assoc false b c = refl
 
 pub refused_more : (done : List ColumnRow) (row : ColumnRow)
-    → is_error_row (done ++ row ∷ []) ≡ (is_error_row done || row.refused)
-refused_more [] row = sym (or_last false row.refused)
+    → is_error_row (done ++ row ∷ []) ≡ (is_error_row done || row.cell_refused)
+refused_more [] row = sym (or_last false row.cell_refused)
 refused_more (d ∷ done) row =
-    ap (λ x. d.refused || x) (refused_more done row) ∙ or_assoc d.refused (is_error_row done) row.refused
+    ap (λ x. d.cell_refused || x) (refused_more done row) ∙ or_assoc d.cell_refused (is_error_row done) row.cell_refused
 
 pub length_more : (done : List ColumnRow) (row : ColumnRow) → length (done ++ row ∷ []) ≡ length done + 1
 length_more [] row = refl
@@ -135,10 +135,10 @@ module _ (options : Options) (from to : List ℕ) (whole : Input) (most : ℕ) (
       : Type 0 where
     pub done : List ColumnRow
     pub events : List Event
-    pub gives : rows (table before.deck) options from to (first most whole)
-        ≡ done ++ rows (table before.deck) options from to (first (most - count) left)
-    pub asks : queries (table before.deck) options from to (first most whole)
-        ≡ events ++ queries (table before.deck) options from to (first (most - count) left)
+    pub gives : rows (table before.deck) options from to (first_records most whole)
+        ≡ done ++ rows (table before.deck) options from to (first_records (most - count) left)
+    pub asks : queries (table before.deck) options from to (first_records most whole)
+        ≡ events ++ queries (table before.deck) options from to (first_records (most - count) left)
     pub ends : input_after most whole ≡ input_after (most - count) left
     pub text_is : text ≡ Some (text_of done)
     pub refused_is : refused ≡ is_error_row done
@@ -155,8 +155,8 @@ module _ (options : Options) (from to : List ℕ) (whole : Input) (most : ℕ) (
   underway_start text is right = record {
     done = [];
     events = [];
-    gives = ap (λ n. rows (table before.deck) options from to (first n whole)) all;
-    asks = ap (λ n. queries (table before.deck) options from to (first n whole)) all;
+    gives = ap (λ n. rows (table before.deck) options from to (first_records n whole)) all;
+    asks = ap (λ n. queries (table before.deck) options from to (first_records n whole)) all;
     ends = ap (λ n. input_after n whole) all;
     text_is = is;
     refused_is = refl;
@@ -169,22 +169,23 @@ module _ (options : Options) (from to : List ℕ) (whole : Input) (most : ℕ) (
   module _ (left : Input) (count : ℕ) (refused : Bool) (text : Option (List ℕ)) (now : Shown) (new : ℕ)
       (u : IsUnderway left count refused text now new) where
     -- memory ran out between two rows
-    pub stopped : IsCutOff (queries (table before.deck) options from to (first most whole)) before now old new
+    pub stopped : IsCutOff (queries (table before.deck) options from to (first_records most whole)) before now old new
     stopped =
         subst (λ (es : List Event). IsCutOff es before now old new) (sym u.asks)
-        (run_law.cut_between u.events (queries (table before.deck) options from to (first (most - count) left)) before
+        (run_law.cut_between u.events (queries (table before.deck) options from to (first_records (most - count) left))
+        before
         now old new u.deck u.follows)
 
     -- as many rows are written as are wanted
-    pub full : most ≤ count → (rows (table before.deck) options from to (first most whole) ≡ u.done)
-        × (queries (table before.deck) options from to (first most whole) ≡ u.events)
+    pub rows_when_full : most ≤ count → (rows (table before.deck) options from to (first_records most whole) ≡ u.done)
+        × (queries (table before.deck) options from to (first_records most whole) ≡ u.events)
         × (input_after most whole ≡ left)
     unfolding input_after
-    full enough =
+    rows_when_full enough =
         let none : most - count ≡ 0 = omega (arith, u.fits) in (
-          u.gives ∙ ap (λ n. u.done ++ rows (table before.deck) options from to (first n left)) none
+          u.gives ∙ ap (λ n. u.done ++ rows (table before.deck) options from to (first_records n left)) none
               ∙ append-nil u.done,
-          u.asks ∙ ap (λ n. u.events ++ queries (table before.deck) options from to (first n left)) none
+          u.asks ∙ ap (λ n. u.events ++ queries (table before.deck) options from to (first_records n left)) none
               ∙ append-nil u.events,
           u.ends ∙ ap (λ n. input_after n left) none,
         )
@@ -196,16 +197,16 @@ module _ (options : Options) (from to : List ℕ) (whole : Input) (most : ℕ) (
           over (table before.deck) options from to (most - count) left
           (ap (λ d. next_row (table d) options from to left) (sym u.deck) ∙ is)
 
-      pub ended : (rows (table before.deck) options from to (first most whole) ≡ u.done)
-          × (input_after most whole ≡ behind left)
-      ended = (
+      pub rows_at_end : (rows (table before.deck) options from to (first_records most whole) ≡ u.done)
+          × (input_after most whole ≡ rest_of_input left)
+      rows_at_end = (
         u.gives ∙ ap (λ (rs : List ColumnRow). u.done ++ rs) none_left.0 ∙ append-nil u.done,
         u.ends ∙ none_left.3,
       )
 
       pub follows_ended : (later : Shown) (last : ℕ)
           → IsAfterEvents (next_queries (table now.deck) options from to left) now later new last
-          → IsAfterEvents (queries (table before.deck) options from to (first most whole)) before later old last
+          → IsAfterEvents (queries (table before.deck) options from to (first_records most whole)) before later old last
       follows_ended later last made =
           subst (λ (es : List Event). IsAfterEvents es before later old last)
           (ap (λ (es : List Event). u.events ++ es) (none_left.2 ∙ sym none_left.1) ∙ sym u.asks)
@@ -217,22 +218,23 @@ module _ (options : Options) (from to : List ℕ) (whole : Input) (most : ℕ) (
       one_less : most - count ≡ suc (most - (count + 1))
       one_less = omega arith
 
-      asks_next : queries (table before.deck) options from to (first most whole)
+      asks_next : queries (table before.deck) options from to (first_records most whole)
           ≡ u.events ++ (next_queries (table before.deck) options from to left
-          ++ queries (table before.deck) options from to (first (most - (count + 1)) (behind left)))
+          ++ queries (table before.deck) options from to (first_records (most - (count + 1)) (rest_of_input left)))
       asks_next =
           u.asks
-          ∙ ap (λ n. u.events ++ queries (table before.deck) options from to (first n left)) one_less
+          ∙ ap (λ n. u.events ++ queries (table before.deck) options from to (first_records n left)) one_less
           ∙ ap (λ (es : List Event). u.events ++ es)
           (one_first (table before.deck) options from to (most - (count + 1)) left).1
 
       -- memory ran out within the next row
       pub failed : IsCutOff (next_queries (table now.deck) options from to left) now later new last
-          → IsCutOff (queries (table before.deck) options from to (first most whole)) before later old last
+          → IsCutOff (queries (table before.deck) options from to (first_records most whole)) before later old last
       failed cut =
           subst (λ (es : List Event). IsCutOff es before later old last) (sym asks_next)
           (cut_both u.events (next_queries (table before.deck) options from to left)
-          (queries (table before.deck) options from to (first (most - (count + 1)) (behind left))) before now later old
+          (queries (table before.deck) options from to (first_records (most - (count + 1)) (rest_of_input left))) before
+          now later old
           new
           last u.deck u.follows
           (subst (λ d. IsCutOff (next_queries (table d) options from to left) now later new last) u.deck cut))
@@ -244,30 +246,30 @@ module _ (options : Options) (from to : List ℕ) (whole : Input) (most : ℕ) (
 
         -- one more row is written
         pub underway_next : (row : ColumnRow) → next_row (table now.deck) options from to left ≡ Some row
-            → (r : Bool) → r ≡ (refused || row.refused) → (longer : Option (List ℕ))
+            → (r : Bool) → r ≡ (refused || row.cell_refused) → (longer : Option (List ℕ))
             → longer ≡ Some (text_of u.done ++ row.text)
-            → IsUnderway (behind left) (count + 1) r longer later last
+            → IsUnderway (rest_of_input left) (count + 1) r longer later last
         unfolding input_after
         underway_next row is r either longer grows = record {
           done = u.done ++ row ∷ [];
           events = u.events ++ next_queries (table before.deck) options from to left;
           gives =
               u.gives
-              ∙ ap (λ n. u.done ++ rows (table before.deck) options from to (first n left)) one_less
+              ∙ ap (λ n. u.done ++ rows (table before.deck) options from to (first_records n left)) one_less
               ∙ ap (λ (rs : List ColumnRow). u.done ++ rs)
               ((one_first (table before.deck) options from to (most - (count + 1)) left).0
               ∙ ap (λ o. before_rows o
-              (rows (table before.deck) options from to (first (most - (count + 1)) (behind left))))
+              (rows (table before.deck) options from to (first_records (most - (count + 1)) (rest_of_input left))))
               (ap (λ d. next_row (table d) options from to left) (sym u.deck) ∙ is))
               ∙ sym (append_assoc u.done (row ∷ [])
-              (rows (table before.deck) options from to (first (most - (count + 1)) (behind left))));
+              (rows (table before.deck) options from to (first_records (most - (count + 1)) (rest_of_input left))));
           asks =
               asks_next
               ∙ sym (append_assoc u.events (next_queries (table before.deck) options from to left)
-              (queries (table before.deck) options from to (first (most - (count + 1)) (behind left))));
+              (queries (table before.deck) options from to (first_records (most - (count + 1)) (rest_of_input left))));
           ends = u.ends ∙ ap (λ n. input_after n left) one_less;
           text_is = grows ∙ ap Some (sym (text_of_more u.done row));
-          refused_is = either ∙ ap (λ b. b || row.refused) u.refused_is ∙ sym (refused_more u.done row);
+          refused_is = either ∙ ap (λ b. b || row.cell_refused) u.refused_is ∙ sym (refused_more u.done row);
           count_is = ap (λ n. n + 1) u.count_is ∙ sym (length_more u.done row);
           fits = omega arith;
           deck = same ∙ u.deck;

@@ -12,7 +12,8 @@ use Rattle.units_io.specs.Blanks.{is_blank}
 use Rattle.frac128.specs.Decimals.{numeral_reading}
 use Rattle.frac128.specs.Numerals.{is_digit, numeral_len_of}
 use Rattle.frac128.proofs.LongestNumerals.{longest-within}
-use Rattle.expr_tree.specs.Lexemes.{Blank, Lexeme, Malformed, Piece, Placed, Whole, front, has_paren, is_numeral_lexeme}
+use Rattle.expr_tree.specs.Lexemes.{Blank, Lexeme, Malformed, Piece, Placed, Whole, first_piece, has_paren}
+use Rattle.expr_tree.specs.Lexemes.{is_numeral_lexeme}
 use Rattle.expr_tree.specs.Lexemes.{lexemes_from}
 use Rattle.expr_tree.specs.Lexemes.{byte_lexeme, lexeme_piece, mark_piece, numeral_lexeme, numeral_piece, other_word}
 use Rattle.expr_tree.specs.Lexemes.{word_front, word_piece}
@@ -52,7 +53,7 @@ unfolding mark_by
 mark_same b [] r = ap (λ t. mark_by t b) (and_false (b == 42) ∙ sym (and_false (b == 42)))
 mark_same b (c ∷ cs) r = refl
 
-pub front_same : (an : Bool) (b : ℕ) (bs r : List ℕ) → front an ((b ∷ bs) ++ 41 ∷ r) ≡ front an (b ∷ bs)
+pub front_same : (an : Bool) (b : ℕ) (bs r : List ℕ) → first_piece an ((b ∷ bs) ++ 41 ∷ r) ≡ first_piece an (b ∷ bs)
 unfolding choose
 front_same an b bs r = λ i. choose (is_blank b) (an && (b == 46)) (is_digit b || (b == 46)) (is_word_byte b)
     (numeral_same (b ∷ bs) r i) (word_front_same (b ∷ bs) r i) (mark_same b bs r i)
@@ -95,7 +96,7 @@ two_stars : (b : ℕ) (bs : List ℕ) → ((b == 42) && (slice_index (b ∷ bs) 
 two_stars b [] h = let no : ((b == 42) && false) ≡ false = and_false (b == 42) in cc
 two_stars b (c ∷ cs) h = omega arith
 
-pub front_within : (an : Bool) (b : ℕ) (bs : List ℕ) → (front an (b ∷ bs)).len ≤ length (b ∷ bs)
+pub front_within : (an : Bool) (b : ℕ) (bs : List ℕ) → (first_piece an (b ∷ bs)).len ≤ length (b ∷ bs)
 unfolding choose
 front_within an b bs =
     let text = b ∷ bs in
@@ -120,8 +121,9 @@ unfolding lexemes_from
 place_free covered an p q [] = refl
 place_free (suc covered) an p q (b ∷ bs) = place_free covered an (suc p) (suc q) bs
 place_free zero an p q (b ∷ bs) =
-    ap (λ xs. (front an (b ∷ bs)).lexeme ∷ xs)
-    (place_free ((front an (b ∷ bs)).len - 1) (is_numeral_lexeme (front an (b ∷ bs)).lexeme) (suc p) (suc q) bs)
+    ap (λ xs. (first_piece an (b ∷ bs)).lexeme ∷ xs)
+    (place_free ((first_piece an (b ∷ bs)).len - 1) (is_numeral_lexeme (first_piece an (b ∷ bs)).lexeme) (suc p)
+    (suc q) bs)
 
 -- the lexemes of a `)` and the text after it do not depend on the text before it
 pub close_forms : (an : Bool) (p q : ℕ) (r : List ℕ) → forms 0 an p (41 ∷ r) ≡ Whole Close ∷ forms 0 false q r
@@ -138,7 +140,7 @@ forms_before (b ∷ bs) r (suc covered) an p q h = forms_before bs r covered an 
 forms_before (b ∷ bs) r zero an p q h =
     ap (λ (f : Piece). f.lexeme ∷ forms (f.len - 1) (is_numeral_lexeme f.lexeme) (suc p) (bs ++ 41 ∷ r))
     (front_same an b bs r)
-    ∙ ap (λ xs. (front an (b ∷ bs)).lexeme ∷ xs)
-    (let short : (front an (b ∷ bs)).len ≤ length (b ∷ bs) = front_within an b bs in
-    forms_before bs r ((front an (b ∷ bs)).len - 1) (is_numeral_lexeme (front an (b ∷ bs)).lexeme) (suc p) q
+    ∙ ap (λ xs. (first_piece an (b ∷ bs)).lexeme ∷ xs)
+    (let short : (first_piece an (b ∷ bs)).len ≤ length (b ∷ bs) = front_within an b bs in
+    forms_before bs r ((first_piece an (b ∷ bs)).len - 1) (is_numeral_lexeme (first_piece an (b ∷ bs)).lexeme) (suc p) q
     (omega arith))

@@ -12,12 +12,12 @@ use Rattle.table_names.specs.Faults.{name_fault}
 use Rattle.table_names.specs.Meanings.{expansion}
 use Rattle.tree_eval.specs.Steps.{Worth}
 use Rattle.tree_eval.specs.Value.{value}
-use Rattle.live_table.specs.Answers.{answer, by_names}
+use Rattle.live_table.specs.Answers.{by_names, table_answer}
 use Rattle.live_table.specs.States.{AsksWords, Event}
 use Rattle.reply.specs.declared.fault.ReplyFault.{ReplyFault}
 use Rattle.reply.specs.declared.options.Options.{Options}
 use Rattle.reply.specs.Conversions.{conversion_between, converted_to}
-use Rattle.reply.specs.Inquiries.{Inquiry, after_query, as_answer, tree_value, without_queries}
+use Rattle.reply.specs.Inquiries.{Inquiry, as_answer, inquiry_after, tree_value, without_queries}
 use Rattle.reply.specs.Replies.{conversion_inquiry}
 use Rattle.reply.specs.Targets.{conversion_target}
 use Rattle.column_convert.specs.declared.signed_number.Signed.{Signed}
@@ -35,20 +35,20 @@ named (Some f) w x e = cc
 named None (Ok q) x e = (refl, cc)
 named None (Err f) x e = cc
 
-pub answered : (table : Table) (f : Syntax) (x : Amount) → answer table f ≡ Ok x
+pub answered : (table : Table) (f : Syntax) (x : Amount) → table_answer table f ≡ Ok x
     → (name_fault table (words_in f) ≡ None) × (value (expansion table f) None ≡ Ok x)
 answered table f x e = named (name_fault table (words_in f)) (value (expansion table f) None) x e
 
 -- further queries come after the first ones
 behind_first_queries : {A B : Type 0} (es : List Event) (r : Result A ReplyFault) (next : A → Inquiry B)
-    → (rest : List Event) × ((after_query es r next).events ≡ es ++ rest)
+    → (rest : List Event) × ((inquiry_after es r next).events ≡ es ++ rest)
 behind_first_queries es (Ok x) next = ((next x).events, refl)
 behind_first_queries es (Err e) next = ([], sym (append-nil es))
 
 module _ (table : Table) (options : Options) (from to number : List ℕ) (n : Signed) (f g : Syntax)
     (plain : ArePlain table from to f g) (s : IsSigned number n) where
   queries_by_product : number_queries table options from to number
-      ≡ (after_query (product_inquiry table n.negative n.numeral f).events
+      ≡ (inquiry_after (product_inquiry table n.negative n.numeral f).events
       (product_inquiry table n.negative n.numeral f).answer
       (converted_to table (cell_options options) (trim_of to) (conversion_target table (trim_of to)))).events
   queries_by_product =
@@ -58,8 +58,9 @@ module _ (table : Table) (options : Options) (from to number : List ℕ) (n : Si
       (asked_product table n.negative (behind_minus number) from (no_calls table from (trim_of to) plain.are_so).plain)
       ∙ ap (λ q. q.events)
       (product_converting table (cell_options options) n.negative n.numeral factor.decimal (behind_minus number)
-      factor.number from to f s.numeral_is.spelt s.numeral_is.value factor.is_number.spelt factor.is_number.value
-      factor.tree factor.faultless)
+      factor.number from to f s.numeral_is.spelt s.numeral_is.reading_is factor.number_is_numeral.spelt
+      factor.number_is_numeral.reading_is
+      factor.tree factor.no_product_fault)
 
   -- the words of FROM are queried first
   pub from_first : (rest : List Event) × (number_queries table options from to number ≡ AsksWords (words_in f) ∷ rest)
@@ -69,7 +70,7 @@ module _ (table : Table) (options : Options) (from to number : List ℕ) (n : Si
       (converted_to table (cell_options options) (trim_of to) (conversion_target table (trim_of to))) in
       (rest.0, queries_by_product ∙ rest.1)
 
-  module _ (x p : Amount) (is : answer table f ≡ Ok x)
+  module _ (x p : Amount) (is : table_answer table f ≡ Ok x)
       (product : product_worth n.negative n.numeral (Ok x) ≡ Ok p) where
     product_known : (product_inquiry table n.negative n.numeral f).answer ≡ Ok p
     product_known =
@@ -87,12 +88,12 @@ module _ (table : Table) (options : Options) (from to number : List ℕ) (n : Si
         let rest = behind_first_queries (AsksWords (words_in g) ∷ []) (tree_value table g).answer next in (
           rest.0,
           queries_by_product
-              ∙ ap (λ r. (after_query (AsksWords (words_in f) ∷ []) r
+              ∙ ap (λ r. (inquiry_after (AsksWords (words_in f) ∷ []) r
               (converted_to table (cell_options options) (trim_of to) (conversion_target table (trim_of to)))).events)
               product_known
               ∙ ap (λ next. AsksWords (words_in f) ∷ (next p).events)
               (unit_target table (cell_options options) (trim_of to) calls.to_plain calls.to_single calls.to_uncut)
-              ∙ ap (λ (q : Inquiry Amount). AsksWords (words_in f) ∷ (after_query q.events q.answer next).events)
+              ∙ ap (λ (q : Inquiry Amount). AsksWords (words_in f) ∷ (inquiry_after q.events q.answer next).events)
               (text_tree table (trim_of to) g plain.to_tree)
               ∙ ap (λ es. AsksWords (words_in f) ∷ es) rest.1,
         )

@@ -32,7 +32,7 @@ module _ (options : Options) (known : Known) (n : Signed) (p : Amount)
       ≡ AsksWords (words_in k.f) ∷ AsksWords (words_in k.g) ∷ [])
   known_reply =
       let law = number_converted (table shown.deck) options n.negative (behind_minus number) n.numeral from to k.f k.g
-      known.from_value known.to_value p s.numeral_is (k.factor n.negative) k.values product in (
+      known.from_value known.to_value p s.numeral_is (k.factor n.negative) k.operand_values product in (
         ap (number_reply (table shown.deck) options from to) s.spelt ∙ law.0
             ∙ ap (λ (t : List ℕ). comparison_reply (cell_options options) (trim_of (product_text t from)) (trim_of to) p
             known.to_value) (sym s.spelt)
@@ -53,7 +53,8 @@ module _ (options : Options) (known : Known) (n : Signed) (p : Amount)
         ∙ ap (λ (t : List ℕ). comparison_reply (cell_options options) (product_text number from) t p known.to_value)
         to_is
         ∙ sym known_reply.0),
-    λ steps. subst (λ (es : List Event). IsAfterEvents es shown shown steps steps) (sym known_reply.1) (k.again steps),
+    λ steps. subst (λ (es : List Event). IsAfterEvents es shown shown steps steps) (sym known_reply.1)
+        (k.repeated_events steps),
   )
 
 -- if no values are remembered, those remembered are right

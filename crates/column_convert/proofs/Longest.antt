@@ -6,16 +6,17 @@ use Rattle.std.specs.Prelude.{◌==◌, ◌&&◌, if◌then◌else◌, not}
 use Rattle.std.specs.List.{list_all, list_any, prefix_len}
 use Rattle.std.proofs.lemmas.Bool.{cases_lt}
 use Rattle.std.proofs.lemmas.Bool.Decides.{nat_tests}
-use Rattle.frac128.specs.Numerals.{before, behind_sign, from, greatest_passing, is_digit, is_exponent_text, is_mantissa}
+use Rattle.frac128.specs.Numerals.{behind_sign, greatest_passing, is_digit, is_exponent_text, is_mantissa, prefix_until}
+use Rattle.frac128.specs.Numerals.{suffix_from}
 use Rattle.frac128.specs.Numerals.{is_mark_byte, is_numeral}
 use Rattle.frac128.specs.Numerals.{is_point_byte, is_pointed, is_sign_byte, numeral_len_of}
 use Rattle.expr_tree.specs.Lexemes.{has_paren}
 use Rattle.expr_tree.specs.Names.{is_word_byte}
 
 -- ---- a numeral contains no `)`
-pub both : (x y : Bool) → (x && y) ≡ true → (x ≡ true) × (y ≡ true)
-both true y h = (refl, h)
-both false y h = absurd (cc)
+pub and_parts : (x y : Bool) → (x && y) ≡ true → (x ≡ true) × (y ≡ true)
+and_parts true y h = (refl, h)
+and_parts false y h = absurd (cc)
 
 both_hold : (x y : Bool) → x ≡ true → y ≡ true → (x && y) ≡ true
 both_hold true y a b = b
@@ -44,7 +45,7 @@ sign_other b h = grind (arith, nat_tests)
 digits_other : (xs : List ℕ) → list_all is_digit xs ≡ true → list_all other xs ≡ true
 digits_other [] h = refl
 digits_other (x ∷ xs) h =
-    let p = both (is_digit x) (list_all is_digit xs) h in
+    let p = and_parts (is_digit x) (list_all is_digit xs) h in
     both_hold (other x) (list_all other xs) (not_close x p.0) (digits_other xs p.1)
 
 -- one step of `parts_other`: if both parts of a text contain no `)`, the text contains none
@@ -54,14 +55,15 @@ parts_by : (t : Bool) (x : ℕ) (xs before_xs from_xs : List ℕ)
     → list_all other (if t then x ∷ xs else from_xs) ≡ true → list_all other (x ∷ xs) ≡ true
 parts_by true x xs before_xs from_xs rest a b = b
 parts_by false x xs before_xs from_xs rest a b =
-    let p = both (other x) (list_all other before_xs) a in
+    let p = and_parts (other x) (list_all other before_xs) a in
     both_hold (other x) (list_all other xs) p.0 (rest p.1 b)
 
-parts_other : (test : ℕ → Bool) (xs : List ℕ) → list_all other (before test xs) ≡ true
-    → list_all other (from test xs) ≡ true
+parts_other : (test : ℕ → Bool) (xs : List ℕ) → list_all other (prefix_until test xs) ≡ true
+    → list_all other (suffix_from test xs) ≡ true
     → list_all other xs ≡ true
 parts_other test [] a b = refl
-parts_other test (x ∷ xs) a b = parts_by (test x) x xs (before test xs) (from test xs) (parts_other test xs) a b
+parts_other test (x ∷ xs) a b = parts_by (test x) x xs (prefix_until test xs) (suffix_from test xs)
+    (parts_other test xs) a b
 
 from_by : (t : Bool) (x : ℕ) (xs from_xs : List ℕ) → (t ≡ true → other x ≡ true)
     → (list_all other (drop 1 from_xs) ≡ true → list_all other from_xs ≡ true)
@@ -71,15 +73,16 @@ from_by true x xs from_xs h rest k = both_hold (other x) (list_all other xs) (h 
 from_by false x xs from_xs h rest k = rest k
 
 from_other : (test : ℕ → Bool) → ((b : ℕ) → test b ≡ true → other b ≡ true) → (xs : List ℕ)
-    → list_all other (drop 1 (from test xs)) ≡ true → list_all other (from test xs) ≡ true
+    → list_all other (drop 1 (suffix_from test xs)) ≡ true → list_all other (suffix_from test xs) ≡ true
 from_other test h [] k = refl
-from_other test h (x ∷ xs) k = from_by (test x) x xs (from test xs) (h x) (from_other test h xs) k
+from_other test h (x ∷ xs) k = from_by (test x) x xs (suffix_from test xs) (h x) (from_other test h xs) k
 
 pointed_other : (xs : List ℕ) → is_pointed xs ≡ true → list_all other xs ≡ true
 pointed_other xs h =
-    let p = both (list_all is_digit (before is_point_byte xs)) (list_all is_digit (drop 1 (from is_point_byte xs))) h in
-    parts_other is_point_byte xs (digits_other (before is_point_byte xs) p.0)
-    (from_other is_point_byte point_other xs (digits_other (drop 1 (from is_point_byte xs)) p.1))
+    let p = and_parts (list_all is_digit (prefix_until is_point_byte xs))
+    (list_all is_digit (drop 1 (suffix_from is_point_byte xs))) h in
+    parts_other is_point_byte xs (digits_other (prefix_until is_point_byte xs) p.0)
+    (from_other is_point_byte point_other xs (digits_other (drop 1 (suffix_from is_point_byte xs)) p.1))
 
 sign_front : (xs : List ℕ) → list_all other (behind_sign xs) ≡ true → list_all other xs ≡ true
 sign_front [] h = refl
@@ -94,14 +97,16 @@ exponent_other : (xs : List ℕ) → is_exponent_text xs ≡ true → list_all o
 exponent_other [] h = refl
 exponent_other (x ∷ xs) h =
     sign_front xs
-    (digits_other (behind_sign xs) (both (list_any is_digit (behind_sign xs)) (list_all is_digit (behind_sign xs)) h).1)
+    (digits_other (behind_sign xs)
+    (and_parts (list_any is_digit (behind_sign xs)) (list_all is_digit (behind_sign xs)) h).1)
 
 numeral_other : (xs : List ℕ) → is_numeral xs ≡ true → list_all other xs ≡ true
 numeral_other xs h =
-    let p = both (is_mantissa (before is_mark_byte xs)) (is_exponent_text (from is_mark_byte xs)) h in
-    let m = both (list_any is_digit (before is_mark_byte xs)) (is_pointed (before is_mark_byte xs)) p.0 in
-    parts_other is_mark_byte xs (pointed_other (before is_mark_byte xs) m.1)
-    (from_other is_mark_byte mark_other xs (exponent_other (from is_mark_byte xs) p.1))
+    let p = and_parts (is_mantissa (prefix_until is_mark_byte xs)) (is_exponent_text (suffix_from is_mark_byte xs)) h in
+    let m = and_parts (list_any is_digit (prefix_until is_mark_byte xs)) (is_pointed (prefix_until is_mark_byte xs)) p.0
+    in
+    parts_other is_mark_byte xs (pointed_other (prefix_until is_mark_byte xs) m.1)
+    (from_other is_mark_byte mark_other xs (exponent_other (suffix_from is_mark_byte xs) p.1))
 
 has_close : (n : ℕ) (xs r : List ℕ) → length xs < n → list_all other (take n (xs ++ 41 ∷ r)) ≡ false
 unfolding other

@@ -8,16 +8,17 @@ use Rattle.std.proofs.lemmas.Bool.Decides.{nat_tests}
 use Rattle.std.proofs.lemmas.List.{take_all}
 use Rattle.units_io.specs.Blanks.{is_blank}
 use Rattle.frac128.specs.Decimals.{Decimal, numeral_reading}
-use Rattle.frac128.specs.Numerals.{before, from, is_digit, is_exponent_text, is_mantissa, is_mark_byte}
+use Rattle.frac128.specs.Numerals.{is_digit, is_exponent_text, is_mantissa, is_mark_byte, prefix_until, suffix_from}
 use Rattle.frac128.specs.Numerals.{is_numeral as is_numeral_text, is_point_byte, is_pointed as is_pointed_text}
 use Rattle.frac128.specs.Numerals.{numeral_len_of}
 use Rattle.frac128.proofs.StageRuns.{numeral_len-whole}
-use Rattle.expr_tree.specs.Lexemes.{Blank, Malformed, Piece, Placed, Whole, front, is_numeral_lexeme, lexemes_from}
+use Rattle.expr_tree.specs.Lexemes.{Blank, Malformed, Piece, Placed, Whole, first_piece, is_numeral_lexeme}
+use Rattle.expr_tree.specs.Lexemes.{lexemes_from}
 use Rattle.expr_tree.specs.Lexemes.{mark_piece}
 use Rattle.expr_tree.specs.Lexemes.{lexeme_piece, numeral_lexeme, numeral_piece, word_front}
 use Rattle.expr_tree.specs.Names.{is_word_byte}
 use Rattle.expr_tree.specs.Tokens.{Minus, Numeral}
-use Rattle.column_convert.proofs.Longest.{both}
+use Rattle.column_convert.proofs.Longest.{and_parts}
 use Rattle.column_convert.proofs.Cuts.{forms}
 
 -- a numeral begins with a digit or a point
@@ -29,8 +30,8 @@ mantissa_by true true x xs before_xs from_xs h e = refl
 mantissa_by true false x xs before_xs from_xs h e = refl
 mantissa_by false true x xs before_xs from_xs h e = refl
 mantissa_by false false x xs before_xs from_xs h e =
-    let p = both (list_all is_digit (x ∷ before_xs)) (list_all is_digit (drop 1 from_xs)) h in
-    let d = both (is_digit x) (list_all is_digit before_xs) p.0 in cc
+    let p = and_parts (list_all is_digit (x ∷ before_xs)) (list_all is_digit (drop 1 from_xs)) h in
+    let d = and_parts (is_digit x) (list_all is_digit before_xs) p.0 in cc
 
 numeral_by : (marked : Bool) (x : ℕ) (xs before_xs from_xs : List ℕ)
     → (is_mantissa (if marked then [] else x ∷ before_xs) && is_exponent_text (if marked then x ∷ xs else from_xs))
@@ -38,14 +39,14 @@ numeral_by : (marked : Bool) (x : ℕ) (xs before_xs from_xs : List ℕ)
     → (is_digit x || is_point_byte x) ≡ true
 numeral_by true x xs before_xs from_xs h = cc
 numeral_by false x xs before_xs from_xs h =
-    let p = both (is_mantissa (x ∷ before_xs)) (is_exponent_text from_xs) h in
-    let m = both (list_any is_digit (x ∷ before_xs)) (is_pointed_text (x ∷ before_xs)) p.0 in
-    mantissa_by (is_point_byte x) (is_digit x) x before_xs (before is_point_byte before_xs)
-    (from is_point_byte before_xs)
+    let p = and_parts (is_mantissa (x ∷ before_xs)) (is_exponent_text from_xs) h in
+    let m = and_parts (list_any is_digit (x ∷ before_xs)) (is_pointed_text (x ∷ before_xs)) p.0 in
+    mantissa_by (is_point_byte x) (is_digit x) x before_xs (prefix_until is_point_byte before_xs)
+    (suffix_from is_point_byte before_xs)
     m.1 refl
 
 begins : (x : ℕ) (xs : List ℕ) → is_numeral_text (x ∷ xs) ≡ true → (is_digit x || is_point_byte x) ≡ true
-begins x xs h = numeral_by (is_mark_byte x) x xs (before is_mark_byte xs) (from is_mark_byte xs) h
+begins x xs h = numeral_by (is_mark_byte x) x xs (prefix_until is_mark_byte xs) (suffix_from is_mark_byte xs) h
 
 no_blank : (b : ℕ) → (is_digit b || is_point_byte b) ≡ true → is_blank b ≡ false
 no_blank b h = grind (arith, nat_tests)
@@ -79,7 +80,7 @@ whole_piece text x some is value =
 
 pub numeral_front : (x : Decimal) (b : ℕ) (bs : List ℕ) → is_numeral_text (b ∷ bs) ≡ true
     → numeral_reading (b ∷ bs) ≡ Ok x
-    → front false (b ∷ bs) ≡ lexeme_piece (Whole (Numeral x)) (length (b ∷ bs))
+    → first_piece false (b ∷ bs) ≡ lexeme_piece (Whole (Numeral x)) (length (b ∷ bs))
 numeral_front x b bs is value =
     let head = begins b bs is in
     ap (λ c. if c then lexeme_piece Blank 1

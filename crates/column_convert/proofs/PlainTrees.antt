@@ -50,8 +50,8 @@ factor_of from f tree has negative = record {
   tree = tree;
   number = codes "1";
   decimal = record { coefficient = 1; scale = pos 0 };
-  is_number = record { spelt = refl; value = refl };
-  faultless = has negative;
+  number_is_numeral = record { spelt = refl; reading_is = refl };
+  no_product_fault = has negative;
 }
 
 pub plain_of : (table : Table) (from to name : List ℕ) (f g : Syntax) → name ≡ trim_of to

@@ -8,7 +8,7 @@ use Rattle.deck.specs.Tables.{table}
 use Rattle.expr_tree.specs.Syntax.{Syntax}
 use Rattle.expr_tree.specs.Words.{words_in}
 use Rattle.quantity.specs.Amount.{Amount}
-use Rattle.live_table.specs.Answers.{answer}
+use Rattle.live_table.specs.Answers.{table_answer}
 use Rattle.live_table.specs.Calls.{AreQueries}
 use Rattle.live_table.specs.TableView.{IsAfterEvents, IsCutOff, IsRightTable, Shown}
 use Rattle.live_table.specs.States.{AsksWords, Event}
@@ -75,7 +75,7 @@ module _ (from to : List ℕ) (n : Signed) (f g : Syntax) (a : Shown) (plain : A
     from_stopped Q (Ok x) failed = absurd failed
     from_stopped Q (Err e) failed = λ options number s. begun_stopped _ a b o m (from_begun options number s)
 
-    module _ (x p : Amount) (is : answer (table a.deck) f ≡ Ok x)
+    module _ (x p : Amount) (is : table_answer (table a.deck) f ≡ Ok x)
         (product : product_worth n.negative n.numeral (Ok x) ≡ Ok p) (c : Shown) (k : ℕ) (same : c.deck ≡ b.deck) where
       -- memory ran out while TO was queried
       pub to_cut : {A : Type 0} (Q : AllocError → Type 0) (r : Result A AllocError) → IsErrAnd r Q
@@ -101,14 +101,14 @@ module _ (from to : List ℕ) (n : Signed) (f g : Syntax) (a : Shown) (plain : A
               (begun_texts (words_in f ∷ words_in g ∷ []) rest.0 a c o k (same ∙ deck) few_too both_asked)
 
           -- both were queried, and their values are known
-          pub both_known : (y : Amount) → answer (table b.deck) g ≡ Ok y
+          pub both_known : (y : Amount) → table_answer (table b.deck) g ≡ Ok y
               → AreKnown c from to (record { from_value = x; to_value = y })
           both_known y to_is = record {
             f = f;
             g = g;
             factor = plain.factor;
-            values = subst (λ (d : Contents). AreValued (table d) from to f g x y) (sym (same ∙ deck)) valued;
-            again = λ steps. asked_again (words_in f ∷ words_in g ∷ []) a c o k steps few_too both_asked;
+            operand_values = subst (λ (d : Contents). AreValued (table d) from to f g x y) (sym (same ∙ deck)) valued;
+            repeated_events = λ steps. asked_again (words_in f ∷ words_in g ∷ []) a c o k steps few_too both_asked;
           }
             where
               valued : AreValued (table a.deck) from to f g x y
@@ -116,14 +116,14 @@ module _ (from to : List ℕ) (n : Signed) (f g : Syntax) (a : Shown) (plain : A
                   let calls = no_calls (table a.deck) from (trim_of to) plain.are_so in
                   let from_is = answered (table a.deck) f x is in
                   record {
-                    plain = calls.plain;
+                    from_is_no_function = calls.plain;
                     from_named = from_is.0;
-                    from_value = from_is.1;
+                    from_has_value = from_is.1;
                     to_plain = calls.to_plain;
                     to_single = calls.to_single;
                     to_uncut = calls.to_uncut;
                     to_tree = plain.to_tree;
-                    to_value = subst (λ (d : Contents). answer (table d) g ≡ Ok y) deck to_is;
+                    to_value = subst (λ (d : Contents). table_answer (table d) g ≡ Ok y) deck to_is;
                   }
 
 -- ---- the cell of a number

@@ -11,7 +11,7 @@ use Rattle.expr_tree.specs.Syntax.{Syntax}
 use Rattle.def_entry.specs.Tables.{Table}
 use Rattle.reply.specs.declared.options.Options.{Options}
 use Rattle.reply.specs.Conversions.{converted_to}
-use Rattle.reply.specs.Inquiries.{Inquiry, after_query, text_worth}
+use Rattle.reply.specs.Inquiries.{Inquiry, inquiry_after, text_worth}
 use Rattle.reply.specs.Replies.{conversion_inquiry}
 use Rattle.reply.specs.Targets.{conversion_target}
 use Rattle.column_convert.specs.Products.{product_text, signed_text}
@@ -41,12 +41,12 @@ module _ (table : Table) (options : Options) (negative : Bool) (x y : Decimal) (
     (other_value : numeral_reading other ≡ Ok y) (tree : parse_of None from ≡ Ok f)
     (free : first_fault (product_text (signed_text negative other) from) ≡ None) where
   pub product_converting : conversion_inquiry table options (product_text (signed_text negative text) from) to
-      ≡ after_query (product_inquiry table negative x f).events (product_inquiry table negative x f).answer
+      ≡ inquiry_after (product_inquiry table negative x f).events (product_inquiry table negative x f).answer
       (converted_to table options (trim_of to) (conversion_target table (trim_of to)))
   product_converting =
-      ap (λ (t : List ℕ). after_query (text_worth table t).events (text_worth table t).answer
+      ap (λ (t : List ℕ). inquiry_after (text_worth table t).events (text_worth table t).answer
       (converted_to table options (trim_of to) (conversion_target table (trim_of to))))
       (product_trimmed (signed_text negative text) from)
-      ∙ ap (λ (q : Inquiry Amount). after_query q.events q.answer
+      ∙ ap (λ (q : Inquiry Amount). inquiry_after q.events q.answer
       (converted_to table options (trim_of to) (conversion_target table (trim_of to))))
       (product_is_worth table negative x y text other from f is value other_is other_value tree free)

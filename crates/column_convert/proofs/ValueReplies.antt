@@ -11,7 +11,7 @@ use Rattle.std.specs.List.{list_any}
 use Rattle.expr_tree.specs.ParseResult.{parse_of}
 use Rattle.expr_tree.specs.Syntax.{Syntax}
 use Rattle.expr_tree.specs.Words.{words_in}
-use Rattle.live_table.specs.Answers.{answer, by_names}
+use Rattle.live_table.specs.Answers.{by_names, table_answer}
 use Rattle.live_table.specs.States.{AsksWords}
 use Rattle.table_names.specs.Meanings.{expansion}
 use Rattle.tree_eval.specs.Steps.{Worth}
@@ -19,7 +19,7 @@ use Rattle.tree_eval.specs.Value.{value}
 use Rattle.reply.specs.declared.fault.ReplyFault.{ReplyFault}
 use Rattle.reply.specs.declared.options.Options.{Options}
 use Rattle.reply.specs.Conversions.{conversion_between, conversion_to_unit, converted_to}
-use Rattle.reply.specs.Inquiries.{Inquiry, after_query, as_answer, text_worth, without_queries}
+use Rattle.reply.specs.Inquiries.{Inquiry, as_answer, inquiry_after, text_worth, without_queries}
 use Rattle.reply.specs.Options.{reply_form}
 use Rattle.reply.specs.Replies.{as_conversion, conversion_inquiry}
 use Rattle.reply.specs.Targets.{conversion_target, parts_or_unit}
@@ -31,13 +31,13 @@ use Rattle.column_convert.proofs.Worths.{text_tree}
 
 -- a text with a value, and the queries and answer that follow from it
 valued_to : {B : Type 0} (table : Table) (to : List ℕ) (g : Syntax) (y : Amount) (next : Amount → Result B ReplyFault)
-    → parse_of None to ≡ Ok g → answer table g ≡ Ok y
-    → after_query (text_worth table to).events (text_worth table to).answer (λ z. without_queries (next z))
+    → parse_of None to ≡ Ok g → table_answer table g ≡ Ok y
+    → inquiry_after (text_worth table to).events (text_worth table to).answer (λ z. without_queries (next z))
     ≡ record { events = AsksWords (words_in g) ∷ []; answer = next y }
 valued_to table to g y next tree is =
-    ap (λ (q : Inquiry Amount). after_query q.events q.answer (λ z. without_queries (next z)))
+    ap (λ (q : Inquiry Amount). inquiry_after q.events q.answer (λ z. without_queries (next z)))
     (text_tree table to g tree)
-    ∙ ap (λ r. after_query (AsksWords (words_in g) ∷ []) (as_answer r) (λ z. without_queries (next z))) is
+    ∙ ap (λ r. inquiry_after (AsksWords (words_in g) ∷ []) (as_answer r) (λ z. without_queries (next z))) is
 
 second : {T : Type 0} (b : Bool) (x y : T) → b ≡ false → cond b x y ≡ y
 second b x y is = ap (λ c. cond c x y) is
@@ -78,23 +78,24 @@ number_converted table options negative text d from to f g x y p is factor value
 )
   where
     asked : asked_text table from (signed_text negative text) ≡ product_text (signed_text negative text) from
-    asked = asked_product table negative text from values.plain
+    asked = asked_product table negative text from values.from_is_no_function
 
     -- the product has a value
     first : (product_inquiry table negative d f).answer ≡ Ok p
     first =
         ap (λ o. as_answer (by_names o (product_worth negative d (value (expansion table f) None)))) values.from_named
-        ∙ ap (λ (w : Worth). as_answer (by_names None (product_worth negative d w))) values.from_value
+        ∙ ap (λ (w : Worth). as_answer (by_names None (product_worth negative d w))) values.from_has_value
         ∙ ap (λ (w : Worth). as_answer (by_names None w)) product
 
     all : conversion_inquiry table (cell_options options) (product_text (signed_text negative text) from) to
         ≡ record { events = AsksWords (words_in f) ∷ AsksWords (words_in g) ∷ []; answer = conversion_between true p y }
     all =
         product_converting table (cell_options options) negative d factor.decimal text factor.number from to f is.spelt
-        is.value factor.is_number.spelt factor.is_number.value factor.tree factor.faultless
-        ∙ ap (λ r. after_query (AsksWords (words_in f) ∷ []) r
+        is.reading_is factor.number_is_numeral.spelt factor.number_is_numeral.reading_is factor.tree
+        factor.no_product_fault
+        ∙ ap (λ r. inquiry_after (AsksWords (words_in f) ∷ []) r
         (converted_to table (cell_options options) (trim_of to) (conversion_target table (trim_of to)))) first
-        ∙ ap (λ next. after_query (AsksWords (words_in f) ∷ []) (Ok p) next)
+        ∙ ap (λ next. inquiry_after (AsksWords (words_in f) ∷ []) (Ok p) next)
         (unit_target table (cell_options options) (trim_of to) values.to_plain values.to_single values.to_uncut)
-        ∙ ap (λ q. after_query (AsksWords (words_in f) ∷ []) (Ok p) (λ (z : Amount). q))
+        ∙ ap (λ q. inquiry_after (AsksWords (words_in f) ∷ []) (Ok p) (λ (z : Amount). q))
         (valued_to table (trim_of to) g y (conversion_between true p) values.to_tree values.to_value)

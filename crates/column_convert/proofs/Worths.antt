@@ -18,7 +18,7 @@ use Rattle.table_names.specs.Faults.{name_fault}
 use Rattle.table_names.specs.Meanings.{expansion}
 use Rattle.live_table.specs.Answers.{by_names}
 use Rattle.live_table.specs.States.{AsksWords}
-use Rattle.reply.specs.Inquiries.{Inquiry, after_query, as_answer, text_worth, tree_value}
+use Rattle.reply.specs.Inquiries.{Inquiry, as_answer, inquiry_after, text_worth, tree_value}
 use Rattle.reply.specs.Trees.{as_parsed}
 use Rattle.column_convert.specs.Products.{number_product, product_text, signed_text}
 use Rattle.column_convert.specs.Worths.{number_worth, product_inquiry, product_worth}
@@ -60,7 +60,7 @@ tree_worth table negative x f = λ i. inquiry_by table (product_words negative x
 pub text_tree : (table : Table) (text : List ℕ) (e : Syntax) → parse_of None text ≡ Ok e
     → text_worth table text ≡ tree_value table e
 text_tree table text e is =
-    ap (λ r. after_query [] (as_parsed r) (tree_value table)) is
+    ap (λ r. inquiry_after [] (as_parsed r) (tree_value table)) is
 
 pub product_is_worth : (table : Table) (negative : Bool) (x y : Decimal) (text other from : List ℕ) (f : Syntax)
     → is_numeral text ≡ true → numeral_reading text ≡ Ok x → is_numeral other ≡ true → numeral_reading other ≡ Ok y

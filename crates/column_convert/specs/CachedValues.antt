@@ -28,7 +28,7 @@ use Rattle.column_convert.specs.Worths.{AreValued}
 
 -- a text is this number
 pub record IsSigned (text : List ℕ) (n : Signed) : Type 0 where
-  pub number : is_signed_numeral text ≡ true
+  pub signed_numeral : is_signed_numeral text ≡ true
   pub numeral_is : IsNumeral (behind_minus text) n.numeral
   pub spelt : text ≡ signed_text n.negative (behind_minus text)
 
@@ -39,7 +39,7 @@ with_sign true x = negative_amount x
 
 -- a text has no fault, and this is its tree
 pub record IsParsedAs (text : List ℕ) (e : Syntax) : Type 0 where
-  pub faultless : first_fault text ≡ None
+  pub no_first_fault : first_fault text ≡ None
   pub tree : parse_of None text ≡ Ok e
 
 -- whether neither text is a function and TO is not a list
@@ -69,8 +69,9 @@ pub record AreKnown (shown : Shown) (from to : List ℕ) (known : Known) : Type 
   pub f : Syntax
   pub g : Syntax
   pub factor : (negative : Bool) → IsFactor negative from f
-  pub values : AreValued (table shown.deck) from to f g known.from_value known.to_value
-  pub again : (steps : ℕ) → IsAfterEvents (AsksWords (words_in f) ∷ AsksWords (words_in g) ∷ []) shown shown steps steps
+  pub operand_values : AreValued (table shown.deck) from to f g known.from_value known.to_value
+  pub repeated_events : (steps : ℕ) → IsAfterEvents (AsksWords (words_in f) ∷ AsksWords (words_in g) ∷ []) shown shown
+      steps steps
 
 -- no values are remembered
 abbrev pub IsEmpty : Memory → Type 0
@@ -83,11 +84,11 @@ IsRemembered shown from to memory = IfSome memory.known (AreKnown shown from to)
 -- the queries made so far are the first part of these: making all of them now leads to the same state as making them
 -- from the start; they lowered neither count, and the count of newly settled names is at most 2^64 - 1
 pub record AreBegun (events : List Event) (before after : Shown) (old new : ℕ) : Type 0 where
-  pub same : after_all events (state_with_steps after new) ≡ after_all events (state_with_steps before old)
+  pub same_events : after_all events (state_with_steps after new) ≡ after_all events (state_with_steps before old)
   pub deck : after.deck ≡ before.deck
-  pub right : IsRightTable after
-  pub later : old ≤ new
-  pub counted : before.reductions ≤ 2 ^ 64 - 1 → (before.reductions ≤ after.reductions)
+  pub table_right : IsRightTable after
+  pub steps_grow : old ≤ new
+  pub reductions_bounded : before.reductions ≤ 2 ^ 64 - 1 → (before.reductions ≤ after.reductions)
       × (after.reductions ≤ 2 ^ 64 - 1)
 
 -- a first part of the queries for the conversion of a number was made, or running out of memory cut them off

@@ -8,5 +8,5 @@ use Rattle.column_convert.specs.declared.draft.Draft.{Draft}
 
 -- a draft is ready for the next row: no record is partly written, and the remembered values are right in the table
 pub record IsReady (table : Shown) (conversion : Conversion) (draft : Draft) : Type 0 where
-  pub idle : IsIdleWriter draft.writer
-  pub known : IsRemembered table (trim_of conversion.from.now) conversion.to.now draft.memory
+  pub writer_idle : IsIdleWriter draft.writer
+  pub memory_right : IsRemembered table (trim_of conversion.from.now) conversion.to.now draft.memory

@@ -6,28 +6,29 @@ use Rattle.column_convert.specs.Records.{Fields}
 
 -- the records left to give, the place of the column, counted from 0, and whether the next record is the header
 pub record Input : Type 0 where
-  pub left : List Fields
+  pub records : List Fields
   pub place : ℕ
-  pub headed : Bool
+  pub has_header : Bool
 
 -- the encoding of an input as its parts
 abbrev pub input_code : Coded Input
 input_code =
     code_by _ (coded× (coded_list (coded_list (coded_list coded_ℕ))) (coded× coded_ℕ coded_bool))
-    (λ i. (i.left, (i.place, i.headed))) (λ p. record { left = p.0; place = p.1.0; headed = p.1.1 }) (λ _. refl)
+    (λ i. (i.records, (i.place, i.has_header))) (λ p. record { records = p.0; place = p.1.0; has_header = p.1.1 })
+    (λ _. refl)
 
 -- all records of a text, without the byte order mark at its start; columns are counted from 1
 abbrev pub input_of : (text : List ℕ) (column : ℕ) (header : Bool) → Input
 input_of text column header = record {
-  left = records default_config (strip_bom text);
+  records = records default_config (strip_bom text);
   place = column - 1;
-  headed = header;
+  has_header = header;
 }
 
 -- the input after its next record; an input without records stays as it is
-abbrev pub behind : Input → Input
-behind i = go i.left
+abbrev pub rest_of_input : Input → Input
+rest_of_input i = go i.records
   where
     go : List Fields → Input
     go [] = i
-    go (fields ∷ left) = record { left = left; place = i.place; headed = false }
+    go (fields ∷ left) = record { records = left; place = i.place; has_header = false }

@@ -27,7 +27,7 @@ number_product negative x from =
 -- a text is a numeral with this value
 pub record IsNumeral (text : List ℕ) (x : Decimal) : Type 0 where
   pub spelt : is_numeral text ≡ true
-  pub value : numeral_reading text ≡ Ok x
+  pub reading_is : numeral_reading text ≡ Ok x
 
 -- an expression for which some number of this sign has a product without a fault; which number it is makes no
 -- difference
@@ -35,8 +35,8 @@ pub record IsFactor (negative : Bool) (from : List ℕ) (f : Syntax) : Type 0 wh
   pub tree : parse_of None from ≡ Ok f
   pub number : List ℕ
   pub decimal : Decimal
-  pub is_number : IsNumeral number decimal
-  pub faultless : first_fault (product_text (signed_text negative number) from) ≡ None
+  pub number_is_numeral : IsNumeral number decimal
+  pub no_product_fault : first_fault (product_text (signed_text negative number) from) ≡ None
 
 -- law: each number of this sign times the expression is parsed as their product
 abbrev pub NumberProductLaw : Type 0

@@ -14,7 +14,7 @@ text_in writer = text_written (λ (v : Vec ℕ Global). Some v.items) writer
 pub record IsIdleWriter (writer : Writer (Vec ℕ Global)) : Type 0 where
   pub setup : writer_setup writer ≡ with_flexible default_writer true
   pub fields : fields_written writer ≡ 0
-  pub clean : has_written writer ≡ false
+  pub nothing_written : has_written writer ≡ false
 
 -- the writer has appended this text
 abbrev pub AppendsText : (before after : Writer (Vec ℕ Global)) → List ℕ → Type 0
@@ -22,8 +22,8 @@ AppendsText before after text = Appends (text_in before) (text_in after) text
 
 -- the writer has appended this row, and `refused` says whether its cell is an error
 pub record IsRowWritten (before after : Writer (Vec ℕ Global)) (refused : Bool) (row : ColumnRow) : Type 0 where
-  pub text : AppendsText before after row.text
-  pub refused_is : refused ≡ row.refused
+  pub appends_text : AppendsText before after row.text
+  pub refused_is : refused ≡ row.cell_refused
 
 -- the writer has appended the next row, or nothing if there is none
 abbrev pub IsNextWritten : (before after : Writer (Vec ℕ Global)) → Option Bool → Option ColumnRow → Type 0

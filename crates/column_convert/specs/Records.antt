@@ -26,4 +26,4 @@ pub record IsPlain {R : Type 0} (text_of : R → Option (List ℕ)) (reader : Re
   pub trim : reader_trim reader ≡ trim.None
   pub flexible : is_flexible reader ≡ true
   pub ready : Ready reader
-  pub known : (text : List ℕ) × (source_of text_of reader ≡ Some text)
+  pub has_source : (text : List ℕ) × (source_of text_of reader ≡ Some text)

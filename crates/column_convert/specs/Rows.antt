@@ -7,23 +7,23 @@ use Rattle.live_table.specs.States.{Event}
 use Rattle.reply.specs.declared.options.Options.{Options}
 use Rattle.column_convert.specs.declared.cell.Cell.{Cell}
 use Rattle.column_convert.specs.Cells.{cell, cell_queries}
-use Rattle.column_convert.specs.Inputs.{Input, behind}
+use Rattle.column_convert.specs.Inputs.{Input, rest_of_input}
 use Rattle.column_convert.specs.Records.{Fields}
 
 -- a row as it is written, and whether its cell is an error
 pub record ColumnRow : Type 0 where
   pub text : List ℕ
-  pub refused : Bool
+  pub cell_refused : Bool
 
 -- the row of a record that stays as it is
 abbrev pub kept_row : Fields → ColumnRow
-kept_row fields = record { text = row_text default_writer fields; refused = false }
+kept_row fields = record { text = row_text default_writer fields; cell_refused = false }
 
 -- the row of a record with this cell at a place
 abbrev pub cell_row : Fields → (place : ℕ) → Cell → ColumnRow
 cell_row fields place cell = record {
   text = row_text default_writer (slice_set fields place cell.text);
-  refused = cell.refused;
+  cell_refused = cell.refused;
 }
 
 module _ (table : Table) (options : Options) (from to : List ℕ) where
@@ -56,10 +56,10 @@ module _ (table : Table) (options : Options) (from to : List ℕ) where
       row_queries place headed fields ++ rows_queries place false left
 
   abbrev pub rows : Input → List ColumnRow
-  rows i = rows_of i.place i.headed i.left
+  rows i = rows_of i.place i.has_header i.records
 
   abbrev pub queries : Input → List Event
-  queries i = rows_queries i.place i.headed i.left
+  queries i = rows_queries i.place i.has_header i.records
 
   -- the next row, if one is left
   abbrev pub next_of : (place : ℕ) (headed : Bool) → List Fields → Option ColumnRow
@@ -71,10 +71,10 @@ module _ (table : Table) (options : Options) (from to : List ℕ) where
   next_queries_of place headed (fields ∷ left) = row_queries place headed fields
 
   abbrev pub next_row : Input → Option ColumnRow
-  next_row i = next_of i.place i.headed i.left
+  next_row i = next_of i.place i.has_header i.records
 
   abbrev pub next_queries : Input → List Event
-  next_queries i = next_queries_of i.place i.headed i.left
+  next_queries i = next_queries_of i.place i.has_header i.records
 
 -- a row, if there is one, before others
 abbrev pub before_rows : Option ColumnRow → List ColumnRow → List ColumnRow
@@ -85,6 +85,6 @@ before_rows None rows = []
 abbrev pub RowsLaw : Type 0
 RowsLaw = (table : Table) (options : Options) (from to : List ℕ) (i : Input)
     → (rows table options from to i ≡ before_rows (next_row table options from to i)
-    (rows table options from to (behind i)))
+    (rows table options from to (rest_of_input i)))
     × (queries table options from to i ≡ next_queries table options from to i ++ queries table options from to
-    (behind i))
+    (rest_of_input i))

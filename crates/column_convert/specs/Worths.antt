@@ -14,16 +14,16 @@ use Rattle.def_entry.specs.Keys.{key}
 use Rattle.def_entry.specs.EntryReading.{is_semicolon}
 use Rattle.def_entry.specs.Tables.{Table, entry_at, is_present}
 use Rattle.tree_eval.specs.declared.step.Step.TheVariants.{Multiply}
-use Rattle.tree_eval.specs.Steps.{Worth, step_worth, negative_amount, number}
+use Rattle.tree_eval.specs.Steps.{Worth, step_worth, negative_amount, worth_of_number}
 use Rattle.tree_eval.specs.Value.{value}
 use Rattle.table_names.specs.Faults.{name_fault}
 use Rattle.table_names.specs.Meanings.{expansion}
-use Rattle.live_table.specs.Answers.{answer, by_names}
+use Rattle.live_table.specs.Answers.{by_names, table_answer}
 use Rattle.live_table.specs.States.{AsksWords}
 use Rattle.live_table.specs.TableView.{IsAfterEvents, Shown}
 use Rattle.reply.specs.declared.options.Options.{Options}
 use Rattle.reply.specs.Conversions.{conversion_between, converted_to}
-use Rattle.reply.specs.Inquiries.{Inquiry, after_query, as_answer}
+use Rattle.reply.specs.Inquiries.{Inquiry, as_answer, inquiry_after}
 use Rattle.reply.specs.Options.{reply_form}
 use Rattle.reply.specs.Replies.{as_conversion, conversion_inquiry}
 use Rattle.reply.specs.Targets.{conversion_target}
@@ -32,9 +32,9 @@ use Rattle.column_convert.specs.Products.{IsFactor, IsNumeral, product_text, sig
 
 -- the value of a numeral, perhaps with a minus sign before it
 abbrev pub number_worth : (negative : Bool) → Decimal → Worth
-number_worth false x = number (value_of_decimal x)
+number_worth false x = worth_of_number (value_of_decimal x)
 number_worth true x = do
-  v ← number (value_of_decimal x)
+  v ← worth_of_number (value_of_decimal x)
   Ok (negative_amount v)
 
 -- the value of the product; the fault of the number comes first, then that of the expression, then that of their
@@ -58,19 +58,19 @@ abbrev pub WorthLaw : Type 0
 WorthLaw = (table : Table) (options : Options) (negative : Bool) (text : List ℕ) (x : Decimal) (from : List ℕ)
     (f : Syntax) (to : List ℕ) → IsNumeral text x → IsFactor negative from f
     → conversion_inquiry table options (product_text (signed_text negative text) from) to
-    ≡ after_query (product_inquiry table negative x f).events (product_inquiry table negative x f).answer
+    ≡ inquiry_after (product_inquiry table negative x f).events (product_inquiry table negative x f).answer
     (converted_to table options (trim_of to) (conversion_target table (trim_of to)))
 
 -- an expression and a unit have these values; FROM is not a function, and TO is neither a function nor a list
 pub record AreValued (table : Table) (from to : List ℕ) (f g : Syntax) (x y : Amount) : Type 0 where
-  pub plain : is_present table (key kind.Func from) ≡ false
+  pub from_is_no_function : is_present table (key kind.Func from) ≡ false
   pub from_named : name_fault table (words_in f) ≡ None
-  pub from_value : value (expansion table f) None ≡ Ok x
+  pub from_has_value : value (expansion table f) None ≡ Ok x
   pub to_plain : is_present table (key kind.Func (trim_of to)) ≡ false
   pub to_single : entry_at table (key kind.List (trim_of to)) ≡ None
   pub to_uncut : list_any is_semicolon (trim_of to) ≡ false
   pub to_tree : parse_of None (trim_of to) ≡ Ok g
-  pub to_value : answer table g ≡ Ok y
+  pub to_value : table_answer table g ≡ Ok y
 
 -- law: the reply to a number says how often the unit goes into the product of the number and the value of the
 -- expression, and the words of both are queried

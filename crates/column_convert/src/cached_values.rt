@@ -4,7 +4,7 @@ ghost use Rattle.std.specs.Prelude.{◌≡◌, ◌≤◌, ◌-◌, ◌^◌, [], 
 ghost use Rattle.deck.specs.Tables as tables;
 ghost use Rattle.expr_tree.specs.Trees.{syntax};
 ghost use Rattle.expr_tree.specs.Words.{words_in};
-ghost use Rattle.live_table.specs.Answers.{answer};
+ghost use Rattle.live_table.specs.Answers.{table_answer};
 ghost use Rattle.live_table.specs.Calls.{AreQueries};
 ghost use Rattle.live_table.specs.States.{AsksWords};
 ghost use Rattle.column_convert.specs.CachedValues as spec;
@@ -87,7 +87,7 @@ fn ask<L: Ledger>(
     steps: &mut Steps<L>,
 ) -> Result<Option<Quantity>, AllocError>
     ensures value { IfOk result (λ value. IfSome value (λ x.
-        answer (tables.table table.old.deck) (syntax tree.now) ≡ Ok x)) }
+        table_answer (tables.table table.old.deck) (syntax tree.now) ≡ Ok x)) }
     ensures query { AreQueries (AsksWords (words_in (syntax tree.now)) ∷ []) result
         table.old table.new steps.old steps.new }
     ensures few { table.new.reductions ≤ 2 ^ 64 - 1 }

@@ -4,8 +4,8 @@ ghost use Rattle.std.specs.Prelude.{◌≡◌, ◌≤◌, ◌||◌, IfOk, OnOk, 
 ghost use Rattle.deck.specs.Tables as tables;
 ghost use Rattle.live_table.specs.Calls.{AreQueries};
 ghost use Rattle.reply.specs.Options.{IsPrintable};
-ghost use Rattle.column_convert.specs.Blocks.{block_of, first, input_after};
-ghost use Rattle.column_convert.specs.Inputs.{behind, input_of};
+ghost use Rattle.column_convert.specs.Blocks.{block_of, first_records, input_after};
+ghost use Rattle.column_convert.specs.Inputs.{input_of, rest_of_input};
 ghost use Rattle.column_convert.specs.Drafts.{IsReady};
 ghost use Rattle.column_convert.specs.Rows as spec;
 ghost use Rattle.column_convert.specs.RecordWriter.{IsNextWritten, text_in};
@@ -45,7 +45,7 @@ impl Model for Columns {
 
     ghost coded = { input_code };
 
-    ghost view = { λ c. record { left = c.records; place = c.place; headed = c.headed } };
+    ghost view = { λ c. record { records = c.records; place = c.place; has_header = c.headed } };
 }
 
 impl Columns {
@@ -86,10 +86,10 @@ impl Columns {
     ) -> Result<Block, AllocError>
         requires { IsPrintable options.now }
         ensures block { IfOk result (λ block. block ≡ block_of
-            (spec.rows (tables.table table.old.deck) options.now from.now to.now (first most self.old))) }
+            (spec.rows (tables.table table.old.deck) options.now from.now to.now (first_records most self.old))) }
         ensures left { OnOk result (self.new ≡ input_after most self.old) }
         ensures queries { AreQueries
-            (spec.queries (tables.table table.old.deck) options.now from.now to.now (first most self.old))
+            (spec.queries (tables.table table.old.deck) options.now from.now to.now (first_records most self.old))
             result table.old table.new steps.old steps.new }
         ensures deck { table.new.deck ≡ table.old.deck }
     {
@@ -128,7 +128,7 @@ impl Columns {
         ensures row { IfOk result (λ refused. IsNextWritten draft.old.writer draft.new.writer refused
             (spec.next_row (tables.table table.old.deck) conversion.now.options.now conversion.now.from.now
             conversion.now.to.now self.old)) }
-        ensures left { OnOk result (self.new ≡ behind self.old) }
+        ensures left { OnOk result (self.new ≡ rest_of_input self.old) }
         ensures queries { AreQueries
             (spec.next_queries (tables.table table.old.deck) conversion.now.options.now conversion.now.from.now
             conversion.now.to.now self.old) result table.old table.new steps.old steps.new }

@@ -10,9 +10,9 @@ use Rattle.live_table.specs.States.{Event}
 use Rattle.live_table.proofs.QuerySequence.{follows_both, follows_none}
 use Rattle.reply.specs.declared.options.Options.{Options}
 use Rattle.units_io.specs.Bytes.{known_append, GrowsByFront}
-use Rattle.column_convert.specs.Blocks.{BlocksLaw, block_of, first, input_after, is_error_row, text_of}
+use Rattle.column_convert.specs.Blocks.{BlocksLaw, block_of, first_records, input_after, is_error_row, text_of}
 use Rattle.column_convert.specs.declared.block.Block.{Block}
-use Rattle.column_convert.specs.Inputs.{Input, behind}
+use Rattle.column_convert.specs.Inputs.{Input, rest_of_input}
 use Rattle.column_convert.specs.Records.{Fields}
 use Rattle.column_convert.specs.Rows.{ColumnRow, queries, rows}
 use Rattle.column_run.proofs.Writing.{front_all, front_behind, front_more, grown_none, grown_twice}
@@ -30,41 +30,41 @@ or_assoc false b c = refl
 refused_both : (xs ys : List ColumnRow) → is_error_row (xs ++ ys) ≡ (is_error_row xs || is_error_row ys)
 refused_both [] ys = refl
 refused_both (x ∷ xs) ys =
-    ap (λ b. x.refused || b) (refused_both xs ys) ∙ or_assoc x.refused (is_error_row xs) (is_error_row ys)
+    ap (λ b. x.cell_refused || b) (refused_both xs ys) ∙ or_assoc x.cell_refused (is_error_row xs) (is_error_row ys)
 
 -- ---- the number of rows left
 rows_count : (t : Table) (options : Options) (from to : List ℕ) (i : Input)
-    → length (rows t options from to i) ≡ length i.left
-rows_count t options from to i = go i.left i.place i.headed
+    → length (rows t options from to i) ≡ length i.records
+rows_count t options from to i = go i.records i.place i.has_header
   where
     go : (left : List Fields) (place : ℕ) (headed : Bool)
-        → length (rows t options from to (record { left = left; place = place; headed = headed })) ≡ length left
+        → length (rows t options from to (record { records = left; place = place; has_header = headed })) ≡ length left
     go [] place headed = refl
     go (fields ∷ left) place headed = ap suc (go left place false)
 
-behind_count : (n : ℕ) (i : Input) → length (input_after n i).left ≡ length i.left - n
+behind_count : (n : ℕ) (i : Input) → length (input_after n i).records ≡ length i.records - n
 unfolding input_after
-behind_count n i = go n i.left i.place i.headed
+behind_count n i = go n i.records i.place i.has_header
   where
     at : List Fields → ℕ → Bool → Input
-    at left place headed = record { left = left; place = place; headed = headed }
+    at left place headed = record { records = left; place = place; has_header = headed }
 
     go : (n : ℕ) (left : List Fields) (place : ℕ) (headed : Bool)
-        → length (input_after n (at left place headed)).left ≡ length left - n
+        → length (input_after n (at left place headed)).records ≡ length left - n
     go zero left place headed = omega arith
     go (suc n) [] place headed = omega (arith, go n [] place headed)
     go (suc n) (fields ∷ left) place headed = omega (arith, go n left place false)
 
 -- after a block with rows, fewer are left
 pub fewer : (t : Table) (options : Options) (from to : List ℕ) (n : ℕ) (i : Input) (count : ℕ)
-    → count ≡ length (rows t options from to (first (suc n) i)) → (count ≡ 0 → ⊥)
-    → length (input_after (suc n) i).left < length i.left
+    → count ≡ length (rows t options from to (first_records (suc n) i)) → (count ≡ 0 → ⊥)
+    → length (input_after (suc n) i).records < length i.records
 fewer t options from to n i count is some =
-    go i.left (is ∙ rows_count t options from to (first (suc n) i)) (behind_count (suc n) i)
+    go i.records (is ∙ rows_count t options from to (first_records (suc n) i)) (behind_count (suc n) i)
   where
     go : (left : List Fields) → count ≡ length (take (suc n) left)
-        → length (input_after (suc n) i).left ≡ length left - suc n
-        → length (input_after (suc n) i).left < length left
+        → length (input_after (suc n) i).records ≡ length left - suc n
+        → length (input_after (suc n) i).records < length left
     go [] none less = absurd (some none)
     go (fields ∷ left) more less = omega (arith, less)
 
@@ -112,15 +112,16 @@ module _ (options : Options) (from to : List ℕ) (whole : Input) (start : Optio
         (front_all start out (text_of u.done) u.out_is)
 
     module _ (law : BlocksLaw) (n : ℕ) (later : Shown) (last : ℕ) (same : later.deck ≡ now.deck)
-        (made : IsAfterEvents (queries (table now.deck) options from to (first n left)) now later new last)
-        (block : Block) (is : block ≡ block_of (rows (table now.deck) options from to (first n left))) where
-      made_first : IsAfterEvents (queries_at (first n left)) now later new last
-      made_first = subst (λ d. IsAfterEvents (queries (table d) options from to (first n left)) now later new last)
+        (made : IsAfterEvents (queries (table now.deck) options from to (first_records n left)) now later new last)
+        (block : Block) (is : block ≡ block_of (rows (table now.deck) options from to (first_records n left))) where
+      made_first : IsAfterEvents (queries_at (first_records n left)) now later new last
+      made_first = subst (λ d. IsAfterEvents (queries (table d) options from to (first_records n left)) now later new
+          last)
           u.deck
           made
 
-      block_is : block ≡ block_of (rows_at (first n left))
-      block_is = is ∙ ap (λ d. block_of (rows (table d) options from to (first n left))) u.deck
+      block_is : block ≡ block_of (rows_at (first_records n left))
+      block_is = is ∙ ap (λ d. block_of (rows (table d) options from to (first_records n left))) u.deck
 
       text_next : text_of (rows_at whole)
           ≡ (text_of u.done ++ block.text) ++ text_of (rows_at (input_after n left))
@@ -128,7 +129,7 @@ module _ (options : Options) (from to : List ℕ) (whole : Input) (start : Optio
           text_now
           ∙ ap (λ (rs : List ColumnRow). text_of u.done ++ text_of rs)
           (law (table before.deck) options from to n left).0
-          ∙ ap (λ t. text_of u.done ++ t) (text_both (rows_at (first n left)) (rows_at (input_after n left)))
+          ∙ ap (λ t. text_of u.done ++ t) (text_both (rows_at (first_records n left)) (rows_at (input_after n left)))
           ∙ ap (λ (b : Block). text_of u.done ++ (b.text ++ text_of (rows_at (input_after n left)))) (sym block_is)
           ∙ sym (append_assoc (text_of u.done) block.text (text_of (rows_at (input_after n left))))
 
@@ -143,48 +144,50 @@ module _ (options : Options) (from to : List ℕ) (whole : Input) (start : Optio
       pub underway_next : (r : Bool) (after : Option (List ℕ)) → r ≡ (refused || block.refused)
           → after ≡ known_append out block.text → IsUnderway (input_after n left) r after later last
       underway_next r after either all = record {
-        done = u.done ++ rows_at (first n left);
-        events = u.events ++ queries_at (first n left);
+        done = u.done ++ rows_at (first_records n left);
+        events = u.events ++ queries_at (first_records n left);
         gives =
             u.gives
             ∙ ap (λ (rs : List ColumnRow). u.done ++ rs) (law (table before.deck) options from to n left).0
-            ∙ sym (append_assoc u.done (rows_at (first n left)) (rows_at (input_after n left)));
+            ∙ sym (append_assoc u.done (rows_at (first_records n left)) (rows_at (input_after n left)));
         asks =
             u.asks
             ∙ ap (λ (es : List Event). u.events ++ es) (law (table before.deck) options from to n left).1
-            ∙ sym (append_assoc u.events (queries_at (first n left)) (queries_at (input_after n left)));
+            ∙ sym (append_assoc u.events (queries_at (first_records n left)) (queries_at (input_after n left)));
         refused_is =
             either
             ∙ ap (λ b. b || block.refused) u.refused_is
             ∙ ap (λ (b : Block). is_error_row u.done || b.refused) block_is
-            ∙ sym (refused_both u.done (rows_at (first n left)));
+            ∙ sym (refused_both u.done (rows_at (first_records n left)));
         out_is =
             all
             ∙ ap (λ (b : Block). known_append out b.text) block_is
-            ∙ ap (λ o. known_append o (text_of (rows_at (first n left)))) u.out_is
-            ∙ grown_twice start (text_of u.done) (text_of (rows_at (first n left)))
-            ∙ ap (known_append start) (sym (text_both u.done (rows_at (first n left))));
+            ∙ ap (λ o. known_append o (text_of (rows_at (first_records n left)))) u.out_is
+            ∙ grown_twice start (text_of u.done) (text_of (rows_at (first_records n left)))
+            ∙ ap (known_append start) (sym (text_both u.done (rows_at (first_records n left))));
         deck = same ∙ u.deck;
-        follows = follows_both u.events (queries_at (first n left)) before now later old new last u.follows made_first;
+        follows = follows_both u.events (queries_at (first_records n left)) before now later old new last u.follows
+            made_first;
       }
 
     -- no row is left
     module _ (n : ℕ) (later : Shown) (last : ℕ)
-        (made : IsAfterEvents (queries (table now.deck) options from to (first (suc n) left)) now later new last)
-        (block : Block) (is : block ≡ block_of (rows (table now.deck) options from to (first (suc n) left)))
+        (made : IsAfterEvents (queries (table now.deck) options from to (first_records (suc n) left)) now later new
+        last)
+        (block : Block) (is : block ≡ block_of (rows (table now.deck) options from to (first_records (suc n) left)))
         (none : block.rows ≡ 0) where
-      over : (rows_at left ≡ []) × (queries_at left ≡ []) × (queries_at (first (suc n) left) ≡ [])
+      over : (rows_at left ≡ []) × (queries_at left ≡ []) × (queries_at (first_records (suc n) left) ≡ [])
       over =
-          go left.left left.place left.headed
-          (sym (rows_count (table now.deck) options from to (first (suc n) left))
+          go left.records left.place left.has_header
+          (sym (rows_count (table now.deck) options from to (first_records (suc n) left))
           ∙ sym (ap (λ (b : Block). b.rows) is) ∙ none)
         where
           at : List Fields → ℕ → Bool → Input
-          at ls place headed = record { left = ls; place = place; headed = headed }
+          at ls place headed = record { records = ls; place = place; has_header = headed }
 
           go : (ls : List Fields) (place : ℕ) (headed : Bool) → length (take (suc n) ls) ≡ 0
               → (rows_at (at ls place headed) ≡ []) × (queries_at (at ls place headed) ≡ [])
-              × (queries_at (first (suc n) (at ls place headed)) ≡ [])
+              × (queries_at (first_records (suc n) (at ls place headed)) ≡ [])
           go [] place headed e = (refl, refl, refl)
           go (fields ∷ ls) place headed e = absurd (omega (arith, e))
 
@@ -201,6 +204,7 @@ module _ (options : Options) (from to : List ℕ) (whole : Input) (start : Optio
       follows_over =
           subst (λ (es : List Event). IsAfterEvents es before later old last)
           (ap (λ (es : List Event). u.events ++ es) (over.2 ∙ sym over.1) ∙ sym u.asks)
-          (follows_both u.events (queries_at (first (suc n) left)) before now later old new last u.follows
-          (subst (λ d. IsAfterEvents (queries (table d) options from to (first (suc n) left)) now later new last) u.deck
+          (follows_both u.events (queries_at (first_records (suc n) left)) before now later old new last u.follows
+          (subst (λ d. IsAfterEvents (queries (table d) options from to (first_records (suc n) left)) now later new
+          last) u.deck
           made))

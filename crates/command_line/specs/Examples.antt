@@ -120,7 +120,7 @@ pub record RefusesExamples : Type 0 where
   pub name_in_part : are_taken (codes "--quie" ∷ []) ≡ false
   pub help : are_taken (codes "--help" ∷ []) ≡ false
   pub help_letter : are_taken (codes "-h" ∷ []) ≡ false
-  pub version : are_taken (codes "--version" ∷ []) ≡ false
+  pub version_refused : are_taken (codes "--version" ∷ []) ≡ false
   pub version_letter : are_taken (codes "-V" ∷ []) ≡ false
   pub three_operands : are_taken (codes "m" ∷ codes "ft" ∷ codes "yd" ∷ []) ≡ false
   pub check_of_from : are_taken (codes "--check" ∷ codes "m" ∷ []) ≡ false

@@ -36,11 +36,11 @@ pub changed_among : (t u : Table) (keys : List Key) → AreOnce keys
     ((k : Key) → is_same_entry (entry_at t k) (entry_at u k) ≡ true → entry_at t k ≡ entry_at u k)
     → IsTableChange t u (filter (differ t u) keys)
 changed_among t u keys once beside same = record {
-  changed = λ k. (
+  lists_changed_keys = λ k. (
     λ never. unchanged k never (is_key_among keys k) refl (is_same_entry (entry_at t k) (entry_at u k)) refl,
     λ equal m. no_difference k equal m,
   );
-  once = once_filter (differ t u) keys once;
+  keys_distinct = once_filter (differ t u) keys once;
 }
   where
     unchanged : (k : Key) → (is_key_among (filter (differ t u) keys) k ≡ true → ⊥) → (b : Bool)
@@ -138,7 +138,7 @@ module _ (store : Store) (numbering : IsNumbering store) (ds : Definitions) (pla
     where
       by : (o : Option (ℕ × Entry)) → lookup (is_same k) ds ≡ o → lookup (is_same k) ds ≡ None
       by None g = g
-      by (Some v) g = absurd (true≢false (sym (numbering.each v.0 (k, v.1) (placed k v g)) ∙ e))
+      by (Some v) g = absurd (true≢false (sym (numbering.definition_numbers v.0 (k, v.1) (placed k v g)) ∙ e))
 
   -- the entry at the place of a number is the entry of its key
   pub entry_numbered : (last : LastPlaces) → AreLast store.names ds last → (n : KeyNumber) (k : Key)
@@ -150,7 +150,7 @@ module _ (store : Store) (numbering : IsNumbering store) (ds : Definitions) (pla
 -- the changed keys are those whose numbers have different entries at the last places before and after an edit
 pub changed_numbers : SameTextLaw → (edited : StoreEdit) → IsNumbering (store_before edited)
     → IsNumbering (store_after edited) → (before after : LastPlaces) (ds es : Definitions) →
-    AreInPlace edited.before ds → AreInPlace edited.after es → AreLast edited.names ds before
+    AreInPlace edited.old_lines ds → AreInPlace edited.new_lines es → AreLast edited.names ds before
     → AreLast edited.names es after →
     IsTableChange (table_of ds) (table_of es)
     (keys_where (differs edited before after) kind.Unit 0 edited.names.units
@@ -161,12 +161,12 @@ changed_numbers law edited numbering too before after ds es placed put was is_la
     subst (IsTableChange (table_of ds) (table_of es))
     (sym (all_filter edited.names (differs edited before after) (differ (table_of ds) (table_of es)) by_number))
     (changed_among (table_of ds) (table_of es) (all_keys edited.names) (once_all edited.names numbering.unique) beside
-    (same_by_text law edited.before edited.after ds es placed put))
+    (same_by_text law edited.old_lines edited.new_lines ds es placed put))
   where
     by_number : (n : KeyNumber) (k : Key) → key_numbered edited.names n ≡ Some k
         → differs edited before after n ≡ differ (table_of ds) (table_of es) k
     by_number n k e =
-        ap (λ o. not (is_same_entry o (entry_there edited.after (place_at after n))))
+        ap (λ o. not (is_same_entry o (entry_there edited.new_lines (place_at after n))))
         (entry_numbered (store_before edited) numbering ds placed before was n k e)
         ∙ ap (λ o. not (is_same_entry (entry_at (table_of ds) k) o))
         (entry_numbered (store_after edited) too es put after is_last n k e)

@@ -8,7 +8,7 @@ use Rattle.def_entry.specs.SameKeys.{is_key_among}
 use Rattle.deck.specs.Changes.{ChangedLaw, each_once}
 use Rattle.deck.specs.Tables.{Table, active_definitions, entry_at, is_present, keys_of, table}
 use Rattle.deck.proofs.ChangedKeys.{changed_among, same_by_text}
-use Rattle.deck.proofs.KeyTallies.{among}
+use Rattle.deck.proofs.KeyTallies.{among_keys_of}
 use Rattle.deck.proofs.DistinctKeys.{among-append, among_each, once_each}
 use Rattle.deck.proofs.PlacedDefinitions.{in_place}
 
@@ -18,7 +18,8 @@ absent_both : (t u : Table) (k : Key) → is_key_among (each_once (keys_of t ++ 
 absent_both t u k e =
     none (entry_at t k) (entry_at u k)
     (sym (among_each (keys_of t ++ keys_of u) k ∙ among-append (keys_of t) (keys_of u) k
-    ∙ ap (λ b. b || is_key_among (keys_of u) k) (among t k) ∙ ap (λ b. is_present t k || b) (among u k)) ∙ e)
+    ∙ ap (λ b. b || is_key_among (keys_of u) k) (among_keys_of t k) ∙ ap (λ b. is_present t k || b) (among_keys_of u k))
+    ∙ e)
   where
     none : (a b : Option Entry) → (is_some a || is_some b) ≡ false → a ≡ b
     none None None h = refl

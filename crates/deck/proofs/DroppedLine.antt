@@ -25,7 +25,7 @@ use Rattle.deck.specs.Tables.{active_definitions, definitions_among, last_place,
 use Rattle.deck.specs.declared.places.last_places.LastPlaces.{LastPlaces}
 use Rattle.deck.specs.declared.settings.Settings.{Settings}
 use Rattle.deck.proofs.RemovedLine.{DefinesAt, defined_last, definitions_dropped, dropped, indexed_dropped, table_moved}
-use Rattle.deck.proofs.RemovedLine.{within}
+use Rattle.deck.proofs.RemovedLine.{place_in_lines}
 use Rattle.deck.proofs.PlacedKeys.{all_defined}
 use Rattle.deck.proofs.PlacedDefinitions.{in_place_by}
 use Rattle.deck.proofs.UncoveredKeys.{changed_dropped, last_uncovered}
@@ -42,7 +42,7 @@ module _ (settings : Settings) (store : Store) (notices : List (List ℕ)) (d : 
 
   -- the place is within the lines
   pub line_inside : place < length store.lines
-  line_inside = within settings store.lines place (k, defines.0) defines.1
+  line_inside = place_in_lines settings store.lines place (k, defines.0) defines.1
 
   -- the line at the place defines a key
   pub line_defines : None ≡ option_map (λ e. Some e.0) (definition_at store.lines place) → ⊥
@@ -108,7 +108,7 @@ module _ (settings : Settings) (store : Store) (notices : List (List ℕ)) (d : 
             ((kind : Kind) → places_of now kind ≡ map (option_map (without_gap place)) (places_of put kind)) →
             (new : Store) → new.lines ≡ dropped place store.lines → new.names ≡ store.names → IsIndexed new settings now
         indexed_drop numbering old put now indexed one gap new left names =
-            indexed_dropped settings store.lines place (k, defines.0) defines.1 new put now left indexed.closed
+            indexed_dropped settings store.lines place (k, defines.0) defines.1 new put now left indexed.blocks_closed
             (subst (λ (ns : Names). AreLast ns (definitions_among (set (active_lines settings store.lines) place false)
             store.lines) put) (sym names) (last_left numbering old put indexed one))
             gap

@@ -54,13 +54,13 @@ drop_outer (b ∷ holds) k = refl
 
 -- the state has these enclosing blocks, innermost first, and these values of the variables
 record Fits (kept : Surroundings) (blocks : ℕ → List Bool) (vars : Pairs) : Type 0 where
-  holds : (k : ℕ) → blocks k ≡ drop k kept.holds
+  holds : (k : ℕ) → blocks k ≡ drop k kept.conditions
   values : (name : List ℕ) → named_value vars name ≡ named_value kept.vars name
 
 module _ (locale : List ℕ) (kept : Surroundings) (blocks : ℕ → List Bool) (vars : Pairs) (h : Fits kept blocks vars)
   where
     -- a line that begins a block
-    opened : (b c ends : Bool) → b ≡ c → (k : ℕ) → blocks_with (Some b) ends blocks k ≡ drop k (c ∷ kept.holds)
+    opened : (b c ends : Bool) → b ≡ c → (k : ℕ) → blocks_with (Some b) ends blocks k ≡ drop k (c ∷ kept.conditions)
     opened b c ends e zero = λ i. e i ∷ h.holds zero i
     opened b c ends e (suc k) = h.holds k
 
@@ -74,7 +74,8 @@ module _ (locale : List ℕ) (kept : Surroundings) (blocks : ℕ → List Bool) 
         (cond (list_all (λ holds. holds) (blocks 0)) (vars ++ pair_set k) vars)
 
     -- a line that sets a variable
-    set_holds : (b : Bool) (more : Surroundings) → more.holds ≡ kept.holds → (cond b more kept).holds ≡ kept.holds
+    set_holds : (b : Bool) (more : Surroundings) → more.conditions ≡ kept.conditions
+        → (cond b more kept).conditions ≡ kept.conditions
     set_holds true more e = e
     set_holds false more e = refl
 
@@ -123,15 +124,15 @@ module _ (locale : List ℕ) (kept : Surroundings) (blocks : ℕ → List Bool) 
       values = as_before (list_all (λ holds. holds) (blocks 0));
     }
     behind line.EndLocale = record {
-      holds = λ k. h.holds (suc k) ∙ drop_outer kept.holds k;
+      holds = λ k. h.holds (suc k) ∙ drop_outer kept.conditions k;
       values = as_before (list_all (λ holds. holds) (blocks 0));
     }
     behind line.EndVar = record {
-      holds = λ k. h.holds (suc k) ∙ drop_outer kept.holds k;
+      holds = λ k. h.holds (suc k) ∙ drop_outer kept.conditions k;
       values = as_before (list_all (λ holds. holds) (blocks 0));
     }
     behind line.EndUtf8 = record {
-      holds = λ k. h.holds (suc k) ∙ drop_outer kept.holds k;
+      holds = λ k. h.holds (suc k) ∙ drop_outer kept.conditions k;
       values = as_before (list_all (λ holds. holds) (blocks 0));
     }
     behind (line.Set name value) = record {
@@ -163,7 +164,7 @@ module _ (settings : Settings) where
   kept_behind [] = start settings
   kept_behind (x ∷ earlier) = behind_line settings.locale (kept_behind earlier) x
 
-  nothing_around : (k : ℕ) → enclosing_blocks settings [] k ≡ drop k (start settings).holds
+  nothing_around : (k : ℕ) → enclosing_blocks settings [] k ≡ drop k (start settings).conditions
   nothing_around zero = refl
   nothing_around (suc k) = refl
 

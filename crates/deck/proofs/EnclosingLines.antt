@@ -135,8 +135,8 @@ module _ (settings : Settings) where
       → (x.mark ≡ false) × ((holds : Bool) → Encloses settings earlier holds → holds ≡ true)
   enclosed earlier x e = (
     not_is x.mark (and_first (not x.mark) (list_all (λ holds. holds) (enclosing_blocks settings earlier 0)) e),
-    λ holds q. encloser_holds q.inner q.line q.outer holds 0 q.lacks_mark q.begins q.closed
-        (subst (λ (ls : List DeckLine). AllHold (enclosing_blocks settings ls 0)) q.is
+    λ holds q. encloser_holds q.inner q.line q.outer holds 0 q.lacks_mark q.begins q.inner_blocks_closed
+        (subst (λ (ls : List DeckLine). AllHold (enclosing_blocks settings ls 0)) q.split_at_line
         (and_second (not x.mark) (list_all (λ holds. holds) (enclosing_blocks settings earlier 0)) e)),
   )
 
@@ -146,7 +146,16 @@ module _ (settings : Settings) where
   is_enclosed earlier x h =
       and_both (not x.mark) (list_all (λ holds. holds) (enclosing_blocks settings earlier 0)) (is_not x.mark h.0)
       (all_hold earlier 0 (λ inner y outer holds e u b z.
-      h.1 holds (record { inner = inner; line = y; outer = outer; is = e; lacks_mark = u; begins = b; closed = z })))
+      h.1 holds (record {
+        inner = inner;
+        line = y;
+        outer = outer;
+        split_at_line = e;
+        lacks_mark = u;
+        begins =
+            b;
+        inner_blocks_closed = z;
+      })))
 
 -- the law of enclosing blocks
 pub enclosing_law : EnclosingLaw

@@ -11,7 +11,7 @@ use Rattle.deck_lines.specs.Marks.{plain_line}
 use Rattle.deck_lines.specs.Readings.{defined_by, entry_in, of_entry, reading_by, reading_of}
 use Rattle.deck_lines.specs.Stores.{definition_at}
 use Rattle.deck_lines.specs.declared.line.DeckLine.{DeckLine}
-use Rattle.deck_lines.proofs.Entries.{reads}
+use Rattle.deck_lines.proofs.Entries.{entry_of_text}
 use Rattle.deck.specs.Changes.{is_same_entry}
 
 -- the definition at a place is read from some text
@@ -21,7 +21,7 @@ read_at lines place e h = by (slice_get lines place) h
   where
     by : (o : Option DeckLine) → option_and_then entry_in o ≡ Some e → (text : List ℕ) × (entry_of text ≡ Ok e)
     by None g = cc
-    by (Some x) g = (x.text, reads x e g)
+    by (Some x) g = (x.text, entry_of_text x e g)
 
 -- two entries of a key that are read from lines are equal if they have the same text
 pub same_text : SameTextLaw → (k : Key) (e f : Entry) (s t : List ℕ) → entry_of s ≡ Ok (k, e) → entry_of t ≡ Ok (k, f)

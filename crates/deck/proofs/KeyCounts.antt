@@ -10,7 +10,7 @@ use Rattle.deck.specs.Changes.{AreOnce, each_once}
 use Rattle.deck.specs.KeyLists.{of_kind}
 use Rattle.deck.specs.LastPlaces.{key_tally}
 use Rattle.deck.specs.Tables.{Table, is_present, keys_of}
-use Rattle.deck.proofs.KeyTallies.{among}
+use Rattle.deck.proofs.KeyTallies.{among_keys_of}
 use Rattle.deck.proofs.DistinctKeys.{among_each, among_filter, once_each, once_filter}
 use Rattle.deck.proofs.Sameness.{key_itself, same_key}
 
@@ -100,7 +100,7 @@ pub counted : (t : Table) (keys : List Key) → ((k : Key) → is_key_among keys
 counted t keys each once kind =
     same_length (of_kind kind keys) (of_kind kind (each_once (keys_of t))) (once_filter own keys once)
     (once_filter own (each_once (keys_of t)) (once_each (keys_of t)))
-    (λ k. among_filter own keys k ∙ ap (λ b. own k && b) (each k ∙ sym (among_each (keys_of t) k ∙ among t k))
+    (λ k. among_filter own keys k ∙ ap (λ b. own k && b) (each k ∙ sym (among_each (keys_of t) k ∙ among_keys_of t k))
     ∙ sym (among_filter own (each_once (keys_of t)) k))
   where
     own : Key → Bool
@@ -110,4 +110,5 @@ counted t keys each once kind =
 pub count_same : (t u : Table) → ((k : Key) → is_present t k ≡ is_present u k) → (kind : Kind)
     → key_tally t kind ≡ key_tally u kind
 count_same t u same kind =
-    counted u (each_once (keys_of t)) (λ k. among_each (keys_of t) k ∙ among t k ∙ same k) (once_each (keys_of t)) kind
+    counted u (each_once (keys_of t)) (λ k. among_each (keys_of t) k ∙ among_keys_of t k ∙ same k)
+    (once_each (keys_of t)) kind

@@ -19,7 +19,7 @@ use Rattle.deck_lines.specs.KeyNumbering.{IsNumbering}
 use Rattle.deck_lines.specs.Stores.{Store}
 use Rattle.deck_lines.specs.declared.key_number.KeyNumber.{KeyNumber}
 use Rattle.deck.specs.Changes.{AreOnce}
-use Rattle.deck.specs.SubstringKeys.{holds, is_found, is_holding}
+use Rattle.deck.specs.SubstringKeys.{has_substring, is_found, is_holding}
 use Rattle.deck.specs.LastPlaces.{AreLast}
 use Rattle.deck.specs.Numbers.{AreInPlace, keys_where}
 use Rattle.deck.specs.Tables.{Definitions, is_present, place_of, table_of}
@@ -34,11 +34,11 @@ use Rattle.deck.proofs.Sameness.{key_itself}
 module _ (law : KeyOrderLaw) where
   -- if a key is not above a different key, it is below it
   below : (y z : Key) → is_lt (key_cmp z y) ≡ false → is_same y z ≡ false → key_cmp y z ≡ Less
-  below y z up apart = law.total.antisymm y z ∙ by (key_cmp z y) refl up
+  below y z up apart = law.total_order.antisymm y z ∙ by (key_cmp z y) refl up
     where
       by : (o : Ordering) → key_cmp z y ≡ o → is_lt o ≡ false → ordering_reverse o ≡ Less
       by Less e h = absurd (true≢false h)
-      by Equal e h = absurd (true≢false (sym (ap (is_same y) (law.exact z y e) ∙ key_itself y) ∙ apart))
+      by Equal e h = absurd (true≢false (sym (ap (is_same y) (law.equal_keys z y e) ∙ key_itself y) ∙ apart))
       by Greater e h = refl
 
   all_below : (y : Key) (zs : List Key) → All (λ z. is_lt (key_cmp z y) ≡ false) zs
@@ -59,14 +59,15 @@ module _ (law : KeyOrderLaw) where
   -- sorted distinct keys are strictly sorted
   pub in_strict_order : (ys : List Key) → IsSorted key_cmp ys → IsDistinct is_same ys → IsStrictlySortedBy key_cmp ys
   in_strict_order ys sorted =
-      strict ys (λ i j e before inside. sorted_far _ (ranks_by law.total (λ k. k)) ys sorted i j e (omega arith) inside)
+      strict ys (λ i j e before inside. sorted_far _ (ranks_by law.total_order (λ k. k)) ys sorted i j e
+      (omega arith) inside)
 
 -- the keys that have a number and a last place, in order
 module _ (store : Store) (numbering : IsNumbering store) (ds : Definitions) (placed : AreInPlace store.lines ds)
     (last : LastPlaces) (are_last : AreLast store.names ds last) where
   -- a number is found exactly if its key has an entry and the name of the key contains the text
   by_number : (text : List ℕ) (n : KeyNumber) (k : Key) → key_numbered store.names n ≡ Some k
-      → is_found store.names last text n ≡ (is_present (table_of ds) k && holds k.name text)
+      → is_found store.names last text n ≡ (is_present (table_of ds) k && has_substring k.name text)
   by_number text n k e =
       ap (λ b. b && is_holding text (key_numbered store.names n))
       (ap is_some (are_last.place n ∙ ap (option_and_then (place_of ds)) e) ∙ place_present ds k)
@@ -93,11 +94,11 @@ module _ (store : Store) (numbering : IsNumbering store) (ds : Definitions) (pla
       ++ (keys_where (is_found store.names last text) kind.Func 0 store.names.functions
       ++ keys_where (is_found store.names last text) kind.List 0 store.names.lists)) →
       IsPermutation found sorted → IsSorted key_cmp sorted → IsStrictlySortedBy key_cmp sorted
-      × ((k : Key) → is_key_among sorted k ≡ (is_present (table_of ds) k && holds k.name text))
+      × ((k : Key) → is_key_among sorted k ≡ (is_present (table_of ds) k && has_substring k.name text))
   keys_found law text found sorted e moved up = (in_strict_order law sorted up apart, each)
     where
       own : Key → Bool
-      own k = is_present (table_of ds) k && holds k.name text
+      own k = is_present (table_of ds) k && has_substring k.name text
 
       is : found ≡ filter own (all_keys store.names)
       is = e ∙ all_filter store.names (is_found store.names last text) own (by_number text)
@@ -117,5 +118,5 @@ module _ (store : Store) (numbering : IsNumbering store) (ds : Definitions) (pla
       each k =
           sym (list_any-IsPermutation (is_same k) found sorted moved) ∙ ap (λ ks. is_key_among ks k) is
           ∙ among_filter own (all_keys store.names) k
-          ∙ both (is_present (table_of ds) k) (holds k.name text) (is_key_among (all_keys store.names) k)
+          ∙ both (is_present (table_of ds) k) (has_substring k.name text) (is_key_among (all_keys store.names) k)
           (present_numbered k)

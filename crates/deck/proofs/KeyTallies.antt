@@ -12,9 +12,9 @@ use Rattle.deck.specs.LastPlaces.{key_tally}
 use Rattle.deck.specs.Tables.{Table, entry_at, is_present, keys_of}
 
 -- a key is among the keys of a table exactly if it has an entry there
-pub among : (t : Table) (k : Key) → is_key_among (keys_of t) k ≡ is_present t k
-among [] k = refl
-among (e ∷ t) k = by (is_same k e.0) (among t k)
+pub among_keys_of : (t : Table) (k : Key) → is_key_among (keys_of t) k ≡ is_present t k
+among_keys_of [] k = refl
+among_keys_of (e ∷ t) k = by (is_same k e.0) (among_keys_of t k)
   where
     by : (b : Bool) → is_key_among (keys_of t) k ≡ is_present t k
         → (b || is_key_among (keys_of t) k) ≡ is_some (cond b (Some e.1) (entry_at t k))
@@ -25,7 +25,7 @@ among (e ∷ t) k = by (is_same k e.0) (among t k)
 pub count_push : (t : Table) (k : Key) (e : Entry) (kind : Kind) → key_tally ((k, e) ∷ t) kind ≡
     cond (is_same_kind kind k.kind) (cond (is_present t k) (key_tally t kind) (key_tally t kind + 1)) (key_tally t kind)
 count_push t k e kind =
-    ap (λ b. length (of_kind kind (cond b (each_once (keys_of t)) (k ∷ each_once (keys_of t))))) (among t k)
+    ap (λ b. length (of_kind kind (cond b (each_once (keys_of t)) (k ∷ each_once (keys_of t))))) (among_keys_of t k)
     ∙ by (is_present t k) (is_same_kind kind k.kind) refl
   where
     more : (n : ℕ) → suc n ≡ n + 1

@@ -66,9 +66,9 @@ indexed_push : (settings : Settings) (store : Store) (x : DeckLine) (k : Key) (e
     ≡ cond (is_same_kind a n.kind) (set (places_of last a) n.number (Some (length store.lines))) (places_of last a)) →
     IsIndexed (stored_with store x) settings now
 indexed_push settings store x k e last now n defines numbering before room numbered at put = record {
-  closed = closed_push settings store.lines before.closed x (k, e) defines;
+  blocks_closed = closed_push settings store.lines before.blocks_closed x (k, e) defines;
   places = subst (λ (ds : Definitions). AreLast (with_definition store.names (entry_in x)) ds now)
-      (sym (placed_push settings store.lines before.closed x (k, e) defines))
+      (sym (placed_push settings store.lines before.blocks_closed x (k, e) defines))
       (last_more (with_definition store.names (entry_in x)) numbered.unique ds n k
       (length store.lines) e last now key_is (number_put store x k e last n defines room key_is) are_last put);
 }
@@ -135,7 +135,7 @@ pub indexed_same : (store : Store) (settings : Settings) (old now : LastPlaces)
     IsIndexed store settings old → IsIndexed store settings now
 indexed_same store settings old now same before =
     record {
-      closed = before.closed;
+      blocks_closed = before.blocks_closed;
       places =
           last_same store.names (active_definitions settings store.lines) old now before.places same;
     }
@@ -157,7 +157,7 @@ module _ (d : Contents) (closed : AreBlocksClosed d.lines) (text : List ℕ) (k 
 
   -- if the key had another entry or none, the change is this key
   pub changed_one : entry_at (table d) k ≢ Some e → IsChange d (with_line text d) (k ∷ [])
-  changed_one differs = record { changed = λ j. by j (is_same j k) refl; once = (refl, tt) }
+  changed_one differs = record { lists_changed_keys = λ j. by j (is_same j k) refl; keys_distinct = (refl, tt) }
     where
       by : (j : Key) (b : Bool) → is_same j k ≡ b
           → (is_key_among (k ∷ []) j ≡ true → ⊥) ↔ (entry_at (table d) j ≡ entry_at (table (with_line text d)) j)
@@ -169,7 +169,10 @@ module _ (d : Contents) (closed : AreBlocksClosed d.lines) (text : List ℕ) (k 
 
   -- if the key had the same entry, no key changes
   pub changed_none : entry_at (table d) k ≡ Some e → IsChange d (with_line text d) []
-  changed_none same = record { changed = λ j. (λ _. by j (is_same j k) refl, λ _ m. true≢false (sym m)); once = tt }
+  changed_none same = record {
+    lists_changed_keys = λ j. (λ _. by j (is_same j k) refl, λ _ m. true≢false (sym m));
+    keys_distinct = tt;
+  }
     where
       by : (j : Key) (b : Bool) → is_same j k ≡ b → entry_at (table d) j ≡ entry_at (table (with_line text d)) j
       by j true h = ap (entry_at (table d)) (same_key j k h) ∙ same ∙ sym (at_key j h)

@@ -27,17 +27,17 @@ module _ (settings : Settings) (store : Store) (notices : List (List ℕ)) (d : 
     (uncovered : Option ℕ) (can : CanUndefine uncovered d) (len : ℕ) (count : len ≡ length store.lines)
     (numbering : IsNumbering store) (last : LastPlaces) (indexed : IsIndexed store settings last) (n : KeyNumber)
     (told : Some (key_numbered store.names n) ≡ option_map (λ e. Some e.0) (definition_at store.lines (len - 1))) where
-  split : store.lines ≡ can.front ++ can.line ∷ []
+  split : store.lines ≡ can.lines_before ++ can.line ∷ []
   split = ap (λ (c : Contents). c.lines) view ∙ can.lines
 
-  covers : uncovered ≡ last_place settings can.front can.key
-  covers = can.place ∙ ap (λ (c : Contents). last_place c.settings can.front can.key) (sym view)
+  covers : uncovered ≡ last_place settings can.lines_before can.key
+  covers = can.place ∙ ap (λ (c : Contents). last_place c.settings can.lines_before can.key) (sym view)
 
-  at_end : len - 1 ≡ length can.front
-  at_end = last_at store.lines can.front can.line len split count
+  at_end : len - 1 ≡ length can.lines_before
+  at_end = last_at store.lines can.lines_before can.line len split count
 
-  left_is : take (len - 1) store.lines ≡ can.front
-  left_is = front_taken store.lines can.front can.line len split count
+  left_is : take (len - 1) store.lines ≡ can.lines_before
+  left_is = front_taken store.lines can.lines_before can.line len split count
 
   -- the number of the last line is the number of its key
   numbered : key_numbered store.names n ≡ Some can.key
@@ -45,12 +45,13 @@ module _ (settings : Settings) (store : Store) (notices : List (List ℕ)) (d : 
       same_Some (key_numbered store.names n) (Some can.key)
       (told ∙ ap (λ p. option_map (λ e. Some e.0) (definition_at store.lines p)) at_end
       ∙ ap (option_map (λ e. Some e.0))
-      (defined_there settings store can.front can.line can.key can.entry split can.defines numbering last indexed))
+      (defined_there settings store can.lines_before can.line can.key can.entry split can.defines numbering last
+      indexed))
 
   -- the number is within the places
   pub room_undefined : n.number < length (places_of last n.kind)
   room_undefined =
-      room_there settings store can.front can.line can.key can.entry split can.defines numbering last indexed n
+      room_there settings store can.lines_before can.line can.key can.entry split can.defines numbering last indexed n
       uncovered numbered covers
 
   -- with the uncovered place at the number, the last places are those of the deck without the line
@@ -59,7 +60,7 @@ module _ (settings : Settings) (store : Store) (notices : List (List ℕ)) (d : 
       (set (places_of last kind) n.number uncovered) (places_of last kind)) →
       IsIndexed new settings now
   indexed_undefined now new left names put =
-      indexed_less settings store can.front can.line can.key can.entry split can.defines numbering last indexed n
+      indexed_less settings store can.lines_before can.line can.key can.entry split can.defines numbering last indexed n
       uncovered numbered covers now new (left ∙ left_is) names put
 
   -- the keys that the removal changes
@@ -72,8 +73,10 @@ module _ (settings : Settings) (store : Store) (notices : List (List ℕ)) (d : 
       (subst (λ (ls : List DeckLine). IsTableChange (table_of (active_definitions settings store.lines))
       (table_of (active_definitions settings ls)) keys) (sym (is ∙ left_is))
       (subst (λ (ks : List Key). IsTableChange (table_of (active_definitions settings store.lines))
-      (table_of (active_definitions settings can.front)) ks) (sym given)
-      (changed_less law settings store.lines can.front can.line can.key can.entry (key_numbered store.names n) (len - 1)
+      (table_of (active_definitions settings can.lines_before)) ks) (sym given)
+      (changed_less law settings store.lines can.lines_before can.line can.key can.entry (key_numbered store.names n)
+      (len - 1)
       uncovered split
-      (definitions_are settings store can.front can.line can.key can.entry split can.defines numbering last indexed)
+      (definitions_are settings store can.lines_before can.line can.key can.entry split can.defines numbering last
+      indexed)
       numbered at_end covers)))

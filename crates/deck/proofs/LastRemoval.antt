@@ -138,7 +138,7 @@ module _ (settings : Settings) (store : Store) (front : List DeckLine) (x : Deck
     (defines : entry_in x ≡ Some (k, e)) (numbering : IsNumbering store) (old : LastPlaces)
     (indexed : IsIndexed store settings old) where
   pub closed_front : AreBlocksClosed front
-  closed_front = closed_less front x (k, e) [] defines ∙ ap (blocks_after []) (sym lines) ∙ indexed.closed
+  closed_front = closed_less front x (k, e) [] defines ∙ ap (blocks_after []) (sym lines) ∙ indexed.blocks_closed
 
   pub definitions_are : active_definitions settings store.lines ≡ (k, (length front, e)) ∷ active_definitions settings
       front
@@ -167,7 +167,7 @@ module _ (settings : Settings) (store : Store) (front : List DeckLine) (x : Deck
         (places_of old kind)) →
         IsIndexed new settings now
     indexed_less now new same names put = record {
-      closed = ap (blocks_after []) same ∙ closed_front;
+      blocks_closed = ap (blocks_after []) same ∙ closed_front;
       places = subst (λ ls. AreLast new.names (active_definitions settings ls) now) (sym same)
           (subst (λ ns. AreLast ns (active_definitions settings front) now) (sym names)
           (last_less store.names numbering.unique (active_definitions settings front) n k (length front) e place old now

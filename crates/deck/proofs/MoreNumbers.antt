@@ -181,7 +181,7 @@ in_place_more xs ys ds h = λ k d e. definition_more xs ys d.0 (k, d.1) (h k d e
 pub in_place_behind : (old new : Store) (ds : Definitions) → AreInPlace old.lines ds → Extends old new
     → AreInPlace new.lines ds
 in_place_behind old new ds h e =
-    subst (λ (s : Store). AreInPlace s.lines ds) (sym e.put) (in_place_more old.lines e.lines ds h)
+    subst (λ (s : Store). AreInPlace s.lines ds) (sym e.lines_put) (in_place_more old.lines e.lines ds h)
 
 module _ (old new : Names) (each : (a : Kind) → IsMore (names_of_kind old a) (names_of_kind new a)) where
   key_stays : (n : KeyNumber) (k : Key) → key_numbered old n ≡ Some k → key_numbered new n ≡ Some k
@@ -218,7 +218,7 @@ unplaced store settings k numbering h = by (lookup (is_same k) (active_definitio
     by None q = refl
     by (Some d) q =
         let numbered : is_numbered store.names k ≡ true =
-        numbering.each d.0 (k, d.1) (in_place settings store.lines k d q) in
+        numbering.definition_numbers d.0 (k, d.1) (in_place settings store.lines k d q) in
         absurd (true≢false (sym numbered ∙ h))
 
 -- the last places stay valid when lines are appended and their keys get numbers
@@ -227,7 +227,7 @@ pub last_behind : (old new : Store) (settings : Settings) (last : LastPlaces) �
     → AreLast new.names (active_definitions settings old.lines) last
 last_behind old new settings last numbering h e =
     let each : (a : Kind) → IsMore (names_of_kind old.names a) (names_of_kind new.names a) =
-    λ a. subst (λ (s : Store). IsMore (names_of_kind old.names a) (names_of_kind s.names a)) (sym e.put)
+    λ a. subst (λ (s : Store). IsMore (names_of_kind old.names a) (names_of_kind s.names a)) (sym e.lines_put)
     (more_lines e.lines old.names a) in
     last_extended old.names new.names (active_definitions settings old.lines) last h
     (key_stays old.names new.names each)
@@ -241,14 +241,14 @@ take_front (x ∷ xs) ys = ap (λ t. x ∷ t) (take_front xs ys)
 -- the old lines are the front of the extended store
 pub front_kept : (old new : Store) (n : ℕ) → n ≡ length old.lines → Extends old new → take n new.lines ≡ old.lines
 front_kept old new n same e = ap (λ m. take m new.lines) same
-    ∙ ap (λ (s : Store). take (length old.lines) s.lines) e.put ∙ take_front old.lines e.lines
+    ∙ ap (λ (s : Store). take (length old.lines) s.lines) e.lines_put ∙ take_front old.lines e.lines
 
 -- after a refusal removes the appended lines, the last places are still those of the store
 pub indexed_again : (old new store : Store) (settings : Settings) (last : LastPlaces) → IsNumbering old
     → IsIndexed old settings last → Extends old new → store.lines ≡ old.lines → store.names ≡ new.names
     → IsIndexed store settings last
 indexed_again old new store settings last numbering h e lines names = record {
-  closed = subst AreBlocksClosed (sym lines) h.closed;
+  blocks_closed = subst AreBlocksClosed (sym lines) h.blocks_closed;
   places =
       subst (λ ls. AreLast store.names (active_definitions settings ls) last) (sym lines)
       (subst (λ ns. AreLast ns (active_definitions settings old.lines) last) (sym names)

@@ -43,7 +43,7 @@ inside lines place d h = by (slice_get lines place) refl h
 
 -- before the first step, no place has moved
 pub none_moved : (gap : ℕ) (old : LastPlaces) → IsMovedTo gap (gap + 1) old old
-none_moved gap old = record { place = λ n. by (place_at old n); room = λ kind. refl }
+none_moved gap old = record { place = λ n. by (place_at old n); same_room = λ kind. refl }
   where
     stays : (p : ℕ) → p ≡ moved_to gap (gap + 1) p
     stays p = grind (arith, nat_tests)
@@ -101,7 +101,7 @@ module _ (store : Store) (unique : IsOneToOne store.names) (old : LastPlaces) (d
       → IsMovedTo gap i old now → IsMovedTo gap (i + 1) old now
   moved_past now none moved = record {
     place = λ m. moved.place m ∙ stays gap i (place_at old m) (nowhere none m);
-    room = moved.room;
+    same_room = moved.same_room;
   }
 
   -- the step past a line that defines a key
@@ -113,7 +113,7 @@ module _ (store : Store) (unique : IsOneToOne store.names) (old : LastPlaces) (d
       → IsMovedTo gap (i + 1) old new
   moved_one after n told now new own others room moved = record {
     place = λ m. by m (is_same_number m n) refl;
-    room = λ kind. room kind ∙ moved.room kind;
+    same_room = λ kind. room kind ∙ moved.same_room kind;
   }
     where
       no : true ≡ false → ⊥
@@ -136,7 +136,7 @@ module _ (store : Store) (unique : IsOneToOne store.names) (old : LastPlaces) (d
       → (kind : Kind) → places_of now kind ≡ map (option_map (without_gap gap)) (places_of old kind)
   all_moved now end moved kind =
       alike (places_of now kind) (map (option_map (without_gap gap)) (places_of old kind))
-      (moved.room kind ∙ sym (length-map (places_of old kind) (option_map (without_gap gap))))
+      (moved.same_room kind ∙ sym (length-map (places_of old kind) (option_map (without_gap gap))))
       (λ m. moved.place (record { kind = kind; number = m })
       ∙ each (record { kind = kind; number = m }) (place_at old (record { kind = kind; number = m })) refl
       ∙ sym (in_mapped (without_gap gap) (places_of old kind) m))

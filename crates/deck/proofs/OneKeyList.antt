@@ -19,11 +19,11 @@ use Rattle.def_entry.specs.KeyOrder.{key_cmp}
 use Rattle.def_entry.specs.SameKeys.{is_key_among, is_same}
 use Rattle.def_entry.proofs.SameKeys.{key_order, same_keys}
 use Rattle.deck.specs.Changes.{AreOnce}
-use Rattle.deck.specs.SubstringKeys.{holds, keys_holding}
+use Rattle.deck.specs.SubstringKeys.{has_substring, keys_holding}
 use Rattle.deck.specs.KeyLists.{AreKeys, KeyListLaw, TableKeysLaw, key_count, table_keys}
 use Rattle.deck.specs.LastPlaces.{key_tally}
 use Rattle.deck.specs.Tables.{Table, is_present, keys_of}
-use Rattle.deck.proofs.KeyTallies.{among}
+use Rattle.deck.proofs.KeyTallies.{among_keys_of}
 use Rattle.deck.proofs.KeyCounts.{counted}
 use Rattle.deck.proofs.DistinctKeys.{among_filter}
 use Rattle.deck.proofs.TextPlaces.{holds_nothing}
@@ -71,13 +71,14 @@ in_order table =
 -- comparing keys by `key_cmp` and by `is_same` gives the same result
 tells : (k l : Key) → eq_by_cmp key_cmp k l ≡ is_same k l
 tells k l = elim (cases_Bool (is_same k l)) [
-  | inl e ↦ ap is_eq (subst (λ (x : Key). key_cmp k x ≡ Equal) ((same_keys k l).0 e) (tied_itself key_order.total k))
+  | inl e ↦ ap is_eq (subst (λ (x : Key). key_cmp k x ≡ Equal) ((same_keys k l).0 e)
+      (tied_itself key_order.total_order k))
       ∙ sym e
   | inr e ↦ false_from_ne_true (eq_by_cmp key_cmp k l) (λ t. true≢false (sym ((same_keys k l).1 (exact t)) ∙ e)) ∙ sym e
 ]
   where
     exact : eq_by_cmp key_cmp k l ≡ true → k ≡ l
-    exact t = key_order.exact k l ((Equal-is (key_cmp k l)).0 t)
+    exact t = key_order.equal_keys k l ((Equal-is (key_cmp k l)).0 t)
 
 -- finding a key in a list by `key_cmp` and by `is_same` gives the same result
 any_alike : (k : Key) (ks : List Key) → list_any (eq_by_cmp key_cmp k) ks ≡ is_key_among ks k
@@ -92,7 +93,7 @@ with_one false b same v o = ap (λ c. c || is_some o) same
 contained : (table : Table) (k : Key) → map_of.contains_key (map_of_table table) k ≡ is_key_among (keys_of table) k
 contained [] k = ap is_some (map_of.get-empty key_cmp k)
 contained (e ∷ es) k =
-    ap is_some (map_of.get-insert key_order.total (map_of_table es) e.0 e.1 k)
+    ap is_some (map_of.get-insert key_order.total_order (map_of_table es) e.0 e.1 k)
     ∙ with_one (eq_by_cmp key_cmp k e.0) (is_same k e.0) (tells k e.0) e.1 (map_of.get (map_of_table es) k)
     ∙ ap (λ b. is_same k e.0 || b) (contained es k)
 
@@ -100,23 +101,23 @@ contained (e ∷ es) k =
 pub one_order : (ks ls : List Key) → IsStrictlySortedBy key_cmp ks → IsStrictlySortedBy key_cmp ls
     → ((k : Key) → is_key_among ks k ≡ is_key_among ls k) → ks ≡ ls
 one_order ks ls order too same =
-    btree_set_from_contains key_order.total (record { keys = ks }) (record { keys = ls }) order too
-    (λ k. any_alike k ks ∙ same k ∙ sym (any_alike k ls)) key_order.exact
+    btree_set_from_contains key_order.total_order (record { keys = ks }) (record { keys = ls }) order too
+    (λ k. any_alike k ks ∙ same k ∙ sym (any_alike k ls)) key_order.equal_keys
 
 -- the law of the keys of a table
 pub are_keys : TableKeysLaw
-are_keys table = record { each = each; order = in_order table }
+are_keys table = record { key_membership = each; sorted_keys = in_order table }
   where
     each : (k : Key) → is_key_among (table_keys table) k ≡ is_present table k
     each k =
         sym (any_alike k (table_keys table))
-        ∙ (sym (map_of.contains_key-keys (map_of_table table) k) ∙ (contained table k ∙ among table k))
+        ∙ (sym (map_of.contains_key-keys (map_of_table table) k) ∙ (contained table k ∙ among_keys_of table k))
 
 -- the law that the list of keys is unique
 pub one_key_list : KeyListLaw
 one_key_list table keys are =
-    one_order keys (table_keys table) are.order (in_order table)
-    (λ k. are.each k ∙ sym ((are_keys table).each k))
+    one_order keys (table_keys table) are.sorted_keys (in_order table)
+    (λ k. are.key_membership k ∙ sym ((are_keys table).key_membership k))
 
 -- if all keys of a list are greater than a key, so are those of a filtered list
 less_filter : (p : Key → Bool) (k : Key) (ks : List Key) → AllByRecursion (λ y. key_cmp k y ≡ Less) ks
@@ -143,13 +144,13 @@ order_filter p (k ∷ ks) h = by (order_filter p ks h.1) (p k)
 
 -- strictly sorted keys are those of `keys_holding` if they are the present keys whose names contain the text
 pub holding_found : (text : List ℕ) (table : Table) (ks : List Key) → IsStrictlySortedBy key_cmp ks
-    → ((k : Key) → is_key_among ks k ≡ (is_present table k && holds k.name text)) → ks ≡ keys_holding text table
+    → ((k : Key) → is_key_among ks k ≡ (is_present table k && has_substring k.name text)) → ks ≡ keys_holding text table
 holding_found text table ks order each =
     one_order ks (keys_holding text table) order
-    (order_filter (λ k. holds k.name text) (table_keys table) (in_order table))
-    (λ k. each k ∙ turned (is_present table k) (holds k.name text)
-    ∙ sym (among_filter (λ j. holds j.name text) (table_keys table) k
-    ∙ ap (λ b. holds k.name text && b) ((are_keys table).each k)))
+    (order_filter (λ k. has_substring k.name text) (table_keys table) (in_order table))
+    (λ k. each k ∙ turned (is_present table k) (has_substring k.name text)
+    ∙ sym (among_filter (λ j. has_substring j.name text) (table_keys table) k
+    ∙ ap (λ b. has_substring k.name text && b) ((are_keys table).key_membership k)))
   where
     turned : (a b : Bool) → (a && b) ≡ (b && a)
     turned true true = refl
@@ -173,7 +174,7 @@ once (k ∷ ks) order = (none_below k ks order.0, once ks order.1)
 pub tallied : (table : Table) (kind : Kind) → key_tally table kind ≡ key_count table kind
 tallied table kind =
     let are = are_keys table in
-    sym (counted table (table_keys table) are.each (once (table_keys table) are.order) kind)
+    sym (counted table (table_keys table) are.key_membership (once (table_keys table) are.sorted_keys) kind)
 
 -- filtering by a test that all keys pass removes none
 all_pass : (p : Key → Bool) (ks : List Key) → ((k : Key) → p k ≡ true) → filter p ks ≡ ks
@@ -182,4 +183,4 @@ all_pass p (k ∷ ks) h = ap (λ b. cond b (k ∷ filter p ks) (filter p ks)) (h
 
 -- every name contains the empty text, so `keys_holding []` are all keys of the table
 pub all_holding : (table : Table) → keys_holding [] table ≡ table_keys table
-all_holding table = all_pass (λ k. holds k.name []) (table_keys table) (λ k. holds_nothing k.name)
+all_holding table = all_pass (λ k. has_substring k.name []) (table_keys table) (λ k. holds_nothing k.name)

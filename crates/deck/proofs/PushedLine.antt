@@ -39,7 +39,7 @@ outer_len (b ∷ hs) n h = omega arith
 
 -- setting a variable does not change which blocks hold
 set_holds : (c : Bool) (place : Surroundings) (vars : Pairs)
-    → (cond c (record place { vars = vars }) place).holds ≡ place.holds
+    → (cond c (record place { vars = vars }) place).conditions ≡ place.conditions
 set_holds true place vars = refl
 set_holds false place vars = refl
 
@@ -55,15 +55,15 @@ closed_len ending (b ∷ bs) cs hs e h = by (same_ending ending b) e
 
 -- after a line of this kind, the state has an entry for each open block
 holds_by : (locale : List ℕ) (place : Surroundings) (bs cs : List Ending) (kind : Kind)
-    → blocks_past_role bs (role_of kind) ≡ Some cs → length place.holds ≡ length bs
-    → length (behind_kind locale place kind).holds ≡ length cs
+    → blocks_past_role bs (role_of kind) ≡ Some cs → length place.conditions ≡ length bs
+    → length (behind_kind locale place kind).conditions ≡ length cs
 holds_by locale place bs cs (line.Locale l) e h = ap suc h ∙ ap length (same_Some _ cs e)
 holds_by locale place bs cs (line.Var v vs) e h = ap suc h ∙ ap length (same_Some _ cs e)
 holds_by locale place bs cs (line.VarNot v vs) e h = ap suc h ∙ ap length (same_Some _ cs e)
 holds_by locale place bs cs line.Utf8 e h = ap suc h ∙ ap length (same_Some _ cs e)
-holds_by locale place bs cs line.EndLocale e h = closed_len ByLocale bs cs place.holds e h
-holds_by locale place bs cs line.EndVar e h = closed_len ByVar bs cs place.holds e h
-holds_by locale place bs cs line.EndUtf8 e h = closed_len ByUtf8 bs cs place.holds e h
+holds_by locale place bs cs line.EndLocale e h = closed_len ByLocale bs cs place.conditions e h
+holds_by locale place bs cs line.EndVar e h = closed_len ByVar bs cs place.conditions e h
+holds_by locale place bs cs line.EndUtf8 e h = closed_len ByUtf8 bs cs place.conditions e h
 holds_by locale place bs cs (line.Set v x) e h = ap length (set_holds _ place _) ∙ h ∙ ap length (same_Some bs cs e)
 holds_by locale place bs cs line.Blank e h = h ∙ ap length (same_Some bs cs e)
 holds_by locale place bs cs line.Definition e h = h ∙ ap length (same_Some bs cs e)
@@ -76,19 +76,19 @@ holds_by locale place bs cs line.BadDirective e h = h ∙ ap length (same_Some b
 
 -- after a line, the state has an entry for each open block
 holds_past : (locale : List ℕ) (place : Surroundings) (bs cs : List Ending) (x : DeckLine) → blocks_past bs x ≡ Some cs
-    → length place.holds ≡ length bs → length (behind_line locale place x).holds ≡ length cs
+    → length place.conditions ≡ length bs → length (behind_line locale place x).conditions ≡ length cs
 unfolding blocks_past behind_line
 holds_past locale place bs cs x e h = by x.mark e
   where
     by : (m : Bool) → cond m (Some bs) (blocks_past_role bs (role_of (kind_of x.text))) ≡ Some cs
-        → length (cond m place (behind_kind locale place (kind_of x.text))).holds ≡ length cs
+        → length (cond m place (behind_kind locale place (kind_of x.text))).conditions ≡ length cs
     by true g = h ∙ ap length (same_Some bs cs g)
     by false g = holds_by locale place bs cs (kind_of x.text) g h
 
 -- after some lines, the state has an entry for each open block
 holds_after : (locale : List ℕ) (lines : List DeckLine) (place : Surroundings) (bs cs : List Ending)
-    → blocks_after bs lines ≡ Some cs → length place.holds ≡ length bs
-    → length (behind_lines locale place lines).holds ≡ length cs
+    → blocks_after bs lines ≡ Some cs → length place.conditions ≡ length bs
+    → length (behind_lines locale place lines).conditions ≡ length cs
 holds_after locale [] place bs cs e h = h ∙ ap length (same_Some bs cs e)
 holds_after locale (x ∷ lines) place bs cs e h =
     let p = and_then_pair (λ now. blocks_after now lines) (blocks_past bs x) cs e in
@@ -101,7 +101,7 @@ no_length (x ∷ xs) h = absurd (omega arith)
 
 -- after a closed deck no block is open
 none_around : (settings : Settings) (lines : List DeckLine) → AreBlocksClosed lines
-    → (behind_lines settings.locale (start settings) lines).holds ≡ []
+    → (behind_lines settings.locale (start settings) lines).conditions ≡ []
 none_around settings lines closed = no_length _ (holds_after settings.locale lines (start settings) [] [] closed refl)
 
 -- a line that defines a key has no mark
@@ -155,7 +155,7 @@ module _ (settings : Settings) (lines : List DeckLine) (closed : AreBlocksClosed
 
   active_push : is_active (behind_lines settings.locale (start settings) lines) x ≡ true
   active_push = ap (λ m. not m && all_hold (behind_lines settings.locale (start settings) lines)) (plain_by x e defines)
-      ∙ ap (λ (hs : List Bool). all_hold (record { holds = hs; vars = [] })) (none_around settings lines closed)
+      ∙ ap (λ (hs : List Bool). all_hold (record { conditions = hs; vars = [] })) (none_around settings lines closed)
 
   last_one : (n : ℕ) (active : Bool) → active ≡ true → definition_by n active (entry_in x) ++ [] ≡ (e.0, (n, e.1)) ∷ []
   last_one n active h = ap (λ a. definition_by n a (entry_in x) ++ []) h

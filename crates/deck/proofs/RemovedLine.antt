@@ -214,8 +214,8 @@ last_moved names gap ds old now before closed = record {
 
 module _ (settings : Settings) (lines : List DeckLine) (place : ℕ) (e : Key × Entry)
     (defines : DefinesAt lines place e) where
-  pub within : place < length lines
-  within = by (slice_get lines place) refl defines
+  pub place_in_lines : place < length lines
+  place_in_lines = by (slice_get lines place) refl defines
     where
       by : (o : Option DeckLine) → slice_get lines place ≡ o → option_and_then entry_in o ≡ Some e
           → place < length lines
@@ -229,7 +229,7 @@ module _ (settings : Settings) (lines : List DeckLine) (place : ℕ) (e : Key ×
   definitions_dropped =
       ap (λ fs. reverse (definitions_from 0 fs (dropped place lines)))
       (activity_dropped lines place e settings.locale (start settings) defines)
-      ∙ ap reverse (sym (from_dropped (active_lines settings lines) lines 0 place within
+      ∙ ap reverse (sym (from_dropped (active_lines settings lines) lines 0 place place_in_lines
       (length-activity settings.locale (start settings) lines)))
       ∙ ap (λ g. reverse (moved g (definitions_from 0 (set (active_lines settings lines) place false) lines)))
       (zero_plus place)
@@ -246,7 +246,7 @@ module _ (settings : Settings) (lines : List DeckLine) (place : ℕ) (e : Key ×
       ((kind : KeyKind) → places_of now kind ≡ map (option_map (without_gap place)) (places_of old kind))
       → IsIndexed store settings now
   indexed_dropped store old now is closed last gap = record {
-    closed = ap (blocks_after []) is ∙ blocks_dropped lines place e [] defines ∙ closed;
+    blocks_closed = ap (blocks_after []) is ∙ blocks_dropped lines place e [] defines ∙ closed;
     places = subst (λ (ds : Definitions). AreLast store.names ds now)
         (sym (ap (active_definitions settings) is ∙ definitions_dropped))
         (last_moved store.names place (definitions_among (set (active_lines settings lines) place false) lines) old now

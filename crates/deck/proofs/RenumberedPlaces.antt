@@ -18,8 +18,8 @@ module _ (store new : Store) (names : Names) (edited : StoreEdit)
   names_are : edited.names ≡ names
   names_are = ap (λ (e : StoreEdit). e.names) view ∙ ap (λ (s : Store). s.names) put ∙ sym numbers
 
-  lines_are : edited.after ≡ store.lines
-  lines_are = ap (λ (e : StoreEdit). e.after) view ∙ ap (λ (s : Store). s.lines) put
+  lines_are : edited.new_lines ≡ store.lines
+  lines_are = ap (λ (e : StoreEdit). e.new_lines) view ∙ ap (λ (s : Store). s.lines) put
 
   -- there is room for the new numbers
   pub room_there : (last : LastPlaces) → HasPlaceRoom names last → HasPlaceRoom edited.names last
@@ -31,18 +31,19 @@ module _ (store new : Store) (names : Names) (edited : StoreEdit)
 
   module _ (settings : Settings) (flags : List Bool) (active : flags ≡ active_lines settings store.lines) where
     -- there is a flag for each line
-    pub flags_long : length flags ≡ length edited.after
+    pub flags_long : length flags ≡ length edited.new_lines
     flags_long = ap length active ∙ length-activity _ _ store.lines ∙ sym (ap length lines_are)
 
     -- the last places under the new numbers are those of the store
     pub indexed_again : (last : LastPlaces) → AreBlocksClosed store.lines
-        → AreLast edited.names (definitions_among flags edited.after) last → IsIndexed new settings last
+        → AreLast edited.names (definitions_among flags edited.new_lines) last → IsIndexed new settings last
     unfolding active_definitions
     indexed_again last closed are = record {
-      closed = subst AreBlocksClosed (sym (ap (λ (s : Store). s.lines) put)) closed;
+      blocks_closed = subst AreBlocksClosed (sym (ap (λ (s : Store). s.lines) put)) closed;
       places =
-          subst (λ (e : StoreEdit). AreLast e.names (definitions_among (active_lines settings e.after) e.after) last)
+          subst (λ (e : StoreEdit). AreLast e.names (definitions_among (active_lines settings e.new_lines) e.new_lines)
+          last)
           view
-          (subst (λ fs. AreLast edited.names (definitions_among fs edited.after) last)
+          (subst (λ fs. AreLast edited.names (definitions_among fs edited.new_lines) last)
           (active ∙ sym (ap (active_lines settings) lines_are)) are);
     }

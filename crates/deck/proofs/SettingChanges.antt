@@ -101,7 +101,7 @@ by_place (q ∷ vars) (suc i) p e =
 pub none_changed : (t : Table) (keys : List Key) → keys ≡ [] → IsTableChange t t keys
 none_changed t keys none =
     subst (IsTableChange t t) (sym none)
-    (record { changed = λ k. (λ never. refl, λ equal m. true≢false (sym m)); once = tt })
+    (record { lists_changed_keys = λ k. (λ never. refl, λ equal m. true≢false (sym m)); keys_distinct = tt })
 
 -- settings with this locale and these variables
 abbrev pub settings_of : List ℕ → Pairs → Settings

@@ -60,7 +60,7 @@ undone s d h =
 
 -- a splice of the lines of a store, as an edit
 abbrev pub as_edited : Splice → List DeckLine → Names → StoreEdit
-as_edited s lines names = record { before = lines; after = spliced_lines s lines; names = names }
+as_edited s lines names = record { old_lines = lines; new_lines = spliced_lines s lines; names = names }
 
 -- a key that is numbered has some number
 number_of : (names : Names) (k : Key) → is_numbered names k ≡ true → (n : KeyNumber) × (key_numbered names n ≡ Some k)
@@ -73,7 +73,7 @@ pub indexed_read : (old new : Store) (settings : Settings) (last : LastPlaces) �
     → new.lines ≡ old.lines → IsExtended old.names new.names →
     IsIndexed old settings last → IsIndexed new settings last
 indexed_read old new settings last numbering more lines wider before = record {
-  closed = subst AreBlocksClosed (sym lines) before.closed;
+  blocks_closed = subst AreBlocksClosed (sym lines) before.blocks_closed;
   places = subst (λ ls. AreLast new.names (active_definitions settings ls) last) (sym lines)
       (last_extended old.names new.names (active_definitions settings old.lines) last before.places wider
       (λ n k none some. unplaced old settings k numbering (fresh n k none some (is_numbered old.names k) refl)));
@@ -98,7 +98,7 @@ pub indexed_spliced : (s : Splice) (d : Contents) (store now : Store) (last : La
 indexed_spliced s d store now last same put names closed places =
     let lines : now.lines ≡ spliced_lines s d.lines = put ∙ ap (spliced_lines s) same in
     record {
-      closed = subst AreBlocksClosed (sym lines) closed;
+      blocks_closed = subst AreBlocksClosed (sym lines) closed;
       places = subst (λ ls. AreLast now.names (active_definitions s.settings ls) last) (sym lines)
           (subst (λ (ns : Names). AreLast ns (active_definitions s.settings (spliced_lines s d.lines)) last)
           (sym names) places);

@@ -44,7 +44,7 @@ short d =
 -- the law of tables
 pub of_lines : DeckTableLaw
 of_lines = record {
-  short = short;
+  table_length = short;
   gives_each = λ d k e h. from_place d.lines (active_definitions d.settings d.lines) (in_place d.settings d.lines) k e
       h;
 }

@@ -8,10 +8,10 @@ use Rattle.std.proofs.lemmas.List.{get_or-take}
 use Rattle.std.proofs.lemmas.Slice.Eq.{bytes_eq-Decides}
 use Rattle.std.specs.List.{starts_with}
 use Rattle.memchr.specs.Find.{FindsNeedle, OccursAt}
-use Rattle.deck.specs.SubstringKeys.{holds}
+use Rattle.deck.specs.SubstringKeys.{has_substring}
 
 -- all bytes contain the empty text
-pub holds_nothing : (bytes : List ℕ) → holds bytes [] ≡ true
+pub holds_nothing : (bytes : List ℕ) → has_substring bytes [] ≡ true
 holds_nothing [] = refl
 holds_nothing (b ∷ bytes) = refl
 
@@ -69,13 +69,13 @@ one_back b bytes text k o = record { fits = omega (arith, o.fits); reads = λ j 
         sym (ap (λ i. get_or (b ∷ bytes) i 0) next)
 
 -- a text that the bytes contain occurs at some place
-place_held : (bytes text : List ℕ) → holds bytes text ≡ true → (k : ℕ) × OccursAt bytes text k
+place_held : (bytes text : List ℕ) → has_substring bytes text ≡ true → (k : ℕ) × OccursAt bytes text k
 place_held [] text h = (0, occurs_first [] text h)
 place_held (b ∷ bytes) text h =
     by (starts_with nat_eq (b ∷ bytes) text) (occurs_first (b ∷ bytes) text) (place_held bytes text) h
   where
     by : (s : Bool) → (s ≡ true → OccursAt (b ∷ bytes) text 0)
-        → (holds bytes text ≡ true → (k : ℕ) × OccursAt bytes text k) → (s || holds bytes text) ≡ true
+        → (has_substring bytes text ≡ true → (k : ℕ) × OccursAt bytes text k) → (s || has_substring bytes text) ≡ true
         → (k : ℕ) × OccursAt (b ∷ bytes) text k
     by true first later g = (0, first refl)
     by false first later g =
@@ -91,21 +91,21 @@ or_second true b h = refl
 or_second false b h = h
 
 -- the bytes contain a text that occurs at some place
-held_at : (bytes text : List ℕ) (k : ℕ) → OccursAt bytes text k → holds bytes text ≡ true
+held_at : (bytes text : List ℕ) (k : ℕ) → OccursAt bytes text k → has_substring bytes text ≡ true
 held_at [] text zero o = starts_first [] text o
 held_at [] text (suc k) o = absurd (omega (arith, o.fits))
 held_at (b ∷ bytes) text zero o =
-    or_first (starts_with nat_eq (b ∷ bytes) text) (holds bytes text) (starts_first (b ∷ bytes) text o)
+    or_first (starts_with nat_eq (b ∷ bytes) text) (has_substring bytes text) (starts_first (b ∷ bytes) text o)
 held_at (b ∷ bytes) text (suc k) o =
-    or_second (starts_with nat_eq (b ∷ bytes) text) (holds bytes text)
+    or_second (starts_with nat_eq (b ∷ bytes) text) (has_substring bytes text)
     (held_at bytes text k (one_back b bytes text k o))
 
 -- a search finds a text exactly if the bytes contain it
 pub held_if_found : (bytes text : List ℕ) (place : Option ℕ) → FindsNeedle bytes text 0 place
-    → is_some place ≡ holds bytes text
-held_if_found bytes text None none = by (holds bytes text) refl
+    → is_some place ≡ has_substring bytes text
+held_if_found bytes text None none = by (has_substring bytes text) refl
   where
-    by : (b : Bool) → holds bytes text ≡ b → false ≡ b
+    by : (b : Bool) → has_substring bytes text ≡ b → false ≡ b
     by false e = refl
     by true e =
         let found = place_held bytes text e in

@@ -13,7 +13,7 @@ use Rattle.deck.specs.declared.settings.Settings.{Settings}
 -- the state before a line of a deck: whether each enclosing block holds, innermost first, and the variables that are
 -- set
 pub record Surroundings : Type 0 where
-  pub holds : List Bool
+  pub conditions : List Bool
   pub vars : Pairs
 
 -- a variable has a value, and it is one of these
@@ -23,11 +23,11 @@ is_value_listed values (Some value) = is_listed values value
 
 -- all enclosing blocks hold
 abbrev pub all_hold : Surroundings → Bool
-all_hold around = list_all (λ holds. holds) around.holds
+all_hold around = list_all (λ holds. holds) around.conditions
 
 -- the state in one more block
 abbrev pub in_block : Bool → Surroundings → Surroundings
-in_block holds around = record around { holds = holds ∷ around.holds }
+in_block holds around = record around { conditions = holds ∷ around.conditions }
 
 abbrev pub outer_flags : List Bool → List Bool
 outer_flags [] = []
@@ -35,7 +35,7 @@ outer_flags (b ∷ holds) = holds
 
 -- the state outside of the innermost block
 abbrev pub out_of_block : Surroundings → Surroundings
-out_of_block around = record around { holds = outer_flags around.holds }
+out_of_block around = record around { conditions = outer_flags around.conditions }
 
 -- the state after an active line sets a variable, unless it is set already
 abbrev pub with_var : List ℕ → List ℕ → Surroundings → Surroundings
@@ -73,7 +73,7 @@ activity locale around (line ∷ lines) =
 
 -- the state at the start of a deck
 abbrev pub start : Settings → Surroundings
-start settings = record { holds = []; vars = settings.vars }
+start settings = record { conditions = []; vars = settings.vars }
 
 -- for each line of a deck, whether it is active under the settings
 abbrev pub active_lines : Settings → List DeckLine → List Bool

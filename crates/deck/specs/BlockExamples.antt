@@ -14,22 +14,23 @@ abbrev pub big_size : Settings
 big_size = record { locale = []; vars = (codes "SIZE", codes "big") ∷ [] }
 
 -- lines with these texts
-abbrev pub lines : List (List ℕ) → List DeckLine
-lines texts = map (λ text. plain_line 1 text) texts
+abbrev pub example_lines : List (List ℕ) → List DeckLine
+example_lines texts = map (λ text. plain_line 1 text) texts
 
 -- a line that is active unless a variable has a value
 abbrev pub unless_big : List DeckLine
-unless_big = lines (codes "!varnot SIZE big" ∷ codes "a !" ∷ codes "!endvar" ∷ codes "b !" ∷ [])
+unless_big = example_lines (codes "!varnot SIZE big" ∷ codes "a !" ∷ codes "!endvar" ∷ codes "b !" ∷ [])
 
 -- a block in a block, a line after the inner one and a line after both
 abbrev pub nested_blocks : List DeckLine
-nested_blocks = lines (codes "!var SIZE big" ∷ codes "!varnot SIZE big" ∷ codes "a !" ∷ codes "!endvar" ∷ codes "b !"
+nested_blocks = example_lines
+    (codes "!var SIZE big" ∷ codes "!varnot SIZE big" ∷ codes "a !" ∷ codes "!endvar" ∷ codes "b !"
     ∷ codes "!endvar" ∷ codes "c !" ∷ [])
 
 -- a `!set` in a block that does not hold sets nothing; one after the block sets the variable, and a second one for the
 -- same variable changes nothing
 abbrev pub set_within : List DeckLine
-set_within = lines (codes "!var SIZE big" ∷ codes "!set COLOUR red" ∷ codes "!endvar" ∷ codes "!set COLOUR blue"
+set_within = example_lines (codes "!var SIZE big" ∷ codes "!set COLOUR red" ∷ codes "!endvar" ∷ codes "!set COLOUR blue"
     ∷ codes "!set COLOUR red" ∷ codes "!var COLOUR red" ∷ codes "a !" ∷ codes "!endvar" ∷ codes "!var COLOUR blue"
     ∷ codes "b !" ∷ codes "!endvar" ∷ [])
 
@@ -47,8 +48,9 @@ pub record BlockExamplesLaw : Type 0 where
   pub set_outside : active_lines big_size set_within
       ≡ true ∷ true ∷ true ∷ true ∷ true ∷ true ∷ true ∷ true ∷ true ∷ false ∷ false ∷ []
   -- `!utf8` always holds
-  pub utf8 : active_lines no_settings (lines (codes "!utf8" ∷ codes "a !" ∷ codes "!endutf8" ∷ []))
+  pub utf8 : active_lines no_settings (example_lines (codes "!utf8" ∷ codes "a !" ∷ codes "!endutf8" ∷ []))
       ≡ true ∷ true ∷ true ∷ []
   -- a line with a mark begins no block
-  pub marked : active_lines no_settings (marked_line 1 (codes "!var SIZE big") ∷ plain_line 2 (codes "a !") ∷ [])
+  pub active_marked_line : active_lines no_settings
+      (marked_line 1 (codes "!var SIZE big") ∷ plain_line 2 (codes "a !") ∷ [])
       ≡ false ∷ true ∷ []

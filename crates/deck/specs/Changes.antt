@@ -16,8 +16,8 @@ AreOnce (k ∷ keys) = (is_key_among keys k ≡ false) × AreOnce keys
 
 -- the keys whose entries differ between two tables, each once
 pub record IsTableChange (before after : Table) (keys : List Key) : Type 0 where
-  pub changed : AreChanged before after keys
-  pub once : AreOnce keys
+  pub lists_changed_keys : AreChanged before after keys
+  pub keys_distinct : AreOnce keys
 
 -- the keys that an edit changes, each once
 abbrev pub IsChange : Contents → Contents → List Key → Type 0

@@ -18,8 +18,8 @@ use Rattle.deck.specs.declared.fault.DeckFault.TheVariants.{BadLine, NoSuchKey, 
 use Rattle.deck.specs.declared.settings.Settings.{Settings}
 
 -- the deck, or `DeckFull` if its lines pass a limit
-abbrev pub within : Contents → Result Contents DeckFault
-within d = if pass_limit d.lines then Err DeckFull else Ok d
+abbrev pub deck_within_limit : Contents → Result Contents DeckFault
+deck_within_limit d = if pass_limit d.lines then Err DeckFull else Ok d
 
 -- the deck with a line appended
 abbrev pub with_line : List ℕ → Contents → Contents
@@ -28,7 +28,7 @@ with_line text d = record d { lines = d.lines ++ plain_line 0 text ∷ [] }
 -- the outcome for a deck with one more line, given how that line is read as an entry
 abbrev pub by_entry : Result (Key × Entry) EntryFault → Contents → Result Contents DeckFault
 by_entry (Err fault) d = Err (BadLine fault)
-by_entry (Ok entry) d = within d
+by_entry (Ok entry) d = deck_within_limit d
 
 -- the outcome of appending a line that defines a key
 abbrev pub after_define : List ℕ → Contents → Result Contents DeckFault

@@ -96,10 +96,10 @@ pub record Encloses (settings : Settings) (before : List DeckLine) (holds : Bool
   pub inner : List DeckLine
   pub line : DeckLine
   pub outer : List DeckLine
-  pub is : before ≡ inner ++ line ∷ outer
+  pub split_at_line : before ≡ inner ++ line ∷ outer
   pub lacks_mark : line.mark ≡ false
   pub begins : block_begun settings.locale (vars_after settings outer) (kind_of line.text) ≡ Some holds
-  pub closed : skip_before_all inner 0 ≡ 0
+  pub inner_blocks_closed : skip_before_all inner 0 ≡ 0
 
 -- law: a line of a deck is active exactly if it has no mark and each block that encloses it holds
 pub record EnclosingLaw : Type 0 where

@@ -44,8 +44,8 @@ abbrev pub with_size : List ℕ → List ℕ → Settings
 with_size locale size = record { locale = locale; vars = (codes "SIZE", size) ∷ [] }
 
 -- a deck of these lines under these settings
-abbrev pub deck : Settings → List DeckLine → Contents
-deck settings these = record { lines = these; settings = settings; notices = [] }
+abbrev pub example_deck : Settings → List DeckLine → Contents
+example_deck settings these = record { lines = these; settings = settings; notices = [] }
 
 -- the key of a unit
 abbrev pub deck_unit : List ℕ → Key
@@ -55,33 +55,34 @@ deck_unit name = key kind.Unit name
 -- change
 pub record DeckExamplesLaw : Type 0 where
   -- both blocks hold
-  pub both : active_lines (in_locale (codes "en_US")) all_lines
+  pub active_in_us : active_lines (in_locale (codes "en_US")) all_lines
       ≡ true ∷ true ∷ true ∷ true ∷ true ∷ true ∷ true ∷ true ∷ false ∷ []
   -- the block of another locale does not hold
-  pub elsewhere : active_lines (in_locale (codes "en_GB")) all_lines
+  pub active_in_gb : active_lines (in_locale (codes "en_GB")) all_lines
       ≡ true ∷ true ∷ false ∷ false ∷ true ∷ true ∷ true ∷ true ∷ false ∷ []
   -- a variable that has a value keeps it
   pub neither : active_lines (with_size (codes "en_GB") (codes "small")) all_lines
       ≡ true ∷ true ∷ false ∷ false ∷ true ∷ true ∷ false ∷ false ∷ false ∷ []
   -- the places of `g`, counted from 0, and of a key that only a line with a notice would define
-  pub last : last_place (in_locale (codes "en_US")) all_lines (deck_unit (codes "g")) ≡ Some 6
-  pub first : last_place (with_size (codes "en_US") (codes "small")) all_lines (deck_unit (codes "g")) ≡ Some 2
-  pub nowhere : last_place (with_size (codes "en_GB") (codes "small")) all_lines (deck_unit (codes "g")) ≡ None
+  pub last_place_us : last_place (in_locale (codes "en_US")) all_lines (deck_unit (codes "g")) ≡ Some 6
+  pub last_place_of_small : last_place (with_size (codes "en_US") (codes "small")) all_lines
+      (deck_unit (codes "g")) ≡ Some 2
+  pub no_last_place : last_place (with_size (codes "en_GB") (codes "small")) all_lines (deck_unit (codes "g")) ≡ None
   pub untold : last_place (in_locale (codes "en_US")) all_lines (deck_unit (codes "h")) ≡ None
   -- a line that is appended, and two lines that are refused
-  pub defined : after_define (codes "h 2 g") (deck (in_locale (codes "en_US")) all_lines)
-      ≡ Ok (deck (in_locale (codes "en_US")) (all_lines ++ plain_line 0 (codes "h 2 g") ∷ []))
-  pub unread : after_define (codes "h 2 +") (deck (in_locale (codes "en_US")) all_lines)
+  pub defined_line : after_define (codes "h 2 g") (example_deck (in_locale (codes "en_US")) all_lines)
+      ≡ Ok (example_deck (in_locale (codes "en_US")) (all_lines ++ plain_line 0 (codes "h 2 g") ∷ []))
+  pub unread : after_define (codes "h 2 +") (example_deck (in_locale (codes "en_US")) all_lines)
       ≡ Err (BadLine (Parse (Syntax 3)))
-  pub directive : after_define (codes "!set SIZE small") (deck (in_locale (codes "en_US")) all_lines)
+  pub directive : after_define (codes "!set SIZE small") (example_deck (in_locale (codes "en_US")) all_lines)
       ≡ Err (BadLine BadForm)
   -- the last active line of `g` is removed, and the earlier one stays; `h` has no line
-  pub g_after_drop : after_drop (deck_unit (codes "g")) (deck (in_locale (codes "en_US")) all_lines)
-      ≡ Ok (deck (in_locale (codes "en_US")) (first_lines ++ example_rest))
-  pub no_such_definition : after_drop (deck_unit (codes "h")) (deck (in_locale (codes "en_US")) all_lines) ≡ Err
+  pub g_after_drop : after_drop (deck_unit (codes "g")) (example_deck (in_locale (codes "en_US")) all_lines)
+      ≡ Ok (example_deck (in_locale (codes "en_US")) (first_lines ++ example_rest))
+  pub no_such_definition : after_drop (deck_unit (codes "h")) (example_deck (in_locale (codes "en_US")) all_lines) ≡ Err
       NoSuchKey
   -- settings under which another line of `g` is the last, and settings under which the same line is
-  pub after_switch : changed_keys (table (deck (in_locale (codes "en_US")) all_lines))
-      (table (deck (with_size (codes "en_US") (codes "small")) all_lines)) ≡ deck_unit (codes "g") ∷ []
-  pub stays : changed_keys (table (deck (in_locale (codes "en_US")) all_lines))
-      (table (deck (in_locale (codes "en_GB")) all_lines)) ≡ []
+  pub after_switch : changed_keys (table (example_deck (in_locale (codes "en_US")) all_lines))
+      (table (example_deck (with_size (codes "en_US") (codes "small")) all_lines)) ≡ deck_unit (codes "g") ∷ []
+  pub unchanged_keys : changed_keys (table (example_deck (in_locale (codes "en_US")) all_lines))
+      (table (example_deck (in_locale (codes "en_GB")) all_lines)) ≡ []

@@ -1,6 +1,6 @@
 -- The outcomes of loading a file.
 use Rattle.std.specs.Prelude.{◌≡◌, ◌⊎◌, ℕ, List, [], Bool, true, false, Option, Result, Ok, Err, MatchResult, ⊤}
-use Rattle.units_io.specs.Faults.{next}
+use Rattle.units_io.specs.Faults.{next_count}
 use Rattle.units_io.specs.FileMap.{FileMap, file_of}
 use Rattle.units_io.specs.FetchResults.{answer_of}
 use Rattle.units_io.specs.declared.files.FetchFault.{FetchFault}
@@ -14,7 +14,7 @@ use Rattle.deck_lines.specs.declared.line.DeckLine.{DeckLine}
 use Rattle.deck_lines.specs.declared.draft.LoadFault.{LoadFault}
 use Rattle.deck_lines.specs.declared.draft.LoadFault.TheVariants as load
 use Rattle.deck.specs.Decks.{Contents}
-use Rattle.deck.specs.Edits.{with_excerpt, within}
+use Rattle.deck.specs.Edits.{deck_within_limit, with_excerpt}
 use Rattle.deck.specs.declared.fault.DeckFault.{DeckFault}
 use Rattle.deck.specs.declared.fault.DeckFault.TheVariants.{BadLine, NoSuchKey, DeckFull, Absent, TooLong, ReadFailed}
 use Rattle.deck.specs.declared.fault.DeckFault.TheVariants.{OutOfMemory}
@@ -35,7 +35,7 @@ fault_of_load load.OutOfMemory = OutOfMemory
 
 -- the outcome of appending the deck of a file, given the answer of its fetch
 abbrev pub with_answer : FileMap → List ℕ → Result (List ℕ) FetchFault → Contents → Result Contents DeckFault
-with_answer files name (Ok bytes) d = within (with_excerpt (deck_of_file files name bytes) d)
+with_answer files name (Ok bytes) d = deck_within_limit (with_excerpt (deck_of_file files name bytes) d)
 with_answer files name (Err fault) d = Err (load_error fault)
 
 -- the outcome of appending the deck of the file with this name
@@ -52,7 +52,7 @@ after_load files name settings = after_append files name (empty_deck settings)
 
 -- the outcome of loading a text if all files are absent
 abbrev pub after_text : List ℕ → List ℕ → Settings → Result Contents DeckFault
-after_text text name settings = within (with_excerpt (lone_deck_of name text) (empty_deck settings))
+after_text text name settings = deck_within_limit (with_excerpt (lone_deck_of name text) (empty_deck settings))
 
 -- the result is the deck or the error of this outcome, or `OutOfMemory`
 abbrev pub IsLoadResult : Result Contents DeckFault → Result Contents DeckFault → Type 0
@@ -125,5 +125,5 @@ IsLoadEnd files name before left result =
 
 -- the count of failed fetches after a load, which ends with the first failed fetch
 abbrev pub fetch_faults_after : {T : Type 0} → ℕ → Result T DeckFault → ℕ
-fetch_faults_after faults (Err ReadFailed) = next faults
+fetch_faults_after faults (Err ReadFailed) = next_count faults
 fetch_faults_after faults _ = faults

@@ -11,8 +11,8 @@ use Rattle.deck.specs.Tables.{Table, is_present}
 
 -- the list has exactly the keys that have an entry, in order, each once
 pub record AreKeys (table : Table) (keys : List Key) : Type 0 where
-  pub each : (k : Key) → is_key_among keys k ≡ is_present table k
-  pub order : IsStrictlySortedBy key_cmp keys
+  pub key_membership : (k : Key) → is_key_among keys k ≡ is_present table k
+  pub sorted_keys : IsStrictlySortedBy key_cmp keys
 
 -- the keys of the table, in the order of a finite map
 abbrev pub table_keys : Table → List Key

@@ -45,9 +45,9 @@ moved_to gap end place = if nat_lt place end then without_gap gap place else pla
 -- the last places, after the places between `gap` and `end` are decremented
 pub record IsMovedTo (gap end : ℕ) (old now : LastPlaces) : Type 0 where
   pub place : (n : KeyNumber) → place_at now n ≡ option_map (moved_to gap end) (place_at old n)
-  pub room : (kind : Kind) → length (places_of now kind) ≡ length (places_of old kind)
+  pub same_room : (kind : Kind) → length (places_of now kind) ≡ length (places_of old kind)
 
 -- the lines are closed, and `last` has the last places of their keys
 pub record IsIndexed (store : Store) (settings : Settings) (last : LastPlaces) : Type 0 where
-  pub closed : AreBlocksClosed store.lines
+  pub blocks_closed : AreBlocksClosed store.lines
   pub places : AreLast store.names (active_definitions settings store.lines) last

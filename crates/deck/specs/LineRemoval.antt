@@ -27,13 +27,13 @@ IsDefinedOver outcome text old new (Err fault) = (new ≡ old) × ((fault ≡ Ou
 
 -- the last line defines a key, and the last active line of the key before it has this place, if there is one
 pub record CanUndefine (uncovered : Option ℕ) (d : Contents) : Type 0 where
-  pub front : List DeckLine
+  pub lines_before : List DeckLine
   pub line : DeckLine
   pub key : Key
   pub entry : Entry
-  pub lines : d.lines ≡ front ++ line ∷ []
+  pub lines : d.lines ≡ lines_before ++ line ∷ []
   pub defines : entry_in line ≡ Some (key, entry)
-  pub place : uncovered ≡ last_place d.settings front key
+  pub place : uncovered ≡ last_place d.settings lines_before key
 
 -- the deck without its last line
 abbrev pub without_last : Contents → Contents

@@ -28,7 +28,8 @@ entry_there lines place = option_and_then (λ p. option_map (λ d. d.1) (definit
 -- the entries of a key before and after an edit have different texts
 abbrev pub differs : StoreEdit → LastPlaces → LastPlaces → KeyNumber → Bool
 differs edited before after n =
-    not (is_same_entry (entry_there edited.before (place_at before n)) (entry_there edited.after (place_at after n)))
+    not (is_same_entry (entry_there edited.old_lines (place_at before n))
+    (entry_there edited.new_lines (place_at after n)))
 
 -- the list of a key if a test is passed, or else the empty list
 abbrev pub key_if : Bool → Option Key → List Key

@@ -18,11 +18,11 @@ without_last_variable settings = record settings { vars = take (length settings.
 -- setting that value, and setting one that had none by removing the last variable; removing the last variable is undone
 -- by setting it again
 pub record SettingLaw : Type 0 where
-  pub same : (s : Settings) (name value : List ℕ) → named_value s.vars name ≡ Some value
+  pub same_value : (s : Settings) (name value : List ℕ) → named_value s.vars name ≡ Some value
       → with_variable s name value ≡ s
   pub changes_value : (s : Settings) (name value before : List ℕ) → named_value s.vars name ≡ Some before
       → with_variable (with_variable s name value) name before ≡ s
   pub new_variable : (s : Settings) (name value : List ℕ) → named_value s.vars name ≡ None
       → without_last_variable (with_variable s name value) ≡ s
-  pub last : (s : Settings) (name value : List ℕ) → slice_get s.vars (length s.vars - 1) ≡ Some (name, value)
+  pub last_variable : (s : Settings) (name value : List ℕ) → slice_get s.vars (length s.vars - 1) ≡ Some (name, value)
       → HasDistinctNames s.vars → with_variable (without_last_variable s) name value ≡ s

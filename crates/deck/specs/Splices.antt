@@ -26,8 +26,8 @@ abbrev pub CanSplice : Splice → Contents → Type 0
 CanSplice s d = CanExchange s.at s.cut s.put d.lines
 
 -- the splice that undoes another
-abbrev pub inverse : Splice → Contents → Splice
-inverse s d = record {
+abbrev pub inverse_splice : Splice → Contents → Splice
+inverse_splice s d = record {
   at = s.at;
   cut = length s.put;
   put = lines_from s.at s.cut d.lines;
@@ -37,10 +37,11 @@ inverse s d = record {
 -- a splice yields its deck, and returns the keys that it changes and its inverse; or it is handed back, and the deck is
 -- unchanged
 abbrev pub IsSpliced : Splice → Contents → Contents → Result (List Key × Splice) (Splice × AllocError) → Type 0
-IsSpliced s old new (Ok done) = (new ≡ after_splice s old) × IsChange old new done.0 × (done.1 ≡ inverse s old)
+IsSpliced s old new (Ok done) = (new ≡ after_splice s old) × IsChange old new done.0 × (done.1 ≡ inverse_splice s old)
 IsSpliced s old new (Err refusal) = (new ≡ old) × (refusal.0 ≡ s)
 
 -- law: the inverse of a splice restores the deck
 abbrev pub SpliceInverseLaw : Type 0
 SpliceInverseLaw =
-    (s : Splice) (d : Contents) → s.at + s.cut ≤ length d.lines → after_splice (inverse s d) (after_splice s d) ≡ d
+    (s : Splice) (d : Contents) → s.at + s.cut ≤ length d.lines → after_splice (inverse_splice s d)
+    (after_splice s d) ≡ d

@@ -10,18 +10,18 @@ use Rattle.deck.specs.Tables.{Table}
 use Rattle.deck.specs.declared.places.last_places.LastPlaces.{LastPlaces}
 
 -- the text is a substring of the bytes
-abbrev pub holds : (bytes text : List ℕ) → Bool
-holds [] text = starts_with nat_eq [] text
-holds (b ∷ bytes) text = starts_with nat_eq (b ∷ bytes) text || holds bytes text
+abbrev pub has_substring : (bytes text : List ℕ) → Bool
+has_substring [] text = starts_with nat_eq [] text
+has_substring (b ∷ bytes) text = starts_with nat_eq (b ∷ bytes) text || has_substring bytes text
 
 -- the keys of a table whose names contain the text, in order
 abbrev pub keys_holding : List ℕ → Table → List Key
-keys_holding text table = filter (λ k. holds k.name text) (table_keys table)
+keys_holding text table = filter (λ k. has_substring k.name text) (table_keys table)
 
 -- a key is present, and its name contains the text
 abbrev pub is_holding : List ℕ → Option Key → Bool
 is_holding text None = false
-is_holding text (Some k) = holds k.name text
+is_holding text (Some k) = has_substring k.name text
 
 -- the key with this number has a last place, and its name contains the text
 abbrev pub is_found : Names → LastPlaces → List ℕ → KeyNumber → Bool

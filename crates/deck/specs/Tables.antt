@@ -53,6 +53,6 @@ table d = table_of (active_definitions d.settings d.lines)
 
 -- law: a table has at most as many entries as there are lines, and each entry is defined by a line
 pub record DeckTableLaw : Type 0 where
-  pub short : (d : Contents) → length (table d) ≤ length d.lines
+  pub table_length : (d : Contents) → length (table d) ≤ length d.lines
   pub gives_each : (d : Contents) (k : Key) (e : Entry) → entry_at (table d) k ≡ Some e
       → (place : ℕ) × (definition_at d.lines place ≡ Some (k, e))

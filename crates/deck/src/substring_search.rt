@@ -7,7 +7,7 @@ use memchr::memmem::Finder;
 
 /// Reports whether the bytes contain the text of a finder.
 pub(crate) fn holds(bytes: &[u8], finder: &Finder<'_>) -> bool
-    ensures { result ≡ spec.holds bytes.now finder.now }
+    ensures { result ≡ spec.has_substring bytes.now finder.now }
 {
     finder.find(bytes).is_some()
 }

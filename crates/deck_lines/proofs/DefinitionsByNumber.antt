@@ -32,16 +32,16 @@ module _ (names more : Names) (extended : IsExtended names more) where
       ∙ ap (λ (p : Option Key × What). Some (Some said.0, p.1)) same
 
   -- definitions stay those of the lines if more keys have numbers
-  pub grown : (ds : List (Option Definition)) (said : List (Option (Key × Entry))) → IsDefined names ds said
+  pub defined_with_more : (ds : List (Option Definition)) (said : List (Option (Key × Entry))) → IsDefined names ds said
       → IsDefined more ds said
-  grown [] [] e = refl
-  grown [] (s ∷ said) e = absurd (cc)
-  grown (d ∷ ds) [] e = absurd (cc)
-  grown (d ∷ ds) (s ∷ said) e =
+  defined_with_more [] [] e = refl
+  defined_with_more [] (s ∷ said) e = absurd (cc)
+  defined_with_more (d ∷ ds) [] e = absurd (cc)
+  defined_with_more (d ∷ ds) (s ∷ said) e =
       let head : option_map (seen_definition names) d ≡ option_map keyed_definition s = cc in
       let tail : IsDefined names ds said = cc in
       ap (λ t. t ∷ map (option_map (seen_definition more)) ds) (grown_one d s head)
-      ∙ ap (λ t. option_map keyed_definition s ∷ t) (grown ds said tail)
+      ∙ ap (λ t. option_map keyed_definition s ∷ t) (defined_with_more ds said tail)
 
   -- appending a definition to the definitions of lines
   pub defined_put : (ds : List (Option Definition)) (said : List (Option (Key × Entry))) (d : Option Definition)
@@ -50,7 +50,7 @@ module _ (names more : Names) (extended : IsExtended names more) where
       → IsDefined more (ds ++ d ∷ []) (said ++ s ∷ [])
   defined_put ds said d s e are =
       map-append (option_map (seen_definition more)) ds (d ∷ [])
-      ∙ ap (λ t. t ++ option_map (seen_definition more) d ∷ []) (grown ds said are)
+      ∙ ap (λ t. t ++ option_map (seen_definition more) d ∷ []) (defined_with_more ds said are)
       ∙ ap (λ o. map (option_map keyed_definition) said ++ o ∷ []) e
       ∙ sym (map-append (option_map keyed_definition) said (s ∷ []))
 
@@ -103,9 +103,9 @@ defined_exchange names ds put said by at cut are too =
 
 module _ (names : Names) (ds : List (Option Definition)) (lines : List DeckLine) (place : ℕ)
     (are : IsDefined names ds (map entry_in lines)) where
-  pub there : option_map (option_map (seen_definition names)) (slice_get ds place)
+  pub definition_at_place : option_map (option_map (seen_definition names)) (slice_get ds place)
       ≡ option_map (option_map keyed_definition) (option_map entry_in (slice_get lines place))
-  there =
+  definition_at_place =
       sym (slice_get-map (option_map (seen_definition names)) ds place)
       ∙ ap (λ t. slice_get t place) are
       ∙ slice_get-map (option_map keyed_definition) (map entry_in lines) place
@@ -114,7 +114,8 @@ module _ (names : Names) (ds : List (Option Definition)) (lines : List DeckLine)
   -- the stored definition at a place is the definition of the line there
   pub defined_at : (d : Option Definition) → slice_get ds place ≡ Some d
       → option_map (seen_definition names) d ≡ option_map keyed_definition (definition_at lines place)
-  defined_at d at = by (slice_get lines place) (sym (ap (option_map (option_map (seen_definition names))) at) ∙ there)
+  defined_at d at = by (slice_get lines place) (sym (ap (option_map (option_map (seen_definition names))) at)
+      ∙ definition_at_place)
     where
       by : (o : Option DeckLine)
           → Some (option_map (seen_definition names) d)
@@ -125,7 +126,8 @@ module _ (names : Names) (ds : List (Option Definition)) (lines : List DeckLine)
 
   -- there is no definition at a place without a line
   pub undefined_at : slice_get ds place ≡ None → definition_at lines place ≡ None
-  undefined_at at = by (slice_get lines place) (sym (ap (option_map (option_map (seen_definition names))) at) ∙ there)
+  undefined_at at = by (slice_get lines place) (sym (ap (option_map (option_map (seen_definition names))) at)
+      ∙ definition_at_place)
     where
       by : (o : Option DeckLine) → None ≡ option_map (option_map keyed_definition) (option_map entry_in o)
           → option_and_then entry_in o ≡ None

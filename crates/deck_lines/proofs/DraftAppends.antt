@@ -74,13 +74,13 @@ then_load before mid after first second (Err fault) e h =
 
 -- an unchanged store extends the store
 pub same_extends : (before after : Store) → after ≡ before → Extends before after
-same_extends before after e = record { lines = []; put = e ∙ sym (with_lines-nil before) }
+same_extends before after e = record { lines = []; lines_put = e ∙ sym (with_lines-nil before) }
 
 -- extension of stores is transitive
 pub then_extends : (before mid after : Store) → Extends before mid → Extends mid after → Extends before after
 then_extends before mid after first second = record {
   lines = first.lines ++ second.lines;
-  put = second.put ∙ ap (λ (s : Store). with_lines s second.lines) first.put
+  lines_put = second.lines_put ∙ ap (λ (s : Store). with_lines s second.lines) first.lines_put
       ∙ with_lines-append before first.lines second.lines;
 }
 
@@ -89,25 +89,26 @@ pub load_leads : (from to : List Ending) (before after : Draft) (excerpt : Excer
     → blocks_after from excerpt.lines ≡ Some to →
     IsLoad before excerpt r after → Extends before.store after.store → Leads from to before.store after.store r
 load_leads from to before after excerpt (Ok u) b told e =
-    record { lines = excerpt.lines; put = ap (λ (d : Draft). d.store) told; leads = b }
-load_leads from to before after excerpt (Err fault) b told e = record { lines = e.lines; put = e.put; leads = tt }
+    record { lines = excerpt.lines; lines_put = ap (λ (d : Draft). d.store) told; blocks_lead = b }
+load_leads from to before after excerpt (Err fault) b told e =
+    record { lines = e.lines; lines_put = e.lines_put; blocks_lead = tt }
 
 -- a load leads from the blocks before its excerpt to those after it if a failure leaves the store unchanged
 pub one_leads : (from to : List Ending) (before after : Draft) (excerpt : Excerpt) (r : Result (Unit {0}) LoadFault)
     → blocks_after from excerpt.lines ≡ Some to →
     IsLoad before excerpt r after → OnErr r (after.store ≡ before.store) → Leads from to before.store after.store r
 one_leads from to before after excerpt (Ok u) b told e =
-    record { lines = excerpt.lines; put = ap (λ (d : Draft). d.store) told; leads = b }
+    record { lines = excerpt.lines; lines_put = ap (λ (d : Draft). d.store) told; blocks_lead = b }
 one_leads from to before after excerpt (Err fault) b told e =
     let stayed = same_extends before.store after.store e in
-    record { lines = stayed.lines; put = stayed.put; leads = tt }
+    record { lines = stayed.lines; lines_put = stayed.lines_put; blocks_lead = tt }
 
 -- a failure that leaves the store unchanged leads from any blocks to any others
 pub none_leads : (from to : List Ending) (before after : Store) (fault : LoadFault) → after ≡ before
     → Leads from to before after (Err fault)
 none_leads from to before after fault e =
     let stayed = same_extends before after e in
-    record { lines = stayed.lines; put = stayed.put; leads = tt }
+    record { lines = stayed.lines; lines_put = stayed.lines_put; blocks_lead = tt }
 
 -- lines that lead to some blocks, followed by lines that lead on from there, lead to the last blocks
 pub then_leads : (from mid to : List Ending) (before between after : Store) (u : Unit {0})
@@ -115,37 +116,38 @@ pub then_leads : (from mid to : List Ending) (before between after : Store) (u :
     → Leads from to before after r
 then_leads from mid to before between after u (Ok v) first second = record {
   lines = first.lines ++ second.lines;
-  put = second.put ∙ ap (λ (s : Store). with_lines s second.lines) first.put
+  lines_put = second.lines_put ∙ ap (λ (s : Store). with_lines s second.lines) first.lines_put
       ∙ with_lines-append before first.lines second.lines;
-  leads = after-append first.lines second.lines from mid first.leads ∙ second.leads;
+  blocks_lead = after-append first.lines second.lines from mid first.blocks_lead ∙ second.blocks_lead;
 }
 then_leads from mid to before between after u (Err fault) first second = record {
   lines = first.lines ++ second.lines;
-  put = second.put ∙ ap (λ (s : Store). with_lines s second.lines) first.put
+  lines_put = second.lines_put ∙ ap (λ (s : Store). with_lines s second.lines) first.lines_put
       ∙ with_lines-append before first.lines second.lines;
-  leads = tt;
+  blocks_lead = tt;
 }
 
 -- closed lines lead from any open blocks to the same blocks
 pub leads_inside : (blocks : List Ending) (before after : Store) (r : Result (Unit {0}) LoadFault)
     → Leads [] [] before after r → Leads blocks blocks before after r
 leads_inside blocks before after (Ok u) h =
-    record { lines = h.lines; put = h.put; leads = after_more h.lines [] [] blocks h.leads }
-leads_inside blocks before after (Err fault) h = record { lines = h.lines; put = h.put; leads = tt }
+    record { lines = h.lines; lines_put = h.lines_put; blocks_lead = after_more h.lines [] [] blocks h.blocks_lead }
+leads_inside blocks before after (Err fault) h = record { lines = h.lines; lines_put = h.lines_put; blocks_lead = tt }
 
 -- closed lines are still closed after closed lines are appended
 pub closed_behind : (before after : Store) (r : Result (Unit {0}) LoadFault) → Leads [] [] before after r
     → OnOk r (AreBlocksClosed before.lines → AreBlocksClosed after.lines)
 closed_behind before after (Ok u) h = λ closed.
-    ap (λ (s : Store). blocks_after [] s.lines) h.put ∙ after-append before.lines h.lines [] [] closed ∙ h.leads
+    ap (λ (s : Store). blocks_after [] s.lines) h.lines_put ∙ after-append before.lines h.lines [] [] closed
+    ∙ h.blocks_lead
 closed_behind before after (Err fault) h = tt
 
 -- appending an excerpt extends the store
 pub extended : (before after : Draft) (excerpt : Excerpt) → after ≡ draft_with_excerpt before excerpt
     → Extends before.store after.store
-extended before after excerpt e = record { lines = excerpt.lines; put = ap (λ (d : Draft). d.store) e }
+extended before after excerpt e = record { lines = excerpt.lines; lines_put = ap (λ (d : Draft). d.store) e }
 
 -- a load that leads from some blocks to others extends the store
 pub leads_extends : (from to : List Ending) (before after : Store) (r : Result (Unit {0}) LoadFault)
     → Leads from to before after r → Extends before after
-leads_extends from to before after r h = record { lines = h.lines; put = h.put }
+leads_extends from to before after r h = record { lines = h.lines; lines_put = h.lines_put }

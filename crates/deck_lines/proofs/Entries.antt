@@ -45,9 +45,9 @@ reads_by text e (line.Message t) h = cc
 reads_by text e line.Prompt h = cc
 
 -- the entry of a line of a deck is that of its text
-pub reads : (x : DeckLine) (e : Key × Entry) → entry_in x ≡ Some e → entry_of x.text ≡ Ok e
+pub entry_of_text : (x : DeckLine) (e : Key × Entry) → entry_in x ≡ Some e → entry_of x.text ≡ Ok e
 unfolding entry_in reading_of
-reads x e h = by x.mark h
+entry_of_text x e h = by x.mark h
   where
     by : (m : Bool) → cond m None (defined_by (reading_by x.text (kind_of x.text))) ≡ Some e → entry_of x.text ≡ Ok e
     by true g = cc
@@ -55,7 +55,7 @@ reads x e h = by x.mark h
 
 -- the text of an entry is that of its line
 pub text_in : (x : DeckLine) (e : Key × Entry) → entry_in x ≡ Some e → e.1.text ≡ entry_text x.text
-text_in x e h = entry_text_is x.text e.0 e.1 (reads x e h)
+text_in x e h = entry_text_is x.text e.0 e.1 (entry_of_text x e h)
 
 -- the entry of a line is computed from its text and from what is stored about it
 said_in : (x : DeckLine) (names : Names) (kept : Definition) (o : Option (Key × Entry)) → entry_in x ≡ o

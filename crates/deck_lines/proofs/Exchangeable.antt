@@ -78,17 +78,17 @@ module _ (at cut : ℕ) (put lines : List DeckLine) where
       × (text_len (exchanged_lines at cut put lines) ≤ most_bytes)) → (can ≡ true) ↔ CanExchange at cut put lines
   exchangeable can places few is = (
     λ y. record {
-      places = places;
-      closed = (is.0 y).0;
-      within =
+      range_within = places;
+      blocks_closed_after = (is.0 y).0;
+      within_limit =
           few_and_small (exchanged_lines at cut put lines) few (is.0 y).1;
     },
-    λ c. is.1 (c.closed, few_bytes (exchanged_lines at cut put lines) c.within),
+    λ c. is.1 (c.blocks_closed_after, few_bytes (exchanged_lines at cut put lines) c.within_limit),
   )
 
   -- if the lines to be replaced do not all exist, the lines cannot be exchanged
   pub not_there : (length lines < at + cut) → (false ≡ true) ↔ CanExchange at cut put lines
-  not_there past = (λ t. absurd (false≢true t), λ c. absurd (omega (arith, past, c.places)))
+  not_there past = (λ t. absurd (false≢true t), λ c. absurd (omega (arith, past, c.range_within)))
 
   -- if the result has too many lines, the lines cannot be exchanged
   pub too_many : at + cut ≤ length lines → most_lines < length lines - cut + length put
@@ -99,7 +99,7 @@ module _ (at cut : ℕ) (put lines : List DeckLine) where
       arith,
       many,
       exchanged_len lines put at cut places,
-      few_lines (exchanged_lines at cut put lines) c.within,
+      few_lines (exchanged_lines at cut put lines) c.within_limit,
     )),
   )
 

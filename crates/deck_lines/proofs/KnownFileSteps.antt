@@ -17,7 +17,7 @@ use Rattle.deck_lines.specs.Limits.{pass_limit}
 use Rattle.deck_lines.specs.Readings.{Reading, Stands, Defines, Includes, Faulty, reading_of}
 use Rattle.deck_lines.specs.Steps.{Step, Gives, Fails, steps_outcome, MayAnswer, AreStepsAbove, AreStepsBelow}
 use Rattle.deck_lines.specs.Steps.{AreStepsOfAnswer, AreStepsOfLine, AreStepsOfRest}
-use Rattle.deck_lines.specs.StepLaws.{AreAllGiven, FailLaw, FirstLaw, KnownLoadLaw, within}
+use Rattle.deck_lines.specs.StepLaws.{AreAllGiven, FailLaw, FirstLaw, KnownLoadLaw, excerpt_within_limit}
 use Rattle.deck_lines.specs.declared.draft.LoadFault.TheVariants.{DeckFull, ReadFailed}
 use Rattle.deck_lines.specs.declared.line.Block.{Block}
 use Rattle.deck_lines.specs.declared.line.DeckLine.{DeckLine}
@@ -66,24 +66,24 @@ both_parts (Fails line ∷ first) rest h = absurd h
 
 -- if no step is a failed fetch, the outcome is all excerpts in turn, or `DeckFull` if they pass a limit
 all_put : (steps : List Step) (before : Excerpt) → AreAllGiven steps → pass_limit before.lines ≡ false
-    → steps_outcome before steps ≡ within (in_turn before (given steps))
+    → steps_outcome before steps ≡ excerpt_within_limit (in_turn before (given steps))
 unfolding steps_outcome given
 all_put [] before h fits = ap (λ b. cond b (Err DeckFull) (Ok before)) (sym fits)
-    ∙ ap within (sym (in_turn-none before))
+    ∙ ap excerpt_within_limit (sym (in_turn-none before))
 all_put (Gives a ∷ steps) before h fits = by (pass_limit (before.lines ++ a.lines)) refl
     (all_put steps (in_turn before a) h)
   where
     by : (b : Bool) → pass_limit (before.lines ++ a.lines) ≡ b
-        → (pass_limit (before.lines ++ a.lines) ≡ false → steps_outcome (in_turn before a) steps ≡ within
+        → (pass_limit (before.lines ++ a.lines) ≡ false → steps_outcome (in_turn before a) steps ≡ excerpt_within_limit
         (in_turn (in_turn before a) (given steps)))
-        → cond b (Err DeckFull) (steps_outcome (in_turn before a) steps) ≡ within
+        → cond b (Err DeckFull) (steps_outcome (in_turn before a) steps) ≡ excerpt_within_limit
         (in_turn before (in_turn a (given steps)))
     by true e more =
         let full : pass_limit (before.lines ++ (a.lines ++ (given steps).lines)) ≡ true =
         sym (ap pass_limit (append_assoc before.lines a.lines (given steps).lines))
         ∙ passes_more (before.lines ++ a.lines) (given steps).lines e in
         ap (λ b. cond b (Err DeckFull) (Ok (in_turn before (in_turn a (given steps))))) (sym full)
-    by false e more = more e ∙ ap within (in_turn-in_turn before a (given steps))
+    by false e more = more e ∙ ap excerpt_within_limit (in_turn-in_turn before a (given steps))
 all_put (Fails line ∷ steps) before h fits = absurd h
 
 module _ (includes : List ℕ → Line → List Step → Type 0) (inc : List ℕ → Included) (file : List ℕ)
@@ -154,7 +154,7 @@ pub told_law : KnownLoadLaw
 unfolding deck_of_file
 told_law files name bytes steps before h all fits =
     all_put steps before all fits
-    ∙ ap (λ a. within (in_turn before a))
+    ∙ ap (λ a. excerpt_within_limit (in_turn before a))
     (rest_given (λ word x part. AreStepsBelow (Some files) most_depth name (included_name name word) x part)
     (included_by files most_depth name) name
     (λ word x part. below_given files most_depth name (included_name name word) x part)

@@ -90,16 +90,16 @@ module _ (ls put : List Line) (ms more : List Bool) (at cut : ℕ) (each : lengt
       length (take at ls ++ (put ++ drop (at + cut) ls)) ≤ most_lines → less ≤ most_bytes →
       IsWithin (take at ls ++ (put ++ drop (at + cut) ls)) (take at ms ++ (more ++ drop (at + cut) ms)) less
   within_exchange bytes less kept h e few small = record {
-    marked = long;
-    total = omega (
+    mark_count = long;
+    byte_total = omega (
       arith,
       e,
-      kept.total,
+      kept.byte_total,
       bytes_after h,
       marks_bytes ls ms each,
       marks_bytes (take at ls ++ (put ++ drop (at + cut) ls)) (take at ms ++ (more ++ drop (at + cut) ms)) long,
     );
-    few = few;
+    line_bound = few;
     small = small;
   }
 
@@ -116,19 +116,19 @@ module _ (ls : List Line) (ms : List Bool) (bytes place : ℕ) (kept : IsWithin 
   bytes_at = omega (
     arith,
     one_byte,
-    kept.total,
-    marks_bytes ls ms kept.marked,
-    bytes_after ls [] ms [] place 1 kept.marked refl (omega (arith, within)),
+    kept.byte_total,
+    marks_bytes ls ms kept.mark_count,
+    bytes_after ls [] ms [] place 1 kept.mark_count refl (omega (arith, within)),
   )
 
   pub within_without : (less : ℕ) → less + length line.text ≡ bytes
       → IsWithin (take place ls ++ drop (place + 1) ls) (take place ms ++ drop (place + 1) ms) less
   within_without less e =
-      within_exchange ls [] ms [] place 1 kept.marked refl bytes less kept (omega (arith, within))
+      within_exchange ls [] ms [] place 1 kept.mark_count refl bytes less kept (omega (arith, within))
       (omega (arith, e, one_byte))
       (omega (
         arith,
-        kept.few,
+        kept.line_bound,
         within,
         length-append (take place ls) (drop (place + 1) ls),
         length-take place ls,

@@ -222,7 +222,7 @@ end_leads name blocks from before after r so_far told e =
 -- a load that failed leads to any open blocks
 pub leads_on : (a b to : List Ending) (before after : Store) (fault : LoadFault) → Leads a b before after (Err fault)
     → Leads a to before after (Err fault)
-leads_on a b to before after fault h = record { lines = h.lines; put = h.put; leads = tt }
+leads_on a b to before after fault h = record { lines = h.lines; lines_put = h.lines_put; blocks_lead = tt }
 
 -- the line that was taken is the first of the remaining lines, and the rest follow it
 pub line_taken : (lines rest : List Line) (o : Option Line) (l x : Line) → TakesFirst (λ y. y) lines o rest → o ≡ Some l

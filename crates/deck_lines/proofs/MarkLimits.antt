@@ -71,7 +71,7 @@ module _ (ls : List Line) (ms : List Bool) (bytes : ℕ) (kept : IsWithin ls ms 
   -- the lines are within the limits
   pub kept_within : pass_limit (with_marks ls ms) ≡ false
   unfolding pass_limit
-  kept_within = grind (arith, nat_tests, kept.few, kept.small, kept.total, marks_len ls ms kept.marked)
+  kept_within = grind (arith, nat_tests, kept.line_bound, kept.small, kept.byte_total, marks_len ls ms kept.mark_count)
 
   -- with fewer than 100,000 lines, one more is within the limits exactly if its text fits the bytes that are left
   pub room_test : (line : DeckLine) (n : ℕ) → length line.text ≡ n → length ls < 100000
@@ -84,8 +84,8 @@ module _ (ls : List Line) (ms : List Bool) (bytes : ℕ) (kept : IsWithin ls ms 
         e,
         few,
         kept.small,
-        kept.total,
-        marks_len ls ms kept.marked,
+        kept.byte_total,
+        marks_len ls ms kept.mark_count,
         length-append (with_marks ls ms) (line ∷ []),
         sum_by-append (λ (x : DeckLine). length x.text) (with_marks ls ms) (line ∷ []),
       )
@@ -93,13 +93,13 @@ module _ (ls : List Line) (ms : List Bool) (bytes : ℕ) (kept : IsWithin ls ms 
   pub full_lines : (line : DeckLine) → 100000 ≤ length ls → pass_limit (with_marks ls ms ++ line ∷ []) ≡ true
   unfolding pass_limit
   full_lines line many =
-      grind (arith, nat_tests, many, marks_len ls ms kept.marked, length-append (with_marks ls ms) (line ∷ []))
+      grind (arith, nat_tests, many, marks_len ls ms kept.mark_count, length-append (with_marks ls ms) (line ∷ []))
 
   -- if one more line is within the limits, there are fewer than 100,000 lines
   pub room_lines : (line : DeckLine) → pass_limit (with_marks ls ms ++ line ∷ []) ≡ false → length ls < 100000
   unfolding pass_limit
   room_lines line e =
-      grind (arith, nat_tests, e, marks_len ls ms kept.marked, length-append (with_marks ls ms) (line ∷ []))
+      grind (arith, nat_tests, e, marks_len ls ms kept.mark_count, length-append (with_marks ls ms) (line ∷ []))
 
   pub room_bytes : (line : DeckLine) → pass_limit (with_marks ls ms ++ line ∷ []) ≡ false
       → length line.text ≤ 67108864 - bytes
@@ -110,7 +110,7 @@ module _ (ls : List Line) (ms : List Bool) (bytes : ℕ) (kept : IsWithin ls ms 
         nat_tests,
         e,
         kept.small,
-        kept.total,
+        kept.byte_total,
         sum_by-append (λ (x : DeckLine). length x.text) (with_marks ls ms) (line ∷ []),
       )
 
@@ -119,40 +119,46 @@ module _ (ls : List Line) (ms : List Bool) (bytes : ℕ) (kept : IsWithin ls ms 
       → pass_limit (with_marks ls ms ++ with_mark m l ∷ []) ≡ false →
       n ≡ length l.text → ls' ≡ ls ++ l ∷ [] → ms' ≡ ms ++ m ∷ [] → IsWithin ls' ms' (bytes + n)
   within_push l m n ls' ms' within e p q = rw (p, q, e) (record {
-    marked = omega (arith, kept.marked, length-append ls (l ∷ []), length-append ms (m ∷ []));
-    total = omega (
+    mark_count = omega (arith, kept.mark_count, length-append ls (l ∷ []), length-append ms (m ∷ []));
+    byte_total = omega (
       arith,
-      kept.total,
-      ap text_len (marks_push ls ms l m kept.marked),
+      kept.byte_total,
+      ap text_len (marks_push ls ms l m kept.mark_count),
       sum_by-append (λ (x : DeckLine). length x.text) (with_marks ls ms) (with_mark m l ∷ []),
     );
-    few = omega (arith, room_lines (with_mark m l) within, length-append ls (l ∷ []));
+    line_bound = omega (arith, room_lines (with_mark m l) within, length-append ls (l ∷ []));
     small = omega (arith, room_bytes (with_mark m l) within, kept.small);
   })
 
   -- the first lines are within the limits
   pub within_take : (n less : ℕ) → less + bytes_in (drop n ls) ≡ bytes → IsWithin (take n ls) (take n ms) less
   within_take n less e = record {
-    marked = long;
-    total = omega (
+    mark_count = long;
+    byte_total = omega (
       arith,
       e,
-      kept.total,
-      marks_bytes ls ms kept.marked,
+      kept.byte_total,
+      marks_bytes ls ms kept.mark_count,
       marks_bytes (take n ls) (take n ms) long,
       sum_by-take-drop (λ (x : Line). length x.text) ls n,
     );
-    few = omega (arith, kept.few, length-take n ls);
+    line_bound = omega (arith, kept.line_bound, length-take n ls);
     small = omega (arith, e, kept.small);
   }
     where
       long : length (take n ms) ≡ length (take n ls)
-      long = omega (arith, kept.marked, length-take n ms, length-take n ls)
+      long = omega (arith, kept.mark_count, length-take n ms, length-take n ls)
 
   -- the lines after the first ones have at most as many bytes as all lines
   pub bytes_behind : (n : ℕ) → bytes_in (drop n ls) ≤ bytes
   bytes_behind n =
-      omega (arith, kept.total, marks_bytes ls ms kept.marked, sum_by-take-drop (λ (x : Line). length x.text) ls n)
+      omega (
+        arith,
+        kept.byte_total,
+        marks_bytes ls ms kept.mark_count,
+        sum_by-take-drop (λ (x : Line). length x.text)
+            ls n,
+      )
 
   -- the first lines are within the limits, given both lists and the number of removed bytes
   pub within_took : (n some : ℕ) (ls' : List Line) (ms' : List Bool) → some ≡ bytes_in (drop n ls) → ls' ≡ take n ls

@@ -60,15 +60,15 @@ module _ (ls : List Line) (ms : List Bool) (bytes : ℕ) (kept : IsWithin ls ms 
   same = length-map put mark_of ∙ sym (length-map put line_without_mark)
 
   pub places : at + cut ≤ length (with_marks ls ms)
-  places = omega (arith, h, marks_len ls ms kept.marked)
+  places = omega (arith, h, marks_len ls ms kept.mark_count)
 
   pub gone_marked : with_marks (take cut (drop at ls)) (take cut (drop at ms)) ≡ take cut (drop at (with_marks ls ms))
-  gone_marked = marks_take cut (drop at ls) (drop at ms) ∙ ap (take cut) (marks_drop at ls ms kept.marked)
+  gone_marked = marks_take cut (drop at ls) (drop at ms) ∙ ap (take cut) (marks_drop at ls ms kept.mark_count)
 
   pub gone_small : text_len (take cut (drop at (with_marks ls ms))) ≤ bytes
   gone_small = omega (
     arith,
-    kept.total,
+    kept.byte_total,
     bytes_of_part (with_marks ls ms) (take cut (drop at (with_marks ls ms))) at cut,
     ap text_len (parts_of at cut (with_marks ls ms) places),
   )
@@ -79,7 +79,7 @@ module _ (ls : List Line) (ms : List Bool) (bytes : ℕ) (kept : IsWithin ls ms 
       with_marks ls' ms' ≡ take at (with_marks ls ms) ++ (put ++ drop (at + cut) (with_marks ls ms))
   exchanged ls' ms' p q =
       ap (λ t. with_marks t ms') p ∙ ap (with_marks (take at ls ++ (map line_without_mark put ++ drop (at + cut) ls))) q
-      ∙ marks_exchange ls (map line_without_mark put) ms (map mark_of put) at cut kept.marked same
+      ∙ marks_exchange ls (map line_without_mark put) ms (map mark_of put) at cut kept.mark_count same
       ∙ ap (λ t. take at (with_marks ls ms) ++ (t ++ drop (at + cut) (with_marks ls ms))) (marks_on put)
 
   pub within_exchanged : (ls' : List Line) (ms' : List Bool) (len some : ℕ)
@@ -88,17 +88,17 @@ module _ (ls : List Line) (ms : List Bool) (bytes : ℕ) (kept : IsWithin ls ms 
       len ≡ text_len put → some ≡ text_len (take cut (drop at (with_marks ls ms)))
       → IsWithin ls' ms' (bytes + len - some)
   within_exchanged ls' ms' len some p q e f = record {
-    marked = each;
-    total = omega (
+    mark_count = each;
+    byte_total = omega (
       arith,
       e,
       f,
       gone_small,
-      kept.total,
+      kept.byte_total,
       ap text_len (exchanged ls' ms' p q),
       bytes_exchange (with_marks ls ms) put at cut places,
     );
-    few = omega (
+    line_bound = omega (
       arith,
       marks_len ls' ms' each,
       ap length (exchanged ls' ms' p q),
@@ -109,14 +109,14 @@ module _ (ls : List Line) (ms : List Bool) (bytes : ℕ) (kept : IsWithin ls ms 
       e,
       f,
       gone_small,
-      kept.total,
+      kept.byte_total,
       bytes_exchange (with_marks ls ms) put at cut places,
       few_bytes (take at (with_marks ls ms) ++ (put ++ drop (at + cut) (with_marks ls ms))) within,
     );
   }
     where
       each : length ms' ≡ length ls'
-      each = ap length q ∙ long ls (map line_without_mark put) ms (map mark_of put) at cut kept.marked same
+      each = ap length q ∙ long ls (map line_without_mark put) ms (map mark_of put) at cut kept.mark_count same
           ∙ sym (ap length p)
 
 -- a replacement in lines that are given with their marks
@@ -124,7 +124,7 @@ module _ (ls : List Line) (ms : List Bool) (bytes : ℕ) (kept : IsWithin ls ms 
     (at cut : ℕ) (are : with_marks ls ms ≡ lines) (h : at + cut ≤ length lines)
     (within : pass_limit (take at lines ++ (put ++ drop (at + cut) lines)) ≡ false) where
   pub told_places : at + cut ≤ length ls
-  told_places = omega (arith, h, ap length are, marks_len ls ms kept.marked)
+  told_places = omega (arith, h, ap length are, marks_len ls ms kept.mark_count)
 
   told_within : pass_limit (take at (with_marks ls ms) ++ (put ++ drop (at + cut) (with_marks ls ms))) ≡ false
   told_within = ap (λ (t : List DeckLine). pass_limit (take at t ++ (put ++ drop (at + cut) t))) are ∙ within

@@ -170,9 +170,9 @@ written_back len ds written same all =
 pub numbers_long : (lines : List DeckLine) (d : Definitions) (r : Renumbering) → HoldsDefinitions lines d
     → IsRenumbering lines r → length r.of_lines.items ≡ length d.of_lines.items
 numbers_long lines d r kept are =
-    sym (length-map r.of_lines.items (option_map (key_numbered (names_after r)))) ∙ ap length are.each
+    sym (length-map r.of_lines.items (option_map (key_numbered (names_after r)))) ∙ ap length are.definition_numbers
     ∙ length-map (map entry_in lines) (option_map keyed) ∙ length-map lines entry_in
-    ∙ sym (defined_long (names_in d.keys) d.of_lines.items lines kept.defined)
+    ∙ sym (defined_long (names_in d.keys) d.of_lines.items lines kept.definitions_right)
 
 -- the definitions with other numbers are still those of the lines
 pub kept_renumbered : (lines : List DeckLine) (d new : Definitions) (r : Renumbering) → HoldsDefinitions lines d
@@ -180,6 +180,6 @@ pub kept_renumbered : (lines : List DeckLine) (d new : Definitions) (r : Renumbe
     → ((said : List (Option (Key × Entry))) → AreDefined d said → AreNumbers (names_after r) r.of_lines.items said
     → AreDefined new said) → names_in new.keys ≡ names_after r → HoldsDefinitions lines new
 kept_renumbered lines d new r kept are put names = record {
-  defined = put (map entry_in lines) kept.defined are.each;
+  definitions_right = put (map entry_in lines) kept.definitions_right are.definition_numbers;
   unique = subst IsOneToOne (sym names) are.unique;
 }

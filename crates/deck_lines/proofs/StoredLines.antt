@@ -20,7 +20,7 @@ use Rattle.deck_lines.specs.declared.key_number.KeyNumber.{KeyNumber}
 use Rattle.deck_lines.specs.declared.line.DeckLine.{DeckLine}
 use Rattle.deck_lines.specs.declared.store.definitions.Definition.{Definition}
 use Rattle.deck_lines.specs.declared.store.definitions.Definitions.{Definitions}
-use Rattle.deck_lines.proofs.DefinitionsByNumber.{grown, there}
+use Rattle.deck_lines.proofs.DefinitionsByNumber.{defined_with_more, definition_at_place}
 use Rattle.deck_lines.proofs.ExchangedItems.{get_append, get_drop, get_take}
 use Rattle.deck_lines.proofs.Keys.{found_key, one_to_one}
 use Rattle.deck_lines.proofs.NameNumbers.{found_is_any}
@@ -42,11 +42,12 @@ module _ (lines : List DeckLine) (d : Definitions) (kept : HoldsDefinitions line
       ((text : List ℕ) → names_in new.keys ≡ with_definition (names_in room.keys) (option_map (seen_entry text) made))
       → HoldsDefinitions after new
   kept_push line room new made after items names is e put grows = record {
-    defined =
+    definitions_right =
         subst (AreDefined new)
         (ap (λ o. map entry_in lines ++ o ∷ []) is ∙ sym (map-append entry_in lines (line ∷ []))
         ∙ ap (map entry_in) (sym e))
-        (put (map entry_in lines) line.text (defined_same d room (map entry_in lines) items names kept.defined));
+        (put (map entry_in lines) line.text
+        (defined_same d room (map entry_in lines) items names kept.definitions_right));
     unique = subst IsOneToOne (sym (grows line.text))
         (one_to_one (names_in room.keys) (option_map (seen_entry line.text) made)
         (subst IsOneToOne (sym names) kept.unique));
@@ -57,8 +58,8 @@ module _ (lines : List DeckLine) (d : Definitions) (kept : HoldsDefinitions line
       ((said : List (Option (Key × Entry))) → AreDefined d said → AreDefined new (take n said))
       → names_in new.keys ≡ names_in d.keys → HoldsDefinitions after new
   kept_take n new after e put same = record {
-    defined = subst (AreDefined new) (take-map entry_in n lines ∙ ap (map entry_in) (sym e))
-        (put (map entry_in lines) kept.defined);
+    definitions_right = subst (AreDefined new) (take-map entry_in n lines ∙ ap (map entry_in) (sym e))
+        (put (map entry_in lines) kept.definitions_right);
     unique = subst IsOneToOne (sym same) kept.unique;
   }
 
@@ -69,13 +70,13 @@ module _ (lines : List DeckLine) (d : Definitions) (kept : HoldsDefinitions line
       → AreDefined new (take place said ++ drop (place + 1) said)) → names_in new.keys ≡ names_in d.keys
       → HoldsDefinitions after new
   kept_without place new after e put same = record {
-    defined =
+    definitions_right =
         subst (AreDefined new)
         (ap (λ t. t ++ drop (place + 1) (map entry_in lines)) (take-map entry_in place lines)
         ∙ ap (λ t. map entry_in (take place lines) ++ t) (drop-map entry_in (place + 1) lines)
         ∙ sym (map-append entry_in (take place lines) (drop (place + 1) lines))
         ∙ ap (map entry_in) (sym e))
-        (put (map entry_in lines) kept.defined);
+        (put (map entry_in lines) kept.definitions_right);
     unique = subst IsOneToOne (sym same) kept.unique;
   }
 
@@ -95,14 +96,15 @@ pub kept_exchange : (lines put : List DeckLine) (d room new : Definitions) (kept
     → AreDefined new (take at said ++ (by ++ drop (at + cut) said))) →
     names_in new.keys ≡ names_in room.keys → HoldsDefinitions after new
 kept_exchange lines put d room new kept ds at cut after items names read e swap same = record {
-  defined =
+  definitions_right =
       subst (AreDefined new)
       (ap (λ t. t ++ (map entry_in put ++ drop (at + cut) (map entry_in lines))) (take-map entry_in at lines)
       ∙ ap (λ t. map entry_in (take at lines) ++ (map entry_in put ++ t)) (drop-map entry_in (at + cut) lines)
       ∙ ap (λ t. map entry_in (take at lines) ++ t) (sym (map-append entry_in put (drop (at + cut) lines)))
       ∙ sym (map-append entry_in (take at lines) (put ++ drop (at + cut) lines))
       ∙ ap (map entry_in) (sym e))
-      (swap (map entry_in lines) (map entry_in put) (defined_same d room (map entry_in lines) items names kept.defined)
+      (swap (map entry_in lines) (map entry_in put)
+      (defined_same d room (map entry_in lines) items names kept.definitions_right)
       (subst (λ n. IsDefined n ds (map entry_in put)) (sym names) read));
   unique = subst IsOneToOne (sym (same ∙ names)) kept.unique;
 }
@@ -134,8 +136,9 @@ numbered_at names (Some x) (Some line) d e is =
 pub numbering_of : (lines : List DeckLine) (d : Definitions) (s : Store) → HoldsDefinitions lines d
     → record { lines = lines; names = names_in d.keys } ≡ s → IsNumbering s
 numbering_of lines d s kept e = subst IsNumbering e (record {
-  each = λ place made is. numbered_at (names_in d.keys) (slice_get d.of_lines.items place) (slice_get lines place) made
-      (there (names_in d.keys) d.of_lines.items lines place kept.defined) is;
+  definition_numbers = λ place made is. numbered_at (names_in d.keys) (slice_get d.of_lines.items place)
+      (slice_get lines place) made
+      (definition_at_place (names_in d.keys) d.of_lines.items lines place kept.definitions_right) is;
   unique = kept.unique;
 })
 
@@ -145,9 +148,10 @@ pub kept_read : (lines : List DeckLine) (d new : Definitions) → HoldsDefinitio
     → IsExtended (names_in d.keys) (names_in new.keys) →
     (IsOneToOne (names_in d.keys) → IsOneToOne (names_in new.keys)) → HoldsDefinitions lines new
 kept_read lines d new kept items wider unique = record {
-  defined =
+  definitions_right =
       subst (λ ds. IsDefined (names_in new.keys) ds (map entry_in lines)) (sym items)
-      (grown (names_in d.keys) (names_in new.keys) wider d.of_lines.items (map entry_in lines) kept.defined);
+      (defined_with_more (names_in d.keys) (names_in new.keys) wider d.of_lines.items (map entry_in lines)
+      kept.definitions_right);
   unique = unique kept.unique;
 }
 
@@ -156,19 +160,20 @@ pub numbering_edited : (store : Store) (put : List DeckLine) (ds : List (Option 
     → IsNumbering store → IsDefined store.names ds (map entry_in put) →
     IsNumbering (record store { lines = take at store.lines ++ (put ++ drop (at + cut) store.lines) })
 numbering_edited store put ds at cut numbering are = record {
-  each = λ place made is. by place made (slice_get (take at store.lines ++ (put ++ drop (at + cut) store.lines)) place)
+  definition_numbers = λ place made is.
+      by place made (slice_get (take at store.lines ++ (put ++ drop (at + cut) store.lines)) place)
       refl is;
   unique = numbering.unique;
 }
   where
     stored : (j : ℕ) (x : DeckLine) (made : Key × Entry) → slice_get store.lines j ≡ Some x → entry_in x ≡ Some made
         → is_numbered store.names made.0 ≡ true
-    stored j x made e is = numbering.each j made (ap (option_and_then entry_in) e ∙ is)
+    stored j x made e is = numbering.definition_numbers j made (ap (option_and_then entry_in) e ∙ is)
 
     among : (j : ℕ) (x : DeckLine) (made : Key × Entry) → slice_get put j ≡ Some x → entry_in x ≡ Some made
         → is_numbered store.names made.0 ≡ true
     among j x made e is =
-        numbered_at store.names (slice_get ds j) (slice_get put j) made (there store.names ds put j are)
+        numbered_at store.names (slice_get ds j) (slice_get put j) made (definition_at_place store.names ds put j are)
         (ap (option_and_then entry_in) e ∙ is)
 
     behind : (x : DeckLine) (made : Key × Entry) → entry_in x ≡ Some made
@@ -193,18 +198,18 @@ numbering_edited store put ds at cut numbering are = record {
 -- the stored definition is that of the line at a place after an edit
 abbrev pub IsSeenAt : StoreEdit → ℕ → Option Definition → Type 0
 IsSeenAt edited place o = option_map (seen_definition edited.names) o
-    ≡ option_map keyed_definition (definition_at edited.after place)
+    ≡ option_map keyed_definition (definition_at edited.new_lines place)
 
 -- if a line comes from a place of other lines, its stored definition is the one from there
 pub seen_edited : (o : Option Definition) (from : List DeckLine) (i j : ℕ) (e f : StoreEdit) → e ≡ f
-    → slice_get e.after j ≡ slice_get from i →
+    → slice_get e.new_lines j ≡ slice_get from i →
     option_map (seen_definition e.names) o ≡ option_map keyed_definition (definition_at from i) → IsSeenAt f j o
 seen_edited o from i j e f view same is =
     subst (λ (v : StoreEdit). IsSeenAt v j o) view
     (is ∙ ap (λ x. option_map keyed_definition (option_and_then entry_in x)) (sym same))
 
 -- there is no definition at a place after the last line
-pub unseen_edited : (j : ℕ) (e f : StoreEdit) → e ≡ f → slice_get e.after j ≡ None → IsSeenAt f j None
+pub unseen_edited : (j : ℕ) (e f : StoreEdit) → e ≡ f → slice_get e.new_lines j ≡ None → IsSeenAt f j None
 unseen_edited j e f view none =
     subst (λ (v : StoreEdit). IsSeenAt v j None) view
     (ap (λ x. option_map keyed_definition (option_and_then entry_in x)) (sym none))

@@ -7,10 +7,10 @@ use Rattle.deck_lines.specs.Marks.{marked_line, plain_line}
 -- law: the decks of a few texts as the file `sub/a.units`, alone and with other files
 pub record LineExamplesLaw : Type 0 where
   -- blank lines and comments are not lines of a deck, and the other lines have their numbers in the file
-  pub plain : lone_deck_of (codes "sub/a.units") (codes "# lengths\n\nm !\n  ft 12 in # feet\n")
+  pub deck_without_faults : lone_deck_of (codes "sub/a.units") (codes "# lengths\n\nm !\n  ft 12 in # feet\n")
       ≡ record { lines = plain_line 3 (codes "m !") ∷ plain_line 4 (codes "ft 12 in") ∷ []; notices = [] }
   -- a line without an entry, an unknown directive and an end line that closes nothing have no effect
-  pub faulty : lone_deck_of (codes "sub/a.units") (codes "h 2 +\n!units\n!endvar\n")
+  pub deck_with_faults : lone_deck_of (codes "sub/a.units") (codes "h 2 +\n!units\n!endvar\n")
       ≡ record {
         lines = marked_line 1 (codes "h 2 +") ∷ marked_line 2 (codes "!units") ∷ marked_line 3 (codes "!endvar") ∷ [];
         notices =

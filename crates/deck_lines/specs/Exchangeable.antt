@@ -7,6 +7,6 @@ use Rattle.deck_lines.specs.declared.line.DeckLine.{DeckLine}
 
 -- there are `cut` lines from `at` on, and the resulting lines are closed and within the limits
 pub record CanExchange (at cut : ℕ) (put lines : List DeckLine) : Type 0 where
-  pub places : at + cut ≤ length lines
-  pub closed : AreBlocksClosed (exchanged_lines at cut put lines)
-  pub within : pass_limit (exchanged_lines at cut put lines) ≡ false
+  pub range_within : at + cut ≤ length lines
+  pub blocks_closed_after : AreBlocksClosed (exchanged_lines at cut put lines)
+  pub within_limit : pass_limit (exchanged_lines at cut put lines) ≡ false

@@ -12,4 +12,4 @@ pub record HasExchangeRoom (put cut : ℕ) (room : ExchangeRoom) : Type 0 where
   pub put_marks : (room.put_marks.items ≡ []) × (put ≤ vec_capacity room.put_marks)
   pub gone_lines : (room.gone_lines.items ≡ []) × (cut ≤ vec_capacity room.gone_lines)
   pub gone_marks : (room.gone_marks.items ≡ []) × (cut ≤ vec_capacity room.gone_marks)
-  pub gone : (room.gone.items ≡ []) × (cut ≤ vec_capacity room.gone)
+  pub removed_room : (room.gone.items ≡ []) × (cut ≤ vec_capacity room.gone)

@@ -7,6 +7,6 @@ use Rattle.deck_lines.specs.Stores.{Store, definition_at}
 
 -- each key that a line defines has a number, and no key has two numbers
 pub record IsNumbering (store : Store) : Type 0 where
-  pub each : (place : ℕ) (d : Key × Entry) → definition_at store.lines place ≡ Some d
+  pub definition_numbers : (place : ℕ) (d : Key × Entry) → definition_at store.lines place ≡ Some d
       → is_numbered store.names d.0 ≡ true
   pub unique : IsOneToOne store.names

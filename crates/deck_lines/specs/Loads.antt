@@ -51,10 +51,10 @@ endings blocks = map (λ block. block.ending) blocks
 -- lines were appended to a store
 pub record Extends (before after : Store) : Type 0 where
   pub lines : List DeckLine
-  pub put : after ≡ with_lines before lines
+  pub lines_put : after ≡ with_lines before lines
 
 -- lines were appended to a store; if nothing failed, they lead from some open blocks to others
 pub record Leads (from to : List Ending) (before after : Store) (result : Result (Unit {0}) LoadFault) : Type 0 where
   pub lines : List DeckLine
-  pub put : after ≡ with_lines before lines
-  pub leads : OnOk result (blocks_after from lines ≡ Some to)
+  pub lines_put : after ≡ with_lines before lines
+  pub blocks_lead : OnOk result (blocks_after from lines ≡ Some to)

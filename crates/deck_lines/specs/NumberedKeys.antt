@@ -15,7 +15,7 @@ names_in keys = record {
 
 -- the number of names of a kind that can be added without an allocation
 abbrev pub spare_of : KeyNumbers → Kind → ℕ
-spare_of keys kind.Unit = keys.units.spare
-spare_of keys kind.Prefix = keys.prefixes.spare
-spare_of keys kind.Func = keys.functions.spare
-spare_of keys kind.List = keys.lists.spare
+spare_of keys kind.Unit = keys.units.spare_names
+spare_of keys kind.Prefix = keys.prefixes.spare_names
+spare_of keys kind.Func = keys.functions.spare_names
+spare_of keys kind.List = keys.lists.spare_names

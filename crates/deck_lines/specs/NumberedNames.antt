@@ -4,7 +4,7 @@ use Rattle.std.specs.Prelude.{◌≤◌, ℕ, List, [], ◌∷◌, length, ⊤}
 -- the names, and the number of names that can be added without an allocation
 pub record NumberedNames : Type 0 where
   pub names : List (List ℕ)
-  pub spare : ℕ
+  pub spare_names : ℕ
 
 -- no name is longer than `most` bytes
 abbrev pub AreUpTo : ℕ → List (List ℕ) → Type 0

@@ -22,5 +22,5 @@ AreNumbers names numbers said = map (option_map (key_numbered names)) numbers â‰
 -- each line the number of the key that it defines
 pub record IsRenumbering (lines : List DeckLine) (r : Renumbering) : Type 0 where
   pub names : names_after r â‰¡ with_definitions no_names lines
-  pub each : AreNumbers (names_after r) r.of_lines.items (map entry_in lines)
+  pub definition_numbers : AreNumbers (names_after r) r.of_lines.items (map entry_in lines)
   pub unique : IsOneToOne (names_after r)

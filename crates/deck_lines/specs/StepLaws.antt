@@ -17,8 +17,8 @@ AreAllGiven (Gives excerpt ∷ steps) = AreAllGiven steps
 AreAllGiven (Fails line ∷ steps) = ⊥
 
 -- an excerpt, or `DeckFull` if its lines pass a limit
-abbrev pub within : Excerpt → Result Excerpt LoadFault
-within excerpt = if pass_limit excerpt.lines then Err DeckFull else Ok excerpt
+abbrev pub excerpt_within_limit : Excerpt → Result Excerpt LoadFault
+excerpt_within_limit excerpt = if pass_limit excerpt.lines then Err DeckFull else Ok excerpt
 
 -- law: a fault of the first steps is the outcome of all steps, whatever follows; otherwise the rest continues from
 -- their result
@@ -33,7 +33,7 @@ abbrev pub KnownLoadLaw : Type 0
 KnownLoadLaw =
     (files : FileMap) (name bytes : List ℕ) (steps : List Step) (before : Excerpt)
     → AreStepsAbove (Some files) most_depth name bytes steps → AreAllGiven steps → pass_limit before.lines ≡ false
-    → steps_outcome before steps ≡ within (in_turn before (deck_of_file files name bytes))
+    → steps_outcome before steps ≡ excerpt_within_limit (in_turn before (deck_of_file files name bytes))
 
 -- law: an include line whose fetch fails ends a load if the line has room, and later steps are not looked at
 abbrev pub FailLaw : Type 0

@@ -1,7 +1,7 @@
 -- The steps of a load, and the step that ends it.
 use Rattle.std.specs.Prelude.{◌≡◌, ◌++◌, ℕ, zero, suc, List, [], ◌∷◌, codes, if◌then◌else◌, Option, IfSome, Result, Ok}
 use Rattle.std.specs.Prelude.{Err, ⊤}
-use Rattle.units_io.specs.Faults.{next}
+use Rattle.units_io.specs.Faults.{next_count}
 use Rattle.units_io.specs.FetchResults.{FileMap, IsFetched}
 use Rattle.units_io.specs.declared.files.FetchFault.{FetchFault}
 use Rattle.units_io.specs.declared.files.FetchFault.TheVariants as fetch
@@ -97,5 +97,5 @@ EndsBy reads before (Err fault) after =
 
 -- the count of failed fetches after a load, which ends with the first failed fetch
 abbrev pub faults_after_load : ℕ → Result (Unit {0}) LoadFault → ℕ
-faults_after_load faults (Err ReadFailed) = next faults
+faults_after_load faults (Err ReadFailed) = next_count faults
 faults_after_load faults _ = faults

@@ -36,12 +36,12 @@ HasRoomForKey keys (Some definition) = 0 < spare_of keys definition.0.kind
 
 -- the definition of one more line can be added without an allocation
 pub record HasRoomFor (definitions : Definitions) (definition : Option (Key × MadeWhat)) : Type 0 where
-  pub line : vec_len definitions.of_lines + 1 ≤ vec_capacity definitions.of_lines
-  pub key : HasRoomForKey definitions.keys definition
+  pub room_for_line : vec_len definitions.of_lines + 1 ≤ vec_capacity definitions.of_lines
+  pub room_for_key : HasRoomForKey definitions.keys definition
 
 -- the definitions are those of the lines, and no key has two numbers
 pub record HoldsDefinitions (lines : List DeckLine) (definitions : Definitions) : Type 0 where
-  pub defined : AreDefined definitions (map entry_in lines)
+  pub definitions_right : AreDefined definitions (map entry_in lines)
   pub unique : IsOneToOne (names_in definitions.keys)
 
 -- a definition with another number for its key, if both are present

@@ -6,7 +6,7 @@ use Rattle.deck_lines.specs.Marks.{with_marks}
 
 -- there are as many marks as lines, `bytes` is the total length of the texts, and the lines are within the limits
 pub record IsWithin (lines : List Line) (marks : List Bool) (bytes : ℕ) : Type 0 where
-  pub marked : length marks ≡ length lines
-  pub total : bytes ≡ text_len (with_marks lines marks)
-  pub few : length lines ≤ most_lines
+  pub mark_count : length marks ≡ length lines
+  pub byte_total : bytes ≡ text_len (with_marks lines marks)
+  pub line_bound : length lines ≤ most_lines
   pub small : bytes ≤ most_bytes

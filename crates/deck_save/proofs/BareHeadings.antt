@@ -244,32 +244,34 @@ has_kind (ListHeading before between name behind) whole is =
 
 pub bare_entry : (line : List ℕ) (k : Key) (e : Entry) → IsEntry line k e → IsBare line k e
 bare_entry line k e is =
-    let w : WrittenHeading = is.headed.written in
-    let own : is_name (heading_of w).name ≡ true = subst (λ (h : Heading). is_name h.name ≡ true) is.headed.same
-    is.names.own in
+    let w : WrittenHeading = is.line_has_heading.written_heading in
+    let own : is_name (heading_of w).name ≡ true = subst (λ (h : Heading). is_name h.name ≡ true)
+    is.line_has_heading.reads_as_heading
+    is.names.own_name in
     let ends : EndsAs (bytes w) (bytes (bare_heading w)) = bare_ends w own in
-    let bare : before_blanks line ≡ bytes (bare_heading w) = ap before_blanks is.headed.spelled ∙ ends.is in
-    let whole : is_heading (bare_heading w) ≡ true = bare_whole w is.headed.whole own in
+    let bare : before_blanks line ≡ bytes (bare_heading w) = ap before_blanks is.line_has_heading.spelled_line
+    ∙ ends.is in
+    let whole : is_heading (bare_heading w) ≡ true = bare_whole w is.line_has_heading.well_formed own in
     let named : is_name (heading_of (bare_heading w)).name ≡ true = subst (λ (h : Heading). is_name h.name ≡ true)
     (sym (bare_same w)) own in
     record {
       entry = record {
         heading = is.heading;
-        headed = record {
-          written = bare_heading w;
-          spelled = bare;
-          whole = whole;
-          same = is.headed.same
+        line_has_heading = record {
+          written_heading = bare_heading w;
+          spelled_line = bare;
+          well_formed = whole;
+          reads_as_heading = is.line_has_heading.reads_as_heading
               ∙ sym (bare_same w);
         };
         key_is = is.key_is;
-        text_is = is.text_is;
+        text_of_heading = is.text_of_heading;
         names = is.names;
         form = is.form;
-        written = is.written;
-        says = is.says;
+        spelled_form = is.spelled_form;
+        form_defines = is.form_defines;
       };
       some = ap is_empty bare ∙ ends.some;
-      begun = ap is_begun is.headed.spelled ∙ begins w own;
+      begun = ap is_begun is.line_has_heading.spelled_line ∙ begins w own;
       has = ap (λ t. has_entry (kind_of t)) bare ∙ has_kind (bare_heading w) whole named;
     }

@@ -13,7 +13,8 @@ use Rattle.frac128.specs.Numerals.{is_digit, numeral_len_of}
 use Rattle.expr_tree.specs.declared.fault.ParseFault.{ParseFault}
 use Rattle.expr_tree.specs.declared.fault.ParseFault.TheVariants.{Syntax as SyntaxFault, NumeralTooLong}
 use Rattle.expr_tree.specs.Faults.{fault_from, first_fault, lexeme_fault, or_later, takes_numeral}
-use Rattle.expr_tree.specs.Lexemes.{Lexeme, Blank, Whole, TooLong, Malformed, Piece, Placed, front, is_numeral_lexeme}
+use Rattle.expr_tree.specs.Lexemes.{Lexeme, Blank, Whole, TooLong, Malformed, Piece, Placed, first_piece}
+use Rattle.expr_tree.specs.Lexemes.{is_numeral_lexeme}
 use Rattle.expr_tree.specs.Lexemes.{begins_with_point, byte_lexeme, has_paren, lexemes, lexemes_from, mark_piece}
 use Rattle.expr_tree.specs.Lexemes.{numeral_lexeme}
 use Rattle.expr_tree.specs.Lexemes.{lexeme_piece, numeral_piece, other_word, token_in, tokens, word_front}
@@ -23,7 +24,7 @@ use Rattle.expr_tree.specs.TokenReading.{tree_of}
 use Rattle.expr_tree.specs.Syntax.{Syntax}
 use Rattle.expr_tree.specs.Tokens.{Token, Head, Word, Caret}
 use Rattle.def_entry.proofs.CutTexts.{front-clear}
-use Rattle.deck_save.specs.SavedLines.{stays}
+use Rattle.deck_save.specs.SavedLines.{is_line_byte}
 use Rattle.deck_save.proofs.PlainBytes.{all_both, all_stay, stays_by}
 use Rattle.deck_save.proofs.Numerals.{longest_stays}
 
@@ -36,10 +37,10 @@ is_sound _ = true
 -- the lexeme has this many bytes of the front of the text, at least one, and all of them stay
 record IsCovered (text : List ℕ) (len : ℕ) : Type 0 where
   pub some : 0 < len
-  pub clear : list_all stays (take len text) ≡ true
+  pub clear : list_all is_line_byte (take len text) ≡ true
 
 -- one byte that stays is covered
-one : (b : ℕ) (bytes : List ℕ) → stays b ≡ true → IsCovered (b ∷ bytes) 1
+one : (b : ℕ) (bytes : List ℕ) → is_line_byte b ≡ true → IsCovered (b ∷ bytes) 1
 one b bytes clear = record { some = omega arith; clear = and_from _ _ clear refl }
 
 -- words
@@ -48,18 +49,18 @@ one b bytes clear = record { some = omega arith; clear = and_from _ _ clear refl
 abbrev word_len : List ℕ → ℕ
 word_len text = prefix_len is_word_byte text
 
-word_stays : (text : List ℕ) → list_all stays (take (word_len text) text) ≡ true
+word_stays : (text : List ℕ) → list_all is_line_byte (take (word_len text) text) ≡ true
 word_stays text = all_stay is_word_byte refl refl refl (take (word_len text) text) (front-clear is_word_byte text)
 
 -- a word and the `(` after it stay
-opened_stays : (text : List ℕ) (n : ℕ) → list_all stays (take n text) ≡ true → has_paren (drop n text) ≡ true
-    → list_all stays (take (n + 1) text) ≡ true
-opened_stays text n clear opened = ap (list_all stays) (take-add n 1 text)
-    ∙ all_both stays (take n text) (take 1 (drop n text)) clear (go (drop n text) opened)
+opened_stays : (text : List ℕ) (n : ℕ) → list_all is_line_byte (take n text) ≡ true → has_paren (drop n text) ≡ true
+    → list_all is_line_byte (take (n + 1) text) ≡ true
+opened_stays text n clear opened = ap (list_all is_line_byte) (take-add n 1 text)
+    ∙ all_both is_line_byte (take n text) (take 1 (drop n text)) clear (go (drop n text) opened)
   where
-    go : (rest : List ℕ) → has_paren rest ≡ true → list_all stays (take 1 rest) ≡ true
+    go : (rest : List ℕ) → has_paren rest ≡ true → list_all is_line_byte (take 1 rest) ≡ true
     go [] opened = refl
-    go (b ∷ rest) opened = and_from (stays b) true (ap stays (eqb-true b 40 opened)) refl
+    go (b ∷ rest) opened = and_from (is_line_byte b) true (ap is_line_byte (eqb-true b 40 opened)) refl
 
 word_covers : (b : ℕ) (bytes : List ℕ) → is_word_byte b ≡ true → IsCovered (b ∷ bytes) (word_front (b ∷ bytes)).len
 word_covers b bytes word = go (is_name (word_of (b ∷ bytes)) || is_refused (word_of (b ∷ bytes)))
@@ -113,9 +114,9 @@ mark_covers : (b : ℕ) (bytes : List ℕ) → is_sound (mark_piece (b ∷ bytes
     → IsCovered (b ∷ bytes) (mark_piece (b ∷ bytes)).len
 mark_covers b bytes sound = go (b == 42 && slice_index (b ∷ bytes) 1 == 42) refl sound
   where
-    second : (text : List ℕ) → (slice_index (b ∷ text) 1 == 42) ≡ true → list_all stays (take 1 text) ≡ true
+    second : (text : List ℕ) → (slice_index (b ∷ text) 1 == 42) ≡ true → list_all is_line_byte (take 1 text) ≡ true
     second [] e = refl
-    second (c ∷ text) e = and_from (stays c) true (ap stays (eqb-true c 42 e)) refl
+    second (c ∷ text) e = and_from (is_line_byte c) true (ap is_line_byte (eqb-true c 42 e)) refl
 
     go : (t : Bool) → (b == 42 && slice_index (b ∷ bytes) 1 == 42) ≡ t
         → is_sound (cond t (lexeme_piece (Whole Caret) 2) (lexeme_piece (byte_lexeme b) 1)).lexeme ≡ true
@@ -125,15 +126,15 @@ mark_covers b bytes sound = go (b == 42 && slice_index (b ∷ bytes) 1 == 42) re
         and_parts (b == 42) (slice_index (b ∷ bytes) 1 == 42) e in
         record {
           some = omega arith;
-          clear = and_from (stays b) (list_all stays (take 1 bytes))
-              (ap stays (eqb-true b 42 stars.0)) (second bytes stars.1);
+          clear = and_from (is_line_byte b) (list_all is_line_byte (take 1 bytes))
+              (ap is_line_byte (eqb-true b 42 stars.0)) (second bytes stars.1);
         }
     go false e sound = one b bytes (stays_by (λ c. is_sound (byte_lexeme c)) refl refl refl b sound)
 
 -- any lexeme that may occur covers its bytes
 lexeme_covers : (after_numeral : Bool) (b : ℕ) (bytes : List ℕ)
-    → is_sound (front after_numeral (b ∷ bytes)).lexeme ≡ true
-    → IsCovered (b ∷ bytes) (front after_numeral (b ∷ bytes)).len
+    → is_sound (first_piece after_numeral (b ∷ bytes)).lexeme ≡ true
+    → IsCovered (b ∷ bytes) (first_piece after_numeral (b ∷ bytes)).len
 lexeme_covers after_numeral b bytes sound =
     go (is_blank b) refl (after_numeral && begins_with_point (b ∷ bytes)) (is_digit b || begins_with_point (b ∷ bytes))
     (is_word_byte b) refl sound
@@ -155,16 +156,16 @@ lexeme_covers after_numeral b bytes sound =
 -- if all lexemes of a text may occur, the text stays
 lexemes_cover : (covered : ℕ) (after_numeral : Bool) (place : ℕ) (text : List ℕ)
     → list_all (λ x. is_sound x.lexeme) (lexemes_from covered after_numeral place text) ≡ true
-    → list_all stays (take covered text) ≡ true → list_all stays text ≡ true
+    → list_all is_line_byte (take covered text) ≡ true → list_all is_line_byte text ≡ true
 unfolding lexemes_from
 lexemes_cover covered after_numeral place [] sound clear = refl
 lexemes_cover (suc covered) after_numeral place (b ∷ bytes) sound clear =
-    let parts : (stays b ≡ true) × (list_all stays (take covered bytes) ≡ true) =
-    and_parts (stays b) (list_all stays (take covered bytes)) clear in
-    and_from (stays b) (list_all stays bytes) parts.0
+    let parts : (is_line_byte b ≡ true) × (list_all is_line_byte (take covered bytes) ≡ true) =
+    and_parts (is_line_byte b) (list_all is_line_byte (take covered bytes)) clear in
+    and_from (is_line_byte b) (list_all is_line_byte bytes) parts.0
     (lexemes_cover covered after_numeral (suc place) bytes sound parts.1)
 lexemes_cover zero after_numeral place (b ∷ bytes) sound clear =
-    let first : Piece = front after_numeral (b ∷ bytes) in
+    let first : Piece = first_piece after_numeral (b ∷ bytes) in
     let parts : (is_sound first.lexeme ≡ true)
     × (list_all (λ x. is_sound x.lexeme)
     (lexemes_from (first.len - 1) (is_numeral_lexeme first.lexeme) (suc place) bytes)
@@ -175,10 +176,10 @@ lexemes_cover zero after_numeral place (b ∷ bytes) sound clear =
     sound in
     let covers : IsCovered (b ∷ bytes) first.len = lexeme_covers after_numeral b bytes parts.0 in
     let next : first.len ≡ suc (first.len - 1) = omega (arith, covers.some) in
-    let both : (stays b ≡ true) × (list_all stays (take (first.len - 1) bytes) ≡ true) =
-    and_parts (stays b) (list_all stays (take (first.len - 1) bytes))
-    (ap (λ n. list_all stays (take n (b ∷ bytes))) (sym next) ∙ covers.clear) in
-    and_from (stays b) (list_all stays bytes) both.0
+    let both : (is_line_byte b ≡ true) × (list_all is_line_byte (take (first.len - 1) bytes) ≡ true) =
+    and_parts (is_line_byte b) (list_all is_line_byte (take (first.len - 1) bytes))
+    (ap (λ n. list_all is_line_byte (take n (b ∷ bytes))) (sym next) ∙ covers.clear) in
+    and_from (is_line_byte b) (list_all is_line_byte bytes) both.0
     (lexemes_cover (first.len - 1) (is_numeral_lexeme first.lexeme) (suc place) bytes parts.1 both.1)
 
 -- in a text without a fault each lexeme may occur
@@ -218,6 +219,6 @@ faultless binder text e is = go (first_fault text) refl is
     go (Some x) f is = cc
 
 pub expressions_stay : (binder : Option (List ℕ)) (text : List ℕ) (e : Syntax) → parse_of binder text ≡ Ok e
-    → list_all stays text ≡ true
+    → list_all is_line_byte text ≡ true
 expressions_stay binder text e is =
     lexemes_cover 0 false 0 text (no_faults [] (length text) (lexemes text) (faultless binder text e is)) refl

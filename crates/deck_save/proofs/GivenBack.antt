@@ -19,7 +19,7 @@ use Rattle.deck_lines.specs.Steps.{AreStepsBelow, AreStepsBy, AreStepsOfRest, St
 use Rattle.deck_lines.specs.Limits.{most_bytes, most_lines, pass_limit, text_len}
 use Rattle.deck.specs.Active.{active_lines}
 use Rattle.deck.specs.Decks.{Contents}
-use Rattle.deck.specs.Edits.{with_excerpt, within}
+use Rattle.deck.specs.Edits.{deck_within_limit, with_excerpt}
 use Rattle.deck.specs.FileLoads.{ComesTo, after_load, after_text, empty_deck, lines_alone, of_load, with_answer}
 use Rattle.deck.specs.Messages.{defining_texts}
 use Rattle.deck.specs.declared.fault.DeckFault.{DeckFault}
@@ -52,9 +52,9 @@ module _ (law : EntryLaw) (d : Contents) where
 
   back : (settings : Settings) → GivesBack d (given settings)
   back settings = record {
-    silent = refl;
+    without_notices = refl;
     texts = loaded_texts settings 1 (saved_texts d) (defined d) give;
-    entries =
+    same_table =
         table_entries settings (plain_lines 1 (saved_texts d))
         ∙ ap reverse (loaded_entries settings 1 (saved_texts d) (defined d) give)
         ∙ sym (table_entries d.settings d.lines);
@@ -68,7 +68,7 @@ module _ (law : EntryLaw) (d : Contents) where
     few : length d.lines ≤ most_lines
     unfolding pass_limit
     few = ltb-false most_lines (length d.lines)
-        (or_parts (nat_lt most_lines (length d.lines)) (nat_lt most_bytes (text_len d.lines)) can.within).0
+        (or_parts (nat_lt most_lines (length d.lines)) (nat_lt most_bytes (text_len d.lines)) can.lines_within_limit).0
 
     room : pass_limit (plain_lines 1 (saved_texts d)) ≡ false
     room = plain_within 1 (saved_texts d)
@@ -79,23 +79,24 @@ module _ (law : EntryLaw) (d : Contents) where
           length-map (defining_texts d)
               trim_of,
         ))
-        (omega (arith, can.short, ap length (saved_is d)))
+        (omega (arith, can.text_within_limit, ap length (saved_is d)))
 
     -- the excerpt is appended to the empty deck
     put : (settings : Settings) (excerpt : Excerpt) → excerpt ≡ plain_excerpt 1 (saved_texts d)
-        → within (with_excerpt excerpt (empty_deck settings)) ≡ Ok (given settings)
+        → deck_within_limit (with_excerpt excerpt (empty_deck settings)) ≡ Ok (given settings)
     put settings excerpt is =
-        ap (λ (e : Excerpt). within (with_excerpt e (empty_deck settings))) is
+        ap (λ (e : Excerpt). deck_within_limit (with_excerpt e (empty_deck settings))) is
         ∙ ap (λ t. cond t (Err DeckFull) (Ok (given settings))) room
 
     is_back : (settings : Settings) (outcome : Result Contents DeckFault) → outcome ≡ Ok (given settings)
         → IsGivenBack d settings outcome
-    is_back settings outcome is = record { load_result = given settings; is = is; told = refl; back = back settings }
+    is_back settings outcome is =
+        record { load_result = given settings; loads_ok = is; same_settings = refl; gives_back = back settings }
 
     fetched : (files : FileMap) (name : List ℕ) → file_of files name ≡ Some (saved_text d)
         → answer_of (file_of files name) ≡ Ok (saved_text d)
     fetched files name is = ap answer_of is ∙ ap (λ t. cond t (Ok (saved_text d)) (Err TooLong))
-        (le-leb (length (saved_text d)) longest_file can.short)
+        (le-leb (length (saved_text d)) longest_file can.text_within_limit)
 
     pub from_file : (files : FileMap) (name : List ℕ) (settings : Settings) → file_of files name ≡ Some (saved_text d)
         → IsGivenBack d settings (after_load files name settings)

@@ -10,34 +10,38 @@ use Rattle.def_lines.specs.Blanks.{after_blanks, before_blanks, trim_of}
 use Rattle.def_lines.specs.Words.{is_empty}
 use Rattle.expr_tree.specs.Names.{ends_in_count, is_control, is_name, is_one_of, is_refused, is_spelled, is_word_among}
 use Rattle.expr_tree.specs.Names.{is_word_byte, keywords, last_byte, longest_name, may_begin, may_end_name}
-use Rattle.deck_save.specs.SavedLines.{stays}
+use Rattle.deck_save.specs.SavedLines.{is_line_byte}
 use Rattle.deck_save.proofs.PlainBytes.{all_pass, all_reversed, all_stay, stays_by}
 
 -- blanks
 
-pub blanks_stay : (blanks : List ℕ) → list_all is_blank blanks ≡ true → list_all stays blanks ≡ true
+pub blanks_stay : (blanks : List ℕ) → list_all is_blank blanks ≡ true → list_all is_line_byte blanks ≡ true
 blanks_stay = all_stay is_blank refl refl refl
 
-after_stays : (text : List ℕ) → list_all stays (after_blanks text) ≡ true → list_all stays text ≡ true
+after_stays : (text : List ℕ) → list_all is_line_byte (after_blanks text) ≡ true → list_all is_line_byte text ≡ true
 after_stays [] clear = refl
 after_stays (b ∷ text) clear = go (after_stays text) (is_blank b) refl clear
   where
-    go : (list_all stays (after_blanks text) ≡ true → list_all stays text ≡ true) → (t : Bool) → is_blank b ≡ t
-        → list_all stays (cond t (after_blanks text) (b ∷ text)) ≡ true → list_all stays (b ∷ text) ≡ true
-    go rest true e clear = and_from (stays b) (list_all stays text) (stays_by is_blank refl refl refl b e) (rest clear)
+    go : (list_all is_line_byte (after_blanks text) ≡ true → list_all is_line_byte text ≡ true) → (t : Bool)
+        → is_blank b ≡ t
+        → list_all is_line_byte (cond t (after_blanks text) (b ∷ text)) ≡ true → list_all is_line_byte (b ∷ text) ≡ true
+    go rest true e clear = and_from (is_line_byte b) (list_all is_line_byte text) (stays_by is_blank refl refl refl b e)
+        (rest clear)
     go rest false e clear = clear
 
-turned_back : (text : List ℕ) → list_all stays (reverse text) ≡ true → list_all stays text ≡ true
-turned_back text clear = ap (list_all stays) (sym (reverse-reverse text)) ∙ all_reversed stays (reverse text) clear
+turned_back : (text : List ℕ) → list_all is_line_byte (reverse text) ≡ true → list_all is_line_byte text ≡ true
+turned_back text clear = ap (list_all is_line_byte) (sym (reverse-reverse text))
+    ∙ all_reversed is_line_byte (reverse text) clear
 
 -- a text stays if it stays without the blanks at its ends
-pub untrimmed_stays : (text : List ℕ) → list_all stays (trim_of text) ≡ true → list_all stays text ≡ true
+pub untrimmed_stays : (text : List ℕ) → list_all is_line_byte (trim_of text) ≡ true → list_all is_line_byte text ≡ true
 untrimmed_stays text clear =
     turned_back text (after_stays (reverse text)
     (turned_back (after_blanks (reverse text)) (after_stays (before_blanks text) clear)))
 
-pub trimmed_to : (text bare : List ℕ) → trim_of text ≡ bare → list_all stays bare ≡ true → list_all stays text ≡ true
-trimmed_to text bare same clear = untrimmed_stays text (ap (list_all stays) same ∙ clear)
+pub trimmed_to : (text bare : List ℕ) → trim_of text ≡ bare → list_all is_line_byte bare ≡ true
+    → list_all is_line_byte text ≡ true
+trimmed_to text bare same clear = untrimmed_stays text (ap (list_all is_line_byte) same ∙ clear)
 
 -- names
 
@@ -54,7 +58,7 @@ name_words w name =
     (and_parts (nat_lt 0 (length w) && nat_le (length w) longest_name && may_begin (slice_index w 0) && may_end_name
     (last_byte w)) (list_all is_word_byte w) (spelled w name)).1
 
-pub name_stays : (w : List ℕ) → is_name w ≡ true → list_all stays w ≡ true
+pub name_stays : (w : List ℕ) → is_name w ≡ true → list_all is_line_byte w ≡ true
 name_stays w name = all_stay is_word_byte refl refl refl w (name_words w name)
 
 -- a byte of a word is not a blank

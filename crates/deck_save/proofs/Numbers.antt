@@ -18,11 +18,11 @@ use Rattle.def_entry.specs.Numbers.{value_read}
 use Rattle.def_entry.specs.Steps.{◌>>=◌}
 use Rattle.def_entry.proofs.CutTexts.{cut-is}
 use Rattle.def_entry.proofs.WrittenIntervals.{bind_some, mapped_some}
-use Rattle.deck_save.specs.SavedLines.{stays}
+use Rattle.deck_save.specs.SavedLines.{is_line_byte}
 use Rattle.deck_save.proofs.PlainBytes.{all_both}
 use Rattle.deck_save.proofs.Numerals.{numeral_stays}
 
-value_stays : (text : List ℕ) (x : Fraction) → numeral_value text ≡ Some x → list_all stays text ≡ true
+value_stays : (text : List ℕ) (x : Fraction) → numeral_value text ≡ Some x → list_all is_line_byte text ≡ true
 value_stays text x is = numeral_stays text (go (is_numeral text) refl is)
   where
     go : (t : Bool) → is_numeral text ≡ t
@@ -34,27 +34,27 @@ value_stays text x is = numeral_stays text (go (is_numeral text) refl is)
     go false e is = cc
 
 quotient_stays : (above below : List ℕ) (x : Fraction) → quotient_value above below ≡ Some x
-    → list_all stays (above ++ (124 ∷ below)) ≡ true
+    → list_all is_line_byte (above ++ (124 ∷ below)) ≡ true
 quotient_stays above below x is =
     let top : (a : Fraction) × (numeral_value above ≡ Some a)
     × ((numeral_value below >>= (λ b. result_ok (fraction_quotient a b))) ≡ Some x) =
     bind_some (numeral_value above) (λ a. numeral_value below >>= (λ b. result_ok (fraction_quotient a b))) x is in
     let bottom : (b : Fraction) × (numeral_value below ≡ Some b) × (result_ok (fraction_quotient top.0 b) ≡ Some x) =
     bind_some (numeral_value below) (λ b. result_ok (fraction_quotient top.0 b)) x top.2 in
-    all_both stays above (124 ∷ below) (value_stays above top.0 top.1) (value_stays below bottom.0 bottom.1)
+    all_both is_line_byte above (124 ∷ below) (value_stays above top.0 top.1) (value_stays below bottom.0 bottom.1)
 
-unsigned_stays : (text : List ℕ) (x : Fraction) → unsigned_value text ≡ Some x → list_all stays text ≡ true
+unsigned_stays : (text : List ℕ) (x : Fraction) → unsigned_value text ≡ Some x → list_all is_line_byte text ≡ true
 unsigned_stays text x is = go (cut_at 124 text) refl is
   where
     go : (found : Option (List ℕ × List ℕ)) → cut_at 124 text ≡ found → parted_value found text ≡ Some x
-        → list_all stays text ≡ true
+        → list_all is_line_byte text ≡ true
     go None e is = value_stays text x is
     go (Some parts) e is =
         let whole : (text ≡ parts.0 ++ (124 ∷ parts.1)) × (lacks 124 parts.0 ≡ true) =
         cut-is 124 text parts.0 parts.1 e in
-        ap (list_all stays) whole.0 ∙ quotient_stays parts.0 parts.1 x is
+        ap (list_all is_line_byte) whole.0 ∙ quotient_stays parts.0 parts.1 x is
 
-pub number_stays : (text : List ℕ) (x : Fraction) → text_number text ≡ Some x → list_all stays text ≡ true
+pub number_stays : (text : List ℕ) (x : Fraction) → text_number text ≡ Some x → list_all is_line_byte text ≡ true
 unfolding text_number
 number_stays [] x is = refl
 number_stays (b ∷ text) x is = go (b == 45) refl (b == 43) refl is
@@ -63,25 +63,26 @@ number_stays (b ∷ text) x is = go (b == 45) refl (b == 43) refl is
         → cond s (option_map negative_of (unsigned_value text))
         (cond t (unsigned_value text) (unsigned_value (b ∷ text)))
         ≡ Some x
-        → list_all stays (b ∷ text) ≡ true
+        → list_all is_line_byte (b ∷ text) ≡ true
     go true e t f is =
         let value : (y : Fraction) × (unsigned_value text ≡ Some y) × (negative_of y ≡ x) =
         mapped_some negative_of (unsigned_value text) x is in
-        and_from (stays b) (list_all stays text) (ap stays (eqb-true b 45 e)) (unsigned_stays text value.0 value.1)
-    go false e true f is = and_from (stays b) (list_all stays text) (ap stays (eqb-true b 43 f))
+        and_from (is_line_byte b) (list_all is_line_byte text) (ap is_line_byte (eqb-true b 45 e))
+        (unsigned_stays text value.0 value.1)
+    go false e true f is = and_from (is_line_byte b) (list_all is_line_byte text) (ap is_line_byte (eqb-true b 43 f))
         (unsigned_stays text x is)
     go false e false f is = unsigned_stays (b ∷ text) x is
 
-pub some_number_stays : (text : List ℕ) → is_some (text_number text) ≡ true → list_all stays text ≡ true
+pub some_number_stays : (text : List ℕ) → is_some (text_number text) ≡ true → list_all is_line_byte text ≡ true
 some_number_stays text some = go (text_number text) refl some
   where
-    go : (found : Option Fraction) → text_number text ≡ found → is_some found ≡ true → list_all stays text ≡ true
+    go : (found : Option Fraction) → text_number text ≡ found → is_some found ≡ true → list_all is_line_byte text ≡ true
     go None e some = cc
     go (Some x) e some = number_stays text x e
 
 -- the text of a bound stays
 pub bound_stays : (closed : Bool) (text : List ℕ) (found : Option Bound) → bound_in closed text ≡ Some found
-    → list_all stays text ≡ true
+    → list_all is_line_byte text ≡ true
 bound_stays closed [] found is = refl
 bound_stays closed (b ∷ text) found is =
     let at : (x : Fraction) × (text_number (b ∷ text) ≡ Some x) × (Some (bound closed x) ≡ found) =

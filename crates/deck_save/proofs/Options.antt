@@ -15,12 +15,13 @@ use Rattle.def_entry.specs.Forms.{some_text}
 use Rattle.def_entry.specs.Intervals.{bound_in, is_closing}
 use Rattle.def_entry.specs.OptionGrammar.{WrittenInterval, WrittenOption, UnitsOption, DomainOption, RangeOption}
 use Rattle.def_entry.specs.OptionGrammar.{NoErrorOption, WrittenOptions, NoOption, NextOption}
-use Rattle.def_entry.specs.OptionGrammar.{AreOptions, are_whole, at_most, closing_byte, in_order, interval, is_interval}
-use Rattle.def_entry.specs.OptionGrammar.{is_complete_option, opening_byte, option, options, span_of, units_of}
+use Rattle.def_entry.specs.OptionGrammar.{AreOptions, are_whole, at_most, closing_byte, interval, is_interval}
+use Rattle.def_entry.specs.OptionGrammar.{options_in_order}
+use Rattle.def_entry.specs.OptionGrammar.{is_complete_option, opening_byte, option, span_of, spelled_options, units_of}
 use Rattle.def_entry.specs.Options.{Options, Units}
 use Rattle.def_entry.specs.Steps.{◌>>=◌}
 use Rattle.def_entry.proofs.WrittenIntervals.{bind_some}
-use Rattle.deck_save.specs.SavedLines.{stays}
+use Rattle.deck_save.specs.SavedLines.{is_line_byte}
 use Rattle.deck_save.proofs.PlainBytes.{all_both}
 use Rattle.deck_save.proofs.Expressions.{expressions_stay}
 use Rattle.deck_save.proofs.Names.{blanks_stay, untrimmed_stays}
@@ -28,18 +29,18 @@ use Rattle.deck_save.proofs.Numbers.{bound_stays}
 
 -- intervals
 
-opening_stays : (closed : Bool) → stays (opening_byte closed) ≡ true
+opening_stays : (closed : Bool) → is_line_byte (opening_byte closed) ≡ true
 opening_stays true = refl
 opening_stays false = refl
 
-closing_stays : (closed : Bool) → stays (closing_byte closed) ≡ true
+closing_stays : (closed : Bool) → is_line_byte (closing_byte closed) ≡ true
 closing_stays true = refl
 closing_stays false = refl
 
 -- the texts of the two bounds of an interval stay
 record Bounds (i : WrittenInterval) : Type 0 where
-  pub low : list_all stays i.low ≡ true
-  pub high : list_all stays i.high ≡ true
+  pub low : list_all is_line_byte i.low ≡ true
+  pub high : list_all is_line_byte i.high ≡ true
 
 bounds : (i : WrittenInterval) → is_interval i ≡ true → Bounds i
 bounds i is = go (span_of i) refl
@@ -62,26 +63,30 @@ bounds i is = go (span_of i) refl
           high = untrimmed_stays i.high (bound_stays i.high_closed (trim_of i.high) high.0 high.1);
         }
 
-interval_stays : (i : WrittenInterval) (rest : List ℕ) → is_interval i ≡ true → list_all stays rest ≡ true
-    → list_all stays (interval i rest) ≡ true
+interval_stays : (i : WrittenInterval) (rest : List ℕ) → is_interval i ≡ true → list_all is_line_byte rest ≡ true
+    → list_all is_line_byte (interval i rest) ≡ true
 interval_stays i rest is clear =
     let b : Bounds i = bounds i is in
-    let back : list_all stays (i.high ++ (closing_byte i.high_closed ∷ rest)) ≡ true =
-    all_both stays i.high (closing_byte i.high_closed ∷ rest) b.high
-    (and_from (stays (closing_byte i.high_closed)) (list_all stays rest) (closing_stays i.high_closed) clear) in
-    and_from (stays (opening_byte i.low_closed))
-    (list_all stays (i.low ++ (44 ∷ (i.high ++ (closing_byte i.high_closed ∷ rest))))) (opening_stays i.low_closed)
-    (all_both stays i.low (44 ∷ (i.high ++ (closing_byte i.high_closed ∷ rest))) b.low back)
+    let back : list_all is_line_byte (i.high ++ (closing_byte i.high_closed ∷ rest)) ≡ true =
+    all_both is_line_byte i.high (closing_byte i.high_closed ∷ rest) b.high
+    (and_from (is_line_byte (closing_byte i.high_closed)) (list_all is_line_byte rest) (closing_stays i.high_closed)
+    clear) in
+    and_from (is_line_byte (opening_byte i.low_closed))
+    (list_all is_line_byte (i.low ++ (44 ∷ (i.high ++ (closing_byte i.high_closed ∷ rest)))))
+    (opening_stays i.low_closed)
+    (all_both is_line_byte i.low (44 ∷ (i.high ++ (closing_byte i.high_closed ∷ rest))) b.low back)
 
 -- units
 
 -- the texts of some units stay
 abbrev pub UnitsStay : List Units → Type 0
 UnitsStay [] = Unit {0}
-UnitsStay (u ∷ us) = ((list_all stays u.in_unit ≡ true) × (list_all stays u.out_unit ≡ true)) × UnitsStay us
+UnitsStay (u ∷ us) = ((list_all is_line_byte u.in_unit ≡ true) × (list_all is_line_byte u.out_unit ≡ true)) × UnitsStay
+    us
 
 -- a text that is empty or has a tree stays
-unit_stays : (text : List ℕ) (tree : Option Syntax) → IsTreeOf None (some_text text) tree → list_all stays text ≡ true
+unit_stays : (text : List ℕ) (tree : Option Syntax) → IsTreeOf None (some_text text) tree
+    → list_all is_line_byte text ≡ true
 unit_stays [] tree is = refl
 unit_stays (b ∷ text) tree is = expressions_stay None (b ∷ text) is.0 is.1
 
@@ -96,17 +101,17 @@ said_units_stay (Some units) in_unit out_unit first second =
 
 option_stays : (o : WrittenOption) (os : List WrittenOption) (rest : List ℕ) → is_complete_option o rest ≡ true
     → UnitsStay (filter_map units_of (o ∷ os))
-    → list_all stays rest ≡ true → list_all stays (option o rest) ≡ true
+    → list_all is_line_byte rest ≡ true → list_all is_line_byte (option o rest) ≡ true
 option_stays (UnitsOption a b) os rest whole units clear =
-    let first : list_all stays a ≡ true = untrimmed_stays a units.0.0 in
-    let second : list_all stays b ≡ true = untrimmed_stays b units.0.1 in
-    all_both stays (codes "units=[") (a ++ (59 ∷ (b ++ (93 ∷ rest)))) refl
-    (all_both stays a (59 ∷ (b ++ (93 ∷ rest))) first (all_both stays b (93 ∷ rest) second clear))
-option_stays (DomainOption i) os rest whole units clear = all_both stays (codes "domain=") (interval i rest) refl
+    let first : list_all is_line_byte a ≡ true = untrimmed_stays a units.0.0 in
+    let second : list_all is_line_byte b ≡ true = untrimmed_stays b units.0.1 in
+    all_both is_line_byte (codes "units=[") (a ++ (59 ∷ (b ++ (93 ∷ rest)))) refl
+    (all_both is_line_byte a (59 ∷ (b ++ (93 ∷ rest))) first (all_both is_line_byte b (93 ∷ rest) second clear))
+option_stays (DomainOption i) os rest whole units clear = all_both is_line_byte (codes "domain=") (interval i rest) refl
     (interval_stays i rest whole clear)
-option_stays (RangeOption i) os rest whole units clear = all_both stays (codes "range=") (interval i rest) refl
+option_stays (RangeOption i) os rest whole units clear = all_both is_line_byte (codes "range=") (interval i rest) refl
     (interval_stays i rest whole clear)
-option_stays NoErrorOption os rest whole units clear = all_both stays (codes "noerror") rest refl clear
+option_stays NoErrorOption os rest whole units clear = all_both is_line_byte (codes "noerror") rest refl clear
 
 other_units : (o : WrittenOption) (os : List WrittenOption) → UnitsStay (filter_map units_of (o ∷ os))
     → UnitsStay (filter_map units_of os)
@@ -116,23 +121,24 @@ other_units (RangeOption i) os units = units
 other_units NoErrorOption os units = units
 
 written_stays : (w : WrittenOptions) (rest : List ℕ) → are_whole w rest ≡ true
-    → UnitsStay (filter_map units_of (in_order w))
-    → list_all stays rest ≡ true → list_all stays (options w rest) ≡ true
-written_stays (NoOption blanks) rest whole units clear = all_both stays blanks rest (blanks_stay blanks whole) clear
+    → UnitsStay (filter_map units_of (options_in_order w))
+    → list_all is_line_byte rest ≡ true → list_all is_line_byte (spelled_options w rest) ≡ true
+written_stays (NoOption blanks) rest whole units clear = all_both is_line_byte blanks rest (blanks_stay blanks whole)
+    clear
 written_stays (NextOption blanks o os) rest whole units clear =
-    let outer : ((list_all is_blank blanks && is_complete_option o (options os rest)) ≡ true)
+    let outer : ((list_all is_blank blanks && is_complete_option o (spelled_options os rest)) ≡ true)
     × (are_whole os rest ≡ true) =
-    and_parts (list_all is_blank blanks && is_complete_option o (options os rest)) (are_whole os rest) whole in
-    let inner : (list_all is_blank blanks ≡ true) × (is_complete_option o (options os rest) ≡ true) =
-    and_parts (list_all is_blank blanks) (is_complete_option o (options os rest)) outer.0 in
-    all_both stays blanks (option o (options os rest)) (blanks_stay blanks inner.0)
-    (option_stays o (in_order os) (options os rest) inner.1 units
-    (written_stays os rest outer.1 (other_units o (in_order os) units) clear))
+    and_parts (list_all is_blank blanks && is_complete_option o (spelled_options os rest)) (are_whole os rest) whole in
+    let inner : (list_all is_blank blanks ≡ true) × (is_complete_option o (spelled_options os rest) ≡ true) =
+    and_parts (list_all is_blank blanks) (is_complete_option o (spelled_options os rest)) outer.0 in
+    all_both is_line_byte blanks (option o (spelled_options os rest)) (blanks_stay blanks inner.0)
+    (option_stays o (options_in_order os) (spelled_options os rest) inner.1 units
+    (written_stays os rest outer.1 (other_units o (options_in_order os) units) clear))
 
 -- a text that begins with the options of a function stays if its units and the rest stay
 pub options_stay : (text rest : List ℕ) (o : Options) → AreOptions text rest o → UnitsStay (at_most o.units)
-    → list_all stays rest ≡ true
-    → list_all stays text ≡ true
+    → list_all is_line_byte rest ≡ true
+    → list_all is_line_byte text ≡ true
 options_stay text rest o are units clear =
-    ap (list_all stays) are.spelled ∙ written_stays are.written rest are.whole
+    ap (list_all is_line_byte) are.spelled_text ∙ written_stays are.written_options rest are.well_formed
     (subst UnitsStay (sym are.statement_is.units) units) clear

@@ -6,7 +6,7 @@ use Rattle.std.proofs.lemmas.Bool.{and_from, and_parts, eqb-true, not-false, not
 use Rattle.std.proofs.lemmas.Bool.{true_from_ne_false, true≢false}
 use Rattle.std.proofs.lemmas.List.{reverse-append}
 use Rattle.std.proofs.lemmas.List.Folds.{list_all-append}
-use Rattle.deck_save.specs.SavedLines.{stays}
+use Rattle.deck_save.specs.SavedLines.{is_line_byte}
 
 -- if each byte that passes one test passes another, so do all bytes of a text
 pub all_pass : (p q : ℕ → Bool) → ((b : ℕ) → p b ≡ true → q b ≡ true) → (text : List ℕ) → list_all p text ≡ true
@@ -38,20 +38,21 @@ pub record IsNone (b : ℕ) : Type 0 where
   pub return : (b == 13) ≡ false
   pub mark : (b == 35) ≡ false
 
-pub none_of : (b : ℕ) → stays b ≡ true → IsNone b
+pub none_of : (b : ℕ) → is_line_byte b ≡ true → IsNone b
 none_of b clear =
     let outer : ((b == 10 || b == 13) ≡ false) × ((b == 35) ≡ false) = or_parts _ _ (not-true _ clear) in
     let inner : ((b == 10) ≡ false) × ((b == 13) ≡ false) = or_parts _ _ outer.0 in
     record { feed = inner.0; return = inner.1; mark = outer.1 }
 
 -- if a test fails for these three bytes, each byte that passes it stays
-pub stays_by : (p : ℕ → Bool) → p 10 ≡ false → p 13 ≡ false → p 35 ≡ false → (b : ℕ) → p b ≡ true → stays b ≡ true
-stays_by p feed return mark b passes = true_from_ne_false (stays b) never
+pub stays_by : (p : ℕ → Bool) → p 10 ≡ false → p 13 ≡ false → p 35 ≡ false → (b : ℕ) → p b ≡ true
+    → is_line_byte b ≡ true
+stays_by p feed return mark b passes = true_from_ne_false (is_line_byte b) never
   where
     apart : (n : ℕ) → p n ≡ false → (b == n) ≡ true → ⊥
     apart n fails same = true≢false (sym passes ∙ ap p (eqb-true b n same) ∙ fails)
 
-    never : stays b ≡ false → ⊥
+    never : is_line_byte b ≡ false → ⊥
     never fails = ⊎_elim
         (λ outer. ⊎_elim (apart 10 feed) (apart 13 return) (or_cases _ _ outer))
         (apart 35 mark)
@@ -59,5 +60,5 @@ stays_by p feed return mark b passes = true_from_ne_false (stays b) never
 
 -- if a test fails for these three bytes, a text whose bytes pass it stays
 pub all_stay : (p : ℕ → Bool) → p 10 ≡ false → p 13 ≡ false → p 35 ≡ false → (text : List ℕ) → list_all p text ≡ true
-    → list_all stays text ≡ true
-all_stay p feed return mark text all = all_pass p stays (stays_by p feed return mark) text all
+    → list_all is_line_byte text ≡ true
+all_stay p feed return mark text all = all_pass p is_line_byte (stays_by p feed return mark) text all

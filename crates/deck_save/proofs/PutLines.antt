@@ -37,8 +37,8 @@ module _ (flags : List Bool) (lines : List DeckLine) (i : ℕ) (same : length fl
   inside : i < length lines
   inside = omega arith
 
-  pub there : slice_get lines i ≡ Some (line_at lines i)
-  there = slice_get-get_or lines i (plain_line 0 []) inside
+  pub line_at_place : slice_get lines i ≡ Some (line_at lines i)
+  line_at_place = slice_get-get_or lines i (plain_line 0 []) inside
 
   next : from_place flags lines i ≡ at_place flags lines i ++ from_place flags lines (i + 1)
   next =

@@ -7,14 +7,14 @@ use Rattle.std.proofs.lemmas.List.{append-nil, reverse-append, reverse-reverse}
 use Rattle.std.proofs.Math.Seq.{take-length}
 use Rattle.def_lines.specs.declared.line.Line.{Line}
 use Rattle.def_lines.specs.Blanks.{after_blanks, before_blanks, trim_of}
-use Rattle.def_lines.specs.Lines.{before_byte, begins_with, continuation, ends_with, front, without_comment}
+use Rattle.def_lines.specs.Lines.{before_byte, begins_with, continuation, ends_with, front_of_line, without_comment}
 use Rattle.def_lines.specs.Lines.{without_first_byte}
 use Rattle.def_lines.specs.Lines.{logical_lines, nonblank_lines, numbered_lines, onto_line, physical_lines, with_front}
 use Rattle.def_lines.specs.Lines.{trimmed_line}
 use Rattle.def_lines.specs.Parts.{is_begun}
 use Rattle.def_lines.specs.Words.{is_empty}
 use Rattle.def_lines.proofs.TrimmedTexts.{trimmed-begun}
-use Rattle.deck_save.specs.SavedLines.{saved_line, saved_lines, stays}
+use Rattle.deck_save.specs.SavedLines.{is_line_byte, saved_line, saved_lines}
 use Rattle.deck_save.proofs.PlainBytes.{IsNone, all_reversed, none_of}
 
 -- a text that is read back unchanged as a line of a file
@@ -22,7 +22,7 @@ pub record IsPlain (text : List ℕ) : Type 0 where
   pub some : is_empty text ≡ false
   pub begun : is_begun text ≡ true
   pub bare : before_blanks text ≡ text
-  pub clear : list_all stays text ≡ true
+  pub clear : list_all is_line_byte text ≡ true
 
 abbrev pub ArePlain : List (List ℕ) → Type 0
 ArePlain [] = Unit {0}
@@ -38,11 +38,11 @@ read_lines n [] = []
 read_lines n (text ∷ texts) = record { number = n; text = text } ∷ read_lines (number_behind n text) texts
 
 -- a text without a line feed is a physical line
-physical : (text rest : List ℕ) → list_all stays text ≡ true
+physical : (text rest : List ℕ) → list_all is_line_byte text ≡ true
     → physical_lines (text ++ 10 ∷ rest) ≡ text ∷ physical_lines rest
 physical [] rest clear = refl
 physical (b ∷ text) rest clear =
-    let parts : (stays b ≡ true) × (list_all stays text ≡ true) = and_parts _ _ clear in
+    let parts : (is_line_byte b ≡ true) × (list_all is_line_byte text ≡ true) = and_parts _ _ clear in
     let none : IsNone b = none_of b parts.0 in
     ap (λ t. cond t ([] ∷ physical_lines (text ++ 10 ∷ rest)) (onto_line b (physical_lines (text ++ 10 ∷ rest))))
     none.feed
@@ -50,23 +50,25 @@ physical (b ∷ text) rest clear =
 
 -- the line has no carriage return at its end, and no comment
 
-no_return : (text : List ℕ) → list_all stays text ≡ true → begins_with 13 text ≡ false
+no_return : (text : List ℕ) → list_all is_line_byte text ≡ true → begins_with 13 text ≡ false
 no_return [] clear = refl
 no_return (b ∷ text) clear = (none_of b (and_parts _ _ clear).0).return
 
-place_of_comment : (text : List ℕ) → list_all stays text ≡ true → position_or_len (λ x. x == 35) text ≡ length text
+place_of_comment : (text : List ℕ) → list_all is_line_byte text ≡ true
+    → position_or_len (λ x. x == 35) text ≡ length text
 place_of_comment [] clear = refl
 place_of_comment (b ∷ text) clear =
-    let parts : (stays b ≡ true) × (list_all stays text ≡ true) = and_parts _ _ clear in
+    let parts : (is_line_byte b ≡ true) × (list_all is_line_byte text ≡ true) = and_parts _ _ clear in
     let none : IsNone b = none_of b parts.0 in
     ap (λ t. cond (not t) (1 + position_or_len (λ x. x == 35) text) 0) none.mark
     ∙ one-add (position_or_len (λ x. x == 35) text)
     ∙ ap suc (place_of_comment text parts.1)
 
-cleaned_plain : (text : List ℕ) → list_all stays text ≡ true → before_blanks text ≡ text → without_comment text ≡ text
+cleaned_plain : (text : List ℕ) → list_all is_line_byte text ≡ true → before_blanks text ≡ text
+    → without_comment text ≡ text
 cleaned_plain text clear bare =
-    ap (λ t. before_blanks (before_byte 35 (cond t (front text) text)))
-    (no_return (reverse text) (all_reversed stays text clear))
+    ap (λ t. before_blanks (before_byte 35 (cond t (front_of_line text) text)))
+    (no_return (reverse text) (all_reversed is_line_byte text clear))
     ∙ ap (λ n. before_blanks (take n text)) (place_of_comment text clear)
     ∙ ap before_blanks (take-length text)
     ∙ bare
@@ -82,13 +84,13 @@ marked_bare text =
     ∙ reverse-append (92 ∷ []) (reverse text)
     ∙ ap (λ t. t ++ 92 ∷ []) (reverse-reverse text)
 
-marked_front : (text : List ℕ) → front (text ++ 92 ∷ []) ≡ text
+marked_front : (text : List ℕ) → front_of_line (text ++ 92 ∷ []) ≡ text
 marked_front text = ap (λ t. reverse (without_first_byte t)) (marked_last text) ∙ reverse-reverse text
 
-marked_clear : (text : List ℕ) → list_all stays text ≡ true → list_all stays (text ++ 92 ∷ []) ≡ true
+marked_clear : (text : List ℕ) → list_all is_line_byte text ≡ true → list_all is_line_byte (text ++ 92 ∷ []) ≡ true
 marked_clear [] clear = refl
 marked_clear (b ∷ text) clear =
-    let parts : (stays b ≡ true) × (list_all stays text ≡ true) = and_parts _ _ clear in
+    let parts : (is_line_byte b ≡ true) × (list_all is_line_byte text ≡ true) = and_parts _ _ clear in
     (λ i. parts.0 i && marked_clear text parts.1 i)
 
 -- trimming removes a space after a text
@@ -106,7 +108,7 @@ line_ended n text rest plain ends =
     ∙ ap (numbered_lines n) (physical text rest plain.clear)
     ∙ ap (λ t. continuation n t (numbered_lines (n + 1) (physical_lines rest)))
     (cleaned_plain text plain.clear plain.bare)
-    ∙ ap (λ t. cond t (with_front n (front text ++ 32 ∷ []) (numbered_lines (n + 1) (physical_lines rest)))
+    ∙ ap (λ t. cond t (with_front n (front_of_line text ++ 32 ∷ []) (numbered_lines (n + 1) (physical_lines rest)))
     (record { number = n; text = text } ∷ numbered_lines (n + 1) (physical_lines rest))) ends
 
 line_continued : (n : ℕ) (text rest : List ℕ) → IsPlain text →
@@ -119,7 +121,7 @@ line_continued n text rest plain =
     (append_assoc text (92 ∷ 10 ∷ 10 ∷ []) rest ∙ sym (append_assoc text (92 ∷ []) (10 ∷ 10 ∷ rest)))
     ∙ ap (numbered_lines n) (physical marked (10 ∷ rest) (marked_clear text plain.clear))
     ∙ ap (λ t. continuation n t next) (cleaned_plain marked (marked_clear text plain.clear) (marked_bare text))
-    ∙ ap (λ t. cond (begins_with 92 t) (with_front n (front marked ++ 32 ∷ []) next)
+    ∙ ap (λ t. cond (begins_with 92 t) (with_front n (front_of_line marked ++ 32 ∷ []) next)
     (record { number = n; text = marked } ∷ next)) (marked_last text)
     ∙ ap (λ t. with_front n (t ++ 32 ∷ []) next) (marked_front text)
 

@@ -13,7 +13,7 @@ use Rattle.def_entry.proofs.Fronts.{trimmed-before_blanks}
 use Rattle.deck_lines.specs.Marks.{plain_line}
 use Rattle.deck_lines.specs.Readings.{Defines, defined_by, entry_in, of_entry, reading_by, reading_of}
 use Rattle.deck_lines.specs.declared.line.DeckLine.{DeckLine}
-use Rattle.deck_lines.proofs.Entries.{reads}
+use Rattle.deck_lines.proofs.Entries.{entry_of_text}
 use Rattle.deck_save.proofs.Accepted.{entry_stays}
 use Rattle.deck_save.proofs.BareHeadings.{IsBare, bare_entry}
 use Rattle.deck_save.proofs.ReadLines.{ArePlain, IsPlain}
@@ -96,7 +96,7 @@ saved_gives law x d e = subst (λ t. Gives t d) (sym same) (record {
 })
   where
     is : IsEntry x.text d.0 d.1
-    is = ((law x.text (line_has x d e)).0 d.0 d.1).0 (reads x d e)
+    is = ((law x.text (line_has x d e)).0 d.0 d.1).0 (entry_of_text x d e)
 
     bare : IsBare x.text d.0 d.1
     bare = bare_entry x.text d.0 d.1 is

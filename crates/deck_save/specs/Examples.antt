@@ -6,8 +6,8 @@ use Rattle.deck.specs.Decks.{Contents}
 use Rattle.deck_save.specs.SavedText.{saved_text}
 
 -- a deck with this locale and these lines
-abbrev pub deck : List ℕ → List DeckLine → Contents
-deck locale lines = record { lines = lines; settings = record { locale = locale; vars = [] }; notices = [] }
+abbrev pub lone_example : List ℕ → List DeckLine → Contents
+lone_example locale lines = record { lines = lines; settings = record { locale = locale; vars = [] }; notices = [] }
 
 -- lines with a block that holds in one locale, and a line with a notice
 abbrev pub local_lines : List DeckLine
@@ -24,10 +24,11 @@ local_lines =
 -- on the next definition; a line with blanks at its ends, which edits may produce, is saved without them
 abbrev pub SaveExamplesLaw : Type 0
 SaveExamplesLaw =
-    (saved_text (deck (codes "en_US") local_lines) ≡ codes "m !" ++ 10 ∷ codes "g 3 m" ++ 10 ∷ codes "h 2 g" ++ 10 ∷ [])
-    × (saved_text (deck (codes "en_GB") local_lines) ≡ codes "m !" ++ 10 ∷ codes "h 2 g" ++ 10 ∷ [])
-    × (saved_text (deck []
+    (saved_text (lone_example (codes "en_US") local_lines) ≡ codes "m !" ++ 10 ∷ codes "g 3 m" ++ 10 ∷ codes "h 2 g"
+    ++ 10 ∷ [])
+    × (saved_text (lone_example (codes "en_GB") local_lines) ≡ codes "m !" ++ 10 ∷ codes "h 2 g" ++ 10 ∷ [])
+    × (saved_text (lone_example []
     (plain_line 1 (codes "m !") ∷ plain_line 2 (codes "\\ 3 m") ∷ plain_line 3 (codes "x \\") ∷ []))
     ≡ codes "m !" ++ 10 ∷ codes "\\ 3 m" ++ 10 ∷ codes "x \\\\" ++ 10 ∷ 10 ∷ [])
-    × (saved_text (deck [] (plain_line 1 (codes "x  !  ") ∷ [])) ≡ codes "x  !" ++ 10 ∷ [])
-    × (saved_text (deck [] []) ≡ [])
+    × (saved_text (lone_example [] (plain_line 1 (codes "x  !  ") ∷ [])) ≡ codes "x  !" ++ 10 ∷ [])
+    × (saved_text (lone_example [] []) ≡ [])

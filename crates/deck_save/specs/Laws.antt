@@ -15,25 +15,25 @@ use Rattle.deck.specs.Tables.{table}
 use Rattle.deck.specs.declared.fault.DeckFault.{DeckFault}
 use Rattle.deck.specs.declared.settings.Settings.{Settings}
 use Rattle.deck_save.specs.SavedText.{saved_text, saved_texts}
-use Rattle.deck_save.specs.SavedLines.{stays}
+use Rattle.deck_save.specs.SavedLines.{is_line_byte}
 
 -- a deck within the limits, as every deck is, whose saved text is not too long for a file
 pub record CanBeSaved (d : Contents) : Type 0 where
-  pub within : pass_limit d.lines ≡ false
-  pub short : length (saved_text d) ≤ longest_file
+  pub lines_within_limit : pass_limit d.lines ≡ false
+  pub text_within_limit : length (saved_text d) ≤ longest_file
 
 -- a loaded deck has no notices and has the definitions of another deck: the same texts, and the same entry for each key
 pub record GivesBack (d loaded : Contents) : Type 0 where
-  pub silent : loaded.notices ≡ []
+  pub without_notices : loaded.notices ≡ []
   pub texts : defining_texts loaded ≡ saved_texts d
-  pub entries : table loaded ≡ table d
+  pub same_table : table loaded ≡ table d
 
 -- a load yields such a deck, with the settings that it is given
 pub record IsGivenBack (d : Contents) (under : Settings) (outcome : Result Contents DeckFault) : Type 0 where
   pub load_result : Contents
-  pub is : outcome ≡ Ok load_result
-  pub told : load_result.settings ≡ under
-  pub back : GivesBack d load_result
+  pub loads_ok : outcome ≡ Ok load_result
+  pub same_settings : load_result.settings ≡ under
+  pub gives_back : GivesBack d load_result
 
 -- law: loading a file with the saved text of a deck gives the deck back, whatever the name of the file, the other files
 -- and the settings are
@@ -60,4 +60,4 @@ SavedAgainLaw = (d loaded : Contents) → GivesBack d loaded → saved_text load
 -- law: a line that defines a key contains no line feed, no carriage return and no `#`
 abbrev pub AcceptedLaw : Type 0
 AcceptedLaw = (line : List ℕ) (k : Key) (e : Entry) → has_entry (kind_of line) ≡ true → entry_of line ≡ Ok (k, e)
-    → list_all stays line ≡ true
+    → list_all is_line_byte line ≡ true

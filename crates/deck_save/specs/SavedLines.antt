@@ -17,5 +17,5 @@ abbrev pub saved_lines : List (List ℕ) → List ℕ
 saved_lines texts = flat_map saved_line texts
 
 -- a byte that stays unchanged in its line: it is no line feed, no carriage return and no `#`
-abbrev pub stays : ℕ → Bool
-stays b = not (b == 10 || b == 13 || b == 35)
+abbrev pub is_line_byte : ℕ → Bool
+is_line_byte b = not (b == 10 || b == 13 || b == 35)

@@ -15,7 +15,7 @@ use Rattle.piecewise.specs.Lines.{Point}
 use Rattle.def_entry.specs.Cuts.{lacks}
 use Rattle.def_entry.specs.Headings.{stands_apart}
 use Rattle.def_entry.specs.Numbers.{text_number}
-use Rattle.def_entry.specs.Options.{behind}
+use Rattle.def_entry.specs.Options.{text_after_choice}
 use Rattle.def_entry.specs.PointGrammar.{ArePairs, Apart, Comma}
 use Rattle.def_entry.specs.PointGrammar.{NextPair, ends_number, pair_then}
 use Rattle.def_entry.specs.PointLists.{points_between, points_of_words, some_pairs}
@@ -157,15 +157,15 @@ comma-built before x gap y blanks rest list is clear e next =
     in
     let more : ArePairs rest pair.behind_pair = next rest pair.behind_pair less pair.found_is in
     record {
-      written = NextPair before x gap y (Comma blanks) more.written;
-      spelled = ap (λ t. front_of before x gap y (blanks ++ (44 ∷ t))) more.spelled;
-      whole =
+      written_points = NextPair before x gap y (Comma blanks) more.written_points;
+      spelled_text = ap (λ t. front_of before x gap y (blanks ++ (44 ∷ t))) more.spelled_text;
+      well_formed =
           (λ i. is.front.blank i && (is.x_clear i && is_some (pair.x_is i)) && gap_is gap is.front.wide i
           && is.front.gap_blank i && (is.y_clear i && is_some (pair.y_is i))
           && clear i
-          && more.whole i);
-      same =
-          (λ i. pair.x_is i >>= (λ a. pair.y_is i >>= (λ b. more.same i >>= (λ ps. Some ((a, b) ∷ ps)))))
+          && more.well_formed i);
+      values_same =
+          (λ i. pair.x_is i >>= (λ a. pair.y_is i >>= (λ b. more.values_same i >>= (λ ps. Some ((a, b) ∷ ps)))))
           ∙ ap Some pair.whole;
     }
 
@@ -180,15 +180,15 @@ apart-built before x gap y rest list is apart none e next =
     let more : ArePairs rest pair.behind_pair =
     next rest pair.behind_pair (longer before x gap y rest is.front.first.some) pair.found_is in
     record {
-      written = NextPair before x gap y Apart more.written;
-      spelled = ap (front_of before x gap y) more.spelled;
-      whole =
+      written_points = NextPair before x gap y Apart more.written_points;
+      spelled_text = ap (front_of before x gap y) more.spelled_text;
+      well_formed =
           (λ i. is.front.blank i && (is.x_clear i && is_some (pair.x_is i)) && gap_is gap is.front.wide i
           && is.front.gap_blank i && (is.y_clear i && is_some (pair.y_is i))
-          && (ap stands_apart (sym more.spelled) ∙ apart) i
-          && more.whole i);
-      same =
-          (λ i. pair.x_is i >>= (λ a. pair.y_is i >>= (λ b. more.same i >>= (λ ps. Some ((a, b) ∷ ps)))))
+          && (ap stands_apart (sym more.spelled_text) ∙ apart) i
+          && more.well_formed i);
+      values_same =
+          (λ i. pair.x_is i >>= (λ a. pair.y_is i >>= (λ b. more.values_same i >>= (λ ps. Some ((a, b) ∷ ps)))))
           ∙ ap Some pair.whole;
     }
 

@@ -4,7 +4,8 @@ use Rattle.std.proofs.Common.{None, refl, sym, ap, ◌∙◌, arith}
 use Rattle.def_lines.specs.Blanks.{after_blanks}
 use Rattle.def_entry.specs.declared.options.Choice.{Choice}
 use Rattle.def_entry.specs.declared.options.Choice.TheVariants.{Units, Domain, Range, NoError}
-use Rattle.def_entry.specs.Options.{Options, begins_with_no_error, begins_with_option, behind, choice_at, options_from}
+use Rattle.def_entry.specs.Options.{Options, begins_with_no_error, begins_with_option, choice_at, options_from}
+use Rattle.def_entry.specs.Options.{text_after_choice}
 use Rattle.def_entry.specs.Options.{with_choice, with_next_option}
 use Rattle.def_entry.specs.Steps.{◌>>=◌}
 
@@ -64,7 +65,7 @@ next-none most k o text rest found whole less is front at none =
 pub next-some : (most k : ℕ) (o : Options) (text rest value : List ℕ) (found : Option Choice) (choice : Choice)
     (made whole : Option (Options × List ℕ)) → k ≤ most
     → options_from (suc most - k) o text ≡ whole → rest ≡ after_blanks text → found ≡ choice_at rest
-    → found ≡ Some choice → value ≡ behind choice rest → made ≡ with_choice choice o value
+    → found ≡ Some choice → value ≡ text_after_choice choice rest → made ≡ with_choice choice o value
     → (made >>= (λ f. options_from (suc most - (k + 1)) f.0 f.1)) ≡ whole
 next-some most k o text rest value found choice made whole less is front at some from by =
     let more : 0 < suc most - k = omega arith in

@@ -24,7 +24,8 @@ use Rattle.def_entry.specs.Keys.{key}
 use Rattle.def_entry.specs.Options.{Units}
 use Rattle.def_entry.specs.Outcomes.{entry_tree, name_or_fault, or_fault, parsed_entry}
 use Rattle.def_entry.specs.PointLists.{points_of, table_points}
-use Rattle.def_entry.specs.EntryReading.{alias_in, body_in, call_in, entry_of, func_in, function, function_of}
+use Rattle.def_entry.specs.EntryReading.{alias_in, body_in, call_in, entry_of, func_in, function_definition}
+use Rattle.def_entry.specs.EntryReading.{function_of}
 use Rattle.def_entry.specs.EntryReading.{inverse_in}
 use Rattle.def_entry.specs.EntryReading.{is_semicolon, list_in, name_in, parted_call, parted_table, points_in, table_in}
 use Rattle.def_entry.specs.EntryReading.{entry_trees, nonempty_text, unit_in, unit_tree, units_in, what_in, what_of}
@@ -67,7 +68,7 @@ of_tree binder text = go (parse_of binder text) refl
     go (Err (parse.Syntax place)) e = refl
     go (Err parse.NumeralTooLong) e = refl
     go (Err parse.NestedTooDeep) e = refl
-    go (Err parse.OutOfMemory) e = absurd (texts.told binder text e)
+    go (Err parse.OutOfMemory) e = absurd (texts.parse_fault_not_of_memory binder text e)
 
 -- the result for a required text is never an out-of-memory fault
 of_wanted : (text : List ℕ) → tells (nonempty_text text) ≡ true
@@ -119,12 +120,12 @@ of_function : (name parameter : List ℕ) (form : Form) → tells (function_of n
 of_function name parameter form =
     step (units_in form.options.units)
     (λ units. entry_tree (Some parameter) form.forward
-    >>= (λ forward. inverse_in name form.inverse >>= (λ inverse. Ok (function form units forward inverse))))
+    >>= (λ forward. inverse_in name form.inverse >>= (λ inverse. Ok (function_definition form units forward inverse))))
     (of_units form.options.units)
     (λ units. step (entry_tree (Some parameter) form.forward)
-    (λ forward. inverse_in name form.inverse >>= (λ inverse. Ok (function form units forward inverse)))
+    (λ forward. inverse_in name form.inverse >>= (λ inverse. Ok (function_definition form units forward inverse)))
     (of_tree (Some parameter) form.forward)
-    (λ forward. step (inverse_in name form.inverse) (λ inverse. Ok (function form units forward inverse))
+    (λ forward. step (inverse_in name form.inverse) (λ inverse. Ok (function_definition form units forward inverse))
     (of_inverse name form.inverse) (λ inverse. refl)))
 
 -- the result for the text after a parameter is never an out-of-memory fault
@@ -219,5 +220,5 @@ of_line line =
     (λ what. refl)
 
 -- the law that the fault of a line is never an out-of-memory fault
-pub told : EntryMemoryLaw
-told line fault said = sym (ap tells said) ∙ of_line line
+pub fault_not_of_memory : EntryMemoryLaw
+fault_not_of_memory line fault said = sym (ap tells said) ∙ of_line line

@@ -36,7 +36,7 @@ faults = (refl, refl, refl, refl, refl, refl, refl, refl, refl, refl, refl, refl
 -- the examples of keys
 keys_read : KeysLaw
 unfolding key_of
-keys_read = record { written = refl; read = refl; refused = refl }
+keys_read = record { key_texts = refl; keys_of_texts = refl; rejected_texts = refl }
 
 -- the examples of texts of faults
 faults_told : FaultTextsLaw

@@ -17,7 +17,7 @@ use Rattle.def_entry.specs.Forms.{Form, some_text}
 use Rattle.def_entry.specs.Options.{Units}
 use Rattle.def_entry.specs.Outcomes.{entry_tree, or_fault}
 use Rattle.def_entry.specs.PointLists.{points_of, table_points}
-use Rattle.def_entry.specs.EntryReading.{function, function_of, inverse_in, points_in, unit_tree, units_in}
+use Rattle.def_entry.specs.EntryReading.{function_definition, function_of, inverse_in, points_in, unit_tree, units_in}
 use Rattle.def_entry.proofs.WrittenPoints.{points_read}
 use Rattle.def_entry.proofs.Runs.{Runs, bind_ok, ok-tree, runs-done, runs-map, runs-then, runs-tree, tree-ok}
 
@@ -121,17 +121,17 @@ runs-function : (name parameter : List ℕ) (form : Form)
 runs-function name parameter form =
     runs-then (units_in form.options.units)
     (λ units. entry_tree (Some parameter) form.forward
-    >>= (λ forward. inverse_in name form.inverse >>= (λ inverse. Ok (function form units forward inverse))))
+    >>= (λ forward. inverse_in name form.inverse >>= (λ inverse. Ok (function_definition form units forward inverse))))
     (optional_expression None (in_unit_text form.options.units) ++ optional_expression None
     (out_unit_text form.options.units))
     ((Some parameter, form.forward) ∷ optional_expression (Some name) form.inverse)
     (runs-units form.options.units)
     (λ units. runs-then (entry_tree (Some parameter) form.forward)
-    (λ forward. inverse_in name form.inverse >>= (λ inverse. Ok (function form units forward inverse)))
+    (λ forward. inverse_in name form.inverse >>= (λ inverse. Ok (function_definition form units forward inverse)))
     ((Some parameter, form.forward) ∷ [])
     (optional_expression (Some name) form.inverse)
     (runs-tree (Some parameter) form.forward)
-    (λ forward. runs-map (inverse_in name form.inverse) (λ inverse. function form units forward inverse)
+    (λ forward. runs-map (inverse_in name form.inverse) (λ inverse. function_definition form units forward inverse)
     (optional_expression (Some name) form.inverse) (runs-inverse name form.inverse)))
 
 -- if a form has points or needs none, reading it reads its expressions
@@ -262,11 +262,13 @@ function-ok : (name parameter : List ℕ) (form : Form) (what : What) → functi
 function-ok name parameter form what e =
     let one = bind_ok (units_in form.options.units)
     (λ units. entry_tree (Some parameter) form.forward
-    >>= (λ forward. inverse_in name form.inverse >>= (λ inverse. Ok (function form units forward inverse)))) what e in
+    >>= (λ forward. inverse_in name form.inverse >>= (λ inverse. Ok (function_definition form units forward inverse))))
+    what e in
     let two = bind_ok (entry_tree (Some parameter) form.forward)
-    (λ forward. inverse_in name form.inverse >>= (λ inverse. Ok (function form one.0 forward inverse))) what
+    (λ forward. inverse_in name form.inverse >>= (λ inverse. Ok (function_definition form one.0 forward inverse))) what
     one.2 in
-    let three = bind_ok (inverse_in name form.inverse) (λ inverse. Ok (function form one.0 two.0 inverse)) what two.2 in
+    let three = bind_ok (inverse_in name form.inverse) (λ inverse. Ok (function_definition form one.0 two.0 inverse))
+    what two.2 in
     let units : IsTreeOf None (in_unit_text form.options.units) one.0.0
     × IsTreeOf None (out_unit_text form.options.units) one.0.1 =
     units-ok form.options.units one.0.0 one.0.1 one.1 in
@@ -290,12 +292,12 @@ ok-function : (name parameter : List ℕ) (form : Form) (f : FunctionDef) → Is
     → function_of name parameter form ≡ Ok (Function f)
 ok-function name parameter form f is =
     ap (λ r. r >>= (λ units. entry_tree (Some parameter) form.forward
-    >>= (λ forward. inverse_in name form.inverse >>= (λ inverse. Ok (function form units forward inverse)))))
+    >>= (λ forward. inverse_in name form.inverse >>= (λ inverse. Ok (function_definition form units forward inverse)))))
     (ok-units form.options.units f.in_unit f.out_unit is.in_unit is.out_unit)
     ∙ ap (λ r. r >>= (λ forward. inverse_in name form.inverse
-    >>= (λ inverse. Ok (function form (f.in_unit, f.out_unit) forward inverse))))
+    >>= (λ inverse. Ok (function_definition form (f.in_unit, f.out_unit) forward inverse))))
     (ok-tree (Some parameter) form.forward f.forward is.forward)
-    ∙ ap (λ r. r >>= (λ inverse. Ok (function form (f.in_unit, f.out_unit) f.forward inverse)))
+    ∙ ap (λ r. r >>= (λ inverse. Ok (function_definition form (f.in_unit, f.out_unit) f.forward inverse)))
     (ok-inverse name form.inverse f.inverse is.inverse)
     ∙ (λ i. Ok (Function (record {
       in_unit = f.in_unit;

@@ -16,10 +16,12 @@ use Rattle.def_entry.specs.OptionGrammar.{WrittenInterval, WrittenOption, UnitsO
 use Rattle.def_entry.specs.OptionGrammar.{NoErrorOption, WrittenOptions, NoOption, NextOption}
 use Rattle.def_entry.specs.OptionGrammar.{AnyOrderLaw, AreOptions, OptionsLaw, are_whole, at_most, domain_of}
 use Rattle.def_entry.specs.OptionGrammar.{option_has_ended}
-use Rattle.def_entry.specs.OptionGrammar.{in_order, is_complete_option, is_interval, no_error_of, option, options}
+use Rattle.def_entry.specs.OptionGrammar.{is_complete_option, is_interval, no_error_of, option, options_in_order}
+use Rattle.def_entry.specs.OptionGrammar.{spelled_options}
 use Rattle.def_entry.specs.OptionGrammar.{range_of}
 use Rattle.def_entry.specs.OptionGrammar.{span_of, units_of}
-use Rattle.def_entry.specs.Options.{Options, behind, choice_at, empty_options, most_options, options_at, options_from}
+use Rattle.def_entry.specs.Options.{Options, choice_at, empty_options, most_options, options_at, options_from}
+use Rattle.def_entry.specs.Options.{text_after_choice}
 use Rattle.def_entry.specs.Options.{with_choice, with_next_option}
 use Rattle.def_entry.specs.Steps.{◌>>=◌}
 use Rattle.def_entry.proofs.WrittenIntervals.{bind_some, one_pair}
@@ -159,10 +161,10 @@ none-behind o new e = record {
 -- the written form of options that are read
 record ReadFrom (o : Options) (text rest : List ℕ) (new : Options) : Type 0 where
   written : WrittenOptions
-  spelled : text ≡ options written rest
+  spelled : text ≡ spelled_options written rest
   whole : are_whole written rest ≡ true
   ended : option_has_ended rest ≡ true
-  said : Behind o (in_order written) new
+  said : Behind o (options_in_order written) new
 
 -- equal options are followed by the same options
 with_same : (x y : Options) (os : List WrittenOption) (new : Options) → x ≡ y → Behind x os new → Behind y os new
@@ -190,11 +192,13 @@ read-is (suc n) o text rest new e = go (choice_at (after_blanks text)) refl e (f
           said = none-behind o new pair.0;
         }
     go (Some c) some e front next =
-        let step = bind_some (with_choice c o (behind c (after_blanks text))) (λ found. options_from n found.0 found.1)
+        let step = bind_some (with_choice c o (text_after_choice c (after_blanks text)))
+        (λ found. options_from n found.0 found.1)
         (new, rest) e in
         done step.0.0 step.0.1 step.1 (next step.0.0 step.0.1 rest new step.2)
       where
-        done : (o' : Options) (left : List ℕ) → with_choice c o (behind c (after_blanks text)) ≡ Some (o', left)
+        done : (o' : Options) (left : List ℕ) → with_choice c o (text_after_choice c (after_blanks text)) ≡ Some
+            (o', left)
             → ReadFrom o' left rest new
             → ReadFrom o text rest new
         done o' left taken rests =
@@ -205,15 +209,15 @@ read-is (suc n) o text rest new e = go (choice_at (after_blanks text)) refl e (f
               whole = (λ i. front.clear i && (ap (is_complete_option one.written) (sym rests.spelled) ∙ one.whole) i
                   && rests.whole i);
               ended = rests.ended;
-              said = behind-more one.written o (in_order rests.written) new one.free
-                  (with_same o' (added one.written o) (in_order rests.written) new one.made rests.said);
+              said = behind-more one.written o (options_in_order rests.written) new one.free
+                  (with_same o' (added one.written o) (options_in_order rests.written) new one.made rests.said);
             }
 
 -- options that are written are read
 written-read : (w : WrittenOptions) (n : ℕ) (o new : Options) (rest : List ℕ) → are_whole w rest ≡ true
     → option_has_ended rest ≡ true
-    → Behind o (in_order w) new → length (in_order w) < n
-    → options_from n o (options w rest) ≡ Some (new, rest)
+    → Behind o (options_in_order w) new → length (options_in_order w) < n
+    → options_from n o (spelled_options w rest) ≡ Some (new, rest)
 unfolding options_from
 written-read (NoOption blanks) zero o new rest whole ended said room = absurd (omega arith)
 written-read (NoOption blanks) (suc n) o new rest whole ended said room =
@@ -226,24 +230,26 @@ written-read (NextOption blanks x xs) zero o new rest whole ended said room = ab
 written-read (NextOption blanks x xs) (suc n) o new rest whole ended said room =
     go (written-read xs n (added x o) new rest)
   where
-    go : (are_whole xs rest ≡ true → option_has_ended rest ≡ true → Behind (added x o) (in_order xs) new
-        → length (in_order xs) < n → options_from n (added x o) (options xs rest) ≡ Some (new, rest))
-        → options_from (suc n) o (options (NextOption blanks x xs) rest) ≡ Some (new, rest)
+    go : (are_whole xs rest ≡ true → option_has_ended rest ≡ true → Behind (added x o) (options_in_order xs) new
+        → length (options_in_order xs) < n → options_from n (added x o) (spelled_options xs rest) ≡ Some (new, rest))
+        → options_from (suc n) o (spelled_options (NextOption blanks x xs) rest) ≡ Some (new, rest)
     go next =
-        let left : List ℕ = options xs rest in
-        let parts : ((list_all is_blank blanks && is_complete_option x (options xs rest)) ≡ true)
+        let left : List ℕ = spelled_options xs rest in
+        let parts : ((list_all is_blank blanks && is_complete_option x (spelled_options xs rest)) ≡ true)
         × (are_whole xs rest ≡ true) =
         and_parts _ _ whole in
-        let front : (list_all is_blank blanks ≡ true) × (is_complete_option x (options xs rest) ≡ true) =
+        let front : (list_all is_blank blanks ≡ true) × (is_complete_option x (spelled_options xs rest) ≡ true) =
         and_parts _ _ parts.0 in
-        let free : (is_free x o ≡ true) × Behind (added x o) (in_order xs) new =
-        behind-less x o (in_order xs) new (options xs rest) front.1 said in
-        let begun : after_blanks (blanks ++ option x (options xs rest)) ≡ option x (options xs rest) =
-        after_blanks-front blanks (option x (options xs rest)) front.0 (begun-option x (options xs rest)) in
+        let free : (is_free x o ≡ true) × Behind (added x o) (options_in_order xs) new =
+        behind-less x o (options_in_order xs) new (spelled_options xs rest) front.1 said in
+        let begun : after_blanks (blanks ++ option x (spelled_options xs rest)) ≡ option x (spelled_options xs rest) =
+        after_blanks-front blanks (option x (spelled_options xs rest)) front.0
+        (begun-option x (spelled_options xs rest)) in
         ap (λ t. with_next_option (options_from n) (choice_at t) o t) begun
-        ∙ ap (λ c. with_next_option (options_from n) c o (option x (options xs rest)))
-        (choice-at x (options xs rest) front.1)
-        ∙ ap (λ f. f >>= (λ found. options_from n found.0 found.1)) (value-at x o (options xs rest) front.1 free.0)
+        ∙ ap (λ c. with_next_option (options_from n) c o (option x (spelled_options xs rest)))
+        (choice-at x (spelled_options xs rest) front.1)
+        ∙ ap (λ f. f >>= (λ found. options_from n found.0 found.1))
+        (value-at x o (spelled_options xs rest) front.1 free.0)
         ∙ next parts.1 ended free.1 (omega arith)
 
 -- a complete interval has a value
@@ -252,12 +258,12 @@ whole_span i whole = (and_parts _ (is_some (span_of i)) whole).1
 
 -- each option is one of four kinds
 counted : (w : WrittenOptions) (rest : List ℕ) → are_whole w rest ≡ true
-    → length (in_order w)
-    ≤ length (filter_map units_of (in_order w)) + length (filter_map domain_of (in_order w))
-    + length (filter_map range_of (in_order w)) + length (filter_map no_error_of (in_order w))
+    → length (options_in_order w)
+    ≤ length (filter_map units_of (options_in_order w)) + length (filter_map domain_of (options_in_order w))
+    + length (filter_map range_of (options_in_order w)) + length (filter_map no_error_of (options_in_order w))
 counted (NoOption blanks) rest whole = omega arith
 counted (NextOption blanks x xs) rest whole =
-    let parts : ((list_all is_blank blanks && is_complete_option x (options xs rest)) ≡ true)
+    let parts : ((list_all is_blank blanks && is_complete_option x (spelled_options xs rest)) ≡ true)
     × (are_whole xs rest ≡ true) =
     and_parts _ _ whole in
     go x (and_parts _ _ parts.0).1 (counted xs rest parts.1)
@@ -267,24 +273,25 @@ counted (NextOption blanks x xs) rest whole =
     one_more None values e = cc
     one_more (Some y) values e = refl
 
-    go : (y : WrittenOption) → is_complete_option y (options xs rest) ≡ true
-        → length (in_order xs)
-        ≤ length (filter_map units_of (in_order xs)) + length (filter_map domain_of (in_order xs))
-        + length (filter_map range_of (in_order xs)) + length (filter_map no_error_of (in_order xs))
-        → length (y ∷ in_order xs)
-        ≤ length (filter_map units_of (y ∷ in_order xs)) + length (filter_map domain_of (y ∷ in_order xs))
-        + length (filter_map range_of (y ∷ in_order xs))
-        + length (filter_map no_error_of (y ∷ in_order xs))
+    go : (y : WrittenOption) → is_complete_option y (spelled_options xs rest) ≡ true
+        → length (options_in_order xs)
+        ≤ length (filter_map units_of (options_in_order xs)) + length (filter_map domain_of (options_in_order xs))
+        + length (filter_map range_of (options_in_order xs)) + length (filter_map no_error_of (options_in_order xs))
+        → length (y ∷ options_in_order xs)
+        ≤ length (filter_map units_of (y ∷ options_in_order xs)) + length
+        (filter_map domain_of (y ∷ options_in_order xs))
+        + length (filter_map range_of (y ∷ options_in_order xs))
+        + length (filter_map no_error_of (y ∷ options_in_order xs))
     go (UnitsOption a b) here count = omega arith
     go (DomainOption i) here count =
-        let m : length (cons_option (span_of i) (filter_map domain_of (in_order xs)))
-        ≡ suc (length (filter_map domain_of (in_order xs))) =
-        one_more (span_of i) (filter_map domain_of (in_order xs)) (whole_span i here) in
+        let m : length (cons_option (span_of i) (filter_map domain_of (options_in_order xs)))
+        ≡ suc (length (filter_map domain_of (options_in_order xs))) =
+        one_more (span_of i) (filter_map domain_of (options_in_order xs)) (whole_span i here) in
         omega arith
     go (RangeOption i) here count =
-        let m : length (cons_option (span_of i) (filter_map range_of (in_order xs)))
-        ≡ suc (length (filter_map range_of (in_order xs))) =
-        one_more (span_of i) (filter_map range_of (in_order xs)) (whole_span i here) in
+        let m : length (cons_option (span_of i) (filter_map range_of (options_in_order xs)))
+        ≡ suc (length (filter_map range_of (options_in_order xs))) =
+        one_more (span_of i) (filter_map range_of (options_in_order xs)) (whole_span i here) in
         omega arith
     go NoErrorOption here count = omega arith
 
@@ -301,10 +308,10 @@ options_read text rest o = (to, from)
     to e =
         let is : ReadFrom empty_options text rest o = read-is (suc most_options) empty_options text rest o e in
         record {
-          written = is.written;
-          spelled = is.spelled;
-          whole = is.whole;
-          ended = is.ended;
+          written_options = is.written;
+          spelled_text = is.spelled;
+          well_formed = is.whole;
+          ends_options = is.ended;
           statement_is = record {
             units = is.said.units;
             domain = is.said.domain;
@@ -316,17 +323,17 @@ options_read text rest o = (to, from)
 
     from : AreOptions text rest o → options_at text ≡ Some (o, rest)
     from is =
-        let u : length (filter_map units_of (in_order is.written)) ≤ 1 =
-        few o.units (filter_map units_of (in_order is.written)) is.statement_is.units in
-        let d : length (filter_map domain_of (in_order is.written)) ≤ 1 =
-        few o.domain (filter_map domain_of (in_order is.written)) is.statement_is.domain in
-        let r : length (filter_map range_of (in_order is.written)) ≤ 1 =
-        few o.range (filter_map range_of (in_order is.written)) is.statement_is.range in
-        let n : length (filter_map no_error_of (in_order is.written)) ≤ 1 =
-        few (flag o.no_error) (filter_map no_error_of (in_order is.written)) is.statement_is.no_error in
-        let all = counted is.written rest is.whole in
-        let room : length (in_order is.written) < suc most_options = omega arith in
-        let said : Behind empty_options (in_order is.written) o =
+        let u : length (filter_map units_of (options_in_order is.written_options)) ≤ 1 =
+        few o.units (filter_map units_of (options_in_order is.written_options)) is.statement_is.units in
+        let d : length (filter_map domain_of (options_in_order is.written_options)) ≤ 1 =
+        few o.domain (filter_map domain_of (options_in_order is.written_options)) is.statement_is.domain in
+        let r : length (filter_map range_of (options_in_order is.written_options)) ≤ 1 =
+        few o.range (filter_map range_of (options_in_order is.written_options)) is.statement_is.range in
+        let n : length (filter_map no_error_of (options_in_order is.written_options)) ≤ 1 =
+        few (flag o.no_error) (filter_map no_error_of (options_in_order is.written_options)) is.statement_is.no_error in
+        let all = counted is.written_options rest is.well_formed in
+        let room : length (options_in_order is.written_options) < suc most_options = omega arith in
+        let said : Behind empty_options (options_in_order is.written_options) o =
         record {
           units = is.statement_is.units;
           domain = is.statement_is.domain;
@@ -334,8 +341,9 @@ options_read text rest o = (to, from)
           no_error =
               is.statement_is.no_error;
         } in
-        ap options_at is.spelled
-        ∙ written-read is.written (suc most_options) empty_options o rest is.whole is.ended said room
+        ap options_at is.spelled_text
+        ∙ written-read is.written_options (suc most_options) empty_options o rest is.well_formed is.ends_options said
+        room
 
 -- exchanging two options does not change their meaning
 
@@ -346,16 +354,19 @@ exchanged : {A : Type 0} (h : WrittenOption → Option A) (front : List WrittenO
 exchanged {A = A} h front x y back v e = filter_map-append h front (y ∷ x ∷ back)
     ∙ go (h x) (h y) (filter_map h front) (filter_map h back) (sym (filter_map-append h front (x ∷ y ∷ back)) ∙ e)
   where
-    long : (before : List A) (a b : A) (behind : List A) → before ++ (a ∷ b ∷ behind) ≡ at_most v → ⊥
-    long before a b behind e =
-        let n : length (before ++ (a ∷ b ∷ behind)) ≤ 1 =
-        few v (before ++ (a ∷ b ∷ behind)) e in omega (arith, length-append before (a ∷ b ∷ behind))
+    long : (before : List A) (a b : A) (text_after_choice : List A) → before ++ (a ∷ b ∷ text_after_choice) ≡ at_most v
+        → ⊥
+    long before a b text_after_choice e =
+        let n : length (before ++ (a ∷ b ∷ text_after_choice)) ≤ 1 =
+        few v (before ++ (a ∷ b ∷ text_after_choice)) e in
+        omega (arith, length-append before (a ∷ b ∷ text_after_choice))
 
-    go : (p q : Option A) (before behind : List A) → before ++ cons_option p (cons_option q behind) ≡ at_most v
-        → before ++ cons_option q (cons_option p behind) ≡ at_most v
-    go None q before behind e = e
-    go (Some a) None before behind e = e
-    go (Some a) (Some b) before behind e = absurd (long before a b behind e)
+    go : (p q : Option A) (before text_after_choice : List A)
+        → before ++ cons_option p (cons_option q text_after_choice) ≡ at_most v
+        → before ++ cons_option q (cons_option p text_after_choice) ≡ at_most v
+    go None q before text_after_choice e = e
+    go (Some a) None before text_after_choice e = e
+    go (Some a) (Some b) before text_after_choice e = absurd (long before a b text_after_choice e)
 
 -- the law of any order
 pub any_order : AnyOrderLaw

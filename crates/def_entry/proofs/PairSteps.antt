@@ -18,9 +18,10 @@ use Rattle.piecewise.specs.Lines.{Point}
 use Rattle.def_entry.specs.Cuts.{cut_at, lacks}
 use Rattle.def_entry.specs.Headings.{stands_apart}
 use Rattle.def_entry.specs.Numbers.{text_number}
-use Rattle.def_entry.specs.Options.{behind}
+use Rattle.def_entry.specs.Options.{text_after_choice}
 use Rattle.def_entry.specs.PointGrammar.{PairEnd, Apart, Comma, WrittenPoints, NoPair, NextPair, are_points}
-use Rattle.def_entry.specs.PointGrammar.{ends_number, is_number_text, is_pair_end, pair_end, pair_then, points, values}
+use Rattle.def_entry.specs.PointGrammar.{ends_number, is_number_text, is_pair_end, pair_end, pair_then, point_values}
+use Rattle.def_entry.specs.PointGrammar.{points}
 use Rattle.def_entry.specs.PointLists.{points_between, points_of_words, some_pairs}
 use Rattle.def_entry.specs.Steps.{◌>>=◌}
 use Rattle.def_entry.proofs.CutParts.{parts-none}
@@ -224,7 +225,8 @@ some_words front behind next = go (after_blanks front) refl (fronted front)
     go [] e is =
         let blanks : front ≡ is.blanks = is.whole ∙ ap (λ t. is.blanks ++ t) e ∙ append-nil is.blanks in
         let mark : after_blanks (front ++ (44 ∷ behind)) ≡ 44 ∷ behind =
-        ap (λ t. after_blanks (t ++ (44 ∷ behind))) blanks ∙ after_blanks-front is.blanks (44 ∷ behind) is.clear refl in
+        ap (λ t. after_blanks (t ++ (44 ∷ behind))) blanks
+        ∙ after_blanks-front is.blanks (44 ∷ behind) is.clear refl in
         absurd (true≢false (sym next ∙ ap no_comma_next mark))
     go (b ∷ rest) e is =
         let begun : is_begun (b ∷ rest) ≡ true = ap is_begun (sym e) ∙ is_begun-after_blanks front in
@@ -238,9 +240,10 @@ pub apart-step : (before x gap y rest : List ℕ) → Front before x gap y → s
     → points_in_runs (front_of before x gap y rest) ≡ pair_then x y (points_in_runs rest)
 apart-step before x gap y rest is apart next = go (cut_at 44 rest) refl
   where
-    apart_front : (front behind : List ℕ) → stands_apart (front ++ (44 ∷ behind)) ≡ true → stands_apart front ≡ true
-    apart_front [] behind e = refl
-    apart_front (b ∷ front) behind e = e
+    apart_front : (front text_after_choice : List ℕ) → stands_apart (front ++ (44 ∷ text_after_choice)) ≡ true
+        → stands_apart front ≡ true
+    apart_front [] text_after_choice e = refl
+    apart_front (b ∷ front) text_after_choice e = e
 
     go : (found : Option (List ℕ × List ℕ)) → cut_at 44 rest ≡ found
         → points_in_runs (front_of before x gap y rest) ≡ pair_then x y (points_in_runs rest)
@@ -325,7 +328,7 @@ written-next (NextPair before x gap y end rest) whole =
     ∙ number-next x (gap ++ (y ++ pair_end end (points rest))) is.first
 
 -- points are read the way they are written
-pub pairs-read : (w : WrittenPoints) → are_points w ≡ true → points_in_runs (points w) ≡ values w
+pub pairs-read : (w : WrittenPoints) → are_points w ≡ true → points_in_runs (points w) ≡ point_values w
 pairs-read (NoPair blanks) whole =
     ap points_between (parts-none 44 blanks (cut-lacks 44 blanks (blank_lacks blanks whole)))
     ∙ ap points_of_words (blank_words blanks whole)
@@ -340,8 +343,8 @@ pairs-read (NextPair before x gap y end rest) whole =
   where
     go : (e : PairEnd) → is_pair_end e (points rest) ≡ true → Front before x gap y
         → no_comma_next (after_blanks (points rest)) ≡ true
-        → points_in_runs (points rest) ≡ values rest
-        → points_in_runs (front_of before x gap y (pair_end e (points rest))) ≡ pair_then x y (values rest)
+        → points_in_runs (points rest) ≡ point_values rest
+        → points_in_runs (front_of before x gap y (pair_end e (points rest))) ≡ pair_then x y (point_values rest)
     go Apart ends is next read = apart-step before x gap y (points rest) is ends next ∙ ap (pair_then x y) read
     go (Comma blanks) ends is next read = comma-step before x gap y blanks (points rest) is ends
         ∙ ap (pair_then x y) read

@@ -11,7 +11,8 @@ use Rattle.def_entry.specs.declared.fault.EntryFault.{EntryFault}
 use Rattle.def_entry.specs.declared.fault.EntryFault.TheVariants.{BadTable}
 use Rattle.def_entry.specs.Cuts.{cut_at}
 use Rattle.def_entry.specs.Outcomes.{or_fault}
-use Rattle.def_entry.specs.PointLists.{behind_no_error, few, is_comma, most_points, points_between, points_of}
+use Rattle.def_entry.specs.PointLists.{behind_no_error, is_comma, most_points, points_between, points_of}
+use Rattle.def_entry.specs.PointLists.{within_point_limit}
 use Rattle.def_entry.specs.PointLists.{points_of_words}
 use Rattle.def_entry.specs.PointLists.{some_pairs}
 use Rattle.def_entry.specs.Steps.{◌>>=◌}
@@ -79,7 +80,7 @@ points-more front new text run behind cut made =
 long_front : (front points : List Point) (given : Option (List Point)) (t : Bool)
     → nat_le (length (front ++ points)) most_points ≡ t
     → (fault : EntryFault) → or_fault BadTable (cond t (Some (front ++ points)) None) ≡ Err fault
-    → or_fault BadTable (few (onto front (both (Some points) given))) ≡ Err fault
+    → or_fault BadTable (within_point_limit (onto front (both (Some points) given))) ≡ Err fault
 long_front front points given true e fault said = cc
 long_front front points None false e fault said = said
 long_front front points (Some more) false e fault said =
@@ -94,8 +95,8 @@ long_front front points (Some more) false e fault said =
 
 -- a run without points, or with too many, makes the whole list a fault
 lost-run : (front : List Point) (found given : Option (List Point)) (fault : EntryFault)
-    → or_fault BadTable (few (onto front found)) ≡ Err fault
-    → or_fault BadTable (few (onto front (both found given))) ≡ Err fault
+    → or_fault BadTable (within_point_limit (onto front found)) ≡ Err fault
+    → or_fault BadTable (within_point_limit (onto front (both found given))) ≡ Err fault
 lost-run front None given fault said = said
 lost-run front (Some points) given fault said =
     long_front front points given (nat_le (length (front ++ points)) most_points) refl fault said
@@ -103,15 +104,15 @@ lost-run front (Some points) given fault said =
 -- the fault of a run without points, or with too many, is the fault of the list
 pub points-fault : (front : List Point) (text run behind : List ℕ) (fault : EntryFault)
     → cut_at 44 text ≡ Some (run, behind)
-    → or_fault BadTable (few (onto front (some_pairs (words_of run)))) ≡ Err fault
-    → or_fault BadTable (few (onto front (points_in_runs text))) ≡ Err fault
+    → or_fault BadTable (within_point_limit (onto front (some_pairs (words_of run)))) ≡ Err fault
+    → or_fault BadTable (within_point_limit (onto front (points_in_runs text))) ≡ Err fault
 points-fault front text run behind fault cut said =
-    ap (λ points. or_fault BadTable (few (onto front points))) (points-cut text run behind cut)
+    ap (λ points. or_fault BadTable (within_point_limit (onto front points))) (points-cut text run behind cut)
     ∙ lost-run front (some_pairs (words_of run)) (points_in_runs behind) fault said
 
 -- the last run is read
 pub points-last : (front : List Point) (text : List ℕ) → cut_at 44 text ≡ None
-    → or_fault BadTable (few (onto front (points_in_runs text)))
-    ≡ or_fault BadTable (few (onto front (points_of_words (words_of text))))
+    → or_fault BadTable (within_point_limit (onto front (points_in_runs text)))
+    ≡ or_fault BadTable (within_point_limit (onto front (points_of_words (words_of text))))
 points-last front text cut =
-    ap (λ runs. or_fault BadTable (few (onto front (points_between runs)))) (parts-none 44 text cut)
+    ap (λ runs. or_fault BadTable (within_point_limit (onto front (points_between runs)))) (parts-none 44 text cut)

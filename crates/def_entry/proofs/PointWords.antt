@@ -16,7 +16,7 @@ use Rattle.piecewise.specs.Lines.{Point}
 use Rattle.def_entry.specs.declared.fault.EntryFault.TheVariants.{BadTable}
 use Rattle.def_entry.specs.Numbers.{text_number}
 use Rattle.def_entry.specs.Outcomes.{or_fault}
-use Rattle.def_entry.specs.PointLists.{few, most_points, points_of_words, some_pairs}
+use Rattle.def_entry.specs.PointLists.{most_points, points_of_words, some_pairs, within_point_limit}
 use Rattle.def_entry.specs.Steps.{◌>>=◌}
 
 -- a pair of numbers and the pairs after it
@@ -175,11 +175,11 @@ some_pairs-some text (b ∷ rest) is some =
 -- few points, and too many
 
 -- points up to the maximum number are accepted
-pub few-at : (points : List Point) → length points ≤ most_points → few (Some points) ≡ Some points
+pub few-at : (points : List Point) → length points ≤ most_points → within_point_limit (Some points) ≡ Some points
 few-at points less = ap (λ t. cond t (Some points) None) (le-leb (length points) most_points less)
 
 -- more points than the maximum number are rejected
-pub few-none : (points : List Point) → most_points < length points → few (Some points) ≡ None
+pub few-none : (points : List Point) → most_points < length points → within_point_limit (Some points) ≡ None
 few-none points more = go (nat_le (length points) most_points) refl
   where
     go : (t : Bool) → nat_le (length points) most_points ≡ t → cond t (Some points) None ≡ None
@@ -192,7 +192,8 @@ pub record Few (found : Option (List Point)) (points : List Point) : Type 0 wher
   pub within : length points ≤ most_points
 
 -- points that are accepted were found and are few
-pub few-is : (found : Option (List Point)) (points : List Point) → or_fault BadTable (few found) ≡ Ok points
+pub few-is : (found : Option (List Point)) (points : List Point) → or_fault BadTable (within_point_limit found) ≡ Ok
+    points
     → Few found points
 few-is None points e = cc
 few-is (Some some) points e = go (nat_le (length some) most_points) refl e
@@ -211,13 +212,14 @@ few-is (Some some) points e = go (nat_le (length some) most_points) refl e
 -- a further pair is one too many
 pub pairs-many : (front : List Point) (text : List ℕ) → is_begun text ≡ true → (length text == 0) ≡ false
     → most_points ≤ length front
-    → few (onto front (points_of_words (words_of text))) ≡ None
+    → within_point_limit (onto front (points_of_words (words_of text))) ≡ None
 pairs-many front [] begun some more = cc
 pairs-many front (b ∷ text) begun some more =
-    ap (λ found. few (onto front found)) (pairs-step b text begun)
+    ap (λ found. within_point_limit (onto front found)) (pairs-step b text begun)
     ∙ go (front_pair (b ∷ text)) (points_of_words (words_of (after_word (after_word (b ∷ text)))))
   where
-    go : (pair : Option Point) (points : Option (List Point)) → few (onto front (paired pair points)) ≡ None
+    go : (pair : Option Point) (points : Option (List Point))
+        → within_point_limit (onto front (paired pair points)) ≡ None
     go None points = refl
     go (Some p) None = refl
     go (Some p) (Some points) = few-none (front ++ (p ∷ points)) (omega (arith, length-append front (p ∷ points)))

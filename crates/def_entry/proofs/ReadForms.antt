@@ -28,7 +28,7 @@ use Rattle.def_entry.proofs.CutTexts.{cut-at}
 use Rattle.def_entry.proofs.Meanings.{list_trees, meaning}
 use Rattle.def_entry.proofs.WrittenForms.{Formed, brackets, form-at, form-is, parts-at, parts-is, some-text, target-at}
 use Rattle.def_entry.proofs.WrittenForms.{target-is, text-some}
-use Rattle.def_entry.proofs.WrittenNames.{taken}
+use Rattle.def_entry.proofs.WrittenNames.{valid_name_goes_on}
 
 -- a text with a first byte is not empty
 cons_some : (b : ℕ) (text : List ℕ) → b ∷ text ≢ []
@@ -73,7 +73,8 @@ call-at : (name parameter behind : List ℕ) (form : Form) → parameter ≢ [] 
     → call_in name parameter behind ≡ function_of name parameter form
 call-at name [] behind form some is_one e = absurd (some refl)
 call-at name (b ∷ parameter) behind form some is_one e =
-    taken (b ∷ parameter) (λ p. or_fault BadForm (form_of behind) >>= (λ form. function_of name p form)) is_one
+    valid_name_goes_on (b ∷ parameter) (λ p. or_fault BadForm (form_of behind) >>= (λ form. function_of name p form))
+    is_one
     ∙ ap (λ f. or_fault BadForm f >>= (λ form. function_of name (b ∷ parameter) form)) e
 
 -- an alias is read from its target
@@ -82,7 +83,7 @@ alias-at : (behind target : List ℕ) → without_call (trim_of behind) ≡ targ
 alias-at behind target e some is_one =
     ap (λ o. or_fault BadForm o >>= (λ t. name_or_fault t >>= (λ other. Ok (Alias other))))
     (some-text (without_call (trim_of behind)) target e some)
-    ∙ taken target (λ other. Ok (Alias other)) is_one
+    ∙ valid_name_goes_on target (λ other. Ok (Alias other)) is_one
 
 -- a table is read from its unit and its points
 table-at : (name text unit points : List ℕ) → text ≡ unit → unit ≢ []
@@ -104,22 +105,24 @@ written-what kind.Unit name text (BodyForm body) good is =
     ∙ body-at text body is.0 is.1
 written-what kind.Prefix name text (BodyForm body) good is = body-at text body is.0 is.1
 written-what kind.Func name text (FunctionForm parameter form) good is =
-    ap (func_in name) is.has_brackets.spelled
-    ∙ ap (parted_call name) (cut-at 41 is.inside is.behind is.has_brackets.clear)
-    ∙ ap (λ p. call_in name p is.behind) is.parameter_is.0
-    ∙ call-at name parameter is.behind form is.parameter_is.1
-    (good parameter (Parameter is.inside is.behind is.has_brackets is.parameter_is))
-    (form-at is.behind is.bodies form is.options_are is.bodies_are)
+    ap (func_in name) is.has_brackets.text_in_brackets
+    ∙ ap (parted_call name) (cut-at 41 is.bracket_text is.text_after is.has_brackets.clear)
+    ∙ ap (λ p. call_in name p is.text_after) is.parameter_is.0
+    ∙ call-at name parameter is.text_after form is.parameter_is.1
+    (good parameter (Parameter is.bracket_text is.text_after is.has_brackets is.parameter_is))
+    (form-at is.text_after is.bodies form is.options_are is.bodies_are)
 written-what kind.Func name text (AliasForm target) good is =
-    ap (func_in name) is.has_brackets.spelled
-    ∙ ap (parted_call name) (cut-at 41 is.inside is.behind is.has_brackets.clear)
-    ∙ ap (λ p. call_in name p is.behind) is.blank
-    ∙ alias-at is.behind target (target-at (trim_of is.behind) target is.target_is) is.some (good target (Target is))
+    ap (func_in name) is.has_brackets.text_in_brackets
+    ∙ ap (parted_call name) (cut-at 41 is.bracket_text is.text_after is.has_brackets.clear)
+    ∙ ap (λ p. call_in name p is.text_after) is.blank_brackets
+    ∙ alias-at is.text_after target (target-at (trim_of is.text_after) target is.target_is) is.target_not_empty
+    (good target (Target is))
 written-what kind.Func name text (TableForm unit points) good is =
-    ap (func_in name) is.has_brackets.spelled
-    ∙ ap parted_table (cut-at 93 is.inside points is.has_brackets.clear)
-    ∙ table-at name (trim_of is.inside) unit points is.unit_is.0 is.unit_is.1
-written-what kind.List name text (ListForm parts) good is = list-at text parts (parts-at text parts is) is.some
+    ap (func_in name) is.has_brackets.text_in_brackets
+    ∙ ap parted_table (cut-at 93 is.bracket_text points is.has_brackets.clear)
+    ∙ table-at name (trim_of is.bracket_text) unit points is.unit_is.0 is.unit_is.1
+written-what kind.List name text (ListForm parts) good is = list-at text parts (parts-at text parts is)
+    is.text_not_empty
 written-what _ name text _ good is = absurd is
 
 -- a text has a written form, or is read as a bad form
@@ -161,12 +164,12 @@ function-form name b text inside behind [] is bare read good = go (some_text (wi
         let some : (without_call (trim_of behind) ≡ target) × (target ≢ []) =
         text-some (without_call (trim_of behind)) target e in
         InForm (AliasForm target) (record {
-          inside = inside;
-          behind = behind;
+          bracket_text = inside;
+          text_after = behind;
           has_brackets = is;
-          blank = bare;
+          blank_brackets = bare;
           target_is = subst (IsTarget (trim_of behind)) some.0 (target-is (trim_of behind));
-          some = some.1;
+          target_not_empty = some.1;
         })
 function-form name b text inside behind (c ∷ parameter) is bare read good = go (form_of behind) refl
   where
@@ -174,14 +177,15 @@ function-form name b text inside behind (c ∷ parameter) is bare read good = go
     go None e =
         NoForm
         (read
-        ∙ taken (c ∷ parameter) (λ p. or_fault BadForm (form_of behind) >>= (λ form. function_of name p form))
+        ∙ valid_name_goes_on (c ∷ parameter) (λ p. or_fault BadForm (form_of behind) >>=
+        (λ form. function_of name p form))
         (good (c ∷ parameter) (Parameter inside behind is (bare, cons_some c parameter)))
         ∙ ap (λ f. or_fault BadForm f >>= (λ form. function_of name (c ∷ parameter) form)) e)
     go (Some form) e =
         let formed : Formed behind form = form-is behind form e in
         InForm (FunctionForm (c ∷ parameter) form) (record {
-          inside = inside;
-          behind = behind;
+          bracket_text = inside;
+          text_after = behind;
           bodies = formed.bodies;
           has_brackets = is;
           parameter_is = (bare, cons_some c parameter);
@@ -196,7 +200,7 @@ table-form : (name : List ℕ) (b : ℕ) (text inside points unit : List ℕ) �
 table-form name b text inside points [] is bare read = NoForm read
 table-form name b text inside points (c ∷ unit) is bare read =
     InForm (TableForm (c ∷ unit) points)
-    (record { inside = inside; has_brackets = is; unit_is = (bare, cons_some c unit) })
+    (record { bracket_text = inside; has_brackets = is; unit_is = (bare, cons_some c unit) })
 
 -- the text of a function, an alias or a table has a written form or is read as a bad form
 func-form : (name text : List ℕ) → has_bracket text ≡ true

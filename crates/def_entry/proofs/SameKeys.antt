@@ -84,7 +84,7 @@ tied k l e =
 -- the law of the order of keys
 pub key_order : KeyOrderLaw
 key_order = record {
-  total = then_total (on_total (λ (k : Key). k.name) nat_list_cmp_total)
+  total_order = then_total (on_total (λ (k : Key). k.name) nat_list_cmp_total)
       (on_total (λ (k : Key). kind_number k.kind) nat_cmp_total);
-  exact = tied;
+  equal_keys = tied;
 }

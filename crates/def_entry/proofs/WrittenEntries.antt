@@ -50,12 +50,13 @@ opened-heading (ListHeading before between name behind) whole e = cc
 -- the text of a line with the heading of a function starts with a bracket
 opened-headed : (line : List ℕ) (h : Heading) → IsHeaded line h → h.kind ≡ kind.Func → has_bracket h.text ≡ true
 opened-headed line h is =
-    subst (λ (g : Heading). g.kind ≡ kind.Func → has_bracket g.text ≡ true) (sym is.same)
-    (opened-heading is.written is.whole)
+    subst (λ (g : Heading). g.kind ≡ kind.Func → has_bracket g.text ≡ true) (sym is.reads_as_heading)
+    (opened-heading is.written_heading is.well_formed)
 
 -- a line has the heading with which it is written
 headed-is : (line : List ℕ) (h : Heading) → IsHeaded line h → head_of_line line ≡ h
-headed-is line h is = ap head_of_line is.spelled ∙ heading-written is.written is.whole ∙ sym is.same
+headed-is line h is = ap head_of_line is.spelled_line ∙ heading-written is.written_heading is.well_formed
+    ∙ sym is.reads_as_heading
 
 -- the result for a heading
 
@@ -85,7 +86,7 @@ never-form name form e = go (form-points name form)
 -- if all names are valid, a form that is written is read
 what-written : (h : Heading) (form : WrittenForm) → HasNames h → IsSpelledAs h.kind h.text form
     → what_of h ≡ meaning h.name form
-what-written h form good is = what-named h good.own ∙ written-what h.kind h.name h.text form good.further is
+what-written h form good is = what-named h good.own_name ∙ written-what h.kind h.name h.text form good.further_names is
 
 -- the result of reading a heading: its definition, or its first fault
 pub data ReadOf (h : Heading) : Type 0 where
@@ -120,26 +121,26 @@ read-of h opened = by_names (names-of h)
         (inr (
           good,
           λ form is. never-form h.name form
-              (sym (written-what h.kind h.name h.text form good.further is) ∙ e),
+              (sym (written-what h.kind h.name h.text form good.further_names is) ∙ e),
         ))
-        (what-named h good.own ∙ e)
+        (what-named h good.own_name ∙ e)
     by_form good (InForm form is) = by_points good form is (form-points h.name form)
 
     by_names : NamesOf h → ReadOf h
     by_names (NoName is) = Fails BadForm (inl is) (lacks-name h is)
     by_names (BadNameOf w is) = Fails (BadName w) is (bad-name h w is)
-    by_names (Names good) = by_form good (form-of h.kind h.name h.text opened good.further)
+    by_names (Names good) = by_form good (form-of h.kind h.name h.text opened good.further_names)
 
 -- the first fault of a heading is the result of reading it
 fault-at : (h : Heading) (x : EntryFault) → (h.kind ≡ kind.Func → has_bracket h.text ≡ true) → IsLineFault h x
     → what_of h ≡ Err x
 fault-at h (BadName w) opened is = bad-name h w is
 fault-at h BadForm opened (inl is) = lacks-name h is
-fault-at h BadForm opened (inr is) = go (form-of h.kind h.name h.text opened is.0.further)
+fault-at h BadForm opened (inr is) = go (form-of h.kind h.name h.text opened is.0.further_names)
   where
     go : FormOf h.kind h.name h.text → what_of h ≡ Err BadForm
     go (InForm form written) = absurd (is.1 form written)
-    go (NoForm e) = what-named h is.0.own ∙ e
+    go (NoForm e) = what-named h is.0.own_name ∙ e
 fault-at h BadTable opened is = what-written h is.1.0 is.0 is.1.1 ∙ go (form-points h.name is.1.0)
   where
     go : FormPoints h.name is.1.0 → meaning h.name is.1.0 ≡ Err BadTable
@@ -178,16 +179,17 @@ same_pair k l e f is = (ap key_of_pair is, ap entry_of_pair is)
 entry-at : (line : List ℕ) (k : Key) (e : Entry) → IsEntry line k e → entry_of line ≡ Ok (k, e)
 entry-at line k e is =
     let h : Heading = is.heading in
-    ap entry_by (headed-is line is.heading is.headed)
+    ap entry_by (headed-is line is.heading is.line_has_heading)
     ∙ ap (λ w. w >>= entry_with is.heading)
-    (what-written is.heading is.form is.names is.written ∙ ok-says is.heading.name is.form e.what is.says)
-    ∙ (λ i. Ok (sym is.key_is i, record { text = sym is.text_is i; what = e.what }))
+    (what-written is.heading is.form is.names is.spelled_form ∙ ok-says is.heading.name is.form e.what is.form_defines)
+    ∙ (λ i. Ok (sym is.key_is i, record { text = sym is.text_of_heading i; what = e.what }))
 
 -- a line gives its first fault
 line-fault : (line : List ℕ) (x : EntryFault) → HasFault line x → entry_of line ≡ Err x
 line-fault line x is =
-    ap entry_by (headed-is line is.heading is.headed)
-    ∙ ap (λ w. w >>= entry_with is.heading) (fault-at is.heading x (opened-headed line is.heading is.headed) is.is)
+    ap entry_by (headed-is line is.heading is.line_has_heading)
+    ∙ ap (λ w. w >>= entry_with is.heading)
+    (fault-at is.heading x (opened-headed line is.heading is.line_has_heading) is.fault_of_heading)
 
 -- the law of entries
 pub entries : EntryLaw
@@ -209,13 +211,14 @@ entries line entry = (λ k e. (to k e, entry-at line k e), λ x. (fault_to x, li
             (sym (ap (λ w. w >>= entry_with (head_of_line line)) f) ∙ given) in
             record {
               heading = head_of_line line;
-              headed = headed;
+              line_has_heading = headed;
               key_is = sym same.0;
-              text_is = sym (ap (λ (x : Entry). x.text) same.1);
+              text_of_heading = sym (ap (λ (x : Entry). x.text) same.1);
               names = good;
               form = form;
-              written = is;
-              says = subst (IsDefinitionOf (head_of_line line).name form) (ap (λ (x : Entry). x.what) same.1) says;
+              spelled_form = is;
+              form_defines = subst (IsDefinitionOf (head_of_line line).name form) (ap (λ (x : Entry). x.what) same.1)
+                  says;
             }
 
     fault_to : (x : EntryFault) → entry_of line ≡ Err x → HasFault line x
@@ -232,8 +235,8 @@ entries line entry = (λ k e. (to k e, entry-at line k e), λ x. (fault_to x, li
             let same : y ≡ x = same_fault y x (sym (ap (λ w. w >>= entry_with (head_of_line line)) f) ∙ given) in
             record {
               heading = head_of_line line;
-              headed = headed;
-              is = subst (IsLineFault (head_of_line line)) same is;
+              line_has_heading = headed;
+              fault_of_heading = subst (IsLineFault (head_of_line line)) same is;
             }
 
 -- the law of one entry
@@ -241,5 +244,5 @@ pub one_entry : OneEntryLaw
 one_entry = record {
   entries = λ line k l e f is other. same_pair k l e f (sym (entry-at line k e is) ∙ entry-at line l f other);
   faults = λ line x y is other. same_fault x y (sym (line-fault line x is) ∙ line-fault line y other);
-  apart = λ line k e x is other. err_apart (k, e) x (sym (line-fault line x other) ∙ entry-at line k e is);
+  entry_or_fault = λ line k e x is other. err_apart (k, e) x (sym (line-fault line x other) ∙ entry-at line k e is);
 }

@@ -46,7 +46,7 @@ pub bracketed : (open_byte close_byte : ℕ) (inner text inside behind : List �
     → cut_at close_byte inner ≡ Some (inside, behind)
 bracketed open_byte close_byte inner text inside behind e is =
     let same : inner ≡ inside ++ (close_byte ∷ behind) =
-    tail_is open_byte inner (inside ++ (close_byte ∷ behind)) (sym e ∙ is.spelled) in
+    tail_is open_byte inner (inside ++ (close_byte ∷ behind)) (sym e ∙ is.text_in_brackets) in
     ap (cut_at close_byte) same ∙ cut-at close_byte inside behind is.clear
   where
     tail_is : (b : ℕ) (s t : List ℕ) → b ∷ s ≡ b ∷ t → s ≡ t
@@ -59,7 +59,7 @@ pub brackets : (open_byte close_byte b : ℕ) (inner inside behind : List ℕ) �
 brackets open_byte close_byte b inner inside behind e cut =
     let is : (inner ≡ inside ++ (close_byte ∷ behind)) × (lacks close_byte inside ≡ true) =
     cut-is close_byte inner inside behind cut in
-    record { spelled = (λ i. e i ∷ is.0 i); clear = is.1 }
+    record { text_in_brackets = (λ i. e i ∷ is.0 i); clear = is.1 }
 
 -- the target of an alias
 
@@ -201,11 +201,11 @@ pieces-at piece (next ∷ pieces) clear =
 -- parts are read the way they are written
 pub parts-at : (text : List ℕ) (parts : List (List ℕ)) → AreParts text parts
     → parts ≡ map trim_of (slice_split is_semicolon text)
-parts-at text parts is = is.parts_are ∙ go is.pieces is.joined is.clear
+parts-at text parts is = is.parts_are ∙ go is.pieces is.join_of_pieces is.clear
   where
     go : (pieces : List (List ℕ)) → text ≡ join_with_byte 59 pieces → list_all (lacks 59) pieces ≡ true
         → map trim_of pieces ≡ map trim_of (slice_split is_semicolon text)
-    go [] joined clear = absurd (is.some joined)
+    go [] joined clear = absurd (is.text_not_empty joined)
     go (piece ∷ pieces) joined clear =
         ap (map trim_of) (sym (ap (slice_split is_semicolon) joined ∙ pieces-at piece pieces clear))
 
@@ -233,8 +233,8 @@ split-clear (b ∷ text) = go (b == 59) refl (slice_split is_semicolon text) ref
 pub parts-is : (text : List ℕ) → text ≢ [] → AreParts text (map trim_of (slice_split is_semicolon text))
 parts-is text some = record {
   pieces = slice_split is_semicolon text;
-  joined = sym (join_with_byte-slice_split 59 text);
+  join_of_pieces = sym (join_with_byte-slice_split 59 text);
   clear = split-clear text;
   parts_are = refl;
-  some = some;
+  text_not_empty = some;
 }

@@ -354,11 +354,12 @@ headings text h entry = (to, from)
     to e =
         let is : Written text = written-as text entry in
         record {
-          written = is.written;
-          spelled = is.spelled;
-          whole = is.whole;
-          same = sym e ∙ ap head_of_line is.spelled ∙ heading-written is.written is.whole;
+          written_heading = is.written;
+          spelled_line = is.spelled;
+          well_formed = is.whole;
+          reads_as_heading = sym e ∙ ap head_of_line is.spelled ∙ heading-written is.written is.whole;
         }
 
     from : IsHeaded text h → head_of_line text ≡ h
-    from is = ap head_of_line is.spelled ∙ heading-written is.written is.whole ∙ sym is.same
+    from is = ap head_of_line is.spelled_line ∙ heading-written is.written_heading is.well_formed
+        ∙ sym is.reads_as_heading

@@ -43,16 +43,17 @@ inner_name (b ∷ text) = cond (b == 40) (inner_of (cut_at 41 text)) None
 -- a further name that is written is read
 name-at : (text w : List ℕ) → HasInnerName text w → inner_name text ≡ Some w
 name-at text w (Parameter inside behind is bare) =
-    ap inner_name is.spelled ∙ ap inner_of (cut-at 41 inside behind is.clear) ∙ go (trim_of inside) bare.0
+    ap inner_name is.text_in_brackets ∙ ap inner_of (cut-at 41 inside behind is.clear) ∙ go (trim_of inside) bare.0
   where
     go : (parameter : List ℕ) → parameter ≡ w → call_name parameter behind ≡ Some w
     go [] e = absurd (bare.1 (sym e))
     go (b ∷ parameter) e = ap Some e
 name-at text w (Target is) =
-    ap inner_name is.has_brackets.spelled
-    ∙ ap inner_of (cut-at 41 is.inside is.behind is.has_brackets.clear)
-    ∙ ap (λ p. call_name p is.behind) is.blank
-    ∙ some-text (without_call (trim_of is.behind)) w (target-at (trim_of is.behind) w is.target_is) is.some
+    ap inner_name is.has_brackets.text_in_brackets
+    ∙ ap inner_of (cut-at 41 is.bracket_text is.text_after is.has_brackets.clear)
+    ∙ ap (λ p. call_name p is.text_after) is.blank_brackets
+    ∙ some-text (without_call (trim_of is.text_after)) w (target-at (trim_of is.text_after) w is.target_is)
+    is.target_not_empty
 
 -- a further name that is read is written
 name-is : (text w : List ℕ) → inner_name text ≡ Some w → HasInnerName text w
@@ -65,12 +66,12 @@ name-is (b ∷ text) w e = go (b == 40) refl (cut_at 41 text) refl e
     inner inside behind [] is bare e =
         let some : (without_call (trim_of behind) ≡ w) × (w ≢ []) = text-some (without_call (trim_of behind)) w e in
         Target (record {
-          inside = inside;
-          behind = behind;
+          bracket_text = inside;
+          text_after = behind;
           has_brackets = is;
-          blank = bare;
+          blank_brackets = bare;
           target_is = subst (IsTarget (trim_of behind)) some.0 (target-is (trim_of behind));
-          some = some.1;
+          target_not_empty = some.1;
         })
     inner inside behind (c ∷ parameter) is bare e =
         let some : (c ∷ parameter ≡ w) × (w ≢ []) = text-some (c ∷ parameter) w e in
@@ -92,8 +93,9 @@ refused : (w : List ℕ) (go : List ℕ → Result What EntryFault) → is_name 
 refused w go not_one = ap (λ t. cond t (Ok w) (Err (BadName w)) >>= go) not_one
 
 -- if a name is valid, reading continues
-pub taken : (w : List ℕ) (go : List ℕ → Result What EntryFault) → is_name w ≡ true → (name_or_fault w >>= go) ≡ go w
-taken w go is_one = ap (λ t. cond t (Ok w) (Err (BadName w)) >>= go) is_one
+pub valid_name_goes_on : (w : List ℕ) (go : List ℕ → Result What EntryFault) → is_name w ≡ true
+    → (name_or_fault w >>= go) ≡ go w
+valid_name_goes_on w go is_one = ap (λ t. cond t (Ok w) (Err (BadName w)) >>= go) is_one
 
 -- a bad further name of a function is rejected
 func-bad : (name text w : List ℕ) → inner_name text ≡ Some w → is_name w ≡ false → func_in name text ≡ Err (BadName w)
@@ -133,11 +135,11 @@ own_bad kind.List (b ∷ name) w text some e not_one = ap (λ n. name_or_fault n
 -- if the name of a heading is valid, the definition is that of the text after it
 named_so : (k : Kind) (name text : List ℕ) → is_name name ≡ true
     → (name_in k name >>= (λ n. what_in k n text)) ≡ what_in k name text
-named_so kind.Unit name text is_one = taken name (λ n. what_in kind.Unit n text) is_one
-named_so kind.Prefix name text is_one = taken name (λ n. what_in kind.Prefix n text) is_one
-named_so kind.Func name text is_one = taken name (λ n. what_in kind.Func n text) is_one
+named_so kind.Unit name text is_one = valid_name_goes_on name (λ n. what_in kind.Unit n text) is_one
+named_so kind.Prefix name text is_one = valid_name_goes_on name (λ n. what_in kind.Prefix n text) is_one
+named_so kind.Func name text is_one = valid_name_goes_on name (λ n. what_in kind.Func n text) is_one
 named_so kind.List [] text is_one = absurd (true≢false (sym is_one))
-named_so kind.List (b ∷ name) text is_one = taken (b ∷ name) (λ n. what_in kind.List n text) is_one
+named_so kind.List (b ∷ name) text is_one = valid_name_goes_on (b ∷ name) (λ n. what_in kind.List n text) is_one
 
 -- if the name of the key is valid, the definition of the line is that of its text
 pub what-named : (h : Heading) → is_name h.name ≡ true → what_of h ≡ what_in h.kind h.name h.text
@@ -181,8 +183,9 @@ further kind.Func name text is_one = go (inner_name text) refl
     by : (w : List ℕ) → inner_name text ≡ Some w → (t : Bool) → is_name w ≡ t
         → NamesOf (record { kind = kind.Func; name = name; text = text })
     by w e true f = Names (record {
-      own = is_one;
-      further = λ v is. let same : Some w ≡ Some v = sym e ∙ name-at text v is in ap is_name (sym (some_is w v same))
+      own_name = is_one;
+      further_names = λ v is. let same : Some w ≡ Some v = sym e ∙ name-at text v is in
+          ap is_name (sym (some_is w v same))
           ∙ f;
     })
       where
@@ -194,14 +197,14 @@ further kind.Func name text is_one = go (inner_name text) refl
         → NamesOf (record { kind = kind.Func; name = name; text = text })
     go None e = Names
         (record {
-          own = is_one;
-          further = λ v is. let none : None ≡ Some v =
+          own_name = is_one;
+          further_names = λ v is. let none : None ≡ Some v =
               sym e ∙ name-at text v is in absurd (cc none);
         })
     go (Some w) e = by w e (is_name w) refl
-further kind.Unit name text is_one = Names (record { own = is_one; further = λ w is. absurd is })
-further kind.Prefix name text is_one = Names (record { own = is_one; further = λ w is. absurd is })
-further kind.List name text is_one = Names (record { own = is_one; further = λ w is. absurd is })
+further kind.Unit name text is_one = Names (record { own_name = is_one; further_names = λ w is. absurd is })
+further kind.Prefix name text is_one = Names (record { own_name = is_one; further_names = λ w is. absurd is })
+further kind.List name text is_one = Names (record { own_name = is_one; further_names = λ w is. absurd is })
 
 -- the names of a heading whose own name is bad
 own : (k : Kind) (name text : List ℕ) → is_name name ≡ false → NamesOf (record { kind = k; name = name; text = text })

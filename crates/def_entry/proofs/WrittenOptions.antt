@@ -20,7 +20,8 @@ use Rattle.def_entry.specs.Intervals.{interval_at}
 use Rattle.def_entry.specs.OptionGrammar.{WrittenInterval, WrittenOption, UnitsOption, DomainOption, RangeOption}
 use Rattle.def_entry.specs.OptionGrammar.{NoErrorOption}
 use Rattle.def_entry.specs.OptionGrammar.{interval, is_complete_option, is_interval, option, option_has_ended, span_of}
-use Rattle.def_entry.specs.Options.{Options, Units, begins_with_no_error, begins_with_option, behind, choice_at}
+use Rattle.def_entry.specs.Options.{Options, Units, begins_with_no_error, begins_with_option, choice_at}
+use Rattle.def_entry.specs.Options.{text_after_choice}
 use Rattle.def_entry.specs.Options.{units_at}
 use Rattle.def_entry.specs.Options.{with_choice}
 use Rattle.def_entry.specs.Steps.{◌>>=◌}
@@ -175,7 +176,7 @@ units-at a b rest clear clear' =
 
 -- the value of an option is read
 pub value-at : (w : WrittenOption) (o : Options) (rest : List ℕ) → is_complete_option w rest ≡ true → is_free w o ≡ true
-    → with_choice (choice_of w) o (behind (choice_of w) (option w rest)) ≡ Some (added w o, rest)
+    → with_choice (choice_of w) o (text_after_choice (choice_of w) (option w rest)) ≡ Some (added w o, rest)
 value-at (UnitsOption a b) o rest whole free =
     let clear : (lacks 59 a ≡ true) × (lacks 93 b ≡ true) = and_parts _ _ whole in
     let value : List ℕ = 91 ∷ (a ++ (59 ∷ (b ++ (93 ∷ rest)))) in
@@ -265,9 +266,9 @@ taken true put given made e = cc
 taken false put given made e = (refl, mapped_some put given made e)
 
 -- `noerror` is followed by a blank or by nothing
-apart : (text : List ℕ) → choice_at text ≡ Some NoError → stands_apart (behind NoError text) ≡ true
+apart : (text : List ℕ) → choice_at text ≡ Some NoError → stands_apart (text_after_choice NoError text) ≡ true
 apart text e = go (begins_with_option UnitsChoice text) (begins_with_option Domain text) (begins_with_option Range text)
-    (begins_with_option NoError text) (stands_apart (behind NoError text)) e
+    (begins_with_option NoError text) (stands_apart (text_after_choice NoError text)) e
   where
     go : (u d r n s : Bool)
         → cond u (Some UnitsChoice) (cond d (Some Domain) (cond r (Some Range) (cond (n && s) (Some NoError) None)))
@@ -302,18 +303,20 @@ spanned text rest put new s left value made =
 
 -- the value of each option that is read is written that way
 pub value-is : (c : Choice) (text : List ℕ) (o new : Options) (rest : List ℕ) → choice_at text ≡ Some c
-    → with_choice c o (behind c text) ≡ Some (new, rest) → Added text o new rest
+    → with_choice c o (text_after_choice c text) ≡ Some (new, rest) → Added text o new rest
 value-is UnitsChoice text o new rest begins e =
-    let front : text ≡ codes "units=" ++ behind UnitsChoice text =
+    let front : text ≡ codes "units=" ++ text_after_choice UnitsChoice text =
     starts-is text (codes "units=") (begins-choice_at text (choice_at text) UnitsChoice refl begins) in
-    let read = taken (is_some o.units) (with_units o) (units_at (behind UnitsChoice text)) (new, rest) e in
+    let read = taken (is_some o.units) (with_units o) (units_at (text_after_choice UnitsChoice text)) (new, rest) e in
     done front read.0 read.1.0.0 read.1.0.1 read.1.1 read.1.2
   where
-    done : text ≡ codes "units=" ++ behind UnitsChoice text → not (is_some o.units) ≡ true → (u : Units) (left : List ℕ)
-        → units_at (behind UnitsChoice text) ≡ Some (u, left)
+    done : text ≡ codes "units=" ++ text_after_choice UnitsChoice text → not (is_some o.units) ≡ true
+        → (u : Units) (left : List ℕ)
+        → units_at (text_after_choice UnitsChoice text) ≡ Some (u, left)
         → ◌≡◌ {A = Options × List ℕ} (with_units o (u, left)) (new, rest) → Added text o new rest
     done front free u left value made =
-        let is : UnitsWritten (behind UnitsChoice text) left u = units-is (behind UnitsChoice text) left u value in
+        let is : UnitsWritten (text_after_choice UnitsChoice text) left u =
+        units-is (text_after_choice UnitsChoice text) left u value in
         let left_is : left ≡ rest = ap (λ (p : Options × List ℕ). p.1) made in
         let new_is : ◌≡◌ {A = Options} (record o { units = Some u }) new = ap (λ (p : Options × List ℕ). p.0) made in
         record {
@@ -325,11 +328,12 @@ value-is UnitsChoice text o new rest begins e =
           made = sym new_is ∙ ap (λ (v : Units). record o { units = Some v }) is.value;
         }
 value-is Domain text o new rest begins e =
-    let front : text ≡ codes "domain=" ++ behind Domain text =
+    let front : text ≡ codes "domain=" ++ text_after_choice Domain text =
     starts-is text (codes "domain=") (begins-choice_at text (choice_at text) Domain refl begins) in
-    let read = taken (is_some o.domain) (with_domain o) (interval_at (behind Domain text)) (new, rest) e in
-    let is : Spanned (behind Domain text) rest (λ v. record o { domain = v }) new =
-    spanned (behind Domain text) rest (λ v. record o { domain = v }) new read.1.0.0 read.1.0.1 read.1.1 read.1.2 in
+    let read = taken (is_some o.domain) (with_domain o) (interval_at (text_after_choice Domain text)) (new, rest) e in
+    let is : Spanned (text_after_choice Domain text) rest (λ v. record o { domain = v }) new =
+    spanned (text_after_choice Domain text) rest (λ v. record o { domain = v }) new read.1.0.0 read.1.0.1 read.1.1
+    read.1.2 in
     record {
       written = DomainOption is.written;
       spelled = front ∙ ap (λ t. codes "domain=" ++ t) is.spelled;
@@ -338,11 +342,12 @@ value-is Domain text o new rest begins e =
       made = is.made;
     }
 value-is Range text o new rest begins e =
-    let front : text ≡ codes "range=" ++ behind Range text =
+    let front : text ≡ codes "range=" ++ text_after_choice Range text =
     starts-is text (codes "range=") (begins-choice_at text (choice_at text) Range refl begins) in
-    let read = taken (is_some o.range) (with_range o) (interval_at (behind Range text)) (new, rest) e in
-    let is : Spanned (behind Range text) rest (λ v. record o { range = v }) new =
-    spanned (behind Range text) rest (λ v. record o { range = v }) new read.1.0.0 read.1.0.1 read.1.1 read.1.2 in
+    let read = taken (is_some o.range) (with_range o) (interval_at (text_after_choice Range text)) (new, rest) e in
+    let is : Spanned (text_after_choice Range text) rest (λ v. record o { range = v }) new =
+    spanned (text_after_choice Range text) rest (λ v. record o { range = v }) new read.1.0.0 read.1.0.1 read.1.1
+    read.1.2 in
     record {
       written = RangeOption is.written;
       spelled = front ∙ ap (λ t. codes "range=" ++ t) is.spelled;
@@ -351,18 +356,19 @@ value-is Range text o new rest begins e =
       made = is.made;
     }
 value-is NoError text o new rest begins e =
-    let front : text ≡ codes "noerror" ++ behind NoError text =
+    let front : text ≡ codes "noerror" ++ text_after_choice NoError text =
     starts-is text (codes "noerror") (begins-choice_at text (choice_at text) NoError refl begins) in
     go o.no_error refl e front
   where
     go : (t : Bool) → o.no_error ≡ t
-        → cond {A = Option (Options × List ℕ)} t None (Some (with_no_error o, behind NoError text)) ≡ Some (new, rest)
-        → text ≡ codes "noerror" ++ behind NoError text
+        → cond {A = Option (Options × List ℕ)} t None (Some (with_no_error o, text_after_choice NoError text)) ≡ Some
+        (new, rest)
+        → text ≡ codes "noerror" ++ text_after_choice NoError text
         → Added text o new rest
     go true f e front = cc
     go false f e front =
-        let pair : (with_no_error o ≡ new) × (behind NoError text ≡ rest) =
-        one_pair (with_no_error o) new (behind NoError text) rest e in
+        let pair : (with_no_error o ≡ new) × (text_after_choice NoError text ≡ rest) =
+        one_pair (with_no_error o) new (text_after_choice NoError text) rest e in
         record {
           written = NoErrorOption;
           spelled = front ∙ ap (λ t. codes "noerror" ++ t) pair.1;

@@ -16,10 +16,10 @@ use Rattle.piecewise.specs.Lines.{Point}
 use Rattle.def_entry.specs.declared.options.Choice.TheVariants.{NoError}
 use Rattle.def_entry.specs.Headings.{stands_apart}
 use Rattle.def_entry.specs.Numbers.{text_number}
-use Rattle.def_entry.specs.Options.{begins_with_no_error, begins_with_option, behind}
+use Rattle.def_entry.specs.Options.{begins_with_no_error, begins_with_option, text_after_choice}
 use Rattle.def_entry.specs.PointGrammar.{ArePairs, AreWrittenPoints, PointsLaw, WrittenPoints, NoPair}
 use Rattle.def_entry.specs.PointGrammar.{NextPair, are_points, ends_number, is_number_text, is_pair_end, pair_end}
-use Rattle.def_entry.specs.PointGrammar.{points, values}
+use Rattle.def_entry.specs.PointGrammar.{point_values, points}
 use Rattle.def_entry.specs.PointLists.{behind_no_error, points_of}
 use Rattle.def_entry.specs.Steps.{◌>>=◌}
 use Rattle.def_entry.proofs.Fronts.{Parted, before-at, parted, stops, stops-apart}
@@ -113,10 +113,10 @@ pairs-built (suc n) text list less e = go (after_blanks text) refl (fronted text
     go [] f front next =
         let blanks : text ≡ front.blanks = front.whole ∙ ap (λ t. front.blanks ++ t) f ∙ append-nil front.blanks in
         record {
-          written = NoPair front.blanks;
-          spelled = blanks;
-          whole = front.clear;
-          same = ap Some (no_points list
+          written_points = NoPair front.blanks;
+          spelled_text = blanks;
+          well_formed = front.clear;
+          values_same = ap Some (no_points list
               (sym (ap points_in_runs blanks ∙ pairs-read (NoPair front.blanks) front.clear) ∙ e));
         }
     go (b ∷ rest) f front next = by b rest f (b == 44) refl front (parted ends_number (b ∷ rest)) next
@@ -125,16 +125,17 @@ pairs-built (suc n) text list less e = go (after_blanks text) refl (fronted text
 
 -- pairs that are written are read
 pairs-found : (text : List ℕ) (list : List Point) → ArePairs text list → points_in_runs text ≡ Some list
-pairs-found text list is = ap points_in_runs is.spelled ∙ pairs-read is.written is.whole ∙ is.same
+pairs-found text list is = ap points_in_runs is.spelled_text ∙ pairs-read is.written_points is.well_formed
+    ∙ is.values_same
 
 -- pairs without leading blanks are written pairs
-bare : (w : WrittenPoints) (list : List Point) → are_points w ≡ true → values w ≡ Some list
+bare : (w : WrittenPoints) (list : List Point) → are_points w ≡ true → point_values w ≡ Some list
     → ArePairs (after_blanks (points w)) list
 bare (NoPair blanks) list whole same = record {
-  written = NoPair [];
-  spelled = ap after_blanks (sym (append-nil blanks)) ∙ after_blanks-front blanks [] whole refl;
-  whole = refl;
-  same = same;
+  written_points = NoPair [];
+  spelled_text = ap after_blanks (sym (append-nil blanks)) ∙ after_blanks-front blanks [] whole refl;
+  well_formed = refl;
+  values_same = same;
 }
 bare (NextPair before x gap y end rest) list whole same =
     let a : ((list_all is_blank before && is_number_text x && not (is_empty gap) && list_all is_blank gap &&
@@ -142,12 +143,13 @@ bare (NextPair before x gap y end rest) list whole same =
     && is_pair_end end (points rest)) ≡ true) × (are_points rest ≡ true) = and_parts _ _ whole in
     let is : Front before x gap y = front-parts before x gap y (and_parts _ _ a.0).0 in
     record {
-      written = NextPair [] x gap y end rest;
-      spelled = after_blanks-front before (x ++ (gap ++ (y ++ pair_end end (points rest)))) is.blank
+      written_points = NextPair [] x gap y end rest;
+      spelled_text = after_blanks-front before (x ++ (gap ++ (y ++ pair_end end (points rest)))) is.blank
           (number_begun x (gap ++ (y ++ pair_end end (points rest))) is.first);
-      whole = without_blanks (list_all is_blank before) (is_number_text x) (not (is_empty gap)) (list_all is_blank gap)
+      well_formed = without_blanks (list_all is_blank before) (is_number_text x) (not (is_empty gap))
+          (list_all is_blank gap)
           (is_number_text y) (is_pair_end end (points rest)) (are_points rest) whole;
-      same = same;
+      values_same = same;
     }
   where
     without_blanks : (p q r s t u v : Bool) → (p && q && r && s && t && u && v) ≡ true
@@ -158,22 +160,22 @@ bare (NextPair before x gap y end rest) list whole same =
 -- pairs after further blanks are written pairs
 behind-blanks : (blanks : List ℕ) (w : WrittenPoints) (list : List Point) → list_all is_blank blanks ≡ true
     → are_points w ≡ true
-    → values w ≡ Some list → ArePairs (blanks ++ points w) list
+    → point_values w ≡ Some list → ArePairs (blanks ++ points w) list
 behind-blanks blanks (NoPair others) list clear whole same = record {
-  written = NoPair (blanks ++ others);
-  spelled = refl;
-  whole = list_all-append is_blank blanks others ∙ (λ i. clear i && whole i);
-  same = same;
+  written_points = NoPair (blanks ++ others);
+  spelled_text = refl;
+  well_formed = list_all-append is_blank blanks others ∙ (λ i. clear i && whole i);
+  values_same = same;
 }
 behind-blanks blanks (NextPair before x gap y end rest) list clear whole same = record {
-  written = NextPair (blanks ++ before) x gap y end rest;
-  spelled = sym (append_assoc blanks before (x ++ (gap ++ (y ++ pair_end end (points rest)))));
-  whole =
+  written_points = NextPair (blanks ++ before) x gap y end rest;
+  spelled_text = sym (append_assoc blanks before (x ++ (gap ++ (y ++ pair_end end (points rest)))));
+  well_formed =
       ap (λ t. t && is_number_text x && not (is_empty gap) && list_all is_blank gap && is_number_text y
       && is_pair_end end (points rest) && are_points rest)
       (list_all-append is_blank blanks before ∙ ap (λ t. t && list_all is_blank before) clear)
       ∙ whole;
-  same = same;
+  values_same = same;
 }
 
 -- `noerror` is not a number
@@ -184,23 +186,25 @@ word_none = refl
 -- pairs do not start with `noerror`
 no_word_led : (text : List ℕ) (list : List Point) → ArePairs text list
     → begins_with_no_error (after_blanks text) ≡ false
-no_word_led text list is = ap (λ t. begins_with_no_error (after_blanks t)) is.spelled ∙ go is.written is.whole
+no_word_led text list is = ap (λ t. begins_with_no_error (after_blanks t)) is.spelled_text
+    ∙ go is.written_points is.well_formed
   where
     words : (x rest : List ℕ) → Number x → is_number_text x ≡ true → stands_apart rest ≡ true → (t : Bool)
         → begins_with_no_error (x ++ rest) ≡ t
         → t ≡ false
     words x rest is number apart false e = refl
     words x rest is number apart true e =
-        let parts : (begins_with_option NoError (x ++ rest) ≡ true) × (stands_apart (behind NoError (x ++ rest)) ≡ true)
+        let parts : (begins_with_option NoError (x ++ rest) ≡ true)
+        × (stands_apart (text_after_choice NoError (x ++ rest)) ≡ true)
         =
         and_parts _ _ e in
-        let led : x ++ rest ≡ codes "noerror" ++ behind NoError (x ++ rest) =
+        let led : x ++ rest ≡ codes "noerror" ++ text_after_choice NoError (x ++ rest) =
         starts-is (x ++ rest) (codes "noerror") parts.0 in
         let word : x ≡ codes "noerror" =
         sym (before-at is_blank x rest is.word (stops-apart rest apart))
         ∙ ap first_word led
-        ∙ before-at is_blank (codes "noerror") (behind NoError (x ++ rest)) refl
-        (stops-apart (behind NoError (x ++ rest)) parts.1) in
+        ∙ before-at is_blank (codes "noerror") (text_after_choice NoError (x ++ rest)) refl
+        (stops-apart (text_after_choice NoError (x ++ rest)) parts.1) in
         absurd (true≢false (sym (and_parts _ _ number).1 ∙ ap (λ w. is_some (text_number w)) word
         ∙ ap is_some word_none))
 
@@ -237,46 +241,50 @@ points_read text list = (to, from)
         → AreWrittenPoints text list
     with_word true e given =
         let parts : (begins_with_option NoError (after_blanks text) ≡ true)
-        × (stands_apart (behind NoError (after_blanks text)) ≡ true) = and_parts _ _ e in
+        × (stands_apart (text_after_choice NoError (after_blanks text)) ≡ true) = and_parts _ _ e in
         let front : Fronted text = fronted text in
-        let led : after_blanks text ≡ codes "noerror" ++ behind NoError (after_blanks text) =
+        let led : after_blanks text ≡ codes "noerror" ++ text_after_choice NoError (after_blanks text) =
         starts-is (after_blanks text) (codes "noerror") parts.0 in
-        let rest : points_in_runs (behind NoError (after_blanks text)) ≡ Some list =
-        sym (ap (λ t. points_in_runs (cond t (behind NoError (after_blanks text)) (after_blanks text))) e) ∙ given in
-        let less : length (behind NoError (after_blanks text)) < suc (length (behind NoError (after_blanks text))) =
+        let rest : points_in_runs (text_after_choice NoError (after_blanks text)) ≡ Some list =
+        sym (ap (λ t. points_in_runs (cond t (text_after_choice NoError (after_blanks text)) (after_blanks text))) e)
+        ∙ given in
+        let less : length (text_after_choice NoError (after_blanks text)) < suc
+        (length (text_after_choice NoError (after_blanks text))) =
         omega arith in
         inr (record {
           blanks = front.blanks;
-          rest = behind NoError (after_blanks text);
-          spelled = front.whole ∙ ap (λ t. front.blanks ++ t) led;
-          blank = front.clear;
-          apart = parts.1;
-          pairs = pairs-built (suc (length (behind NoError (after_blanks text))))
-              (behind NoError (after_blanks text)) list less rest;
+          pairs_text = text_after_choice NoError (after_blanks text);
+          spelled_text = front.whole ∙ ap (λ t. front.blanks ++ t) led;
+          blanks_only = front.clear;
+          rest_apart = parts.1;
+          pairs = pairs-built (suc (length (text_after_choice NoError (after_blanks text))))
+              (text_after_choice NoError (after_blanks text)) list less rest;
         })
     with_word false e given =
         let front : Fronted text = fronted text in
         let rest : points_in_runs (after_blanks text) ≡ Some list =
-        sym (ap (λ t. points_in_runs (cond t (behind NoError (after_blanks text)) (after_blanks text))) e) ∙ given in
+        sym (ap (λ t. points_in_runs (cond t (text_after_choice NoError (after_blanks text)) (after_blanks text))) e)
+        ∙ given in
         let less : length (after_blanks text) < suc (length (after_blanks text)) = omega arith in
         let pairs : ArePairs (after_blanks text) list =
         pairs-built (suc (length (after_blanks text))) (after_blanks text) list less rest in
         inl
-        (subst (λ t. ArePairs t list) (sym (front.whole ∙ ap (λ t. front.blanks ++ t) pairs.spelled))
-        (behind-blanks front.blanks pairs.written list front.clear pairs.whole pairs.same))
+        (subst (λ t. ArePairs t list) (sym (front.whole ∙ ap (λ t. front.blanks ++ t) pairs.spelled_text))
+        (behind-blanks front.blanks pairs.written_points list front.clear pairs.well_formed pairs.values_same))
 
     to : points_of text ≡ Some list → AreWrittenPoints text list
     to given = with_word (begins_with_no_error (after_blanks text)) refl given
 
     from : AreWrittenPoints text list → points_of text ≡ Some list
     from (inl pairs) =
-        ap (λ t. points_in_runs (cond t (behind NoError (after_blanks text)) (after_blanks text)))
+        ap (λ t. points_in_runs (cond t (text_after_choice NoError (after_blanks text)) (after_blanks text)))
         (no_word_led text list pairs)
-        ∙ ap (λ t. points_in_runs (after_blanks t)) pairs.spelled
-        ∙ pairs-found (after_blanks (points pairs.written)) list (bare pairs.written list pairs.whole pairs.same)
+        ∙ ap (λ t. points_in_runs (after_blanks t)) pairs.spelled_text
+        ∙ pairs-found (after_blanks (points pairs.written_points)) list
+        (bare pairs.written_points list pairs.well_formed pairs.values_same)
     from (inr is) =
-        let front : after_blanks text ≡ codes "noerror" ++ is.rest = ap after_blanks is.spelled
-        ∙ after_blanks-front is.blanks (codes "noerror" ++ is.rest) is.blank refl in
+        let front : after_blanks text ≡ codes "noerror" ++ is.pairs_text = ap after_blanks is.spelled_text
+        ∙ after_blanks-front is.blanks (codes "noerror" ++ is.pairs_text) is.blanks_only refl in
         ap (λ t. points_in_runs (behind_no_error t)) front
-        ∙ ap (λ t. points_in_runs (cond t is.rest (codes "noerror" ++ is.rest))) is.apart
-        ∙ pairs-found is.rest list is.pairs
+        ∙ ap (λ t. points_in_runs (cond t is.pairs_text (codes "noerror" ++ is.pairs_text))) is.rest_apart
+        ∙ pairs-found is.pairs_text list is.pairs

@@ -41,8 +41,8 @@ HasFurtherName _ text w = ⊥
 
 -- all names of the line are valid
 pub record HasNames (h : Heading) : Type 0 where
-  pub own : is_name h.name ≡ true
-  pub further : (w : List ℕ) → HasFurtherName h.kind h.text w → is_name w ≡ true
+  pub own_name : is_name h.name ≡ true
+  pub further_names : (w : List ℕ) → HasFurtherName h.kind h.text w → is_name w ≡ true
 
 -- a list without a name
 abbrev pub LacksName : Heading → Type 0
@@ -135,13 +135,13 @@ IsDefinitionOf _ _ _ = ⊥
 -- the line is written such that it gives this key and this entry
 pub record IsEntry (line : List ℕ) (k : Key) (e : Entry) : Type 0 where
   pub heading : Heading
-  pub headed : IsHeaded line heading
+  pub line_has_heading : IsHeaded line heading
   pub key_is : k ≡ key heading.kind heading.name
-  pub text_is : e.text ≡ heading.text
+  pub text_of_heading : e.text ≡ heading.text
   pub names : HasNames heading
   pub form : WrittenForm
-  pub written : IsSpelledAs heading.kind heading.text form
-  pub says : IsDefinitionOf heading.name form e.what
+  pub spelled_form : IsSpelledAs heading.kind heading.text form
+  pub form_defines : IsDefinitionOf heading.name form e.what
 
 -- the first fault of a line: a bad name precedes a bad form, which precedes points that do not form a table, which
 -- precede an expression
@@ -159,8 +159,8 @@ IsLineFault h fault.OutOfMemory = ⊥
 
 pub record HasFault (line : List ℕ) (x : EntryFault) : Type 0 where
   pub heading : Heading
-  pub headed : IsHeaded line heading
-  pub is : IsLineFault heading x
+  pub line_has_heading : IsHeaded line heading
+  pub fault_of_heading : IsLineFault heading x
 
 -- law: a line gives a key and an entry if and only if it is written that way, and a fault if and only if that is its
 -- first one
@@ -173,4 +173,4 @@ EntryLaw = (line : List ℕ) → has_entry (kind_of line) ≡ true
 pub record OneEntryLaw : Type 0 where
   pub entries : (line : List ℕ) (k l : Key) (e f : Entry) → IsEntry line k e → IsEntry line l f → (k ≡ l) × (e ≡ f)
   pub faults : (line : List ℕ) (x y : EntryFault) → HasFault line x → HasFault line y → x ≡ y
-  pub apart : (line : List ℕ) (k : Key) (e : Entry) (x : EntryFault) → IsEntry line k e → HasFault line x → ⊥
+  pub entry_or_fault : (line : List ℕ) (k : Key) (e : Entry) (x : EntryFault) → IsEntry line k e → HasFault line x → ⊥

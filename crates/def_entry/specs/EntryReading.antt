@@ -76,8 +76,8 @@ inverse_in name (Some text) = do
   Ok (Some tree)
 
 -- the function with these parts
-abbrev pub function : Form → Option Syntax × Option Syntax → Syntax → Option Syntax → What
-function form units forward inverse = Function (record {
+abbrev pub function_definition : Form → Option Syntax × Option Syntax → Syntax → Option Syntax → What
+function_definition form units forward inverse = Function (record {
   in_unit = units.0;
   out_unit = units.1;
   domain = form.options.domain;
@@ -92,7 +92,7 @@ function_of name parameter form = do
   units ← units_in form.options.units
   forward ← entry_tree (Some parameter) form.forward
   inverse ← inverse_in name form.inverse
-  Ok (function form units forward inverse)
+  Ok (function_definition form units forward inverse)
 
 -- a function, given its parameter, which is empty for an alias, and the text after it
 abbrev pub call_in : List ℕ → List ℕ → List ℕ → Result What EntryFault

@@ -19,8 +19,8 @@ abbrev pub gives : Kind → List ℕ → List ℕ → What → Result (Key × En
 gives k name text what = Ok (key k name, record { text = text; what = what })
 
 -- a whole number
-abbrev pub number : ℕ → Syntax
-number n = Number (record { coefficient = n; scale = pos 0 })
+abbrev pub example_number_tree : ℕ → Syntax
+example_number_tree n = Number (record { coefficient = n; scale = pos 0 })
 
 -- a function of x with an inverse by its own name, whose argument is a nonnegative number of meters
 abbrev pub from_meters : What
@@ -58,12 +58,12 @@ EntriesLaw =
     × (entry_of (codes "+ one !dimensionless") ≡ gives kind.Unit (codes "one") (codes "!dimensionless") Dimensionless)
     × (entry_of (codes "ft 12 in")
     ≡ gives kind.Unit (codes "ft") (codes "12 in")
-    (Body (Juxtaposed (Member (number 12) (Member (Word (codes "in")) NoMember)))))
+    (Body (Juxtaposed (Member (example_number_tree 12) (Member (Word (codes "in")) NoMember)))))
     × (entry_of (codes "k-  kilo") ≡ gives kind.Prefix (codes "k") (codes "kilo") (Body (Word (codes "kilo"))))
     × (entry_of (codes "f(x) units=[m;] domain=[0,) x ; f")
     ≡ gives kind.Func (codes "f") (codes "(x) units=[m;] domain=[0,) x ; f") from_meters)
     × (entry_of (codes "f( x ) noerror 2")
-    ≡ gives kind.Func (codes "f") (codes "( x ) noerror 2") (constant (number 2)))
+    ≡ gives kind.Func (codes "f") (codes "( x ) noerror 2") (constant (example_number_tree 2)))
     × (entry_of (codes "g() f()") ≡ gives kind.Func (codes "g") (codes "() f()") (Alias (codes "f")))
     × (entry_of (codes "t[ft] 1 2, 3 -1|2") ≡ gives kind.Func (codes "t") (codes "[ft] 1 2, 3 -1|2") short_table)
     × (entry_of (codes "!unitlist l ft;m")
@@ -86,8 +86,8 @@ EntryFaultsLaw =
     × (entry_of (codes "a 1e10000 m") ≡ Err (Parse NumeralTooLong))
 
 -- keys and their texts
-abbrev pub keys : List (Key × List ℕ)
-keys =
+abbrev pub example_keys : List (Key × List ℕ)
+example_keys =
     (key kind.Unit (codes "m"), codes "m")
     ∷ (key kind.Prefix (codes "milli"), codes "milli-")
     ∷ (key kind.Func (codes "tempC"), codes "tempC()")
@@ -109,9 +109,9 @@ no_keys =
 
 -- law: each key has its text and is read from it, and no key is read from the other texts
 pub record KeysLaw : Type 0 where
-  pub written : map (λ row. key_text row.0) keys ≡ map (λ row. row.1) keys
-  pub read : map (λ row. key_of row.1) keys ≡ map (λ row. Some row.0) keys
-  pub refused : map key_of no_keys ≡ map (λ bytes. None) no_keys
+  pub key_texts : map (λ row. key_text row.0) example_keys ≡ map (λ row. row.1) example_keys
+  pub keys_of_texts : map (λ row. key_of row.1) example_keys ≡ map (λ row. Some row.0) example_keys
+  pub rejected_texts : map key_of no_keys ≡ map (λ bytes. None) no_keys
 
 -- faults and their texts
 abbrev pub fault_texts : List (EntryFault × List ℕ)

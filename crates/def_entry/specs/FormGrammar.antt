@@ -28,7 +28,7 @@ pub data WrittenForm : Type 0 where
 
 -- a bracket, the text in it up to the first byte that closes it, and the text after that
 pub record IsBracketed (open_byte close_byte : ℕ) (text inside behind : List ℕ) : Type 0 where
-  pub spelled : text ≡ open_byte ∷ (inside ++ (close_byte ∷ behind))
+  pub text_in_brackets : text ≡ open_byte ∷ (inside ++ (close_byte ∷ behind))
   pub clear : lacks close_byte inside ≡ true
 
 -- a text without the blanks at its ends, which must not be empty
@@ -44,12 +44,12 @@ AreBodies text forward (Some inverse) =
 
 -- "(" parameter ")" options bodies
 pub record IsFunctionForm (text parameter : List ℕ) (form : Form) : Type 0 where
-  pub inside : List ℕ
-  pub behind : List ℕ
+  pub bracket_text : List ℕ
+  pub text_after : List ℕ
   pub bodies : List ℕ
-  pub has_brackets : IsBracketed open_paren close_paren text inside behind
-  pub parameter_is : IsTrimmed inside parameter
-  pub options_are : AreOptions behind bodies form.options
+  pub has_brackets : IsBracketed open_paren close_paren text bracket_text text_after
+  pub parameter_is : IsTrimmed bracket_text parameter
+  pub options_are : AreOptions text_after bodies form.options
   pub bodies_are : AreBodies bodies form.forward form.inverse
 
 -- a target, with or without a final "()"
@@ -59,26 +59,26 @@ IsTarget text target =
 
 -- "(" ")" target [ "()" ]
 pub record IsAlias (text target : List ℕ) : Type 0 where
-  pub inside : List ℕ
-  pub behind : List ℕ
-  pub has_brackets : IsBracketed open_paren close_paren text inside behind
-  pub blank : trim_of inside ≡ []
-  pub target_is : IsTarget (trim_of behind) target
-  pub some : target ≢ []
+  pub bracket_text : List ℕ
+  pub text_after : List ℕ
+  pub has_brackets : IsBracketed open_paren close_paren text bracket_text text_after
+  pub blank_brackets : trim_of bracket_text ≡ []
+  pub target_is : IsTarget (trim_of text_after) target
+  pub target_not_empty : target ≢ []
 
 -- "[" unit "]" points
 pub record IsTable (text unit points : List ℕ) : Type 0 where
-  pub inside : List ℕ
-  pub has_brackets : IsBracketed open_bracket close_bracket text inside points
-  pub unit_is : IsTrimmed inside unit
+  pub bracket_text : List ℕ
+  pub has_brackets : IsBracketed open_bracket close_bracket text bracket_text points
+  pub unit_is : IsTrimmed bracket_text unit
 
 -- part { ";" part }
 pub record AreParts (text : List ℕ) (parts : List (List ℕ)) : Type 0 where
   pub pieces : List (List ℕ)
-  pub joined : text ≡ join_with_byte semicolon pieces
+  pub join_of_pieces : text ≡ join_with_byte semicolon pieces
   pub clear : list_all (lacks semicolon) pieces ≡ true
   pub parts_are : parts ≡ map trim_of pieces
-  pub some : text ≢ []
+  pub text_not_empty : text ≢ []
 
 -- the text of a key of this kind has this written form
 abbrev pub IsSpelledAs : Kind → List ℕ → WrittenForm → Type 0

@@ -84,10 +84,10 @@ heading_of (ListHeading before between name behind) =
 
 -- the line is written with this heading
 pub record IsHeaded (line : List ℕ) (h : Heading) : Type 0 where
-  pub written : WrittenHeading
-  pub spelled : line ≡ bytes written
-  pub whole : is_heading written ≡ true
-  pub same : h ≡ heading_of written
+  pub written_heading : WrittenHeading
+  pub spelled_line : line ≡ bytes written_heading
+  pub well_formed : is_heading written_heading ≡ true
+  pub reads_as_heading : h ≡ heading_of written_heading
 
 -- law: the heading of a line is the one with which it is written
 abbrev pub HeadingLaw : Type 0

@@ -38,5 +38,5 @@ key_code =
 
 -- law: the order of keys is total, and only equal keys tie
 pub record KeyOrderLaw : Type 0 where
-  pub total : IsTotalOrder key_cmp
-  pub exact : (k l : Key) → key_cmp k l ≡ Equal → k ≡ l
+  pub total_order : IsTotalOrder key_cmp
+  pub equal_keys : (k l : Key) → key_cmp k l ≡ Equal → k ≡ l

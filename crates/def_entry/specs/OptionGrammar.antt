@@ -56,9 +56,9 @@ option (DomainOption i) rest = codes "domain=" ++ interval i rest
 option (RangeOption i) rest = codes "range=" ++ interval i rest
 option NoErrorOption rest = codes "noerror" ++ rest
 
-abbrev pub options : WrittenOptions → List ℕ → List ℕ
-options (NoOption blanks) rest = blanks ++ rest
-options (NextOption blanks o os) rest = blanks ++ option o (options os rest)
+abbrev pub spelled_options : WrittenOptions → List ℕ → List ℕ
+spelled_options (NoOption blanks) rest = blanks ++ rest
+spelled_options (NextOption blanks o os) rest = blanks ++ option o (spelled_options os rest)
 
 -- the value of an interval; there is none if the text of a bound is neither empty nor a number
 abbrev pub span_of : WrittenInterval → Option Span
@@ -82,7 +82,7 @@ is_complete_option NoErrorOption rest = stands_apart rest
 abbrev pub are_whole : WrittenOptions → List ℕ → Bool
 are_whole (NoOption blanks) rest = list_all is_blank blanks
 are_whole (NextOption blanks o os) rest =
-    list_all is_blank blanks && is_complete_option o (options os rest) && are_whole os rest
+    list_all is_blank blanks && is_complete_option o (spelled_options os rest) && are_whole os rest
 
 -- the text starts neither with another option nor with a blank
 abbrev pub option_has_ended : List ℕ → Bool
@@ -95,9 +95,9 @@ option_has_ended rest =
     && is_begun rest
 
 -- the options in order, as a list
-abbrev pub in_order : WrittenOptions → List WrittenOption
-in_order (NoOption blanks) = []
-in_order (NextOption blanks o os) = o ∷ in_order os
+abbrev pub options_in_order : WrittenOptions → List WrittenOption
+options_in_order (NoOption blanks) = []
+options_in_order (NextOption blanks o os) = o ∷ options_in_order os
 
 -- the meaning of each option for the function
 
@@ -132,11 +132,11 @@ pub record AreStated (os : List WrittenOption) (o : Options) : Type 0 where
 
 -- the text consists of options with this meaning and the rest
 pub record AreOptions (text rest : List ℕ) (o : Options) : Type 0 where
-  pub written : WrittenOptions
-  pub spelled : text ≡ options written rest
-  pub whole : are_whole written rest ≡ true
-  pub ended : option_has_ended rest ≡ true
-  pub statement_is : AreStated (in_order written) o
+  pub written_options : WrittenOptions
+  pub spelled_text : text ≡ spelled_options written_options rest
+  pub well_formed : are_whole written_options rest ≡ true
+  pub ends_options : option_has_ended rest ≡ true
+  pub statement_is : AreStated (options_in_order written_options) o
 
 -- law: options are read if and only if they are written according to the grammar
 abbrev pub OptionsLaw : Type 0

@@ -30,23 +30,23 @@ abbrev pub empty_options : Options
 empty_options = record { units = None; domain = None; range = None; no_error = false }
 
 -- the text with which an option starts
-abbrev pub word : Choice → List ℕ
-word UnitsChoice = codes "units="
-word Domain = codes "domain="
-word Range = codes "range="
-word NoError = codes "noerror"
+abbrev pub choice_word : Choice → List ℕ
+choice_word UnitsChoice = codes "units="
+choice_word Domain = codes "domain="
+choice_word Range = codes "range="
+choice_word NoError = codes "noerror"
 
 -- the text starts with the word of an option
 abbrev pub begins_with_option : Choice → List ℕ → Bool
-begins_with_option choice text = starts_with nat_eq text (word choice)
+begins_with_option choice text = starts_with nat_eq text (choice_word choice)
 
 -- the text after the word of an option
-abbrev pub behind : Choice → List ℕ → List ℕ
-behind choice text = drop (length (word choice)) text
+abbrev pub text_after_choice : Choice → List ℕ → List ℕ
+text_after_choice choice text = drop (length (choice_word choice)) text
 
 -- the text starts with `noerror` followed by a blank or by nothing
 abbrev pub begins_with_no_error : List ℕ → Bool
-begins_with_no_error text = begins_with_option NoError text && stands_apart (behind NoError text)
+begins_with_no_error text = begins_with_option NoError text && stands_apart (text_after_choice NoError text)
 
 -- the option with which the text starts
 abbrev pub choice_at : List ℕ → Option Choice
@@ -93,7 +93,7 @@ abbrev pub with_next_option : (Options → List ℕ → Option (Options × List 
     → List ℕ → Option (Options × List ℕ)
 with_next_option go_on None options text = Some (options, text)
 with_next_option go_on (Some choice) options text = do
-  found ← with_choice choice options (behind choice text)
+  found ← with_choice choice options (text_after_choice choice text)
   go_on found.0 found.1
 
 -- the options with those at the front, fewer than n of them, and the text after them

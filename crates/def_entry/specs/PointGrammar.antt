@@ -65,25 +65,25 @@ pair_then x y found = do
   behind ← found
   Some ((a, b) ∷ behind)
 
-abbrev pub values : WrittenPoints → Option (List Point)
-values (NoPair blanks) = Some []
-values (NextPair before x gap y end rest) = pair_then x y (values rest)
+abbrev pub point_values : WrittenPoints → Option (List Point)
+point_values (NoPair blanks) = Some []
+point_values (NextPair before x gap y end rest) = pair_then x y (point_values rest)
 
 -- the text consists of pairs, which are these points
 pub record ArePairs (text : List ℕ) (list : List Point) : Type 0 where
-  pub written : WrittenPoints
-  pub spelled : text ≡ points written
-  pub whole : are_points written ≡ true
-  pub same : values written ≡ Some list
+  pub written_points : WrittenPoints
+  pub spelled_text : text ≡ points written_points
+  pub well_formed : are_points written_points ≡ true
+  pub values_same : point_values written_points ≡ Some list
 
 -- the text is `noerror`, which has no effect, followed by pairs, which are these points
 pub record ArePairsBehind (text : List ℕ) (list : List Point) : Type 0 where
   pub blanks : List ℕ
-  pub rest : List ℕ
-  pub spelled : text ≡ blanks ++ (codes "noerror" ++ rest)
-  pub blank : list_all is_blank blanks ≡ true
-  pub apart : stands_apart rest ≡ true
-  pub pairs : ArePairs rest list
+  pub pairs_text : List ℕ
+  pub spelled_text : text ≡ blanks ++ (codes "noerror" ++ pairs_text)
+  pub blanks_only : list_all is_blank blanks ≡ true
+  pub rest_apart : stands_apart pairs_text ≡ true
+  pub pairs : ArePairs pairs_text list
 
 -- [ blanks "noerror" ] pairs
 abbrev pub AreWrittenPoints : List ℕ → List Point → Type 0

@@ -8,7 +8,7 @@ use Rattle.piecewise.specs.Points.{is_table}
 use Rattle.def_entry.specs.declared.options.Choice.TheVariants.{NoError}
 use Rattle.def_entry.specs.Marks.{comma}
 use Rattle.def_entry.specs.Numbers.{text_number}
-use Rattle.def_entry.specs.Options.{begins_with_no_error, behind}
+use Rattle.def_entry.specs.Options.{begins_with_no_error, text_after_choice}
 use Rattle.def_entry.specs.Steps.{◌>>=◌}
 
 -- the numbers of words, in pairs
@@ -41,7 +41,7 @@ is_comma b = b == comma
 
 -- a text without a leading `noerror`
 abbrev pub behind_no_error : List ℕ → List ℕ
-behind_no_error text = if begins_with_no_error text then behind NoError text else text
+behind_no_error text = if begins_with_no_error text then text_after_choice NoError text else text
 
 -- the points of a list, if it is one
 unfoldable pub points_of : List ℕ → Option (List Point)
@@ -52,9 +52,9 @@ abbrev pub most_points : ℕ
 most_points = 1000
 
 -- the points, or `None` if there are more of them than a table can have
-abbrev pub few : Option (List Point) → Option (List Point)
-few None = None
-few (Some points) = if nat_le (length points) most_points then Some points else None
+abbrev pub within_point_limit : Option (List Point) → Option (List Point)
+within_point_limit None = None
+within_point_limit (Some points) = if nat_le (length points) most_points then Some points else None
 
 -- the points, or `None` if they do not form a table
 abbrev pub table_points : List Point → Option (List Point)

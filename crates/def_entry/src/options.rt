@@ -106,7 +106,7 @@ impl<'a> Options<'a> {
 impl Choice {
     // Returns the text with which the option starts.
     fn word(self) -> &'static [u8]
-        ensures { result.now ≡ spec.word self }
+        ensures { result.now ≡ spec.choice_word self }
     {
         match self {
             Choice::Units => b"units=",
@@ -126,7 +126,7 @@ impl Choice {
     // Returns the text after the word of the option.
     pub(crate) fn behind(self, text: &[u8]) -> &[u8]
         requires { spec.begins_with_option self text.now ≡ true }
-        ensures { result.now ≡ spec.behind self text.now }
+        ensures { result.now ≡ spec.text_after_choice self text.now }
     {
         &text[self.word().len()..]
     }

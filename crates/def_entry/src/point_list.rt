@@ -34,7 +34,7 @@ pub(crate) fn table_points(alloc: Global, text: &[u8]) -> Result<Points, EntryFa
 // points than a table can have. No more points are read or stored than are needed to detect that.
 fn points_of(alloc: Global, text: &[u8]) -> Result<Vec<(Frac, Frac)>, EntryFault>
     ensures { GivesEntry (λ points. points.items) result
-        (or_fault EntryFault.BadTable (spec.few (spec.points_of text.now))) }
+        (or_fault EntryFault.BadTable (spec.within_point_limit (spec.points_of text.now))) }
 {
     let mut points = Vec::new(alloc);
     let mut rest = behind_no_error(trim_front(text));
@@ -62,7 +62,8 @@ fn push_some_pairs(points: &mut Vec<(Frac, Frac)>, text: &[u8]) -> Result<(), En
     requires { length points.old.items ≤ spec.most_points }
     ensures { GivesEntry (λ done. points.new.items) result
         (or_fault EntryFault.BadTable
-        (spec.few (option_map (λ pairs. points.old.items ++ pairs) (spec.some_pairs (words_of text.now))))) }
+        (spec.within_point_limit (option_map (λ pairs. points.old.items ++ pairs)
+        (spec.some_pairs (words_of text.now))))) }
 {
     if trim_front(text).is_empty() {
         return Err(EntryFault::BadTable);
@@ -75,7 +76,8 @@ fn push_pairs(points: &mut Vec<(Frac, Frac)>, text: &[u8]) -> Result<(), EntryFa
     requires { length points.old.items ≤ spec.most_points }
     ensures { GivesEntry (λ done. points.new.items) result
         (or_fault EntryFault.BadTable
-        (spec.few (option_map (λ pairs. points.old.items ++ pairs) (spec.points_of_words (words_of text.now))))) }
+        (spec.within_point_limit (option_map (λ pairs. points.old.items ++ pairs)
+        (spec.points_of_words (words_of text.now))))) }
 {
     let mut rest = trim_front(text);
     while !rest.is_empty() {

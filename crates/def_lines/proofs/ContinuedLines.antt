@@ -3,7 +3,7 @@ use Rattle.std.proofs.Common.{◌≡◌, ◌++◌, ◌∷◌, [], ℕ, List, fal
 use Rattle.std.proofs.lemmas.List.{append-nil}
 use Rattle.def_lines.specs.declared.line.Line.{Line}
 use Rattle.def_lines.specs.Blanks.{trim_of}
-use Rattle.def_lines.specs.Lines.{continuation, ends_with, front, numbered_lines, physical_lines, with_front}
+use Rattle.def_lines.specs.Lines.{continuation, ends_with, front_of_line, numbered_lines, physical_lines, with_front}
 use Rattle.def_lines.specs.Lines.{without_comment}
 use Rattle.def_lines.specs.Lines.{trimmed_line}
 
@@ -44,5 +44,6 @@ pub lines_from-ended : (number : ℕ) (bytes line behind left : List ℕ)
 lines_from-ended number bytes line behind left first clean ends =
     ap (numbered_lines number) first
     ∙ ap (λ text. continuation number text (numbered_lines (number + 1) (physical_lines behind))) (sym clean)
-    ∙ ap (λ b. cond b (with_front number (front left ++ 32 ∷ []) (numbered_lines (number + 1) (physical_lines behind)))
+    ∙ ap (λ b. cond b (with_front number (front_of_line left ++ 32 ∷ [])
+    (numbered_lines (number + 1) (physical_lines behind)))
     (record { number = number; text = left } ∷ numbered_lines (number + 1) (physical_lines behind))) ends

@@ -9,31 +9,31 @@ use Rattle.def_lines.specs.Lines.{logical_lines}
 use Rattle.def_lines.specs.Words.{is_listed}
 
 -- a line with this number and this text
-abbrev pub at : ℕ → List ℕ → Line
-at number text = record { number = number; text = text }
+abbrev pub line_at : ℕ → List ℕ → Line
+line_at number text = record { number = number; text = text }
 
 -- files and their lines
-abbrev pub files : List (List ℕ × List Line)
-files =
+abbrev pub example_files : List (List ℕ × List Line)
+example_files =
     (codes "", [])
-    ∷ (codes "\n", at 1 [] ∷ [])
-    ∷ (codes "m !", at 1 (codes "m !") ∷ [])
-    ∷ (codes "m !\n", at 1 (codes "m !") ∷ [])
-    ∷ (codes "m !\ns !\n", at 1 (codes "m !") ∷ at 2 (codes "s !") ∷ [])
-    ∷ (codes "  m\t! \t\n", at 1 (codes "m\t!") ∷ [])
-    ∷ (codes "a 2 \\\n m\nb 3 m\n", at 1 (codes "a 2   m") ∷ at 3 (codes "b 3 m") ∷ [])
-    ∷ (codes "a \\\n\\\n  2 m\nb", at 1 (codes "a     2 m") ∷ at 4 (codes "b") ∷ [])
-    ∷ (codes "a 2 m \\", at 1 (codes "a 2 m") ∷ [])
-    ∷ (codes "m !\na 2 m \\\n", at 1 (codes "m !") ∷ at 2 (codes "a 2 m") ∷ [])
-    ∷ (codes "\\", at 1 [] ∷ [])
-    ∷ (codes " \\\n \\\n m !", at 1 (codes "m !") ∷ [])
-    ∷ (codes "# all\nm ! # metre\n#\n", at 1 [] ∷ at 2 (codes "m !") ∷ at 3 [] ∷ [])
-    ∷ (codes "a 2 \\ # more\nm", at 1 (codes "a 2  m") ∷ [])
-    ∷ (codes "a 2 # no \\\nm", at 1 (codes "a 2") ∷ at 2 (codes "m") ∷ [])
-    ∷ (codes "m !\r\ns !\r", at 1 (codes "m !") ∷ at 2 (codes "s !") ∷ [])
-    ∷ (codes "a \\\r\n2 m\r\n", at 1 (codes "a  2 m") ∷ [])
-    ∷ (codes "m !\r\r\n", at 1 (codes "m !\r") ∷ [])
-    ∷ (codes "a # b\r\n\nc", at 1 (codes "a") ∷ at 2 [] ∷ at 3 (codes "c") ∷ [])
+    ∷ (codes "\n", line_at 1 [] ∷ [])
+    ∷ (codes "m !", line_at 1 (codes "m !") ∷ [])
+    ∷ (codes "m !\n", line_at 1 (codes "m !") ∷ [])
+    ∷ (codes "m !\ns !\n", line_at 1 (codes "m !") ∷ line_at 2 (codes "s !") ∷ [])
+    ∷ (codes "  m\t! \t\n", line_at 1 (codes "m\t!") ∷ [])
+    ∷ (codes "a 2 \\\n m\nb 3 m\n", line_at 1 (codes "a 2   m") ∷ line_at 3 (codes "b 3 m") ∷ [])
+    ∷ (codes "a \\\n\\\n  2 m\nb", line_at 1 (codes "a     2 m") ∷ line_at 4 (codes "b") ∷ [])
+    ∷ (codes "a 2 m \\", line_at 1 (codes "a 2 m") ∷ [])
+    ∷ (codes "m !\na 2 m \\\n", line_at 1 (codes "m !") ∷ line_at 2 (codes "a 2 m") ∷ [])
+    ∷ (codes "\\", line_at 1 [] ∷ [])
+    ∷ (codes " \\\n \\\n m !", line_at 1 (codes "m !") ∷ [])
+    ∷ (codes "# all\nm ! # metre\n#\n", line_at 1 [] ∷ line_at 2 (codes "m !") ∷ line_at 3 [] ∷ [])
+    ∷ (codes "a 2 \\ # more\nm", line_at 1 (codes "a 2  m") ∷ [])
+    ∷ (codes "a 2 # no \\\nm", line_at 1 (codes "a 2") ∷ line_at 2 (codes "m") ∷ [])
+    ∷ (codes "m !\r\ns !\r", line_at 1 (codes "m !") ∷ line_at 2 (codes "s !") ∷ [])
+    ∷ (codes "a \\\r\n2 m\r\n", line_at 1 (codes "a  2 m") ∷ [])
+    ∷ (codes "m !\r\r\n", line_at 1 (codes "m !\r") ∷ [])
+    ∷ (codes "a # b\r\n\nc", line_at 1 (codes "a") ∷ line_at 2 [] ∷ line_at 3 (codes "c") ∷ [])
     ∷ []
 
 -- lines and their kinds
@@ -103,9 +103,9 @@ listings =
     ∷ (codes "a b a", (codes "a", true))
     ∷ []
 
--- law: each file has the lines that `files` gives it
+-- law: each file has the lines that `example_files` gives it
 abbrev pub LinesLaw : Type 0
-LinesLaw = map (λ file. logical_lines file.0) files ≡ map (λ file. file.1) files
+LinesLaw = map (λ file. logical_lines file.0) example_files ≡ map (λ file. file.1) example_files
 
 -- law: each line has the kind that `kinds` gives it
 abbrev pub KindsLaw : Type 0

@@ -30,8 +30,8 @@ abbrev pub ends_with : ℕ → List ℕ → Bool
 ends_with b bytes = begins_with b (reverse bytes)
 
 -- the text without its last byte
-abbrev pub front : List ℕ → List ℕ
-front bytes = reverse (without_first_byte (reverse bytes))
+abbrev pub front_of_line : List ℕ → List ℕ
+front_of_line bytes = reverse (without_first_byte (reverse bytes))
 
 -- the text before the first such byte, or all of it if there is none
 abbrev pub before_byte : ℕ → List ℕ → List ℕ
@@ -40,7 +40,7 @@ before_byte b bytes = before_first (λ x. x == b) bytes
 -- a physical line without a final carriage return, then without `#` and the text after it, then without trailing
 -- blanks
 abbrev pub without_comment : List ℕ → List ℕ
-without_comment line = before_blanks (before_byte 35 (if ends_with 13 line then front line else line))
+without_comment line = before_blanks (before_byte 35 (if ends_with 13 line then front_of_line line else line))
 
 -- the content of a line on its own: cleaned, and without leading blanks
 unfoldable pub line_content : List ℕ → List ℕ
@@ -57,7 +57,7 @@ with_front number text (line ∷ lines) = record { number = number; text = text 
 abbrev pub continuation : ℕ → List ℕ → List Line → List Line
 continuation number text lines =
     if ends_with 92 text
-    then with_front number (front text ++ 32 ∷ []) lines
+    then with_front number (front_of_line text ++ 32 ∷ []) lines
     else record { number = number; text = text } ∷ lines
 
 -- the lines that physical lines make, if the first of them has this number

@@ -31,7 +31,7 @@ impl Part {
     }
 
     // Appends bytes.
-    fn put(&mut self, bytes: &[u8]) -> Result<(), AllocError>
+    fn put_bytes(&mut self, bytes: &[u8]) -> Result<(), AllocError>
         ensures number { self.new.number ≡ self.old.number }
         ensures text { OnOk result ((behind : List ℕ) → trim_of (self.new.text.items ++ behind)
             ≡ trim_of (self.old.text.items ++ (bytes.now ++ behind))) }
@@ -50,8 +50,8 @@ impl Part {
             ≡ map trimmed_line
             (with_front self.old.number self.old.text.items (with_front number (start.now ++ 32 ∷ []) more))) }
     {
-        self.put(start)?;
-        self.put(b" ")
+        self.put_bytes(start)?;
+        self.put_bytes(b" ")
     }
 
     // Returns the line, if no text follows.
@@ -73,7 +73,7 @@ impl Part {
             ≡ map trimmed_line
             (with_front self.number self.text.items (record { number = number; text = bytes.now } ∷ more))) }
     {
-        self.put(bytes)?;
+        self.put_bytes(bytes)?;
         Ok(self.complete())
     }
 }

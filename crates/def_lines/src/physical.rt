@@ -43,7 +43,7 @@ pub fn line_content(line: &[u8]) -> &[u8]
 pub(crate) fn strip_last(text: &[u8], byte: u8) -> Option<&[u8]>
     ensures { MatchOption result
         (spec.ends_with byte text.now ≡ false)
-        (λ rest. (spec.ends_with byte text.now ≡ true) × (rest.now ≡ spec.front text.now)) }
+        (λ rest. (spec.ends_with byte text.now ≡ true) × (rest.now ≡ spec.front_of_line text.now)) }
 {
     match text.split_last() {
         Some((last, rest)) if *last == byte => Some(rest),

@@ -8,7 +8,7 @@ use Rattle.std.specs.List.{list_all}
 use Rattle.std.specs.Str.Parse.{AllDigits, digits_value_after}
 use Rattle.std.proofs.lemmas.Bool.Decides.{nat_tests}
 use Rattle.std.proofs.lemmas.Fmt.{decimal_is_IsNumeral_wide}
-use Rattle.frac128.specs.Decimals.{DigitsLaw, digits_of, number}
+use Rattle.frac128.specs.Decimals.{DigitsLaw, digits_number, digits_of}
 use Rattle.frac128.specs.Fraction.{most, whole}
 use Rattle.frac128.specs.Numerals.{is_digit}
 use Rattle.digits_print.specs.Back.{ReadBackLaw}
@@ -38,6 +38,6 @@ wide n h = let big : 2 ^ 127 < 10 ^ 64 = lit< tt in omega arith
 pub back_law : DigitsLaw → ReadBackLaw
 back_law law n fits =
     let is = decimal_is_IsNumeral_wide n (wide n fits) in
-    let same : number (digits_of (decimal n)) ≡ n = number_is 0 (decimal n) is.0.1 ∙ is.1 in
+    let same : digits_number (digits_of (decimal n)) ≡ n = number_is 0 (decimal n) is.0.1 ∙ is.1 in
     let found = law (decimal n) is.0.0 (all_is (decimal n) is.0.1) (rw same fits) in
     record { numeral = found.0; read_is = found.1; value_is = found.2 ∙ ap (λ m. Ok (whole (pos m))) same }

@@ -23,10 +23,10 @@ fitting_kept x kept = rw (tests (unsigned_abs x.num) x.den kept.num_fits kept.de
 -- the quotient of a fraction's numerator and denominator is that fraction
 ratio_kept : ReducedLaw → (n : ℤ) (d : ℕ) → IsFrac (record { num = n; den = d })
     → ratio n (pos d) ≡ Ok (record { num = n; den = d })
-ratio_kept law n zero kept = absurd (omega (arith, kept.reduced.positive))
+ratio_kept law n zero kept = absurd (omega (arith, kept.lowest_terms.den_positive))
 ratio_kept law n (suc d) kept =
     let x : Fraction = record { num = n; den = suc d } in
-    let same : x ≡ _ = (law n (suc d) kept.reduced.positive).2 x kept.reduced refl in
+    let same : x ≡ _ = (law n (suc d) kept.lowest_terms.den_positive).2 x kept.lowest_terms refl in
     ap fit_or_overflow (sym same) ∙ fitting_kept x kept
 
 -- a number is an optional minus and a numeral
@@ -76,11 +76,11 @@ reads_as_whole : ReducedLaw → ReadBackLaw → (n : ℤ) → IsFrac (record { n
 reads_as_whole law back n kept =
     let top = spelled back n kept.num_fits in
     record {
-      negative = top.negative;
-      top = top.digits;
+      has_minus = top.negative;
+      numerator_digits = top.digits;
       top_digits = top.numeral;
       top_read = top.read;
-      spelled = top.text;
+      spelled_whole = top.text;
       value = ap (λ z. ratio z (pos 1)) top.value ∙ ratio_kept law n 1 kept;
     }
 
@@ -91,14 +91,14 @@ reads_as_quotient law back n d kept =
     let top = spelled back n kept.num_fits in
     let bottom = decimal_is_IsNumeral_wide d (wide d kept.den_fits) in
     record {
-      negative = top.negative;
-      top = top.digits;
+      has_minus = top.negative;
+      numerator_digits = top.digits;
       bottom = decimal d;
       top_digits = top.numeral;
       top_read = top.read;
       bottom_digits = bottom.0;
       bottom_read = read_back back d kept.den_fits;
-      spelled = ap (λ t. t ++ codes "|" ++ decimal d) top.text;
+      spelled_quotient = ap (λ t. t ++ codes "|" ++ decimal d) top.text;
       value = ap (λ z. ratio z (pos (digits_value 10 (decimal d)))) top.value ∙ ap (λ m. ratio n (pos m)) bottom.1
           ∙ ratio_kept law n d kept;
     }

@@ -9,7 +9,7 @@ use Rattle.std.proofs.lemmas.Bool.Decides.{nat_tests}
 use Rattle.std.proofs.lemmas.Fmt.{decimal_is_IsNumeral_wide}
 use Rattle.std.proofs.lemmas.Int.{ints}
 use Rattle.std.proofs.lemmas.Int.Digits.{digits_value-lt}
-use Rattle.digits_print.specs.Layout.{below_one, layout, plain, scientific}
+use Rattle.digits_print.specs.Layout.{below_one, layout, plain_layout, scientific}
 use Rattle.digits_print.specs.Nearest.{HasDigits}
 use Rattle.digits_print.proofs.Scales.{ten_up}
 
@@ -47,8 +47,8 @@ layout_small n ds (negsuc k) size is high low = let zeros : k ≡ size - 1 =
 -- if the power is at least 0 and below the number of digits, the layout is plain
 pub layout_plain : (n : ℕ) (ds : List ℕ) (power : ℤ) (size : ℕ) → size ≡ unsigned_abs power → lt_z power (pos 0) ≡ false
     → size < n
-    → layout n ds power ≡ plain ds (size + 1)
-layout_plain n ds (pos k) size is low high = rw (less k n (omega arith)) (ap (λ v. plain ds (v + 1)) (sym is))
+    → layout n ds power ≡ plain_layout ds (size + 1)
+layout_plain n ds (pos k) size is low high = rw (less k n (omega arith)) (ap (λ v. plain_layout ds (v + 1)) (sym is))
 layout_plain n ds (negsuc k) size is low high = absurd (cc)
 
 -- if the power is at least the number of digits, the layout is scientific
@@ -66,7 +66,7 @@ enough_digits n m some most digits = elim (cases_lt (length (decimal m)) n) [
 ]
   where
     wide : m < 10 ^ 64
-    wide = let high = ten_up n 36 most in let big : 10 ^ 36 < 10 ^ 64 = lit< tt in omega (arith, digits.below)
+    wide = let high = ten_up n 36 most in let big : 10 ^ 36 < 10 ^ 64 = lit< tt in omega (arith, digits.upper_bound)
 
     fewer : length (decimal m) < n → ⊥
     fewer h =
@@ -74,4 +74,4 @@ enough_digits n m some most digits = elim (cases_lt (length (decimal m)) n) [
         let low : m < 10 ^ length (decimal m) =
         subst (λ v. v < 10 ^ length (decimal m)) read.1 (digits_value-lt 10 (decimal m) read.0.1) in
         let high = ten_up (length (decimal m)) (n - 1) (omega arith) in
-        omega (arith, digits.least)
+        omega (arith, digits.lower_bound)

@@ -120,7 +120,7 @@ carried_is n m s some low high = elim (cases_eq m (10 ^ n)) [
 
     own : m < 10 ^ n → IsCarried n m s (record { coefficient = m; scale = s })
     own h = record {
-      digits = record { least = low; below = h };
+      digits = record { lower_bound = low; upper_bound = h };
       on = on_own_grid (record { coefficient = m; scale = s });
       is = inl (h, refl, refl);
     }
@@ -131,7 +131,7 @@ carried_is n m s some low high = elim (cases_eq m (10 ^ n)) [
         let ten : 10 ^ n ≡ 10 * 10 ^ (n - 1) = ten_before n some in
         let step : 10 ^ (n - 1) * 10 ^ 1 ≡ m = let one : 10 ^ 1 ≡ 10 = refl in rw one (omega arith) in
         record {
-          digits = record { least = omega arith; below = omega (arith, ten_some (n - 1)) };
+          digits = record { lower_bound = omega arith; upper_bound = omega (arith, ten_some (n - 1)) };
           on = subst (λ v. IsOnGrid d s v) step (on_grid_below d s 1 refl);
           is = inr (h, refl, refl);
         }
@@ -172,14 +172,15 @@ same_decimal n m s d e k some own digits is same = by_case own.is
         at_steps zero is same =
             decimal_is d e (own_scale.1 ∙ sym same ∙ mul-one e.coefficient) (level d.scale s e.scale own_scale.2 is)
         at_steps (suc k) is same =
-            absurd (let big = wide k e.coefficient (10 ^ (n - 1)) (10 ^ suc k) digits.least (ten_suc k) in let low =
+            absurd (let big = wide k e.coefficient (10 ^ (n - 1)) (10 ^ suc k) digits.lower_bound (ten_suc k) in
+            let low =
             own_scale.0 in omega (arith, ten))
     by_case (inr next_scale) = at_steps k is same
       where
         at_steps : (k : ℕ) → e.scale ≡ s +ℤ pos k → e.coefficient * 10 ^ k ≡ m → d ≡ e
         at_steps zero is same =
             absurd (let whole : e.coefficient ≡ m = sym (mul-one e.coefficient) ∙ same in let high =
-            next_scale.0 in omega (arith, digits.below))
+            next_scale.0 in omega (arith, digits.upper_bound))
         at_steps (suc zero) is same =
             let tenth : e.coefficient * 10 ≡ m = same in
             let high = next_scale.0 in
@@ -187,7 +188,7 @@ same_decimal n m s d e k some own digits is same = by_case own.is
             decimal_is d e (next_scale.1 ∙ digits_is) (next_scale.2 ∙ sym is)
         at_steps (suc (suc k)) is same =
             absurd (let big =
-            wider k e.coefficient (10 ^ (n - 1)) (10 ^ suc (suc k)) digits.least
+            wider k e.coefficient (10 ^ (n - 1)) (10 ^ suc (suc k)) digits.lower_bound
             (ten_suc (suc k) ∙ ap (λ v. 10 * v) (ten_suc k)) in let high =
             next_scale.0 in omega (arith, ten, ten_some (n - 1)))
 
@@ -212,7 +213,7 @@ preferred n m s d e some own digits is even odd = by_case own.is
         less : d.coefficient ≡ 1 → n - 1 ≡ 0 → IsLessDecimal e d
         less one none =
             let below_ten : e.coefficient < 10 = let ten = ten_before n some in let power : 10 ^ (n - 1) ≡ 1 =
-            ap (λ v. 10 ^ v) none in omega (arith, digits.below) in
+            ap (λ v. 10 ^ v) none in omega (arith, digits.upper_bound) in
             products d.coefficient e.coefficient (up d.scale) (down d.scale) (up e.scale) (down e.scale) one below_ten
             (shifted e.scale d.scale 1 (one_above d.scale s e.scale next_scale.2 is))
             (mul-pos (up_some e.scale) (down_some d.scale))
@@ -236,7 +237,7 @@ at_scale : NearestWholeLaw → (n a b : ℕ) (s : ℤ) (m : ℕ) (d : Decimal) �
 at_scale law n a b s m d some some_b at near own = record {
   digits = own.digits;
   nearest = λ e digits. nearest e digits (ordered s e.scale);
-  tie = λ e digits h. tie e digits h (ordered s e.scale);
+  tie_to_even = λ e digits h. tie e digits h (ordered s e.scale);
 }
   where
     -- on a finer grid, each decimal with n digits is farther
@@ -245,7 +246,7 @@ at_scale law n a b s m d some some_b at near own = record {
         < abs_diff (a * down e.scale) (e.coefficient * (b * up e.scale))
     finer e k digits is =
         products (10 ^ (n - 1)) (10 ^ suc k) e.coefficient a b (up s) (down s) (up e.scale) (down e.scale)
-        (near.near (10 ^ (n - 1))) (shifted e.scale s (suc k) is) at.low (fewer k digits.below) (down_some s)
+        (near.near (10 ^ (n - 1))) (shifted e.scale s (suc k) is) at.low (fewer k digits.upper_bound) (down_some s)
         (mul-pos some_b (up_some e.scale))
       where
         fewer : (k : ℕ) → e.coefficient < 10 ^ n → e.coefficient < 10 ^ (n - 1) * 10 ^ suc k
@@ -326,9 +327,9 @@ at_scale law n a b s m d some some_b at near own = record {
 
 -- the nearest decimal is unique
 unique : (n a b : ℕ) (d e : Decimal) → IsNearest n a b d → IsNearest n a b e → d ≡ e
-unique n a b d e own other = elim (own.tie e other.digits (other.nearest d own.digits)) [
+unique n a b d e own other = elim (own.tie_to_even e other.digits (other.nearest d own.digits)) [
   | inl same ↦ same
-  | inr first ↦ elim (other.tie d own.digits (own.nearest e other.digits)) [
+  | inr first ↦ elim (other.tie_to_even d own.digits (own.nearest e other.digits)) [
     | inl same ↦ sym same
     | inr second ↦ absurd (both first second)
   ]

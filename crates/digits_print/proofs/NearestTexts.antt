@@ -15,8 +15,8 @@ nearest_text law x n text kept some is = by_num x.num refl is
     nearest : (m : ℕ) → unsigned_abs x.num ≡ suc m → text ≡ digits_text x n → IsNearestText x n text
     nearest m e is = record {
       decimal = rounding_of n (unsigned_abs x.num) x.den;
-      nearest = (law n (unsigned_abs x.num) x.den (omega arith) (omega arith) kept.reduced.positive).0;
-      text_is = is ∙ rw (ap (λ k. k == 0) e ∙ other m) refl;
+      nearest = (law n (unsigned_abs x.num) x.den (omega arith) (omega arith) kept.lowest_terms.den_positive).0;
+      decimal_spelled = is ∙ rw (ap (λ k. k == 0) e ∙ other m) refl;
     }
       where
         other : (m : ℕ) → (suc m == 0) ≡ false

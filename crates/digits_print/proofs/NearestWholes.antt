@@ -6,7 +6,7 @@ use Rattle.frac128.specs.Nearest.{IsNearestWhole, NearestWholeLaw, distance}
 -- a whole number that is as near as the nearest one is equal to it, or is odd while the nearest one is even
 pub other_odd : NearestWholeLaw → (a b m e : ℕ) → 0 < b → IsNearestWhole a b m → distance a b e ≤ distance a b m
     → (e ≡ m) ⊎ ((m % 2 ≡ 0) × (e % 2 ≡ 1))
-other_odd law a b m e some is h = elim (is.tie e same) [
+other_odd law a b m e some is h = elim (is.even_on_tie e same) [
   | inl one ↦ inl one
   | inr even ↦ by_last (e % 2) refl (omega arith) even
 ]
@@ -21,7 +21,7 @@ other_odd law a b m e some is h = elim (is.tie e same) [
     by_last zero last below even =
         let near_too : IsNearestWhole a b e = record {
           near = λ x. subst (λ g. g ≤ distance a b x) (sym same) (is.near x);
-          tie = λ x _. inr last;
+          even_on_tie = λ x _. inr last;
         } in
         inl ((law a b some).1 e near_too ∙ sym ((law a b some).1 m is))
     by_last (suc zero) last below even = inr (even, last)

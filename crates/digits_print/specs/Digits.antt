@@ -12,7 +12,7 @@ use Rattle.digits_print.specs.RatioRounding.{rounding_of}
 pub record IsNearestText (x : Fraction) (n : ℕ) (text : List ℕ) : Type 0 where
   pub decimal : Decimal
   pub nearest : IsNearest n (unsigned_abs x.num) x.den decimal
-  pub text_is : text ≡ sign_text (is_negative x) ++ decimal_text n decimal
+  pub decimal_spelled : text ≡ sign_text (is_negative x) ++ decimal_text n decimal
 
 -- the text is that of 0 or of the nearest decimal
 abbrev pub IsDigitsText : Fraction → ℕ → List ℕ → Type 0

@@ -18,25 +18,26 @@ sign_text false = []
 
 -- the text is an optional minus and a decimal numeral, which is also one of the product, and has the value x
 pub record ReadsAsWhole (text : List ℕ) (x : Fraction) : Type 0 where
-  pub negative : Bool
-  pub top : List ℕ
-  pub top_digits : IsNumeral 10 top
-  pub top_read : IsReadAs top (digits_value 10 top)
-  pub spelled : text ≡ sign_text negative ++ top
-  pub value : ratio (number_with_sign negative (digits_value 10 top)) (pos 1) ≡ Ok x
+  pub has_minus : Bool
+  pub numerator_digits : List ℕ
+  pub top_digits : IsNumeral 10 numerator_digits
+  pub top_read : IsReadAs numerator_digits (digits_value 10 numerator_digits)
+  pub spelled_whole : text ≡ sign_text has_minus ++ numerator_digits
+  pub value : ratio (number_with_sign has_minus (digits_value 10 numerator_digits)) (pos 1) ≡ Ok x
 
 -- the text is an optional minus and two decimal numerals, which are also numerals of the product, separated by a bar,
 -- and their quotient is x
 pub record ReadsAsQuotient (text : List ℕ) (x : Fraction) : Type 0 where
-  pub negative : Bool
-  pub top : List ℕ
+  pub has_minus : Bool
+  pub numerator_digits : List ℕ
   pub bottom : List ℕ
-  pub top_digits : IsNumeral 10 top
+  pub top_digits : IsNumeral 10 numerator_digits
   pub bottom_digits : IsNumeral 10 bottom
-  pub top_read : IsReadAs top (digits_value 10 top)
+  pub top_read : IsReadAs numerator_digits (digits_value 10 numerator_digits)
   pub bottom_read : IsReadAs bottom (digits_value 10 bottom)
-  pub spelled : text ≡ sign_text negative ++ top ++ codes "|" ++ bottom
-  pub value : ratio (number_with_sign negative (digits_value 10 top)) (pos (digits_value 10 bottom)) ≡ Ok x
+  pub spelled_quotient : text ≡ sign_text has_minus ++ numerator_digits ++ codes "|" ++ bottom
+  pub value : ratio (number_with_sign has_minus (digits_value 10 numerator_digits)) (pos (digits_value 10 bottom)) ≡ Ok
+      x
 
 -- law: the exact text of each fraction of the program reads as that fraction
 abbrev pub ExactLaw : Type 0

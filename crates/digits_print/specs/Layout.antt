@@ -33,8 +33,8 @@ abbrev pub scientific : List ℕ → ℤ → List ℕ
 scientific ds power = take 1 ds ++ fraction_part (drop 1 ds) ++ exponent_suffix power
 
 -- plain notation with k digits before the point
-abbrev pub plain : List ℕ → ℕ → List ℕ
-plain ds k = take k ds ++ fraction_part (drop k ds)
+abbrev pub plain_layout : List ℕ → ℕ → List ℕ
+plain_layout ds k = take k ds ++ fraction_part (drop k ds)
 
 -- plain notation with k zeros between the point and the first digit
 abbrev pub below_one : List ℕ → ℕ → List ℕ
@@ -42,7 +42,7 @@ below_one ds k = codes "0." ++ replicate k 48 ++ without_end_zeros ds
 
 -- n digits, the first of which has this power of ten, in plain notation if the power is from -4 to n - 1
 abbrev pub layout : ℕ → List ℕ → ℤ → List ℕ
-layout n ds (pos k) = if nat_lt k n then plain ds (k + 1) else scientific ds (pos k)
+layout n ds (pos k) = if nat_lt k n then plain_layout ds (k + 1) else scientific ds (pos k)
 layout n ds (negsuc k) = if nat_lt k 4 then below_one ds k else scientific ds (negsuc k)
 
 -- the text of a decimal with n digits

@@ -15,8 +15,8 @@ down (negsuc k) = 10 ^ suc k
 
 -- m is a whole number with n decimal digits, the first of which is not 0
 pub record HasDigits (n m : ℕ) : Type 0 where
-  pub least : 10 ^ (n - 1) ≤ m
-  pub below : m < 10 ^ n
+  pub lower_bound : 10 ^ (n - 1) ≤ m
+  pub upper_bound : m < 10 ^ n
 
 -- the distance of a decimal from a / b, times b and the `down` of the decimal
 unfoldable pub gap : ℕ → ℕ → Decimal → ℕ
@@ -39,4 +39,4 @@ IsPreferred d e = ((d.coefficient % 2 ≡ 0) × (e.coefficient % 2 ≡ 1))
 pub record IsNearest (n a b : ℕ) (d : Decimal) : Type 0 where
   pub digits : HasDigits n d.coefficient
   pub nearest : (e : Decimal) → HasDigits n e.coefficient → NoFarther a b d e
-  pub tie : (e : Decimal) → HasDigits n e.coefficient → NoFarther a b e d → (d ≡ e) ⊎ IsPreferred d e
+  pub tie_to_even : (e : Decimal) → HasDigits n e.coefficient → NoFarther a b e d → (d ≡ e) ⊎ IsPreferred d e

@@ -57,7 +57,7 @@ fn put_layout(
 // Appends the digits in plain notation, with `before` digits before the point.
 fn put_plain(text: &mut Vec<u8>, digits: &[u8], before: usize) -> Result<(), AllocError>
     requires { before ≤ length digits.now }
-    ensures { OnOk result (text.new.items ≡ text.old.items ++ spec.plain digits.now before) }
+    ensures { OnOk result (text.new.items ≡ text.old.items ++ spec.plain_layout digits.now before) }
 {
     let (whole, rest) = digits.split_at(before);
     text.extend_from_slice(whole)?;

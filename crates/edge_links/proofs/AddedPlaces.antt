@@ -38,7 +38,7 @@ module _ (s t : Owners) (nodes : List ℕ) (links : AreLinks s nodes) (begun : I
           size = let a = ap (λ (x : Owners). length x.names) h.1 ∙ length-append s.names (0 ∷ []) in let b =
               links.size in let d = h.0 in omega arith;
           places = λ i l. absurd (let a = (links.places i l).0.0 in let b = h.0 in omega arith);
-          named = λ x w. absurd (let a = w.0 in w.2 (omega arith));
+          head_of_name = λ x w. absurd (let a = w.0 in w.2 (omega arith));
           idle = λ x. ap (λ (o : Owners). get_or o.waits x false) h.1 ∙ (down_at_end s.waits x ∙ links.idle x);
         }
   ]
@@ -93,7 +93,8 @@ module _ (s t : Owners) (nodes : List ℕ) (n v : ℕ) (e : AreEdges s.users s.k
 
   old_at : (p : ℕ) → p < n → edge_at t p ≡ edge_at s p
   old_at p l =
-      at_same s t p (u_old p l) (k_old p l) (name_old (user s p) (let a = e.within p (omega arith) in omega arith))
+      at_same s t p (u_old p l) (k_old p l)
+      (name_old (user s p) (let a = e.owners_within p (omega arith) in omega arith))
       (name_old (key_of s p) (let a = e.key_within p (omega arith) in omega arith))
 
   pub grown_edges_shown : edges_below t (length t.users) ≡ edges_below s (length s.users)
@@ -114,7 +115,7 @@ module _ (s t : Owners) (nodes : List ℕ) (n v : ℕ) (e : AreEdges s.users s.k
     | inl q ↦ (λ _. q, λ _. q)
     | inr ne ↦
         let low : p < n = let a = grown_size in omega arith in (
-          λ h. absurd (let a = u_old p low in let b = e.within p (omega arith) in omega arith),
+          λ h. absurd (let a = u_old p low in let b = e.owners_within p (omega arith) in omega arith),
           λ h. absurd
               (let a = k_old p low in let b = e.key_within p (omega arith) in omega arith),
         )
@@ -154,12 +155,12 @@ module _ (s t : Owners) (nodes : List ℕ) (n v : ℕ) (e : AreEdges s.users s.k
             subst (λ x. IsHead t x × (get_or t.names x 0 ≡ i)) (sym (node_old i low))
             (old_head (get_or nodes i 0) o.0, name_old (get_or nodes i 0) (let a = o.0.0 in omega arith) ∙ o.1)
       ];
-      named = λ x h. elim (cases_eq x n) [
+      head_of_name = λ x h. elim (cases_eq x n) [
         | inl q ↦ subst (λ y. (get_or t.names y 0 < length nodes2) × (get_or nodes2 (get_or t.names y 0) 0 ≡ y)) (sym q)
             (let a = name_new in let b = nodes_size in omega arith, ap (λ k. get_or nodes2 k 0) name_new ∙ node_new)
         | inr ne ↦
             let low : x < n = let a = h.0 in let b = grown_size in omega arith in
-            let o = links.named x (head_old x low h) in
+            let o = links.head_of_name x (head_old x low h) in
             let same : get_or t.names x 0 ≡ get_or s.names x 0 = name_old x low in (
               let a = o.0 in let b = nodes_size in omega arith,
               ap (λ k. get_or nodes2 k 0) same
@@ -209,11 +210,11 @@ module _ (s t : Owners) (nodes : List ℕ) (n v : ℕ) (e : AreEdges s.users s.k
             (let a = free_size in omega arith, uf_old (get_or nodes i 0) low ∙ o.0.1, o.0.2),
             wname_old (get_or nodes i 0) low ∙ o.1,
           );
-      named = λ x h. elim (cases_eq x n) [
+      head_of_name = λ x h. elim (cases_eq x n) [
         | inl q ↦ absurd (h.2 (sym h.1 ∙ (ap (user w) q ∙ uf_new)))
         | inr ne ↦
             let low : x < n = let a = h.0 in let b = free_size in omega arith in
-            let o = links.named x (omega arith, sym (uf_old x low) ∙ h.1, h.2) in
+            let o = links.head_of_name x (omega arith, sym (uf_old x low) ∙ h.1, h.2) in
             let same : get_or w.names x 0 ≡ get_or s.names x 0 = wname_old x low in
             (let a = o.0 in omega arith, ap (λ k. get_or nodes k 0) same ∙ o.1)
       ];
@@ -222,7 +223,8 @@ module _ (s t : Owners) (nodes : List ℕ) (n v : ℕ) (e : AreEdges s.users s.k
 
     free_at : (p : ℕ) → p < n → edge_at w p ≡ edge_at s p
     free_at p l =
-        at_same s w p (uf_old p l) (kf_old p l) (wname_old (user s p) (let a = e.within p (omega arith) in omega arith))
+        at_same s w p (uf_old p l) (kf_old p l)
+        (wname_old (user s p) (let a = e.owners_within p (omega arith) in omega arith))
         (wname_old (key_of s p) (let a = e.key_within p (omega arith) in omega arith))
 
     pub free_shown : graph_of w nodes
@@ -245,6 +247,6 @@ module _ (s t : Owners) (nodes : List ℕ) (n v : ℕ) (e : AreEdges s.users s.k
             let a = owned_more 0 t.users n (let z = grown_size in omega arith) (λ z. grown_zero (sym u_new ∙ z)) in
             let b : times 0 t.users - 1 ≡ times 0 s.users - 1 =
             ap (λ xs. times 0 xs - 1) us ∙ sym (spare_grown s.users n (times 0 s.users - 1) is refl) in
-            let d = owned_zero s.users some e.zero in
-            let f = owned_zero t.users (let z = grown_size in omega arith) (u_old 0 (omega arith) ∙ e.zero)
+            let d = owned_zero s.users some e.zero_owner in
+            let f = owned_zero t.users (let z = grown_size in omega arith) (u_old 0 (omega arith) ∙ e.zero_owner)
             in omega arith

@@ -45,13 +45,13 @@ module _ (n : ℕ) (next prev owner : ℕ → ℕ) (r : IsRing n next prev owner
   walk_start = record {
     here = (
       r.prev_in head there,
-      sym (r.own (prev head) (r.prev_in head there))
-          ∙ (ap owner (r.forth head there) ∙ is_head),
+      sym (r.same_owner (prev head) (r.prev_in head there))
+          ∙ (ap owner (r.next_of_prev head there) ∙ is_head),
     );
     owned = λ p l. absurd (omega (arith, l));
     once = λ p. omega arith;
     closed = λ p l. absurd (omega (arith, l));
-    next_met = inl (r.forth head there);
+    next_met = inl (r.next_of_prev head there);
   }
 
   more_met : (met : List ℕ) (y p : ℕ) → Met met p → Met (met ++ y ∷ []) p
@@ -64,8 +64,8 @@ module _ (n : ℕ) (next prev owner : ℕ → ℕ) (r : IsRing n next prev owner
     new_here : (prev place < n) × (owner (prev place) ≡ head)
     new_here = (
       r.prev_in place w.here.0,
-      sym (r.own (prev place) (r.prev_in place w.here.0))
-          ∙ (ap owner (r.forth place w.here.0) ∙ w.here.1),
+      sym (r.same_owner (prev place) (r.prev_in place w.here.0))
+          ∙ (ap owner (r.next_of_prev place w.here.0) ∙ w.here.1),
     )
 
     not_met : 0 < times place met → ⊥
@@ -97,7 +97,7 @@ module _ (n : ℕ) (next prev owner : ℕ → ℕ) (r : IsRing n next prev owner
         | inl e ↦ more_met met place (next p) (subst (λ q. Met met (next q)) (sym e) w.next_met)
         | inr m ↦ more_met met place (next p) (w.closed p m)
       ];
-      next_met = inr (subst (λ q. 0 < times q (met ++ place ∷ [])) (sym (r.forth place w.here.0)) here_met);
+      next_met = inr (subst (λ q. 0 < times q (met ++ place ∷ [])) (sym (r.next_of_prev place w.here.0)) here_met);
     }
       where
         first : (a b : ℕ) → a ≡ b + 1 → (0 < b → ⊥) → a ≤ 1
@@ -112,8 +112,10 @@ module _ (n : ℕ) (next prev owner : ℕ → ℕ) (r : IsRing n next prev owner
       | inl e ↦ inl e
       | inr ne ↦
           let less : r.rank (prev p) < r.rank p = r.falls p l (λ e. ne (sym e ∙ o)) in
-          let before : owner (prev p) ≡ head = sym (r.own (prev p) (r.prev_in p l)) ∙ (ap owner (r.forth p l) ∙ o) in
-          subst (λ q. Met met q) (r.forth p l) (elim (met_within d (prev p) (r.prev_in p l) before (omega arith)) [
+          let before : owner (prev p) ≡ head = sym (r.same_owner (prev p) (r.prev_in p l))
+          ∙ (ap owner (r.next_of_prev p l) ∙ o) in
+          subst (λ q. Met met q) (r.next_of_prev p l)
+          (elim (met_within d (prev p) (r.prev_in p l) before (omega arith)) [
             | inl e ↦ subst (λ q. Met met (next q)) (sym e) w.next_met
             | inr m ↦ w.closed (prev p) m
           ])
@@ -171,7 +173,7 @@ walking_less r head place met w on =
 -- a walk that is back at the head has met all members
 pub walking_end : (r : Ring) (head : ℕ) (met : List ℕ) → IsWalking r head head met → AreMembers r.owner head met
 walking_end r head met w = record {
-  owned = λ p l. let o = w.walk.owned p l in (o.0, o.1, o.2);
+  members_owned = λ p l. let o = w.walk.owned p l in (o.0, o.1, o.2);
   once = all_met (length r.owner) (λ k. get_or r.next k 0) (λ k. get_or r.prev k 0)
       (λ k. get_or r.owner k 0) w.rings.ring head w.there
       w.is_head met w.walk;

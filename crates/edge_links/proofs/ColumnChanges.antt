@@ -13,7 +13,7 @@ use Rattle.edge_links.specs.WaitingStack.{AreWaiting}
 use Rattle.edge_links.proofs.OneMorePlace.{no_rings, grown_ring}
 use Rattle.edge_links.proofs.RingJoins.{with_joined}
 use Rattle.edge_links.proofs.RingLeaves.{without}
-use Rattle.edge_links.proofs.WaitingPlaces.{none_waiting, grown}
+use Rattle.edge_links.proofs.WaitingPlaces.{none_waiting, waiting_with_place}
 
 -- the owners on a side are those of its ring
 pub owners_at : (side : Side) (c : Columns) → owners_of side (owners c) ≡ (ring_of side c).owner
@@ -42,7 +42,7 @@ pub relinked : (side : Side) (c : Columns) (top : Option ℕ) (r : Ring) → Are
 relinked User c top r l are size = record {
   users = are;
   keys = l.keys;
-  waiting = l.waiting;
+  waiting_stack = l.waiting_stack;
   users_size = size ∙ l.users_size;
   keys_size = l.keys_size;
   waits_size = l.waits_size;
@@ -50,7 +50,7 @@ relinked User c top r l are size = record {
 relinked Key c top r l are size = record {
   users = l.users;
   keys = are;
-  waiting = l.waiting;
+  waiting_stack = l.waiting_stack;
   users_size = l.users_size;
   keys_size = size ∙ l.keys_size;
   waits_size = l.waits_size;
@@ -69,7 +69,7 @@ pub rewaiting : (c : Columns) (top top2 : Option ℕ) (waits : List Bool) (behin
 rewaiting c top top2 waits behind l size w = record {
   users = l.users;
   keys = l.keys;
-  waiting = w;
+  waiting_stack = w;
   users_size = l.users_size;
   keys_size = l.keys_size;
   waits_size = size ∙ l.waits_size;
@@ -101,7 +101,7 @@ pub none_linked : AreLinked no_columns None
 none_linked = record {
   users = no_rings;
   keys = no_rings;
-  waiting = none_waiting;
+  waiting_stack = none_waiting;
   users_size = refl;
   keys_size = refl;
   waits_size = refl;
@@ -113,7 +113,7 @@ pub grown_linked : (c : Columns) (top : Option ℕ) (p name : ℕ) → AreLinked
 grown_linked c top p name l e = record {
   users = grown_ring c.users p l.users (e ∙ sym l.users_size);
   keys = grown_ring c.keys p l.keys (e ∙ sym l.keys_size);
-  waiting = grown c.waits c.behind top l.waiting;
+  waiting_stack = waiting_with_place c.waits c.behind top l.waiting_stack;
   users_size = longer c.users.owner c.names p name l.users_size;
   keys_size = longer c.keys.owner c.names p name l.keys_size;
   waits_size = longer c.waits c.names false name l.waits_size;

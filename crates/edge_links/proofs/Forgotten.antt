@@ -99,7 +99,7 @@ module _ (s : Owners) (e : AreEdges s.users s.keys) (nodes : List ℕ) (links : 
       → IsAffectedNode old key (get_or s.names (user s p) 0)
       → IsEdgeOfAffected s (get_or nodes key 0) p
   affected_cut_off p l a b f =
-      let h = links.named (user s p) (user_head s e nodes links p l b) in (
+      let h = links.head_of_name (user s p) (user_head s e nodes links p l b) in (
         a,
         b,
         subst (λ z. place.IsAffectedPlace s (get_or nodes key 0) z) h.1
@@ -128,8 +128,8 @@ module _ (s : Owners) (e : AreEdges s.users s.keys) (nodes : List ℕ) (links : 
 
   pub forgets : Forgets key old (edges_below t (length t.users))
   forgets = record {
-    gone = λ x y f. ap (λ m. edge_count (edges_below t m) x y) size ∙ counts_none t x y n (gone_at x y f);
-    kept = λ x y f. ap (λ m. edge_count (edges_below t m) x y) size ∙ counts_same s t x y n (kept_at x y f);
+    affected_cleared = λ x y f. ap (λ m. edge_count (edges_below t m) x y) size ∙ counts_none t x y n (gone_at x y f);
+    others_unchanged = λ x y f. ap (λ m. edge_count (edges_below t m) x y) size ∙ counts_same s t x y n (kept_at x y f);
   }
 
   -- for each place, its number of edges, plus 1 if it is free, does not change
@@ -160,14 +160,14 @@ module _ (s : Owners) (e : AreEdges s.users s.keys) (nodes : List ℕ) (links : 
 
   -- place 0 does not change
   zero_stays : 0 < n → get_or t.users 0 0 ≡ 0
-  zero_stays l = elim (cut 0 l) [ inl c ↦ c.1 | inr c ↦ c.1 ∙ e.zero ]
+  zero_stays l = elim (cut 0 l) [ inl c ↦ c.1 | inr c ↦ c.1 ∙ e.zero_owner ]
 
   pub spare_after : (times 0 t.users - 1) + length (edges_below t (length t.users)) ≡ (times 0 s.users - 1) + length old
   spare_after =
       let some : 0 < n = let h = (links.places key there).0.0 in omega arith in
       sums _ _ _ _ _ _ _ (weights n (omega arith)) (frees_times s.users)
       (ap (λ m. frees (user t) m) (sym size) ∙ frees_times t.users)
-      (owned_zero s.users some e.zero) (owned_zero t.users (omega arith) (zero_stays some))
+      (owned_zero s.users some e.zero_owner) (owned_zero t.users (omega arith) (zero_stays some))
       (ap (λ m. length (edges_below t m)) size)
     where
       sums : (a b d f g h i : ℕ) → a + b ≡ d + f → f ≡ g → b ≡ h → 1 ≤ g → 1 ≤ h → i ≡ a → (h - 1) + i ≡ (g - 1) + d
@@ -178,11 +178,11 @@ module _ (s : Owners) (e : AreEdges s.users s.keys) (nodes : List ℕ) (links : 
       → ((m : ℕ) → ((x : ℕ) → IsHead s x → place.IsAffectedPlace s head x → get_or s.names x 0 ≡ m → ⊥) → new m ≡ now m)
       → AreMarksCleared (IsAffectedNode old key) now new
   cleared now new gone kept = record {
-    gone = λ x f. let h = affected_there s e nodes links key x there f in
+    affected_cleared = λ x f. let h = affected_there s e nodes links key x there f in
         ap new (sym h.1)
         ∙ gone (get_or nodes x 0) h.0 (subst (λ z. place.IsAffectedPlace s z (get_or nodes x 0)) (sym is_head)
         (affected_down s e nodes links key x f));
-    kept = λ m f. kept m (λ x h a q. f (subst (λ z. IsAffectedNode old key z) q
+    others_unchanged = λ m f. kept m (λ x h a q. f (subst (λ z. IsAffectedNode old key z) q
         (affected_up s e nodes links key x there (subst (λ z. place.IsAffectedPlace s z x) is_head a))));
   }
 
@@ -190,18 +190,18 @@ module _ (s : Owners) (e : AreEdges s.users s.keys) (nodes : List ℕ) (links : 
   abbrev name : ℕ → ℕ
   name x = get_or s.names x 0
 
-  pub once : {M : Type 0} (IsCall : ℕ → M → M → Type 0) (m k : M)
+  pub clears_each_node : {M : Type 0} (IsCall : ℕ → M → M → Type 0) (m k : M)
       → ClearsPlacesOnce IsCall s.names (λ x. IsHead s x × place.IsAffectedPlace s head x) m k
       → ClearsEachOnce IsCall (IsAffectedNode old key) m k
-  once IsCall m k calls = record {
+  clears_each_node IsCall m k calls = record {
     nodes = map name calls.places;
     apart = apart_map name calls.places
-        (λ x y i j same. let a = links.named x ((calls.marks_affected x).0 i).0 in
-        let b = links.named y ((calls.marks_affected y).0 j).0 in
+        (λ x y i j same. let a = links.head_of_name x ((calls.marks_affected x).0 i).0 in
+        let b = links.head_of_name y ((calls.marks_affected y).0 j).0 in
         sym a.1 ∙ (ap (λ z. get_or nodes z 0) same ∙ b.1))
         calls.apart;
     marks_affected = λ x. (λ i. named_affected x (contains_origin name x calls.places i), λ f. affected_named x f);
-    calls = calls.calls;
+    clears_by_calls = calls.clears_by_calls;
   }
     where
       named_affected : (x : ℕ) → ((p : ℕ) × Contains calls.places p × (name p ≡ x)) → IsAffectedNode old key x

@@ -16,8 +16,8 @@ same_heads s t nodes size same to from idle links = record {
   size = ap length same ∙ (links.size ∙ sym size);
   places = λ i l. let a =
       links.places i l in (to (get_or nodes i 0) a.0, ap (λ xs. get_or xs (get_or nodes i 0) 0) same ∙ a.1);
-  named = λ x h. subst (λ xs. (get_or xs x 0 < length nodes) × (get_or nodes (get_or xs x 0) 0 ≡ x)) (sym same)
-      (links.named x (from x h));
+  head_of_name = λ x h. subst (λ xs. (get_or xs x 0 < length nodes) × (get_or nodes (get_or xs x 0) 0 ≡ x)) (sym same)
+      (links.head_of_name x (from x h));
   idle = idle;
 }
 
@@ -78,7 +78,7 @@ module _ (s t : Owners) (nodes : List ℕ) (e : AreEdges s.users s.keys) (links 
   k_is = subst (λ z. IsHead s z × (get_or s.names z 0 ≡ b)) (sym rk) (links.places b bl)
 
   key_there : f.place < length s.keys
-  key_there = let z = e.keys_size in let y = f.there in omega arith
+  key_there = let z = e.keys_size in let y = f.place_within in omega arith
 
   apart : u ≡ f.place → ⊥
   apart q = u_is.0.2 (sym u_is.0.1 ∙ (ap (user s) q ∙ f.free.1))
@@ -89,13 +89,13 @@ module _ (s t : Owners) (nodes : List ℕ) (e : AreEdges s.users s.keys) (links 
   linked_counts x y =
       subst (λ (z : Owners). edge_count (edges_below z (length z.users)) x y
       ≡ edge_count (edge a b ∷ edges_below s (length s.users)) x y)
-      (sym f.filled)
-      (filled_counts s f.place u k f.there key_there f.free.1 f.free.0 apart u_is.0.2 a b x y u_is.1 k_is.1)
+      (sym f.slot_filled)
+      (filled_counts s f.place u k f.place_within key_there f.free.1 f.free.0 apart u_is.0.2 a b x y u_is.1 k_is.1)
 
   pub linked_links : AreLinks t nodes
   linked_links =
-      subst (λ (z : Owners). AreLinks z nodes) (sym f.filled)
-      (same_heads s (filled s f.place u k f.there key_there f.free.1 f.free.0 apart u_is.0.2) nodes
-      (filled_size s f.place u k f.there key_there f.free.1 f.free.0 apart u_is.0.2) refl
-      (filled_heads s f.place u k f.there key_there f.free.1 f.free.0 apart u_is.0.2)
-      (heads_filled s f.place u k f.there key_there f.free.1 f.free.0 apart u_is.0.2) links.idle links)
+      subst (λ (z : Owners). AreLinks z nodes) (sym f.slot_filled)
+      (same_heads s (filled s f.place u k f.place_within key_there f.free.1 f.free.0 apart u_is.0.2) nodes
+      (filled_size s f.place u k f.place_within key_there f.free.1 f.free.0 apart u_is.0.2) refl
+      (filled_heads s f.place u k f.place_within key_there f.free.1 f.free.0 apart u_is.0.2)
+      (heads_filled s f.place u k f.place_within key_there f.free.1 f.free.0 apart u_is.0.2) links.idle links)

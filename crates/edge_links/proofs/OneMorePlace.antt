@@ -14,10 +14,10 @@ no_rings = record {
   ring = record {
     next_in = λ p l. absurd (omega arith);
     prev_in = λ p l. absurd (omega arith);
-    back = λ p l. absurd (omega arith);
-    forth = λ p l. absurd (omega arith);
+    prev_of_next = λ p l. absurd (omega arith);
+    next_of_prev = λ p l. absurd (omega arith);
     own_in = λ p l. absurd (omega arith);
-    own = λ p l. absurd (omega arith);
+    same_owner = λ p l. absurd (omega arith);
     top = λ p l. absurd (omega arith);
     rank = λ p. p;
     falls = λ p l _. absurd (omega arith);
@@ -42,14 +42,16 @@ grown n next prev owner next2 prev2 owner2 r sn sp so en ep eo = record {
       (omega arith);
   prev_in = by_new n (λ p. prev2 p < n + 1) (λ p l. let a = sp p l in let b = r.prev_in p l in omega arith)
       (omega arith);
-  back = by_new n (λ p. prev2 (next2 p) ≡ p) (λ p l. ap prev2 (sn p l) ∙ (sp (next p) (r.next_in p l) ∙ r.back p l))
+  prev_of_next = by_new n (λ p. prev2 (next2 p) ≡ p)
+      (λ p l. ap prev2 (sn p l) ∙ (sp (next p) (r.next_in p l) ∙ r.prev_of_next p l))
       (ap prev2 en ∙ ep);
-  forth = by_new n (λ p. next2 (prev2 p) ≡ p) (λ p l. ap next2 (sp p l) ∙ (sn (prev p) (r.prev_in p l) ∙ r.forth p l))
+  next_of_prev = by_new n (λ p. next2 (prev2 p) ≡ p)
+      (λ p l. ap next2 (sp p l) ∙ (sn (prev p) (r.prev_in p l) ∙ r.next_of_prev p l))
       (ap next2 ep ∙ en);
   own_in = by_new n (λ p. owner2 p < n + 1) (λ p l. let a = so p l in let b = r.own_in p l in omega arith)
       (omega arith);
-  own = by_new n (λ p. owner2 (next2 p) ≡ owner2 p) (λ p l. ap owner2 (sn p l) ∙
-      (so (next p) (r.next_in p l) ∙ (r.own p l ∙ sym (so p l)))) (ap owner2 en);
+  same_owner = by_new n (λ p. owner2 (next2 p) ≡ owner2 p) (λ p l. ap owner2 (sn p l) ∙
+      (so (next p) (r.next_in p l) ∙ (r.same_owner p l ∙ sym (so p l)))) (ap owner2 en);
   top = by_new n (λ p. owner2 (owner2 p) ≡ owner2 p)
       (λ p l. ap owner2 (so p l) ∙ (so (owner p) (r.own_in p l) ∙ (r.top p l ∙ sym (so p l)))) (ap owner2 eo);
   rank = r.rank;

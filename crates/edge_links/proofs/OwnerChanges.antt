@@ -34,7 +34,7 @@ placed us ks q u k e l nz ul kl uq kq hu hk zz none =
     let k_no : (p : ℕ) → (p ≡ q → ⊥) → get_or (set ks q k) p 0 ≡ get_or ks p 0 = λ p r. get_or-set_other ks q p k 0 r in
     record {
       keys_size = ks_size ∙ (e.keys_size ∙ sym us_size);
-      zero = u_no 0 (λ r. nz (sym r)) ∙ e.zero;
+      zero_owner = u_no 0 (λ r. nz (sym r)) ∙ e.zero_owner;
       heads = λ p m. elim (cases_eq p q) [
         | inl r ↦ (λ h. absurd (uq (sym (u_at p r) ∙ (h ∙ r))), λ h. absurd (kq (sym (k_at p r) ∙ (h ∙ r))))
         | inr n ↦
@@ -47,10 +47,10 @@ placed us ks q u k e l nz ul kl uq kq hu hk zz none =
             let i : p < length us = omega arith in
             (λ h. k_no p n ∙ (e.free p i).0 (sym (u_no p n) ∙ h), λ h. u_no p n ∙ (e.free p i).1 (sym (k_no p n) ∙ h))
       ];
-      within = λ p m. elim (cases_eq p q) [
+      owners_within = λ p m. elim (cases_eq p q) [
         | inl r ↦ let a : get_or (set us q u) p 0 ≡ u = u_at p r in omega arith
         | inr n ↦ let i : p < length us = omega arith in let a : get_or (set us q u) p 0 ≡ get_or us p 0 =
-            u_no p n in let b = e.within p
+            u_no p n in let b = e.owners_within p
             i in omega arith
       ];
       key_within = λ p m. elim (cases_eq p q) [
@@ -79,9 +79,9 @@ placed us ks q u k e l nz ul kl uq kq hu hk zz none =
 pub freed_edges : (us ks : List ℕ) (q : ℕ) → AreEdges us ks → q < length us → (get_or us q 0 ≡ q → ⊥)
     → AreEdges (set us q 0) (set ks q 0)
 freed_edges us ks q e l ne =
-    let nz : q ≡ 0 → ⊥ = λ r. ne (ap (λ x. get_or us x 0) r ∙ (e.zero ∙ sym r)) in
+    let nz : q ≡ 0 → ⊥ = λ r. ne (ap (λ x. get_or us x 0) r ∙ (e.zero_owner ∙ sym r)) in
     let some : 0 < length us = omega arith in
-    placed us ks q 0 0 e l nz some some (λ r. nz (sym r)) (λ r. nz (sym r)) e.zero e.zero (λ h. h, λ h. h)
+    placed us ks q 0 0 e l nz some some (λ r. nz (sym r)) (λ r. nz (sym r)) e.zero_owner e.zero_owner (λ h. h, λ h. h)
     (λ p m _. owns_none us ks q e ne p m)
 
 -- a head that owns only itself becomes free
@@ -90,7 +90,7 @@ pub emptied_edges : (us ks : List ℕ) (q : ℕ) → AreEdges us ks → q < leng
     → AreEdges (set us q 0) (set ks q 0)
 emptied_edges us ks q e l nz alone =
     let some : 0 < length us = omega arith in
-    placed us ks q 0 0 e l nz some some (λ r. nz (sym r)) (λ r. nz (sym r)) e.zero e.zero (λ h. h, λ h. h)
+    placed us ks q 0 0 e l nz some some (λ r. nz (sym r)) (λ r. nz (sym r)) e.zero_owner e.zero_owner (λ h. h, λ h. h)
     (λ p m ne. (λ r. ne ((alone p m).0 r), λ r. ne ((alone p m).1 r)))
 
 -- a free place becomes an edge
@@ -120,9 +120,9 @@ grown_edges us ks n e a =
     λ P old new p l. by_new n P old new p (omega arith) in
     record {
       keys_size = ks_size ∙ sym us_size;
-      zero = elim (cases_eq n 0) [
+      zero_owner = elim (cases_eq n 0) [
         | inl z ↦ subst (λ m. get_or (us ++ n ∷ []) m 0 ≡ m) z u_new
-        | inr nz ↦ u_old 0 (omega arith) ∙ a.zero
+        | inr nz ↦ u_old 0 (omega arith) ∙ a.zero_owner
       ];
       heads = each (λ p. (get_or (us ++ n ∷ []) p 0 ≡ p) ↔ (get_or (ks ++ n ∷ []) p 0 ≡ p))
           (λ p l. (
@@ -137,13 +137,14 @@ grown_edges us ks n e a =
                 ∙ (a.free p (low p l)).1 (sym (k_old p l) ∙ h),
           ))
           (λ h. k_new ∙ (sym u_new ∙ h), λ h. u_new ∙ (sym k_new ∙ h));
-      within = each (λ p. get_or (us ++ n ∷ []) p 0 < length (us ++ n ∷ []))
-          (λ p l. let y = u_old p l in let z = a.within p (low p l) in omega arith) (omega arith);
+      owners_within = each (λ p. get_or (us ++ n ∷ []) p 0 < length (us ++ n ∷ []))
+          (λ p l. let y = u_old p l in let z = a.owners_within p (low p l) in omega arith) (omega arith);
       key_within = each (λ p. get_or (ks ++ n ∷ []) p 0 < length (us ++ n ∷ []))
           (λ p l. let y = k_old p l in let z = a.key_within p (low p l) in omega arith) (omega arith);
       top = each (λ p. get_or (us ++ n ∷ []) (get_or (us ++ n ∷ []) p 0) 0 ≡ get_or (us ++ n ∷ []) p 0)
           (λ p l. ap (λ x. get_or (us ++ n ∷ []) x 0) (u_old p l) ∙
-          (u_old (get_or us p 0) (let z = a.within p (low p l) in omega arith) ∙ (a.top p (low p l) ∙ sym (u_old p l))))
+          (u_old (get_or us p 0) (let z = a.owners_within p (low p l) in omega arith)
+          ∙ (a.top p (low p l) ∙ sym (u_old p l))))
           (ap (λ x. get_or (us ++ n ∷ []) x 0) u_new);
       key_top = each (λ p. get_or (us ++ n ∷ []) (get_or (ks ++ n ∷ []) p 0) 0 ≡ get_or (ks ++ n ∷ []) p 0)
           (λ p l. ap (λ x. get_or (us ++ n ∷ []) x 0) (k_old p l) ∙
@@ -180,7 +181,7 @@ spare_grown us n s l e =
 
 -- the number of free places fits in 64 bits
 pub spare_fits : (s : Owners) (spare : ℕ) → ArePlaces s spare → spare + 1 < 2 ^ 64
-spare_fits s spare p = let a = owned_le 0 s.users in let b = p.counted in let c = p.size in omega arith
+spare_fits s spare p = let a = owned_le 0 s.users in let b = p.spare_count in let c = p.size in omega arith
 
 -- setting an owner does not change the number of places
 still_sized : (us : List ℕ) (q u : ℕ) → length us < 2 ^ 64 → length (set us q u) < 2 ^ 64
@@ -191,7 +192,7 @@ pub freed_places : (s : Owners) (q spare : ℕ) → ArePlaces s spare → q < le
     → (get_or s.users q 0 ≡ 0 → ⊥) → ArePlaces (with_both s q 0 0) (spare + 1)
 freed_places s q spare p l no_head live = record {
   edges = freed_edges s.users s.keys q p.edges l no_head;
-  counted = spare_freed s.users q spare p.counted l p.edges.zero live;
+  spare_count = spare_freed s.users q spare p.spare_count l p.edges.zero_owner live;
   size = still_sized s.users q 0 p.size;
 }
 
@@ -202,7 +203,7 @@ pub emptied_places : (s : Owners) (q spare : ℕ) → ArePlaces s spare → q < 
     → ArePlaces (with_both s q 0 0) (spare + 1)
 emptied_places s q spare p l nz head alone = record {
   edges = emptied_edges s.users s.keys q p.edges l nz alone;
-  counted = spare_freed s.users q spare p.counted l p.edges.zero (λ z. nz (sym head ∙ z));
+  spare_count = spare_freed s.users q spare p.spare_count l p.edges.zero_owner (λ z. nz (sym head ∙ z));
   size = still_sized s.users q 0 p.size;
 }
 
@@ -214,7 +215,7 @@ pub filled_places : (s : Owners) (q u k spare : ℕ) → ArePlaces s spare → q
     → ArePlaces (with_both s q u k) (spare - 1)
 filled_places s q u k spare p l nz is_free ul kl unz knz hu hk = record {
   edges = filled_edges s.users s.keys q u k p.edges l nz is_free ul kl unz knz hu hk;
-  counted = spare_filled s.users q u spare p.counted l is_free unz;
+  spare_count = spare_filled s.users q u spare p.spare_count l is_free unz;
   size = still_sized s.users q u p.size;
 }
 
@@ -223,6 +224,6 @@ pub grown_places : (s : Owners) (p name spare : ℕ) → ArePlaces s spare → p
     → ArePlaces (with_head s p name) spare
 grown_places s p name spare places is fits = record {
   edges = grown_edges s.users s.keys p is places.edges;
-  counted = spare_grown s.users p spare is places.counted;
+  spare_count = spare_grown s.users p spare is places.spare_count;
   size = let a = length-append s.users (p ∷ []) in omega arith;
 }

@@ -68,7 +68,7 @@ module _ (s : Owners) (e : AreEdges s.users s.keys) (nodes : List ℕ) (links : 
 
   -- the user and the key of an edge are heads
   pub user_head : (p : ℕ) → p < length s.users → (user s p ≡ 0 → ⊥) → IsHead s (user s p)
-  user_head p l nz = (e.within p l, e.top p l, nz)
+  user_head p l nz = (e.owners_within p l, e.top p l, nz)
 
   pub key_head : (p : ℕ) → p < length s.users → (user s p ≡ 0 → ⊥) → IsHead s (key_of s p)
   key_head p l nz = (e.key_within p l, e.key_top p l, λ z. nz ((e.free p l).1 z))
@@ -76,8 +76,8 @@ module _ (s : Owners) (e : AreEdges s.users s.keys) (nodes : List ℕ) (links : 
   edge_down : (x y : ℕ) → HasEdge shown_edges x y → (p : ℕ) × IsEdge s p (get_or nodes x 0) (get_or nodes y 0)
   edge_down x y h =
       let t = stands s x y (length s.users) h in
-      let u = links.named (user s t.place) (user_head t.place t.there t.edge.1) in
-      let k = links.named (key_of s t.place) (key_head t.place t.there t.edge.1) in (
+      let u = links.head_of_name (user s t.place) (user_head t.place t.there t.edge.1) in
+      let k = links.head_of_name (key_of s t.place) (key_head t.place t.there t.edge.1) in (
         t.place,
         (
           t.there,
@@ -125,7 +125,7 @@ module _ (s : Owners) (e : AreEdges s.users s.keys) (nodes : List ℕ) (links : 
           → IsHead s (get_or nodes x 0) × (get_or s.names (get_or nodes x 0) 0 ≡ x)
       has_place x y h =
           let t = stands s x y (length s.users) h in
-          let n = links.named (user s t.place) (user_head t.place t.there t.edge.1) in
+          let n = links.head_of_name (user s t.place) (user_head t.place t.there t.edge.1) in
           links.places x (subst (λ z. z < length nodes) t.names_it.0 n.0)
   affected_there key x l (inr (further h r)) = has_place x _ h
     where
@@ -133,5 +133,5 @@ module _ (s : Owners) (e : AreEdges s.users s.keys) (nodes : List ℕ) (links : 
           → IsHead s (get_or nodes x 0) × (get_or s.names (get_or nodes x 0) 0 ≡ x)
       has_place x y h =
           let t = stands s x y (length s.users) h in
-          let n = links.named (user s t.place) (user_head t.place t.there t.edge.1) in
+          let n = links.head_of_name (user s t.place) (user_head t.place t.there t.edge.1) in
           links.places x (subst (λ z. z < length nodes) t.names_it.0 n.0)

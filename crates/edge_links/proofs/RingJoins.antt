@@ -22,13 +22,13 @@ module _ (n : ℕ) (next prev owner : ℕ → ℕ) (r : IsRing n next prev owner
   owner2 = update_at owner e h
 
   next_e : next e ≡ e
-  next_e = alone (next e) (r.next_in e there) (r.own e there ∙ is_own)
+  next_e = alone (next e) (r.next_in e there) (r.same_owner e there ∙ is_own)
 
   prev_e : prev e ≡ e
-  prev_e = ap prev (sym next_e) ∙ r.back e there
+  prev_e = ap prev (sym next_e) ∙ r.prev_of_next e there
 
   own_first : owner first ≡ h
-  own_first = r.own h head_there ∙ is_head
+  own_first = r.same_owner h head_there ∙ is_head
 
   first_e : first ≡ e → ⊥
   first_e q = apart (sym is_own ∙ (ap owner (sym q) ∙ own_first))
@@ -37,16 +37,16 @@ module _ (n : ℕ) (next prev owner : ℕ → ℕ) (r : IsRing n next prev owner
   first_in = r.next_in h head_there
 
   not_next_e : (x : ℕ) → x < n → (x ≡ e → ⊥) → next x ≡ e → ⊥
-  not_next_e x l f q = f (sym (r.back x l) ∙ (ap prev q ∙ prev_e))
+  not_next_e x l f q = f (sym (r.prev_of_next x l) ∙ (ap prev q ∙ prev_e))
 
   not_prev_e : (x : ℕ) → x < n → (x ≡ e → ⊥) → prev x ≡ e → ⊥
-  not_prev_e x l f q = f (sym (r.forth x l) ∙ (ap next q ∙ next_e))
+  not_prev_e x l f q = f (sym (r.next_of_prev x l) ∙ (ap next q ∙ next_e))
 
   not_next_first : (x : ℕ) → x < n → (x ≡ h → ⊥) → next x ≡ first → ⊥
-  not_next_first x l f q = f (sym (r.back x l) ∙ (ap prev q ∙ r.back h head_there))
+  not_next_first x l f q = f (sym (r.prev_of_next x l) ∙ (ap prev q ∙ r.prev_of_next h head_there))
 
   not_prev_h : (x : ℕ) → x < n → (x ≡ first → ⊥) → prev x ≡ h → ⊥
-  not_prev_h x l f q = f (sym (r.forth x l) ∙ ap next q)
+  not_prev_h x l f q = f (sym (r.next_of_prev x l) ∙ ap next q)
 
   at_h : next2 h ≡ e
   at_h = put_same (update_at next e first) h e h refl
@@ -119,20 +119,20 @@ module _ (n : ℕ) (next prev owner : ℕ → ℕ) (r : IsRing n next prev owner
     prev_in = by_prev (λ x. prev2 x < n) (subst (λ y. y < n) (sym before_first) there)
         (subst (λ y. y < n) (sym before_e) head_there)
         (λ x l a b. subst (λ y. y < n) (sym (before_other x a b)) (r.prev_in x l));
-    back = by_next (λ x. prev2 (next2 x) ≡ x) (ap prev2 at_h ∙ before_e) (ap prev2 at_e ∙ before_first)
+    prev_of_next = by_next (λ x. prev2 (next2 x) ≡ x) (ap prev2 at_h ∙ before_e) (ap prev2 at_e ∙ before_first)
         (λ x l a b. ap prev2 (at_other x a b)
-        ∙ (before_other (next x) (not_next_first x l a) (not_next_e x l b) ∙ r.back x l));
-    forth = by_prev (λ x. next2 (prev2 x) ≡ x) (ap next2 before_first ∙ at_e) (ap next2 before_e ∙ at_h)
+        ∙ (before_other (next x) (not_next_first x l a) (not_next_e x l b) ∙ r.prev_of_next x l));
+    next_of_prev = by_prev (λ x. next2 (prev2 x) ≡ x) (ap next2 before_first ∙ at_e) (ap next2 before_e ∙ at_h)
         (λ x l a b. ap next2 (before_other x a b)
-        ∙ (at_other (prev x) (not_prev_h x l a) (not_prev_e x l b) ∙ r.forth x l));
+        ∙ (at_other (prev x) (not_prev_h x l a) (not_prev_e x l b) ∙ r.next_of_prev x l));
     own_in = λ x l. elim (cases_eq x e) [
       | inl q ↦ subst (λ y. y < n) (sym (ap owner2 q ∙ own_e)) head_there
       | inr ne ↦ subst (λ y. y < n) (sym (own_other x ne)) (r.own_in x l)
     ];
-    own = by_next (λ x. owner2 (next2 x) ≡ owner2 x) (ap owner2 at_h ∙ (own_e ∙ sym own_h))
+    same_owner = by_next (λ x. owner2 (next2 x) ≡ owner2 x) (ap owner2 at_h ∙ (own_e ∙ sym own_h))
         (ap owner2 at_e ∙ (own_other first first_e ∙ (own_first ∙ sym own_e)))
         (λ x l a b. ap owner2 (at_other x a b)
-        ∙ (own_other (next x) (not_next_e x l b) ∙ (r.own x l ∙ sym (own_other x b))));
+        ∙ (own_other (next x) (not_next_e x l b) ∙ (r.same_owner x l ∙ sym (own_other x b))));
     top = λ x l. elim (cases_eq x e) [
       | inl q ↦ let a : owner2 x ≡ h = ap owner2 q ∙ own_e in ap owner2 a ∙ (own_h ∙ sym a)
       | inr ne ↦ ap owner2 (own_other x ne)

@@ -16,13 +16,13 @@ module _ (n : ℕ) (next prev owner : ℕ → ℕ) (r : IsRing n next prev owner
         | inr ne ↦
             let f : r.rank (prev p) < r.rank p = r.falls p q ne in
             let m : prev p < n = r.prev_in p q in
-            let g : owner (prev p) ≡ h = sym (r.own (prev p) m) ∙ (ap owner (r.forth p q) ∙ o) in
+            let g : owner (prev p) ≡ h = sym (r.same_owner (prev p) m) ∙ (ap owner (r.next_of_prev p q) ∙ o) in
             let k : prev p ≡ h = alone_within d h (prev p) l e m g (omega arith) in
-            sym (r.forth p q) ∙ (ap next k ∙ e)
+            sym (r.next_of_prev p q) ∙ (ap next k ∙ e)
       ]
 
-  pub alone : (h p : ℕ) → h < n → next h ≡ h → p < n → owner p ≡ h → p ≡ h
-  alone h p l e q o = alone_within (suc (r.rank p)) h p l e q o (omega arith)
+  pub lone_member : (h p : ℕ) → h < n → next h ≡ h → p < n → owner p ≡ h → p ≡ h
+  lone_member h p l e q o = alone_within (suc (r.rank p)) h p l e q o (omega arith)
 
   -- e is removed
   module _ (e : ℕ) (there : e < n) (no_head : owner e ≡ e → ⊥) where
@@ -51,7 +51,7 @@ module _ (n : ℕ) (next prev owner : ℕ → ℕ) (r : IsRing n next prev owner
     before_e q = let a : r.rank before ≡ r.rank e = ap r.rank q in let b = r.falls e there no_head in omega arith
 
     after_e : after ≡ e → ⊥
-    after_e q = before_e (ap prev (sym q) ∙ r.back e there)
+    after_e q = before_e (ap prev (sym q) ∙ r.prev_of_next e there)
 
     at_e : next2 e ≡ e
     at_e = put_same (update_at next before after) e e e refl
@@ -78,19 +78,19 @@ module _ (n : ℕ) (next prev owner : ℕ → ℕ) (r : IsRing n next prev owner
     own_other x a = put_other owner e e x a
 
     own_before : owner before ≡ owner e
-    own_before = sym (r.own before before_in) ∙ ap owner (r.forth e there)
+    own_before = sym (r.same_owner before before_in) ∙ ap owner (r.next_of_prev e there)
 
     not_next_e : (x : ℕ) → x < n → (x ≡ before → ⊥) → next x ≡ e → ⊥
-    not_next_e x l f q = f (sym (r.back x l) ∙ ap prev q)
+    not_next_e x l f q = f (sym (r.prev_of_next x l) ∙ ap prev q)
 
     not_next_after : (x : ℕ) → x < n → (x ≡ e → ⊥) → next x ≡ after → ⊥
-    not_next_after x l f q = f (sym (r.back x l) ∙ (ap prev q ∙ r.back e there))
+    not_next_after x l f q = f (sym (r.prev_of_next x l) ∙ (ap prev q ∙ r.prev_of_next e there))
 
     not_prev_e : (x : ℕ) → x < n → (x ≡ after → ⊥) → prev x ≡ e → ⊥
-    not_prev_e x l f q = f (sym (r.forth x l) ∙ ap next q)
+    not_prev_e x l f q = f (sym (r.next_of_prev x l) ∙ ap next q)
 
     not_prev_before : (x : ℕ) → x < n → (x ≡ e → ⊥) → prev x ≡ before → ⊥
-    not_prev_before x l f q = f (sym (r.forth x l) ∙ (ap next q ∙ r.forth e there))
+    not_prev_before x l f q = f (sym (r.next_of_prev x l) ∙ (ap next q ∙ r.next_of_prev e there))
 
     pub not_owner : (x : ℕ) → x < n → owner x ≡ e → ⊥
     not_owner x l q = no_head (ap owner (sym q) ∙ (r.top x l ∙ q))
@@ -119,21 +119,21 @@ module _ (n : ℕ) (next prev owner : ℕ → ℕ) (r : IsRing n next prev owner
       prev_in = by_prev (λ x. prev2 x < n) (subst (λ y. y < n) (sym back_e) there)
           (subst (λ y. y < n) (sym back_after) before_in)
           (λ x l a b. subst (λ y. y < n) (sym (back_other x a b)) (r.prev_in x l));
-      back = by_next (λ x. prev2 (next2 x) ≡ x) (ap prev2 at_e ∙ back_e) (ap prev2 at_before ∙ back_after)
+      prev_of_next = by_next (λ x. prev2 (next2 x) ≡ x) (ap prev2 at_e ∙ back_e) (ap prev2 at_before ∙ back_after)
           (λ x l a b. ap prev2 (at_other x a b)
-          ∙ (back_other (next x) (not_next_after x l b) (not_next_e x l a) ∙ r.back x l));
-      forth = by_prev (λ x. next2 (prev2 x) ≡ x) (ap next2 back_e ∙ at_e) (ap next2 back_after ∙ at_before)
+          ∙ (back_other (next x) (not_next_after x l b) (not_next_e x l a) ∙ r.prev_of_next x l));
+      next_of_prev = by_prev (λ x. next2 (prev2 x) ≡ x) (ap next2 back_e ∙ at_e) (ap next2 back_after ∙ at_before)
           (λ x l a b. ap next2 (back_other x a b)
-          ∙ (at_other (prev x) (not_prev_before x l b) (not_prev_e x l a) ∙ r.forth x l));
+          ∙ (at_other (prev x) (not_prev_before x l b) (not_prev_e x l a) ∙ r.next_of_prev x l));
       own_in = λ x l. elim (cases_eq x e) [
         | inl q ↦ subst (λ y. y < n) (sym (ap owner2 q ∙ own_e)) there
         | inr ne ↦ subst (λ y. y < n) (sym (own_other x ne)) (r.own_in x l)
       ];
-      own = by_next (λ x. owner2 (next2 x) ≡ owner2 x) (ap owner2 at_e)
+      same_owner = by_next (λ x. owner2 (next2 x) ≡ owner2 x) (ap owner2 at_e)
           (ap owner2 at_before
-          ∙ (own_other after after_e ∙ (r.own e there ∙ (sym own_before ∙ sym (own_other before before_e)))))
+          ∙ (own_other after after_e ∙ (r.same_owner e there ∙ (sym own_before ∙ sym (own_other before before_e)))))
           (λ x l a b. ap owner2 (at_other x a b)
-          ∙ (own_other (next x) (not_next_e x l a) ∙ (r.own x l ∙ sym (own_other x b))));
+          ∙ (own_other (next x) (not_next_e x l a) ∙ (r.same_owner x l ∙ sym (own_other x b))));
       top = λ x l. elim (cases_eq x e) [
         | inl q ↦ ap owner2 (ap owner2 q ∙ own_e) ∙ (own_e ∙ sym (ap owner2 q ∙ own_e))
         | inr ne ↦ ap owner2 (own_other x ne)
@@ -145,7 +145,7 @@ module _ (n : ℕ) (next prev owner : ℕ → ℕ) (r : IsRing n next prev owner
           (λ f. let a : r.rank (prev2 after) ≡ r.rank before = ap r.rank back_after in
           let b : r.rank before < r.rank e = r.falls e there no_head in
           let d : r.rank (prev after) < r.rank after = r.falls after after_in (λ q. f (own_other after after_e ∙ q)) in
-          let g : r.rank (prev after) ≡ r.rank e = ap r.rank (r.back e there) in omega arith)
+          let g : r.rank (prev after) ≡ r.rank e = ap r.rank (r.prev_of_next e there) in omega arith)
           (λ x l a b f.
           let d : r.rank (prev2 x) ≡ r.rank (prev x) = ap r.rank (back_other x a b) in
           let g : r.rank (prev x) < r.rank x = r.falls x l (λ q. f (own_other x b ∙ q)) in omega arith);

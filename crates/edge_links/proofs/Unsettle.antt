@@ -224,7 +224,7 @@ module _ (old : Owners) (old_edges : AreEdges old.users old.keys) (key : ℕ) (n
                     let nh : user old p ≡ p → ⊥ = λ q. w.2.0 (sym ((old_edges.heads p lo).0 q) ∙ ko) in
                     let nz : user old p ≡ 0 → ⊥ = λ q. x_facts.2 (sym ko ∙ (old_edges.free p lo).0 q) in
                     let edge : IsEdge old p y x = (lo, nh, nz, uo, ko) in (
-                      subst (λ z. z < length old.users) uo (old_edges.within p lo),
+                      subst (λ z. z < length old.users) uo (old_edges.owners_within p lo),
                       subst (λ z. user old z ≡ z) uo (old_edges.top p lo),
                       λ q. nz (uo ∙ q),
                       inr (elim x_facts.3
@@ -268,8 +268,8 @@ module _ (old : Owners) (old_edges : AreEdges old.users old.keys) (key : ℕ) (n
         still_set : get_or (set s0.waits x false) x false ≡ true → ⊥
         still_set q = let f = set_false s0.waits x in cc
 
-    pub step : IsUnsettling old v name marks now2 key Called2
-    step = record {
+    pub unsettling_goes_on : IsUnsettling old v name marks now2 key Called2
+    unsettling_goes_on = record {
       size = v_size ∙ (t_size ∙ (ap length same_users ∙ u.size));
       done = x ∷ u.done;
       each = each2;
@@ -307,13 +307,13 @@ module _ (old : Owners) (old_edges : AreEdges old.users old.keys) (key : ℕ) (n
       calls = called (map name u.done) u.calls;
     }
 
-  pub begin : (s : Owners) (marks : ℕ → Bool) (Called : List ℕ → Type 0) → Called []
+  pub unsettling_starts : (s : Owners) (marks : ℕ → Bool) (Called : List ℕ → Type 0) → Called []
       → ((x : ℕ) → get_or old.waits x false ≡ false) → key < length old.users
       → user old key ≡ key
       → (key ≡ 0 → ⊥)
       → s.users ≡ old.users → s.keys ≡ old.keys → ((x : ℕ) → Waits s x ↔ (Waits old x ⊎ (x ≡ key)))
       → IsUnsettling old s name marks marks key Called
-  begin s marks Called called idle l h nz us ks q = record {
+  unsettling_starts s marks Called called idle l h nz us ks q = record {
     size = ap length us;
     done = [];
     each = λ p m. inr (ap (λ xs. get_or xs p 0) us, ap (λ xs. get_or xs p 0) ks);

@@ -84,7 +84,8 @@ module _ (s : Owners) (e : AreEdges s.users s.keys) (nodes : List ℕ) (links : 
           ∙ sym (none (times p places) (not_owned ne) (has_user s x p))
       | inr h ↦ ap (λ es. edge_count es x key) (at_edge s p h.0 h.1) ∙ (zero_if _ (λ m.
           let f = count_found (get_or s.names (user s p) 0) (get_or s.names (key_of s p) 0) x key m in
-          ne (sym (links.named (key_of s p) (key_head s e nodes links p l h.1)).1 ∙ ap (λ y. get_or nodes y 0) f.1))
+          ne (sym (links.head_of_name (key_of s p) (key_head s e nodes links p l h.1)).1
+          ∙ ap (λ y. get_or nodes y 0) f.1))
           ∙ sym (none (times p places) (not_owned ne) (has_user s x p)))
     ]
   ]
@@ -94,10 +95,10 @@ module _ (s : Owners) (e : AreEdges s.users s.keys) (nodes : List ℕ) (links : 
       zero_if (suc k) f = absurd (f (omega arith))
 
       not_head : p ≡ head → times p places ≡ 0
-      not_head h = zero_if _ (λ m. (members.owned p m).2 h)
+      not_head h = zero_if _ (λ m. (members.members_owned p m).2 h)
 
       not_owned : (key_of s p ≡ head → ⊥) → times p places ≡ 0
-      not_owned f = zero_if _ (λ m. f (members.owned p m).1)
+      not_owned f = zero_if _ (λ m. f (members.members_owned p m).1)
 
       of_user : (a b y : ℕ) → b ≡ key → edge_count (edge a b ∷ []) y key ≡ cond (nat_eq a y) 1 0
       of_user a b y q = elim (cases_eq a y) [
@@ -116,7 +117,7 @@ module _ (s : Owners) (e : AreEdges s.users s.keys) (nodes : List ℕ) (links : 
       sums a b d f h i = omega arith
 
   pub member_there : (p : ℕ) → 0 < times p places → p < length s.users
-  member_there p l = let a = (members.owned p l).0 in let b = e.keys_size in omega arith
+  member_there p l = let a = (members.members_owned p l).0 in let b = e.keys_size in omega arith
 
   pub are_users : (users : List ℕ) → ((x : ℕ) → times x users ≡ summed (has_user s x) places)
       → AreUsers (edges_below s (length s.users)) key users

@@ -27,28 +27,28 @@ pub pushed : (q : List Bool) (behind : List (Option ℕ)) (top : Option ℕ) (x 
     → get_or q x false ≡ false
     → AreWaiting (set q x true) (set behind x top) (Some x)
 pushed q behind top x w l new =
-    let off : Contains w.places x → ⊥ = λ i. let e : get_or q x false ≡ true = (w.flags x).1 i in cc in
+    let off : Contains w.places x → ⊥ = λ i. let e : get_or q x false ≡ true = (w.flags_of_places x).1 i in cc in
     let n : x < length behind = let s = w.size in omega arith in
     let m : x < length (set behind x top) = let s = length-set behind x top in omega arith in
     record {
       size = length-set behind x top ∙ (w.size ∙ sym (length-set q x true));
       places = x ∷ w.places;
-      chain = (
+      stack_chain = (
         refl,
         m,
         subst (λ (o : Option ℕ). IsChain (set behind x top) o w.places) (sym (get_or-set_same behind x top None n))
-            (chain_set behind x top top w.places off w.chain),
+            (chain_set behind x top top w.places off w.stack_chain),
       );
-      flags = λ y. elim (cases_eq y x) [
+      flags_of_places = λ y. elim (cases_eq y x) [
         | inl e ↦ (
           λ _. contains_first y x w.places e,
           λ _. ap (λ k. get_or (set q x true) k false) e
               ∙ get_or-set_same q x true false l,
         )
         | inr ne ↦ (
-          λ h. contains_later y x w.places ((w.flags y).0 (sym (get_or-set_other q x y true false ne) ∙ h)),
+          λ h. contains_later y x w.places ((w.flags_of_places y).0 (sym (get_or-set_other q x y true false ne) ∙ h)),
           λ i. get_or-set_other q x y true false ne
-              ∙ (w.flags y).1 (elim (contains_cases y x w.places i) [ inl e ↦ absurd (ne e) | inr j ↦ j ]),
+              ∙ (w.flags_of_places y).1 (elim (contains_cases y x w.places i) [ inl e ↦ absurd (ne e) | inr j ↦ j ]),
         )
       ];
       apart = (off, w.apart);
@@ -56,7 +56,7 @@ pushed q behind top x w l new =
 
 -- if the stack has no top, no place is waiting
 pub nothing : (q : List Bool) (behind : List (Option ℕ)) (x : ℕ) → AreWaiting q behind None → get_or q x false ≡ false
-nothing q behind x w = none w.places w.chain (w.flags x).0
+nothing q behind x w = none w.places w.stack_chain (w.flags_of_places x).0
   where
     none : (xs : List ℕ) → IsChain behind None xs → (get_or q x false ≡ true → Contains xs x) → get_or q x false ≡ false
     none [] c f = false_from_ne_true _ (λ e. contains_none x (f e))
@@ -67,7 +67,7 @@ pub popped : (q : List Bool) (behind : List (Option ℕ)) (top : Option ℕ) (x 
     → AreWaiting q behind top
     → top ≡ Some x → after ≡ get_or behind x None
     → (x < length behind) × (x < length q) × (get_or q x false ≡ true) × AreWaiting (set q x false) behind after
-popped q behind top x after w t a = go w.places w.chain w.flags w.apart
+popped q behind top x after w t a = go w.places w.stack_chain w.flags_of_places w.apart
   where
     go : (xs : List ℕ) → IsChain behind top xs → ((y : ℕ) → (get_or q y false ≡ true) ↔ Contains xs y) → AreApart xs
         → (x < length behind) × (x < length q) × (get_or q x false ≡ true) × AreWaiting (set q x false) behind after
@@ -84,8 +84,8 @@ popped q behind top x after w t a = go w.places w.chain w.flags w.apart
           record {
             size = w.size ∙ sym (length-set q x false);
             places = xs;
-            chain = subst (λ (o : Option ℕ). IsChain behind o xs) (sym g) c.2;
-            flags = λ k. elim (cases_eq k x) [
+            stack_chain = subst (λ (o : Option ℕ). IsChain behind o xs) (sym g) c.2;
+            flags_of_places = λ k. elim (cases_eq k x) [
               | inl d ↦ (
                 λ h. absurd (let z : get_or (set q x false) k false ≡ false = ap (λ j. get_or (set q x false) j false) d
                     ∙ get_or-set_same
@@ -106,7 +106,7 @@ popped q behind top x after w t a = go w.places w.chain w.flags w.apart
 pub top_there : (q : List Bool) (behind : List (Option ℕ)) (top : Option ℕ) (x : ℕ) → AreWaiting q behind top
     → top ≡ Some x
     → (x < length behind) × (x < length q)
-top_there q behind top x w t = go w.places w.chain
+top_there q behind top x w t = go w.places w.stack_chain
   where
     go : (xs : List ℕ) → IsChain behind top xs → (x < length behind) × (x < length q)
     go [] c = absurd (let e : None ≡ Some x = sym c ∙ t in cc)
@@ -134,14 +134,15 @@ down_at_end (b ∷ q) zero = refl
 down_at_end (b ∷ q) (suc x) = down_at_end q x
 
 -- adding a place that is not waiting does not change the stack
-pub grown : (q : List Bool) (behind : List (Option ℕ)) (top : Option ℕ) → AreWaiting q behind top
+pub waiting_with_place : (q : List Bool) (behind : List (Option ℕ)) (top : Option ℕ) → AreWaiting q behind top
     → AreWaiting (q ++ false ∷ []) (behind ++ None ∷ []) top
-grown q behind top w = record {
+waiting_with_place q behind top w = record {
   size = let a = length-append q (false ∷ []) in let b = length-append behind (None ∷ []) in let d =
       w.size in omega arith;
   places = w.places;
-  chain = chain_grown behind top w.places w.chain;
-  flags = λ x. (λ h. (w.flags x).0 (sym (down_at_end q x) ∙ h), λ i. down_at_end q x ∙ (w.flags x).1 i);
+  stack_chain = chain_grown behind top w.places w.stack_chain;
+  flags_of_places = λ x.
+      (λ h. (w.flags_of_places x).0 (sym (down_at_end q x) ∙ h), λ i. down_at_end q x ∙ (w.flags_of_places x).1 i);
   apart = w.apart;
 }
 
@@ -167,8 +168,8 @@ pub none_waiting : AreWaiting [] [] None
 none_waiting = record {
   size = refl;
   places = [];
-  chain = refl;
-  flags = λ x. (λ h. absurd (no_flag x h), λ i. absurd (contains_none x i));
+  stack_chain = refl;
+  flags_of_places = λ x. (λ h. absurd (no_flag x h), λ i. absurd (contains_none x i));
   apart = tt;
 }
   where

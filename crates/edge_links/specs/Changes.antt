@@ -37,9 +37,9 @@ with_both s p user key = record s { users = slice_set s.users p user; keys = sli
 -- a free place became an edge
 pub record IsFilled (old : Owners) (user key : ℕ) (new : Owners) : Type 0 where
   pub place : ℕ
-  pub there : place < length old.users
+  pub place_within : place < length old.users
   pub free : (place ≡ 0 → ⊥) × (slice_index old.users place ≡ 0)
-  pub filled : new ≡ with_both old place user key
+  pub slot_filled : new ≡ with_both old place user key
 
 -- each place that began to wait is paid for by an edge that was removed
 abbrev pub IsPaid : Owners → Owners → Type 0

@@ -13,7 +13,7 @@ pub record ClearsEachOnce {M : Type 0} (IsCall : ℕ → M → M → Type 0) (Af
   pub nodes : List ℕ
   pub apart : AreApart nodes
   pub marks_affected : (x : ℕ) → Contains nodes x ↔ Affected x
-  pub calls : Clears IsCall nodes old new
+  pub clears_by_calls : Clears IsCall nodes old new
 
 -- exactly one call for the name of each affected place, in some order, and no other calls
 pub record ClearsPlacesOnce {M : Type 0} (IsCall : ℕ → M → M → Type 0) (names : List ℕ) (Affected : ℕ → Type 0)
@@ -21,4 +21,4 @@ pub record ClearsPlacesOnce {M : Type 0} (IsCall : ℕ → M → M → Type 0) (
   pub places : List ℕ
   pub apart : AreApart places
   pub marks_affected : (x : ℕ) → Contains places x ↔ Affected x
-  pub calls : Clears IsCall (map (slice_index names) places) old new
+  pub clears_by_calls : Clears IsCall (map (slice_index names) places) old new

@@ -44,10 +44,10 @@ with_head s p name = record {
 -- heads own themselves, and edges belong to heads
 pub record AreEdges (users keys : List ℕ) : Type 0 where
   pub keys_size : length keys ≡ length users
-  pub zero : slice_index users 0 ≡ 0
+  pub zero_owner : slice_index users 0 ≡ 0
   pub heads : (p : ℕ) → p < length users → (slice_index users p ≡ p) ↔ (slice_index keys p ≡ p)
   pub free : (p : ℕ) → p < length users → (slice_index users p ≡ 0) ↔ (slice_index keys p ≡ 0)
-  pub within : (p : ℕ) → p < length users → slice_index users p < length users
+  pub owners_within : (p : ℕ) → p < length users → slice_index users p < length users
   pub key_within : (p : ℕ) → p < length users → slice_index keys p < length users
   pub top : (p : ℕ) → p < length users → slice_index users (slice_index users p) ≡ slice_index users p
   pub key_top : (p : ℕ) → p < length users → slice_index users (slice_index keys p) ≡ slice_index keys p
@@ -67,5 +67,5 @@ owned_count x owners = times x owners
 -- the number of free places, without place 0, is `spare`, and the number of places fits in 64 bits
 pub record ArePlaces (s : Owners) (spare : ℕ) : Type 0 where
   pub edges : AreEdges s.users s.keys
-  pub counted : spare ≡ owned_count 0 s.users - 1
+  pub spare_count : spare ≡ owned_count 0 s.users - 1
   pub size : length s.users < 2 ^ 64

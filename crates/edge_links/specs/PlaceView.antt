@@ -28,6 +28,6 @@ pub record AreLinks (s : Owners) (nodes : List ℕ) : Type 0 where
   pub size : length s.names ≡ length s.users
   pub places : (i : ℕ) → i < length nodes
       → IsHead s (slice_index nodes i) × (slice_index s.names (slice_index nodes i) ≡ i)
-  pub named : (x : ℕ) → IsHead s x
+  pub head_of_name : (x : ℕ) → IsHead s x
       → (slice_index s.names x < length nodes) × (slice_index nodes (slice_index s.names x) ≡ x)
   pub idle : (x : ℕ) → slice_index_or s.waits x false ≡ false

@@ -11,10 +11,10 @@ update_at f i v k = if nat_eq k i then v else f k
 pub record IsRing (n : ℕ) (next prev owner : ℕ → ℕ) : Type 0 where
   pub next_in : (p : ℕ) → p < n → next p < n
   pub prev_in : (p : ℕ) → p < n → prev p < n
-  pub back : (p : ℕ) → p < n → prev (next p) ≡ p
-  pub forth : (p : ℕ) → p < n → next (prev p) ≡ p
+  pub prev_of_next : (p : ℕ) → p < n → prev (next p) ≡ p
+  pub next_of_prev : (p : ℕ) → p < n → next (prev p) ≡ p
   pub own_in : (p : ℕ) → p < n → owner p < n
-  pub own : (p : ℕ) → p < n → owner (next p) ≡ owner p
+  pub same_owner : (p : ℕ) → p < n → owner (next p) ≡ owner p
   pub top : (p : ℕ) → p < n → owner (owner p) ≡ owner p
   pub rank : ℕ → ℕ
   pub falls : (p : ℕ) → p < n → (owner p ≡ p → ⊥) → rank (prev p) < rank p
@@ -25,5 +25,6 @@ pub record AreRings (r : Ring) : Type 0 where
 
 -- the places that a head owns, without the head, each once
 pub record AreMembers (owners : List ℕ) (head : ℕ) (places : List ℕ) : Type 0 where
-  pub owned : (p : ℕ) → 0 < times p places → (p < length owners) × (slice_index owners p ≡ head) × (p ≡ head → ⊥)
+  pub members_owned : (p : ℕ) → 0 < times p places → (p < length owners) × (slice_index owners p ≡ head)
+      × (p ≡ head → ⊥)
   pub once : (p : ℕ) → p < length owners → slice_index owners p ≡ head → (p ≡ head → ⊥) → times p places ≡ 1

@@ -15,8 +15,8 @@ IsChain behind top (x ∷ xs) = (top ≡ Some x) × (x < length behind) × IsCha
 pub record AreWaiting (waits : List Bool) (behind : List (Option ℕ)) (top : Option ℕ) : Type 0 where
   pub size : length behind ≡ length waits
   pub places : List ℕ
-  pub chain : IsChain behind top places
-  pub flags : (x : ℕ) → (slice_index_or waits x false ≡ true) ↔ Contains places x
+  pub stack_chain : IsChain behind top places
+  pub flags_of_places : (x : ℕ) → (slice_index_or waits x false ≡ true) ↔ Contains places x
   pub apart : AreApart places
 
 -- the number of waiting places

@@ -3,7 +3,7 @@ use Rattle.std.proofs.Common.{◌≡◌, ◌+◌, ◌≤◌, false, length, ap, 
 use Rattle.deck_lines.specs.ClosedBlocks.{AreBlocksClosed}
 use Rattle.deck_lines.specs.Limits.{pass_limit}
 use Rattle.deck.specs.Decks.{Contents}
-use Rattle.deck.specs.Splices.{SpliceInverseLaw, after_splice, inverse}
+use Rattle.deck.specs.Splices.{SpliceInverseLaw, after_splice, inverse_splice}
 use Rattle.deck.specs.declared.settings.Settings.{Settings}
 use Rattle.deck.specs.declared.splice.Splice.{Splice}
 use Rattle.edit_history.specs.declared.line_exchange.LineExchange.{LineExchange}
@@ -20,11 +20,11 @@ spliced e settings = splice e.at e.cut e.put settings
 pub exchanged_in_box : SpliceInverseLaw → (boxed taken back : LineExchange) (settings : Settings) (undo : Splice)
     (old new : Contents)
     → taken ≡ boxed → back ≡ lines_exchanged undo.at undo.cut undo.put
-    → new ≡ after_splice (spliced taken settings) old → undo ≡ inverse (spliced taken settings) old
+    → new ≡ after_splice (spliced taken settings) old → undo ≡ inverse_splice (spliced taken settings) old
     → settings ≡ old.settings → boxed.at + boxed.cut ≤ length old.lines → AreBlocksClosed old.lines
     → pass_limit old.lines ≡ false → IsMade (Exchange boxed) (Exchange back) old new
 exchanged_in_box law boxed taken back settings undo old new taken_is back_is is inverse_is same places closed within =
     exchanged law boxed.at boxed.cut boxed.put settings undo (Exchange back) old new
     (subst (λ (e : LineExchange). new ≡ after_splice (spliced e settings) old) taken_is is)
-    (subst (λ (e : LineExchange). undo ≡ inverse (spliced e settings) old) taken_is inverse_is) same
+    (subst (λ (e : LineExchange). undo ≡ inverse_splice (spliced e settings) old) taken_is inverse_is) same
     (ap Exchange back_is) places closed within

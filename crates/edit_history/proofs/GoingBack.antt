@@ -20,7 +20,7 @@ use Rattle.deck_lines.specs.Readings.{defined_by, entry_in, of_entry, reading_by
 use Rattle.deck_lines.specs.declared.line.DeckLine.{DeckLine}
 use Rattle.deck.specs.Decks.{Contents}
 use Rattle.deck.specs.Edits.{after_define, by_entry, with_line}
-use Rattle.deck.specs.Splices.{SpliceInverseLaw, after_splice, inverse, lines_from}
+use Rattle.deck.specs.Splices.{SpliceInverseLaw, after_splice, inverse_splice, lines_from}
 use Rattle.deck.specs.Tables.{last_place}
 use Rattle.deck.specs.LineRemoval.{CanUndefine, IsLastText, place_of_key, without_last}
 use Rattle.deck.specs.declared.fault.DeckFault.TheVariants.{BadLine}
@@ -52,7 +52,7 @@ pub record IsMade (s back : Step) (old new : Contents) : Type 0 where
 pub exchanged : SpliceInverseLaw → (at cut : ℕ) (put : List DeckLine) (settings : Settings) (undo : Splice)
     (back : Step)
     (old new : Contents)
-    → new ≡ after_splice (splice at cut put settings) old → undo ≡ inverse (splice at cut put settings) old
+    → new ≡ after_splice (splice at cut put settings) old → undo ≡ inverse_splice (splice at cut put settings) old
     → settings ≡ old.settings
     → back ≡ exchange_step undo.at undo.cut undo.put → at + cut ≤ length old.lines → AreBlocksClosed old.lines
     → pass_limit old.lines ≡ false
@@ -60,7 +60,7 @@ pub exchanged : SpliceInverseLaw → (at cut : ℕ) (put : List DeckLine) (setti
 exchanged law at cut put settings undo back old new is inverse_is same back_is places closed within = record {
   made = done;
   can = subst (λ b. CanStep b (version_of new)) (sym back_by)
-      (record { splice = can_go_back law s old new done places closed within; right = tt });
+      (record { splice = can_go_back law s old new done places closed within; step_right = tt });
   again =
       ap (λ b. after_step b (version_of new)) back_by
       ∙ version_by _ old.lines new.settings old.settings (lines_back law s old new done places)
@@ -98,14 +98,14 @@ module _ (text : List ℕ) (bare : trim_of text ≡ text) (covered : Option ℕ)
     pub can_undefine : CanStep (Undefine covered) (version_of new)
     can_undefine = record {
       splice = can_exchange (length new.lines - 1) 1 [] new.lines old.lines (omega (arith, one_more)) cut closed within;
-      right = record {
+      step_right = record {
         text = text;
-        before = version_of old;
+        earlier_version = version_of old;
         definition = record {
           bare = bare;
-          is_accepted = accepted_as text old.lines old.settings old.notices [] new accepted;
+          text_accepted = accepted_as text old.lines old.settings old.notices [] new accepted;
         };
-        is = ap version_of new_is;
+        text_is_last = ap version_of new_is;
         place = place;
       };
     }
@@ -166,20 +166,21 @@ defines text d e h = by_kind (has_entry (kind_of text)) refl h
 pub can_take : (uncovered : Option ℕ) (old : Contents) → IsLastDefined uncovered (version_of old)
     → CanUndefine uncovered old
 can_take uncovered old last =
-    let p = defines last.text (deck_of_version last.before) (with_line last.text (deck_of_version last.before))
-    last.definition.is_accepted
+    let p = defines last.text (deck_of_version last.earlier_version)
+    (with_line last.text (deck_of_version last.earlier_version))
+    last.definition.text_accepted
     in
     record {
-      front = last.before.lines;
+      lines_before = last.earlier_version.lines;
       line = plain_line 0 last.text;
       key = p.0.0;
       entry = p.0.1;
-      lines = ap (λ (v : Version). v.lines) last.is;
+      lines = ap (λ (v : Version). v.lines) last.text_is_last;
       defines = p.1;
       place = last.place
-          ∙ ap (option_and_then (λ e. last_place last.before.settings last.before.lines e.0)) p.1
-          ∙ ap (λ (s : Settings). last_place s last.before.lines p.0.0)
-          (sym (ap (λ (v : Version). v.settings) last.is));
+          ∙ ap (option_and_then (λ e. last_place last.earlier_version.settings last.earlier_version.lines e.0)) p.1
+          ∙ ap (λ (s : Settings). last_place s last.earlier_version.lines p.0.0)
+          (sym (ap (λ (v : Version). v.settings) last.text_is_last));
     }
 
 -- the last line was removed, and the step back appends it again
@@ -197,21 +198,22 @@ undefined uncovered text old new last taken text_is closed within = record {
       (record {
         splice = can_exchange (length before.lines) 0 (x ∷ []) before.lines old.lines (omega arith) put closed
             within;
-        right = last.definition;
+        step_right = last.definition;
       }));
   again =
       ap (λ t. after_step (Define t) (version_of new)) same ∙ ap (after_step (Define last.text)) there
-      ∙ version_by _ old.lines before.settings old.settings put (sym (ap (λ (v : Version). v.settings) last.is));
+      ∙ version_by _ old.lines before.settings old.settings put
+      (sym (ap (λ (v : Version). v.settings) last.text_is_last));
 }
   where
     before : Version
-    before = last.before
+    before = last.earlier_version
 
     x : DeckLine
     x = plain_line 0 last.text
 
     lines : old.lines ≡ before.lines ++ x ∷ []
-    lines = ap (λ (v : Version). v.lines) last.is
+    lines = ap (λ (v : Version). v.lines) last.text_is_last
 
     same : text ≡ last.text
     same = text_is before.lines x lines
@@ -232,4 +234,4 @@ undefined uncovered text old new last taken text_is closed within = record {
 
     there : version_of new ≡ before
     there = ap version_of taken ∙ version_by _ before.lines old.settings before.settings front
-        (ap (λ (v : Version). v.settings) last.is)
+        (ap (λ (v : Version). v.settings) last.text_is_last)

@@ -31,16 +31,16 @@ use Rattle.edit_history.proofs.Stepping.{can_exchange, can_go_back, cut_last, li
 
 -- with one more step, back to the version before, the history belongs to the deck after
 pub follows_noted : (s : Step) (old new : UndoStacks) (before after : Contents)
-    → new ≡ record { done = s ∷ old.done; undone = [] }
+    → new ≡ record { done_steps = s ∷ old.done_steps; undone = [] }
     → CanStep s (version_of after) → after_step s (version_of after) ≡ version_of before → IsHistoryOf old before
     → IsHistoryOf new after
 follows_noted s old new before after is can again f =
     subst (λ h. IsHistoryOf h after) (sym is)
-    (record { back = (can, subst (IsStepPath old.done) (sym again) f.back); forth = tt })
+    (record { done_path = (can, subst (IsStepPath old.done_steps) (sym again) f.done_path); undone_path = tt })
 
 -- a history with these lists
 abbrev course : (done undone : List Step) → UndoStacks
-course done undone = record { done = done; undone = undone }
+course done undone = record { done_steps = done; undone = undone }
 
 pub course_is : (s : Step) (done undone rest : List Step) → done ≡ s ∷ rest → undone ≡ []
     → course done (reverse undone) ≡ course (s ∷ rest) []
@@ -63,7 +63,7 @@ pub dropped : SpliceInverseLaw → (k : Key) (at : ℕ) (put : List DeckLine) (b
     → LeadsBack (exchange_step at 0 put) before after
 dropped law k at put before after last outcome put_is closed within = record {
   can = subst (λ ls. CanStep (exchange_step at 0 ls) (version_of after)) (sym put_is)
-      (record { splice = can_go_back law s before after is places closed within; right = tt });
+      (record { splice = can_go_back law s before after is places closed within; step_right = tt });
   again =
       ap (λ ls. after_step (exchange_step at 0 ls) (version_of after)) put_is
       ∙ version_by _ before.lines after.settings before.settings (lines_back law s before after is places)
@@ -89,7 +89,7 @@ appended at cut put more before after lines settings here all none closed within
   can = subst (λ ls. CanStep (exchange_step at cut ls) (version_of after)) (sym none)
       (record {
         splice = can_exchange at cut [] after.lines before.lines (omega (arith, all)) gone closed within;
-        right = tt;
+        step_right = tt;
       });
   again =
       ap (λ ls. after_step (exchange_step at cut ls) (version_of after)) none

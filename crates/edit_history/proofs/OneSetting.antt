@@ -26,24 +26,24 @@ pub puts_variable : (name value : List ℕ) (from to : Settings) → with_variab
     → PutsSettings (Set (name, value)) from to
 puts_variable name value from to is = record {
   splice = λ v e. ap (λ (s : Settings). settings_splice (with_variable s name value)) e ∙ ap settings_splice is;
-  right = λ v. tt;
+  step_right = λ v. tt;
 }
 
 pub takes_last : (from to : Settings) → without_last_variable from ≡ to → PutsSettings UnsetLast from to
 takes_last from to is = record {
   splice = λ v e. ap (λ (s : Settings). settings_splice (without_last_variable s)) e ∙ ap settings_splice is;
-  right = λ v. tt;
+  step_right = λ v. tt;
 }
 
 pub puts_locale : (locale : List ℕ) (from to : Settings) → with_locale from locale ≡ to
     → PutsSettings (Locale locale) from to
 puts_locale locale from to is = record {
   splice = λ v e. ap (λ (s : Settings). settings_splice (with_locale s locale)) e ∙ ap settings_splice is;
-  right = λ v. tt;
+  step_right = λ v. tt;
 }
 
 pub puts_nothing : (from to : Settings) → from ≡ to → PutsSettings Nothing from to
-puts_nothing from to is = record { splice = λ v e. ap settings_splice (e ∙ is); right = λ v. tt }
+puts_nothing from to is = record { splice = λ v e. ap settings_splice (e ∙ is); step_right = λ v. tt }
 
 -- a list without a last variable is unchanged by removing the last one
 pub no_last : (vars : Pairs) → slice_get vars (length vars - 1) ≡ None → take (length vars - 1) vars ≡ vars
@@ -63,7 +63,7 @@ leads_back back settings before after outcome puts closed within = record {
   can = record {
     splice = subst (λ (s : Splice). CanSplice s (deck_of_version (version_of after))) (sym splice)
         (can_exchange 0 0 [] after.lines before.lines (omega arith) lines closed within);
-    right = puts.right (version_of after);
+    step_right = puts.step_right (version_of after);
   };
   again =
       ap (λ (s : Splice). version_of (after_splice s (deck_of_version (version_of after)))) splice

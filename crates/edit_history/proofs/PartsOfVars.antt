@@ -139,8 +139,8 @@ pub same_pair : (vars others : Pairs) (i j : ℕ) (name value other_name other_v
 same_pair vars others i j name value other_name other_value names values here there named is valued =
     OnTrue_from values (IsSamePair vars i others j) (λ also. record {
       here = slice_get_within vars i (name, value) here;
-      there = slice_get_within others j (other_name, other_value) there;
-      same = here ∙ ap (λ n. Some (n, value)) ((bytes_eq-Decides name other_name).0 (sym named ∙ is))
+      index_within = slice_get_within others j (other_name, other_value) there;
+      pair_same = here ∙ ap (λ n. Some (n, value)) ((bytes_eq-Decides name other_name).0 (sym named ∙ is))
           ∙ ap (λ v. Some (other_name, v)) ((bytes_eq-Decides value other_value).0 (sym valued ∙ also)) ∙ sym there;
     })
 
@@ -148,13 +148,13 @@ same_pair vars others i j name value other_name other_value names values here th
 same_read : (vars others : Pairs) (i j : ℕ) (d : List ℕ × List ℕ) → IsSamePair vars i others j
     → get_or vars i d ≡ get_or others j d
 same_read vars others i j d is =
-    same_Some _ _ (sym (slice_get-get_or vars i d is.here) ∙ is.same ∙ slice_get-get_or others j d is.there)
+    same_Some _ _ (sym (slice_get-get_or vars i d is.here) ∙ is.pair_same ∙ slice_get-get_or others j d is.index_within)
 
 -- an equal pair extends the equal front
 pub front_step : (vars others : Pairs) (i : ℕ) → IsSamePair vars i others i → take i vars ≡ take i others
     → take (i + 1) vars ≡ take (i + 1) others
 front_step vars others i is same =
-    take_more_same vars others i ([], []) is.here is.there same (same_read vars others i i ([], []) is)
+    take_more_same vars others i ([], []) is.here is.index_within same (same_read vars others i i ([], []) is)
 
 -- an equal pair extends the equal end
 pub end_step : (vars others : Pairs) (m n : ℕ) → 0 < m → 0 < n → IsSamePair vars (m - 1) others (n - 1)
@@ -166,4 +166,4 @@ end_step vars others m n some more is same =
     ∙ ap (λ p. p ∷ drop (m - 1 + 1) vars) (same_read vars others (m - 1) (n - 1) ([], []) is)
     ∙ ap (λ (ps : Pairs). get_or others (n - 1) ([], []) ∷ ps)
     (ap (λ k. drop k vars) here ∙ same ∙ ap (λ k. drop k others) (sym there))
-    ∙ sym (drop_more others (n - 1) ([], []) is.there)
+    ∙ sym (drop_more others (n - 1) ([], []) is.index_within)

@@ -37,7 +37,12 @@ pub can_exchange : (at cut : ℕ) (put lines given : List DeckLine) → at + cut
     → exchanged_lines at cut put lines ≡ given →
     AreBlocksClosed given → pass_limit given ≡ false → CanExchange at cut put lines
 can_exchange at cut put lines given places is closed within =
-    record { places = places; closed = subst AreBlocksClosed (sym is) closed; within = ap pass_limit is ∙ within }
+    record {
+      range_within = places;
+      blocks_closed_after = subst AreBlocksClosed (sym is) closed;
+      within_limit =
+          ap pass_limit is ∙ within;
+    }
 
 -- a splice with these parts
 abbrev pub splice : ℕ → ℕ → List DeckLine → Settings → Splice

@@ -29,7 +29,7 @@ pub switched : (back : SettingsChange) (settings : Settings) (before after : Con
 switched back settings before after is gives distinct closed within = record {
   can = record {
     splice = can_exchange 0 0 [] after.lines before.lines (omega arith) lines closed within;
-    right = subst (λ (s : Settings). HasDistinctNames s.vars) (sym again) distinct;
+    step_right = subst (λ (s : Settings). HasDistinctNames s.vars) (sym again) distinct;
   };
   again = version_by after.lines before.lines (after_change back after.settings) before.settings lines again;
 }

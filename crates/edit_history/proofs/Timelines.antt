@@ -17,7 +17,8 @@ pub edit_noted : (old new : UndoStacks) (before after : Contents) → IsNoted ol
     → timeline new (version_of after) ≡ timeline_after_edit (version_of after) (timeline old (version_of before))
 edit_noted old new before after (s, is, back) =
     let here = version_of after in
-    ap (λ h. timeline h here) is ∙ ap (λ v. record { past = v ∷ step_versions old.done v; present = here; future = [] })
+    ap (λ h. timeline h here) is
+    ∙ ap (λ v. record { past = v ∷ step_versions old.done_steps v; present = here; future = [] })
     back
 
 -- the versions of the steps left, and those of the steps that were added
@@ -34,16 +35,16 @@ module _ (steps rest others more : List Step) (before after : Contents)
       (step_versions rest (after_step moved.step here))
       (after_step moved.step here) (here ∷ step_versions others here)
   left f =
-      ap (λ ss. f (step_versions rest there) there (step_versions ss there)) moved.put
-      ∙ ap (λ v. f (step_versions rest there) there (v ∷ step_versions others v)) moved.again
-      ∙ ap (λ v. f (step_versions rest v) v (here ∷ step_versions others here)) (ap version_of moved.made)
+      ap (λ ss. f (step_versions rest there) there (step_versions ss there)) moved.step_put
+      ∙ ap (λ v. f (step_versions rest there) there (v ∷ step_versions others v)) moved.step_restores
+      ∙ ap (λ v. f (step_versions rest v) v (here ∷ step_versions others here)) (ap version_of moved.splice_applied)
 
 pub undo_moved : (old new : UndoStacks) (before after : Shown) → IsUndone NothingToUndo old new before after (Ok tt)
     → undone (timeline old (version_of before.deck)) ≡ Some (timeline new (version_of after.deck))
 undo_moved old new before after (moved, edit) =
     let here = version_of before.deck in
-    ap (λ steps. undone_to (step_versions steps here) (timeline old here)) moved.taken
-    ∙ sym (ap Some (left old.done new.done old.undone new.undone before.deck after.deck moved
+    ap (λ steps. undone_to (step_versions steps here) (timeline old here)) moved.step_taken
+    ∙ sym (ap Some (left old.done_steps new.done_steps old.undone new.undone before.deck after.deck moved
     (λ past v future. record { past = past; present = v; future = future })))
 
 pub redo_moved : (old new : UndoStacks) (before after : Shown) → IsUndone NothingToRedo (swapped_stacks old)
@@ -52,8 +53,8 @@ pub redo_moved : (old new : UndoStacks) (before after : Shown) → IsUndone Noth
     → redone (timeline old (version_of before.deck)) ≡ Some (timeline new (version_of after.deck))
 redo_moved old new before after (moved, edit) =
     let here = version_of before.deck in
-    ap (λ steps. redone_to (step_versions steps here) (timeline old here)) moved.taken
-    ∙ sym (ap Some (left old.undone new.undone old.done new.done before.deck after.deck moved
+    ap (λ steps. redone_to (step_versions steps here) (timeline old here)) moved.step_taken
+    ∙ sym (ap Some (left old.undone new.undone old.done_steps new.done_steps before.deck after.deck moved
     (λ future v past. record { past = past; present = v; future = future })))
 
 none_left : (nothing : HistoryFault) (steps : List Step) → (nothing ≡ OutOfMemory → ⊥) → IsRefusal nothing steps nothing
@@ -67,7 +68,7 @@ pub no_undo : (old new : UndoStacks) (before after : Shown) → IsUndone Nothing
 no_undo old new before after (same, table, refused) =
     let here = version_of before.deck in
     ap (λ steps. undone_to (step_versions steps here) (timeline old here))
-    (none_left NothingToUndo old.done (λ e. cc) refused)
+    (none_left NothingToUndo old.done_steps (λ e. cc) refused)
 
 pub no_redo : (old new : UndoStacks) (before after : Shown)
     → IsUndone NothingToRedo (swapped_stacks old) (swapped_stacks new) before after (Err NothingToRedo)

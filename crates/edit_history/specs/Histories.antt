@@ -8,7 +8,7 @@ use Rattle.edit_history.specs.declared.step.Step.{Step}
 -- the steps that take back the edits done, the last edit first; and the steps that make the undone edits again, the one
 -- undone last first
 pub record UndoStacks : Type 0 where
-  pub done : List Step
+  pub done_steps : List Step
   pub undone : List Step
 
 -- steps that can be made one after another, beginning at a version
@@ -18,5 +18,5 @@ IsStepPath (s ∷ steps) v = CanStep s v × IsStepPath steps (after_step s v)
 
 -- a history belongs to this deck: the steps of both lists can be made from it
 pub record IsHistoryOf (h : UndoStacks) (d : Contents) : Type 0 where
-  pub back : IsStepPath h.done (version_of d)
-  pub forth : IsStepPath h.undone (version_of d)
+  pub done_path : IsStepPath h.done_steps (version_of d)
+  pub undone_path : IsStepPath h.undone (version_of d)

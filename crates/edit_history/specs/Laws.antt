@@ -32,7 +32,7 @@ pub record UndoRedoLaw : Type 0 where
   pub undo : (v : Version) (t : Timeline)
       → undone (timeline_after_edit v t) ≡ Some (record { past = t.past; present = t.present; future = v ∷ [] })
   pub redo : (t u : Timeline) → undone t ≡ Some u → redone u ≡ Some t
-  pub again : (t u : Timeline) → redone t ≡ Some u → undone u ≡ Some t
+  pub redo_then_undo : (t u : Timeline) → redone t ≡ Some u → undone u ≡ Some t
 
 -- law: decks of one version have one table, and so every reply to a conversion, a definition, a search or a `?` is the
 -- same, because each depends on the table alone

@@ -33,4 +33,4 @@ IsSwitch settings old new (Err refused) = new ≡ old
 -- `from`
 pub record PutsSettings (s : Step) (from to : Settings) : Type 0 where
   pub splice : (v : Version) → v.settings ≡ from → splice_of s v ≡ settings_splice to
-  pub right : (v : Version) → SaysRight s v
+  pub step_right : (v : Version) → SaysRight s v

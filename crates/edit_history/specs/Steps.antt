@@ -39,15 +39,15 @@ after_step s v = version_of (after_splice (splice_of s v) (deck_of_version v))
 -- `define` appends this line unchanged
 pub record IsDefinition (text : List ℕ) (v : Version) : Type 0 where
   pub bare : trim_of text ≡ text
-  pub is_accepted : after_define text (deck_of_version v) ≡ Ok (with_line text (deck_of_version v))
+  pub text_accepted : after_define text (deck_of_version v) ≡ Ok (with_line text (deck_of_version v))
 
 -- `define` appended the last line, and before that the line of its key that was in force had this place
 pub record IsLastDefined (uncovered : Option ℕ) (v : Version) : Type 0 where
   pub text : List ℕ
-  pub before : Version
-  pub definition : IsDefinition text before
-  pub is : v ≡ version_of (with_line text (deck_of_version before))
-  pub place : uncovered ≡ place_of_key text (deck_of_version before)
+  pub earlier_version : Version
+  pub definition : IsDefinition text earlier_version
+  pub text_is_last : v ≡ version_of (with_line text (deck_of_version earlier_version))
+  pub place : uncovered ≡ place_of_key text (deck_of_version earlier_version)
 
 -- a step is right about the line that it appends or removes, and no two variables have one name after it
 abbrev pub SaysRight : Step → Version → Type 0
@@ -59,4 +59,4 @@ SaysRight _ v = ⊤
 -- a step can be made in a version: the condition of its splice holds, and what it says is right
 pub record CanStep (s : Step) (v : Version) : Type 0 where
   pub splice : CanSplice (splice_of s v) (deck_of_version v)
-  pub right : SaysRight s v
+  pub step_right : SaysRight s v

@@ -19,7 +19,7 @@ step_versions (s ∷ steps) v = after_step s v ∷ step_versions steps (after_st
 
 -- the versions of a history, and the present one
 abbrev pub timeline : UndoStacks → Version → Timeline
-timeline h v = record { past = step_versions h.done v; present = v; future = step_versions h.undone v }
+timeline h v = record { past = step_versions h.done_steps v; present = v; future = step_versions h.undone v }
 
 -- the timeline after an edit that gives a version
 abbrev pub timeline_after_edit : Version → Timeline → Timeline

@@ -14,5 +14,5 @@ with_pairs pairs (p ∷ others) = with_pairs (with_value pairs p.0 p.1) others
 -- the pair at one place equals the pair at a place of others
 pub record IsSamePair (pairs : Pairs) (i : ℕ) (others : Pairs) (j : ℕ) : Type 0 where
   pub here : i < length pairs
-  pub there : j < length others
-  pub same : slice_get pairs i ≡ slice_get others j
+  pub index_within : j < length others
+  pub pair_same : slice_get pairs i ≡ slice_get others j

@@ -35,13 +35,13 @@ impl Model for History {
 
     ghost Value = { UndoStacks };
 
-    ghost view = { λ h. record { done = reverse h.done.items; undone = reverse h.undone.items } };
+    ghost view = { λ h. record { done_steps = reverse h.done.items; undone = reverse h.undone.items } };
 }
 
 impl History {
     /// Returns a history without edits. Allocates no memory.
     pub fn new(alloc: Global) -> History
-        ensures { result ≡ record { done = []; undone = [] } }
+        ensures { result ≡ record { done_steps = []; undone = [] } }
     {
         History {
             done: Vec::new(alloc),

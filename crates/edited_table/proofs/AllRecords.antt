@@ -8,7 +8,7 @@ use Rattle.csv.specs.Reading.{default_config, is_bom, records_from, records_next
 use Rattle.csv.specs.declared.parser.Config.{Config}
 use Rattle.csv.specs.declared.parser.State.{State}
 use Rattle.csv.specs.declared.parser.State.TheVariants as parser
-use Rattle.column_convert.specs.Blocks.{first}
+use Rattle.column_convert.specs.Blocks.{first_records}
 use Rattle.column_convert.specs.Inputs.{Input, input_of}
 use Rattle.column_convert.specs.Records.{Fields}
 
@@ -37,11 +37,11 @@ no_longer (a ∷ b ∷ c ∷ rest) = go (is_bom a b c)
     go false = omega arith
 
 pub all_first : (text : List ℕ) (number : ℕ) (header : Bool) (most : ℕ) → most ≡ length text + 1
-    → first most (input_of text number header) ≡ input_of text number header
+    → first_records most (input_of text number header) ≡ input_of text number header
 all_first text number header most is =
     let all : Input = input_of text number header in
-    ap (λ (left : List Fields). record { left = left; place = all.place; headed = all.headed })
-    (take_all most all.left
+    ap (λ (left : List Fields). record { records = left; place = all.place; has_header = all.has_header })
+    (take_all most all.records
     (omega (
       arith,
       is,
@@ -52,8 +52,8 @@ all_first text number header most is =
 -- the first records of a copy of the text are all of its records
 pub copy_first : (text copy : List ℕ) (number : ℕ) (header : Bool) (most : ℕ) (columns : Input) → copy ≡ text
     → columns ≡ input_of copy number header → most ≡ length text + 1
-    → first most columns ≡ input_of text number header
+    → first_records most columns ≡ input_of text number header
 copy_first text copy number header most columns same is enough =
-    ap (first most) is
-    ∙ ap (λ (t : List ℕ). first most (input_of t number header)) same
+    ap (first_records most) is
+    ∙ ap (λ (t : List ℕ). first_records most (input_of t number header)) same
     ∙ all_first text number header most enough

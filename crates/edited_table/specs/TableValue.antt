@@ -23,7 +23,7 @@ edited_code =
 abbrev pub table_without_edits : Contents → Edited
 table_without_edits deck =
     record {
-      table = record { deck = deck; kept = map_of.empty; reductions = 0 };
+      table = record { deck = deck; kept_outcomes = map_of.empty; reductions = 0 };
       history =
-          record { done = []; undone = [] };
+          record { done_steps = []; undone = [] };
     }

@@ -2,7 +2,8 @@
 use Rattle.std.proofs.Common.{◌≡◌, ◌<◌, ◌≤◌, ◌+◌, ℕ, zero, suc, Bool, true, false, ◌&&◌, List, [], ◌∷◌, ◌++◌, refl, ap}
 use Rattle.std.proofs.Common.{sym, ◌∙◌, append_assoc, arith}
 use Rattle.expr_tree.specs.Rules.{After, WantsOperand, EndsNumeral, EndsOperand}
-use Rattle.expr_tree.specs.Rules.{after, closes_paren, count_after, count_closes, count_deepens, count_opens, deepens}
+use Rattle.expr_tree.specs.Rules.{closes_paren, count_after, count_closes, count_deepens, count_opens, deepens}
+use Rattle.expr_tree.specs.Rules.{state_after_token}
 use Rattle.expr_tree.specs.Rules.{depth_after, left_by, may, opened_after, opens, tokens_fit}
 use Rattle.expr_tree.specs.Tokens.{Token, Numeral, Word, WordWithPower, Head, Root}
 use Rattle.expr_tree.specs.Tokens.{Plus, Minus, Open, Close}
@@ -17,9 +18,9 @@ counts-swap false false n = refl
 
 -- the state after a list of tokens with one more appended
 pub left_by-push : (last : After) (ts : List Token) (t : Token)
-    → left_by last (ts ++ t ∷ []) ≡ after t (left_by last ts)
+    → left_by last (ts ++ t ∷ []) ≡ state_after_token t (left_by last ts)
 left_by-push last [] t = refl
-left_by-push last (u ∷ ts) t = left_by-push (after u last) ts t
+left_by-push last (u ∷ ts) t = left_by-push (state_after_token u last) ts t
 
 -- the number of tokens that open a parenthesis, with one more token appended
 pub count_opens-push : (ts : List Token) (t : Token)
@@ -40,8 +41,9 @@ pub count_deepens-push : (last : After) (ts : List Token) (t : Token)
     → count_deepens last (ts ++ t ∷ []) ≡ count_after (deepens t (left_by last ts)) false (count_deepens last ts)
 count_deepens-push last [] t = refl
 count_deepens-push last (u ∷ ts) t =
-    ap (count_after (deepens u last) false) (count_deepens-push (after u last) ts t)
-    ∙ counts-swap (deepens u last) (deepens t (left_by (after u last) ts)) (count_deepens (after u last) ts)
+    ap (count_after (deepens u last) false) (count_deepens-push (state_after_token u last) ts t)
+    ∙ counts-swap (deepens u last) (deepens t (left_by (state_after_token u last) ts))
+    (count_deepens (state_after_token u last) ts)
 
 -- a step up or down preserves that the total is the current count plus the closed ones
 count-step : (up down : Bool) (total now closed : ℕ) → (up && down) ≡ false → (down ≡ true → 0 < now)
@@ -112,19 +114,19 @@ nothing-leaves = record { last_is = refl; opened_is = refl; depth_is = refl; les
 
 -- an allowed token fits in front of others if they fit in the state after it
 fits-cons : (last : After) (opened : ℕ) (t : Token) (rest : List Token) → may last opened t ≡ true
-    → tokens_fit last opened (t ∷ rest) ≡ tokens_fit (after t last) (opened_after t opened) rest
-fits-cons last opened t rest h = ap (λ b. b && tokens_fit (after t last) (opened_after t opened) rest) h
+    → tokens_fit last opened (t ∷ rest) ≡ tokens_fit (state_after_token t last) (opened_after t opened) rest
+fits-cons last opened t rest h = ap (λ b. b && tokens_fit (state_after_token t last) (opened_after t opened) rest) h
 
 -- the state after an allowed token is appended
 pub leaves-push : (before : List Token) (last : After) (opened depth : ℕ) (t : Token) → Leaves before last opened depth
     → may last opened t ≡ true
-    → Leaves (before ++ t ∷ []) (after t last) (opened_after t opened) (depth_after t last depth)
+    → Leaves (before ++ t ∷ []) (state_after_token t last) (opened_after t opened) (depth_after t last depth)
 leaves-push before last opened depth t l h =
     let open_enough : closes_paren t ≡ true → 0 < opened = some-open last opened t h in
     let deep_enough : closes_paren t ≡ true
     → 0 < depth = (λ k. (let o : 0 < opened = open_enough k in omega (arith, l.less))) in
     record {
-      last_is = left_by-push WantsOperand before t ∙ ap (after t) l.last_is;
+      last_is = left_by-push WantsOperand before t ∙ ap (state_after_token t) l.last_is;
       opened_is =
           count_opens-push before t
           ∙ count-step (opens t) (closes_paren t) (count_opens before) opened (count_closes before)

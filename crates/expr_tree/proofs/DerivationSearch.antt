@@ -21,7 +21,7 @@ use Rattle.expr_tree.specs.Tokens.{Token, Numeral, Word, WordWithPower, Head, Ro
 use Rattle.expr_tree.specs.Tokens.{Caret, Tilde, Open, Close}
 use Rattle.expr_tree.specs.declared.operator.Scale.TheVariants.{Multiply, Divide}
 use Rattle.expr_tree.specs.declared.operator.Sign.TheVariants as signs
-use Rattle.expr_tree.proofs.Derivations.{given}
+use Rattle.expr_tree.proofs.Derivations.{tree_of_fitting}
 use Rattle.expr_tree.proofs.SpelledTokens.{given_fits}
 use Rattle.expr_tree.specs.Front.{stops, can_begin_operand, after_sum, after_product, after_juxtaposition, after_power}
 use Rattle.expr_tree.specs.Front.{after_atom}
@@ -281,7 +281,7 @@ tree_fits binder ts e p = chosen _ e _ p
 pub tree_of_law : TreeOfLaw
 tree_of_law binder ts e = (
   λ p.
-      let x : (e' : Syntax) × GivesTree binder ts e' = given binder ts (tree_fits binder ts e p) in
+      let x : (e' : Syntax) × GivesTree binder ts e' = tree_of_fitting binder ts (tree_fits binder ts e p) in
       let s : Some x.0 ≡ Some e = sym (tree_found binder ts x.0 x.1) ∙ p in
       let q : x.0 ≡ e = cc in subst (GivesTree binder ts) q x.1,
   tree_found binder ts e,

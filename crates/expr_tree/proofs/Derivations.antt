@@ -145,9 +145,9 @@ mutual
   atom_at (suc n) k (t ∷ ts) l h b = cc
 
 -- tokens that fit give a tree
-pub given : (binder : Option (List ℕ)) (ts : List Token) → tokens_fit WantsOperand 0 ts ≡ true
+pub tree_of_fitting : (binder : Option (List ℕ)) (ts : List Token) → tokens_fit WantsOperand 0 ts ≡ true
     → (e : Syntax) × GivesTree binder ts e
-given binder ts h = go (sum_at (6 * length ts + 5) 0 ts (omega arith) h)
+tree_of_fitting binder ts h = go (sum_at (6 * length ts + 5) 0 ts (omega arith) h)
   where
     go : Front sum after_sum 0 ts → (e : Syntax) × GivesTree binder ts e
     go p = ended p.rest p.is p.stop p.fit

@@ -8,7 +8,8 @@ use Rattle.expr_tree.specs.declared.fault.ParseFault.TheVariants.{Syntax, Numera
 use Rattle.expr_tree.specs.Faults.{fault_from, first_fault, lexeme_fault, or_later, takes_numeral}
 use Rattle.expr_tree.specs.Lexemes.{Lexeme, Blank, Whole, TooLong, Malformed, Placed, lexemes, token_in, tokens}
 use Rattle.expr_tree.specs.Lexemes.{tokens_in}
-use Rattle.expr_tree.specs.Rules.{After, WantsOperand, after, count_closes, count_opens, depth_after, left_by}
+use Rattle.expr_tree.specs.Rules.{After, WantsOperand, count_closes, count_opens, depth_after, left_by}
+use Rattle.expr_tree.specs.Rules.{state_after_token}
 use Rattle.expr_tree.specs.Rules.{tokens_fit}
 use Rattle.expr_tree.specs.Rules.{may, may_end_tokens, open_parens, opened_after}
 use Rattle.expr_tree.specs.Tokens.{Token}
@@ -52,7 +53,7 @@ fits_next before last k depth place len Blank xs l f r next =
 fits_next before last k depth place len (Whole t) xs l f r next =
     let stands : (may last k t ≡ true) × (depth ≤ 64) = may-stand last k depth place t f in
     both_hold _ _ stands.0
-    (next (before ++ t ∷ []) (after t last) (opened_after t k) (depth_after t last depth)
+    (next (before ++ t ∷ []) (state_after_token t last) (opened_after t k) (depth_after t last depth)
     (leaves-push before last k depth t l stands.0) r)
 fits_next before last k depth place len TooLong xs l f r next = absurd (too_long (takes_numeral last) place f)
 fits_next before last k depth place len Malformed xs l f r next = cc

@@ -5,9 +5,9 @@ use Rattle.expr_tree.specs.Tokens.{Token, Numeral, Word, WordWithPower, Head, Ro
 use Rattle.expr_tree.specs.Front.{stops, can_begin_operand, after_sum, after_atom}
 
 -- if the conjunction of two tests holds, both tests hold
-pub both : (a b : Bool) → (a && b) ≡ true → (a ≡ true) × (b ≡ true)
-both true b e = (refl, e)
-both false b e = cc
+pub and_parts_hold : (a b : Bool) → (a && b) ≡ true → (a ≡ true) × (b ≡ true)
+and_parts_hold true b e = (refl, e)
+and_parts_hold false b e = cc
 
 -- if two tests hold, so does their conjunction
 pub both_hold : (a b : Bool) → a ≡ true → b ≡ true → (a && b) ≡ true
@@ -57,5 +57,5 @@ pub closing : (k : ℕ) (r : List Token) → stops after_sum r ≡ true → toke
     → (s : List Token) × (r ≡ Close ∷ s) × (tokens_fit EndsOperand k s ≡ true)
 closing k [] h f = let none_open : suc k ≡ 0 = eqb-true (suc k) 0 f in absurd (omega arith)
 closing k (Close ∷ s) h f = let one_less : suc k - 1 ≡ k =
-    omega arith in (s, refl, subst (λ i. tokens_fit EndsOperand i s ≡ true) one_less (both _ _ f).1)
+    omega arith in (s, refl, subst (λ i. tokens_fit EndsOperand i s ≡ true) one_less (and_parts_hold _ _ f).1)
 closing k (t ∷ s) h f = cc

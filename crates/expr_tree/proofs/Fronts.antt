@@ -26,7 +26,7 @@ pub word_front : (b : Option (List ℕ)) (k : ℕ) (w : List ℕ) (x y : List To
     → tokens_fit WantsOperand k x ≡ true → e ≡ word b w → AtomAt b k x e y
 word_front b k w x y e is h says =
     let f : tokens_fit EndsOperand k y ≡ true = fit_as k x _ is h in
-    record { made = WordAtom w; is = is; says = says; stop = ended_stops k y f; fit = f }
+    record { front_part = WordAtom w; tokens_split = is; tree_of_part = says; stop = ended_stops k y f; fit = f }
 
 -- a word with a power at the front is an atom
 pub word_power_front : (b : Option (List ℕ)) (k : ℕ) (w : List ℕ) (n : Decimal) (x y : List Token) (c e : Syntax)
@@ -35,9 +35,9 @@ pub word_power_front : (b : Option (List ℕ)) (k : ℕ) (w : List ℕ) (n : Dec
 word_power_front b k w n x y c e is h base says =
     let f : tokens_fit EndsOperand k y ≡ true = fit_as k x _ is h in
     record {
-      made = PowerAtom w n;
-      is = is;
-      says = says ∙ ap (λ z. tree.Power z (tree.Number n)) base;
+      front_part = PowerAtom w n;
+      tokens_split = is;
+      tree_of_part = says ∙ ap (λ z. tree.Power z (tree.Number n)) base;
       stop =
           ended_stops k y f;
       fit = f;
@@ -48,7 +48,7 @@ pub bar_front : (b : Option (List ℕ)) (k : ℕ) (n d : Decimal) (x y : List To
     → x ≡ Numeral n ∷ Bar ∷ Numeral d ∷ y → tokens_fit WantsOperand k x ≡ true → e ≡ tree.Bar n d → AtomAt b k x e y
 bar_front b k n d x y e is h says =
     let f : tokens_fit EndsOperand k y ≡ true = fit_as k x _ is h in
-    record { made = BarAtom n d; is = is; says = says; stop = ended_stops k y f; fit = f }
+    record { front_part = BarAtom n d; tokens_split = is; tree_of_part = says; stop = ended_stops k y f; fit = f }
 
 -- if no numeral follows after a `|`, no `|` follows
 no_denominator : (k : ℕ) (y : List Token) → first_denominator y ≡ None → tokens_fit EndsNumeral k y ≡ true
@@ -65,16 +65,16 @@ pub numeral_front : (b : Option (List ℕ)) (k : ℕ) (n : Decimal) (x y : List 
 numeral_front b k n x y e is alone h says =
     let f : (stops after_atom y ≡ true) × (tokens_fit EndsOperand k y ≡ true) =
     no_denominator k y alone (fit_as k x _ is h) in
-    record { made = NumeralAtom n; is = is; says = says; stop = f.0; fit = f.1 }
+    record { front_part = NumeralAtom n; tokens_split = is; tree_of_part = says; stop = f.0; fit = f.1 }
 
 -- a call at the front, up to its `)`, is an atom
 pub call_front : (b : Option (List ℕ)) (k : ℕ) (w : List ℕ) (x y z : List Token) (a e : Syntax) → x ≡ Head w ∷ y
     → IsSumInParens b k y a z → e ≡ call b w a → AtomAt b k x e z
 call_front b k w x y z a e is c says =
     record {
-      made = CallAtom w c.made;
-      is = is ∙ ap (λ v. Head w ∷ v) c.is;
-      says = says ∙ ap (call b w) c.says;
+      front_part = CallAtom w c.inner_sum;
+      tokens_split = is ∙ ap (λ v. Head w ∷ v) c.tokens_split;
+      tree_of_part = says ∙ ap (call b w) c.tree_of_sum;
       stop =
           ended_stops k z c.fit;
       fit = c.fit;
@@ -85,10 +85,10 @@ pub inverse_front : (b : Option (List ℕ)) (k : ℕ) (w : List ℕ) (x y z : Li
     → x ≡ Tilde ∷ Head w ∷ y → IsSumInParens b k y a z → e ≡ tree.Inverse w a → AtomAt b k x e z
 inverse_front b k w x y z a e is c says =
     record {
-      made = InverseAtom w c.made;
-      is = is ∙ ap (λ v. Tilde ∷ Head w ∷ v) c.is;
-      says =
-          says ∙ ap (tree.Inverse w) c.says;
+      front_part = InverseAtom w c.inner_sum;
+      tokens_split = is ∙ ap (λ v. Tilde ∷ Head w ∷ v) c.tokens_split;
+      tree_of_part =
+          says ∙ ap (tree.Inverse w) c.tree_of_sum;
       stop = ended_stops k z c.fit;
       fit = c.fit;
     }
@@ -98,10 +98,10 @@ pub root_front : (b : Option (List ℕ)) (k : ℕ) (n : RootKind) (x y z : List 
     → x ≡ Root n ∷ Open ∷ y → IsSumInParens b k y a z → e ≡ tree.Root n a → AtomAt b k x e z
 root_front b k n x y z a e is c says =
     record {
-      made = RootAtom n c.made;
-      is = is ∙ ap (λ v. Root n ∷ Open ∷ v) c.is;
-      says =
-          says ∙ ap (tree.Root n) c.says;
+      front_part = RootAtom n c.inner_sum;
+      tokens_split = is ∙ ap (λ v. Root n ∷ Open ∷ v) c.tokens_split;
+      tree_of_part =
+          says ∙ ap (tree.Root n) c.tree_of_sum;
       stop = ended_stops k z c.fit;
       fit = c.fit;
     }
@@ -112,9 +112,9 @@ pub group_front : (b : Option (List ℕ)) (k : ℕ) (x y z : List Token) (a e : 
     → e ≡ tree.Group a → AtomAt b k x e z
 group_front b k x y z a e is c says =
     record {
-      made = GroupAtom c.made;
-      is = is ∙ ap (λ v. Open ∷ v) c.is;
-      says = says ∙ ap tree.Group c.says;
+      front_part = GroupAtom c.inner_sum;
+      tokens_split = is ∙ ap (λ v. Open ∷ v) c.tokens_split;
+      tree_of_part = says ∙ ap tree.Group c.tree_of_sum;
       stop =
           ended_stops k z c.fit;
       fit = c.fit;
@@ -131,16 +131,23 @@ no_caret (t ∷ y) s c = refl
 pub bare_front : (b : Option (List ℕ)) (k : ℕ) (x y : List Token) (e : Syntax) → AtomAt b k x e y
     → first_caret y ≡ false → PowerAt b k x e y
 bare_front b k x y e a c =
-    record { made = Bare a.made; is = a.is; says = a.says; stop = no_caret y a.stop c; fit = a.fit }
+    record {
+      front_part = Bare a.front_part;
+      tokens_split = a.tokens_split;
+      tree_of_part = a.tree_of_part;
+      stop =
+          no_caret y a.stop c;
+      fit = a.fit;
+    }
 
 -- an atom with its exponent is a power
 pub raised_front : (b : Option (List ℕ)) (k : ℕ) (x y y' z : List Token) (a c e : Syntax) → AtomAt b k x a y
     → y ≡ Caret ∷ y' → ExponentAt b k y' c z → e ≡ tree.Power a c → PowerAt b k x e z
 raised_front b k x y y' z a c e p is q says =
     record {
-      made = Raised p.made q.made;
-      is = p.is ∙ ap (atom p.made) (is ∙ ap (λ v. Caret ∷ v) q.is);
-      says = says ∙ (λ i. tree.Power (p.says i) (q.says i));
+      front_part = Raised p.front_part q.front_part;
+      tokens_split = p.tokens_split ∙ ap (atom p.front_part) (is ∙ ap (λ v. Caret ∷ v) q.tokens_split);
+      tree_of_part = says ∙ (λ i. tree.Power (p.tree_of_part i) (q.tree_of_part i));
       stop = q.stop;
       fit = q.fit;
     }
@@ -148,16 +155,24 @@ raised_front b k x y y' z a c e p is q says =
 -- a power is an exponent
 pub exponent_front : (b : Option (List ℕ)) (k : ℕ) (x y : List Token) (e : Syntax) → PowerAt b k x e y
     → ExponentAt b k x e y
-exponent_front b k x y e p = record { made = ExponentOf p.made; is = p.is; says = p.says; stop = p.stop; fit = p.fit }
+exponent_front b k x y e p =
+    record {
+      front_part = ExponentOf p.front_part;
+      tokens_split = p.tokens_split;
+      tree_of_part = p.tree_of_part;
+      stop =
+          p.stop;
+      fit = p.fit;
+    }
 
 -- an exponent with a sign in front is an exponent
 pub signed_exponent_front : (b : Option (List ℕ)) (k : ℕ) (s : Sign) (x y z : List Token) (a e : Syntax)
     → x ≡ sign_token s ∷ y → ExponentAt b k y a z → e ≡ signed_syntax s a → ExponentAt b k x e z
 signed_exponent_front b k s x y z a e is q says =
     record {
-      made = SignedExponent s q.made;
-      is = is ∙ ap (λ v. sign_token s ∷ v) q.is;
-      says = says ∙ ap (signed_syntax s) q.says;
+      front_part = SignedExponent s q.front_part;
+      tokens_split = is ∙ ap (λ v. sign_token s ∷ v) q.tokens_split;
+      tree_of_part = says ∙ ap (signed_syntax s) q.tree_of_part;
       stop = q.stop;
       fit = q.fit;
     }
@@ -167,9 +182,9 @@ pub signed_front : (b : Option (List ℕ)) (k : ℕ) (s : Sign) (x y z : List To
     → JuxtapositionAt b k y a z → e ≡ signed_syntax s a → JuxtapositionAt b k x e z
 signed_front b k s x y z a e is q says =
     record {
-      made = Signed s q.made;
-      is = is ∙ ap (λ v. sign_token s ∷ v) q.is;
-      says = says ∙ ap (signed_syntax s) q.says;
+      front_part = Signed s q.front_part;
+      tokens_split = is ∙ ap (λ v. sign_token s ∷ v) q.tokens_split;
+      tree_of_part = says ∙ ap (signed_syntax s) q.tree_of_part;
       stop =
           q.stop;
       fit = q.fit;
@@ -208,4 +223,11 @@ no_sign_begins k (t ∷ x) h n = refl
 pub closed_front : (b : Option (List ℕ)) (k : ℕ) (x y z : List Token) (e : Syntax)
     → IsFront sum (sum_tree b) after_sum (suc k) x e y → y ≡ Close ∷ z → tokens_fit EndsOperand k z ≡ true
     → IsSumInParens b k x e z
-closed_front b k x y z e p is f = record { made = p.made; is = p.is ∙ ap (sum p.made) is; says = p.says; fit = f }
+closed_front b k x y z e p is f =
+    record {
+      inner_sum = p.front_part;
+      tokens_split = p.tokens_split ∙ ap (sum p.front_part) is;
+      tree_of_sum =
+          p.tree_of_part;
+      fit = f;
+    }

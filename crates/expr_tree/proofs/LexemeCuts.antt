@@ -15,9 +15,11 @@ use Rattle.expr_tree.specs.declared.lexeme.Piece.{Piece as MadePiece}
 use Rattle.expr_tree.specs.declared.token_state.Standing.{Standing}
 use Rattle.expr_tree.specs.declared.token.Token.{Token as Made}
 use Rattle.expr_tree.specs.Faults.{deepest, depth_behind, fault_from, first_fault, lexeme_fault, or_later}
-use Rattle.expr_tree.specs.Lexemes.{Lexeme, Blank, Whole, TooLong, Malformed, Piece, Placed, front, is_numeral_lexeme}
+use Rattle.expr_tree.specs.Lexemes.{Lexeme, Blank, Whole, TooLong, Malformed, Piece, Placed, first_piece}
+use Rattle.expr_tree.specs.Lexemes.{is_numeral_lexeme}
 use Rattle.expr_tree.specs.Lexemes.{lexemes_from, token_in, tokens, tokens_in}
-use Rattle.expr_tree.specs.Rules.{After, WantsOperand, after, closes_paren, count_after, count_closes, count_deepens}
+use Rattle.expr_tree.specs.Rules.{After, WantsOperand, closes_paren, count_after, count_closes, count_deepens}
+use Rattle.expr_tree.specs.Rules.{state_after_token}
 use Rattle.expr_tree.specs.Rules.{count_opens}
 use Rattle.expr_tree.specs.Rules.{deepens, depth_after, left_by, may, may_end_tokens, open_parens, opened_after}
 use Rattle.expr_tree.specs.Rules.{tokens_fit}
@@ -53,16 +55,19 @@ abbrev at : ℕ → Piece → Placed
 at place p = record { place = place; lexeme = p.lexeme }
 
 -- the lexemes of a text are the one at the front and those of the rest
-front-first : (after_numeral : Bool) (place : ℕ) (text : List ℕ) → 0 < length text → 0 < (front after_numeral text).len
+front-first : (after_numeral : Bool) (place : ℕ) (text : List ℕ) → 0 < length text
+    → 0 < (first_piece after_numeral text).len
     → lexemes_from zero after_numeral place text
-    ≡ at place (front after_numeral text)
-    ∷ lexemes_from zero (is_numeral_lexeme (front after_numeral text).lexeme) (place + (front after_numeral text).len)
-    (drop (front after_numeral text).len text)
+    ≡ at place (first_piece after_numeral text)
+    ∷ lexemes_from zero (is_numeral_lexeme (first_piece after_numeral text).lexeme)
+    (place + (first_piece after_numeral text).len)
+    (drop (first_piece after_numeral text).len text)
 unfolding lexemes_from
 front-first after_numeral place [] some moves = absurd (omega arith)
 front-first after_numeral place (b ∷ bs) some moves =
-    ap (λ rest. at place (front after_numeral (b ∷ bs)) ∷ rest)
-    (rest-of (front after_numeral (b ∷ bs)).len (is_numeral_lexeme (front after_numeral (b ∷ bs)).lexeme) place b bs
+    ap (λ rest. at place (first_piece after_numeral (b ∷ bs)) ∷ rest)
+    (rest-of (first_piece after_numeral (b ∷ bs)).len (is_numeral_lexeme (first_piece after_numeral (b ∷ bs)).lexeme)
+    place b bs
     moves)
 
 -- the lexemes of a text from a place on
@@ -71,17 +76,17 @@ ahead text after_numeral place = lexemes_from zero after_numeral place (drop pla
 
 -- the piece at the front is the first of these lexemes
 pub ahead-first : (text : List ℕ) (after_numeral : Bool) (place : ℕ) (p : Piece) → place < length text
-    → p ≡ front after_numeral (drop place text) → 0 < p.len
+    → p ≡ first_piece after_numeral (drop place text) → 0 < p.len
     → ahead text after_numeral place ≡ at place p ∷ ahead text (is_numeral_lexeme p.lexeme) (place + p.len)
 ahead-first text after_numeral place p inside is moves =
     subst (λ (q : Piece). 0 < q.len
     → ahead text after_numeral place ≡ at place q ∷ ahead text (is_numeral_lexeme q.lexeme) (place + q.len)) (sym is)
     (λ h.
     front-first after_numeral place (drop place text) (omega (arith, length-drop place text)) h
-    ∙ ap (λ bs. at place (front after_numeral (drop place text))
-    ∷ lexemes_from zero (is_numeral_lexeme (front after_numeral (drop place text)).lexeme)
-    (place + (front after_numeral (drop place text)).len) bs)
-    (drop-drop (front after_numeral (drop place text)).len place text))
+    ∙ ap (λ bs. at place (first_piece after_numeral (drop place text))
+    ∷ lexemes_from zero (is_numeral_lexeme (first_piece after_numeral (drop place text)).lexeme)
+    (place + (first_piece after_numeral (drop place text)).len) bs)
+    (drop-drop (first_piece after_numeral (drop place text)).len place text))
     moves
 
 -- at the end of the text there are no lexemes
@@ -130,7 +135,7 @@ fault_from-cons before len place x xs = refl
 pub fault-met : (text : List ℕ) (before : List Token) (last : After) (open_parens depth : ℕ) (after_numeral : Bool)
     (place : ℕ) (p : Piece) (fault : ParseFault)
     → IsRead text before last open_parens depth after_numeral place → place < length text
-    → p ≡ front after_numeral (drop place text) → 0 < p.len
+    → p ≡ first_piece after_numeral (drop place text) → 0 < p.len
     → lexeme_fault last open_parens depth place p.lexeme ≡ Some fault → first_fault text ≡ Some fault
 fault-met text before last open_parens depth after_numeral place p fault r inside is moves has =
     r.fault_is
@@ -145,7 +150,7 @@ no-fault : (text : List ℕ) (before : List Token) (last : After) (open_parens d
     (place : ℕ)
     (p : Piece)
     → IsRead text before last open_parens depth after_numeral place → place < length text
-    → p ≡ front after_numeral (drop place text) → 0 < p.len
+    → p ≡ first_piece after_numeral (drop place text) → 0 < p.len
     → lexeme_fault last open_parens depth place p.lexeme ≡ None
     → first_fault text
     ≡ fault_from (before ++ token_in p.lexeme) (length text) (ahead text (is_numeral_lexeme p.lexeme) (place + p.len))
@@ -162,7 +167,7 @@ more-tokens : (text : List ℕ) (before : List Token) (last : After) (open_paren
     (place : ℕ)
     (p : Piece)
     → IsRead text before last open_parens depth after_numeral place → place < length text
-    → p ≡ front after_numeral (drop place text) → 0 < p.len
+    → p ≡ first_piece after_numeral (drop place text) → 0 < p.len
     → tokens text ≡ (before ++ token_in p.lexeme) ++ tokens_in (ahead text (is_numeral_lexeme p.lexeme) (place + p.len))
 unfolding tokens_in
 more-tokens text before last open_parens depth after_numeral place p r inside is moves =
@@ -197,10 +202,10 @@ depth-step t last depth h = go (deepens t last) (closes_paren t)
 pub token-read : (text : List ℕ) (before : List Token) (last : After) (open_parens depth : ℕ) (after_numeral : Bool)
     (place : ℕ) (p : Piece) (t : Token)
     → IsRead text before last open_parens depth after_numeral place → place < length text
-    → p ≡ front after_numeral (drop place text)
+    → p ≡ first_piece after_numeral (drop place text)
     → p.lexeme ≡ Whole t → 0 < p.len → place + p.len ≤ length text
     → lexeme_fault last open_parens depth place p.lexeme ≡ None
-    → IsRead text (before ++ t ∷ []) (after t last) (opened_after t open_parens) (depth_after t last depth)
+    → IsRead text (before ++ t ∷ []) (state_after_token t last) (opened_after t open_parens) (depth_after t last depth)
     (is_numeral_lexeme p.lexeme) (place + p.len)
 token-read text before last open_parens depth after_numeral place p t r inside is whole moves within has =
     let stands : (may last open_parens t ≡ true) × (depth ≤ 64) =
@@ -231,7 +236,7 @@ none-in last open_parens depth place Malformed has other = refl
 pub blank-read : (text : List ℕ) (before : List Token) (last : After) (open_parens depth : ℕ) (after_numeral : Bool)
     (place : ℕ) (p : Piece)
     → IsRead text before last open_parens depth after_numeral place → place < length text
-    → p ≡ front after_numeral (drop place text)
+    → p ≡ first_piece after_numeral (drop place text)
     → ((t : Token) → p.lexeme ≡ Whole t → ⊥) → 0 < p.len → place + p.len ≤ length text
     → lexeme_fault last open_parens depth place p.lexeme ≡ None
     → IsRead text before last open_parens depth (is_numeral_lexeme p.lexeme) (place + p.len)
@@ -299,9 +304,9 @@ rest-is text place = ap (λ n. take n (drop place text)) (sym (length-drop place
 
 -- the piece at the front of these bytes is that at the front of the rest
 pub rest-front : (text : List ℕ) (place : ℕ) (after_numeral : Bool) (p : Piece)
-    → p ≡ front after_numeral (take (length text - place) (drop place text))
-    → p ≡ front after_numeral (drop place text)
-rest-front text place after_numeral p is = is ∙ ap (front after_numeral) (rest-is text place)
+    → p ≡ first_piece after_numeral (take (length text - place) (drop place text))
+    → p ≡ first_piece after_numeral (drop place text)
+rest-front text place after_numeral p is = is ∙ ap (first_piece after_numeral) (rest-is text place)
 
 -- a length that is within these bytes is within the rest
 pub rest-within : (text : List ℕ) (place n : ℕ) → n ≤ length (take (length text - place) (drop place text))
@@ -309,10 +314,11 @@ pub rest-within : (text : List ℕ) (place n : ℕ) → n ≤ length (take (leng
 rest-within text place n h = subst (λ (bs : List ℕ). n ≤ length bs) (rest-is text place) h
 
 -- the value after a push that does not fail
-pub kept : {X E A : Type 0} (r : Result X E) (now pushed before : A) → now ≡ (if is_ok r then pushed else before)
+pub value_after_push : {X E A : Type 0} (r : Result X E) (now pushed before : A)
+    → now ≡ (if is_ok r then pushed else before)
     → is_err r ≡ false → now ≡ pushed
-kept (Ok x) now pushed before is e = is
-kept (Err x) now pushed before is e = cc
+value_after_push (Ok x) now pushed before is e = is
+value_after_push (Err x) now pushed before is e = cc
 
 -- the tokens after a push, of which the program appends a copy
 pub pushed-token : (xs now : List Made) (t u : Made) → now ≡ xs ++ t ∷ [] → t ≡ u
@@ -323,7 +329,7 @@ pushed-token xs now t u is same =
 -- the state after a token
 abbrev pub stood : After → ℕ → ℕ → Token → Standing
 stood last open_parens depth t =
-    record { last = after t last; opened = opened_after t open_parens; depth = depth_after t last depth }
+    record { last = state_after_token t last; opened = opened_after t open_parens; depth = depth_after t last depth }
 
 -- equal tokens lead to the same state
 pub stood-same : (s : Standing) (last : After) (open_parens depth : ℕ) (t u : Made) → s ≡ stood last open_parens depth
@@ -336,7 +342,7 @@ pub token-read-as : (text : List ℕ) (before : List Token) (last : After) (open
     (place : ℕ) (p : Piece) (t : Token)
     → (now : List Token) (s : Standing) (numeral : Bool)
     → IsRead text before last open_parens depth after_numeral place → place < length text
-    → p ≡ front after_numeral (drop place text)
+    → p ≡ first_piece after_numeral (drop place text)
     → p.lexeme ≡ Whole t → 0 < p.len → p.len ≤ length (drop place text)
     → lexeme_fault last open_parens depth place p.lexeme ≡ None
     → now ≡ before ++ t ∷ [] → s ≡ stood last open_parens depth t → numeral ≡ is_numeral_lexeme p.lexeme
@@ -358,7 +364,7 @@ not-whole made.Malformed h t e = cc
 pub blank-read-as : (text : List ℕ) (before : List Token) (last : After) (open_parens depth : ℕ) (after_numeral : Bool)
     (place : ℕ) (p : MadePiece) (numeral : Bool)
     → IsRead text before last open_parens depth after_numeral place → place < length text
-    → seen_piece p ≡ front after_numeral (drop place text)
+    → seen_piece p ≡ first_piece after_numeral (drop place text)
     → ((t : Made) → p.lexeme ≡ made.Whole t → ⊥) → 0 < p.len → p.len ≤ length (drop place text)
     → lexeme_fault last open_parens depth place (seen_lexeme p.lexeme) ≡ None
     → numeral ≡ is_numeral_lexeme (seen_lexeme p.lexeme)

@@ -49,7 +49,7 @@ from_lexemes before len (x ∷ xs) =
     (from_lexemes (before ++ token_in x.lexeme) len xs)
 
 -- the law that the specified fault of a text is never a lack of memory
-pub told : ParseMemoryLaw
-told binder text said =
+pub parse_fault_not_of_memory : ParseMemoryLaw
+parse_fault_not_of_memory binder text said =
     true≢false (sym (from_lexemes [] (length text) (lexemes text))
     ∙ ap of_text (((parsed_law binder text).1 OutOfMemory).0 said))

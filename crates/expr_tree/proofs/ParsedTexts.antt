@@ -7,7 +7,7 @@ use Rattle.expr_tree.specs.Lexemes.{tokens}
 use Rattle.expr_tree.specs.ParseResult.{fault_or_tree, parse_of, ParsedLaw}
 use Rattle.expr_tree.specs.TokenReading.{tree_of}
 use Rattle.expr_tree.specs.Syntax.{Syntax}
-use Rattle.expr_tree.proofs.Derivations.{given}
+use Rattle.expr_tree.proofs.Derivations.{tree_of_fitting}
 use Rattle.expr_tree.proofs.Faultless.{faultless_fits}
 use Rattle.expr_tree.proofs.DerivationSearch.{tree_of_law}
 
@@ -34,7 +34,8 @@ fault_of_parts len None None x some = (λ h. absurd (some refl refl), λ h. cc)
 has_tree : (binder : Option (List ℕ)) (text : List ℕ) → first_fault text ≡ None → tree_of binder (tokens text) ≡ None
     → ⊥
 has_tree binder text h none =
-    let x : (e : Syntax) × GivesTree binder (tokens text) e = given binder (tokens text) (faultless_fits text h) in
+    let x : (e : Syntax) × GivesTree binder (tokens text) e = tree_of_fitting binder (tokens text)
+    (faultless_fits text h) in
     let some : tree_of binder (tokens text) ≡ Some x.0 = (tree_of_law binder (tokens text) x.0).1 x.1 in
     let no : None ≡ Some x.0 = sym none ∙ some in cc
 

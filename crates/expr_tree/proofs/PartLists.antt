@@ -54,20 +54,21 @@ module _ {P R A L : Type 0} (rule : PartRule P R A L) (k : ℕ) where
   pub begun : (x y : List Token) (e : Syntax) (read : List A) → IsFront rule.part rule.says rule.follow k x e y
       → (rule.ends y ≡ true → ⊥) → read ≡ rule.head e ∷ [] → AreRead rule k x y read
   begun x y e read p n are = record {
-    first = p.made;
+    first = p.front_part;
     more = [];
-    are = are ∙ ap (λ v. rule.head v ∷ []) p.says;
+    are = are ∙ ap (λ v. rule.head v ∷ []) p.tree_of_part;
     two = λ h. absurd (n h);
     stop = p.stop;
     fit = p.fit;
-    so_far = λ q others h. (q, p.is ∙ ap (rule.part p.made) h, refl);
+    so_far = λ q others h. (q, p.tokens_split ∙ ap (rule.part p.front_part) h, refl);
   }
 
   -- reading one more member, given the parts that begin with it
   pub gone_on : (x y y' z : List Token) (e : Syntax) (a : A) (read read' : List A) → AreRead rule k x y read
       → (p : IsFront rule.part rule.says rule.follow k y' e z)
       → (step : R → R)
-      → ((q : R) (others : List Token) → y' ≡ rule.part p.made (rule.rest q others) → y ≡ rule.rest (step q) others)
+      → ((q : R) (others : List Token) → y' ≡ rule.part p.front_part (rule.rest q others)
+      → y ≡ rule.rest (step q) others)
       → ((q : R) → rule.cons a (rule.list q) ≡ rule.list (step q))
       → read' ≡ read ++ a ∷ [] → AreRead rule k x z read'
   gone_on x y y' z e a read read' r p step spelled listed are = record {
@@ -80,7 +81,7 @@ module _ {P R A L : Type 0} (rule : PartRule P R A L) (k : ℕ) where
     so_far = λ q others h.
         let d : (d : R) × (x ≡ rule.part r.first (rule.rest d others))
         × (before rule.cons r.more (rule.list (step q)) ≡ rule.list d)
-        = r.so_far (step q) others (spelled q others (p.is ∙ ap (rule.part p.made) h)) in
+        = r.so_far (step q) others (spelled q others (p.tokens_split ∙ ap (rule.part p.front_part) h)) in
         (d.0, d.1, before_more rule.cons r.more a (rule.list q) ∙ ap (before rule.cons r.more) (listed q) ∙ d.2);
   }
 

@@ -3,10 +3,10 @@ use Rattle.std.proofs.Common.{◌≡◌, ◌↔◌, ℕ, zero, suc, ◌+◌, ◌
 use Rattle.std.proofs.Common.{arith, ltb-true}
 use Rattle.std.specs.Prelude.{slice_get}
 use Rattle.expr_tree.specs.Rules.{After, WantsOperand, WantsHead, WantsOpen, WantsNumeral, EndsNumeral, EndsOperand}
-use Rattle.expr_tree.specs.Rules.{may, may_end_tokens, tokens_fit, after, opened_after}
+use Rattle.expr_tree.specs.Rules.{may, may_end_tokens, tokens_fit, opened_after, state_after_token}
 use Rattle.expr_tree.specs.Rules.{left_by, count_opens, count_closes, open_parens, MayStand, TokensMayEnd}
 use Rattle.expr_tree.specs.Tokens.{Token, Close}
-use Rattle.expr_tree.proofs.Fits.{both, both_hold}
+use Rattle.expr_tree.proofs.Fits.{and_parts_hold, both_hold}
 
 -- the number of open parentheses after tokens, if `k` were open before them
 abbrev still_open : ℕ → List Token → ℕ
@@ -44,18 +44,23 @@ none_more k = omega arith
 stands : (last : After) (k : ℕ) (ts : List Token) → tokens_fit last k ts ≡ true → Stands last k ts × Ends last k ts
 stands last k [] h = (λ i t g. cc, subst (λ n. may_end_tokens last n ≡ true) (sym (none_more k)) h)
 stands last k (u ∷ ts) h =
-    let e : (may last k u ≡ true) × (tokens_fit (after u last) (opened_after u k) ts ≡ true) =
-    both (may last k u) _ h in
-    let r : Stands (after u last) (opened_after u k) ts × Ends (after u last) (opened_after u k) ts =
-    stands (after u last) (opened_after u k) ts e.1 in
-    (at e.0 r.0, subst (λ n. may_end_tokens (left_by (after u last) ts) n ≡ true) (one_more last k u ts e.0) r.1)
+    let e : (may last k u ≡ true) × (tokens_fit (state_after_token u last) (opened_after u k) ts ≡ true) =
+    and_parts_hold (may last k u) _ h in
+    let r : Stands (state_after_token u last) (opened_after u k) ts × Ends (state_after_token u last) (opened_after u k)
+    ts =
+    stands (state_after_token u last) (opened_after u k) ts e.1 in (
+      at e.0 r.0,
+      subst (λ n. may_end_tokens (left_by (state_after_token u last) ts) n ≡ true) (one_more last k u ts e.0)
+          r.1,
+    )
   where
-    at : may last k u ≡ true → Stands (after u last) (opened_after u k) ts → Stands last k (u ∷ ts)
+    at : may last k u ≡ true → Stands (state_after_token u last) (opened_after u k) ts → Stands last k (u ∷ ts)
     at m s zero t g =
         let same : u ≡ t = cc in
         subst (λ n. may last n t ≡ true) (sym (none_more k)) (subst (λ (x : Token). may last k x ≡ true) same m)
     at m s (suc i) t g =
-        subst (λ n. may (left_by (after u last) (take i ts)) n t ≡ true) (one_more last k u (take i ts) m) (s i t g)
+        subst (λ n. may (left_by (state_after_token u last) (take i ts)) n t ≡ true) (one_more last k u (take i ts) m)
+        (s i t g)
 
 -- tokens that are allowed at their places and may end, fit
 fits_from : (last : After) (k : ℕ) (ts : List Token) → Stands last k ts → Ends last k ts → tokens_fit last k ts ≡ true
@@ -63,10 +68,11 @@ fits_from last k [] s e = subst (λ n. may_end_tokens last n ≡ true) (none_mor
 fits_from last k (u ∷ ts) s e =
     let m : may last k u ≡ true = subst (λ n. may last n u ≡ true) (none_more k) (s 0 u refl) in
     both_hold (may last k u) _ m
-    (fits_from (after u last) (opened_after u k) ts
-    (λ i t g. subst (λ n. may (left_by (after u last) (take i ts)) n t ≡ true) (sym (one_more last k u (take i ts) m))
+    (fits_from (state_after_token u last) (opened_after u k) ts
+    (λ i t g. subst (λ n. may (left_by (state_after_token u last) (take i ts)) n t ≡ true)
+    (sym (one_more last k u (take i ts) m))
     (s (suc i) t g))
-    (subst (λ n. may_end_tokens (left_by (after u last) ts) n ≡ true) (sym (one_more last k u ts m)) e))
+    (subst (λ n. may_end_tokens (left_by (state_after_token u last) ts) n ≡ true) (sym (one_more last k u ts m)) e))
 
 -- the number of open parentheses after tokens, if none was open before them
 none_before : (ts : List Token) → still_open 0 ts ≡ open_parens ts

@@ -135,8 +135,8 @@ pub stands_as : (ts : List Made) (at : ℕ) (d m : Made) → at < length ts → 
 stands_as ts at d m l is = here ts at d l ∙ ap (λ (t : Made). token_view t ∷ tokens_from ts (at + 1)) is
 
 -- if an operand begins, there is a token
-pub begun : (ts : List Made) (at : ℕ) → can_begin_operand (tokens_from ts at) ≡ true → at < length ts
-begun ts at h = go (ahead ts at)
+pub operand_has_token : (ts : List Made) (at : ℕ) → can_begin_operand (tokens_from ts at) ≡ true → at < length ts
+operand_has_token ts at h = go (ahead ts at)
   where
     go : Ahead ts at → at < length ts
     go (nothing e) = let f : can_begin_operand [] ≡ true = sym (ap can_begin_operand e) ∙ h in cc

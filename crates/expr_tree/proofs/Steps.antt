@@ -60,7 +60,14 @@ no_term (t ∷ y) s n = cc
 pub one_term : (b : Option (List ℕ)) (k : ℕ) (x y : List Token) (e : Syntax) → ProductAt b k x e y → first_sign y ≡ None
     → SumAt b k x e y
 one_term b k x y e p n =
-    record { made = SumOf p.made NoTerm; is = p.is; says = p.says; stop = no_term y p.stop n; fit = p.fit }
+    record {
+      front_part = SumOf p.front_part NoTerm;
+      tokens_split = p.tokens_split;
+      tree_of_part =
+          p.tree_of_part;
+      stop = no_term y p.stop n;
+      fit = p.fit;
+    }
 
 -- a product that a sign follows is the first term
 pub terms_begun : (b : Option (List ℕ)) (k : ℕ) (x y : List Token) (e : Syntax) (read : List (Sign × Syntax))
@@ -73,9 +80,9 @@ pub next_term : (b : Option (List ℕ)) (k : ℕ) (x y y' z : List Token) (s : S
     (read read' : List (Sign × Syntax)) → TermsRead b k x y read
     → y ≡ sign_token s ∷ y' → ProductAt b k y' e z → read' ≡ read ++ (s, e) ∷ [] → TermsRead b k x z read'
 next_term b k x y y' z s e read read' r is p are =
-    gone_on (sums b) k x y y' z e (s, e) read read' r p (NextTerm s p.made)
+    gone_on (sums b) k x y y' z e (s, e) read read' r p (NextTerm s p.front_part)
     (λ q others h. is ∙ ap (λ v. sign_token s ∷ v) h)
-    (λ q. ap (λ v. tree.Term s v (terms_of_rest b q)) p.says) are
+    (λ q. ap (λ v. tree.Term s v (terms_of_rest b q)) p.tree_of_part) are
 
 -- if no sign follows, the terms make a sum
 pub all_terms : (b : Option (List ℕ)) (k : ℕ) (x y : List Token) (e : Syntax) (read : List (Sign × Syntax))
@@ -84,7 +91,14 @@ pub all_terms : (b : Option (List ℕ)) (k : ℕ) (x y : List Token) (e : Syntax
 all_terms b k x y e read r n says =
     let all = all_read (sums b) terms tree.Sum sum_syntax k x y e read r (ap is_none n) NoTerm refl refl (λ t ts. refl)
     (λ e t ts. refl) says in
-    record { made = SumOf r.first all.0; is = all.1; says = all.2; stop = no_term y r.stop n; fit = r.fit }
+    record {
+      front_part = SumOf r.first all.0;
+      tokens_split = all.1;
+      tree_of_part = all.2;
+      stop =
+          no_term y r.stop n;
+      fit = r.fit;
+    }
 
 -- an operand is wanted after the sign of a term
 pub term_wants : (k : ℕ) (s : Sign) (x y : List Token) → x ≡ sign_token s ∷ y → tokens_fit EndsOperand k x ≡ true
@@ -128,7 +142,14 @@ no_factor (t ∷ y) s n = cc
 pub one_factor : (b : Option (List ℕ)) (k : ℕ) (x y : List Token) (e : Syntax) → JuxtapositionAt b k x e y
     → first_scale y ≡ None → ProductAt b k x e y
 one_factor b k x y e p n =
-    record { made = ProductOf p.made NoFactor; is = p.is; says = p.says; stop = no_factor y p.stop n; fit = p.fit }
+    record {
+      front_part = ProductOf p.front_part NoFactor;
+      tokens_split = p.tokens_split;
+      tree_of_part =
+          p.tree_of_part;
+      stop = no_factor y p.stop n;
+      fit = p.fit;
+    }
 
 -- a juxtaposition that a `*` or `/` follows is the first factor
 pub factors_begun : (b : Option (List ℕ)) (k : ℕ) (x y : List Token) (e : Syntax) (read : List (Scale × Syntax))
@@ -141,9 +162,9 @@ pub next_factor : (b : Option (List ℕ)) (k : ℕ) (x y y' z : List Token) (s :
     (read read' : List (Scale × Syntax)) → FactorsRead b k x y read
     → y ≡ scale_token s ∷ y' → JuxtapositionAt b k y' e z → read' ≡ read ++ (s, e) ∷ [] → FactorsRead b k x z read'
 next_factor b k x y y' z s e read read' r is p are =
-    gone_on (products b) k x y y' z e (s, e) read read' r p (NextFactor s p.made)
+    gone_on (products b) k x y y' z e (s, e) read read' r p (NextFactor s p.front_part)
     (λ q others h. is ∙ ap (λ v. scale_token s ∷ v) h)
-    (λ q. ap (λ v. tree.Factor s v (factors_of_rest b q)) p.says) are
+    (λ q. ap (λ v. tree.Factor s v (factors_of_rest b q)) p.tree_of_part) are
 
 -- if no `*` or `/` follows, the factors make a product
 pub all_factors : (b : Option (List ℕ)) (k : ℕ) (x y : List Token) (e : Syntax) (read : List (Scale × Syntax))
@@ -153,7 +174,14 @@ all_factors b k x y e read r n says =
     let all = all_read (products b) factors_syntax tree.Product product_syntax k x y e read r (ap is_none n) NoFactor
     refl refl
     (λ f fs. refl) (λ e f fs. refl) says in
-    record { made = ProductOf r.first all.0; is = all.1; says = all.2; stop = no_factor y r.stop n; fit = r.fit }
+    record {
+      front_part = ProductOf r.first all.0;
+      tokens_split = all.1;
+      tree_of_part = all.2;
+      stop =
+          no_factor y r.stop n;
+      fit = r.fit;
+    }
 
 -- an operand is wanted after the `*` or `/` of a factor
 pub factor_wants : (k : ℕ) (s : Scale) (x y : List Token) → x ≡ scale_token s ∷ y → tokens_fit EndsOperand k x ≡ true
@@ -199,7 +227,14 @@ pub one_member : (b : Option (List ℕ)) (k : ℕ) (x y : List Token) (e : Synta
     → can_begin_operand y ≡ false
     → JuxtapositionAt b k x e y
 one_member b k x y e p n =
-    record { made = JuxtapositionOf p.made NoPower; is = p.is; says = p.says; stop = no_member y p.stop n; fit = p.fit }
+    record {
+      front_part = JuxtapositionOf p.front_part NoPower;
+      tokens_split = p.tokens_split;
+      tree_of_part =
+          p.tree_of_part;
+      stop = no_member y p.stop n;
+      fit = p.fit;
+    }
 
 -- a power that an operand follows is the first member
 pub members_begun : (b : Option (List ℕ)) (k : ℕ) (x y : List Token) (e : Syntax) (read : List Syntax)
@@ -213,8 +248,8 @@ pub next_member : (b : Option (List ℕ)) (k : ℕ) (x y z : List Token) (e : Sy
     → MembersRead b k x y read
     → PowerAt b k y e z → read' ≡ read ++ e ∷ [] → MembersRead b k x z read'
 next_member b k x y z e read read' r p are =
-    gone_on (juxtapositions b) k x y y z e e read read' r p (NextPower p.made) (λ q others h. h)
-    (λ q. ap (λ v. tree.Member v (members_of_rest b q)) p.says) are
+    gone_on (juxtapositions b) k x y y z e e read read' r p (NextPower p.front_part) (λ q others h. h)
+    (λ q. ap (λ v. tree.Member v (members_of_rest b q)) p.tree_of_part) are
 
 -- if no operand begins, the members make a juxtaposition
 pub all_members : (b : Option (List ℕ)) (k : ℕ) (x y : List Token) (e : Syntax) (read : List Syntax)
@@ -224,4 +259,11 @@ all_members b k x y e read r n says =
     let all = all_read (juxtapositions b) members tree.Juxtaposed juxtaposition_syntax k x y e read r (ap not n) NoPower
     refl refl
     (λ e es. refl) (λ e f es. refl) says in
-    record { made = JuxtapositionOf r.first all.0; is = all.1; says = all.2; stop = no_member y r.stop n; fit = r.fit }
+    record {
+      front_part = JuxtapositionOf r.first all.0;
+      tokens_split = all.1;
+      tree_of_part = all.2;
+      stop =
+          no_member y r.stop n;
+      fit = r.fit;
+    }

@@ -132,7 +132,7 @@ view_law = record {
   group = of_group;
   negate = of_negate;
   power = of_power;
-  juxtaposed = of_juxtaposed;
+  juxtaposition = of_juxtaposed;
   product = of_product;
   sum = of_sum;
 }

@@ -17,8 +17,8 @@ nothing_left (Close ∷ y) s f = cc
 nothing_left (t ∷ y) s f = cc
 
 -- a sum up to the last token is the tree of the tokens
-pub whole : (b : Option (List ℕ)) (ts : List Made) (e : Syntax) (end : ℕ)
+pub sum_is_tree : (b : Option (List ℕ)) (ts : List Made) (e : Syntax) (end : ℕ)
     → SumAt b 0 (tokens_from ts 0) e (tokens_from ts end) → tree_of b (map token_view ts) ≡ Some e
-whole b ts e end p =
+sum_is_tree b ts e end p =
     let all : tokens_from ts end ≡ [] = nothing_left _ p.stop p.fit in
-    (tree_of_law b (map token_view ts) e).1 (p.made, p.is ∙ ap (sum p.made) all, p.says)
+    (tree_of_law b (map token_view ts) e).1 (p.front_part, p.tokens_split ∙ ap (sum p.front_part) all, p.tree_of_part)

@@ -86,9 +86,9 @@ after_atom _ = true
 -- parentheses
 pub record IsFront {X : Type 0} (spell : X → List Token → List Token) (tree : X → Syntax) (follow : Token → Bool)
     (opened : ℕ) (ts : List Token) (e : Syntax) (others : List Token) : Type 0 where
-  pub made : X
-  pub is : ts ≡ spell made others
-  pub says : e ≡ tree made
+  pub front_part : X
+  pub tokens_split : ts ≡ spell front_part others
+  pub tree_of_part : e ≡ tree front_part
   pub stop : stops follow others ≡ true
   pub fit : tokens_fit EndsOperand opened others ≡ true
 
@@ -115,9 +115,9 @@ AtomAt binder = IsFront atom (atom_tree binder) after_atom
 -- the tokens are a sum and its `)` followed by the others
 pub record IsSumInParens (binder : Option (List ℕ)) (opened : ℕ) (ts : List Token) (e : Syntax)
     (others : List Token) : Type 0 where
-  pub made : Sum
-  pub is : ts ≡ sum made (Close ∷ others)
-  pub says : e ≡ sum_tree binder made
+  pub inner_sum : Sum
+  pub tokens_split : ts ≡ sum inner_sum (Close ∷ others)
+  pub tree_of_sum : e ≡ sum_tree binder inner_sum
   pub fit : tokens_fit EndsOperand opened others ≡ true
 
 -- what a rule reads at a place: its tree begins there, and ends at a later place

@@ -105,8 +105,8 @@ abbrev pub begins_with_point : List ℕ → Bool
 begins_with_point text = slice_index text 0 == 46
 
 -- the lexeme at the front of a non-empty text; a point directly after a numeral is malformed
-abbrev pub front : Bool → List ℕ → Piece
-front after_numeral text =
+abbrev pub first_piece : Bool → List ℕ → Piece
+first_piece after_numeral text =
     if is_blank (slice_index text 0) then lexeme_piece Blank 1
     else (if after_numeral && begins_with_point text then lexeme_piece Malformed 1
     else (if is_digit (slice_index text 0) || begins_with_point text then numeral_piece text
@@ -127,7 +127,7 @@ unfoldable pub lexemes_from : ℕ → Bool → ℕ → List ℕ → List Placed
 lexemes_from covered after_numeral place [] = []
 lexemes_from (suc covered) after_numeral place (b ∷ bs) = lexemes_from covered after_numeral (suc place) bs
 lexemes_from zero after_numeral place (b ∷ bs) =
-    let first : Piece = front after_numeral (b ∷ bs) in
+    let first : Piece = first_piece after_numeral (b ∷ bs) in
     record { place = place; lexeme = first.lexeme }
     ∷ lexemes_from (first.len - 1) (is_numeral_lexeme first.lexeme) (suc place) bs
 

@@ -31,16 +31,16 @@ is_operator Caret = true
 is_operator _ = false
 
 -- the state after a token, by the state before it
-abbrev pub after : Token → After → After
-after (Numeral n) WantsNumeral = EndsOperand
-after (Numeral n) _ = EndsNumeral
-after (Word w) _ = EndsOperand
-after (WordWithPower w d) _ = EndsOperand
-after Close _ = EndsOperand
-after Tilde _ = WantsHead
-after (Root n) _ = WantsOpen
-after Bar _ = WantsNumeral
-after _ _ = WantsOperand
+abbrev pub state_after_token : Token → After → After
+state_after_token (Numeral n) WantsNumeral = EndsOperand
+state_after_token (Numeral n) _ = EndsNumeral
+state_after_token (Word w) _ = EndsOperand
+state_after_token (WordWithPower w d) _ = EndsOperand
+state_after_token Close _ = EndsOperand
+state_after_token Tilde _ = WantsHead
+state_after_token (Root n) _ = WantsOpen
+state_after_token Bar _ = WantsNumeral
+state_after_token _ _ = WantsOperand
 
 -- an operand has ended
 abbrev pub operand_has_ended : After → Bool
@@ -104,7 +104,8 @@ depth_after t last token_depth = count_after (deepens t last) (closes_paren t) t
 -- each of the tokens is allowed at its place and they may end, by the state before them
 abbrev pub tokens_fit : After → ℕ → List Token → Bool
 tokens_fit last open_parens [] = may_end_tokens last open_parens
-tokens_fit last open_parens (t ∷ ts) = may last open_parens t && tokens_fit (after t last) (opened_after t open_parens)
+tokens_fit last open_parens (t ∷ ts) = may last open_parens t && tokens_fit (state_after_token t last)
+    (opened_after t open_parens)
     ts
 
 -- the plain rules, which look at all tokens before a place
@@ -112,7 +113,7 @@ tokens_fit last open_parens (t ∷ ts) = may last open_parens t && tokens_fit (a
 -- the state after a list of tokens
 abbrev pub left_by : After → List Token → After
 left_by last [] = last
-left_by last (t ∷ ts) = left_by (after t last) ts
+left_by last (t ∷ ts) = left_by (state_after_token t last) ts
 
 -- how many tokens of a list open a parenthesis, deepen, and close
 abbrev pub count_opens : List Token → ℕ
@@ -121,7 +122,7 @@ count_opens (t ∷ ts) = count_after (opens t) false (count_opens ts)
 
 abbrev pub count_deepens : After → List Token → ℕ
 count_deepens last [] = 0
-count_deepens last (t ∷ ts) = count_after (deepens t last) false (count_deepens (after t last) ts)
+count_deepens last (t ∷ ts) = count_after (deepens t last) false (count_deepens (state_after_token t last) ts)
 
 abbrev pub count_closes : List Token → ℕ
 count_closes [] = 0

@@ -7,17 +7,17 @@ use Rattle.expr_tree.specs.Lexemes.{tokens}
 use Rattle.expr_tree.specs.Names.{is_name}
 use Rattle.expr_tree.specs.Tokens.{Numeral, Word, WordWithPower, Head, Slash, Caret, Open, Close}
 
-abbrev pub whole : ℕ → Decimal
-whole n = record { coefficient = n; scale = pos 0 }
+abbrev pub whole_number : ℕ → Decimal
+whole_number n = record { coefficient = n; scale = pos 0 }
 
 -- law: tokens, first faults and names of a few texts
 abbrev pub TextExamplesLaw : Type 0
 TextExamplesLaw =
-    (tokens (codes "5eV") ≡ Numeral (whole 5) ∷ Word (codes "eV") ∷ [])
-    × (tokens (codes "f(2)") ≡ Head (codes "f") ∷ Numeral (whole 2) ∷ Close ∷ [])
-    × (tokens (codes "f (2)") ≡ Word (codes "f") ∷ Open ∷ Numeral (whole 2) ∷ Close ∷ [])
-    × (tokens (codes "m2 per s**3") ≡ WordWithPower (codes "m") (whole 2) ∷ Slash ∷ Word (codes "s") ∷ Caret
-    ∷ Numeral (whole 3) ∷ [])
+    (tokens (codes "5eV") ≡ Numeral (whole_number 5) ∷ Word (codes "eV") ∷ [])
+    × (tokens (codes "f(2)") ≡ Head (codes "f") ∷ Numeral (whole_number 2) ∷ Close ∷ [])
+    × (tokens (codes "f (2)") ≡ Word (codes "f") ∷ Open ∷ Numeral (whole_number 2) ∷ Close ∷ [])
+    × (tokens (codes "m2 per s**3") ≡ WordWithPower (codes "m") (whole_number 2) ∷ Slash ∷ Word (codes "s") ∷ Caret
+    ∷ Numeral (whole_number 3) ∷ [])
     × (first_fault (codes "5eV") ≡ None)
     × (first_fault [] ≡ Some (Syntax 0))
     × (first_fault (codes "2 +") ≡ Some (Syntax 3))

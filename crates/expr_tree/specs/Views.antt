@@ -25,6 +25,6 @@ pub record ViewLaw : Type 0 where
   pub group : (e : Box Tree) → syntax (Group e) ≡ tree.Group (syntax e.value)
   pub negate : (e : Box Tree) → syntax (Negate e) ≡ tree.Negate (syntax e.value)
   pub power : (e f : Box Tree) → syntax (Power e f) ≡ tree.Power (syntax e.value) (syntax f.value)
-  pub juxtaposed : (es : Trees) → syntax (Juxtaposed es) ≡ tree.Juxtaposed (members (trees_of es))
+  pub juxtaposition : (es : Trees) → syntax (Juxtaposed es) ≡ tree.Juxtaposed (members (trees_of es))
   pub product : (fs : Factors) → syntax (Product fs) ≡ tree.Product (factors_syntax (factors_of fs))
   pub sum : (ts : Terms) → syntax (Sum ts) ≡ tree.Sum (terms (terms_of ts))

@@ -37,7 +37,7 @@ impl<'a> Piece<'a> {
     // Returns the lexeme at the front of a non-empty text. A point directly after a numeral is malformed.
     pub(crate) fn first(text: &'a [u8], after_numeral: bool) -> Piece<'a>
         requires { 0 < length text.now }
-        ensures is { seen_piece result ≡ spec.front after_numeral text.now }
+        ensures is { seen_piece result ≡ spec.first_piece after_numeral text.now }
         ensures some { 0 < result.len }
         ensures within { result.len ≤ length text.now }
     {

@@ -27,7 +27,7 @@ pub(crate) enum After {
 impl After {
     // Returns the state after one more token.
     pub(crate) fn then(self, token: &Token) -> After
-        ensures { result ≡ spec.after (token_view token.now) self }
+        ensures { result ≡ spec.state_after_token (token_view token.now) self }
     {
         match token {
             Token::Numeral(_) => match self {

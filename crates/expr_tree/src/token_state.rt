@@ -64,7 +64,7 @@ impl Standing {
         requires opened { self.now.opened < 2 ^ 32 }
         requires depth { self.now.depth < 2 ^ 32 }
         ensures { result ≡ record {
-          last = spec.after (token_view token.now) self.now.last;
+          last = spec.state_after_token (token_view token.now) self.now.last;
           opened = spec.opened_after (token_view token.now) self.now.opened;
           depth = spec.depth_after (token_view token.now) self.now.last self.now.depth;
         } }

@@ -60,7 +60,7 @@ no_root n q m some none power =
 
 -- a fraction below 0 has no root of even degree
 no_even : (x r : Fraction) (q : ℕ) → is_negative x ≡ true → q % 2 ≡ 0 → IsRoot x q r → ⊥
-no_even x r q negative even root = by_num r.num (ap (λ f. f.num) root.power) (root.plain even)
+no_even x r q negative even root = by_num r.num (ap (λ f. f.num) root.root_power) (root.sign_if_even even)
   where
     by_num : (z : ℤ) → int_pow z q ≡ x.num → IsFalse (int_lt z (pos 0)) → ⊥
     by_num (pos m) power plain = false≢true (sym (not_below (m ^ q)) ∙ ap (λ z. int_lt z (pos 0)) power ∙ negative)
@@ -78,7 +78,7 @@ root_of_law x q is some = by_sign (is_negative x) (q % 2 == 0) refl refl
     odd m h k = grind (arith, nat_tests)
 
     made : (s : Bool) → is_negative x ≡ s → IsMade x s (unsigned_abs x.num) x.den
-    made s s_is = record { s_is = sym s_is; a_is = refl; b_is = refl; some = is.positive; lowest = is.lowest }
+    made s s_is = record { s_is = sym s_is; a_is = refl; b_is = refl; some = is.den_positive; lowest = is.coprime }
 
     by_parts : (s : Bool) (top bottom : Option ℕ) → is_negative x ≡ s → (s ≡ true → q % 2 ≡ 0 → ⊥)
         → whole_root (unsigned_abs x.num) q ≡ top → whole_root x.den q ≡ bottom
@@ -87,11 +87,11 @@ root_of_law x q is some = by_sign (is_negative x) (q % 2 == 0) refl refl
         root_by x q s (unsigned_abs x.num) x.den a b (made s s_is) some (found_root (unsigned_abs x.num) q a top)
         (found_root x.den q b bottom) other
     by_parts s (Some a) None s_is other top bottom =
-        (refl, λ r root. no_root x.den q r.den some bottom (ap (λ f. f.den) root.power))
+        (refl, λ r root. no_root x.den q r.den some bottom (ap (λ f. f.den) root.root_power))
     by_parts s None bottom s_is other top none = (
       refl,
       λ r root. no_root (unsigned_abs x.num) q (unsigned_abs r.num) some top
-          (sym (abs-pow r.num q) ∙ ap (λ f. unsigned_abs f.num) root.power),
+          (sym (abs-pow r.num q) ∙ ap (λ f. unsigned_abs f.num) root.root_power),
     )
 
     by_sign : (s e : Bool) → is_negative x ≡ s → (q % 2 == 0) ≡ e

@@ -8,13 +8,13 @@ use Rattle.frac128.specs.declared.numeral_syntax.Kind.TheVariants.{Digit, Point,
 use Rattle.frac128.specs.declared.numeral_syntax.Stage.{Stage}
 use Rattle.frac128.specs.declared.numeral_syntax.Stage.TheVariants.{Start, Whole, Pointed, Fraction, Marked, Signed}
 use Rattle.frac128.specs.declared.numeral_syntax.Stage.TheVariants.{Exponent}
-use Rattle.frac128.specs.Decimals.{places}
+use Rattle.frac128.specs.Decimals.{decimal_places}
 use Rattle.frac128.specs.Numerals.{greatest_passing, is_digit, is_mark_byte, is_numeral, is_point_byte, is_sign_byte}
 use Rattle.frac128.specs.Numerals.{numeral_len_of}
 use Rattle.frac128.specs.Stages.{byte_kind, may_end, stage_after}
 use Rattle.frac128.proofs.Readings.{IsSplit}
 use Rattle.frac128.proofs.StageRuns.{IsReadTo, digit_no_mark, digit_no_point, read_end, read_more, read_start}
-use Rattle.frac128.proofs.WholeNumerals.{before_digits, both, digits_numeral, from_digits}
+use Rattle.frac128.proofs.WholeNumerals.{and_both_true, before_digits, digits_numeral, from_digits}
 
 -- the stage after `i` digits
 abbrev pub digits_stage : ℕ → Stage
@@ -36,7 +36,7 @@ all_more : (bytes : List ℕ) (i : ℕ) → list_all is_digit (take i bytes) ≡
 all_more [] i h low digit = absurd (omega arith)
 all_more (b ∷ bs) zero h low digit = rw digit refl
 all_more (b ∷ bs) (suc i) h low digit =
-    let parts = both (is_digit b) (list_all is_digit (take i bs)) h in
+    let parts = and_both_true (is_digit b) (list_all is_digit (take i bs)) h in
     rw parts.0 (all_more bs i parts.1 (omega arith) digit)
 
 -- reading one more digit
@@ -110,7 +110,7 @@ digits_split bytes some h = record {
 }
 
 -- digits alone have no digits after a point
-pub digits_places : (bytes : List ℕ) → list_all is_digit bytes ≡ true → 0 ≡ places bytes
+pub digits_places : (bytes : List ℕ) → list_all is_digit bytes ≡ true → 0 ≡ decimal_places bytes
 digits_places bytes h = sym (ap (λ xs. length xs - 1) (from_digits is_point_byte bytes digit_no_point h))
 
 -- the scale of digits alone is the number of zeros at their end

@@ -8,7 +8,7 @@ use Rattle.std.proofs.lemmas.Bool.Decides.{nat_tests}
 use Rattle.std.proofs.lemmas.List.{at_drop_all, at_drop_more}
 use Rattle.std.proofs.Math.Nat.{le-mul_of_pos_right, zero-mul, mul-one, mul_assoc, pow-suc}
 use Rattle.frac128.specs.Decimals.{coefficient_of, digits_of, end_zeros, exponent_size, is_zero_digit, most_exponent}
-use Rattle.frac128.specs.Decimals.{number}
+use Rattle.frac128.specs.Decimals.{digits_number}
 use Rattle.frac128.specs.Decimals.{digits_without_zeros, short_coefficient}
 use Rattle.frac128.specs.Fraction.{most}
 use Rattle.frac128.specs.Numerals.{is_digit}
@@ -107,11 +107,11 @@ collect-others n z (suc d ∷ ds) h =
 
 -- the number and the end zeros of all digits
 collect-all : (ds : List ℕ)
-    → collect 0 0 ds ≡ (number (digits_without_zeros ds), length ds - length (digits_without_zeros ds))
+    → collect 0 0 ds ≡ (digits_number (digits_without_zeros ds), length ds - length (digits_without_zeros ds))
 collect-all ds = by_test (all_zero ds) refl
   where
     by_test : (b : Bool) → all_zero ds ≡ b
-        → collect 0 0 ds ≡ (number (digits_without_zeros ds), length ds - length (digits_without_zeros ds))
+        → collect 0 0 ds ≡ (digits_number (digits_without_zeros ds), length ds - length (digits_without_zeros ds))
     by_test true h = rw (without-all_zero ds h) (collect-zeros 0 0 ds h ∙ ap (λ k. (0, k)) (omega arith))
     by_test false h = collect-others 0 0 ds h
 
@@ -153,11 +153,12 @@ fold-without n (d ∷ ds) h =
 
 -- a number is the number without its end zeros, times ten for each of them
 pub number-without : (ds : List ℕ)
-    → number ds ≡ number (digits_without_zeros ds) * 10 ^ (length ds - length (digits_without_zeros ds))
+    → digits_number ds ≡ digits_number (digits_without_zeros ds) * 10 ^ (length ds - length (digits_without_zeros ds))
 number-without ds = by_test (all_zero ds) refl
   where
     by_test : (b : Bool) → all_zero ds ≡ b
-        → number ds ≡ number (digits_without_zeros ds) * 10 ^ (length ds - length (digits_without_zeros ds))
+        → digits_number ds ≡ digits_number (digits_without_zeros ds) * 10 ^
+        (length ds - length (digits_without_zeros ds))
     by_test true e =
         rw (without-all_zero ds e)
         (fold-zeros 0 ds e ∙ zero-mul (10 ^ length ds) ∙ sym (zero-mul (10 ^ (length ds - 0))))
@@ -205,8 +206,8 @@ past : (c : ℕ) (p : ℕ × ℕ) → most < c → (if nat_le c most then Some p
 past c p h = rw (le-false c most h) refl
 
 -- a coefficient that is not too large is the result
-pub kept : (c : ℕ) (p : ℕ × ℕ) → c ≤ most → (if nat_le c most then Some p else None) ≡ Some p
-kept c p h = rw (le-true c most h) refl
+pub small_coefficient_result : (c : ℕ) (p : ℕ × ℕ) → c ≤ most → (if nat_le c most then Some p else None) ≡ Some p
+small_coefficient_result c p h = rw (le-true c most h) refl
 
 -- if the number with one more digit is too large, so is the coefficient
 pub collected_wide : (bytes : List ℕ) (i n z : ℕ) → IsCollected bytes i n z → i < length bytes
@@ -230,7 +231,7 @@ pub collected_all : (bytes : List ℕ) (i n z : ℕ) → IsCollected bytes i n z
 collected_all bytes i n z is h =
     let whole : (n, z) ≡ (coefficient_of bytes, end_zeros bytes) =
     sym (at_drop_all (λ xs. collect n z (digits_of xs)) bytes i h) ∙ is.rest ∙ collect-all (digits_of bytes) in
-    kept (coefficient_of bytes) (coefficient_of bytes, end_zeros bytes)
+    small_coefficient_result (coefficient_of bytes) (coefficient_of bytes, end_zeros bytes)
     (subst (λ c. c ≤ most) (ap (λ x. x.0) whole) is.fits) ∙ ap Some (sym whole)
 
 -- more digits do not make the exponent smaller

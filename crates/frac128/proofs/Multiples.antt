@@ -42,7 +42,7 @@ lcm_least a b n some p q =
 -- the law of the least common multiple
 pub lcm_is : LcmLaw
 lcm_is a b some = record {
-  first = subst (λ m. a ∣ m) (sym (lcm-right a b)) (dvd-mul_right a (b / gcd a b));
-  second = subst (λ m. b ∣ m) (sym (lcm-left a b)) (dvd-mul_left b (a / gcd a b));
-  least = λ n p q. lcm_least a b n some p q;
+  first_divides = subst (λ m. a ∣ m) (sym (lcm-right a b)) (dvd-mul_right a (b / gcd a b));
+  second_divides = subst (λ m. b ∣ m) (sym (lcm-left a b)) (dvd-mul_left b (a / gcd a b));
+  least_multiple = λ n p q. lcm_least a b n some p q;
 }

@@ -94,7 +94,7 @@ nearest_is a b some =
         record {
           near = λ e. whole_near b q r e (distance a b q) (distance a b e) own (omega arith)
               (away a b q r e whole part);
-          tie = λ e same. inl (whole_only b q r e (distance a b q) (distance a b e) some own half same
+          even_on_tie = λ e same. inl (whole_only b q r e (distance a b q) (distance a b e) some own half same
               (away a b q r e whole part));
         }
     by_order q r whole part Greater half =
@@ -102,7 +102,7 @@ nearest_is a b some =
         record {
           near = λ e. next_near b q r e (distance a b (q + 1)) (distance a b e) own (omega arith)
               (away a b q r e whole part);
-          tie = λ e same. inl (next_only b q r e (distance a b (q + 1)) (distance a b e) some own half same
+          even_on_tie = λ e same. inl (next_only b q r e (distance a b (q + 1)) (distance a b e) some own half same
               (away a b q r e whole part));
         }
     by_order q r whole part Equal half = by_last (q % 2) refl (omega arith)
@@ -117,7 +117,7 @@ nearest_is a b some =
               near = λ e. whole_near b q r e (distance a b q) (distance a b e)
                   (away_whole b q r (distance a b q) (away a b q r q whole part)) (omega arith)
                   (away a b q r e whole part);
-              tie = λ e same. inr is;
+              even_on_tie = λ e same. inr is;
             })
         by_last (suc zero) is below =
             let n_is : q + q % 2 ≡ q + 1 = omega arith in
@@ -125,7 +125,7 @@ nearest_is a b some =
               near = λ e. next_near b q r e (distance a b (q + 1)) (distance a b e)
                   (away_next b q r (distance a b (q + 1)) (away a b q r (q + 1) whole part)) (omega arith)
                   (away a b q r e whole part);
-              tie = λ e same. inr (even q 1 is below);
+              even_on_tie = λ e same. inr (even q 1 is below);
             })
         by_last (suc (suc l)) is below = absurd (omega arith)
 
@@ -152,9 +152,9 @@ nearest_same : (a b m n : ℕ) → 0 < b → IsNearestWhole a b m → IsNearestW
 nearest_same a b m n some is_m is_n =
     let same : distance a b m ≡ distance a b n =
     both_ways (distance a b m) (distance a b n) (is_m.near n) (is_n.near m) in
-    elim (is_n.tie m same) [
+    elim (is_n.even_on_tie m same) [
       | inl e ↦ e
-      | inr even_n ↦ elim (is_m.tie n (sym same)) [
+      | inr even_n ↦ elim (is_m.even_on_tie n (sym same)) [
         | inl e ↦ sym e
         | inr even_m ↦ of_two (a / b) (near_whole a b m some is_m) (near_whole a b n some is_n) even_m even_n
       ]

@@ -10,7 +10,7 @@ use Rattle.std.proofs.lemmas.Nat.{pow-add}
 use Rattle.std.proofs.Math.Nat.{mul-pos, zero-mul}
 use Rattle.frac128.specs.Decimals.{NumeralLaw, coefficient_of, decimal, decimal_exponent, digits_of, end_zeros}
 use Rattle.frac128.specs.Decimals.{exponent_part, mantissa}
-use Rattle.frac128.specs.Decimals.{number, places, times_power, value_of_decimal}
+use Rattle.frac128.specs.Decimals.{decimal_places, digits_number, times_power, value_of_decimal}
 use Rattle.frac128.specs.Divisors.{IsLowest, gcd}
 use Rattle.frac128.specs.Steps.{ratio}
 use Rattle.frac128.proofs.Coprime.{coprime_is}
@@ -84,19 +84,20 @@ zeros-out c z (negsuc k) = elim (cases_lt k z) [
 
 -- the value of a mantissa times a power of ten
 decimal_value : (bytes : List ℕ) (power : ℤ)
-    → value_of_decimal (decimal bytes power) ≡ times_power (number (digits_of bytes)) (power -ℤ pos (places bytes))
+    → value_of_decimal (decimal bytes power) ≡ times_power (digits_number (digits_of bytes))
+    (power -ℤ pos (decimal_places bytes))
 decimal_value bytes power = by_coefficient (coefficient_of bytes) (number-without (digits_of bytes))
   where
-    by_coefficient : (c : ℕ) → number (digits_of bytes) ≡ c * 10 ^ end_zeros bytes
+    by_coefficient : (c : ℕ) → digits_number (digits_of bytes) ≡ c * 10 ^ end_zeros bytes
         → value_of_decimal (if c == 0 then record { coefficient = 0; scale = pos 0 }
-        else record { coefficient = c; scale = power -ℤ pos (places bytes) +ℤ pos (end_zeros bytes) })
-        ≡ times_power (number (digits_of bytes)) (power -ℤ pos (places bytes))
+        else record { coefficient = c; scale = power -ℤ pos (decimal_places bytes) +ℤ pos (end_zeros bytes) })
+        ≡ times_power (digits_number (digits_of bytes)) (power -ℤ pos (decimal_places bytes))
     by_coefficient zero is = zero_power (pos 0)
-        ∙ sym (ap (λ n. times_power n (power -ℤ pos (places bytes))) (is ∙ zero-mul (10 ^ end_zeros bytes))
-        ∙ zero_power (power -ℤ pos (places bytes)))
+        ∙ sym (ap (λ n. times_power n (power -ℤ pos (decimal_places bytes))) (is ∙ zero-mul (10 ^ end_zeros bytes))
+        ∙ zero_power (power -ℤ pos (decimal_places bytes)))
     by_coefficient (suc c) is =
-        rw (other c) (zeros-out (suc c) (end_zeros bytes) (power -ℤ pos (places bytes))
-        ∙ sym (ap (λ n. times_power n (power -ℤ pos (places bytes))) is))
+        rw (other c) (zeros-out (suc c) (end_zeros bytes) (power -ℤ pos (decimal_places bytes))
+        ∙ sym (ap (λ n. times_power n (power -ℤ pos (decimal_places bytes))) is))
       where
         other : (c : ℕ) → (suc c == 0) ≡ false
         other c = grind (arith, nat_tests)

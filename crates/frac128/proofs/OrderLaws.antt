@@ -86,7 +86,8 @@ less_trans x y z some_x some_y some_z h k =
 equal_same : (x y : Fraction) → IsReduced x → IsReduced y → order_of x y ≡ Equal → x ≡ y
 equal_same x y is_x is_y h =
     let same : x.num *ℤ pos y.den ≡ y.num *ℤ pos x.den = int_ranked _ _ Equal (sym h) in
-    reduced_only y.num y.den x is_y.positive is_x same ∙ sym (reduced_only y.num y.den y is_y.positive is_y refl)
+    reduced_only y.num y.den x is_y.den_positive is_x same
+    ∙ sym (reduced_only y.num y.den y is_y.den_positive is_y refl)
 
 -- the law of the order
 pub order_law : OrderLaw

@@ -25,8 +25,8 @@ reduced_reduced : (n : ℤ) (d : ℕ) → 0 < d → IsReduced (lowest_terms n d)
 reduced_reduced n d some =
     let low : IsLowest (unsigned_abs n) d _ _ = record { top_is = refl; bottom_is = refl } in
     rw (reduced_is n d) (record {
-      positive = lowest_some _ _ _ _ some low;
-      lowest = rw (abs-signed (int_lt n (pos 0)) (unsigned_abs n / gcd (unsigned_abs n) d))
+      den_positive = lowest_some _ _ _ _ some low;
+      coprime = rw (abs-signed (int_lt n (pos 0)) (unsigned_abs n / gcd (unsigned_abs n) d))
           (lowest_gcd _ _ _ _ some low);
     })
 
@@ -49,10 +49,10 @@ pub reduced_only : (n : ℤ) (d : ℕ) (x : Fraction) → 0 < d → IsReduced x 
 reduced_only n d x some is same =
     let cross : unsigned_abs x.num * d ≡ unsigned_abs n * x.den =
     sym (unsigned_abs-mul x.num (pos d)) ∙ ap unsigned_abs same ∙ unsigned_abs-mul n (pos x.den) in
-    let low = lowest-cross (unsigned_abs n) d (unsigned_abs x.num) x.den some is.positive
-    (coprime_is _ _ is.lowest) cross in
+    let low = lowest-cross (unsigned_abs n) d (unsigned_abs x.num) x.den some is.den_positive
+    (coprime_is _ _ is.coprime) cross in
     let sign : int_lt x.num (pos 0) ≡ int_lt n (pos 0) =
-    sym (sign_kept x.num d some) ∙ ap (λ z. int_lt z (pos 0)) same ∙ sign_kept n x.den is.positive in
+    sym (sign_kept x.num d some) ∙ ap (λ z. int_lt z (pos 0)) same ∙ sign_kept n x.den is.den_positive in
     let num : x.num ≡ number_with_sign (int_lt n (pos 0)) (unsigned_abs x.num) = signed_is x.num
     ∙ ap (λ s. number_with_sign s (unsigned_abs x.num)) sign in
     ap (λ z. record { num = z; den = x.den }) num

@@ -6,19 +6,19 @@ use Rattle.std.specs.Prelude.{if◌then◌else◌, ◌==◌, nat_le, Ok, Err}
 use Rattle.std.proofs.lemmas.Bool.Decides.{nat_tests}
 use Rattle.frac128.specs.declared.numeral.NumeralFault.TheVariants.{TooLong}
 use Rattle.frac128.specs.Decimals.{coefficient_of, decimal_exponent, digits_of, end_zeros, exponent_part, exponent_size}
-use Rattle.frac128.specs.Decimals.{mantissa, most_exponent, places}
+use Rattle.frac128.specs.Decimals.{decimal_places, mantissa, most_exponent}
 use Rattle.frac128.specs.Decimals.{numeral_reading, short_coefficient}
 use Rattle.frac128.specs.Fraction.{most}
-use Rattle.frac128.specs.Numerals.{before, from, is_digit, is_mark_byte, is_numeral}
+use Rattle.frac128.specs.Numerals.{is_digit, is_mark_byte, is_numeral, prefix_until, suffix_from}
 use Rattle.frac128.proofs.Comparisons.{le-false, le-true}
 
 -- the front of a list before a member that passes a test is at most as long as the list
-pub before-le : (p : ℕ → Bool) (xs : List ℕ) → length (before p xs) ≤ length xs
+pub before-le : (p : ℕ → Bool) (xs : List ℕ) → length (prefix_until p xs) ≤ length xs
 before-le p [] = omega arith
 before-le p (x ∷ xs) = by_test (p x) (before-le p xs)
   where
-    by_test : (b : Bool) → length (before p xs) ≤ length xs
-        → length (if◌then◌else◌ {A = List ℕ} b [] (x ∷ before p xs)) ≤ suc (length xs)
+    by_test : (b : Bool) → length (prefix_until p xs) ≤ length xs
+        → length (if◌then◌else◌ {A = List ℕ} b [] (x ∷ prefix_until p xs)) ≤ suc (length xs)
     by_test true h = omega arith
     by_test false h = omega arith
 
@@ -33,24 +33,24 @@ digits-le (b ∷ bs) = by_test (is_digit b) (digits-le bs)
     by_test false h = omega arith
 
 -- taking as many members as the front has gives the front
-take-before : (p : ℕ → Bool) (xs : List ℕ) → take (length (before p xs)) xs ≡ before p xs
+take-before : (p : ℕ → Bool) (xs : List ℕ) → take (length (prefix_until p xs)) xs ≡ prefix_until p xs
 take-before p [] = refl
 take-before p (x ∷ xs) = by_test (p x) (take-before p xs)
   where
-    by_test : (b : Bool) → take (length (before p xs)) xs ≡ before p xs
-        → take (length (if◌then◌else◌ {A = List ℕ} b [] (x ∷ before p xs))) (x ∷ xs)
-        ≡ (if◌then◌else◌ {A = List ℕ} b [] (x ∷ before p xs))
+    by_test : (b : Bool) → take (length (prefix_until p xs)) xs ≡ prefix_until p xs
+        → take (length (if◌then◌else◌ {A = List ℕ} b [] (x ∷ prefix_until p xs))) (x ∷ xs)
+        ≡ (if◌then◌else◌ {A = List ℕ} b [] (x ∷ prefix_until p xs))
     by_test true h = refl
     by_test false h = ap (λ ys. x ∷ ys) h
 
 -- dropping as many members as the front has gives the rest
-drop-before : (p : ℕ → Bool) (xs : List ℕ) → drop (length (before p xs)) xs ≡ from p xs
+drop-before : (p : ℕ → Bool) (xs : List ℕ) → drop (length (prefix_until p xs)) xs ≡ suffix_from p xs
 drop-before p [] = refl
 drop-before p (x ∷ xs) = by_test (p x) (drop-before p xs)
   where
-    by_test : (b : Bool) → drop (length (before p xs)) xs ≡ from p xs
-        → drop (length (if◌then◌else◌ {A = List ℕ} b [] (x ∷ before p xs))) (x ∷ xs)
-        ≡ (if◌then◌else◌ {A = List ℕ} b (x ∷ xs) (from p xs))
+    by_test : (b : Bool) → drop (length (prefix_until p xs)) xs ≡ suffix_from p xs
+        → drop (length (if◌then◌else◌ {A = List ℕ} b [] (x ∷ prefix_until p xs))) (x ∷ xs)
+        ≡ (if◌then◌else◌ {A = List ℕ} b (x ∷ xs) (suffix_from p xs))
     by_test true h = refl
     by_test false h = h
 
@@ -61,7 +61,7 @@ pub record IsSplit (bytes m t : List ℕ) : Type 0 where
   pub t_is : t ≡ exponent_part bytes
 
 -- the parts, given the place of the mark
-pub split_by : (bytes m t : List ℕ) (n : ℕ) → n ≡ length (before is_mark_byte bytes) → m ≡ take n bytes
+pub split_by : (bytes m t : List ℕ) (n : ℕ) → n ≡ length (prefix_until is_mark_byte bytes) → m ≡ take n bytes
     → t ≡ drop n bytes
     → is_numeral bytes ≡ true → IsSplit bytes m t
 split_by bytes m t n n_is m_is t_is h = record {
@@ -109,7 +109,7 @@ read_long bytes m t c z is some wide =
 pub read_short : (bytes m t : List ℕ) (c z : ℕ) → IsSplit bytes m t → Some (c, z) ≡ short_coefficient m
     → exponent_size t ≤ most_exponent
     → numeral_reading bytes ≡ Ok (if c == 0 then record { coefficient = 0; scale = pos 0 }
-    else record { coefficient = c; scale = decimal_exponent t -ℤ pos (places m) +ℤ pos z })
+    else record { coefficient = c; scale = decimal_exponent t -ℤ pos (decimal_places m) +ℤ pos z })
 read_short bytes m t c z is some low =
     let short = is_shortened (nat_le (coefficient_of m) most) (c, z) (coefficient_of m, end_zeros m) some in
     let fits : nat_le (coefficient_of (mantissa bytes)) most ≡ true = rw (← is.m_is) short.0 in
@@ -129,7 +129,8 @@ read_zero bytes m t c z is some low c_is = sym (read_short bytes m t c z is some
 -- if the coefficient is above 0, the result has the scale of the parts
 pub read_some : (bytes m t : List ℕ) (c z k : ℕ) (power : ℤ) → IsSplit bytes m t → Some (c, z) ≡ short_coefficient m
     → exponent_size t ≤ most_exponent → (c ≡ 0 → ⊥)
-    → power ≡ decimal_exponent t → k ≡ places m → Ok (record { coefficient = c; scale = power -ℤ pos k +ℤ pos z })
+    → power ≡ decimal_exponent t → k ≡ decimal_places m
+    → Ok (record { coefficient = c; scale = power -ℤ pos k +ℤ pos z })
     ≡ numeral_reading bytes
 read_some bytes m t c z k power is some low other power_is k_is =
     let test : (c == 0) ≡ false = grind (arith, nat_tests) in

@@ -72,13 +72,13 @@ root_by x q s a b top bottom is some first second odd =
     ∙ ap (number_with_sign s) (first ∙ is.a_is)
     ∙ ap (λ t. number_with_sign t (unsigned_abs x.num)) is.s_is ∙ sym (signed_is x.num) in
     record {
-      reduced = record {
-        positive = root_some bottom q b some second is.some;
-        lowest = rw (abs-signed s top) (root_lowest top bottom q a b some first second (rw is.b_is is.lowest));
+      root_reduced = record {
+        den_positive = root_some bottom q b some second is.some;
+        coprime = rw (abs-signed s top) (root_lowest top bottom q a b some first second (rw is.b_is is.lowest));
       };
-      power = ap (λ n. record { num = n; den = bottom ^ q }) num
+      root_power = ap (λ n. record { num = n; den = bottom ^ q }) num
           ∙ ap (λ d. record { num = x.num; den = d }) (second ∙ is.b_is);
-      plain = plain_sign s top q odd;
+      sign_if_even = plain_sign s top q odd;
     }
 
 -- the root of a fraction that fits, fits
@@ -164,7 +164,7 @@ same_num m n q some e plain_m plain_n =
 -- two roots of a fraction are equal
 pub root_law : RootLaw
 root_law x q r s some is_r is_s =
-    let same : power_fraction r q ≡ power_fraction s q = is_r.power ∙ sym is_s.power in
-    let num = same_num r.num s.num q some (ap (λ f. f.num) same) is_r.plain is_s.plain in
+    let same : power_fraction r q ≡ power_fraction s q = is_r.root_power ∙ sym is_s.root_power in
+    let num = same_num r.num s.num q some (ap (λ f. f.num) same) is_r.sign_if_even is_s.sign_if_even in
     let den = same_of_pow r.den s.den q some (ap (λ f. f.den) same) in
     ap (λ n. record { num = n; den = r.den }) num ∙ ap (λ d. record { num = s.num; den = d }) den

@@ -11,7 +11,7 @@ use Rattle.frac128.specs.declared.numeral_syntax.Kind.{Kind}
 use Rattle.frac128.specs.declared.numeral_syntax.Stage.{Stage}
 use Rattle.frac128.specs.declared.numeral_syntax.Stage.TheVariants.{Start, Whole, Pointed, Fraction, Marked, Signed}
 use Rattle.frac128.specs.declared.numeral_syntax.Stage.TheVariants.{Exponent}
-use Rattle.frac128.specs.Numerals.{before, behind_sign, from, greatest_passing, is_digit, is_exponent_text}
+use Rattle.frac128.specs.Numerals.{behind_sign, greatest_passing, is_digit, is_exponent_text, prefix_until, suffix_from}
 use Rattle.frac128.specs.Numerals.{is_mark_byte, is_numeral}
 use Rattle.frac128.specs.Numerals.{is_point_byte}
 use Rattle.frac128.specs.Numerals.{are_digits, is_pointed, is_sign_byte, numeral_len_of}
@@ -21,9 +21,9 @@ use Rattle.frac128.proofs.Comparisons.{and-false}
 -- whether the bytes after a stage complete a numeral
 abbrev rest_of : Stage → List ℕ → Bool
 rest_of Start bs = is_numeral bs
-rest_of Whole bs = is_pointed (before is_mark_byte bs) && is_exponent_text (from is_mark_byte bs)
-rest_of Pointed bs = are_digits (before is_mark_byte bs) && is_exponent_text (from is_mark_byte bs)
-rest_of Fraction bs = list_all is_digit (before is_mark_byte bs) && is_exponent_text (from is_mark_byte bs)
+rest_of Whole bs = is_pointed (prefix_until is_mark_byte bs) && is_exponent_text (suffix_from is_mark_byte bs)
+rest_of Pointed bs = are_digits (prefix_until is_mark_byte bs) && is_exponent_text (suffix_from is_mark_byte bs)
+rest_of Fraction bs = list_all is_digit (prefix_until is_mark_byte bs) && is_exponent_text (suffix_from is_mark_byte bs)
 rest_of Marked bs = are_digits (behind_sign bs)
 rest_of Signed bs = are_digits bs
 rest_of Exponent bs = list_all is_digit bs

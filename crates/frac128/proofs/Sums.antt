@@ -11,7 +11,7 @@ use Rattle.frac128.specs.Divisors.{gcd, lcm}
 use Rattle.frac128.specs.Fraction.{Fraction, fits_most, most, negative_of}
 use Rattle.frac128.specs.Sign.{number_with_sign}
 use Rattle.frac128.specs.Steps.{lowest_terms, ratio}
-use Rattle.frac128.specs.Sums.{in_range, step_over, minus, numerator_over, plus, sum_over, within}
+use Rattle.frac128.specs.Sums.{in_range, step_over, minus, numerator_over, plus, sum_over, within_bounds}
 use Rattle.frac128.proofs.Euclid.{gcd_is}
 use Rattle.frac128.proofs.Multiples.{lcm-left, lcm-right}
 use Rattle.frac128.proofs.QuotientLaws.{reduced_is}
@@ -70,12 +70,12 @@ if_ok : (b : Bool) (n z : ℤ) → Ok n ≡ (if b then Ok z else Err Overflow) �
 if_ok true n z h = (refl, cc)
 if_ok false n z h = absurd (cc)
 
--- a fault of `within` is `Overflow`, and the number is out of range
-within_err : (z : ℤ) (e : FracFault) → Err e ≡ within z → (in_range z ≡ false) × (e ≡ Overflow)
+-- a fault of `within_bounds` is `Overflow`, and the number is out of range
+within_err : (z : ℤ) (e : FracFault) → Err e ≡ within_bounds z → (in_range z ≡ false) × (e ≡ Overflow)
 within_err z e h = if_err (in_range z) z e h
 
--- a result of `within` is the number itself, which is in range
-pub within_ok : (n z : ℤ) → Ok n ≡ within z → (in_range z ≡ true) × (n ≡ z)
+-- a result of `within_bounds` is the number itself, which is in range
+pub within_ok : (n z : ℤ) → Ok n ≡ within_bounds z → (in_range z ≡ true) × (n ≡ z)
 within_ok n z h = if_ok (in_range z) n z h
 
 -- a reduced quotient of numbers in range fits
@@ -97,24 +97,27 @@ sum_over-ratio zero z some low h = absurd (omega arith)
 sum_over-ratio (suc m) z some low h = rw (fits_reduced z (suc m) h low, le-true (unsigned_abs z) most h) refl
 
 -- if the multiple is out of range, the step fails
-joined-multiple : (step : ℤ → ℤ → ℤ) (m : ℕ) (l r : ℤ) (e : FracFault) → Err e ≡ within (pos m)
+joined-multiple : (step : ℤ → ℤ → ℤ) (m : ℕ) (l r : ℤ) (e : FracFault) → Err e ≡ within_bounds (pos m)
     → step_over step m l r ≡ Err e
 joined-multiple step m l r e h = let no = within_err (pos m) e h in rw (no.0, no.1) refl
 
 -- if the first numerator is out of range, the step fails
-joined-left : (step : ℤ → ℤ → ℤ) (m : ℕ) (l r n : ℤ) (e : FracFault) → Ok n ≡ within (pos m) → Err e ≡ within l
+joined-left : (step : ℤ → ℤ → ℤ) (m : ℕ) (l r n : ℤ) (e : FracFault) → Ok n ≡ within_bounds (pos m)
+    → Err e ≡ within_bounds l
     → step_over step m l r ≡ Err e
 joined-left step m l r n e p h = let no = within_err l e h in rw ((within_ok n (pos m) p).0, no.0, no.1) refl
 
 -- if the second numerator is out of range, the step fails
-joined-right : (step : ℤ → ℤ → ℤ) (m : ℕ) (l r n k : ℤ) (e : FracFault) → Ok n ≡ within (pos m) → Ok k ≡ within l
-    → Err e ≡ within r
+joined-right : (step : ℤ → ℤ → ℤ) (m : ℕ) (l r n k : ℤ) (e : FracFault) → Ok n ≡ within_bounds (pos m)
+    → Ok k ≡ within_bounds l
+    → Err e ≡ within_bounds r
     → step_over step m l r ≡ Err e
 joined-right step m l r n k e p q h = let no =
     within_err r e h in rw ((within_ok n (pos m) p).0, (within_ok k l q).0, no.0, no.1) refl
 
 -- if all parts are in range, the step gives the sum over the multiple
-joined-sum : (step : ℤ → ℤ → ℤ) (m : ℕ) (l r n k j : ℤ) → Ok n ≡ within (pos m) → Ok k ≡ within l → Ok j ≡ within r
+joined-sum : (step : ℤ → ℤ → ℤ) (m : ℕ) (l r n k j : ℤ) → Ok n ≡ within_bounds (pos m) → Ok k ≡ within_bounds l
+    → Ok j ≡ within_bounds r
     → step_over step m l r ≡ sum_over (unsigned_abs n) (step k j)
 joined-sum step m l r n k j p q h =
     let n_is = within_ok n (pos m) p in
@@ -162,7 +165,7 @@ multiple_some x y b d g p q top other is = mul-pos (above p refl) is.some_d
 
 -- if the multiple is out of range, the sum fails
 pub plus-multiple : (x y : Fraction) (b d g p q top other : ℕ) (e : FracFault) → IsParts x y b d g p q top other
-    → Err e ≡ within (pos (p * d)) → plus x y ≡ Err e
+    → Err e ≡ within_bounds (pos (p * d)) → plus x y ≡ Err e
 plus-multiple x y b d g p q top other e is h =
     plus_by x y b d g p q top other _ _ is refl refl
     ∙ joined-multiple ◌+ℤ◌ (p * d) (number_with_sign (int_lt x.num (pos 0)) (top * q))
@@ -172,7 +175,7 @@ plus-multiple x y b d g p q top other e is h =
 pub plus-left : (x y : Fraction) (b d g p q top other : ℕ) (s : Bool) (n : ℤ) (e : FracFault)
     → IsParts x y b d g p q top other
     → s ≡ int_lt x.num (pos 0)
-    → Ok n ≡ within (pos (p * d)) → Err e ≡ within (number_with_sign s (top * q)) → plus x y ≡ Err e
+    → Ok n ≡ within_bounds (pos (p * d)) → Err e ≡ within_bounds (number_with_sign s (top * q)) → plus x y ≡ Err e
 plus-left x y b d g p q top other s n e is s_is m h =
     plus_by x y b d g p q top other s _ is s_is refl
     ∙ joined-left ◌+ℤ◌ (p * d) (number_with_sign s (top * q)) (number_with_sign (int_lt y.num (pos 0)) (other * p)) n e
@@ -182,8 +185,8 @@ plus-left x y b d g p q top other s n e is s_is m h =
 pub plus-right : (x y : Fraction) (b d g p q top other : ℕ) (s t : Bool) (n k : ℤ) (e : FracFault)
     → IsParts x y b d g p q top other
     → s ≡ int_lt x.num (pos 0) → t ≡ int_lt y.num (pos 0)
-    → Ok n ≡ within (pos (p * d)) → Ok k ≡ within (number_with_sign s (top * q))
-    → Err e ≡ within (number_with_sign t (other * p))
+    → Ok n ≡ within_bounds (pos (p * d)) → Ok k ≡ within_bounds (number_with_sign s (top * q))
+    → Err e ≡ within_bounds (number_with_sign t (other * p))
     → plus x y ≡ Err e
 plus-right x y b d g p q top other s t n k e is s_is t_is m l h =
     plus_by x y b d g p q top other s t is s_is t_is
@@ -192,8 +195,8 @@ plus-right x y b d g p q top other s t n k e is s_is t_is m l h =
 -- if all parts are in range, the sum is that of the numerators over the multiple
 pub plus-sum : (x y : Fraction) (b d g p q top other : ℕ) (s t : Bool) (n k j : ℤ) → IsParts x y b d g p q top other
     → s ≡ int_lt x.num (pos 0) → t ≡ int_lt y.num (pos 0)
-    → Ok n ≡ within (pos (p * d)) → Ok k ≡ within (number_with_sign s (top * q))
-    → Ok j ≡ within (number_with_sign t (other * p))
+    → Ok n ≡ within_bounds (pos (p * d)) → Ok k ≡ within_bounds (number_with_sign s (top * q))
+    → Ok j ≡ within_bounds (number_with_sign t (other * p))
     → plus x y ≡ sum_over (unsigned_abs n) (k +ℤ j)
 plus-sum x y b d g p q top other s t n k j is s_is t_is m l h =
     plus_by x y b d g p q top other s t is s_is t_is
@@ -204,8 +207,8 @@ plus-sum x y b d g p q top other s t n k j is s_is t_is m l h =
 pub sum-shared : (x y : Fraction) (b d g p q top other : ℕ) (s t : Bool) (n k j : ℤ) → IsParts x y b d g p q top other
     → IsGcd top b 1
     → IsGcd other d 1
-    → Ok n ≡ within (pos (p * d)) → Ok k ≡ within (number_with_sign s (top * q))
-    → Ok j ≡ within (number_with_sign t (other * p))
+    → Ok n ≡ within_bounds (pos (p * d)) → Ok k ≡ within_bounds (number_with_sign s (top * q))
+    → Ok j ≡ within_bounds (number_with_sign t (other * p))
     → gcd (unsigned_abs (k +ℤ j)) g ≡ gcd (unsigned_abs (k +ℤ j)) (unsigned_abs n)
 sum-shared x y b d g p q top other s t n k j is first second m l h =
     rw (

@@ -7,21 +7,23 @@ use Rattle.std.specs.List.{list_all, list_any}
 use Rattle.std.proofs.lemmas.Bool.Decides.{nat_tests}
 use Rattle.std.proofs.lemmas.Int.{ints}
 use Rattle.std.proofs.Math.Nat.{le-mul_of_pos_right, zero-mul}
-use Rattle.frac128.specs.Decimals.{Decimal, DigitsLaw, coefficient_of, digits_of, end_zeros, number, places}
+use Rattle.frac128.specs.Decimals.{Decimal, DigitsLaw, coefficient_of, decimal_places, digits_number, digits_of}
+use Rattle.frac128.specs.Decimals.{end_zeros}
 use Rattle.frac128.specs.Decimals.{value_of_decimal}
 use Rattle.frac128.specs.Fraction.{most, whole}
-use Rattle.frac128.specs.Numerals.{before, from, is_digit, is_exponent_text, is_mantissa, is_mark_byte, is_numeral}
+use Rattle.frac128.specs.Numerals.{is_digit, is_exponent_text, is_mantissa, is_mark_byte, is_numeral, prefix_until}
+use Rattle.frac128.specs.Numerals.{suffix_from}
 use Rattle.frac128.specs.Numerals.{is_point_byte}
-use Rattle.frac128.proofs.DigitRuns.{kept, number-without}
+use Rattle.frac128.proofs.DigitRuns.{number-without, small_coefficient_result}
 use Rattle.frac128.proofs.Powers.{pow_some}
 use Rattle.frac128.proofs.Readings.{IsSplit, read_short}
 use Rattle.frac128.proofs.StageRuns.{digit_no_mark, digit_no_point}
 use Rattle.frac128.proofs.TenPowers.{whole_ratio, zero_power}
 
 -- if the conjunction of two tests holds, both tests hold
-pub both : (x y : Bool) → (x && y) ≡ true → (x ≡ true) × (y ≡ true)
-both true y h = (refl, h)
-both false y h = absurd (cc)
+pub and_both_true : (x y : Bool) → (x && y) ≡ true → (x ≡ true) × (y ≡ true)
+and_both_true true y h = (refl, h)
+and_both_true false y h = absurd (cc)
 
 -- all bytes are digits
 abbrev pub all : List ℕ → Type 0
@@ -29,18 +31,18 @@ all bs = list_all is_digit bs ≡ true
 
 -- if no digit passes a test, the front of digits before the first byte that passes is all of them
 pub before_digits : (test : ℕ → Bool) (bs : List ℕ) → ((b : ℕ) → is_digit b ≡ true → test b ≡ false) → all bs
-    → before test bs ≡ bs
+    → prefix_until test bs ≡ bs
 before_digits test [] none h = refl
 before_digits test (b ∷ bs) none h =
-    let parts = both (is_digit b) (list_all is_digit bs) h in
+    let parts = and_both_true (is_digit b) (list_all is_digit bs) h in
     rw (none b parts.0) (ap (λ xs. b ∷ xs) (before_digits test bs none parts.1))
 
 -- if no digit passes a test, the rest of digits from the first byte that passes on is empty
 pub from_digits : (test : ℕ → Bool) (bs : List ℕ) → ((b : ℕ) → is_digit b ≡ true → test b ≡ false) → all bs
-    → from test bs ≡ []
+    → suffix_from test bs ≡ []
 from_digits test [] none h = refl
 from_digits test (b ∷ bs) none h =
-    let parts = both (is_digit b) (list_all is_digit bs) h in
+    let parts = and_both_true (is_digit b) (list_all is_digit bs) h in
     rw (none b parts.0) (from_digits test bs none parts.1)
 
 -- digits alone are a numeral
@@ -48,10 +50,12 @@ pub digits_numeral : (bs : List ℕ) → 0 < length bs → all bs → is_numeral
 digits_numeral [] some h = absurd (omega arith)
 digits_numeral (b ∷ bs) some h =
     let ds = b ∷ bs in
-    let parts = both (is_digit b) (list_all is_digit bs) h in
-    ap (λ xs. is_mantissa xs && is_exponent_text (from is_mark_byte ds)) (before_digits is_mark_byte ds digit_no_mark h)
+    let parts = and_both_true (is_digit b) (list_all is_digit bs) h in
+    ap (λ xs. is_mantissa xs && is_exponent_text (suffix_from is_mark_byte ds))
+    (before_digits is_mark_byte ds digit_no_mark h)
     ∙ ap (λ xs. is_mantissa ds && is_exponent_text xs) (from_digits is_mark_byte ds digit_no_mark h)
-    ∙ ap (λ xs. (list_any is_digit ds && (list_all is_digit xs && list_all is_digit (drop 1 (from is_point_byte ds))))
+    ∙ ap (λ xs. (list_any is_digit ds &&
+    (list_all is_digit xs && list_all is_digit (drop 1 (suffix_from is_point_byte ds))))
     && true) (before_digits is_point_byte ds digit_no_point h)
     ∙ ap (λ xs. (list_any is_digit ds && (list_all is_digit ds && list_all is_digit (drop 1 xs))) && true)
     (from_digits is_point_byte ds digit_no_point h)
@@ -81,21 +85,22 @@ digits_law bytes some h fits =
     let ds = digits_of bytes in
     let c = coefficient_of bytes in
     let z = end_zeros bytes in
-    let n_is : number ds ≡ c * 10 ^ z = number-without ds in
+    let n_is : digits_number ds ≡ c * 10 ^ z = number-without ds in
     let grows : c ≤ c * 10 ^ z = le-mul_of_pos_right c (pow_some 10 z (lit< tt)) in
-    let low : c ≤ most = under c (c * 10 ^ z) (number ds) grows n_is fits in
+    let low : c ≤ most = under c (c * 10 ^ z) (digits_number ds) grows n_is fits in
     let split : IsSplit bytes bytes [] = record {
       numeral = digits_numeral bytes some h;
       m_is = sym (before_digits is_mark_byte bytes digit_no_mark h);
       t_is = sym (from_digits is_mark_byte bytes digit_no_mark h);
     } in
-    let no_places : places bytes ≡ 0 = ap (λ xs. length xs - 1) (from_digits is_point_byte bytes digit_no_point h) in
-    let scale : pos 0 -ℤ pos (places bytes) +ℤ pos z ≡ pos z = ap (λ k. pos 0 -ℤ pos k +ℤ pos z) no_places
+    let no_places : decimal_places bytes ≡ 0 =
+    ap (λ xs. length xs - 1) (from_digits is_point_byte bytes digit_no_point h) in
+    let scale : pos 0 -ℤ pos (decimal_places bytes) +ℤ pos z ≡ pos z = ap (λ k. pos 0 -ℤ pos k +ℤ pos z) no_places
     ∙ omega (arith, ints) in
-    let value = value_zeros c z (number ds) n_is fits in
+    let value = value_zeros c z (digits_number ds) n_is fits in
     let x : Decimal = value.0 in (
       x,
-      read_short bytes bytes [] c z split (sym (kept c (c, z) low)) (omega arith)
+      read_short bytes bytes [] c z split (sym (small_coefficient_result c (c, z) low)) (omega arith)
           ∙ ap (λ s. Ok (if c == 0 then record { coefficient = 0; scale = pos 0 }
           else record { coefficient = c; scale = s })) scale
           ∙ ap Ok value.1,

@@ -7,7 +7,8 @@ use Rattle.frac128.specs.declared.fault.FracFault.{FracFault}
 use Rattle.frac128.specs.declared.numeral.NumeralFault.{NumeralFault}
 use Rattle.frac128.specs.declared.numeral.NumeralFault.TheVariants.{NotNumeral, TooLong}
 use Rattle.frac128.specs.Fraction.{Fraction, most, whole}
-use Rattle.frac128.specs.Numerals.{before, from, is_digit, is_mark_byte, is_minus_byte, is_numeral, is_point_byte}
+use Rattle.frac128.specs.Numerals.{is_digit, is_mark_byte, is_minus_byte, is_numeral, is_point_byte, prefix_until}
+use Rattle.frac128.specs.Numerals.{suffix_from}
 use Rattle.frac128.specs.Sign.{number_with_sign}
 use Rattle.frac128.specs.Steps.{ratio}
 
@@ -26,8 +27,8 @@ digits_of [] = []
 digits_of (b ∷ bs) = if is_digit b then (b - 48) ∷ digits_of bs else digits_of bs
 
 -- the whole number that digits write
-abbrev pub number : List ℕ → ℕ
-number ds = fold (λ n d. n * 10 + d) 0 ds
+abbrev pub digits_number : List ℕ → ℕ
+digits_number ds = fold (λ n d. n * 10 + d) 0 ds
 
 -- the digit is 0
 abbrev pub is_zero_digit : ℕ → Bool
@@ -41,19 +42,19 @@ digits_without_zeros (d ∷ ds) = if list_all is_zero_digit (d ∷ ds) then [] e
 
 -- the bytes before the `e` or `E`
 abbrev pub mantissa : List ℕ → List ℕ
-mantissa bytes = before is_mark_byte bytes
+mantissa bytes = prefix_until is_mark_byte bytes
 
 -- the bytes from the `e` or `E` on
 abbrev pub exponent_part : List ℕ → List ℕ
-exponent_part bytes = from is_mark_byte bytes
+exponent_part bytes = suffix_from is_mark_byte bytes
 
 -- the number of digits of a mantissa after the point
-abbrev pub places : List ℕ → ℕ
-places bytes = length (from is_point_byte bytes) - 1
+abbrev pub decimal_places : List ℕ → ℕ
+decimal_places bytes = length (suffix_from is_point_byte bytes) - 1
 
 -- the number that all digits of a mantissa write without the zeros at their end
 abbrev pub coefficient_of : List ℕ → ℕ
-coefficient_of bytes = number (digits_without_zeros (digits_of bytes))
+coefficient_of bytes = digits_number (digits_without_zeros (digits_of bytes))
 
 -- the number of zeros at the end of the digits of a mantissa
 abbrev pub end_zeros : List ℕ → ℕ
@@ -66,7 +67,7 @@ short_coefficient bytes =
 
 -- the magnitude of the exponent
 abbrev pub exponent_size : List ℕ → ℕ
-exponent_size text = number (digits_of text)
+exponent_size text = digits_number (digits_of text)
 
 -- the exponent, which is below 0 if there is a minus
 abbrev pub decimal_exponent : List ℕ → ℤ
@@ -79,7 +80,7 @@ decimal bytes power =
     then record { coefficient = 0; scale = pos 0 }
     else record {
       coefficient = coefficient_of bytes;
-      scale = power -ℤ pos (places bytes) +ℤ pos (end_zeros bytes);
+      scale = power -ℤ pos (decimal_places bytes) +ℤ pos (end_zeros bytes);
     }
 
 -- the coefficient and the exponent are not too large
@@ -111,14 +112,14 @@ value_of_decimal x = times_power x.coefficient x.scale
 -- law: digits alone are a numeral, and its value is the whole number that they write
 abbrev pub DigitsLaw : Type 0
 DigitsLaw = (bytes : List ℕ) → 0 < length bytes → IsTrue (list_all is_digit bytes)
-    → number (digits_of bytes) ≤ most
+    → digits_number (digits_of bytes) ≤ most
     → (x : Decimal) × (numeral_reading bytes ≡ Ok x)
-    × (value_of_decimal x ≡ Ok (whole (pos (number (digits_of bytes)))))
+    × (value_of_decimal x ≡ Ok (whole (pos (digits_number (digits_of bytes)))))
 
 -- law: a numeral within the limits has the value of the whole number of all its digits, times ten to the exponent less
 -- the number of digits after the point
 abbrev pub NumeralLaw : Type 0
 NumeralLaw = (bytes : List ℕ) → is_numeral bytes ≡ true → is_short bytes ≡ true
     → (x : Decimal) × (numeral_reading bytes ≡ Ok x)
-    × (value_of_decimal x ≡ times_power (number (digits_of (mantissa bytes)))
-    (decimal_exponent (exponent_part bytes) -ℤ pos (places (mantissa bytes))))
+    × (value_of_decimal x ≡ times_power (digits_number (digits_of (mantissa bytes)))
+    (decimal_exponent (exponent_part bytes) -ℤ pos (decimal_places (mantissa bytes))))

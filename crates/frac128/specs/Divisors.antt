@@ -18,9 +18,9 @@ GcdLaw = (a b : ℕ) → IsGcd a b (gcd a b)
 
 -- m is the least common multiple of a and b: both divide it, and it divides every common multiple
 pub record IsLcm (a b m : ℕ) : Type 0 where
-  pub first : a ∣ m
-  pub second : b ∣ m
-  pub least : (n : ℕ) → a ∣ n → b ∣ n → m ∣ n
+  pub first_divides : a ∣ m
+  pub second_divides : b ∣ m
+  pub least_multiple : (n : ℕ) → a ∣ n → b ∣ n → m ∣ n
 
 -- the least common multiple of two numbers
 unfoldable pub lcm : ℕ → ℕ → ℕ

@@ -9,8 +9,8 @@ floor_of x = whole (int_div_euclid x.num (pos x.den))
 
 -- the whole number n is at most x, and the next one is above x
 pub record IsFloor (x : Fraction) (n : ℤ) : Type 0 where
-  pub below : (n *ℤ pos x.den) ≤ℤ x.num
-  pub above : x.num <ℤ ((n +ℤ pos 1) *ℤ pos x.den)
+  pub floor_below : (n *ℤ pos x.den) ≤ℤ x.num
+  pub floor_above : x.num <ℤ ((n +ℤ pos 1) *ℤ pos x.den)
 
 -- law: the quotient rounded down is the greatest whole number that is at most x
 abbrev pub FloorLaw : Type 0

@@ -9,8 +9,8 @@ pub record Fraction : Type 0 where
 
 -- the denominator is at least 1, and no number but 1 divides both
 pub record IsReduced (x : Fraction) : Type 0 where
-  pub positive : 0 < x.den
-  pub lowest : IsGcd (unsigned_abs x.num) x.den 1
+  pub den_positive : 0 < x.den
+  pub coprime : IsGcd (unsigned_abs x.num) x.den 1
 
 -- two fractions have the same value: their cross products are equal
 abbrev pub SameValue : Fraction → Fraction → Type 0
@@ -34,6 +34,6 @@ fits_most x = nat_le (unsigned_abs x.num) most && nat_le x.den most
 
 -- the invariant of every fraction in the program
 pub record IsFrac (x : Fraction) : Type 0 where
-  pub reduced : IsReduced x
+  pub lowest_terms : IsReduced x
   pub num_fits : unsigned_abs x.num ≤ most
   pub den_fits : x.den ≤ most

@@ -12,7 +12,7 @@ distance a b n = abs_diff a (n * b)
 -- no whole number is nearer to a / b than n, and n is even if another one is as near
 pub record IsNearestWhole (a b n : ℕ) : Type 0 where
   pub near : (m : ℕ) → distance a b n ≤ distance a b m
-  pub tie : (m : ℕ) → distance a b m ≡ distance a b n → (m ≡ n) ⊎ (n % 2 ≡ 0)
+  pub even_on_tie : (m : ℕ) → distance a b m ≡ distance a b n → (m ≡ n) ⊎ (n % 2 ≡ 0)
 
 -- a whole number or the next one, as the part after the first compares with a half; at a half the even one
 abbrev pub by_half : ℕ → Ordering → ℕ

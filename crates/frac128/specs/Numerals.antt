@@ -4,14 +4,14 @@ use Rattle.std.specs.Prelude.{List, [], ◌∷◌, take, drop, length}
 use Rattle.std.specs.List.{list_all, list_any}
 
 -- the members before the first one that passes the test, or all if none does
-abbrev pub before : {X : Type 0} → (X → Bool) → List X → List X
-before test [] = []
-before test (x ∷ xs) = if test x then [] else x ∷ before test xs
+abbrev pub prefix_until : {X : Type 0} → (X → Bool) → List X → List X
+prefix_until test [] = []
+prefix_until test (x ∷ xs) = if test x then [] else x ∷ prefix_until test xs
 
 -- the members from the first one that passes the test on, or no members if none does
-abbrev pub from : {X : Type 0} → (X → Bool) → List X → List X
-from test [] = []
-from test (x ∷ xs) = if test x then x ∷ xs else from test xs
+abbrev pub suffix_from : {X : Type 0} → (X → Bool) → List X → List X
+suffix_from test [] = []
+suffix_from test (x ∷ xs) = if test x then x ∷ xs else suffix_from test xs
 
 -- a decimal digit
 abbrev pub is_digit : ℕ → Bool
@@ -40,8 +40,8 @@ are_digits bytes = list_any is_digit bytes && list_all is_digit bytes
 -- digits, with at most one point before, among or after them
 abbrev pub is_pointed : List ℕ → Bool
 is_pointed bytes =
-    list_all is_digit (before is_point_byte bytes)
-    && list_all is_digit (drop 1 (from is_point_byte bytes))
+    list_all is_digit (prefix_until is_point_byte bytes)
+    && list_all is_digit (drop 1 (suffix_from is_point_byte bytes))
 
 -- one digit or more, with at most one point before, among or after them
 abbrev pub is_mantissa : List ℕ → Bool
@@ -59,7 +59,7 @@ is_exponent_text (mark ∷ bytes) = are_digits (behind_sign bytes)
 
 -- the bytes are a numeral: a mantissa before the first mark, and an exponent from there on
 abbrev pub is_numeral : List ℕ → Bool
-is_numeral bytes = is_mantissa (before is_mark_byte bytes) && is_exponent_text (from is_mark_byte bytes)
+is_numeral bytes = is_mantissa (prefix_until is_mark_byte bytes) && is_exponent_text (suffix_from is_mark_byte bytes)
 
 -- the greatest number from 1 to n that passes the test, or 0 if none does
 unfoldable pub greatest_passing : (ℕ → Bool) → ℕ → ℕ

@@ -10,9 +10,9 @@ use Rattle.frac128.specs.Sign.{is_negative, number_with_sign}
 
 -- r to the power q is x, and r is not below 0 if q is even
 pub record IsRoot (x : Fraction) (q : ℕ) (r : Fraction) : Type 0 where
-  pub reduced : IsReduced r
-  pub power : power_fraction r q ≡ x
-  pub plain : q % 2 ≡ 0 → IsFalse (int_lt r.num (pos 0))
+  pub root_reduced : IsReduced r
+  pub root_power : power_fraction r q ≡ x
+  pub sign_if_even : q % 2 ≡ 0 → IsFalse (int_lt r.num (pos 0))
 
 -- the root, or the fault that no fraction is a root
 abbrev pub IsRootAnswer : Fraction → ℕ → Result Fraction FracFault → Type 0

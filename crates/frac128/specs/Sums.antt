@@ -12,8 +12,8 @@ abbrev pub in_range : ℤ → Bool
 in_range n = nat_le (unsigned_abs n) most
 
 -- the number, or `Overflow` if it is out of range
-abbrev pub within : ℤ → Result ℤ FracFault
-within n = if in_range n then Ok n else Err Overflow
+abbrev pub within_bounds : ℤ → Result ℤ FracFault
+within_bounds n = if in_range n then Ok n else Err Overflow
 
 -- the numerator of x over a multiple of its denominator
 abbrev pub numerator_over : Fraction → ℕ → ℤ

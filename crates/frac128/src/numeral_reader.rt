@@ -89,7 +89,7 @@ fn is_numeral(bytes: &[u8]) -> bool
 
 // The index of the first `e` or `E`, or the length if there is none.
 fn mark_place(bytes: &[u8]) -> usize
-    ensures { result ≡ length (numerals.before numerals.is_mark_byte bytes.now) }
+    ensures { result ≡ length (numerals.prefix_until numerals.is_mark_byte bytes.now) }
 {
     for (i, &byte) in bytes.iter().enumerate() {
         if byte == b'E' || byte == b'e' {
@@ -101,7 +101,7 @@ fn mark_place(bytes: &[u8]) -> usize
 
 // The number of bytes after the point, or 0 if there is no point.
 fn places(bytes: &[u8]) -> usize
-    ensures is { result ≡ spec.places bytes.now }
+    ensures is { result ≡ spec.decimal_places bytes.now }
     ensures within { result ≤ length bytes.now }
     ensures fits { length bytes.now < 2 ^ 63 }
 {

@@ -4,7 +4,7 @@ ghost use Rattle.std.specs.Prelude.{◌≡◌, ◌*◌, ◌+ℤ◌, ◌<ℤ◌, 
 ghost use Rattle.frac128.specs.Divisors as spec;
 ghost use Rattle.frac128.specs.Fraction.{most};
 ghost use Rattle.frac128.specs.Sign as sign;
-ghost use Rattle.frac128.specs.Sums.{minus, plus, sum_over, within};
+ghost use Rattle.frac128.specs.Sums.{minus, plus, sum_over, within_bounds};
 
 use crate::divisors::{gcd, quotient};
 use crate::fault::FracFault;
@@ -58,7 +58,7 @@ impl Frac {
 
 // The product with this sign, or `Overflow` if it is out of range.
 fn product(negative: bool, a: u128, b: u128) -> Result<i128, FracFault>
-    ensures { result ≡ within (sign.number_with_sign negative (a * b)) }
+    ensures { result ≡ within_bounds (sign.number_with_sign negative (a * b)) }
 {
     match a.checked_mul(b) {
         Some(size) if size <= MOST => Ok(with_sign(negative, size)),

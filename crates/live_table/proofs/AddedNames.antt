@@ -99,11 +99,11 @@ module _ (t : Table) (key later : ℕ → Key) (ends other : ℕ → Option Key 
   )
 
 -- a settled number is within the keys
-pub settled_within : (t : Table) (l : Listed) → AreNumberedNames t l → (n : ℕ) → IsSettled l.settled n
+pub settled_within : (t : Table) (l : Listed) → AreNumberedNames t l → (n : ℕ) → IsSettled l.settled_flags n
     → n < length l.keys
 settled_within t l nodes n e =
-    let a : n < length l.settled = get_lt l.settled n true e in
-    let b : length l.settled ≡ length l.outcomes = ap length nodes.marked ∙ length-map l.outcomes _ in
+    let a : n < length l.settled_flags = get_lt l.settled_flags n true e in
+    let b : length l.settled_flags ≡ length l.outcomes = ap length nodes.marks_right ∙ length-map l.outcomes _ in
     let c : length l.outcomes ≡ length l.keys = nodes.outcome_count in omega arith
 
 -- a known number is within the keys
@@ -111,8 +111,8 @@ pub known_within : (t : Table) (l : Listed) (before list : List ℕ) → AreNumb
     → (n : ℕ)
     → IsKnown l before list n → n < length l.keys
 known_within t l before list nodes right n (inl e) = settled_within t l nodes n e
-known_within t l before list nodes right n (inr (inl i)) = right.gone n i
-known_within t l before list nodes right n (inr (inr i)) = right.within n i
+known_within t l before list nodes right n (inr (inl i)) = right.explored_in_table n i
+known_within t l before list nodes right n (inr (inr i)) = right.listed_in_table n i
 
 -- ---- written steps stay written
 module _ (t : Table) (l m : Listed) (before here there : List ℕ) (ends more : List DeadEnd)
@@ -132,10 +132,10 @@ module _ (t : Table) (l m : Listed) (before here there : List ℕ) (ends more : 
   written_more us xs w = record {
     words = same_words t (key_at l.keys) (key_at m.keys) (fault_at ends) (fault_at more) us xs
         (λ n i. keys_same n (known_within t l before here nodes right n (w.targets n i)))
-        (λ b i holder. fault_same ends more b grown.ends_more (w.nowhere b i) holder) w.words;
+        (λ b i holder. fault_same ends more b grown.ends_more (w.dead_ends_within b i) holder) w.words;
     targets = λ n i. known_still n (w.targets n i);
-    nowhere = λ b i.
-        let h : b < length ends = w.nowhere b i in
+    dead_ends_within = λ b i.
+        let h : b < length ends = w.dead_ends_within b i in
         let q : length ends ≤ length more = more_length ends more grown.ends_more in omega arith;
   }
 
@@ -144,12 +144,12 @@ module _ (t : Table) (l m : Listed) (before here there : List ℕ) (ends more : 
 pub none_listed : (t : Table) (l : Listed) (before list : List ℕ) → ((n : ℕ) → In n before → n < length l.keys)
     → list ≡ [] → AreListed t l before list
 none_listed t l before list gone e = subst (AreListed t l before) (sym e) (record {
-  gone = gone;
-  within = λ n i. absurd i;
-  fresh = λ n i. absurd i;
+  explored_in_table = gone;
+  listed_in_table = λ n i. absurd i;
+  listed_not_settled = λ n i. absurd i;
   new = λ n i. absurd i;
-  present = λ n i. absurd i;
-  once = nothing_twice;
+  listed_have_entries = λ n i. absurd i;
+  numbers_distinct = nothing_twice;
 })
 
 -- a table has grown, with none of its listed numbers
@@ -157,8 +157,8 @@ pub grown_alone : (t : Table) (l m : Listed) (before here there : List ℕ) (end
     → AreGrown t l m before here there ends more → AreGrown t l m before [] [] ends more
 grown_alone t l m before here there ends more grown = record {
   nodes = grown.nodes;
-  kept = grown.kept;
-  listed = none_listed t m before [] grown.listed.gone refl;
+  same_outcomes = grown.same_outcomes;
+  list_right = none_listed t m before [] grown.list_right.explored_in_table refl;
   keys_more = grown.keys_more;
   settled_still = grown.settled_still;
   list_more = λ i x e. e;
@@ -171,8 +171,8 @@ pub grown_none : (t : Table) (l : Listed) (before list : List ℕ) (ends more : 
     → AreGrown t l l before list list ends more
 grown_none t l before list ends more nodes right growing = record {
   nodes = nodes;
-  kept = refl;
-  listed = right;
+  same_outcomes = refl;
+  list_right = right;
   keys_more = λ i x e. e;
   settled_still = λ n e. e;
   list_more = λ i x e. e;
@@ -185,8 +185,8 @@ pub grown_both : (t : Table) (l m k : Listed) (before here list there : List ℕ
     → AreGrown t l k before here there xs zs
 grown_both t l m k before here list there xs ys zs a b = record {
   nodes = b.nodes;
-  kept = b.kept ∙ a.kept;
-  listed = b.listed;
+  same_outcomes = b.same_outcomes ∙ a.same_outcomes;
+  list_right = b.list_right;
   keys_more = λ i x e. b.keys_more i x (a.keys_more i x e);
   settled_still = λ n e. b.settled_still n (a.settled_still n e);
   list_more = λ i x e. b.list_more i x (a.list_more i x e);
@@ -198,8 +198,8 @@ pub added_none : (t : Table) (l : Listed) (before list : List ℕ) (ends more : 
     → AreListed t l before list → IsMore ends more
     → AreAdded t l l before list list ends more
 added_none t l before list ends more nodes right growing = record {
-  grown = grown_none t l before list ends more nodes right growing;
-  same = record { steps = λ n h o. refl; callees = λ n h o. refl; looks = λ n h o. refl };
+  growth = grown_none t l before list ends more nodes right growing;
+  same_nodes = record { steps = λ n h o. refl; callees = λ n h o. refl; looks = λ n h o. refl };
 }
 
 -- two additions in turn are one addition
@@ -207,13 +207,13 @@ pub added_both : (t : Table) (l m k : Listed) (before here list there : List ℕ
     → AreAdded t l m before here list xs ys → AreAdded t m k before list there ys zs
     → AreAdded t l k before here there xs zs
 added_both t l m k before here list there xs ys zs a b = record {
-  grown = grown_both t l m k before here list there xs ys zs a.grown b.grown;
-  same = record {
-    steps = λ n h o. b.same.steps n (longer n h) tt ∙ a.same.steps n h tt;
-    callees = λ n h o. b.same.callees n (longer n h) tt ∙ a.same.callees n h tt;
-    looks = λ n h o. b.same.looks n (longer n h) tt ∙ a.same.looks n h tt;
+  growth = grown_both t l m k before here list there xs ys zs a.growth b.growth;
+  same_nodes = record {
+    steps = λ n h o. b.same_nodes.steps n (longer n h) tt ∙ a.same_nodes.steps n h tt;
+    callees = λ n h o. b.same_nodes.callees n (longer n h) tt ∙ a.same_nodes.callees n h tt;
+    looks = λ n h o. b.same_nodes.looks n (longer n h) tt ∙ a.same_nodes.looks n h tt;
   };
 }
   where
     longer : (n : ℕ) → n < length l.keys → n < length m.keys
-    longer n h = let q : length l.keys ≤ length m.keys = more_length l.keys m.keys a.grown.keys_more in omega arith
+    longer n h = let q : length l.keys ≤ length m.keys = more_length l.keys m.keys a.growth.keys_more in omega arith

@@ -30,7 +30,7 @@ in_front (p ∷ places) k (suc m) i e = in_front places k m i e
 
 -- at the start no number has a place
 pub nothing_placed : IsPlaced [] []
-nothing_placed = record { placed = λ n i. ((λ e. cc), (λ e. cc)); once = nothing_twice }
+nothing_placed = record { places_match = λ n i. ((λ e. cc), (λ e. cc)); numbers_distinct = nothing_twice }
 
 -- more room for places
 same_resized : (places : List ℕ) (end : ℕ) → length places ≤ end
@@ -53,15 +53,15 @@ same_after false old new end size s h e = subst (AreSamePlaces old) (sym e) (λ 
 -- tables with the same places are those of the same numbers
 pub placed_same : (old new numbers : List ℕ) → AreSamePlaces old new → IsPlaced old numbers → IsPlaced new numbers
 placed_same old new numbers s m = record {
-  placed = λ n i. (λ e. (m.placed n i).0 ((s n i).0 e), λ e. (s n i).1 ((m.placed n i).1 e));
-  once = m.once;
+  places_match = λ n i. (λ e. (m.places_match n i).0 ((s n i).0 e), λ e. (s n i).1 ((m.places_match n i).1 e));
+  numbers_distinct = m.numbers_distinct;
 }
 
 -- the entry that is read at a place, or 0 if there is none
-pub read : (o : Option (Bor ℕ)) (kept : ℕ) → kept ≡ unwrap_or (option_copied o) 0
+pub entry_at_place : (o : Option (Bor ℕ)) (kept : ℕ) → kept ≡ unwrap_or (option_copied o) 0
     → kept ≡ unwrap_or (option_map (λ p. p.now) o) 0
-read None kept e = e
-read (Some p) kept e = e
+entry_at_place None kept e = e
+entry_at_place (Some p) kept e = e
 
 -- an entry that is read and is not 0 is stored
 held : (places : List ℕ) (n kept : ℕ) → kept ≡ get_or places n 0 → 1 ≤ kept → slice_get places n ≡ Some kept
@@ -75,26 +75,26 @@ pub place_told : (places numbers : List ℕ) (n kept : ℕ) (r : Option ℕ) →
     → MatchOption r (is_on_path numbers n ≡ false) (λ i. slice_get numbers i ≡ Some n)
 place_told places numbers n kept None e s m =
     false_from_ne_true (is_on_path numbers n) (λ t. let at = place_in numbers n (on-In numbers n t) in
-    let k : kept ≡ at.0 + 1 = e ∙ get_or_from_slice_get places n (at.0 + 1) 0 ((m.placed n at.0).1 at.1) in
+    let k : kept ≡ at.0 + 1 = e ∙ get_or_from_slice_get places n (at.0 + 1) 0 ((m.places_match n at.0).1 at.1) in
     s (omega (arith, k)))
 place_told places numbers n kept (Some i) e s m =
     let k : kept ≡ i + 1 = (let a : 1 ≤ kept = s.0 in let b : i ≡ kept - 1 = s.1 in omega (arith, a, b)) in
-    (m.placed n i).0 (held places n kept e s.0 ∙ ap Some k)
+    (m.places_match n i).0 (held places n kept e s.0 ∙ ap Some k)
 
 -- a number that has a place is there
-pub there : (numbers : List ℕ) (n : ℕ) (r : Option ℕ)
+pub number_with_place : (numbers : List ℕ) (n : ℕ) (r : Option ℕ)
     → MatchOption r (is_on_path numbers n ≡ false) (λ i. slice_get numbers i ≡ Some n)
     → is_some r ≡ is_on_path numbers n
-there numbers n None h = sym h
-there numbers n (Some i) h = sym (In-on numbers n (get_In numbers i n h))
+number_with_place numbers n None h = sym h
+number_with_place numbers n (Some i) h = sym (In-on numbers n (get_In numbers i n h))
 
 -- one more number is appended
 pub placed_put : (places numbers : List ℕ) (n kept : ℕ) → kept ≡ length numbers + 1 → n < length places
     → is_on_path numbers n ≡ false → IsPlaced places numbers
     → IsPlaced (set places n kept) (numbers ++ n ∷ [])
 placed_put places numbers n kept k h new m = record {
-  placed = λ q i. (to q i, from q i);
-  once = IsDistinct-push nat_eq_equiv numbers n m.once new;
+  places_match = λ q i. (to q i, from q i);
+  numbers_distinct = IsDistinct-push nat_eq_equiv numbers n m.numbers_distinct new;
 }
   where
     to : (q i : ℕ) → slice_get (set places n kept) q ≡ Some (i + 1) → slice_get (numbers ++ n ∷ []) i ≡ Some q
@@ -104,7 +104,7 @@ placed_put places numbers n kept k h new m = record {
           (sym (ap (slice_get (set places n kept)) s ∙ get_set_same places n kept h) ∙ e) in
           let last : i ≡ length numbers = omega (arith, own, k) in
           ap (slice_get (numbers ++ n ∷ [])) last ∙ (get_last numbers n ∙ ap Some (sym s))
-      | inr ne ↦ push_more numbers (n ∷ []) i q ((m.placed q i).0 (sym (get_set_other places n q kept ne) ∙ e))
+      | inr ne ↦ push_more numbers (n ∷ []) i q ((m.places_match q i).0 (sym (get_set_other places n q kept ne) ∙ e))
     ]
 
     from : (q i : ℕ) → slice_get (numbers ++ n ∷ []) i ≡ Some q → slice_get (set places n kept) q ≡ Some (i + 1)
@@ -113,7 +113,7 @@ placed_put places numbers n kept k h new m = record {
           get_set_other places n q kept
           (λ s. let z : true ≡ false = sym (In-on numbers q (get_In numbers i q at))
           ∙ (ap (is_on_path numbers) s ∙ new) in cc)
-          ∙ (m.placed q i).1 at
+          ∙ (m.places_match q i).1 at
       | inr last ↦
           let own : kept ≡ i + 1 = (let a : i ≡ length numbers = last.0 in omega (arith, k, a)) in
           ap (slice_get (set places n kept)) (sym last.1) ∙ (get_set_same places n kept h ∙ ap Some own)
@@ -123,8 +123,8 @@ placed_put places numbers n kept k h new m = record {
 pub placed_popped : (places numbers : List ℕ) (n : ℕ) → n < length places → IsPlaced places (numbers ++ n ∷ [])
     → IsPlaced (set places n 0) numbers
 placed_popped places numbers n h m = record {
-  placed = λ q i. (to q i, from q i);
-  once = distinct_front numbers (n ∷ []) m.once;
+  places_match = λ q i. (to q i, from q i);
+  numbers_distinct = distinct_front numbers (n ∷ []) m.numbers_distinct;
 }
   where
     to : (q i : ℕ) → slice_get (set places n 0) q ≡ Some (i + 1) → slice_get numbers i ≡ Some q
@@ -133,7 +133,7 @@ placed_popped places numbers n h m = record {
           let z : 0 ≡ i + 1 = some_same 0 (i + 1)
           (sym (ap (slice_get (set places n 0)) s ∙ get_set_same places n 0 h) ∙ e) in
           absurd (omega (arith, z))
-      | inr ne ↦ elim (get_pushed numbers n i q ((m.placed q i).0 (sym (get_set_other places n q 0 ne) ∙ e))) [
+      | inr ne ↦ elim (get_pushed numbers n i q ((m.places_match q i).0 (sym (get_set_other places n q 0 ne) ∙ e))) [
         | inl at ↦ at
         | inr last ↦ absurd (ne (sym last.1))
       ]
@@ -142,10 +142,10 @@ placed_popped places numbers n h m = record {
     from : (q i : ℕ) → slice_get numbers i ≡ Some q → slice_get (set places n 0) q ≡ Some (i + 1)
     from q i e =
         get_set_other places n q 0
-        (λ s. distinct_last numbers n m.once (subst (λ (x : ℕ). In x numbers) s (get_In numbers i q e)))
-        ∙ (m.placed q i).1 (push_more numbers (n ∷ []) i q e)
+        (λ s. distinct_last numbers n m.numbers_distinct (subst (λ (x : ℕ). In x numbers) s (get_In numbers i q e)))
+        ∙ (m.places_match q i).1 (push_more numbers (n ∷ []) i q e)
 
 -- a number that is there has room for its place
 pub place_kept : (places numbers : List ℕ) (n : ℕ) → IsPlaced places (numbers ++ n ∷ []) → n < length places
 place_kept places numbers n m =
-    get_lt places n (length numbers + 1) ((m.placed n (length numbers)).1 (get_last numbers n))
+    get_lt places n (length numbers + 1) ((m.places_match n (length numbers)).1 (get_last numbers n))

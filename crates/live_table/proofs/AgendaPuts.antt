@@ -17,15 +17,16 @@ use Rattle.live_table.specs.TableContents.{Listed, key_at}
 use Rattle.live_table.proofs.AddedNames.{push_more}
 
 -- there is a mark for each key
-pub sizes : (t : Table) (l : Listed) → AreNumberedNames t l → length l.settled ≡ length l.keys
-sizes t l nodes = nodes.net.size ∙ nodes.step_count
+pub sizes : (t : Table) (l : Listed) → AreNumberedNames t l → length l.settled_flags ≡ length l.keys
+sizes t l nodes = nodes.net.mark_per_name ∙ nodes.step_count
 
 -- a number whose mark is not set is not settled
 pub unsettled : (t : Table) (l : Listed) → AreNumberedNames t l → (n : ℕ) (b : Bool) → n < length l.keys
-    → b ≡ get_or l.settled n b → b ≡ false → IsSettled l.settled n → ⊥
+    → b ≡ get_or l.settled_flags n b → b ≡ false → IsSettled l.settled_flags n → ⊥
 unsettled t l nodes n b h e f s =
-    let size : length l.settled ≡ length l.keys = sizes t l nodes in
-    let z : Some true ≡ Some false = sym s ∙ (slice_get-get_or l.settled n b (omega arith) ∙ ap Some (sym e ∙ f)) in cc
+    let size : length l.settled_flags ≡ length l.keys = sizes t l nodes in
+    let z : Some true ≡ Some false = sym s ∙ (slice_get-get_or l.settled_flags n b (omega arith) ∙ ap Some (sym e ∙ f))
+    in cc
 
 -- a number that is not found in a list is not there
 pub not_on : (ns : List ℕ) (n : ℕ) → is_on_path ns n ≡ false → In n ns → ⊥
@@ -43,43 +44,49 @@ put_there list there n e = elim (cases_Bool (is_on_path list n)) [
 -- a list of numbers to be explored stays one with an additional number
 pub listed_push : (t : Table) (l : Listed) (before list : List ℕ) (n : ℕ) → AreListed t l before list
     → n < length l.keys → is_present t (key_at l.keys n) ≡ true
-    → (IsSettled l.settled n → ⊥) → (In n before → ⊥) → is_on_path list n ≡ false
+    → (IsSettled l.settled_flags n → ⊥) → (In n before → ⊥) → is_on_path list n ≡ false
     → AreListed t l before (list ++ n ∷ [])
 listed_push t l before list n right h present fresh new other = record {
-  gone = right.gone;
-  within = λ m i. elim (In-push list n m i) [
-    | inl j ↦ right.within m j
+  explored_in_table = right.explored_in_table;
+  listed_in_table = λ m i. elim (In-push list n m i) [
+    | inl j ↦ right.listed_in_table m j
     | inr e ↦ subst (λ (x : ℕ). x < length l.keys)
         (sym e) h
   ];
-  fresh = λ m i. elim (In-push list n m i)
-      [ inl j ↦ right.fresh m j | inr e ↦ subst (λ (x : ℕ). IsSettled l.settled x → ⊥) (sym e) fresh ];
+  listed_not_settled = λ m i. elim (In-push list n m i) [
+    | inl j ↦ right.listed_not_settled m j
+    | inr e ↦ subst (λ (x : ℕ). IsSettled l.settled_flags x → ⊥)
+        (sym e) fresh
+  ];
   new = λ m i. elim (In-push list n m i)
       [ inl j ↦ right.new m j | inr e ↦ subst (λ (x : ℕ). In x before → ⊥) (sym e) new ];
-  present = λ m i. elim (In-push list n m i)
-      [ inl j ↦ right.present m j | inr e ↦ subst (λ (x : ℕ). is_present t (key_at l.keys x) ≡ true) (sym e) present ];
-  once = IsDistinct-push nat_eq_equiv list n right.once other;
+  listed_have_entries = λ m i. elim (In-push list n m i) [
+    | inl j ↦ right.listed_have_entries m j
+    | inr e ↦ subst (λ (x : ℕ). is_present t (key_at l.keys x) ≡ true)
+        (sym e) present
+  ];
+  numbers_distinct = IsDistinct-push nat_eq_equiv list n right.numbers_distinct other;
 }
 
 -- putting a number on the agenda is an addition
 pub put_added : (t : Table) (l m : Listed) (before list there : List ℕ) (ends : List DeadEnd) (n : ℕ)
     → AreAdded t l m before list list ends ends → n < length m.keys
-    → is_present t (key_at m.keys n) ≡ true → (IsSettled m.settled n → ⊥) → (In n before → ⊥)
+    → is_present t (key_at m.keys n) ≡ true → (IsSettled m.settled_flags n → ⊥) → (In n before → ⊥)
     → there ≡ cond (is_on_path list n) list (list ++ n ∷ []) → AreAdded t l m before list there ends ends
 put_added t l m before list there ends n a h present fresh new e = elim (cases_Bool (is_on_path list n)) [
   | inl q ↦ subst (λ (ns : List ℕ). AreAdded t l m before list ns ends ends)
       (sym (e ∙ cond-true (is_on_path list n) list (list ++ n ∷ []) q)) a
   | inr q ↦ subst (λ (ns : List ℕ). AreAdded t l m before list ns ends ends)
       (sym (e ∙ cond-false (is_on_path list n) list (list ++ n ∷ []) q)) (record {
-        grown = record {
-          nodes = a.grown.nodes;
-          kept = a.grown.kept;
-          listed = listed_push t m before list n a.grown.listed h present fresh new q;
-          keys_more = a.grown.keys_more;
-          settled_still = a.grown.settled_still;
+        growth = record {
+          nodes = a.growth.nodes;
+          same_outcomes = a.growth.same_outcomes;
+          list_right = listed_push t m before list n a.growth.list_right h present fresh new q;
+          keys_more = a.growth.keys_more;
+          settled_still = a.growth.settled_still;
           list_more = push_more list (n ∷ []);
-          ends_more = a.grown.ends_more;
+          ends_more = a.growth.ends_more;
         };
-        same = a.same;
+        same_nodes = a.same_nodes;
       })
 ]

@@ -34,34 +34,34 @@ or_right true b e = refl
 or_right false b e = e
 
 -- a number that is found to be known is known
-pub from_known : (l : Listed) (before list : List ℕ) (n : ℕ) → is_known l.settled before list n ≡ true
+pub from_known : (l : Listed) (before list : List ℕ) (n : ℕ) → is_known l.settled_flags before list n ≡ true
     → IsKnown l before list n
 from_known l before list n k =
-    elim (or_cases (is_some_true (slice_get l.settled n)) (is_on_path before n || is_on_path list n) k) [
-      | inl e ↦ inl (is_flag (slice_get l.settled n) e)
+    elim (or_cases (is_some_true (slice_get l.settled_flags n)) (is_on_path before n || is_on_path list n) k) [
+      | inl e ↦ inl (is_flag (slice_get l.settled_flags n) e)
       | inr f ↦ elim (or_cases (is_on_path before n) (is_on_path list n) f)
           [ inl e ↦ inr (inl (on-In before n e)) | inr e ↦ inr (inr (on-In list n e)) ]
     ]
 
 -- a known number is found to be known
 pub to_known : (l : Listed) (before list : List ℕ) (n : ℕ) → IsKnown l before list n
-    → is_known l.settled before list n ≡ true
+    → is_known l.settled_flags before list n ≡ true
 to_known l before list n (inl e) =
-    or_left (is_some_true (slice_get l.settled n)) (is_on_path before n || is_on_path list n) (ap is_some_true e)
+    or_left (is_some_true (slice_get l.settled_flags n)) (is_on_path before n || is_on_path list n) (ap is_some_true e)
 to_known l before list n (inr (inl i)) =
-    or_right (is_some_true (slice_get l.settled n)) (is_on_path before n || is_on_path list n)
+    or_right (is_some_true (slice_get l.settled_flags n)) (is_on_path before n || is_on_path list n)
     (or_left (is_on_path before n) (is_on_path list n) (In-on before n i))
 to_known l before list n (inr (inr i)) =
-    or_right (is_some_true (slice_get l.settled n)) (is_on_path before n || is_on_path list n)
+    or_right (is_some_true (slice_get l.settled_flags n)) (is_on_path before n || is_on_path list n)
     (or_right (is_on_path before n) (is_on_path list n) (In-on list n i))
 
 module _ (t : Table) (l : Listed) (before list : List ℕ) (ends : List DeadEnd) (nodes : AreNumberedNames t l)
     (s : AreAllExplored t l before list ends) where
   abbrev known : ℕ → Bool
-  known = is_known l.settled before list
+  known = is_known l.settled_flags before list
 
   is_within : (n : ℕ) → known n ≡ true → n < length l.keys
-  is_within n k = known_within t l before list nodes s.listed n (from_known l before list n k)
+  is_within n k = known_within t l before list nodes s.list_right n (from_known l before list n k)
 
   -- a name that is known without a list is known with one
   without_list : (n : ℕ) → IsKnown l before [] n → IsKnown l before list n
@@ -70,41 +70,41 @@ module _ (t : Table) (l : Listed) (before list : List ℕ) (ends : List DeadEnd)
   without_list n (inr (inr i)) = absurd i
 
   all_below : (n q : ℕ) → IsKnown l before list n → In (To q) (steps l.graph n) → IsKnown l before list q
-  all_below n q (inl e) i = inl ((nodes.net.settled n e).1 q i)
-  all_below n q (inr (inl j)) i = without_list q ((s.explored.written n j).steps.targets q i)
-  all_below n q (inr (inr j)) i = (s.written n j).steps.targets q i
+  all_below n q (inl e) i = inl ((nodes.net.settled_right n e).1 q i)
+  all_below n q (inr (inl j)) i = without_list q ((s.earlier_explored.explored_have_steps n j).steps.targets q i)
+  all_below n q (inr (inr j)) i = (s.listed_have_steps n j).steps.targets q i
 
   all_present : (n : ℕ) → IsKnown l before list n → is_present t (key_at l.keys n) ≡ true
-  all_present n (inl e) = nodes.present n e
-  all_present n (inr (inl j)) = s.explored.present n j
-  all_present n (inr (inr j)) = s.listed.present n j
+  all_present n (inl e) = nodes.settled_have_entries n e
+  all_present n (inr (inl j)) = s.earlier_explored.explored_have_entries n j
+  all_present n (inr (inr j)) = s.list_right.listed_have_entries n j
 
   all_faithful : (n : ℕ) → IsKnown l before list n
       → AreWords t (key_at l.keys) (fault_at ends) (key_words t (key_at l.keys n)) (steps l.graph n)
   all_faithful n (inl e) = nodes.faithful n e (fault_at ends)
-  all_faithful n (inr (inl j)) = (s.explored.written n j).steps.words
-  all_faithful n (inr (inr j)) = (s.written n j).steps.words
+  all_faithful n (inr (inl j)) = (s.earlier_explored.explored_have_steps n j).steps.words
+  all_faithful n (inr (inr j)) = (s.listed_have_steps n j).steps.words
 
   all_starts : (n : ℕ) → IsKnown l before list n → HasStartsOf t l n
-  all_starts n (inl e) = nodes.starts n e
-  all_starts n (inr (inl j)) = (s.explored.written n j).starts
-  all_starts n (inr (inr j)) = (s.written n j).starts
+  all_starts n (inl e) = nodes.part_starts n e
+  all_starts n (inr (inl j)) = (s.earlier_explored.explored_have_steps n j).part_starts
+  all_starts n (inr (inr j)) = (s.listed_have_steps n j).part_starts
 
   all_looks : (n : ℕ) → IsKnown l before list n → HasLooksIfLed t l n
-  all_looks n (inl e) all = nodes.looked n e
-  all_looks n (inr (inl j)) all = (s.explored.written n j).looks all
-  all_looks n (inr (inr j)) all = (s.written n j).looks all
+  all_looks n (inl e) all = nodes.settled_looks n e
+  all_looks n (inr (inl j)) all = (s.earlier_explored.explored_have_steps n j).looks all
+  all_looks n (inr (inr j)) all = (s.listed_have_steps n j).looks all
 
   pub explored_all : AreExplored t l ends known
   explored_all = record {
     numbers_are = record {
-      within = λ n k. let h : n < length l.keys = is_within n k in
+      known_in_range = λ n k. let h : n < length l.keys = is_within n k in
           let c : length l.graph ≡ length l.keys = nodes.step_count in omega arith;
-      below = λ n q k i. to_known l before list q (all_below n q (from_known l before list n k) i);
-      apart = λ n q k j e. nodes.apart n q (is_within n k) (is_within q j) e;
-      present = λ n k. all_present n (from_known l before list n k);
-      faithful = λ n k. all_faithful n (from_known l before list n k);
+      below_known = λ n q k i. to_known l before list q (all_below n q (from_known l before list n k) i);
+      keys_apart = λ n q k j e. nodes.numbers_apart n q (is_within n k) (is_within q j) e;
+      known_have_entries = λ n k. all_present n (from_known l before list n k);
+      known_steps = λ n k. all_faithful n (from_known l before list n k);
     };
-    starts = λ n k. all_starts n (from_known l before list n k);
+    part_starts = λ n k. all_starts n (from_known l before list n k);
     looks = λ n k. all_looks n (from_known l before list n k);
   }

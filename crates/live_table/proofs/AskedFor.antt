@@ -45,8 +45,8 @@ module _ (s : Stages) (are : AreStages s) (us : List WordUse) (xs : List Step)
   still_written : AreWritten (table s.deck) s.explored s.before s.there s.more us xs
   still_written =
       written_more (table s.deck) s.led s.explored s.before s.list s.there s.ends s.more are.first.nodes
-      are.first.listed are.second us xs
-      (written_led (table s.deck) s.led s.before s.list s.ends us xs are.first.nodes are.first.listed written)
+      are.first.list_right are.second us xs
+      (written_led (table s.deck) s.led s.before s.list s.ends us xs are.first.nodes are.first.list_right written)
 
   -- the steps lead to known names
   pub all_known : LeadToKnown (known_there s) xs
@@ -73,14 +73,14 @@ module _ (s : Stages) (are : AreAllStages s) (us : List WordUse) (xs : List Step
   by_name : fault_in (table s.deck) s.explored s.more xs ≡ fault
   by_name =
       are.faults.words (table s.deck) (key_at s.explored.keys) (fault_at s.more) s.explored.graph (known_there s)
-      explored.numbers_are sound.numbers.net.range us xs words targets
+      explored.numbers_are sound.numbers.net.steps_in_range us xs words targets
 
-  new : fault ≡ None → (order : List ℕ) → AreNewlyClosed s.explored.graph s.explored.settled xs order
-      → AreNewKeys (is_kept (shown_table s.deck s.explored s.reductions).kept) (WordsReach (table s.deck) us)
+  new : fault ≡ None → (order : List ℕ) → AreNewlyClosed s.explored.graph s.explored.settled_flags xs order
+      → AreNewKeys (is_kept (shown_table s.deck s.explored s.reductions).kept_outcomes) (WordsReach (table s.deck) us)
       (map (key_at s.explored.keys) order)
   new none order c =
       are.settles.words (table s.deck) (key_at s.explored.keys) (fault_at s.more) s.explored.graph (known_there s)
-      s.explored.settled (is_kept (shown_table s.deck s.explored s.reductions).kept) explored.numbers_are
+      s.explored.settled_flags (is_kept (shown_table s.deck s.explored s.reductions).kept_outcomes) explored.numbers_are
       (are_marks s.deck s.explored s.reductions s.more (known_there s) sound.numbers explored) us xs order words targets
       none c
 
@@ -97,7 +97,8 @@ module _ (s : Stages) (are : AreAllStages s) (us : List WordUse) (xs : List Step
       subst (λ (p : Shown × Result A QueryFault). IsAsked (AsksWords us) fault Given p.1 p.0 now old later)
       (λ i. (same_start s are.stages i, sym e i))
       (asked_fault (AsksWords us) fault (reach (table s.deck) us) (WordsReach (table s.deck) us) s.deck s.explored
-      s.reductions s.more xs sound (words_query (table s.deck) us) by_name (reach_law.listed (table s.deck) us) new
+      s.reductions s.more xs sound (words_query (table s.deck) us) by_name (reach_law.reached_words (table s.deck) us)
+      new
       Given now old later right f a)
 
   -- or the names that the words reach are settled
@@ -109,14 +110,15 @@ module _ (s : Stages) (are : AreAllStages s) (us : List WordUse) (xs : List Step
       subst (λ (b : Shown). IsAsked (AsksWords us) fault (λ (x : SmallVec Step). AreSettledWords (table s.deck) now us
       x.items) (Ok v) b (shown_table s.deck now count) old later) (same_start s are.stages)
       (asked_none (AsksWords us) fault (reach (table s.deck) us) (WordsReach (table s.deck) us) s.deck s.explored
-      s.reductions s.more xs sound (words_query (table s.deck) us) by_name (reach_law.listed (table s.deck) us) new
+      s.reductions s.more xs sound (words_query (table s.deck) us) by_name (reach_law.reached_words (table s.deck) us)
+      new
       (λ (x : SmallVec Step). AreSettledWords (table s.deck) now us x.items) (shown_table s.deck now count) old later
-      after.sound.right v after.order after.closing after.all
+      after.sound.is_right v after.order after.closing after.all
       (subst (λ (ys : List Step). AreSettledWords (table s.deck) now us ys) (sym is) settled_words))
     where
       within : (m : ℕ) → In (To m) xs → m < length s.explored.keys
       within m i =
-          let a : m < length s.explored.graph = explored.numbers_are.within m (targets m i) in
+          let a : m < length s.explored.graph = explored.numbers_are.known_in_range m (targets m i) in
           let b : length s.explored.graph ≡ length s.explored.keys = sound.numbers.step_count in omega arith
 
       settled_words : AreSettledWords (table s.deck) now us xs
@@ -124,9 +126,10 @@ module _ (s : Stages) (are : AreAllStages s) (us : List WordUse) (xs : List Step
         dead_end = fault_at s.more;
         words = subst (λ (ks : List Key). AreWords (table s.deck) (key_at ks) (fault_at s.more) us xs) (sym after.keys)
             words;
-        closed = sym by_name ∙ ap (option_map (fault_by_name (table s.deck) (key_at s.explored.keys) (fault_at s.more)))
-            after.closing.none;
-        settled = λ m i. reached_settled s.deck s.explored now s.reductions count old later xs after.order sound
+        words_closed = sym by_name
+            ∙ ap (option_map (fault_by_name (table s.deck) (key_at s.explored.keys) (fault_at s.more)))
+            after.closing.query_has_no_fault;
+        targets_settled = λ m i. reached_settled s.deck s.explored now s.reductions count old later xs after.order sound
             after.sound.numbers after.keys after.closing.closes after.all m (within m i) (m, i, inl refl);
       }
 
@@ -143,11 +146,12 @@ explored_cut Given s are us xs end old cut f e = (
   subst (λ (now : Shown). IsAfterEvents (AsksWords us ∷ []) (shown_table s.deck s.start s.reductions) now old old)
       (sym (same_start s are.stages))
       (fault_follows (AsksWords us) (name_fault (table s.deck) us) (reach (table s.deck) us)
-      (shown_table s.deck s.start s.reductions) old are.stages.sound.right (words_query (table s.deck) us) f some),
+      (shown_table s.deck s.start s.reductions) old are.stages.sound.is_right (words_query (table s.deck) us) f some),
 )
   where
     some : name_fault (table s.deck) us ≡ Some f
     some =
         ap (name_fault (table s.deck)) cut.words
-        ∙ (sym (cut_words (table s.deck) cut.front cut.rest cut.word end cut.ends)
-        ∙ (ap (λ (o : Option NameFault). fault_before o end) (sym (by_name s are cut.front xs cut.written)) ∙ e))
+        ∙ (sym (cut_words (table s.deck) cut.words_before cut.words_after cut.word end cut.dead_end_word)
+        ∙ (ap (λ (o : Option NameFault). fault_before o end) (sym (by_name s are cut.words_before xs cut.front_steps))
+        ∙ e))

@@ -39,11 +39,11 @@ key_reached : (t : Table) (k : Key) → IsClosed t k → (n : Key) → Contains 
 key_reached t k closed n = (
   λ i. elim (member_cases n k (key_reach t k) i) [
     | inl e ↦ inl e
-    | inr j ↦ inr ((reach_law.listed t (key_words t k) words n).0 j)
+    | inr j ↦ inr ((reach_law.reached_words t (key_words t k) words n).0 j)
   ],
   λ r. elim r [
     | inl e ↦ member_first n k (key_reach t k) e
-    | inr way ↦ member_later n k (key_reach t k) ((reach_law.listed t (key_words t k) words n).1 way)
+    | inr way ↦ member_later n k (key_reach t k) ((reach_law.reached_words t (key_words t k) words n).1 way)
   ],
 )
   where
@@ -63,11 +63,11 @@ number_of (Nowhere n) = n
 module _ (s : Stages) (are : AreStages s) (key : Key) (n : ℕ) (number : IsNumber s key n) where
   number_known : known_there s n ≡ true
   number_known = to_known s.explored s.before s.there n (known_still (table s.deck) s.led s.explored s.before s.list
-      s.there s.ends s.more are.first.nodes are.first.listed are.second n number.known)
+      s.there s.ends s.more are.first.nodes are.first.list_right are.second n number.known)
 
   key_is : key_at s.explored.keys n ≡ key
   key_is = key_same s.led.keys s.explored.keys n are.second.keys_more (known_within (table s.deck) s.led s.before s.list
-      are.first.nodes are.first.listed n number.known) ∙ sym number.is
+      are.first.nodes are.first.list_right n number.known) ∙ sym number.is
 
   -- a query of the number leads to known names
   pub one_known : LeadToKnown (known_there s) (To n ∷ [])
@@ -94,15 +94,15 @@ module _ (s : Stages) (are : AreAllStages s) (n : ℕ) (known : known_there s n 
   by_name : fault_in (table s.deck) s.explored s.more query ≡ key_fault (table s.deck) k
   by_name =
       are.faults.key (table s.deck) (key_at s.explored.keys) (fault_at s.more) s.explored.graph (known_there s)
-      explored.numbers_are sound.numbers.net.range n known
+      explored.numbers_are sound.numbers.net.steps_in_range n known
 
   new : key_fault (table s.deck) k ≡ None → (order : List ℕ)
-      → AreNewlyClosed s.explored.graph s.explored.settled query order
-      → AreNewKeys (is_kept (shown_table s.deck s.explored s.reductions).kept) Asked
+      → AreNewlyClosed s.explored.graph s.explored.settled_flags query order
+      → AreNewKeys (is_kept (shown_table s.deck s.explored s.reductions).kept_outcomes) Asked
       (map (key_at s.explored.keys) order)
   new none order c =
       are.settles.key (table s.deck) (key_at s.explored.keys) (fault_at s.more) s.explored.graph (known_there s)
-      s.explored.settled (is_kept (shown_table s.deck s.explored s.reductions).kept) explored.numbers_are
+      s.explored.settled_flags (is_kept (shown_table s.deck s.explored s.reductions).kept_outcomes) explored.numbers_are
       (are_marks s.deck s.explored s.reductions s.more (known_there s) sound.numbers explored) n order known none c
 
   known_fault : {A : Type 0} (Given : A → Type 0) (now : Shown) (old later : ℕ) → IsRightTable now
@@ -123,7 +123,7 @@ module _ (s : Stages) (are : AreAllStages s) (n : ℕ) (known : known_there s n 
   known_settled now count old later after =
       asked_none (AsksKey k) (key_fault (table s.deck) k) (k ∷ key_reach (table s.deck) k) Asked s.deck s.explored
       s.reductions s.more query sound (key_query (table s.deck) k) by_name (key_reached (table s.deck) k) new
-      (IsSettledKey now k) (shown_table s.deck now count) old later after.sound.right n after.order after.closing
+      (IsSettledKey now k) (shown_table s.deck now count) old later after.sound.is_right n after.order after.closing
       after.all (
         ap (λ (ks : List Key). key_at ks n) (sym after.keys),
         reached_settled s.deck s.explored now s.reductions count old later query after.order sound after.sound.numbers
@@ -132,7 +132,7 @@ module _ (s : Stages) (are : AreAllStages s) (n : ℕ) (known : known_there s n 
     where
       within : n < length s.explored.keys
       within =
-          let a : n < length s.explored.graph = explored.numbers_are.within n known in
+          let a : n < length s.explored.graph = explored.numbers_are.known_in_range n known in
           let b : length s.explored.graph ≡ length s.explored.keys = sound.numbers.step_count in omega arith
 
 -- ---- the key with this number

@@ -19,12 +19,12 @@ use Rattle.live_table.proofs.Places.{some_same}
 
 module _ (table : Table) (l : Listed) (nodes : AreNumberedNames table l) (k : Key) where
   -- the outcome at the number of a key is stored for the key
-  pub found : (n : ℕ) (o : Option Outcome) → slice_get l.keys n ≡ Some k → slice_get l.outcomes n ≡ Some o
+  pub stored_for_key : (n : ℕ) (o : Option Outcome) → slice_get l.keys n ≡ Some k → slice_get l.outcomes n ≡ Some o
       → o ≡ map_of.get (kept_of l.keys l.outcomes) k
-  found n o e f =
+  stored_for_key n o e f =
       let p = key_found l.keys n k e in
       some_same o (map_of.get (kept_of l.keys l.outcomes) k)
-      (sym f ∙ (kept_at l.keys l.outcomes n nodes.apart p.0 nodes.outcome_count
+      (sym f ∙ (kept_at l.keys l.outcomes n nodes.numbers_apart p.0 nodes.outcome_count
       ∙ ap (λ (x : Key). Some (map_of.get (kept_of l.keys l.outcomes) x)) (sym p.1)))
 
   -- no outcome is stored for a key without a number
@@ -35,4 +35,4 @@ module _ (table : Table) (l : Listed) (nodes : AreNumberedNames table l) (k : Ke
 pub right_kept : (deck : Contents) (l : Listed) (r : ℕ) → IsRightTable (shown_table deck l r)
     → (k : Key) (x : Option Outcome)
     → x ≡ map_of.get (kept_of l.keys l.outcomes) k → (o : Outcome) → x ≡ Some o → o ≡ outcome (deck_table deck) k
-right_kept deck l r right k x e o f = right.right k o (sym e ∙ f)
+right_kept deck l r right k x e o f = right.outcomes_right k o (sym e ∙ f)

@@ -19,7 +19,7 @@ use Rattle.live_table.specs.Calls.{IsQuery, is_name_kind, key_queries, names_amo
 use Rattle.live_table.specs.KeptNames.{IsKeptByAll}
 use Rattle.live_table.specs.Right.{IsKeySettled, IsRight}
 use Rattle.live_table.specs.TableView.{IsAfterEvents, IsRightTable, Shown, state_with_steps}
-use Rattle.live_table.specs.States.{AllCanBe, AsksKey, Event, TableState, after, after_all, after_query}
+use Rattle.live_table.specs.States.{AllCanBe, AsksKey, Event, TableState, after_all, after_event, after_query}
 use Rattle.live_table.proofs.DeckTables.{fits_kinds}
 use Rattle.live_table.proofs.KeptNames.{kept_law}
 use Rattle.live_table.proofs.Runs.{run_law}
@@ -37,12 +37,12 @@ deck_kinds_law = fits_kinds
 pub edits_can_be_law : ChangedLaw → EditsCanBeLaw
 edits_can_be_law changed before later s is =
     subst (λ (t : Table). AreChanged t (table later) (changed_keys t (table later))) (sym is)
-    (changed before later).changed
+    (changed before later).lists_changed_keys
 
 -- ---- events in turn
 can_both : (es fs : List Event) (s : TableState) → AllCanBe es s → AllCanBe fs (after_all es s) → AllCanBe (es ++ fs) s
 can_both [] fs s a b = b
-can_both (e ∷ es) fs s a b = (a.0, can_both es fs (after e s) a.1 b)
+can_both (e ∷ es) fs s a b = (a.0, can_both es fs (after_event e s) a.1 b)
 
 -- a query does not change the table
 query_table : (b : Bool) (keys : List Key) (s : TableState) → (after_query b keys s).table ≡ s.table
@@ -57,7 +57,7 @@ names_can (k ∷ keys) s h =
     by (names_can keys behind there) (names_can keys s (λ m i. h m (member_later m k keys i))) (is_name_kind k.kind)
   where
     behind : TableState
-    behind = after (AsksKey k) s
+    behind = after_event (AsksKey k) s
 
     there : (m : Key) → Contains keys m → is_present behind.table m ≡ true
     there m i =
@@ -80,17 +80,17 @@ with_answer event (Err query_fault.OutOfMemory) s t n m e h = cc
 
 query_right : (event : Event) (r : Result Amount QueryFault) (s t : Shown) (n m : ℕ) → IsQuery event r s t n m
     → IsRightTable t
-query_right event (Ok q) s t n m h = h.right
-query_right event (Err (query_fault.Name f)) s t n m h = h.right
-query_right event (Err (query_fault.Value f)) s t n m h = h.right
-query_right event (Err query_fault.OutOfMemory) s t n m h = h.right
+query_right event (Ok q) s t n m h = h.is_right
+query_right event (Err (query_fault.Name f)) s t n m h = h.is_right
+query_right event (Err (query_fault.Value f)) s t n m h = h.is_right
+query_right event (Err query_fault.OutOfMemory) s t n m h = h.is_right
 
 call_right : (c : Call) (s t : Shown) (n m : ℕ) → IsRightTable s → IsCall c s t n m → IsRightTable t
 call_right (Value e r) s t n m right h = query_right _ r s t n m h.1
 call_right (Unapply name r) s t n m right h = query_right _ r s t n m h.2
-call_right (SettleAll (Ok x)) s t n m right h = h.1.right
-call_right (SettleAll (Err x)) s t n m right h = h.1.right
-call_right AcceptedEdit s t n m right h = (h.1 n).right
+call_right (SettleAll (Ok x)) s t n m right h = h.1.is_right
+call_right (SettleAll (Err x)) s t n m right h = h.1.is_right
+call_right AcceptedEdit s t n m right h = (h.1 n).is_right
 call_right RefusedEdit s t n m right h = subst IsRightTable (sym h.1) right
 
 call_follows : (c : Call) (s t : Shown) (n m : ℕ) → IsRightTable s → IsCall c s t n m → is_complete c ≡ true
@@ -103,14 +103,14 @@ call_follows AcceptedEdit s t n m right h made =
     subst (λ (k : ℕ). IsAfterEvents (events_in AcceptedEdit s t) s t n k) (sym h.0) (h.1 n)
 call_follows RefusedEdit s t n m right h made =
     subst (λ (x : Shown). IsAfterEvents [] s x n m) (sym h.1)
-    (subst (λ (k : ℕ). IsAfterEvents [] s s n k) (sym h.0) (run_law.none s n right))
+    (subst (λ (k : ℕ). IsAfterEvents [] s s n k) (sym h.0) (run_law.empty_run s n right))
 
 -- ---- several calls
 right_after : (ds : List MadeCall) (s : Shown) (n : ℕ) → IsRightTable s → AreCalls ds s n
     → IsRightTable (last_shown ds s)
 right_after [] s n right h = right
 right_after (d ∷ ds) s n right h =
-    right_after ds d.shown d.steps (call_right d.call s d.shown n d.steps right h.0) h.1
+    right_after ds d.shown_after d.steps (call_right d.table_call s d.shown_after n d.steps right h.0) h.1
 
 module _ (edits : EditsCanBeLaw) (keys : TableKeysLaw) where
   call_can : (c : Call) (s t : Shown) (n m : ℕ) → IsCall c s t n m → AllCanBe (events_in c s t) (state_with_steps s n)
@@ -118,42 +118,49 @@ module _ (edits : EditsCanBeLaw) (keys : TableKeysLaw) where
   call_can (Unapply name r) s t n m h = (h.0, tt)
   call_can (SettleAll r) s t n m h =
       names_can (table_keys (table s.deck)) (state_with_steps s n) (λ k i.
-      sym ((keys (table s.deck)).each k) ∙ among_member (table_keys (table s.deck)) k i)
+      sym ((keys (table s.deck)).key_membership k) ∙ among_member (table_keys (table s.deck)) k i)
   call_can AcceptedEdit s t n m h = (edits s.deck t.deck (state_with_steps s n) refl, tt)
   call_can RefusedEdit s t n m h = tt
 
   together : (ds : List MadeCall) (s : Shown) (n : ℕ) → IsRightTable s → AreCalls ds s n → AllComplete ds
       → AllCanBe (all_events ds s) (state_with_steps s n) × IsAfterEvents (all_events ds s) s (last_shown ds s) n
       (last_steps ds n)
-  together [] s n right h made = (tt, run_law.none s n right)
+  together [] s n right h made = (tt, run_law.empty_run s n right)
   together (d ∷ ds) s n right h made =
-      let f : IsAfterEvents (events_in d.call s d.shown) s d.shown n d.steps =
-      call_follows d.call s d.shown n d.steps right h.0 made.0 in
-      let rest = together ds d.shown d.steps f.right h.1 made.1 in (
-        can_both (events_in d.call s d.shown) (all_events ds d.shown) (state_with_steps s n)
-            (call_can d.call s d.shown n d.steps h.0)
-            (subst (AllCanBe (all_events ds d.shown)) f.stands rest.0),
-        run_law.both (events_in d.call s d.shown) (all_events ds d.shown) s d.shown (last_shown ds d.shown)
+      let f : IsAfterEvents (events_in d.table_call s d.shown_after) s d.shown_after n d.steps =
+      call_follows d.table_call s d.shown_after n d.steps right h.0 made.0 in
+      let rest = together ds d.shown_after d.steps f.is_right h.1 made.1 in (
+        can_both (events_in d.table_call s d.shown_after) (all_events ds d.shown_after) (state_with_steps s n)
+            (call_can d.table_call s d.shown_after n d.steps h.0)
+            (subst (AllCanBe (all_events ds d.shown_after)) f.stands rest.0),
+        run_law.run_append (events_in d.table_call s d.shown_after) (all_events ds d.shown_after) s d.shown_after
+            (last_shown ds d.shown_after)
             n d.steps (last_steps ds d.steps) f rest.1,
       )
 
   -- the outcomes are right whatever the counts
   right_at : (s : Shown) (n : ℕ) → IsRightTable s → IsRight (state_with_steps s n)
-  right_at s n r = record { present = r.present; closed = r.closed; below = r.below; right = r.right }
+  right_at s n r = record {
+    settled_have_entries = r.settled_have_entries;
+    settled_closed =
+        r.settled_closed;
+    reached_settled = r.reached_settled;
+    outcomes_right = r.outcomes_right;
+  }
 
   kept_since : (ds : List MadeCall) (s : Shown) (n : ℕ) → IsRightTable s → AreCalls ds s n → AllComplete ds
       → IsKeptSince ds s n
   kept_since ds s n right h made =
       let both = together ds s n right h made in record {
-        follows = both.1;
-        names = λ k.
+        events_after = both.1;
+        settled_names = λ k.
             subst (λ (x : TableState). IsKeySettled x k ↔ IsKeptByAll (all_events ds s) (table s.deck)
             (IsKeySettled (state_with_steps s 0)) k)
             (sym both.1.stands) ((kept_law (all_events ds s) (state_with_steps s n) both.0 (right_at s n right)).names
             k);
-        outcomes = both.1.right.right;
+        outcomes = both.1.is_right.outcomes_right;
       }
 
 -- the law of lists of calls
 pub call_list_law : EditsCanBeLaw → TableKeysLaw → CallListLaw
-call_list_law edits keys = record { right = right_after; kept = kept_since edits keys }
+call_list_law edits keys = record { stays_right = right_after; keeps_names = kept_since edits keys }

@@ -25,7 +25,7 @@ pub said_words : (t : Table) (k : Key) (what : What) (us : List WordUse) (begins
     → AreEntryWords what us begins → AreKeyWords t k us begins
 said_words t k what us begins says m = record {
   words = m.words ∙ sym (ap entry_words says.1 ∙ ap what_words says.2);
-  starts = λ e at p. m.starts p
+  part_starts = λ e at p. m.part_starts p
       ∙ ap (λ (w : What). start_of w p) (sym says.2 ∙ ap (λ (x : Entry). x.what)
       (some_same says.0 e (sym says.1 ∙ at)));
 }
@@ -76,7 +76,7 @@ module _ (t : Table) (l m : Listed) (before list there : List ℕ) (ends more : 
     are = λ i k w at got.
         let here : slice_get list i ≡ Some k = same_place list there i k grown.list_more (enough i w got) at in
         subst (λ (q : Key). HasEntry t q (what_view w.now))
-        (sym (key_same l.keys m.keys k grown.keys_more (listed.within k (get_In list i k here))))
+        (sym (key_same l.keys m.keys k grown.keys_more (listed.listed_in_table k (get_In list i k here))))
         (said_still i k w here got);
     count = length-append found (what ∷ []) ∙ ap (λ (x : ℕ). x + 1) s.count;
   }

@@ -70,9 +70,9 @@ record AreSettledFirst (l now : Listed) (before later : List ℕ) : Type 0 where
   pub keys : now.keys ≡ l.keys
   pub graph : now.graph ≡ l.graph
   pub looks : now.looks ≡ l.looks
-  pub size : length now.settled ≡ length l.keys
-  pub done : (m : ℕ) → IsDone l.settled before m → IsSettled now.settled m
-  pub fresh : (m : ℕ) → In m later → IsSettled now.settled m → ⊥
+  pub size : length now.settled_flags ≡ length l.keys
+  pub done : (m : ℕ) → IsDone l.settled_flags before m → IsSettled now.settled_flags m
+  pub fresh : (m : ℕ) → In m later → IsSettled now.settled_flags m → ⊥
   pub callees : (m : ℕ) → In m later → slice_get now.callees m ≡ slice_get l.callees m
 
 -- a number that is not settled has a mark that is not set
@@ -84,25 +84,25 @@ unsettled (b ∷ bs) (suc m) h f = unsettled bs m (omega arith) f
 
 module _ (t : Table) (l : Listed) where
   one_due : (now : Listed) (before ns : List ℕ) (n : ℕ) → IsReady t l n → AreSettledFirst l now before (n ∷ ns)
-      → ((m : ℕ) → LeadsTo l.graph n m → IsDone l.settled before m) → IsDue t now n
+      → ((m : ℕ) → LeadsTo l.graph n m → IsDone l.settled_flags before m) → IsDue t now n
   one_due now before ns n r s below = record {
-    within = inside;
-    fresh = unsettled now.settled n (let a : length now.settled ≡ length l.keys = s.size in
+    in_table = inside;
+    still_unsettled = unsettled now.settled_flags n (let a : length now.settled_flags ≡ length l.keys = s.size in
         let b : n < length l.keys = r.within in omega arith) (s.fresh n (inl refl));
-    present = subst (λ (ks : List Key). is_present t (key_at ks n) ≡ true) (sym s.keys) r.present;
-    closed = subst (λ (ks : List Key). IsClosed t (key_at ks n)) (sym s.keys) r.closed;
-    ends = subst (λ (g : Graph). walk.IsClosedName g n) (sym s.graph) r.ends;
-    below = λ m h. s.done m (below m (subst (λ (g : Graph). LeadsTo g n m) s.graph h));
+    key_has_entry = subst (λ (ks : List Key). is_present t (key_at ks n) ≡ true) (sym s.keys) r.present;
+    key_closed = subst (λ (ks : List Key). IsClosed t (key_at ks n)) (sym s.keys) r.closed;
+    name_closed = subst (λ (g : Graph). walk.IsClosedName g n) (sym s.graph) r.ends;
+    targets_settled = λ m h. s.done m (below m (subst (λ (g : Graph). LeadsTo g n m) s.graph h));
     faithful = λ ends.
         subst (λ (p : List Key × Graph). AreWords t (key_at p.0) ends (key_words t (key_at p.0 n)) (steps p.1 n))
         (λ j. (sym s.keys j, sym s.graph j)) (r.faithful ends);
-    starts = λ e c at is. r.starts e c (ap (λ (ks : List Key). entry_at t (key_at ks n)) (sym s.keys) ∙ at)
+    part_starts = λ e c at is. r.starts e c (ap (λ (ks : List Key). entry_at t (key_at ks n)) (sym s.keys) ∙ at)
         (sym (s.callees n (inl refl)) ∙ is);
     looks = record {
       looks = subst (λ (p : List Key × (Graph × Looks)). AreLooks t p.0 (key_words t (key_at p.0 n)) (steps p.1.0 n)
           (looks_of p.1.1 n))
           (λ j. (sym s.keys j, (sym s.graph j, sym s.looks j))) r.looks.looks;
-      once = subst (λ (g : Looks). IsDistinct nat_eq (looks_of g n)) (sym s.looks) r.looks.once;
+      numbers_distinct = subst (λ (g : Looks). IsDistinct nat_eq (looks_of g n)) (sym s.looks) r.looks.numbers_distinct;
     };
   }
     where
@@ -118,26 +118,27 @@ module _ (t : Table) (l : Listed) where
     keys = s.keys;
     graph = s.graph;
     looks = s.looks;
-    size = length-set now.settled n true ∙ s.size;
+    size = length-set now.settled_flags n true ∙ s.size;
     done = done;
-    fresh = λ m i e. s.fresh m (inr i) (sym (get_set_other now.settled n m true (apart m i)) ∙ e);
+    fresh = λ m i e. s.fresh m (inr i) (sym (get_set_other now.settled_flags n m true (apart m i)) ∙ e);
     callees = λ m i. get_set_other now.callees n m c (apart m i) ∙ s.callees m (inr i);
   }
     where
-      own : IsSettled (set now.settled n true) n
-      own = get_set_same now.settled n true (let a : length now.settled ≡ length l.keys = s.size in omega arith)
+      own : IsSettled (set now.settled_flags n true) n
+      own = get_set_same now.settled_flags n true
+          (let a : length now.settled_flags ≡ length l.keys = s.size in omega arith)
 
-      still : (m : ℕ) → IsSettled now.settled m → IsSettled (set now.settled n true) m
+      still : (m : ℕ) → IsSettled now.settled_flags m → IsSettled (set now.settled_flags n true) m
       still m e = elim (cases_eq m n) [
-        | inl q ↦ subst (λ (x : ℕ). IsSettled (set now.settled n true) x) (sym q) own
-        | inr ne ↦ get_set_other now.settled n m true ne ∙ e
+        | inl q ↦ subst (λ (x : ℕ). IsSettled (set now.settled_flags n true) x) (sym q) own
+        | inr ne ↦ get_set_other now.settled_flags n m true ne ∙ e
       ]
 
-      done : (m : ℕ) → IsDone l.settled (before ++ n ∷ []) m → IsSettled (set now.settled n true) m
+      done : (m : ℕ) → IsDone l.settled_flags (before ++ n ∷ []) m → IsSettled (set now.settled_flags n true) m
       done m (inl e) = still m (s.done m (inl e))
       done m (inr i) = elim (In-push before n m i) [
         | inl j ↦ still m (s.done m (inr j))
-        | inr q ↦ subst (λ (x : ℕ). IsSettled (set now.settled n true) x) (sym q) own
+        | inr q ↦ subst (λ (x : ℕ). IsSettled (set now.settled_flags n true) x) (sym q) own
       ]
 
   apart_from : (n : ℕ) (ns : List ℕ) → IsDistinct nat_eq (n ∷ ns) → (m : ℕ) → In m ns → m ≡ n → ⊥
@@ -152,7 +153,7 @@ module _ (t : Table) (l : Listed) where
   later_once n ns d = d.1
 
   due_from : (ns before : List ℕ) (now : Listed) → ((n : ℕ) → In n ns → IsReady t l n)
-      → AreOrdered l.graph l.settled before ns
+      → AreOrdered l.graph l.settled_flags before ns
       → IsDistinct nat_eq ns → AreSettledFirst l now before ns → AreDue t now ns
   due_from [] before now r o d s = tt
   due_from (n ∷ ns) before now r o d s = (
@@ -164,31 +165,33 @@ module _ (t : Table) (l : Listed) where
 module _ (law : NumberedFaultLaw) (t : Table) (l : Listed) (ends : List DeadEnd) (known : ℕ → Bool) (query : List Step)
     (order : List ℕ)
     (nodes : AreNumberedNames t l) (explored : AreExplored t l ends known) (targets : LeadToKnown known query)
-    (closing : AreNewlyClosed l.graph l.settled query order) where
+    (closing : AreNewlyClosed l.graph l.settled_flags query order) where
   known_below : {n m : ℕ} → known n ≡ true → NameReaches l.graph n m → known m ≡ true
-  known_below {n} {m} k (at_once h) = explored.numbers_are.below n m k h
-  known_below {n} {m} k (further {x = x} h r) = known_below (explored.numbers_are.below n x k h) r
+  known_below {n} {m} k (at_once h) = explored.numbers_are.below_known n m k h
+  known_below {n} {m} k (further {x = x} h r) = known_below (explored.numbers_are.below_known n x k h) r
 
   known_reached : (n : ℕ) → IsReached l.graph query n → known n ≡ true
   known_reached n (r, i, inl e) = subst (λ (x : ℕ). known x ≡ true) (sym e) (targets r i)
   known_reached n (r, i, inr way) = known_below (targets r i) way
 
   pub known_in_order : (n : ℕ) → In n order → known n ≡ true
-  known_in_order n i = known_reached n ((closing.exactly n).0 i).0
+  known_in_order n i = known_reached n ((closing.names_reached n).0 i).0
 
   ready : (n : ℕ) → In n order → IsReady t l n
   ready n i = record {
     within = inside;
-    present = explored.numbers_are.present n is_known;
+    present = explored.numbers_are.known_have_entries n is_known;
     closed =
-        sym (law.key t (key_at l.keys) (fault_at ends) l.graph known explored.numbers_are nodes.net.range n is_known)
+        sym (law.key t (key_at l.keys) (fault_at ends) l.graph known explored.numbers_are nodes.net.steps_in_range n
+        is_known)
         ∙ ap (option_map (fault_by_name t (key_at l.keys) (fault_at ends)))
-        ((closed_law_holds.faultless l.graph nodes.net.range n (explored.numbers_are.within n is_known)).0 is_closed);
+        ((closed_law_holds.faultless_closed l.graph nodes.net.steps_in_range n
+        (explored.numbers_are.known_in_range n is_known)).0 is_closed);
     ends = is_closed;
     faithful = λ other.
         any_words t (key_at l.keys) (fault_at ends) other (key_words t (key_at l.keys n)) (steps l.graph n)
-        (λ b j. no_end l.graph (length l.graph) n b is_closed j) (explored.numbers_are.faithful n is_known);
-    starts = explored.starts n is_known;
+        (λ b j. no_end l.graph (length l.graph) n b is_closed j) (explored.numbers_are.known_steps n is_known);
+    starts = explored.part_starts n is_known;
     looks = explored.looks n is_known (λ b j. no_end l.graph (length l.graph) n b is_closed j);
   }
     where
@@ -196,19 +199,19 @@ module _ (law : NumberedFaultLaw) (t : Table) (l : Listed) (ends : List DeadEnd)
       is_known = known_in_order n i
 
       is_closed : walk.IsClosedName l.graph n
-      is_closed = closing.closed n i
+      is_closed = closing.names_closed n i
 
       inside : n < length l.keys
-      inside = let a : n < length l.graph = explored.numbers_are.within n is_known in
+      inside = let a : n < length l.graph = explored.numbers_are.known_in_range n is_known in
           let b : length l.graph ≡ length l.keys = nodes.step_count in omega arith
 
   pub are_due : AreDue t l order
-  are_due = due_from t l order [] l ready closing.ordered closing.once (record {
+  are_due = due_from t l order [] l ready closing.targets_before closing.names_listed_once (record {
     keys = refl;
     graph = refl;
     looks = refl;
-    size = nodes.net.size ∙ nodes.step_count;
+    size = nodes.net.mark_per_name ∙ nodes.step_count;
     done = λ m e. elim e [ inl q ↦ q | inr i ↦ absurd i ];
-    fresh = λ m i. ((closing.exactly m).0 i).1;
+    fresh = λ m i. ((closing.names_reached m).0 i).1;
     callees = λ m i. refl;
   })

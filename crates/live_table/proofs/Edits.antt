@@ -16,14 +16,14 @@ use Rattle.table_names.specs.Reach.{key_looked_keys, key_reach}
 use Rattle.live_table.specs.Calls.{IsAcceptedEdit}
 use Rattle.live_table.specs.Right.{IsRight}
 use Rattle.live_table.specs.TableView.{IsRightTable, Shown, state_with_steps}
-use Rattle.live_table.specs.States.{Becomes, after}
+use Rattle.live_table.specs.States.{Becomes, after_event}
 use Rattle.live_table.proofs.Events.{one_step}
 
 -- the visible state without the outcomes of the names that a change of these keys affects
 abbrev pub left_in : Shown → Contents → List Key → Shown
 left_in s deck keys = record {
   deck = deck;
-  kept = map_of.retain_keys s.kept (λ n. not (is_affected (table s.deck) keys n));
+  kept_outcomes = map_of.retain_keys s.kept_outcomes (λ n. not (is_affected (table s.deck) keys n));
   reductions = s.reductions;
 }
 
@@ -50,12 +50,14 @@ module _ (before after : Table) (keys others : List Key) (changed : AreChanged b
 
 module _ (law : ChangedLaw) (before : Shown) (deck : Contents) (keys : List Key)
     (changed : AreChanged (table before.deck) (table deck) keys) (right : IsRightTable before) where
-  stands : (steps : ℕ) → state_with_steps (left_in before deck keys) steps ≡ after (Becomes (table deck))
+  stands : (steps : ℕ) → state_with_steps (left_in before deck keys) steps ≡ after_event (Becomes (table deck))
       (state_with_steps before steps)
   stands steps = λ i. record (state_with_steps before steps) {
     table = table deck;
-    kept = map_of.retain_keys before.kept (λ n. not (same_affected (table before.deck) (table deck) keys
-        (changed_keys (table before.deck) (table deck)) changed (law before.deck deck).changed (table before.deck) n
+    kept_outcomes = map_of.retain_keys before.kept_outcomes
+        (λ n. not (same_affected (table before.deck) (table deck) keys
+        (changed_keys (table before.deck) (table deck)) changed (law before.deck deck).lists_changed_keys
+        (table before.deck) n
         i));
   }
 
@@ -63,6 +65,6 @@ module _ (law : ChangedLaw) (before : Shown) (deck : Contents) (keys : List Key)
   pub edit_follows : IsAcceptedEdit before (left_in before deck keys)
   edit_follows steps = record {
     stands = stands steps;
-    right = subst IsRight (sym (stands 0))
-        (one_step (Becomes (table deck)) (state_with_steps before 0) (law before.deck deck).changed right);
+    is_right = subst IsRight (sym (stands 0))
+        (one_step (Becomes (table deck)) (state_with_steps before 0) (law before.deck deck).lists_changed_keys right);
   }

@@ -12,7 +12,7 @@ use Rattle.live_table.specs.TableContents.{Listed, no_nodes, shown_table}
 module _ (deck : Contents) where
   none_settled : (n : Key) → IsKeySettled (state_with_steps (shown_table deck no_nodes 0) 0) n → ⊥
   none_settled n e =
-      let none : map_of.get (shown_table deck no_nodes 0).kept n ≡ None = map_of.get-empty key_cmp n in
+      let none : map_of.get (shown_table deck no_nodes 0).kept_outcomes n ≡ None = map_of.get-empty key_cmp n in
       let z : false ≡ true = sym (ap is_some none) ∙ e in cc
 
   no_names_sound : IsSound deck no_nodes 0
@@ -22,24 +22,24 @@ module _ (deck : Contents) where
       outcome_count = refl;
       callee_count = refl;
       look_count = refl;
-      flagged = refl;
-      counted = refl;
-      marked = refl;
-      apart = λ n m h k e. absurd (omega arith);
-      net = record { range = λ n m i. absurd i; size = refl; settled = λ n e. cc };
-      present = λ n e. cc;
+      flags_right = refl;
+      count_right = refl;
+      marks_right = refl;
+      numbers_apart = λ n m h k e. absurd (omega arith);
+      net = record { steps_in_range = λ n m i. absurd i; mark_per_name = refl; settled_right = λ n e. cc };
+      settled_have_entries = λ n e. cc;
       faithful = λ n e. cc;
-      starts = λ n e. cc;
+      part_starts = λ n e. cc;
       ranks = λ n e. cc;
-      looked = λ n e. cc;
+      settled_looks = λ n e. cc;
     };
-    right = record {
-      present = λ n e. absurd (none_settled n e);
-      closed = λ n e. absurd (none_settled n e);
-      below = λ n m e way. absurd (none_settled n e);
-      right = λ n o e. absurd (none_settled n (ap is_some e));
+    is_right = record {
+      settled_have_entries = λ n e. absurd (none_settled n e);
+      settled_closed = λ n e. absurd (none_settled n e);
+      reached_settled = λ n m e way. absurd (none_settled n e);
+      outcomes_right = λ n o e. absurd (none_settled n (ap is_some e));
     };
-    few = omega arith;
+    few_reductions = omega arith;
   }
 
   pub start_sound : (l : Listed) → l ≡ no_nodes → IsSound deck l 0

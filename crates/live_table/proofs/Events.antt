@@ -25,7 +25,7 @@ use Rattle.table_names.proofs.ReachedKeys.{reach_law}
 use Rattle.deck.specs.Changes.{changed_keys}
 use Rattle.live_table.specs.Right.{IsKeySettled, IsRight, RightLaw}
 use Rattle.live_table.specs.States.{AsksKey, AsksWords, Becomes, CanBe, Event, EventOrderLaw, TableState}
-use Rattle.live_table.specs.States.{after, after_edit, after_query, with_settled}
+use Rattle.live_table.specs.States.{after_edit, after_event, after_query, with_settled}
 use Rattle.live_table.proofs.Outcomes.{left_in, left_out, put_in}
 
 -- ---- the names that a query settles
@@ -38,10 +38,10 @@ pub record AreWhole (t : Table) (keys : List Key) : Type 0 where
 module _ (t : Table) where
   pub words_whole : (words : List WordUse) → AreClosed t words → AreWhole t (reach t words)
   words_whole words e = record {
-    present = λ n i. reach_law.present t words n ((reach_law.listed t words e n).0 i);
-    closed = λ n i. closed_law.below t words e n ((reach_law.listed t words e n).0 i);
-    below = λ n m i r. (reach_law.listed t words e m).1
-        (reach_law.further t words n m ((reach_law.listed t words e n).0 i) r);
+    present = λ n i. reach_law.reached_have_entries t words n ((reach_law.reached_words t words e n).0 i);
+    closed = λ n i. closed_law.reached_words_closed t words e n ((reach_law.reached_words t words e n).0 i);
+    below = λ n m i r. (reach_law.reached_words t words e m).1
+        (reach_law.reached_further t words n m ((reach_law.reached_words t words e n).0 i) r);
   }
 
   pub key_whole : (n : Key) → is_present t n ≡ true → IsClosed t n → AreWhole t (n ∷ key_reach t n)
@@ -67,7 +67,7 @@ module _ (t : Table) where
 
       below : (m k : Key) → Contains (n ∷ key_reach t n) m → Reaches t m k → Contains (n ∷ key_reach t n) k
       below m k i r = member_later k n (key_reach t n) (elim (member_cases m n (key_reach t n) i) [
-        | inl q ↦ (reach_law.listed t (key_words t n) words_closed k).1 (subst (λ (x : Key). Reaches t x k) q r)
+        | inl q ↦ (reach_law.reached_words t (key_words t n) words_closed k).1 (subst (λ (x : Key). Reaches t x k) q r)
         | inr j ↦ whole.below m k j r
       ])
 
@@ -75,30 +75,31 @@ module _ (s : TableState) (keys : List Key) (whole : AreWhole s.table keys) (h :
   abbrev grown : TableState
   grown = with_settled keys s
 
-  either : (n : Key) → Contains keys n ⊎ (map_of.get grown.kept n ≡ map_of.get s.kept n)
+  either : (n : Key) → Contains keys n ⊎ (map_of.get grown.kept_outcomes n ≡ map_of.get s.kept_outcomes n)
   either n = elim (cases_Bool (is_key_among keys n)) [
     | inl e ↦ inl (member_among keys n e)
-    | inr e ↦ inr (left_out s.table keys s.kept n (λ i. true≢false (sym (among_member keys n i) ∙ e)))
+    | inr e ↦ inr (left_out s.table keys s.kept_outcomes n (λ i. true≢false (sym (among_member keys n i) ∙ e)))
   ]
 
   pub old_or_new : (n : Key) → IsKeySettled grown n → Contains keys n ⊎ IsKeySettled s n
   old_or_new n i = elim (either n) [ inl j ↦ inl j | inr e ↦ inr (sym (ap is_some e) ∙ i) ]
 
   pub new_in : (n : Key) → Contains keys n → IsKeySettled grown n
-  new_in n i = ap is_some (put_in s.table keys s.kept n (inl i))
+  new_in n i = ap is_some (put_in s.table keys s.kept_outcomes n (inl i))
 
   pub old_in : (n : Key) → IsKeySettled s n → IsKeySettled grown n
   old_in n i = elim (either n) [ inl j ↦ new_in n j | inr e ↦ ap is_some e ∙ i ]
 
   grown_right : IsRight grown
   grown_right = record {
-    present = λ n i. elim (old_or_new n i) [ inl j ↦ whole.present n j | inr j ↦ h.present n j ];
-    closed = λ n i. elim (old_or_new n i) [ inl j ↦ whole.closed n j | inr j ↦ h.closed n j ];
-    below = λ n m i r. elim (old_or_new n i)
-        [ inl j ↦ new_in m (whole.below n m j r) | inr j ↦ old_in m (h.below n m j r) ];
-    right = λ n o e. elim (either n) [
-      | inl j ↦ some_same (outcome s.table n) o (sym (put_in s.table keys s.kept n (inl j)) ∙ e)
-      | inr q ↦ h.right n o (sym q ∙ e)
+    settled_have_entries = λ n i.
+        elim (old_or_new n i) [ inl j ↦ whole.present n j | inr j ↦ h.settled_have_entries n j ];
+    settled_closed = λ n i. elim (old_or_new n i) [ inl j ↦ whole.closed n j | inr j ↦ h.settled_closed n j ];
+    reached_settled = λ n m i r. elim (old_or_new n i)
+        [ inl j ↦ new_in m (whole.below n m j r) | inr j ↦ old_in m (h.reached_settled n m j r) ];
+    outcomes_right = λ n o e. elim (either n) [
+      | inl j ↦ some_same (outcome s.table n) o (sym (put_in s.table keys s.kept_outcomes n (inl j)) ∙ e)
+      | inr q ↦ h.outcomes_right n o (sym q ∙ e)
     ];
   }
     where
@@ -135,11 +136,12 @@ module _ (s : TableState) (table : Table) (keys : List Key) (changed : AreChange
   stays n = not (is_affected s.table keys n)
 
   pub parts : (n : Key) → IsKeySettled left n → (stays n ≡ true) × IsKeySettled s n
-  parts n i = left_some (stays n) (map_of.get s.kept n) (sym (ap is_some (left_in s.kept stays n)) ∙ i)
+  parts n i = left_some (stays n) (map_of.get s.kept_outcomes n) (sym (ap is_some (left_in s.kept_outcomes stays n))
+      ∙ i)
 
   pub free : (n : Key) → IsKeySettled left n → IsAffected s.table keys n → ⊥
   free n i a =
-      true≢false (sym ((affected_law.computed s.table keys n (h.closed n (parts n i).1)).1 a)
+      true≢false (sym ((affected_law.affected_exactly s.table keys n (h.settled_closed n (parts n i).1)).1 a)
       ∙ not-true (is_affected s.table keys n) (parts n i).0)
 
   pub stays_in : (m : Key) → IsKeySettled s m → (IsAffected s.table keys m → ⊥) → IsKeySettled left m
@@ -147,29 +149,31 @@ module _ (s : TableState) (table : Table) (keys : List Key) (changed : AreChange
       let e : stays m ≡ true =
       not_from_false (is_affected s.table keys m)
       (false_from_ne_true (is_affected s.table keys m)
-      (λ q. f ((affected_law.computed s.table keys m (h.closed m i)).0 q))) in
-      ap is_some (left_in s.kept stays m ∙ cond-true (stays m) (map_of.get s.kept m) None e) ∙ i
+      (λ q. f ((affected_law.affected_exactly s.table keys m (h.settled_closed m i)).0 q))) in
+      ap is_some (left_in s.kept_outcomes stays m ∙ cond-true (stays m) (map_of.get s.kept_outcomes m) None e) ∙ i
 
   as_before : (n : Key) → IsKeySettled left n → IsAsBefore s.table table n
-  as_before n i = unaffected_law s.table table keys changed n (h.closed n (parts n i).1) (free n i)
+  as_before n i = unaffected_law s.table table keys changed n (h.settled_closed n (parts n i).1) (free n i)
 
   below_still : (n m : Key) → IsKeySettled left n → Reaches table n m → IsKeySettled left m
   below_still n m i r =
       let before : Reaches s.table n m = ((as_before n i).reach m).1 r in
-      stays_in m (h.below n m (parts n i).1 before) (λ a. free n i (affected_law.users s.table keys n m before a))
+      stays_in m (h.reached_settled n m (parts n i).1 before)
+      (λ a. free n i (affected_law.users s.table keys n m before a))
 
   edit_right : IsRight left
   edit_right = record {
-    present = λ n i. sym (ap is_some (as_before n i).entry) ∙ h.present n (parts n i).1;
-    closed = λ n i. (as_before n i).closed;
-    below = below_still;
-    right = λ n o e.
-        h.right n o (left_is (stays n) (map_of.get s.kept n) o (sym (left_in s.kept stays n) ∙ e))
+    settled_have_entries = λ n i. sym (ap is_some (as_before n i).entry) ∙ h.settled_have_entries n (parts n i).1;
+    settled_closed = λ n i. (as_before n i).still_closed;
+    reached_settled = below_still;
+    outcomes_right = λ n o e.
+        h.outcomes_right n o (left_is (stays n) (map_of.get s.kept_outcomes n) o
+        (sym (left_in s.kept_outcomes stays n) ∙ e))
         ∙ (as_before n (ap is_some e)).outcome;
   }
 
 -- ---- a single event, and a list of events
-pub one_step : (e : Event) (s : TableState) → CanBe e s → IsRight s → IsRight (after e s)
+pub one_step : (e : Event) (s : TableState) → CanBe e s → IsRight s → IsRight (after_event e s)
 one_step (AsksWords words) s can h =
     query_right s (reach s.table words) (is_none (name_fault s.table words))
     (λ e. words_whole s.table words (none_is (name_fault s.table words) e)) h
@@ -181,9 +185,9 @@ one_step (Becomes table) s can h = edit_right s table (changed_keys s.table tabl
 -- the law of right tables
 pub right_law : RightLaw
 right_law [] s can h = h
-right_law (e ∷ es) s can h = right_law es (after e s) can.1 (one_step e s can.0 h)
+right_law (e ∷ es) s can h = right_law es (after_event e s) can.1 (one_step e s can.0 h)
 
 -- the law of events in turn
 pub order_law : EventOrderLaw
 order_law [] fs s = refl
-order_law (e ∷ es) fs s = order_law es fs (after e s)
+order_law (e ∷ es) fs s = order_law es fs (after_event e s)

@@ -13,7 +13,7 @@ use Rattle.def_entry.specs.Tables.{Table, is_present}
 use Rattle.edge_links.specs.Reach.{AreMarksCleared}
 use Rattle.name_edges.specs.AffectedNames.{AreAffected, AreEdgesCut, ForgetsNames, IsAffectedName}
 use Rattle.name_edges.specs.NameGraphs.{NameGraph}
-use Rattle.name_edges.proofs.Cutting.{alone, both, cleared_on, cut_on, in_alone}
+use Rattle.name_edges.proofs.Cutting.{affected_by_both, affected_by_one, cleared_on, cut_on, in_alone}
 use Rattle.name_numbers.specs.EdgeLaws.{AreNumbersOf}
 use Rattle.name_walk.proofs.Marks.{get_set_other, get_set_same}
 use Rattle.table_names.proofs.KeyLists.{among_member, member_among}
@@ -32,10 +32,10 @@ no_key g n a = no_member a.0 a.1
 -- ---- no key
 module _ (t : Table) (l : Listed) (g : NameGraph) where
   nothing_cut : AreEdgesCut (AreAffected g []) g.uses g.uses
-  nothing_cut = record { gone = λ x y a. absurd (no_key g x a); kept = λ x y free. refl }
+  nothing_cut = record { affected_cleared = λ x y a. absurd (no_key g x a); others_unchanged = λ x y free. refl }
 
   nothing_looked : AreEdgesCut (AreAffected g []) g.looks g.looks
-  nothing_looked = record { gone = λ x y a. absurd (no_key g x a); kept = λ x y free. refl }
+  nothing_looked = record { affected_cleared = λ x y a. absurd (no_key g x a); others_unchanged = λ x y free. refl }
 
   same_rest : IsRest l l
   same_rest = record { keys = refl; callees = refl; graph = refl; looks = refl }
@@ -47,20 +47,25 @@ module _ (t : Table) (l : Listed) (g : NameGraph) where
     numbers = [];
     of = record { of_keys = λ m i. absurd (no_member m i); every = λ m s i. absurd (none m (omega (arith, s, few)) i) };
     edges = record { names = refl; uses = nothing_cut; looks = nothing_looked };
-    marks = record { gone = λ x a. absurd (no_key g x a); kept = λ x free. refl };
-    left = left_at_first l.settled l.count l.outcomes;
-    present = record { count = refl; changed = λ n s i. absurd (none n s i); others = λ n s free. refl };
-    rest = same_rest;
+    marks_cleared = record { affected_cleared = λ x a. absurd (no_key g x a); others_unchanged = λ x free. refl };
+    numbers_left = left_at_first l.settled_flags l.count l.outcomes;
+    flags_anew = record {
+      flag_count = refl;
+      changed_flags = λ n s i. absurd (none n s i);
+      other_flags = λ n s free.
+          refl;
+    };
+    rest_same = same_rest;
   }
 
 -- ---- some keys, and then others
 module _ (t : Table) (keys others : List Key) (l mid new : Listed) (g gmid h : NameGraph)
     (a : AreForgotten t keys l mid g gmid) (b : AreForgotten t others mid new gmid h) where
   key_same : (n : ℕ) → key_at mid.keys n ≡ key_at l.keys n
-  key_same n = ap (λ (ks : List Key). key_at ks n) a.rest.keys
+  key_same n = ap (λ (ks : List Key). key_at ks n) a.rest_same.keys
 
   size_same : (n : ℕ) → n < length l.keys → n < length mid.keys
-  size_same n s = let e : length mid.keys ≡ length l.keys = ap length a.rest.keys in omega (arith, s, e)
+  size_same n s = let e : length mid.keys ≡ length l.keys = ap length a.rest_same.keys in omega (arith, s, e)
 
   of_both : AreNumbersOf (key_at l.keys) g.names (keys ++ others) (a.numbers ++ b.numbers)
   of_both = record {
@@ -79,27 +84,27 @@ module _ (t : Table) (keys others : List Key) (l mid new : Listed) (g gmid h : N
 
   flags_at : (n : ℕ) → n < length l.keys → Contains (keys ++ others) (key_at l.keys n)
       → (is_key_among others (key_at l.keys n) ≡ true) ⊎ (is_key_among others (key_at l.keys n) ≡ false)
-      → slice_get new.present n ≡ Some (is_present t (key_at l.keys n))
+      → slice_get new.entry_flags n ≡ Some (is_present t (key_at l.keys n))
   flags_at n s i (inl e) =
-      b.present.changed n (size_same n s)
+      b.flags_anew.changed_flags n (size_same n s)
       (subst (λ (k : Key). Contains others k) (sym (key_same n)) (member_among others (key_at l.keys n) e))
       ∙ ap (λ (k : Key). Some (is_present t k)) (key_same n)
   flags_at n s i (inr e) =
       let off : Contains others (key_at l.keys n) → ⊥ = λ c.
       true≢false (sym (among_member others (key_at l.keys n) c) ∙ e) in
-      b.present.others n (size_same n s) (λ c. off (subst (λ (k : Key). Contains others k) (key_same n) c))
-      ∙ a.present.changed n s
+      b.flags_anew.other_flags n (size_same n s) (λ c. off (subst (λ (k : Key). Contains others k) (key_same n) c))
+      ∙ a.flags_anew.changed_flags n s
       (elim (Contains-append_cases keys others (key_at l.keys n) i) [ inl j ↦ j | inr j ↦ absurd (off j) ])
 
   flags_both : AreFlaggedAnew t (keys ++ others) l new
   flags_both = record {
-    count = b.present.count ∙ a.present.count;
-    changed = λ n s i. flags_at n s i (cases_Bool (is_key_among others (key_at l.keys n)));
-    others = λ n s free.
-        b.present.others n (size_same n s)
+    flag_count = b.flags_anew.flag_count ∙ a.flags_anew.flag_count;
+    changed_flags = λ n s i. flags_at n s i (cases_Bool (is_key_among others (key_at l.keys n)));
+    other_flags = λ n s free.
+        b.flags_anew.other_flags n (size_same n s)
         (λ c. free (Contains-append_right keys others (key_at l.keys n)
         (subst (λ (k : Key). Contains others k) (key_same n) c)))
-        ∙ a.present.others n s (λ c. free (Contains-append_left keys others (key_at l.keys n) c));
+        ∙ a.flags_anew.other_flags n s (λ c. free (Contains-append_left keys others (key_at l.keys n) c));
   }
 
   pub forgotten_on : AreForgotten t (keys ++ others) l new g h
@@ -108,27 +113,31 @@ module _ (t : Table) (keys others : List Key) (l mid new : Listed) (g gmid h : N
     of = of_both;
     edges = record {
       names = b.edges.names ∙ a.edges.names;
-      uses = cut_on _ _ _ (both a.numbers b.numbers g gmid a.edges) g.uses gmid.uses h.uses a.edges.uses b.edges.uses;
-      looks = cut_on _ _ _ (both a.numbers b.numbers g gmid a.edges) g.looks gmid.looks h.looks a.edges.looks
+      uses = cut_on _ _ _ (affected_by_both a.numbers b.numbers g gmid a.edges) g.uses gmid.uses h.uses a.edges.uses
+          b.edges.uses;
+      looks = cut_on _ _ _ (affected_by_both a.numbers b.numbers g gmid a.edges) g.looks gmid.looks h.looks
+          a.edges.looks
           b.edges.looks;
     };
-    marks = cleared_on _ _ _ (both a.numbers b.numbers g gmid a.edges) (is_flagged l.settled) (is_flagged mid.settled)
-        (is_flagged new.settled) a.marks b.marks;
-    left = left_on l.settled mid.settled new.settled l.count mid.count new.count l.outcomes mid.outcomes new.outcomes
-        a.left b.left;
-    present = flags_both;
-    rest = record {
-      keys = b.rest.keys ∙ a.rest.keys;
-      callees = b.rest.callees ∙ a.rest.callees;
-      graph = b.rest.graph ∙ a.rest.graph;
-      looks = b.rest.looks ∙ a.rest.looks;
+    marks_cleared = cleared_on _ _ _ (affected_by_both a.numbers b.numbers g gmid a.edges) (is_flagged l.settled_flags)
+        (is_flagged mid.settled_flags)
+        (is_flagged new.settled_flags) a.marks_cleared b.marks_cleared;
+    numbers_left = left_on l.settled_flags mid.settled_flags new.settled_flags l.count mid.count new.count l.outcomes
+        mid.outcomes new.outcomes
+        a.numbers_left b.numbers_left;
+    flags_anew = flags_both;
+    rest_same = record {
+      keys = b.rest_same.keys ∙ a.rest_same.keys;
+      callees = b.rest_same.callees ∙ a.rest_same.callees;
+      graph = b.rest_same.graph ∙ a.rest_same.graph;
+      looks = b.rest_same.looks ∙ a.rest_same.looks;
     };
   }
 
 -- ---- one key that has a number
 module _ (t : Table) (k : Key) (l : Listed) (n : ℕ) (found : slice_get l.keys n ≡ Some k)
     (apart : (i j : ℕ) → i < length l.keys → j < length l.keys → key_at l.keys i ≡ key_at l.keys j → i ≡ j)
-    (sizes : length l.present ≡ length l.keys) (b : Bool) (flag : b ≡ is_present t k) where
+    (sizes : length l.entry_flags ≡ length l.keys) (b : Bool) (flag : b ≡ is_present t k) where
   there : n < length l.keys
   there = get_lt l.keys n k found
 
@@ -144,26 +153,28 @@ module _ (t : Table) (k : Key) (l : Listed) (n : ℕ) (found : slice_get l.keys 
   own : Contains (k ∷ []) (key_at l.keys n)
   own = member_first (key_at l.keys n) k [] its_key
 
-  module _ (m : Listed) (put : m.present ≡ set l.present n b) where
+  module _ (m : Listed) (put : m.entry_flags ≡ set l.entry_flags n b) where
     pub flags_one : AreFlaggedAnew t (k ∷ []) l m
     flags_one = record {
-      count = ap length put ∙ length-set l.present n b;
-      changed = λ i s c.
+      flag_count = ap length put ∙ length-set l.entry_flags n b;
+      changed_flags = λ i s c.
           let e : i ≡ n = only i s c in
           ap (λ (bs : List Bool). slice_get bs i) put
-          ∙ (ap (slice_get (set l.present n b)) e
-          ∙ (get_set_same l.present n b (let z = there in omega (arith, z, sizes))
+          ∙ (ap (slice_get (set l.entry_flags n b)) e
+          ∙ (get_set_same l.entry_flags n b (let z = there in omega (arith, z, sizes))
           ∙ ap Some (flag ∙ ap (is_present t) (sym its_key ∙ ap (key_at l.keys) (sym e)))));
-      others = λ i s free.
+      other_flags = λ i s free.
           ap (λ (bs : List Bool). slice_get bs i) put
-          ∙ get_set_other l.present n i b (λ e. free (subst (λ x. Contains (k ∷ []) (key_at l.keys x)) (sym e) own));
+          ∙ get_set_other l.entry_flags n i b
+          (λ e. free (subst (λ x. Contains (k ∷ []) (key_at l.keys x)) (sym e) own));
     }
 
     module _ (rest : IsRest l m) (g h : NameGraph) where
       -- the number has edges
       pub one_forgotten : n < g.names → g.names ≤ length l.keys → ForgetsNames (IsAffectedName g n) g h
-          → AreMarksCleared (IsAffectedName g n) (is_flagged l.settled) (is_flagged m.settled)
-          → AreNumbersLeft l.settled m.settled l.count m.count l.outcomes m.outcomes → AreForgotten t (k ∷ []) l m g h
+          → AreMarksCleared (IsAffectedName g n) (is_flagged l.settled_flags) (is_flagged m.settled_flags)
+          → AreNumbersLeft l.settled_flags m.settled_flags l.count m.count l.outcomes m.outcomes
+          → AreForgotten t (k ∷ []) l m g h
       one_forgotten within few edges marks left = record {
         numbers = n ∷ [];
         of = record {
@@ -173,31 +184,32 @@ module _ (t : Table) (k : Key) (l : Listed) (n : ℕ) (found : slice_get l.keys 
         edges = record {
           names = edges.names;
           uses = record {
-            gone = λ x y a. edges.uses.gone x y (alone g n x a);
-            kept = λ x y free.
-                edges.uses.kept x y (λ a. free (in_alone g n x a));
+            affected_cleared = λ x y a. edges.uses.affected_cleared x y (affected_by_one g n x a);
+            others_unchanged = λ x y free.
+                edges.uses.others_unchanged x y (λ a. free (in_alone g n x a));
           };
           looks = record {
-            gone = λ x y a. edges.looks.gone x y (alone g n x a);
-            kept = λ x y free.
-                edges.looks.kept x y (λ a. free (in_alone g n x a));
+            affected_cleared = λ x y a. edges.looks.affected_cleared x y (affected_by_one g n x a);
+            others_unchanged = λ x y free.
+                edges.looks.others_unchanged x y (λ a. free (in_alone g n x a));
           };
         };
-        marks = record {
-          gone = λ x a. marks.gone x (alone g n x a);
-          kept = λ x free.
-              marks.kept x (λ a. free (in_alone g n x a));
+        marks_cleared = record {
+          affected_cleared = λ x a. marks.affected_cleared x (affected_by_one g n x a);
+          others_unchanged = λ x free.
+              marks.others_unchanged x (λ a. free (in_alone g n x a));
         };
-        left = left;
-        present = flags_one;
-        rest = rest;
+        numbers_left = left;
+        flags_anew = flags_one;
+        rest_same = rest;
       }
         where
           single : (i : ℕ) → Contains (n ∷ []) i → i ≡ n
           single i c = elim (member_cases i n [] c) [ inl e ↦ e | inr j ↦ absurd (no_member i j) ]
 
     -- the number has no edges
-    module _ (rest : IsRest l m) (g : NameGraph) (settled : m.settled ≡ l.settled) (count : m.count ≡ l.count)
+    module _ (rest : IsRest l m) (g : NameGraph) (settled : m.settled_flags ≡ l.settled_flags)
+        (count : m.count ≡ l.count)
         (outcomes : m.outcomes ≡ l.outcomes) where
       pub flag_forgotten : (n < g.names → ⊥) → g.names ≤ length l.keys → AreForgotten t (k ∷ []) l m g g
       flag_forgotten beyond few = record {
@@ -207,16 +219,17 @@ module _ (t : Table) (k : Key) (l : Listed) (n : ℕ) (found : slice_get l.keys 
           every = λ i s c. absurd (beyond (subst (λ x. x < g.names) (only i (omega (arith, s, few)) c) s));
         };
         edges = record { names = refl; uses = nothing_cut t l g; looks = nothing_looked t l g };
-        marks = record {
-          gone = λ x a. absurd (no_key g x a);
-          kept = λ x free. ap (λ (bs : List Bool). is_flagged bs x) settled;
+        marks_cleared = record {
+          affected_cleared = λ x a. absurd (no_key g x a);
+          others_unchanged = λ x free. ap (λ (bs : List Bool). is_flagged bs x) settled;
         };
-        left = subst (λ (p : List Bool × (ℕ × List (Option Outcome))). AreNumbersLeft l.settled p.0 l.count p.1.0
+        numbers_left = subst (λ (p : List Bool × (ℕ × List (Option Outcome))).
+            AreNumbersLeft l.settled_flags p.0 l.count p.1.0
             l.outcomes
             p.1.1)
-            (λ i. (sym settled i, (sym count i, sym outcomes i))) (left_at_first l.settled l.count l.outcomes);
-        present = flags_one;
-        rest = rest;
+            (λ i. (sym settled i, (sym count i, sym outcomes i))) (left_at_first l.settled_flags l.count l.outcomes);
+        flags_anew = flags_one;
+        rest_same = rest;
       }
 
 -- ---- a key that has no number
@@ -245,16 +258,16 @@ take_next (x ∷ ks) (suc i) k e = ap (λ n. take n (x ∷ ks)) (later i) ∙ ap
 pub can_forget : (t : Table) (keys : List Key) (l m : Listed) (g h : NameGraph) → AreForgotten t keys l m g h
     → CanForget l g → CanForget m h
 can_forget t keys l m g h f can = record {
-  apart = λ i j s u e. can.apart i j (size i s) (size j u) (sym (same i) ∙ (e ∙ same j));
-  flags = f.present.count ∙ (can.flags ∙ sym (ap length f.rest.keys));
+  numbers_apart = λ i j s u e. can.numbers_apart i j (size i s) (size j u) (sym (same i) ∙ (e ∙ same j));
+  flag_per_key = f.flags_anew.flag_count ∙ (can.flag_per_key ∙ sym (ap length f.rest_same.keys));
   names =
       let a = can.names in
       let b = f.edges.names in
-      let d : length m.keys ≡ length l.keys = ap length f.rest.keys in omega (arith, a, b, d);
+      let d : length m.keys ≡ length l.keys = ap length f.rest_same.keys in omega (arith, a, b, d);
 }
   where
     same : (i : ℕ) → key_at m.keys i ≡ key_at l.keys i
-    same i = ap (λ (ks : List Key). key_at ks i) f.rest.keys
+    same i = ap (λ (ks : List Key). key_at ks i) f.rest_same.keys
 
     size : (i : ℕ) → i < length m.keys → i < length l.keys
-    size i s = let d : length m.keys ≡ length l.keys = ap length f.rest.keys in omega (arith, s, d)
+    size i s = let d : length m.keys ≡ length l.keys = ap length f.rest_same.keys in omega (arith, s, d)

@@ -27,7 +27,8 @@ use Rattle.live_table.proofs.Queries.{IsQueryOf, cut_off}
 pub same_shown : (deck : Contents) (l m : Listed) (before here there : List ℕ) (ends more : List DeadEnd)
     (r : ℕ) → AreGrown (table deck) l m before here there ends more
     → shown_table deck m r ≡ shown_table deck l r
-same_shown deck l m before here there ends more r g = λ i. record { deck = deck; kept = g.kept i; reductions = r }
+same_shown deck l m before here there ends more r g = λ i.
+    record { deck = deck; kept_outcomes = g.same_outcomes i; reductions = r }
 
 -- a table that has grown is sound
 pub grown_sound : (deck : Contents) (l m : Listed) (before here there : List ℕ) (ends more : List DeadEnd) (r : ℕ)
@@ -35,8 +36,8 @@ pub grown_sound : (deck : Contents) (l m : Listed) (before here there : List ℕ
     → IsSound deck l r → IsSound deck m r
 grown_sound deck l m before here there ends more r g s = record {
   numbers = g.nodes;
-  right = subst IsRightTable (sym (same_shown deck l m before here there ends more r g)) s.right;
-  few = s.few;
+  is_right = subst IsRightTable (sym (same_shown deck l m before here there ends more r g)) s.is_right;
+  few_reductions = s.few_reductions;
 }
 
 -- a table that has grown has its edges
@@ -44,8 +45,8 @@ pub grown_live : (deck : Contents) (l m : Listed) (before here there : List ℕ)
     → AreGrown (table deck) l m before here there ends more → (e : LateEdges)
     → IsLive deck l e r → IsLive deck m e r
 grown_live deck l m before here there ends more r grown e live = record {
-  sound = grown_sound deck l m before here there ends more r grown live.sound;
-  edges = grown_edges deck l m before here there ends more r grown live.sound e.waiting.items e.made
+  is_sound = grown_sound deck l m before here there ends more r grown live.is_sound;
+  edges = grown_edges deck l m before here there ends more r grown live.is_sound e.waiting.items e.made
       live.edges;
 }
 
@@ -71,4 +72,4 @@ cut_short {A} Given event fault reached deck l m before here there ends more r o
     old) (sym e)
     (subst (λ (now : Shown). IsCutOff (event ∷ []) (shown_table deck l r) now old old)
     (sym (same_shown deck l m before here there ends more r g))
-    (cut_off event fault reached (shown_table deck l r) old s.right is))
+    (cut_off event fault reached (shown_table deck l r) old s.is_right is))

@@ -150,10 +150,10 @@ module _ (room : ℕ) (ss more : List (SmallVec ℕ)) (k : Key) (v : SmallVec �
       (decoded_keys more ≡ decoded_keys ss)
 
   -- a key has a number, the next one if it had none
-  pub added : (n : ℕ) (is_new : Bool) → is_new ≡ not (list_any (λ s. bytes_eq v.items s.items) ss)
+  pub key_gets_number : (n : ℕ) (is_new : Bool) → is_new ≡ not (list_any (λ s. bytes_eq v.items s.items) ss)
       → ((s : SmallVec ℕ) × (slice_get more n ≡ Some s) × (bytes_eq v.items s.items ≡ true))
       → IsAdded k (decoded_keys ss) (decoded_keys more) n is_new
-  added n is_new flag at = record {
+  key_gets_number n is_new flag at = record {
     number = slice_get-map (λ (s : SmallVec ℕ). decoded_key s.items) more n
         ∙ (ap (option_map (λ (s : SmallVec ℕ). decoded_key s.items)) at.1
         ∙ ap Some (told k v.items at.0.items is at.2));

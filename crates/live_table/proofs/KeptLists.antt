@@ -19,7 +19,7 @@ use Rattle.table_names.proofs.ReachedKeys.{reach_law}
 use Rattle.deck.specs.Changes.{changed_keys}
 use Rattle.live_table.specs.KeptNames.{IsKeptBy, table_after}
 use Rattle.live_table.specs.Right.{IsKeySettled, IsRight}
-use Rattle.live_table.specs.States.{AsksKey, AsksWords, Becomes, Event, TableState, after, after_all}
+use Rattle.live_table.specs.States.{AsksKey, AsksWords, Becomes, Event, TableState, after_all, after_event}
 use Rattle.live_table.specs.States.{after_query}
 use Rattle.live_table.proofs.Events.{right_law}
 use Rattle.live_table.proofs.KeptNames.{kept_law}
@@ -98,7 +98,7 @@ module _ (s : TableState) (keys : List Key) (listed : (n : Key) → Contains key
   )
     where
       words : (n : Key) → Contains (key_reach s.table k) n ↔ Reaches s.table k n
-      words = reach_law.listed s.table (key_words s.table k) ((closed_law.key s.table k).0 closed)
+      words = reach_law.reached_words s.table (key_words s.table k) ((closed_law.key s.table k).0 closed)
 
   -- an edit
   edit_listed : (later : Table) → IsRight s → (n : Key)
@@ -107,10 +107,10 @@ module _ (s : TableState) (keys : List Key) (listed : (n : Key) → Contains key
     λ i. let r = passed stays keys n i in (
       (listed n).0 r.0,
       λ a. not_true (is_affected s.table changed n) r.1
-          ((both (right.closed n ((listed n).0 r.0))).1 a),
+          ((both (right.settled_closed n ((listed n).0 r.0))).1 a),
     ),
     λ k. passes stays keys n ((listed n).1 k.0)
-        (not_false (is_affected s.table changed n) (λ e. k.1 ((both (right.closed n k.0)).0 e))),
+        (not_false (is_affected s.table changed n) (λ e. k.1 ((both (right.settled_closed n k.0)).0 e))),
   )
     where
       changed : List Key
@@ -121,13 +121,13 @@ module _ (s : TableState) (keys : List Key) (listed : (n : Key) → Contains key
 
       both : IsClosed s.table n → (is_affected s.table (changed_keys s.table later) n ≡ true)
           ↔ IsAffected s.table (changed_keys s.table later) n
-      both closed = affected_law.computed s.table (changed_keys s.table later) n closed
+      both closed = affected_law.affected_exactly s.table (changed_keys s.table later) n closed
 
   event_listed : (e : Event) → IsRight s → (n : Key)
       → Contains (kept_by e s.table keys) n ↔ IsKeptBy e s.table (IsKeySettled s) n
   event_listed (AsksWords words) right n =
       query_listed (reach s.table words) (AreClosed s.table words) (WordsReach s.table words)
-      (reach_law.listed s.table words) (is_none (name_fault s.table words)) (none_is (name_fault s.table words))
+      (reach_law.reached_words s.table words) (is_none (name_fault s.table words)) (none_is (name_fault s.table words))
       (λ e. ap is_none e) n
   event_listed (AsksKey k) right n =
       query_listed (k ∷ key_reach s.table k) (IsClosed s.table k) (λ m. (m ≡ k) ⊎ Reaches s.table k m)
@@ -139,7 +139,7 @@ query_table : (b : Bool) (keys : List Key) (s : TableState) → (after_query b k
 query_table true keys s = refl
 query_table false keys s = refl
 
-event_table : (e : Event) (s : TableState) → (after e s).table ≡ table_after e s.table
+event_table : (e : Event) (s : TableState) → (after_event e s).table ≡ table_after e s.table
 event_table (AsksWords words) s = query_table (is_none (name_fault s.table words)) (reach s.table words) s
 event_table (AsksKey k) s = query_table (is_none (key_fault s.table k)) (k ∷ key_reach s.table k) s
 event_table (Becomes later) s = refl
@@ -148,10 +148,11 @@ event_table (Becomes later) s = refl
 pub kept_list_law : KeptListLaw
 kept_list_law [] s keys can right listed n = listed n
 kept_list_law (e ∷ es) s keys can right listed n =
-    subst (λ (t : Table). Contains (kept_list es t (kept_by e s.table keys)) n ↔ IsKeySettled (after_all es (after e s))
+    subst (λ (t : Table). Contains (kept_list es t (kept_by e s.table keys)) n ↔ IsKeySettled
+    (after_all es (after_event e s))
     n)
     (event_table e s)
-    (kept_list_law es (after e s) (kept_by e s.table keys) can.1 (right_law (e ∷ []) s (can.0, tt) right)
+    (kept_list_law es (after_event e s) (kept_by e s.table keys) can.1 (right_law (e ∷ []) s (can.0, tt) right)
     (λ m. (
       λ i. ((kept_law (e ∷ []) s (can.0, tt) right).names m).1 ((event_listed s keys listed e right m).0 i),
       λ i. (event_listed s keys listed e right m).1 (((kept_law (e ∷ []) s (can.0, tt) right).names m).0 i),

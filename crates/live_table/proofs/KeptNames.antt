@@ -15,7 +15,8 @@ use Rattle.table_names.proofs.Members.{member_cases, member_first, member_later}
 use Rattle.table_names.proofs.ReachedKeys.{reach_law}
 use Rattle.live_table.specs.KeptNames.{IsKeptBy, IsKeptByAll, StoredNamesLaw, table_after}
 use Rattle.live_table.specs.Right.{IsKeySettled, IsRight}
-use Rattle.live_table.specs.States.{AllCanBe, AsksKey, AsksWords, Becomes, CanBe, Event, TableState, after, after_all}
+use Rattle.live_table.specs.States.{AllCanBe, AsksKey, AsksWords, Becomes, CanBe, Event, TableState, after_all}
+use Rattle.live_table.specs.States.{after_event}
 use Rattle.live_table.specs.States.{after_query}
 use Rattle.live_table.proofs.Events.{AreWhole, free, key_whole, new_in, none_is, old_in, old_or_new, one_step, parts}
 use Rattle.live_table.proofs.Events.{right_law, stays_in, words_whole}
@@ -50,14 +51,14 @@ key_listed table k closed n = (
 )
   where
     words : (n : Key) → Contains (key_reach table k) n ↔ Reaches table k n
-    words = reach_law.listed table (key_words table k) ((closed_law.key table k).0 closed)
+    words = reach_law.reached_words table (key_words table k) ((closed_law.key table k).0 closed)
 
 -- the names that are stored after an event are those of `IsKeptBy`
 event_kept : (e : Event) (s : TableState) → CanBe e s → IsRight s → (n : Key)
-    → IsKeySettled (after e s) n ↔ IsKeptBy e s.table (IsKeySettled s) n
+    → IsKeySettled (after_event e s) n ↔ IsKeptBy e s.table (IsKeySettled s) n
 event_kept (AsksWords words) s can h =
     query_kept s (reach s.table words) h (AreClosed s.table words) (WordsReach s.table words)
-    (words_whole s.table words) (reach_law.listed s.table words) (is_none (name_fault s.table words))
+    (words_whole s.table words) (reach_law.reached_words s.table words) (is_none (name_fault s.table words))
     (none_is (name_fault s.table words)) (λ e. ap is_none e)
 event_kept (AsksKey k) s can h =
     query_kept s (k ∷ key_reach s.table k) h (IsClosed s.table k) (λ n. (n ≡ k) ⊎ Reaches s.table k n)
@@ -74,7 +75,7 @@ query_table true keys s = refl
 query_table false keys s = refl
 
 -- the table after an event is that of `table_after`
-event_table : (e : Event) (s : TableState) → (after e s).table ≡ table_after e s.table
+event_table : (e : Event) (s : TableState) → (after_event e s).table ≡ table_after e s.table
 event_table (AsksWords words) s = query_table (is_none (name_fault s.table words)) (reach s.table words) s
 event_table (AsksKey k) s = query_table (is_none (key_fault s.table k)) (k ∷ key_reach s.table k) s
 event_table (Becomes later) s = refl
@@ -99,16 +100,17 @@ names_kept : (es : List Event) (s : TableState) → AllCanBe es s → IsRight s 
     → IsKeySettled (after_all es s) n ↔ IsKeptByAll es s.table (IsKeySettled s) n
 names_kept [] s can h n = (λ i. i, λ i. i)
 names_kept (e ∷ es) s can h n =
-    let rest = names_kept es (after e s) can.1 (one_step e s can.0 h) n in
+    let rest = names_kept es (after_event e s) can.1 (one_step e s can.0 h) n in
     let one = event_kept e s can.0 h in (
       λ i. subst (λ (t : Table). IsKeptByAll es t (IsKeptBy e s.table (IsKeySettled s)) n) (event_table e s)
-          (same_by_all es (after e s).table (IsKeySettled (after e s)) (IsKeptBy e s.table (IsKeySettled s))
+          (same_by_all es (after_event e s).table (IsKeySettled (after_event e s)) (IsKeptBy e s.table (IsKeySettled s))
           (λ m j. (one m).0 j) n (rest.0 i)),
-      λ i. rest.1 (same_by_all es (after e s).table (IsKeptBy e s.table (IsKeySettled s)) (IsKeySettled (after e s))
+      λ i. rest.1 (same_by_all es (after_event e s).table (IsKeptBy e s.table (IsKeySettled s))
+          (IsKeySettled (after_event e s))
           (λ m j. (one m).1 j) n
           (subst (λ (t : Table). IsKeptByAll es t (IsKeptBy e s.table (IsKeySettled s)) n) (sym (event_table e s)) i)),
     )
 
 -- the law of stored names
 pub kept_law : StoredNamesLaw
-kept_law es s can h = record { names = names_kept es s can h; outcomes = (right_law es s can h).right }
+kept_law es s can h = record { names = names_kept es s can h; outcomes = (right_law es s can h).outcomes_right }

@@ -20,10 +20,10 @@ use Rattle.live_table.proofs.LastName.{named_added, not_there}
 pub kept_same : (keys : List Key) (a b : Nodes) → node_lists b ≡ node_lists a → b.gathered ≡ a.gathered
     → IsExtension keys a b
 kept_same keys a b e f = record {
-  added = λ t is nodes before list ends right.
+  numbered_names = λ t is nodes before list ends right.
       subst (λ (m : Listed). AreAdded t (node_lists a) m before list list ends ends) (sym e)
       (added_none t (node_lists a) before list ends ends nodes right (λ i x q. q));
-  gathered = f;
+  same_gathered = f;
 }
 
 -- a key is present in a table exactly if it is among its keys
@@ -35,11 +35,11 @@ kept_named : (keys : List Key) (a b : Nodes) (k : Key) (flag : Bool) → IsNameA
     → flag ≡ is_key_among keys k
     → is_key_among a.keys k ≡ false → b.gathered ≡ a.gathered → IsExtension keys a b
 kept_named keys a b k flag named is new e = record {
-  added = λ t of nodes before list ends right.
-      subst (λ (m : Listed). AreAdded t (node_lists a) m before list list ends ends) (sym named.named)
+  numbered_names = λ t of nodes before list ends right.
+      subst (λ (m : Listed). AreAdded t (node_lists a) m before list list ends ends) (sym named.name_added)
       (named_added t (node_lists a) k flag named.callee named.steps named.looks named.no_steps named.no_looks
       (is ∙ present_among t keys k of) nodes (not_there a.keys k new) before list ends right);
-  gathered = e;
+  same_gathered = e;
 }
 
 -- a key has a number
@@ -54,7 +54,7 @@ kept_numbered keys a b k flag n numbered is e = elim numbered.names [
 -- ---- flags
 -- the flags of the same names
 pub flagged_same : (keys : List Key) (a b : Nodes) → node_lists b ≡ node_lists a → AreFlagged keys a → AreFlagged keys b
-flagged_same keys a b e f = subst (λ (l : Listed). l.present ≡ map (is_key_among keys) l.keys) (sym e) f
+flagged_same keys a b e f = subst (λ (l : Listed). l.entry_flags ≡ map (is_key_among keys) l.keys) (sym e) f
 
 -- the flags with a new name
 flagged_named : (keys : List Key) (a b : Nodes) (k : Key) (flag : Bool) → IsNameAdded k flag (node_lists a)
@@ -62,9 +62,9 @@ flagged_named : (keys : List Key) (a b : Nodes) (k : Key) (flag : Bool) → IsNa
     → flag ≡ is_key_among keys k
     → AreFlagged keys a → AreFlagged keys b
 flagged_named keys a b k flag named is f =
-    ap (λ (l : Listed). l.present) named.named
+    ap (λ (l : Listed). l.entry_flags) named.name_added
     ∙ ((λ i. f i ++ is i ∷ []) ∙ (sym (map-append (is_key_among keys) a.keys (k ∷ []))
-    ∙ ap (λ (l : Listed). map (is_key_among keys) l.keys) (sym named.named)))
+    ∙ ap (λ (l : Listed). map (is_key_among keys) l.keys) (sym named.name_added)))
 
 -- the flags after a key has a number
 pub flagged_numbered : (keys : List Key) (a b : Nodes) (k : Key) (flag : Bool) (n : ℕ)
@@ -82,7 +82,7 @@ more_same a b e = subst (λ (l : Listed). IsMore a.keys l.keys) (sym e) (λ i x 
 -- there are no fewer keys with a new name
 more_named : (a b : Nodes) (k : Key) (flag : Bool) → IsNameAdded k flag (node_lists a) (node_lists b)
     → IsMore a.keys b.keys
-more_named a b k flag named = subst (IsMore a.keys) (ap (λ (l : Listed). l.keys) (sym named.named))
+more_named a b k flag named = subst (IsMore a.keys) (ap (λ (l : Listed). l.keys) (sym named.name_added))
     (push_more a.keys (k ∷ []))
 
 -- there are no fewer keys after a key has a number

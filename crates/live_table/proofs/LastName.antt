@@ -99,7 +99,7 @@ module _ (t : Table) (l : Listed) (k : Key) (b : Bool) (c : Callee) (v : SmallVe
       let s : length m.keys ≡ suc (length l.keys) = one_more l.keys k in
       elim (cases_lt n (length l.keys)) [
         | inl a ↦ elim (cases_lt q (length l.keys)) [
-          | inl b ↦ nodes.apart n q a b (sym (key_front n a) ∙ (e ∙ key_front q b))
+          | inl b ↦ nodes.numbers_apart n q a b (sym (key_front n a) ∙ (e ∙ key_front q b))
           | inr b ↦
               let f : q ≡ length l.keys = omega arith in
               absurd (new n a (sym (key_front n a) ∙ (e ∙ (ap (key_at m.keys) f ∙ last_key l.keys k))))
@@ -121,47 +121,48 @@ module _ (t : Table) (l : Listed) (k : Key) (b : Bool) (c : Callee) (v : SmallVe
   graph_size : length m.graph ≡ suc (length l.graph)
   graph_size = one_more l.graph v
 
-  was : (n : ℕ) → IsSettled m.settled n → IsSettled l.settled n
-  was n e = was_true l.settled n e
+  was : (n : ℕ) → IsSettled m.settled_flags n → IsSettled l.settled_flags n
+  was n e = was_true l.settled_flags n e
 
-  still : (n : ℕ) → IsSettled l.settled n → IsSettled m.settled n
-  still n e = push_more l.settled (false ∷ []) n true e
+  still : (n : ℕ) → IsSettled l.settled_flags n → IsSettled m.settled_flags n
+  still n e = push_more l.settled_flags (false ∷ []) n true e
 
-  in_old : (n : ℕ) → IsSettled m.settled n → n < length l.keys
+  in_old : (n : ℕ) → IsSettled m.settled_flags n → n < length l.keys
   in_old n e = settled_within t l nodes n (was n e)
 
   same_callee : (n : ℕ) → n < length l.keys → slice_get m.callees n ≡ slice_get l.callees n
   same_callee n h = get_front l.callees c n (let q : length l.callees ≡ length l.keys = nodes.callee_count in
       omega arith)
 
-  faithful : (n : ℕ) → IsSettled m.settled n → IsFaithful t m n
+  faithful : (n : ℕ) → IsSettled m.settled_flags n → IsFaithful t m n
   faithful n e ends =
       subst (λ (p : Key × List Step). AreWords t (key_at m.keys) ends (key_words t p.0) p.1)
       (λ j. (sym (key_front n (in_old n e)) j, sym (same_graph n) j))
       (same_words t (key_at l.keys) (key_at m.keys) ends ends (key_words t (key_at l.keys n)) (steps l.graph n)
-      (λ q i. key_front q (settled_within t l nodes q ((nodes.net.settled n (was n e)).1 q i))) (λ b i holder. refl)
+      (λ q i. key_front q (settled_within t l nodes q ((nodes.net.settled_right n (was n e)).1 q i)))
+      (λ b i holder. refl)
       (nodes.faithful n (was n e) ends))
 
-  starts : (n : ℕ) → IsSettled m.settled n → HasStartsOf t m n
+  starts : (n : ℕ) → IsSettled m.settled_flags n → HasStartsOf t m n
   starts n e entry callee at is =
-      nodes.starts n (was n e) entry callee (ap (entry_at t) (sym (key_front n (in_old n e))) ∙ at)
+      nodes.part_starts n (was n e) entry callee (ap (entry_at t) (sym (key_front n (in_old n e))) ∙ at)
       (sym (same_callee n (in_old n e)) ∙ is)
 
-  ranks : (n : ℕ) → IsSettled m.settled n → HasRankOf t m n
+  ranks : (n : ℕ) → IsSettled m.settled_flags n → HasRankOf t m n
   ranks n e callee is =
       subst (λ (q : Key). HasRank (key_meaning t q) callee) (sym (key_front n (in_old n e)))
       (nodes.ranks n (was n e) callee (sym (same_callee n (in_old n e)) ∙ is))
 
-  looked : (n : ℕ) → IsSettled m.settled n → HasLooksOf t m n
+  looked : (n : ℕ) → IsSettled m.settled_flags n → HasLooksOf t m n
   looked n e =
-      let h = nodes.looked n (was n e) in
+      let h = nodes.settled_looks n (was n e) in
       record {
         looks = subst (λ (p : Key × (List Step × List ℕ)). AreLooks t m.keys (key_words t p.0) p.1.0 p.1.1)
             (λ j. (sym (key_front n (in_old n e)) j, (sym (same_graph n) j, sym (same_looks n) j)))
             (looks_more t l.keys m.keys (key_words t (key_at l.keys n)) (steps l.graph n) (looks_of l.looks n)
             (push_more l.keys (k ∷ []))
-            (λ q i. settled_within t l nodes q ((nodes.net.settled n (was n e)).1 q i)) h.looks);
-        once = subst (IsDistinct nat_eq) (sym (same_looks n)) h.once;
+            (λ q i. settled_within t l nodes q ((nodes.net.settled_right n (was n e)).1 q i)) h.looks);
+        numbers_distinct = subst (IsDistinct nat_eq) (sym (same_looks n)) h.numbers_distinct;
       }
 
   named_nodes : AreNumberedNames t m
@@ -170,27 +171,30 @@ module _ (t : Table) (l : Listed) (k : Key) (b : Bool) (c : Callee) (v : SmallVe
     outcome_count = one_more l.outcomes None ∙ (ap suc nodes.outcome_count ∙ sym (one_more l.keys k));
     callee_count = one_more l.callees c ∙ (ap suc nodes.callee_count ∙ sym (one_more l.keys k));
     look_count = one_more l.looks w ∙ (ap suc nodes.look_count ∙ sym (one_more l.keys k));
-    flagged =
-        (λ i. nodes.flagged i ++ flag i ∷ []) ∙ sym (map-append (is_present t) l.keys (k ∷ []));
-    counted = nodes.counted ∙ sym (count_push l.settled);
-    marked = ap (λ (bs : List Bool). bs ++ false ∷ []) nodes.marked ∙ sym (map-append is_some l.outcomes (None ∷ []));
-    apart = apart;
+    flags_right =
+        (λ i. nodes.flags_right i ++ flag i ∷ []) ∙ sym (map-append (is_present t) l.keys (k ∷ []));
+    count_right = nodes.count_right ∙ sym (count_push l.settled_flags);
+    marks_right = ap (λ (bs : List Bool). bs ++ false ∷ []) nodes.marks_right
+        ∙ sym (map-append is_some l.outcomes (None ∷ []));
+    numbers_apart = apart;
     net = record {
-      range = λ a b i.
-          let h : b < length l.graph = nodes.net.range a b (subst (λ (xs : List Step). In (To b) xs) (same_graph a) i)
+      steps_in_range = λ a b i.
+          let h : b < length l.graph = nodes.net.steps_in_range a b
+          (subst (λ (xs : List Step). In (To b) xs) (same_graph a) i)
           in
           let s : length m.graph ≡ suc (length l.graph) = graph_size in omega arith;
-      size = one_more l.settled false ∙ (ap suc nodes.net.size ∙ sym graph_size);
-      settled = settled_law_holds.elsewhere l.graph m.graph l.settled m.settled nodes.net.settled
+      mark_per_name = one_more l.settled_flags false ∙ (ap suc nodes.net.mark_per_name ∙ sym graph_size);
+      settled_right = settled_law_holds.other_graph l.graph m.graph l.settled_flags m.settled_flags
+          nodes.net.settled_right
           (let s : length m.graph ≡ suc (length l.graph) = graph_size in omega arith)
           (λ n. (was n, still n)) (λ n e. same_graph n);
     };
-    present = λ n e. subst (λ (q : Key). is_present t q ≡ true) (sym (key_front n (in_old n e)))
-        (nodes.present n (was n e));
+    settled_have_entries = λ n e. subst (λ (q : Key). is_present t q ≡ true) (sym (key_front n (in_old n e)))
+        (nodes.settled_have_entries n (was n e));
     faithful = faithful;
-    starts = starts;
+    part_starts = starts;
     ranks = ranks;
-    looked = looked;
+    settled_looks = looked;
   }
 
   one_more_within : (n : ℕ) → n < length l.keys → n < length m.keys
@@ -199,22 +203,28 @@ module _ (t : Table) (l : Listed) (k : Key) (b : Bool) (c : Callee) (v : SmallVe
   pub named_added : (before list : List ℕ) (ends : List DeadEnd) → AreListed t l before list
       → AreAdded t l m before list list ends ends
   named_added before list ends right = record {
-    grown = record {
+    growth = record {
       nodes = named_nodes;
-      kept = nothing_kept l.keys l.outcomes k nodes.outcome_count;
-      listed = record {
-        gone = λ n i. one_more_within n (right.gone n i);
-        within = λ n i. one_more_within n (right.within n i);
-        fresh = λ n i e. right.fresh n i (was n e);
+      same_outcomes = nothing_kept l.keys l.outcomes k nodes.outcome_count;
+      list_right = record {
+        explored_in_table = λ n i. one_more_within n (right.explored_in_table n i);
+        listed_in_table = λ n i. one_more_within n (right.listed_in_table n i);
+        listed_not_settled = λ n i e. right.listed_not_settled n i (was n e);
         new = right.new;
-        present = λ n i. subst (λ (q : Key). is_present t q ≡ true) (sym (key_front n (right.within n i)))
-            (right.present n i);
-        once = right.once;
+        listed_have_entries = λ n i. subst (λ (q : Key). is_present t q ≡ true)
+            (sym (key_front n (right.listed_in_table n i)))
+            (right.listed_have_entries n i);
+        numbers_distinct = right.numbers_distinct;
       };
       keys_more = push_more l.keys (k ∷ []);
       settled_still = still;
       list_more = λ i x e. e;
       ends_more = λ i x e. e;
     };
-    same = record { steps = λ n h o. same_graph n; callees = λ n h o. same_callee n h; looks = λ n h o. same_looks n };
+    same_nodes = record {
+      steps = λ n h o. same_graph n;
+      callees = λ n h o. same_callee n h;
+      looks = λ n h o.
+          same_looks n;
+    };
   }

@@ -26,8 +26,8 @@ pub query_lead : (t : Table) (keys : List Key) (u : WordUse) (old new : List ℕ
     → IsLead t keys u old new lead → IsQueryLead t keys u lead
 query_lead t keys u old new Refused h = h
 query_lead t keys u old new Nowhere h = (h.0, h.1, λ m i. absurd i)
-query_lead t keys u old new (One n) h = (h.0, h.1.targets, h.1.inside)
-query_lead t keys u old new (Two n m) h = (h.0, h.1.targets, h.1.inside)
+query_lead t keys u old new (One n) h = (h.0, h.1.targets, h.1.targets_in_table)
+query_lead t keys u old new (Two n m) h = (h.0, h.1.targets, h.1.targets_in_table)
 
 module _ (t : Table) (keys : List Key) (u : WordUse) where
   -- targets have numbers

@@ -46,9 +46,9 @@ member_in m (n ∷ ns) c = elim (member_cases m n ns c) [ inl e ↦ inl e | inr 
 
 -- the names to which the steps of a settled name lead
 pub target_within : (deck : Contents) (l : Listed) (r : ℕ) (sound : IsSound deck l r) (n : ℕ)
-    → IsSettled l.settled n → (xs : List Step) → xs ≡ steps l.graph n → (k : ℕ) → In (To k) xs → k < length l.keys
+    → IsSettled l.settled_flags n → (xs : List Step) → xs ≡ steps l.graph n → (k : ℕ) → In (To k) xs → k < length l.keys
 target_within deck l r sound n settled xs is k i =
-    settled_within deck l r sound.numbers k ((sound.numbers.net.settled n settled).1 k
+    settled_within deck l r sound.numbers k ((sound.numbers.net.settled_right n settled).1 k
     (subst (λ (ys : List Step). In (To k) ys) is i))
 
 -- gathered targets are those of the steps
@@ -64,19 +64,25 @@ module _ (deck : Contents) (l : Listed) (g h : NameGraph) (rest : h ≡ record g
   pub covered_edges : (waiting : List ℕ) → HasLateEdges deck l waiting g → HasLateEdges deck l waiting h
   covered_edges waiting edges = record {
     names = let a = edges.names in omega (arith, a, within);
-    are = subst (λ (x : NameGraph). AreNameEdges (table deck) (key_at l.keys) h.names now x) (sym rest)
+    edges_right = subst (λ (x : NameGraph). AreNameEdges (table deck) (key_at l.keys) h.names now x) (sym rest)
         (renamed (edges_grown (table deck) (key_at l.keys) (key_at l.keys) g.names h.names now now g
-        edges.are no_less (λ n t. refl) (λ n. ((λ e. e), (λ e. e)))));
-    settled = edges.settled;
-    order = edges.order;
+        edges.edges_right no_less (λ n t. refl) (λ n. ((λ e. e), (λ e. e)))));
+    waiting_settled = edges.waiting_settled;
+    targets_first = edges.targets_first;
   }
     where
       now : ℕ → Bool
-      now = is_linked l.settled waiting
+      now = is_linked l.settled_flags waiting
 
       renamed : AreNameEdges (table deck) (key_at l.keys) h.names now g
           → AreNameEdges (table deck) (key_at l.keys) h.names now (record g { names = h.names })
-      renamed a = record { within = a.within; below = a.below; beside = a.beside; used = a.used; looked = a.looked }
+      renamed a = record {
+        settled_in_range = a.settled_in_range;
+        used_settled = a.used_settled;
+        beside = a.beside;
+        use_edges = a.use_edges;
+        look_edges = a.look_edges;
+      }
 
   -- the edges are still those of the settled names after a failure
   pub covered_on_err : {A E : Type 0} (k : NameGraph) → k ≡ h → (r : Result A E)
@@ -87,7 +93,7 @@ module _ (deck : Contents) (l : Listed) (g h : NameGraph) (rest : h ≡ record g
 
 -- ---- the first waiting name gets its edges
 module _ (law : LinkingLaw) (deck : Contents) (l : Listed) (r n : ℕ) (g h : NameGraph) (used looked rest : List ℕ)
-    (sound : IsSound deck l r) (settled : IsSettled l.settled n) (edges : HasLateEdges deck l (n ∷ rest) g)
+    (sound : IsSound deck l r) (settled : IsSettled l.settled_flags n) (edges : HasLateEdges deck l (n ∷ rest) g)
     (room : n < g.names)
     (names : h.names ≡ g.names) (uses : SameEdges h.uses (map (edge n) used ++ g.uses))
     (looks : SameEdges h.looks (map (edge n) looked ++ g.looks))
@@ -97,22 +103,22 @@ module _ (law : LinkingLaw) (deck : Contents) (l : Listed) (r n : ℕ) (g h : Na
   the_words = key_words (table deck) (key_at l.keys n)
 
   abbrev was : ℕ → Bool
-  was = is_linked l.settled (n ∷ rest)
+  was = is_linked l.settled_flags (n ∷ rest)
 
   abbrev now : ℕ → Bool
-  now = is_linked l.settled rest
+  now = is_linked l.settled_flags rest
 
   words : AreWords (table deck) (key_at l.keys) dead_end the_words (steps l.graph n)
   words = sound.numbers.faithful n settled dead_end
 
   closed : IsClosed (table deck) (key_at l.keys n)
-  closed = sound.right.closed (key_at l.keys n) (key_settled deck l r sound.numbers n settled)
+  closed = sound.is_right.settled_closed (key_at l.keys n) (key_settled deck l r sound.numbers n settled)
 
   its_looks : HasLooksOf (table deck) l n
-  its_looks = sound.numbers.looked n settled
+  its_looks = sound.numbers.settled_looks n settled
 
-  below : (m : ℕ) → LeadsTo l.graph n m → IsSettled l.settled m
-  below = (sound.numbers.net.settled n settled).1
+  below : (m : ℕ) → LeadsTo l.graph n m → IsSettled l.settled_flags m
+  below = (sound.numbers.net.settled_right n settled).1
 
   its_used : (k : Key) → WordsLeadTo (table deck) the_words k ↔ ((m : ℕ) × Contains used m × (k ≡ key_at l.keys m))
   its_used k = (
@@ -134,9 +140,9 @@ module _ (law : LinkingLaw) (deck : Contents) (l : Listed) (r n : ℕ) (g h : Na
       ↔ ((m : ℕ) × (Contains used m ⊎ Contains looked m) × (k ≡ key_at l.keys m))
   its_looked k = (
     λ w.
-        let s = (its_looks.looks.exactly k).0 w in
+        let s = (its_looks.looks.words_look k).0 w in
         (s.0, elim s.1 [ inl i ↦ inl ((used_is s.0).1 i) | inr i ↦ inr (in_look s.0 i) ], s.2),
-    λ u. (its_looks.looks.exactly k).1
+    λ u. (its_looks.looks.words_look k).1
         (u.0, elim u.1 [ inl i ↦ inl ((used_is u.0).0 i) | inr i ↦ inr (look_in u.0 i) ], u.2),
   )
 
@@ -146,43 +152,43 @@ module _ (law : LinkingLaw) (deck : Contents) (l : Listed) (r n : ℕ) (g h : Na
       from : (m ≡ n) ⊎ (m ≡ n → ⊥) → now m ≡ true → (m ≡ n) ⊎ (was m ≡ true)
       from (inl e) f = inl e
       from (inr ne) f =
-          let p = linked_facts l.settled rest m f in
-          inr (linked_where l.settled (n ∷ rest) m p.0
+          let p = linked_facts l.settled_flags rest m f in
+          inr (linked_where l.settled_flags (n ∷ rest) m p.0
           (λ i. elim i [ inl e ↦ ne e | inr j ↦ not_waiting rest m p.1 j ]))
 
       own : now n ≡ true
-      own = linked_where l.settled rest n (settled_flag l.settled n settled) edges.order.1
+      own = linked_where l.settled_flags rest n (settled_flag l.settled_flags n settled) edges.targets_first.1
 
       to : (m ≡ n) ⊎ (was m ≡ true) → now m ≡ true
       to (inl e) = subst (λ x. now x ≡ true) (sym e) own
       to (inr f) =
-          let p = linked_facts l.settled (n ∷ rest) m f in
-          linked_where l.settled rest m p.0 (λ i. not_waiting (n ∷ rest) m p.1 (inr i))
+          let p = linked_facts l.settled_flags (n ∷ rest) m f in
+          linked_where l.settled_flags rest m p.0 (λ i. not_waiting (n ∷ rest) m p.1 (inr i))
 
   not_before : was n ≡ true → ⊥
-  not_before e = not_waiting (n ∷ rest) n (linked_facts l.settled (n ∷ rest) n e).1 (inl refl)
+  not_before e = not_waiting (n ∷ rest) n (linked_facts l.settled_flags (n ∷ rest) n e).1 (inl refl)
 
   -- the names to which the words of the first waiting name lead are not waiting
   target_linked : (m : ℕ) → Contains used m → was m ≡ true
   target_linked m c =
       let way = (used_is m).0 c in
-      linked_where l.settled (n ∷ rest) m (settled_flag l.settled m (below m way))
-      (λ i. edges.order.0 m i
+      linked_where l.settled_flags (n ∷ rest) m (settled_flag l.settled_flags m (below m way))
+      (λ i. edges.targets_first.0 m i
       (lead_of_step (table deck) (key_at l.keys) dead_end the_words (steps l.graph n) words m way))
 
   -- the first waiting name has its edges, and the others still wait
   pub linked_edges : HasLateEdges deck l rest h
   linked_edges = record {
     names = let a = edges.names in omega (arith, a, names);
-    are = subst (λ size. AreNameEdges (table deck) (key_at l.keys) size now h) (sym names)
+    edges_right = subst (λ size. AreNameEdges (table deck) (key_at l.keys) size now h) (sym names)
         (edges_linked (table deck) (key_at l.keys) g.names was now g h n used looked
-        edges.are room not_before marks
+        edges.edges_right room not_before marks
         (law n used g.uses h.uses uses) (law n looked g.looks h.looks looks)
         target_linked
-        (λ m i. let s = its_looks.looks.within m (look_in m i) in omega (arith, s, all_named))
+        (λ m i. let s = its_looks.looks.seen_in_table m (look_in m i) in omega (arith, s, all_named))
         its_used its_looked);
-    settled = λ m i. edges.settled m (inr i);
-    order = edges.order.2;
+    waiting_settled = λ m i. edges.waiting_settled m (inr i);
+    targets_first = edges.targets_first.2;
   }
 
 -- ---- the values that the call reads

@@ -28,8 +28,8 @@ pub looks_none : (t : Table) (keys : List Key) (xs : List Step) (ns : List ℕ) 
     → AreLooks t keys [] xs ns
 looks_none t keys xs ns e f =
     subst (λ (p : List Step × List ℕ). AreLooks t keys [] p.0 p.1) (λ i. (sym e i, sym f i)) (record {
-      within = λ m i. absurd i;
-      exactly = λ k. (λ (u, i, j). absurd (no_member u i), λ (m, i, e). absurd (elim i [ inl j ↦ j | inr j ↦ j ]));
+      seen_in_table = λ m i. absurd i;
+      words_look = λ k. (λ (u, i, j). absurd (no_member u i), λ (m, i, e). absurd (elim i [ inl j ↦ j | inr j ↦ j ]));
     })
 
 -- the keys of numbers do not change when keys are added
@@ -49,11 +49,12 @@ module _ (ks ls : List Key) (more : IsMore ks ls) (xs : List Step) (ns : List �
 pub looks_more : (t : Table) (ks ls : List Key) (us : List WordUse) (xs : List Step) (ns : List ℕ) → IsMore ks ls
     → ((m : ℕ) → In (To m) xs → m < length ks) → AreLooks t ks us xs ns → AreLooks t ls us xs ns
 looks_more t ks ls us xs ns more inside l = record {
-  within = λ m i. let a : m < length ks = l.within m i in let b : length ks ≤ length ls = more_length ks ls more in
+  seen_in_table = λ m i. let a : m < length ks = l.seen_in_table m i in
+      let b : length ks ≤ length ls = more_length ks ls more in
       omega arith;
-  exactly = λ k. (
-    λ w. seen_more ks ls more xs ns inside l.within k ((l.exactly k).0 w),
-    λ s. (l.exactly k).1 (seen_before ks ls more xs ns inside l.within k s),
+  words_look = λ k. (
+    λ w. seen_more ks ls more xs ns inside l.seen_in_table k ((l.words_look k).0 w),
+    λ s. (l.words_look k).1 (seen_before ks ls more xs ns inside l.seen_in_table k s),
   );
 }
 
@@ -70,11 +71,11 @@ module _ (t : Table) (keys : List Key) (us : List WordUse) (u : WordUse) (xs zs 
     (l : AreLooks t keys us xs old) (p : AreLooksPut t keys u zs old new) where
   seen_first : (k : Key) → IsSeen keys xs old k → IsSeen keys (xs ++ zs) new k
   seen_first k (m, inl i, e) = (m, inl (In-left xs zs (To m) i), e)
-  seen_first k (m, inr i, e) = (m, inr ((p.put m).1 (inl i)), e)
+  seen_first k (m, inr i, e) = (m, inr ((p.looks_merged m).1 (inl i)), e)
 
-  seen_then : (k : Key) → IsSeen keys zs p.own k → IsSeen keys (xs ++ zs) new k
+  seen_then : (k : Key) → IsSeen keys zs p.own_numbers k → IsSeen keys (xs ++ zs) new k
   seen_then k (m, inl i, e) = (m, inl (In-right xs zs (To m) i), e)
-  seen_then k (m, inr i, e) = (m, inr ((p.put m).1 (inr i)), e)
+  seen_then k (m, inr i, e) = (m, inr ((p.looks_merged m).1 (inr i)), e)
 
   looked_first : (k : Key) → WordsLookAt t us k → WordsLookAt t (us ++ u ∷ []) k
   looked_first k (v, i, j) = (v, Contains-append_left us (u ∷ []) v i, j)
@@ -84,27 +85,27 @@ module _ (t : Table) (keys : List Key) (us : List WordUse) (u : WordUse) (xs zs 
 
   to : (k : Key) → WordsLookAt t (us ++ u ∷ []) k → IsSeen keys (xs ++ zs) new k
   to k (v, i, j) = elim (Contains-append_cases us (u ∷ []) v i) [
-    | inl a ↦ seen_first k ((l.exactly k).0 (v, a, j))
+    | inl a ↦ seen_first k ((l.words_look k).0 (v, a, j))
     | inr b ↦ elim (member_cases v u [] b) [
-      | inl e ↦ seen_then k ((p.exactly k).0 (subst (λ (w : WordUse). Contains (looked_keys t w) k) e j))
+      | inl e ↦ seen_then k ((p.words_look k).0 (subst (λ (w : WordUse). Contains (looked_keys t w) k) e j))
       | inr z ↦ absurd (no_member v z)
     ]
   ]
 
   from : (k : Key) → IsSeen keys (xs ++ zs) new k → WordsLookAt t (us ++ u ∷ []) k
   from k (m, inl i, e) = elim (in_both xs zs (To m) i) [
-    | inl a ↦ looked_first k ((l.exactly k).1 (m, inl a, e))
-    | inr b ↦ looked_then k ((p.exactly k).1 (m, inl b, e))
+    | inl a ↦ looked_first k ((l.words_look k).1 (m, inl a, e))
+    | inr b ↦ looked_then k ((p.words_look k).1 (m, inl b, e))
   ]
-  from k (m, inr i, e) = elim ((p.put m).0 i) [
-    | inl a ↦ looked_first k ((l.exactly k).1 (m, inr a, e))
-    | inr b ↦ looked_then k ((p.exactly k).1 (m, inr b, e))
+  from k (m, inr i, e) = elim ((p.looks_merged m).0 i) [
+    | inl a ↦ looked_first k ((l.words_look k).1 (m, inr a, e))
+    | inr b ↦ looked_then k ((p.words_look k).1 (m, inr b, e))
   ]
 
   pub looks_behind : AreLooks t keys (us ++ u ∷ []) (xs ++ zs) new
   looks_behind = record {
-    within = λ m i. elim ((p.put m).0 i) [ inl a ↦ l.within m a | inr b ↦ p.within m b ];
-    exactly = λ k. (to k, from k);
+    seen_in_table = λ m i. elim ((p.looks_merged m).0 i) [ inl a ↦ l.seen_in_table m a | inr b ↦ p.own_in_table m b ];
+    words_look = λ k. (to k, from k);
   }
 
 -- the targets of a word, as its steps
@@ -113,17 +114,19 @@ module _ (t : Table) (keys : List Key) (u : WordUse) (ns old new : List ℕ) (xs
     (same : (m : ℕ) → In (To m) xs ↔ In m ns) where
   pub looks_put : AreLooksPut t keys u xs old new
   looks_put = record {
-    own = a.own;
-    put = a.put;
-    within = a.within;
-    exactly = λ k. (λ w. by_steps k ((a.exactly k).0 w), λ s. (a.exactly k).1 (by_numbers k s));
+    own_numbers = a.own_numbers;
+    looks_merged = a.looks_merged;
+    own_in_table = a.own_in_table;
+    words_look = λ k. (λ w. by_steps k ((a.word_looks k).0 w), λ s. (a.word_looks k).1 (by_numbers k s));
   }
     where
-      by_steps : (k : Key) → ((m : ℕ) × (In m ns ⊎ In m a.own) × (k ≡ key_at keys m)) → IsSeen keys xs a.own k
+      by_steps : (k : Key) → ((m : ℕ) × (In m ns ⊎ In m a.own_numbers) × (k ≡ key_at keys m))
+          → IsSeen keys xs a.own_numbers k
       by_steps k (m, inl i, e) = (m, inl ((same m).1 i), e)
       by_steps k (m, inr i, e) = (m, inr i, e)
 
-      by_numbers : (k : Key) → IsSeen keys xs a.own k → (m : ℕ) × (In m ns ⊎ In m a.own) × (k ≡ key_at keys m)
+      by_numbers : (k : Key) → IsSeen keys xs a.own_numbers k
+          → (m : ℕ) × (In m ns ⊎ In m a.own_numbers) × (k ≡ key_at keys m)
       by_numbers k (m, inl i, e) = (m, inl ((same m).0 i), e)
       by_numbers k (m, inr i, e) = (m, inr i, e)
 

@@ -73,7 +73,7 @@ map_short [] =
 map_short (e ∷ t) =
     let m = map_of_table t in
     shorter (map_of.contains_key m e.0) (map_of.len m) (length t) (map_of.len (map_of_table (e ∷ t)))
-    (map_of.len-insert key_order.total m e.0 e.1) (map_short t)
+    (map_of.len-insert key_order.total_order m e.0 e.1) (map_short t)
 
 -- a table has at most as many keys as entries
 keys_short : (t : Table) → length (table_keys t) ≤ length t
@@ -92,7 +92,7 @@ names_few law d =
     let b : length (names_among ks) ≡ count_by (λ (k : Key). is_name_kind k.kind) ks = length-filter _ ks in
     let c : count_by (λ (k : Key). is_name_kind k.kind) ks ≤ length ks = count_by-le-length _ ks in
     let e : length ks ≤ length (table d) = keys_short (table d) in
-    let f : length (table d) ≤ length d.lines = law.short d in
+    let f : length (table d) ≤ length d.lines = law.table_length d in
     omega (arith, a, b, c, e, f)
 
 module _ (d : Contents) (units prefixes functions : ℕ) (are : AreCounts (table d) units prefixes functions) where
@@ -119,15 +119,15 @@ kept_length (k ∷ ks) (Some o ∷ os) a h =
     let rest : length (filter (λ b. b) (map is_some os)) ≡ map_of.len (kept_of ks os) =
     kept_length ks os (apart_tail k ks a) (omega (arith, h)) in
     let more : map_of.len (map_of.insert (kept_of ks os) k o) ≡ map_of.len (kept_of ks os) + 1 =
-    map_of.len-insert key_order.total (kept_of ks os) k o
+    map_of.len-insert key_order.total_order (kept_of ks os) k o
     ∙ cond-false (is_some (map_of.get (kept_of ks os) k)) (map_of.len (kept_of ks os)) (map_of.len (kept_of ks os) + 1)
     (ap is_some (absent ks os k (λ n l. first_apart k ks a n l))) in
     omega (arith, rest, more)
 
 -- as many numbers are settled as outcomes are stored
 pub kept_counted : (t : Table) (l : Listed) → AreNumberedNames t l
-    → count_by (λ b. b) l.settled ≡ map_of.len (kept_of l.keys l.outcomes)
+    → count_by (λ b. b) l.settled_flags ≡ map_of.len (kept_of l.keys l.outcomes)
 kept_counted t l nodes =
-    sym (length-filter (λ b. b) l.settled)
-    ∙ (ap (λ (bs : List Bool). length (filter (λ b. b) bs)) nodes.marked
-    ∙ kept_length l.keys l.outcomes nodes.apart nodes.outcome_count)
+    sym (length-filter (λ b. b) l.settled_flags)
+    ∙ (ap (λ (bs : List Bool). length (filter (λ b. b) bs)) nodes.marks_right
+    ∙ kept_length l.keys l.outcomes nodes.numbers_apart nodes.outcome_count)

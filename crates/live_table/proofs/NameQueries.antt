@@ -83,10 +83,10 @@ pub cut_at_once : (es : List Event) (s : Shown) (n : ℕ) → IsRightTable s →
 cut_at_once es s n right =
     record {
       deck = refl;
-      right = right;
-      least = omega arith;
-      most = steps_rise es (state_with_steps s n);
-      counted = λ can. (omega arith, (shown_counts es s n can).0);
+      is_right = right;
+      steps_least = omega arith;
+      steps_most = steps_rise es (state_with_steps s n);
+      reductions_counted = λ can. (omega arith, (shown_counts es s n can).0);
     }
 
 -- the first of the keys were queried

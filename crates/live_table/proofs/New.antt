@@ -33,7 +33,7 @@ unfolding IsDistinct
 count table [] kept once new = omega arith
 count table (k ∷ names) kept once new =
     let here : map_of.len (map_of.insert kept k (outcome table k)) ≡ map_of.len kept + 1 =
-    map_of.len-insert key_order.total kept k (outcome table k)
+    map_of.len-insert key_order.total_order kept k (outcome table k)
     ∙ cond-false (is_some (map_of.get kept k)) (map_of.len kept) (map_of.len kept + 1)
     (new k (member_first k k names refl)) in
     let rest : map_of.len (with_outcomes table names (map_of.insert kept k (outcome table k)))
@@ -56,47 +56,55 @@ count table (k ∷ names) kept once new =
         ∙ new n (member_later n k names i)
 
 module _ (s : TableState) (reached names : List Key) (h : IsRight s) (new : AreNew s reached names) where
-  kept_by : (n : Key) → map_of.get (with_outcomes s.table names s.kept) n ≡ map_of.get
-      (with_outcomes s.table reached s.kept) n
+  kept_by : (n : Key) → map_of.get (with_outcomes s.table names s.kept_outcomes) n ≡ map_of.get
+      (with_outcomes s.table reached s.kept_outcomes) n
   kept_by n = elim (cases_Bool (is_key_among names n)) [
     | inl e ↦
         let i : Contains names n = member_among names n e in
-        put_in s.table names s.kept n (inl i) ∙ sym (put_in s.table reached s.kept n (inl ((new.exactly n).0 i).0))
+        put_in s.table names s.kept_outcomes n (inl i)
+        ∙ sym (put_in s.table reached s.kept_outcomes n (inl ((new.unsettled_names n).0 i).0))
     | inr e ↦
         let out : Contains names n → ⊥ = λ i. true≢false (sym (among_member names n i) ∙ e) in
-        left_out s.table names s.kept n out ∙ elim (cases_Bool (is_key_among reached n)) [
+        left_out s.table names s.kept_outcomes n out ∙ elim (cases_Bool (is_key_among reached n)) [
           | inl q ↦ settled_before (member_among reached n q) (cases_settled (member_among reached n q) out)
-          | inr q ↦ sym (left_out s.table reached s.kept n (λ i. true≢false (sym (among_member reached n i) ∙ q)))
+          | inr q ↦ sym (left_out s.table reached s.kept_outcomes n
+              (λ i. true≢false (sym (among_member reached n i) ∙ q)))
         ]
   ]
     where
       cases_settled : Contains reached n → (Contains names n → ⊥) → IsKeySettled s n
-      cases_settled i out = elim (cases_Bool (is_some (map_of.get s.kept n))) [
+      cases_settled i out = elim (cases_Bool (is_some (map_of.get s.kept_outcomes n))) [
         | inl e ↦ e
-        | inr e ↦ absurd (out ((new.exactly n).1 (i, λ q. true≢false (sym q ∙ e))))
+        | inr e ↦ absurd (out ((new.unsettled_names n).1 (i, λ q. true≢false (sym q ∙ e))))
       ]
 
-      settled_before : Contains reached n → IsKeySettled s n → map_of.get s.kept n ≡ map_of.get
-          (with_outcomes s.table reached s.kept) n
-      settled_before i e = some_of (map_of.get s.kept n) (outcome s.table n) e (h.right n)
-          ∙ sym (put_in s.table reached s.kept n (inl i))
+      settled_before : Contains reached n → IsKeySettled s n → map_of.get s.kept_outcomes n ≡ map_of.get
+          (with_outcomes s.table reached s.kept_outcomes) n
+      settled_before i e = some_of (map_of.get s.kept_outcomes n) (outcome s.table n) e (h.outcomes_right n)
+          ∙ sym (put_in s.table reached s.kept_outcomes n (inl i))
 
-  same_kept : with_outcomes s.table names s.kept ≡ with_outcomes s.table reached s.kept
-  same_kept = map_of.same_map key_order.total key_order.exact _ _ kept_by
+  same_kept : with_outcomes s.table names s.kept_outcomes ≡ with_outcomes s.table reached s.kept_outcomes
+  same_kept = map_of.same_map key_order.total_order key_order.equal_keys _ _ kept_by
 
-  counted : map_of.len (with_outcomes s.table names s.kept) - map_of.len s.kept ≡ length names
+  counted : map_of.len (with_outcomes s.table names s.kept_outcomes) - map_of.len s.kept_outcomes ≡ length names
   counted =
-      let c : map_of.len (with_outcomes s.table names s.kept) ≡ map_of.len s.kept + length names =
-      count s.table names s.kept new.once (λ n i. false_from_ne_true _ ((new.exactly n).0 i).1) in
+      let c : map_of.len (with_outcomes s.table names s.kept_outcomes) ≡ map_of.len s.kept_outcomes + length names =
+      count s.table names s.kept_outcomes new.names_distinct
+      (λ n i. false_from_ne_true _ ((new.unsettled_names n).0 i).1) in
       omega (arith, c)
 
   abbrev stands : Kept → ℕ → TableState
-  stands kept n = record s { kept = kept; reductions = min (2 ^ 64 - 1) (s.reductions + n); steps = s.steps + n }
+  stands kept n = record s {
+    kept_outcomes = kept;
+    reductions = min (2 ^ 64 - 1) (s.reductions + n);
+    steps =
+        s.steps + n;
+  }
 
-  settles : with_settled reached s ≡ stands (with_outcomes s.table names s.kept) (length names)
+  settles : with_settled reached s ≡ stands (with_outcomes s.table names s.kept_outcomes) (length names)
   settles =
-      ap (λ (m : Kept). stands m (map_of.len m - map_of.len s.kept)) (sym same_kept)
-      ∙ ap (stands (with_outcomes s.table names s.kept)) counted
+      ap (λ (m : Kept). stands m (map_of.len m - map_of.len s.kept_outcomes)) (sym same_kept)
+      ∙ ap (stands (with_outcomes s.table names s.kept_outcomes)) counted
 
 -- the law of new names
 pub new_law : NewLaw

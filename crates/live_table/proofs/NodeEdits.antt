@@ -16,15 +16,15 @@ use Rattle.live_table.specs.TableContents.{Listed, shown_table}
 -- a live table meets the precondition of forgetting
 pub live_can : (deck : Contents) (l : Listed) (e : LateEdges) (r : ℕ) → IsLive deck l e r → CanForget l e.made
 live_can deck l e r live = record {
-  apart = live.sound.numbers.apart;
-  flags = ap length live.sound.numbers.flagged ∙ length-map l.keys (is_present (table deck));
+  numbers_apart = live.is_sound.numbers.numbers_apart;
+  flag_per_key = ap length live.is_sound.numbers.flags_right ∙ length-map l.keys (is_present (table deck));
   names = live.edges.names;
 }
 
 -- a live table with other edges is live
 pub live_as : (deck : Contents) (l : Listed) (e f : LateEdges) (r : ℕ) → IsLive deck l e r
     → HasLateEdges deck l f.waiting.items f.made → IsLive deck l f r
-live_as deck l e f r live edges = record { sound = live.sound; edges = edges }
+live_as deck l e f r live edges = record { is_sound = live.is_sound; edges = edges }
 
 -- an edit of the visible deck has its outcome
 pub same_outcome : (outcome : Contents → Result Contents DeckFault) (before after : Contents) (l : Listed) (r : ℕ)

@@ -61,14 +61,14 @@ use Rattle.live_table.proofs.ToldWords.{settled_to, to_first}
 -- a settled number is at hand
 pub at_hand_settled : (deck : Contents) (l : Listed) → AreNumberedNames (table deck) l
     → IsRightTable (shown_table deck l 0)
-    → (n : ℕ) → IsSettled l.settled n → IsAtHand (table deck) l n
+    → (n : ℕ) → IsSettled l.settled_flags n → IsAtHand (table deck) l n
 at_hand_settled deck l nodes right n e = record {
-  within = settled_within deck l 0 nodes n e;
-  present = right.present (key_at l.keys n) (key_settled deck l 0 nodes n e);
-  closed = right.closed (key_at l.keys n) (key_settled deck l 0 nodes n e);
-  below = (nodes.net.settled n e).1;
+  in_table = settled_within deck l 0 nodes n e;
+  key_has_entry = right.settled_have_entries (key_at l.keys n) (key_settled deck l 0 nodes n e);
+  key_closed = right.settled_closed (key_at l.keys n) (key_settled deck l 0 nodes n e);
+  targets_settled = (nodes.net.settled_right n e).1;
   faithful = nodes.faithful n e;
-  starts = nodes.starts n e;
+  part_starts = nodes.part_starts n e;
 }
 
 module _ (deck : Contents) (l : Listed) (asked : Asked) (is : IsSurrounding deck l asked) where
@@ -78,8 +78,8 @@ module _ (deck : Contents) (l : Listed) (asked : Asked) (is : IsSurrounding deck
   abbrev key : ℕ → Key
   key n = key_at l.keys n
 
-  settled_at_hand : (n : ℕ) → IsSettled l.settled n → IsAtHand (table deck) l n
-  settled_at_hand n e = at_hand_settled deck l is.numbers is.right n e
+  settled_at_hand : (n : ℕ) → IsSettled l.settled_flags n → IsAtHand (table deck) l n
+  settled_at_hand n e = at_hand_settled deck l is.numbers is.is_right n e
 
   name_at_hand : (a : Asked) (n : ℕ) → FitsNodes (table deck) l a → is_this_name (asked_name a) n ≡ true
       → IsAtHand (table deck) l n
@@ -88,7 +88,7 @@ module _ (deck : Contents) (l : Listed) (asked : Asked) (is : IsSurrounding deck
 
   pub at_hand : (n : ℕ) → is_at_hand s n ≡ true → IsAtHand (table deck) l n
   at_hand n e = elim (or_cases (is_settled s n) (is_this_name s.name n) e) [
-    | inl q ↦ settled_at_hand n (settled_from l.settled n q)
+    | inl q ↦ settled_at_hand n (settled_from l.settled_flags n q)
     | inr q ↦ name_at_hand asked n is.subject q
   ]
 
@@ -96,7 +96,7 @@ module _ (deck : Contents) (l : Listed) (asked : Asked) (is : IsSurrounding deck
   module _ (us : List WordUse) (xs : List Step) (words : AreSettledWords (table deck) l us xs) (k : ℕ) (u : WordUse)
       (at : slice_get us k ≡ Some u) where
     led_word : WordLeadsInto (table deck) (IsClosed (table deck)) u
-    led_word = (closed_law.words (table deck) us).0 words.closed u (member_at us k u at)
+    led_word = (closed_law.words (table deck) us).0 words.words_closed u (member_at us k u at)
 
     pub led_by : IsLedBy s u xs k
     led_by = by st.word st.at_first st.at_second
@@ -106,18 +106,18 @@ module _ (deck : Contents) (l : Listed) (asked : Asked) (is : IsSurrounding deck
 
         by : {x y : Step} → IsWord (table deck) key words.dead_end u x y → slice_get xs (2 * k) ≡ Some x
             → slice_get xs (2 * k + 1) ≡ Some y → IsLedBy s u xs k
-        by (word.ForRefused t refused same) e f = absurd (true≢false (sym refused ∙ led_word.is_accepted))
-        by (word.ForUnknown t accepted none same) e f = absurd (led_word.known none)
+        by (word.ForRefused t refused same) e f = absurd (true≢false (sym refused ∙ led_word.not_refused))
+        by (word.ForUnknown t accepted none same) e f = absurd (led_word.has_targets none)
         by (word.ForOne n accepted t) e f = record {
           n = n;
           m = n;
           at_first = e;
           at_second = f;
           led = record {
-            word = led_word;
-            are = inl (t, refl);
-            first = words.settled n (get_In xs (2 * k) (To n) e);
-            second = words.settled n (get_In xs (2 * k) (To n) e);
+            word_leads = led_word;
+            single_target = inl (t, refl);
+            user_settled = words.targets_settled n (get_In xs (2 * k) (To n) e);
+            target_settled = words.targets_settled n (get_In xs (2 * k) (To n) e);
           };
         }
         by (word.ForTwo n m accepted t) e f = record {
@@ -126,10 +126,10 @@ module _ (deck : Contents) (l : Listed) (asked : Asked) (is : IsSurrounding deck
           at_first = e;
           at_second = f;
           led = record {
-            word = led_word;
-            are = inr t;
-            first = words.settled n (get_In xs (2 * k) (To n) e);
-            second = words.settled m (get_In xs (2 * k + 1) (To m) f);
+            word_leads = led_word;
+            single_target = inr t;
+            user_settled = words.targets_settled n (get_In xs (2 * k) (To n) e);
+            target_settled = words.targets_settled m (get_In xs (2 * k + 1) (To m) f);
           };
         }
 
@@ -139,8 +139,8 @@ module _ (deck : Contents) (l : Listed) (asked : Asked) (is : IsSurrounding deck
   key_settled_words n h = record {
     dead_end = no_dead_end;
     words = h.faithful no_dead_end;
-    closed = (closed_law.key (table deck) (key n)).0 h.closed;
-    settled = h.below;
+    words_closed = (closed_law.key (table deck) (key n)).0 h.key_closed;
+    targets_settled = h.targets_settled;
   }
     where
       no_dead_end : ℕ → Option Key → NameFault
@@ -157,21 +157,21 @@ module _ (deck : Contents) (l : Listed) (asked : Asked) (is : IsSurrounding deck
       by None q e = cc
       by (Some x) q e =
           ap (λ (o : Option Entry). slice_get (entry_words o) (start_at c.starts p + k)) q
-          ∙ ap (λ (b : ℕ). slice_get (what_words x.what) (b + k)) (h.starts x c q at p)
+          ∙ ap (λ (b : ℕ). slice_get (what_words x.what) (b + k)) (h.part_starts x c q at p)
           ∙ part_stands x.what p k u e
 
   -- ---- the entry of a name at hand
-  pub settled_right : (n : ℕ) → IsSettled l.settled n → slice_get l.outcomes n ≡ Some (Some
+  pub settled_right : (n : ℕ) → IsSettled l.settled_flags n → slice_get l.outcomes n ≡ Some (Some
       (outcome (table deck) (key n)))
-  settled_right n e = right_outcome deck l 0 is.numbers is.right n e
+  settled_right n e = right_outcome deck l 0 is.numbers is.is_right n e
 
   -- the stored outcome is that of its key
-  pub outcome_told : (v : Scene) → scene deck l asked ≡ v → (n : ℕ) → IsSettled v.settled n
+  pub outcome_told : (v : Scene) → scene deck l asked ≡ v → (n : ℕ) → IsSettled v.settled_flags n
       → (found : Option Outcome) → found ≡ get_or l.outcomes n found
       → (o : Outcome) → found ≡ Some o → o ≡ outcome (table v.deck) (key_at v.keys n)
   outcome_told v seen n e found at o there =
       let h : slice_get l.outcomes n ≡ Some (Some (outcome (table deck) (key n))) =
-      settled_right n (subst (λ (x : Scene). IsSettled x.settled n) (sym seen) e) in
+      settled_right n (subst (λ (x : Scene). IsSettled x.settled_flags n) (sym seen) e) in
       let g : get_or l.outcomes n found ≡ Some (outcome (table deck) (key n)) =
       get_or_from_slice_get l.outcomes n (Some (outcome (table deck) (key n))) found h in
       subst (λ (x : Scene). o ≡ outcome (table x.deck) (key_at x.keys n)) seen
@@ -185,7 +185,7 @@ module _ (deck : Contents) (l : Listed) (asked : Asked) (is : IsSurrounding deck
 
     pub meaning_is : key_meaning (table deck) (key n) ≡ meaning_of (word_meaning (table deck)) (key n).name x.what
     meaning_is =
-        closed_meaning_law (table deck) (key n) (at_hand n hand).closed
+        closed_meaning_law (table deck) (key n) (at_hand n hand).key_closed
         ∙ ap (entry_meaning (word_meaning (table deck)) (key n).name) entry
 
     pub has_target : HasTarget (word_means s) x.what
@@ -205,27 +205,27 @@ module _ (deck : Contents) (l : Listed) (asked : Asked) (is : IsSurrounding deck
             subst (λ (ws : List WordUse). Contains ws (inverted_word target)) (sym are)
             (member_first (inverted_word target) (inverted_word target) [] refl) in
             let closed : AreClosed (table deck) (key_words (table deck) (key n)) =
-            (closed_law.key (table deck) (key n)).0 (at_hand n hand).closed in
+            (closed_law.key (table deck) (key n)).0 (at_hand n hand).key_closed in
             callee_from (word_meaning (table deck) (inverted_word target))
             (kind_law.inverses (table deck) (fits_kinds deck) target
             ((closed_law.words (table deck) _).0 closed (inverted_word target) in_it))
 
   -- ---- the reported function
   module _ (n : ℕ) (has : has_callee s n ≡ true) where
-    pub callee_settled : IsSettled l.settled n
-    callee_settled = settled_from l.settled n (and_parts (is_settled s n) (is_callee (number_means s n)) has).0
+    pub callee_settled : IsSettled l.settled_flags n
+    callee_settled = settled_from l.settled_flags n (and_parts (is_settled s n) (is_callee (number_means s n)) has).0
 
     pub callee_is : number_means s n ≡ Callee (callee_at s n)
     callee_is = is_its_callee (number_means s n) (and_parts (is_settled s n) (is_callee (number_means s n)) has).1
 
     pub callee_hand : is_at_hand s n ≡ true
-    callee_hand = ap (λ (b : Bool). b || is_this_name s.name n) (settled_to l.settled n callee_settled)
+    callee_hand = ap (λ (b : Bool). b || is_this_name s.name n) (settled_to l.settled_flags n callee_settled)
 
     pub callee_within : n < length l.keys
-    callee_within = (at_hand n callee_hand).within
+    callee_within = (at_hand n callee_hand).in_table
 
     pub callee_present : is_present (table deck) (key n) ≡ true
-    callee_present = (at_hand n callee_hand).present
+    callee_present = (at_hand n callee_hand).key_has_entry
 
     pub callee_named : callable_name (callee_at s n) ≡ (key n).name
     callee_named = by (entry_at (table deck) (key n)) refl callee_present
@@ -247,12 +247,12 @@ module _ (deck : Contents) (l : Listed) (asked : Asked) (is : IsSurrounding deck
           ∙ (sym (meaning_is n callee_hand x entry) ∙ callee_is);
     }
 
-  pub has_function : (n : ℕ) → IsSettled l.settled n → (key n).kind ≡ kind.Func → has_callee s n ≡ true
+  pub has_function : (n : ℕ) → IsSettled l.settled_flags n → (key n).kind ≡ kind.Func → has_callee s n ≡ true
   has_function n e k =
       let h : IsAtHand (table deck) l n = settled_at_hand n e in
       let may : may_mean (key n).kind (key_meaning (table deck) (key n)) ≡ true =
-      kind_law.keys (table deck) (fits_kinds deck) (key n) h.present h.closed in
-      and_from (is_settled s n) (is_callee (number_means s n)) (settled_to l.settled n e)
+      kind_law.keys (table deck) (fits_kinds deck) (key n) h.key_has_entry h.key_closed in
+      and_from (is_settled s n) (is_callee (number_means s n)) (settled_to l.settled_flags n e)
       (callee_when (number_means s n) (subst (λ (x : Kind). may_mean x (key_meaning (table deck) (key n)) ≡ true) k
       may))
 
@@ -291,7 +291,7 @@ module _ (deck : Contents) (l : Listed) (asked : Asked) (is : IsSurrounding deck
       part_hand = at_hand n hand_is
 
       pub hand_within : n < length l.keys
-      hand_within = part_hand.within
+      hand_within = part_hand.in_table
 
       pub steps_within : n < length l.graph
       steps_within = let a : n < length l.keys = hand_within in let b : length l.graph ≡ length l.keys =

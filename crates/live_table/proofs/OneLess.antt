@@ -49,9 +49,9 @@ module _ (settled : List Bool) (count rest n : ℕ) (outcomes : List (Option Out
 
   pub one_less : AreNumbersLeft settled (set settled n false) count rest outcomes (set outcomes n None)
   one_less = record {
-    size = length-set settled n false;
+    same_length = length-set settled n false;
     outcome_count = length-set outcomes n None;
-    counted = counted;
-    marked = λ e. ap (λ (bs : List Bool). set bs n false) e ∙ sym (map-set is_some outcomes n None);
+    count_right = counted;
+    marks_right = λ e. ap (λ (bs : List Bool). set bs n false) e ∙ sym (map-set is_some outcomes n None);
     outcomes = none_else;
   }

@@ -13,17 +13,18 @@ use Rattle.table_names.proofs.Members.{member_cases, member_first, member_later,
 use Rattle.live_table.specs.States.{Kept, with_outcomes}
 
 -- equal keys compare as equal
-pub tied : (k l : Key) → k ≡ l → eq_by_cmp key_cmp k l ≡ true
-tied k l e = subst (λ (x : Key). eq_by_cmp key_cmp k x ≡ true) e (ap is_eq (tied_itself key_order.total k))
+pub equal_keys_tie : (k l : Key) → k ≡ l → eq_by_cmp key_cmp k l ≡ true
+equal_keys_tie k l e = subst (λ (x : Key). eq_by_cmp key_cmp k x ≡ true) e
+    (ap is_eq (tied_itself key_order.total_order k))
 
 -- keys that compare as equal are equal
 pub one_key : (k l : Key) → eq_by_cmp key_cmp k l ≡ true → k ≡ l
-one_key k l e = key_order.exact k l ((Equal-is (key_cmp k l)).0 e)
+one_key k l e = key_order.equal_keys k l ((Equal-is (key_cmp k l)).0 e)
 
 module _ (table : Table) where
   pub inserted : (kept : Kept) (k n : Key) → map_of.get (map_of.insert kept k (outcome table k)) n ≡ cond
       (eq_by_cmp key_cmp n k) (Some (outcome table k)) (map_of.get kept n)
-  inserted kept k n = map_of.get-insert key_order.total kept k (outcome table k) n
+  inserted kept k n = map_of.get-insert key_order.total_order kept k (outcome table k) n
 
   -- an inserted key has its outcome, any other key its previous one
   pub put_in : (keys : List Key) (kept : Kept) (n : Key)
@@ -36,7 +37,7 @@ module _ (table : Table) where
       own : n ≡ k → map_of.get (map_of.insert kept k (outcome table k)) n ≡ Some (outcome table n)
       own e =
           inserted kept k n
-          ∙ (ap (λ b. cond b (Some (outcome table k)) (map_of.get kept n)) (tied n k e)
+          ∙ (ap (λ b. cond b (Some (outcome table k)) (map_of.get kept n)) (equal_keys_tie n k e)
           ∙ ap (λ (x : Key). Some (outcome table x)) (sym e))
 
       had : (b : Bool) → eq_by_cmp key_cmp n k ≡ b → map_of.get kept n ≡ Some (outcome table n)
@@ -64,4 +65,4 @@ module _ (table : Table) where
 -- the outcomes that a test of keys leaves
 pub left_in : (kept : Kept) (p : Key → Bool) (n : Key) → map_of.get (map_of.retain_keys kept p) n ≡ cond (p n)
     (map_of.get kept n) None
-left_in kept p n = map_of.get-retain_keys kept p n (λ x e. ap p (sym (key_order.exact n x e)))
+left_in kept p n = map_of.get-retain_keys kept p n (λ x e. ap p (sym (key_order.equal_keys n x e)))

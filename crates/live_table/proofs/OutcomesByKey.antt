@@ -18,7 +18,7 @@ use Rattle.live_table.specs.TableView.{IsRightTable, state_with_steps}
 use Rattle.live_table.specs.Sound.{AreNumberedNames}
 use Rattle.live_table.specs.States.{Kept}
 use Rattle.live_table.specs.TableContents.{Listed, kept_of, key_at, onto, shown_table}
-use Rattle.live_table.proofs.Outcomes.{one_key, tied}
+use Rattle.live_table.proofs.Outcomes.{equal_keys_tie, one_key}
 use Rattle.live_table.proofs.Places.{get_lt, some_same}
 
 -- keys of different numbers differ
@@ -43,12 +43,12 @@ chosen false b x y z h = refl
 -- the outcome of a key in a map with one more outcome
 inserted : (m : Kept) (k : Key) (x : Outcome) (q : Key) → map_of.get (map_of.insert m k x) q ≡ cond (eq_by_cmp
     key_cmp q k) (Some x) (map_of.get m q)
-inserted m k x q = map_of.get-insert key_order.total m k x q
+inserted m k x q = map_of.get-insert key_order.total_order m k x q
 
 -- the outcomes of two keys may be inserted in either order
 swapped : (m : Kept) (k l : Key) (x y : Outcome) → (k ≡ l → ⊥)
     → map_of.insert (map_of.insert m l y) k x ≡ map_of.insert (map_of.insert m k x) l y
-swapped m k l x y ne = map_of.same_map key_order.total key_order.exact _ _ (λ q.
+swapped m k l x y ne = map_of.same_map key_order.total_order key_order.equal_keys _ _ (λ q.
     inserted (map_of.insert m l y) k x q
     ∙ (ap (cond (eq_by_cmp key_cmp q k) (Some x)) (inserted m l y q)
     ∙ (chosen (eq_by_cmp key_cmp q k) (eq_by_cmp key_cmp q l) (Some x) (Some y) (map_of.get m q)
@@ -85,7 +85,7 @@ onto_other m k q (Some x) ne = inserted m k x q ∙ by (eq_by_cmp key_cmp q k) r
 -- the inserted outcome of a key is there afterwards
 pub onto_self : (m : Kept) (k : Key) (x : Option Outcome) → map_of.get m k ≡ None → map_of.get (onto k x m) k ≡ x
 onto_self m k None e = e
-onto_self m k (Some x) e = inserted m k x k ∙ ap (λ b. cond b (Some x) (map_of.get m k)) (tied k k refl)
+onto_self m k (Some x) e = inserted m k x k ∙ ap (λ b. cond b (Some x) (map_of.get m k)) (equal_keys_tie k k refl)
 
 -- a key without a number has no outcome
 pub absent : (ks : List Key) (os : List (Option Outcome)) (q : Key) → ((n : ℕ) → n < length ks → q ≡ key_at ks n → ⊥)
@@ -127,35 +127,37 @@ module _ (deck : Contents) (l : Listed) (r : ℕ) (nodes : AreNumberedNames (tab
   kept = kept_of l.keys l.outcomes
 
   kept_is : (n : ℕ) → n < length l.keys → slice_get l.outcomes n ≡ Some (map_of.get kept (key_at l.keys n))
-  kept_is n h = kept_at l.keys l.outcomes n nodes.apart h nodes.outcome_count
+  kept_is n h = kept_at l.keys l.outcomes n nodes.numbers_apart h nodes.outcome_count
 
   -- the mark of a number says whether its key is settled
-  mark_is : (n : ℕ) → n < length l.keys → slice_get l.settled n ≡ Some (is_some (map_of.get kept (key_at l.keys n)))
-  mark_is n h = ap (λ (bs : List Bool). slice_get bs n) nodes.marked ∙ marked_at l.outcomes n _ (kept_is n h)
+  mark_is : (n : ℕ) → n < length l.keys → slice_get l.settled_flags n ≡ Some
+      (is_some (map_of.get kept (key_at l.keys n)))
+  mark_is n h = ap (λ (bs : List Bool). slice_get bs n) nodes.marks_right ∙ marked_at l.outcomes n _ (kept_is n h)
 
-  pub settled_count : length l.settled ≡ length l.keys
-  settled_count = ap length nodes.marked ∙ (length-map l.outcomes is_some ∙ nodes.outcome_count)
+  pub settled_count : length l.settled_flags ≡ length l.keys
+  settled_count = ap length nodes.marks_right ∙ (length-map l.outcomes is_some ∙ nodes.outcome_count)
 
-  pub settled_within : (n : ℕ) → IsSettled l.settled n → n < length l.keys
+  pub settled_within : (n : ℕ) → IsSettled l.settled_flags n → n < length l.keys
   settled_within n e =
-      let a : n < length l.settled = get_lt l.settled n true e in
-      let b : length l.settled ≡ length l.keys = settled_count in omega arith
+      let a : n < length l.settled_flags = get_lt l.settled_flags n true e in
+      let b : length l.settled_flags ≡ length l.keys = settled_count in omega arith
 
-  pub key_settled : (n : ℕ) → IsSettled l.settled n → right_of.IsKeySettled (state_with_steps (shown_table deck l r) 0)
+  pub key_settled : (n : ℕ) → IsSettled l.settled_flags n
+      → right_of.IsKeySettled (state_with_steps (shown_table deck l r) 0)
       (key_at l.keys n)
   key_settled n e = some_same _ true (sym (mark_is n (settled_within n e)) ∙ e)
 
   pub number_settled : (n : ℕ) → n < length l.keys → right_of.IsKeySettled (state_with_steps (shown_table deck l r) 0)
       (key_at l.keys n)
-      → IsSettled l.settled n
+      → IsSettled l.settled_flags n
   number_settled n h e = mark_is n h ∙ ap Some e
 
   -- a settled number has an outcome, which is that of its key
-  pub right_outcome : IsRightTable (shown_table deck l r) → (n : ℕ) → IsSettled l.settled n
+  pub right_outcome : IsRightTable (shown_table deck l r) → (n : ℕ) → IsSettled l.settled_flags n
       → slice_get l.outcomes n ≡ Some (Some (outcome (table deck) (key_at l.keys n)))
   right_outcome right n e = kept_is n (settled_within n e) ∙ ap Some (by (map_of.get kept (key_at l.keys n)) refl)
     where
       by : (o : Option Outcome) → map_of.get kept (key_at l.keys n) ≡ o
           → o ≡ Some (outcome (table deck) (key_at l.keys n))
       by None q = let z : false ≡ true = sym (ap is_some q) ∙ key_settled n e in cc
-      by (Some o) q = ap Some (right.right (key_at l.keys n) o q)
+      by (Some o) q = ap Some (right.outcomes_right (key_at l.keys n) o q)

@@ -11,7 +11,7 @@ use Rattle.def_entry.proofs.SameKeys.{key_order}
 use Rattle.tree_eval.specs.declared.outcome.Outcome.{Outcome}
 use Rattle.live_table.specs.TableContents.{kept_of, key_at, onto}
 use Rattle.live_table.proofs.OutcomesByKey.{AreApart, absent, apart_tail, first_apart, onto_other, onto_self}
-use Rattle.live_table.proofs.Outcomes.{left_in, one_key, tied}
+use Rattle.live_table.proofs.Outcomes.{equal_keys_tie, left_in, one_key}
 
 -- each number has its previous outcome, or none if its key does not pass the test
 abbrev pub AreTaken : (Key → Bool) → List Key → List (Option Outcome) → List (Option Outcome) → Type 0
@@ -61,11 +61,11 @@ taken_at stays (k ∷ ks) (x ∷ os) (y ∷ new) a h j t q =
         → (b : Bool) → eq_by_cmp key_cmp q k ≡ b → map_of.get (onto k y (kept_of ks new)) q ≡ cond (stays q)
         (map_of.get (onto k x (kept_of ks os)) q) None
     by rest true e = here (one_key q k e)
-    by rest false e = there rest (λ f. true≢false (sym (tied q k f) ∙ e))
+    by rest false e = there rest (λ f. true≢false (sym (equal_keys_tie q k f) ∙ e))
 
 -- only the outcomes of the keys that pass the test are still stored
 pub kept_left : (stays : Key → Bool) (ks : List Key) (os new : List (Option Outcome)) → AreApart ks
     → length os ≡ length ks → length new ≡ length ks
     → AreTaken stays ks os new → kept_of ks new ≡ map_of.retain_keys (kept_of ks os) stays
-kept_left stays ks os new a h j t = map_of.same_map key_order.total key_order.exact _ _ (λ q.
+kept_left stays ks os new a h j t = map_of.same_map key_order.total_order key_order.equal_keys _ _ (λ q.
     taken_at stays ks os new a h j t q ∙ sym (left_in (kept_of ks os) stays q))

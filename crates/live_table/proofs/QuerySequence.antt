@@ -11,7 +11,7 @@ use Rattle.live_table.specs.declared.fault.QueryFault.{QueryFault}
 use Rattle.live_table.specs.declared.fault.QueryFault.TheVariants.{Name, Value, OutOfMemory}
 use Rattle.live_table.specs.Calls.{IsQuery}
 use Rattle.live_table.specs.TableView.{IsAfterEvents, IsCutOff, IsRightTable, Shown, state_with_steps}
-use Rattle.live_table.specs.States.{AsksKey, AsksWords, Becomes, Event, TableState, after, after_all, after_query}
+use Rattle.live_table.specs.States.{AsksKey, AsksWords, Becomes, Event, TableState, after_all, after_event, after_query}
 use Rattle.live_table.proofs.Events.{order_law}
 use Rattle.live_table.proofs.SettleCounts.{counts_rise, shown_counts}
 
@@ -21,7 +21,7 @@ query_rises true keys s = omega arith
 query_rises false keys s = omega arith
 
 -- an event never lowers the count of steps
-event_rises : (e : Event) (s : TableState) → s.steps ≤ (after e s).steps
+event_rises : (e : Event) (s : TableState) → s.steps ≤ (after_event e s).steps
 event_rises (AsksWords words) s = query_rises (is_none (name_fault s.table words)) (reach s.table words) s
 event_rises (AsksKey n) s = query_rises (is_none (key_fault s.table n)) (n ∷ key_reach s.table n) s
 event_rises (Becomes t) s = omega arith
@@ -30,12 +30,13 @@ event_rises (Becomes t) s = omega arith
 pub steps_rise : (es : List Event) (s : TableState) → s.steps ≤ (after_all es s).steps
 steps_rise [] s = omega arith
 steps_rise (e ∷ es) s =
-    let a : s.steps ≤ (after e s).steps = event_rises e s in
-    let b : (after e s).steps ≤ (after_all es (after e s)).steps = steps_rise es (after e s) in omega arith
+    let a : s.steps ≤ (after_event e s).steps = event_rises e s in
+    let b : (after_event e s).steps ≤ (after_all es (after_event e s)).steps = steps_rise es (after_event e s) in
+    omega arith
 
 -- an empty run leaves a right table unchanged
 pub follows_none : (s : Shown) (n : ℕ) → IsRightTable s → IsAfterEvents [] s s n n
-follows_none s n right = record { stands = refl; right = right }
+follows_none s n right = record { stands = refl; is_right = right }
 
 -- two runs in turn are one run
 pub follows_both : (es fs : List Event) (a b c : Shown) (o n m : ℕ) → IsAfterEvents es a b o n
@@ -43,7 +44,7 @@ pub follows_both : (es fs : List Event) (a b c : Shown) (o n m : ℕ) → IsAfte
     → IsAfterEvents (es ++ fs) a c o m
 follows_both es fs a b c o n m f g = record {
   stands = g.stands ∙ (ap (after_all fs) f.stands ∙ sym (order_law es fs (state_with_steps a o)));
-  right = g.right;
+  is_right = g.is_right;
 }
 
 -- ---- counts of names newly settled
@@ -74,8 +75,8 @@ further_counts fs gs b c n m g can =
     let x : (after_all fs (state_with_steps b n)).reductions
     ≤ (after_all gs (after_all fs (state_with_steps b n))).reductions =
     (counts_rise gs (after_all fs (state_with_steps b n)) (shown_counts fs b n can).1).0 in
-    let y : c.reductions ≤ (after_all fs (state_with_steps b n)).reductions = (g.counted can).1 in
-    ((g.counted can).0, omega arith)
+    let y : c.reductions ≤ (after_all fs (state_with_steps b n)).reductions = (g.reductions_counted can).1 in
+    ((g.reductions_counted can).0, omega arith)
 
 -- events in three parts, from the state after the first part
 cut_whole : (es fs gs : List Event) (a b : Shown) (o n : ℕ) → IsAfterEvents es a b o n
@@ -89,13 +90,13 @@ pub cut_both : (es fs gs : List Event) (a b c : Shown) (o n m : ℕ) → b.deck 
     → IsCutOff fs b c n m → IsCutOff (es ++ (fs ++ gs)) a c o m
 cut_both es fs gs a b c o n m same f g = record {
   deck = g.deck ∙ same;
-  right = g.right;
-  least =
+  is_right = g.is_right;
+  steps_least =
       let x : o ≤ (after_all es (state_with_steps a o)).steps = steps_rise es (state_with_steps a o) in
       let y : n ≡ (after_all es (state_with_steps a o)).steps = ap (λ (s : TableState). s.steps) f.stands in
-      let z : n ≤ m = g.least in omega arith;
-  most =
-      let x : m ≤ (after_all fs (state_with_steps b n)).steps = g.most in
+      let z : n ≤ m = g.steps_least in omega arith;
+  steps_most =
+      let x : m ≤ (after_all fs (state_with_steps b n)).steps = g.steps_most in
       let y : (after_all fs (state_with_steps b n)).steps ≤ (after_all gs (after_all fs (state_with_steps b n))).steps =
       steps_rise gs (after_all fs (state_with_steps b n)) in
       let z : (after_all (es ++ (fs ++ gs)) (state_with_steps a o)).steps
@@ -103,7 +104,7 @@ cut_both es fs gs a b c o n m same f g = record {
       ap (λ (s : TableState). s.steps)
       (cut_whole es fs gs a b o n f) in
       omega arith;
-  counted = λ can.
+  reductions_counted = λ can.
       let x : a.reductions ≤ b.reductions = (made_counts es a b o n f can).0 in
       let y : b.reductions ≤ 2 ^ 64 - 1 = made_can es a b o n f can in
       let part = further_counts fs gs b c n m g y in
@@ -123,12 +124,13 @@ query_answer e (Err (Name x)) a b o n same f = f
 query_answer e (Err (Value v)) a b o n same f = f
 query_answer e (Err OutOfMemory) a b o n same f = record {
   deck = same;
-  right = f.right;
-  least =
+  is_right = f.is_right;
+  steps_least =
       let x : o ≤ (after_all (e ∷ []) (state_with_steps a o)).steps = steps_rise (e ∷ []) (state_with_steps a o) in
       let y : n ≡ (after_all (e ∷ []) (state_with_steps a o)).steps = ap (λ (s : TableState). s.steps) f.stands in
       omega arith;
-  most = let y : n ≡ (after_all (e ∷ []) (state_with_steps a o)).steps = ap (λ (s : TableState). s.steps) f.stands in
+  steps_most = let y : n ≡ (after_all (e ∷ []) (state_with_steps a o)).steps = ap (λ (s : TableState). s.steps) f.stands
+      in
       omega arith;
-  counted = made_counts (e ∷ []) a b o n f;
+  reductions_counted = made_counts (e ∷ []) a b o n f;
 }

@@ -56,8 +56,8 @@ module _ (t : Table) (old now m : Listed) (before here list there : List ℕ) (u
 
   front : AreWritten t m before there [] (take i us) xs
   front =
-      written_more t now m before list there [] [] (turn.start.added []).grown.nodes
-      (turn.start.added []).grown.listed (then []).grown (take i us) xs turn.start.written
+      written_more t now m before list there [] [] (turn.start.added []).growth.nodes
+      (turn.start.added []).growth.list_right (then []).growth (take i us) xs turn.start.written
 
   module _ (lead : Lead) (is : IsQueryLead t m.keys u lead) where
     -- the steps of the word are appended
@@ -79,12 +79,12 @@ module _ (t : Table) (old now m : Listed) (before here list there : List ℕ) (u
     pub stepping_cut : None ≡ steps_to lead → (end : DeadEnd)
         → end ≡ record { text = u.text; is_refused = is_refused_lead lead } → AreCutAt t m before there us xs end
     stepping_cut none end e = record {
-      front = take i us;
+      words_before = take i us;
       word = u;
-      rest = drop (suc i) us;
+      words_after = drop (suc i) us;
       words = parts us i turn.word;
-      written = front;
-      ends = dead lead is none e;
+      front_steps = front;
+      dead_end_word = dead lead is none e;
     }
       where
         parts : (vs : List WordUse) (j : ℕ) → slice_get vs j ≡ Some u → vs ≡ take j vs ++ u ∷ drop (suc j) vs
@@ -96,13 +96,13 @@ module _ (t : Table) (old now m : Listed) (before here list there : List ℕ) (u
             → end ≡ record { text = u.text; is_refused = is_refused_lead x } → IsDeadEnd t u end
         dead Refused h n q = record {
           text = ap (λ (d : DeadEnd). d.text) q;
-          refused = ap (λ (d : DeadEnd). d.is_refused) q ∙ sym h;
-          nowhere = λ f. absurd (true≢false (sym h ∙ f));
+          refused_word = ap (λ (d : DeadEnd). d.is_refused) q ∙ sym h;
+          no_targets = λ f. absurd (true≢false (sym h ∙ f));
         }
         dead Nowhere h n q = record {
           text = ap (λ (d : DeadEnd). d.text) q;
-          refused = ap (λ (d : DeadEnd). d.is_refused) q ∙ sym h.0;
-          nowhere = λ f. h.1;
+          refused_word = ap (λ (d : DeadEnd). d.is_refused) q ∙ sym h.0;
+          no_targets = λ f. h.1;
         }
         dead (One p) h n q = cc
         dead (Two p r) h n q = cc

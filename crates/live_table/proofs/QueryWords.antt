@@ -10,7 +10,7 @@ use Rattle.name_walk.specs.declared.step.Step.{Step}
 use Rattle.name_numbers.specs.NumberedNames.{fault_by_name}
 use Rattle.table_names.specs.declared.fault.NameFault.{NameFault}
 use Rattle.table_names.specs.declared.fault.NameFault.TheVariants.{Refused, Unknown}
-use Rattle.table_names.specs.Faults.{Deeper, first, key_fault_within, name_fault, targets_fault, word_fault}
+use Rattle.table_names.specs.Faults.{Deeper, first_some, key_fault_within, name_fault, targets_fault, word_fault}
 use Rattle.table_names.specs.Leads.{targets}
 use Rattle.live_table.specs.declared.dead_end.DeadEnd.{DeadEnd}
 use Rattle.live_table.specs.QueryEffects.{IsClosing, IsNamedFault, fault_in}
@@ -24,10 +24,10 @@ or_assoc None b c = refl
 or_assoc (Some x) b c = refl
 
 first_of_both : {A B : Type 0} (f : A → Option B) (xs ys : List A)
-    → first f (xs ++ ys) ≡ option_or (first f xs) (first f ys)
+    → first_some f (xs ++ ys) ≡ option_or (first_some f xs) (first_some f ys)
 first_of_both f [] ys = refl
 first_of_both f (x ∷ xs) ys =
-    ap (option_or (f x)) (first_of_both f xs ys) ∙ sym (or_assoc (f x) (first f xs) (first f ys))
+    ap (option_or (f x)) (first_of_both f xs ys) ∙ sym (or_assoc (f x) (first_some f xs) (first_some f ys))
 
 -- ---- a word that leads nowhere has its own fault
 module _ (t : Table) (deeper : Deeper) (u : WordUse) where
@@ -39,19 +39,19 @@ module _ (t : Table) (deeper : Deeper) (u : WordUse) where
 
   its_fault : (end : DeadEnd) → IsDeadEnd t u end → word_fault t deeper [] u ≡ Some (dead_end_fault (Some end) None)
   its_fault end d =
-      by_flag (is_refused u.text) (targets t u) d.nowhere
-      ∙ (λ i. Some (cond (sym d.refused i) (Refused (sym d.text i) None) (Unknown (sym d.text i) None)))
+      by_flag (is_refused u.text) (targets t u) d.no_targets
+      ∙ (λ i. Some (cond (sym d.refused_word i) (Refused (sym d.text i) None) (Unknown (sym d.text i) None)))
 
 -- the words after a word that leads nowhere do not matter
 pub cut_words : (t : Table) (front rest : List WordUse) (u : WordUse) (end : DeadEnd) → IsDeadEnd t u end
     → fault_before (name_fault t front) end ≡ name_fault t (front ++ u ∷ rest)
-cut_words t front rest u end d = sym (first_of_both f front (u ∷ rest) ∙ ap (option_or (first f front)) own)
+cut_words t front rest u end d = sym (first_of_both f front (u ∷ rest) ∙ ap (option_or (first_some f front)) own)
   where
     f : WordUse → Option NameFault
     f = word_fault t (key_fault_within t (length t - 0)) []
 
-    own : first f (u ∷ rest) ≡ Some (dead_end_fault (Some end) None)
-    own = ap (λ (o : Option NameFault). option_or o (first f rest))
+    own : first_some f (u ∷ rest) ≡ Some (dead_end_fault (Some end) None)
+    own = ap (λ (o : Option NameFault). option_or o (first_some f rest))
         (its_fault t (key_fault_within t (length t - 0)) u end d)
 
 -- ---- the result of a walk of the words before it
@@ -60,10 +60,10 @@ module _ (t : Table) (l : Listed) (ends : List DeadEnd) (query : List Step) (end
       → fault_before (fault_in t l ends query) end ≡ Some f
   faulty_before f w =
       ap (λ (o : Option NameFault). fault_before o end)
-      (ap (option_map (fault_by_name t (key_at l.keys) (fault_at ends))) w.some ∙ ap Some (sym w.by_name))
+      (ap (option_map (fault_by_name t (key_at l.keys) (fault_at ends))) w.is_fault ∙ ap Some (sym w.by_name))
 
   pub closing_before : (f : NameFault) (order : List ℕ) → IsClosing l query order → f ≡ dead_end_fault (Some end) None
       → fault_before (fault_in t l ends query) end ≡ Some f
   closing_before f order w e =
       ap (λ (o : Option NameFault). fault_before o end)
-      (ap (option_map (fault_by_name t (key_at l.keys) (fault_at ends))) w.none) ∙ ap Some (sym e)
+      (ap (option_map (fault_by_name t (key_at l.keys) (fault_at ends))) w.query_has_no_fault) ∙ ap Some (sym e)

@@ -86,7 +86,7 @@ module _ (deck : Contents) (l : Listed) (asked : Asked) (is : IsSurrounding deck
   abbrev key_rank : Key → ℕ
   key_rank k = rank_of_meaning (key_meaning (table deck) k)
 
-  kept_rank : (n : ℕ) → IsSettled l.settled n → step_rank l.callees (To n) ≡ key_rank (key n)
+  kept_rank : (n : ℕ) → IsSettled l.settled_flags n → step_rank l.callees (To n) ≡ key_rank (key n)
   kept_rank n e =
       let a : n < length l.keys = settled_within deck l 0 is.numbers n e in
       let b : length l.callees ≡ length l.keys = is.numbers.callee_count in
@@ -99,13 +99,13 @@ module _ (deck : Contents) (l : Listed) (asked : Asked) (is : IsSurrounding deck
       rank_of_meaning (word_meaning (table deck) u) ≡ max (step_rank l.callees (To n)) (step_rank l.callees (To m))
 
   word_rank : (u : WordUse) (n m : ℕ) → IsLed s u n m → HasRanks u n m
-  word_rank u n m led = by (stands s u n m led) led.are
+  word_rank u n m led = by (stands s u n m led) led.single_target
     where
       a : step_rank l.callees (To n) ≡ key_rank (key n)
-      a = kept_rank n led.first
+      a = kept_rank n led.user_settled
 
       b : step_rank l.callees (To m) ≡ key_rank (key m)
-      b = kept_rank m led.second
+      b = kept_rank m led.target_settled
 
       by : StandsForTargets (table deck) u → ((targets (table deck) u ≡ key n ∷ []) × (n ≡ m)) ⊎ (targets
           (table deck) u ≡ key n ∷ key m ∷ []) → HasRanks u n m
@@ -148,9 +148,10 @@ module _ (deck : Contents) (l : Listed) (asked : Asked) (is : IsSurrounding deck
       rest = record {
         dead_end = h.dead_end;
         words = h.words.1;
-        closed = (closed_law.words (table deck) us).1 (λ u i. (closed_law.words (table deck) (v ∷ us)).0 h.closed u
+        words_closed = (closed_law.words (table deck) us).1
+            (λ u i. (closed_law.words (table deck) (v ∷ us)).0 h.words_closed u
             (member_later u v us i));
-        settled = λ m i. h.settled m (inr (inr i));
+        targets_settled = λ m i. h.targets_settled m (inr (inr i));
       }
 
   -- ---- the rank of a name at hand that is a function
@@ -172,7 +173,7 @@ module _ (deck : Contents) (l : Listed) (r n : ℕ) (sound : IsSound deck l r) (
     (greatest : g ≡ greatest_step_rank l.callees (steps l.graph n)) where
   due_rank : rank_of_meaning (key_meaning (table deck) (key_at l.keys n)) ≡ suc
       (greatest_step_rank l.callees (steps l.graph n))
-  due_rank = by (entry_at (table deck) (key_at l.keys n)) refl due.present
+  due_rank = by (entry_at (table deck) (key_at l.keys n)) refl due.key_has_entry
     where
       by : (o : Option Entry) → entry_at (table deck) (key_at l.keys n) ≡ o → is_some o ≡ true
           → rank_of_meaning (key_meaning (table deck) (key_at l.keys n)) ≡ suc
@@ -187,7 +188,7 @@ module _ (deck : Contents) (l : Listed) (r n : ℕ) (sound : IsSound deck l r) (
 
   pub rank_few : DeckTableLaw → length deck.lines ≤ 100000 → g + 1 ≤ 100000
   rank_few law a =
-      let b : length (table deck) ≤ length deck.lines = law.short deck in
+      let b : length (table deck) ≤ length deck.lines = law.table_length deck in
       let c : rank_of_meaning (key_meaning (table deck) (key_at l.keys n)) ≤ length (table deck) =
       rank_law (table deck) (key_at l.keys n) in
       omega (arith, a, b, c, rank_is)

@@ -58,7 +58,7 @@ no_steps (w ∷ g) (suc x) s h j = no_steps g x s (omega arith) j
 
 module _ (t : Table) (l : Listed) (n : ℕ) (c : Callee) (v : SmallVec Step) (w : Vec ℕ Global)
     (nodes : AreNumberedNames t l)
-    (fresh : IsSettled l.settled n → ⊥)
+    (fresh : IsSettled l.settled_flags n → ⊥)
     (inside : (m : ℕ) → In (To m) v.items → m < length l.keys) where
   abbrev later : Listed
   later = with_steps n c v w l
@@ -66,8 +66,8 @@ module _ (t : Table) (l : Listed) (n : ℕ) (c : Callee) (v : SmallVec Step) (w 
   count : length (set l.graph n v) ≡ length l.graph
   count = length-set l.graph n v
 
-  not_n : (m : ℕ) → IsSettled l.settled m → m ≡ n → ⊥
-  not_n m e q = fresh (subst (λ (x : ℕ). IsSettled l.settled x) q e)
+  not_n : (m : ℕ) → IsSettled l.settled_flags m → m ≡ n → ⊥
+  not_n m e q = fresh (subst (λ (x : ℕ). IsSettled l.settled_flags x) q e)
 
   range : (a b : ℕ) → In (To b) (steps (set l.graph n v) a) → b < length (set l.graph n v)
   range a b i = elim (cases_eq a n) [
@@ -75,7 +75,7 @@ module _ (t : Table) (l : Listed) (n : ℕ) (c : Callee) (v : SmallVec Step) (w 
         omega arith
     | inr ne ↦
         let z : b < length l.graph =
-        nodes.net.range a b (subst (λ (xs : List Step). In (To b) xs) (steps_other l.graph n a v ne) i) in
+        nodes.net.steps_in_range a b (subst (λ (xs : List Step). In (To b) xs) (steps_other l.graph n a v ne) i) in
         let s : length (set l.graph n v) ≡ length l.graph = count in omega arith
   ]
     where
@@ -96,31 +96,32 @@ module _ (t : Table) (l : Listed) (n : ℕ) (c : Callee) (v : SmallVec Step) (w 
     outcome_count = nodes.outcome_count;
     callee_count = length-set l.callees n c ∙ nodes.callee_count;
     look_count = length-set l.looks n w ∙ nodes.look_count;
-    flagged = nodes.flagged;
-    counted = nodes.counted;
-    marked = nodes.marked;
-    apart = nodes.apart;
+    flags_right = nodes.flags_right;
+    count_right = nodes.count_right;
+    marks_right = nodes.marks_right;
+    numbers_apart = nodes.numbers_apart;
     net = record {
-      range = range;
-      size = nodes.net.size ∙ sym count;
-      settled = settled_law_holds.elsewhere l.graph (set l.graph n v) l.settled l.settled nodes.net.settled
+      steps_in_range = range;
+      mark_per_name = nodes.net.mark_per_name ∙ sym count;
+      settled_right = settled_law_holds.other_graph l.graph (set l.graph n v) l.settled_flags l.settled_flags
+          nodes.net.settled_right
           (let s : length (set l.graph n v) ≡ length l.graph = count in omega arith)
           (λ m. ((λ e. e), (λ e. e))) (λ m e. steps_other l.graph n m v (not_n m e));
     };
-    present = nodes.present;
+    settled_have_entries = nodes.settled_have_entries;
     faithful = λ m e ends.
         subst (λ (xs : List Step). AreWords t (key_at l.keys) ends (key_words t (key_at l.keys m)) xs)
         (sym (steps_other l.graph n m v (not_n m e))) (nodes.faithful m e ends);
-    starts = λ m e entry callee at is. nodes.starts m e entry callee at
+    part_starts = λ m e entry callee at is. nodes.part_starts m e entry callee at
         (sym (get_set_other l.callees n m c (not_n m e)) ∙ is);
     ranks = λ m e callee is. nodes.ranks m e callee (sym (get_set_other l.callees n m c (not_n m e)) ∙ is);
-    looked = λ m e.
-        let h = nodes.looked m e in
+    settled_looks = λ m e.
+        let h = nodes.settled_looks m e in
         record {
           looks = subst (λ (p : List Step × List ℕ). AreLooks t l.keys (key_words t (key_at l.keys m)) p.0 p.1)
               (λ i. (sym (steps_other l.graph n m v (not_n m e)) i, sym (looks_other l.looks n m w (not_n m e)) i))
               h.looks;
-          once = subst (IsDistinct nat_eq) (sym (looks_other l.looks n m w (not_n m e))) h.once;
+          numbers_distinct = subst (IsDistinct nat_eq) (sym (looks_other l.looks n m w (not_n m e))) h.numbers_distinct;
         };
   }
 
@@ -130,55 +131,55 @@ module _ (t : Table) (l m : Listed) (before here there : List ℕ) (ends more : 
     (added : AreAdded t l m before here there ends more) (right : AreListed t l before here) (is_listed : In n here)
     (written : AreWritten t m before there more (key_words t (key_at l.keys n)) v.items) where
   in_there : In n there
-  in_there = in_more here there n added.grown.list_more is_listed
+  in_there = in_more here there n added.growth.list_more is_listed
 
   in_keys : n < length l.keys
-  in_keys = right.within n is_listed
+  in_keys = right.listed_in_table n is_listed
 
   inside : (q : ℕ) → In (To q) v.items → q < length m.keys
-  inside q i = known_within t m before there added.grown.nodes added.grown.listed q (written.targets q i)
+  inside q i = known_within t m before there added.growth.nodes added.growth.list_right q (written.targets q i)
 
   longer : length l.keys ≤ length m.keys
-  longer = more_length l.keys m.keys added.grown.keys_more
+  longer = more_length l.keys m.keys added.growth.keys_more
 
   pub stepped_grown : AreGrown t l (with_steps n c v w m) before here there ends more
   stepped_grown = record {
-    nodes = stepped_nodes t m n c v w added.grown.nodes (added.grown.listed.fresh n in_there) inside;
-    kept = added.grown.kept;
-    listed = record {
-      gone = added.grown.listed.gone;
-      within = added.grown.listed.within;
-      fresh = added.grown.listed.fresh;
-      new = added.grown.listed.new;
-      present = added.grown.listed.present;
-      once = added.grown.listed.once;
+    nodes = stepped_nodes t m n c v w added.growth.nodes (added.growth.list_right.listed_not_settled n in_there) inside;
+    same_outcomes = added.growth.same_outcomes;
+    list_right = record {
+      explored_in_table = added.growth.list_right.explored_in_table;
+      listed_in_table = added.growth.list_right.listed_in_table;
+      listed_not_settled = added.growth.list_right.listed_not_settled;
+      new = added.growth.list_right.new;
+      listed_have_entries = added.growth.list_right.listed_have_entries;
+      numbers_distinct = added.growth.list_right.numbers_distinct;
     };
-    keys_more = added.grown.keys_more;
-    settled_still = added.grown.settled_still;
-    list_more = added.grown.list_more;
-    ends_more = added.grown.ends_more;
+    keys_more = added.growth.keys_more;
+    settled_still = added.growth.settled_still;
+    list_more = added.growth.list_more;
+    ends_more = added.growth.ends_more;
   }
 
   pub stepped_same : AreSame (λ q. q ≡ n → ⊥) l (with_steps n c v w m)
   stepped_same = record {
-    steps = λ q h ne. steps_other m.graph n q v ne ∙ added.same.steps q h tt;
-    callees = λ q h ne. get_set_other m.callees n q c ne ∙ added.same.callees q h tt;
-    looks = λ q h ne. looks_other m.looks n q w ne ∙ added.same.looks q h tt;
+    steps = λ q h ne. steps_other m.graph n q v ne ∙ added.same_nodes.steps q h tt;
+    callees = λ q h ne. get_set_other m.callees n q c ne ∙ added.same_nodes.callees q h tt;
+    looks = λ q h ne. looks_other m.looks n q w ne ∙ added.same_nodes.looks q h tt;
   }
 
   same_key : key_at m.keys n ≡ key_at l.keys n
-  same_key = key_same l.keys m.keys n added.grown.keys_more in_keys
+  same_key = key_same l.keys m.keys n added.growth.keys_more in_keys
 
   in_graph : n < length m.graph
-  in_graph = let a : length m.graph ≡ length m.keys = added.grown.nodes.step_count in
+  in_graph = let a : length m.graph ≡ length m.keys = added.growth.nodes.step_count in
       let b : length l.keys ≤ length m.keys = longer in let h : n < length l.keys = in_keys in omega arith
 
   in_callees : n < length m.callees
-  in_callees = let a : length m.callees ≡ length m.keys = added.grown.nodes.callee_count in
+  in_callees = let a : length m.callees ≡ length m.keys = added.growth.nodes.callee_count in
       let b : length l.keys ≤ length m.keys = longer in let h : n < length l.keys = in_keys in omega arith
 
   in_looks : n < length m.looks
-  in_looks = let a : length m.looks ≡ length m.keys = added.grown.nodes.look_count in
+  in_looks = let a : length m.looks ≡ length m.keys = added.growth.nodes.look_count in
       let b : length l.keys ≤ length m.keys = longer in let h : n < length l.keys = in_keys in omega arith
 
   pub stepped_written : ((e : Entry) → entry_at t (key_at l.keys n) ≡ Some e → HasStarts e.what c)
@@ -188,14 +189,14 @@ module _ (t : Table) (l m : Listed) (before here there : List ℕ) (ends more : 
   stepped_written starts looks once = record {
     steps = subst (λ (p : Key × List Step). AreWritten t (with_steps n c v w m) before there more (key_words t p.0) p.1)
         (λ i. (sym same_key i, sym (steps_same m.graph n v in_graph) i))
-        (record { words = written.words; targets = written.targets; nowhere = written.nowhere });
-    starts = λ e callee at is. subst (HasStarts e.what) (own callee is)
+        (record { words = written.words; targets = written.targets; dead_ends_within = written.dead_ends_within });
+    part_starts = λ e callee at is. subst (HasStarts e.what) (own callee is)
         (starts e (ap (entry_at t) (sym same_key) ∙ at));
     looks = λ all. record {
       looks = subst (λ (p : Key × (List Step × List ℕ)). AreLooks t m.keys (key_words t p.0) p.1.0 p.1.1)
           (λ i. (sym same_key i, (sym (steps_same m.graph n v in_graph) i, sym (looks_same m.looks n w in_looks) i)))
           (looks (subst AllLead (steps_same m.graph n v in_graph) all));
-      once = subst (IsDistinct nat_eq) (sym (looks_same m.looks n w in_looks)) once;
+      numbers_distinct = subst (IsDistinct nat_eq) (sym (looks_same m.looks n w in_looks)) once;
     };
   }
     where
@@ -219,7 +220,7 @@ module _ (t : Table) (l m : Listed) (before here there : List ℕ) (ends more : 
         (looks_more t l.keys m.keys (key_words t (key_at l.keys x)) (steps l.graph x) (looks_of l.looks x)
         grown.keys_more
         (λ q j. known_within t l before here nodes right q (written.steps.targets q j)) own.looks);
-    once = subst (IsDistinct nat_eq) (sym same_looks) own.once;
+    numbers_distinct = subst (IsDistinct nat_eq) (sym same_looks) own.numbers_distinct;
   }
 
   pub still_written : HasOwnSteps t m before there more x
@@ -228,7 +229,8 @@ module _ (t : Table) (l m : Listed) (before here there : List ℕ) (ends more : 
         (λ j. (sym key_still j, sym same_steps j))
         (written_more t l m before here there ends more nodes right grown
         (key_words t (key_at l.keys x)) (steps l.graph x) written.steps);
-    starts = λ e callee at is. written.starts e callee (ap (entry_at t) (sym key_still) ∙ at) (sym same_callee ∙ is);
+    part_starts = λ e callee at is. written.part_starts e callee (ap (entry_at t) (sym key_still) ∙ at)
+        (sym same_callee ∙ is);
     looks = λ all. still_looked (written.looks (subst AllLead same_steps all));
   }
 
@@ -241,14 +243,16 @@ module _ (t : Table) (l m : Listed) (before here there : List ℕ) (ends more : 
 
   pub still_explored : WereExplored t m before more
   still_explored = record {
-    within = grown.listed.gone;
-    present = λ x i. subst (λ (k : Key). is_present t k ≡ true)
-        (sym (key_same l.keys m.keys x grown.keys_more (explored.within x i))) (explored.present x i);
-    written = λ x i.
-        still_written t l m before [] [] ends more x nodes (none_listed t l before [] explored.within refl)
-        (grown_alone t l m before here there ends more grown) (explored.within x i)
-        (same.steps x (explored.within x i) (apart x i)) (same.callees x (explored.within x i) (apart x i))
-        (same.looks x (explored.within x i) (apart x i)) (explored.written x i);
+    explored_in_table = grown.list_right.explored_in_table;
+    explored_have_entries = λ x i. subst (λ (k : Key). is_present t k ≡ true)
+        (sym (key_same l.keys m.keys x grown.keys_more (explored.explored_in_table x i)))
+        (explored.explored_have_entries x i);
+    explored_have_steps = λ x i.
+        still_written t l m before [] [] ends more x nodes (none_listed t l before [] explored.explored_in_table refl)
+        (grown_alone t l m before here there ends more grown) (explored.explored_in_table x i)
+        (same.steps x (explored.explored_in_table x i) (apart x i))
+        (same.callees x (explored.explored_in_table x i) (apart x i))
+        (same.looks x (explored.explored_in_table x i) (apart x i)) (explored.explored_have_steps x i);
   }
 
 -- ---- the state of the loop
@@ -298,19 +302,20 @@ module _ (t : Table) (old now m : Listed) (before here list there : List ℕ) (e
 
   pub explored_next : WereExplored t m before most
   explored_next = still_explored t now m before list there more most n s.grown.nodes grown same
-      (s.grown.listed.new n listed_now) s.explored
+      (s.grown.list_right.new n listed_now) s.explored
 
   pub stay_next : HaveSameSteps before old m
   stay_next x i =
-      same.steps x (s.explored.within x i) (λ e. s.grown.listed.new n listed_now (subst (λ (y : ℕ). In y before) e i))
+      same.steps x (s.explored.explored_in_table x i)
+      (λ e. s.grown.list_right.new n listed_now (subst (λ (y : ℕ). In y before) e i))
       ∙ s.stay x i
 
   gone_old : (x : ℕ) → In x (take place list) → HasOwnSteps t m before there most x
   gone_old x i =
-      let ne : x ≡ n → ⊥ = (λ q. distinct_at list place n s.grown.listed.once is
+      let ne : x ≡ n → ⊥ = (λ q. distinct_at list place n s.grown.list_right.numbers_distinct is
       (subst (λ (y : ℕ). In y (take place list)) q i)) in
-      let h : x < length now.keys = s.grown.listed.within x (in_take place list x i) in
-      still_written t now m before list there more most x s.grown.nodes s.grown.listed grown h
+      let h : x < length now.keys = s.grown.list_right.listed_in_table x (in_take place list x i) in
+      still_written t now m before list there more most x s.grown.nodes s.grown.list_right grown h
       (same.steps x h ne) (same.callees x h ne) (same.looks x h ne) (s.gone x i)
 
   enough : place < length list
@@ -347,7 +352,7 @@ pub exploring_end : (t : Table) (old now : Listed) (before here list : List ℕ)
     → IsExploring t old now before here list ends more place → length list ≤ place
     → AreAllExplored t now before list more
 exploring_end t old now before here list ends more place s all = record {
-  listed = s.grown.listed;
-  explored = s.explored;
-  written = λ n i. s.gone n (subst (λ (xs : List ℕ). In n xs) (sym (take_all place list all)) i);
+  list_right = s.grown.list_right;
+  earlier_explored = s.explored;
+  listed_have_steps = λ n i. s.gone n (subst (λ (xs : List ℕ). In n xs) (sym (take_all place list all)) i);
 }

@@ -8,7 +8,7 @@ use Rattle.table_names.specs.Faults.{key_fault, name_fault}
 use Rattle.table_names.specs.Reach.{key_reach, reach}
 use Rattle.live_table.specs.Runs.{RunLaw, RunStepsLaw}
 use Rattle.live_table.specs.TableView.{IsAfterEvents, IsCutOff, Shown, state_with_steps}
-use Rattle.live_table.specs.States.{AsksKey, AsksWords, Becomes, Event, TableState, after, after_all, after_query}
+use Rattle.live_table.specs.States.{AsksKey, AsksWords, Becomes, Event, TableState, after_all, after_event, after_query}
 use Rattle.live_table.proofs.Events.{order_law}
 use Rattle.live_table.proofs.QuerySequence.{cut_both, follows_both, follows_none, further_counts, made_counts}
 use Rattle.live_table.proofs.QuerySequence.{steps_rise}
@@ -22,17 +22,17 @@ steps_both es fs s = ap (λ (s : TableState). s.steps) (order_law es fs s)
 cut_before : (es fs : List Event) (a b : Shown) (n m : ℕ) → IsCutOff es a b n m → IsCutOff (es ++ fs) a b n m
 cut_before es fs a b n m q = record {
   deck = q.deck;
-  right = q.right;
-  least = q.least;
-  most =
+  is_right = q.is_right;
+  steps_least = q.steps_least;
+  steps_most =
       let x : (after_all (es ++ fs) (state_with_steps a n)).steps
       ≡ (after_all fs (after_all es (state_with_steps a n))).steps =
       steps_both es fs (state_with_steps a n) in
       let y : (after_all es (state_with_steps a n)).steps ≤ (after_all fs (after_all es (state_with_steps a n))).steps =
       steps_rise fs (after_all es (state_with_steps a n)) in
-      let z : m ≤ (after_all es (state_with_steps a n)).steps = q.most in
+      let z : m ≤ (after_all es (state_with_steps a n)).steps = q.steps_most in
       omega arith;
-  counted = λ can.
+  reductions_counted = λ can.
       let part = further_counts es fs a b n m q can in
       let x : (after_all (es ++ fs) (state_with_steps a n)).reductions
       ≡ (after_all fs (after_all es (state_with_steps a n))).reductions =
@@ -51,21 +51,21 @@ cut_behind es fs a b c n m k same p q =
 cut_after : (es : List Event) (a b : Shown) (n m : ℕ) → b.deck ≡ a.deck → IsAfterEvents es a b n m → IsCutOff es a b n m
 cut_after es a b n m same p = record {
   deck = same;
-  right = p.right;
-  least =
+  is_right = p.is_right;
+  steps_least =
       let x : n ≤ (after_all es (state_with_steps a n)).steps = steps_rise es (state_with_steps a n) in
       let y : m ≡ (after_all es (state_with_steps a n)).steps = ap (λ (s : TableState). s.steps) p.stands in
       omega arith;
-  most = let y : m ≡ (after_all es (state_with_steps a n)).steps = ap (λ (s : TableState). s.steps) p.stands in
+  steps_most = let y : m ≡ (after_all es (state_with_steps a n)).steps = ap (λ (s : TableState). s.steps) p.stands in
       omega arith;
-  counted = made_counts es a b n m p;
+  reductions_counted = made_counts es a b n m p;
 }
 
 -- the law of runs
 pub run_law : RunLaw
 run_law = record {
-  none = follows_none;
-  both = follows_both;
+  empty_run = follows_none;
+  run_append = follows_both;
   cut_before = cut_before;
   cut_behind = cut_behind;
   cut_between = λ es fs a b n m same p. cut_before es fs a b n m (cut_after es a b n m same p);
@@ -86,7 +86,7 @@ query_later true keys n s = ap (λ k. record (after_query true keys s) { steps =
 query_later false keys n s = refl
 
 -- an event has the same effect at a later count
-event_later : (e : Event) (n : ℕ) (s : TableState) → after e (later n s) ≡ later n (after e s)
+event_later : (e : Event) (n : ℕ) (s : TableState) → after_event e (later n s) ≡ later n (after_event e s)
 event_later (AsksWords words) n s = query_later (is_none (name_fault s.table words)) (reach s.table words) n s
 event_later (AsksKey k) n s = query_later (is_none (key_fault s.table k)) (k ∷ key_reach s.table k) n s
 event_later (Becomes t) n s = refl
@@ -94,7 +94,7 @@ event_later (Becomes t) n s = refl
 -- events have the same effect at a later count
 all_later : (es : List Event) (n : ℕ) (s : TableState) → after_all es (later n s) ≡ later n (after_all es s)
 all_later [] n s = refl
-all_later (e ∷ es) n s = ap (after_all es) (event_later e n s) ∙ all_later es n (after e s)
+all_later (e ∷ es) n s = ap (after_all es) (event_later e n s) ∙ all_later es n (after_event e s)
 
 -- a state with previous steps is a state at a later count
 counted_before : (s : Shown) (n : ℕ) → state_with_steps s n ≡ later n (state_with_steps s 0)

@@ -32,7 +32,7 @@ count_more r n m e = omega (arith, e)
 put_more : (s : Shown) (ks : List Key) (k : Key) → put_in (put_in s ks) (k ∷ []) ≡ put_in s (ks ++ k ∷ [])
 put_more s ks k = λ i. record {
   deck = s.deck;
-  kept = with_more (table s.deck) ks k s.kept i;
+  kept_outcomes = with_more (table s.deck) ks k s.kept_outcomes i;
   reductions = count_more s.reductions (length ks) (length (ks ++ k ∷ [])) (length-append ks (k ∷ [])) i;
 }
 
@@ -40,7 +40,7 @@ put_more s ks k = λ i. record {
 put_none : (s : Shown) → s.reductions ≤ 2 ^ 64 - 1 → put_in s [] ≡ s
 put_none s h =
     let e : min (2 ^ 64 - 1) (s.reductions + 0) ≡ s.reductions = omega (arith, h) in
-    λ i. record { deck = s.deck; kept = s.kept; reductions = e i }
+    λ i. record { deck = s.deck; kept_outcomes = s.kept_outcomes; reductions = e i }
 
 -- an item of a mapped list is the image of the item at its place
 get_map : {A B : Type 0} (f : A → B) (xs : List A) (i : ℕ) (x : A) → slice_get xs i ≡ Some x
@@ -66,7 +66,7 @@ standing_start deck old r order before sound due = record {
   sound = sound;
   keys = refl;
   due = due;
-  put = sym (put_none (shown_table deck old r) sound.few);
+  put = sym (put_none (shown_table deck old r) sound.few_reductions);
   steps = omega arith;
 }
 

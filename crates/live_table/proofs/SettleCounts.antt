@@ -5,7 +5,7 @@ use Rattle.def_entry.specs.declared.key.Key.{Key}
 use Rattle.table_names.specs.Faults.{key_fault, name_fault}
 use Rattle.table_names.specs.Reach.{key_reach, reach}
 use Rattle.live_table.specs.TableView.{Shown, state_with_steps}
-use Rattle.live_table.specs.States.{AsksKey, AsksWords, Becomes, Event, TableState, after, after_all, after_query}
+use Rattle.live_table.specs.States.{AsksKey, AsksWords, Becomes, Event, TableState, after_all, after_event, after_query}
 use Rattle.live_table.specs.Runs.{CountLaw}
 
 -- a count that a live table can have, and that is not lower than before
@@ -21,7 +21,7 @@ query_counts : (b : Bool) (keys : List Key) (before : ℕ) (s : TableState) → 
 query_counts true keys before s h = more before s.reductions _ h.0 h.1
 query_counts false keys before s h = h
 
-event_counts : (e : Event) (before : ℕ) (s : TableState) → Counts before s → Counts before (after e s)
+event_counts : (e : Event) (before : ℕ) (s : TableState) → Counts before s → Counts before (after_event e s)
 event_counts (AsksWords words) before s h =
     query_counts (is_none (name_fault s.table words)) (reach s.table words) before s h
 event_counts (AsksKey k) before s h =
@@ -30,7 +30,7 @@ event_counts (Becomes later) before s h = h
 
 all_count : (es : List Event) (before : ℕ) (s : TableState) → Counts before s → Counts before (after_all es s)
 all_count [] before s h = h
-all_count (e ∷ es) before s h = all_count es before (after e s) (event_counts e before s h)
+all_count (e ∷ es) before s h = all_count es before (after_event e s) (event_counts e before s h)
 
 -- events never lower the count of a table, and leave it a count that a live table can have
 pub counts_rise : (es : List Event) (s : TableState) → s.reductions ≤ 2 ^ 64 - 1

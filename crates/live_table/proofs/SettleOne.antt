@@ -56,15 +56,23 @@ use Rattle.live_table.proofs.ToldWords.{IsLedBy}
 -- outcomes that are right do not depend on the counts
 pub right_anyhow : (deck : Contents) (l : Listed) (r q : ℕ) → IsRightTable (shown_table deck l r)
     → IsRightTable (shown_table deck l q)
-right_anyhow deck l r q h = record { present = h.present; closed = h.closed; below = h.below; right = h.right }
+right_anyhow deck l r q h =
+    record {
+      settled_have_entries = h.settled_have_entries;
+      settled_closed = h.settled_closed;
+      reached_settled =
+          h.reached_settled;
+      outcomes_right = h.outcomes_right;
+    }
 
 -- a settled number that is queried
-pub function_surrounded : (deck : Contents) (l : Listed) (r : ℕ) → IsSound deck l r → (n : ℕ) → IsSettled l.settled n
+pub function_surrounded : (deck : Contents) (l : Listed) (r : ℕ) → IsSound deck l r → (n : ℕ)
+    → IsSettled l.settled_flags n
     → IsSurrounding deck l (Name n)
 function_surrounded deck l r sound n e = record {
   numbers = sound.numbers;
-  right = right_anyhow deck l r 0 sound.right;
-  subject = at_hand_settled deck l sound.numbers (right_anyhow deck l r 0 sound.right) n e;
+  is_right = right_anyhow deck l r 0 sound.is_right;
+  subject = at_hand_settled deck l sound.numbers (right_anyhow deck l r 0 sound.is_right) n e;
 }
 
 -- the data of a function do not change except for its rank
@@ -90,11 +98,11 @@ module _ (s : Shown) (k : Key) (right : IsRightTable s) (there : is_present (tab
       → ((x : Key) → WordsLeadTo (table s.deck) words x → right_of.IsKeySettled before x)
       → right_of.IsKeySettled before m
   all_reached {m = m} (leads.at_once h) f = f m h
-  all_reached {m = m} (leads.further {n = n} h r) f = right.below n m (f n h) r
+  all_reached {m = m} (leads.further {n = n} h r) f = right.reached_settled n m (f n h) r
 
   is_new : AreNew before reached (k ∷ [])
   unfolding IsDistinct
-  is_new = record { exactly = λ m. (to m, from m); once = (tt, tt) }
+  is_new = record { unsettled_names = λ m. (to m, from m); names_distinct = (tt, tt) }
     where
       to : (m : Key) → Contains (k ∷ []) m → Contains reached m × (right_of.IsKeySettled before m → ⊥)
       to m i = elim (member_cases m k [] i) [
@@ -110,7 +118,7 @@ module _ (s : Shown) (k : Key) (right : IsRightTable s) (there : is_present (tab
       from m h = elim (member_cases m k (key_reach (table s.deck) k) h.0) [
         | inl e ↦ member_first m k [] e
         | inr j ↦ absurd (h.1 (all_reached
-            ((reach_law.listed (table s.deck) (key_words (table s.deck) k)
+            ((reach_law.reached_words (table s.deck) (key_words (table s.deck) k)
             ((closed_law.key (table s.deck) k).0 closed) m).0 j) below))
       ]
 
@@ -121,7 +129,13 @@ module _ (s : Shown) (k : Key) (right : IsRightTable s) (there : is_present (tab
       let settles : IsRight (with_settled reached before) =
       subst (λ (b : Bool). IsRight (after_query b reached before)) (ap is_none closed) asked in
       let h = subst IsRight (new_law before reached (k ∷ []) right is_new) settles in
-      record { present = h.present; closed = h.closed; below = h.below; right = h.right }
+      record {
+        settled_have_entries = h.settled_have_entries;
+        settled_closed = h.settled_closed;
+        reached_settled =
+            h.reached_settled;
+        outcomes_right = h.outcomes_right;
+      }
 
 -- the outcome of a name was stored with its rank, and one more was counted
 pub record IsPut (deck : Contents) (l : Listed) (r n : ℕ) (o : Outcome) (rank now : ℕ) (later : Listed) : Type 0 where
@@ -138,14 +152,14 @@ module _ (deck : Contents) (l : Listed) (r n : ℕ) (sound : IsSound deck l r) (
   pub surrounded : IsSurrounding deck l (Name n)
   surrounded = record {
     numbers = sound.numbers;
-    right = right_anyhow deck l r 0 sound.right;
+    is_right = right_anyhow deck l r 0 sound.is_right;
     subject = record {
-      within = due.within;
-      present = due.present;
-      closed = due.closed;
-      below = due.below;
+      in_table = due.in_table;
+      key_has_entry = due.key_has_entry;
+      key_closed = due.key_closed;
+      targets_settled = due.targets_settled;
       faithful = due.faithful;
-      starts = due.starts;
+      part_starts = due.part_starts;
     };
   }
 
@@ -160,26 +174,26 @@ module _ (deck : Contents) (l : Listed) (r n : ℕ) (sound : IsSound deck l r) (
       let h : IsLedBy (scene deck l (Name n)) u (steps l.graph n) i.0 =
       led_by deck l (Name n) surrounded (key_words (table deck) the_key) (steps l.graph n)
       (key_settled_words deck l (Name n) surrounded n surrounded.subject) i.0 u at in
-      by h.n h.m h.led h.led.are
+      by h.n h.m h.led h.led.single_target
     where
       by : (x y : ℕ) → IsLed (scene deck l (Name n)) u x y → ((targets (table deck) u ≡ key_at l.keys x ∷ []) ×
           (x ≡ y)) ⊎ (targets (table deck) u ≡ key_at l.keys x ∷ key_at l.keys y ∷ []) → Settled m
       by x y led (inl e) = elim (member_cases m (key_at l.keys x) [] (subst (λ (ks : List Key). Contains ks m) e.0 t)) [
-        | inl q ↦ subst Settled (sym q) (key_settled deck l r sound.numbers x led.first)
+        | inl q ↦ subst Settled (sym q) (key_settled deck l r sound.numbers x led.user_settled)
         | inr j ↦ absurd (no_member m j)
       ]
       by x y led (inr e) = elim (member_cases m (key_at l.keys x) (key_at l.keys y ∷ [])
           (subst (λ (ks : List Key). Contains ks m) e t)) [
-            | inl q ↦ subst Settled (sym q) (key_settled deck l r sound.numbers x led.first)
+            | inl q ↦ subst Settled (sym q) (key_settled deck l r sound.numbers x led.user_settled)
             | inr j ↦ elim (member_cases m (key_at l.keys y) [] j) [
-              | inl q ↦ subst Settled (sym q) (key_settled deck l r sound.numbers y led.second)
+              | inl q ↦ subst Settled (sym q) (key_settled deck l r sound.numbers y led.target_settled)
               | inr z ↦ absurd (no_member m z)
             ]
           ]
 
   not_settled : right_of.IsKeySettled (state_with_steps (shown_table deck l r) 0) the_key → ⊥
   not_settled e = let z : Some false ≡ Some true =
-      sym due.fresh ∙ number_settled deck l r sound.numbers n due.within e in cc
+      sym due.still_unsettled ∙ number_settled deck l r sound.numbers n due.in_table e in cc
 
   module _ (o : Outcome) (c : Callee) (now : ℕ) (is : o ≡ outcome (table deck) the_key)
       (starts : (e : Entry) → entry_at (table deck) the_key ≡ Some e → HasStarts e.what c)
@@ -189,55 +203,57 @@ module _ (deck : Contents) (l : Listed) (r n : ℕ) (sound : IsSound deck l r) (
     after = with_outcome n o c l
 
     abbrev Known : ℕ → Type 0
-    Known m = (m ≡ n) ⊎ ((m ≡ n → ⊥) × IsSettled l.settled m)
+    Known m = (m ≡ n) ⊎ ((m ≡ n → ⊥) × IsSettled l.settled_flags m)
 
     pub shown_after : shown_table deck (with_outcome n o c l) now ≡ put_in (shown_table deck l r) (the_key ∷ [])
     shown_after = λ i. record {
       deck = deck;
-      kept = (put_at l.keys l.outcomes n o sound.numbers.apart due.within
-          (no_outcome l.outcomes n (sym (ap (λ (bs : List Bool). slice_get bs n) sound.numbers.marked) ∙ due.fresh))
+      kept_outcomes = (put_at l.keys l.outcomes n o sound.numbers.numbers_apart due.in_table
+          (no_outcome l.outcomes n (sym (ap (λ (bs : List Bool). slice_get bs n) sound.numbers.marks_right)
+          ∙ due.still_unsettled))
           ∙ ap (map_of.insert (kept_of l.keys l.outcomes) the_key) is) i;
       reductions = count i;
     }
 
-    set_there : (m : ℕ) → IsSettled l.settled m → IsSettled (set l.settled n true) m
+    set_there : (m : ℕ) → IsSettled l.settled_flags m → IsSettled (set l.settled_flags n true) m
     set_there m e = elim (cases_eq m n) [
       | inl q ↦
-          ap (slice_get (set l.settled n true)) q ∙ get_set_same l.settled n true (get_lt l.settled n false due.fresh)
-      | inr ne ↦ get_set_other l.settled n m true ne ∙ e
+          ap (slice_get (set l.settled_flags n true)) q ∙ get_set_same l.settled_flags n true
+          (get_lt l.settled_flags n false due.still_unsettled)
+      | inr ne ↦ get_set_other l.settled_flags n m true ne ∙ e
     ]
 
-    set_from : (m : ℕ) → IsSettled (set l.settled n true) m → Known m
+    set_from : (m : ℕ) → IsSettled (set l.settled_flags n true) m → Known m
     set_from m e =
-        elim (cases_eq m n) [ inl q ↦ inl q | inr ne ↦ inr (ne, sym (get_set_other l.settled n m true ne) ∙ e) ]
+        elim (cases_eq m n) [ inl q ↦ inl q | inr ne ↦ inr (ne, sym (get_set_other l.settled_flags n m true ne) ∙ e) ]
 
     ends_of : (m : ℕ) → Known m → walk.IsClosedName l.graph m × ((q : ℕ) → LeadsTo l.graph m q → IsSettled
-        (set l.settled n true) q)
+        (set l.settled_flags n true) q)
     ends_of m (inl e) =
         subst (λ (x : ℕ). walk.IsClosedName l.graph x
-        × ((q : ℕ) → LeadsTo l.graph x q → IsSettled (set l.settled n true)
+        × ((q : ℕ) → LeadsTo l.graph x q → IsSettled (set l.settled_flags n true)
         q)) (sym e)
-        (due.ends, λ q h. set_there q (due.below q h))
+        (due.name_closed, λ q h. set_there q (due.targets_settled q h))
     ends_of m (inr e) =
-        ((sound.numbers.net.settled m e.1).0, λ q h. set_there q ((sound.numbers.net.settled m e.1).1 q h))
+        ((sound.numbers.net.settled_right m e.1).0, λ q h. set_there q ((sound.numbers.net.settled_right m e.1).1 q h))
 
     present_of : (m : ℕ) → Known m → is_present (table deck) (key_at l.keys m) ≡ true
-    present_of m (inl e) = subst (λ (x : ℕ). is_present (table deck) (key_at l.keys x) ≡ true) (sym e) due.present
-    present_of m (inr e) = sound.numbers.present m e.1
+    present_of m (inl e) = subst (λ (x : ℕ). is_present (table deck) (key_at l.keys x) ≡ true) (sym e) due.key_has_entry
+    present_of m (inr e) = sound.numbers.settled_have_entries m e.1
 
     faithful_of : (m : ℕ) → Known m → IsFaithful (table deck) l m
     faithful_of m (inl e) = subst (IsFaithful (table deck) l) (sym e) due.faithful
     faithful_of m (inr e) = sound.numbers.faithful m e.1
 
     callee_there : slice_get (set l.callees n c) n ≡ Some c
-    callee_there = get_set_same l.callees n c (let a : n < length l.keys = due.within in let b : length l.callees ≡
+    callee_there = get_set_same l.callees n c (let a : n < length l.keys = due.in_table in let b : length l.callees ≡
         length l.keys = sound.numbers.callee_count in omega arith)
 
     starts_of : (m : ℕ) → Known m → HasStartsOf (table deck) after m
     starts_of m (inl e) = subst (HasStartsOf (table deck) after) (sym e)
         (λ x d entry at. subst (HasStarts x.what) (some_same c d (sym callee_there ∙ at)) (starts x entry))
     starts_of m (inr e) =
-        λ x d entry at. sound.numbers.starts m e.1 x d entry (sym (get_set_other l.callees n m c e.0) ∙ at)
+        λ x d entry at. sound.numbers.part_starts m e.1 x d entry (sym (get_set_other l.callees n m c e.0) ∙ at)
 
     rank_of : (m : ℕ) → Known m → HasRankOf (table deck) after m
     rank_of m (inl e) = subst (HasRankOf (table deck) after) (sym e)
@@ -246,7 +262,7 @@ module _ (deck : Contents) (l : Listed) (r n : ℕ) (sound : IsSound deck l r) (
 
     looked_of : (m : ℕ) → Known m → HasLooksOf (table deck) l m
     looked_of m (inl e) = subst (HasLooksOf (table deck) l) (sym e) due.looks
-    looked_of m (inr e) = sound.numbers.looked m e.1
+    looked_of m (inr e) = sound.numbers.settled_looks m e.1
 
     nodes_after : AreNumberedNames (table deck) (with_outcome n o c l)
     nodes_after = record {
@@ -254,44 +270,46 @@ module _ (deck : Contents) (l : Listed) (r n : ℕ) (sound : IsSound deck l r) (
       outcome_count = length-set l.outcomes n (Some o) ∙ sound.numbers.outcome_count;
       callee_count = length-set l.callees n c ∙ sound.numbers.callee_count;
       look_count = sound.numbers.look_count;
-      flagged = sound.numbers.flagged;
-      counted = ap (λ k. k + 1) sound.numbers.counted ∙ sym (count_set l.settled n due.fresh);
-      marked =
-          ap (λ (bs : List Bool). set bs n true) sound.numbers.marked ∙ sym (map-set is_some l.outcomes n (Some o));
-      apart = sound.numbers.apart;
+      flags_right = sound.numbers.flags_right;
+      count_right = ap (λ k. k + 1) sound.numbers.count_right ∙ sym (count_set l.settled_flags n due.still_unsettled);
+      marks_right =
+          ap (λ (bs : List Bool). set bs n true) sound.numbers.marks_right
+          ∙ sym (map-set is_some l.outcomes n (Some o));
+      numbers_apart = sound.numbers.numbers_apart;
       net = record {
-        range = sound.numbers.net.range;
-        size = length-set l.settled n true ∙ sound.numbers.net.size;
-        settled = λ m e. ends_of m (set_from m e);
+        steps_in_range = sound.numbers.net.steps_in_range;
+        mark_per_name = length-set l.settled_flags n true ∙ sound.numbers.net.mark_per_name;
+        settled_right = λ m e. ends_of m (set_from m e);
       };
-      present = λ m e. present_of m (set_from m e);
+      settled_have_entries = λ m e. present_of m (set_from m e);
       faithful = λ m e. faithful_of m (set_from m e);
-      starts = λ m e. starts_of m (set_from m e);
+      part_starts = λ m e. starts_of m (set_from m e);
       ranks = λ m e. rank_of m (set_from m e);
-      looked = λ m e.
+      settled_looks = λ m e.
           let h = looked_of m (set_from m e) in
-          record { looks = h.looks; once = h.once };
+          record { looks = h.looks; numbers_distinct = h.numbers_distinct };
     }
 
     pub sound_after : IsSound deck (with_outcome n o c l) now
     sound_after = record {
       numbers = nodes_after;
-      right = subst IsRightTable (sym shown_after) (put_right (shown_table deck l r) the_key sound.right due.present
-          due.closed below_by_name not_settled);
-      few = omega (arith, count);
+      is_right = subst IsRightTable (sym shown_after)
+          (put_right (shown_table deck l r) the_key sound.is_right due.key_has_entry
+          due.key_closed below_by_name not_settled);
+      few_reductions = omega (arith, count);
     }
 
   -- the previous data of a function, with its rank
   module _ (o : Outcome) (rank now : ℕ) (later : Listed) (is : IsPut deck l r n o rank now later) where
     old_callee : (c : Callee) × (slice_get l.callees n ≡ Some c)
-    old_callee = element l.callees n (let a : n < length l.keys = due.within in let b : length l.callees ≡ length
+    old_callee = element l.callees n (let a : n < length l.keys = due.in_table in let b : length l.callees ≡ length
         l.keys = sound.numbers.callee_count in omega arith)
 
     later_is : later ≡ with_outcome n o (with_rank rank old_callee.0) l
     later_is = is.put old_callee.0 old_callee.1
 
     starts_are : (e : Entry) → entry_at (table deck) the_key ≡ Some e → HasStarts e.what (with_rank rank old_callee.0)
-    starts_are e entry = due.starts e old_callee.0 entry old_callee.1
+    starts_are e entry = due.part_starts e old_callee.0 entry old_callee.1
 
     pub settled_sound : IsSound deck later now
     settled_sound = subst (λ (x : Listed). IsSound deck x now) (sym later_is)

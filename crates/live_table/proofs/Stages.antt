@@ -83,7 +83,7 @@ pub record IsSettledAfter (s : Stages) (query : List Step) (now : Listed) (count
 
 -- the names that are known in the last stage
 abbrev pub known_there : Stages → ℕ → Bool
-known_there s = is_known s.explored.settled s.before s.there
+known_there s = is_known s.explored.settled_flags s.before s.there
 
 module _ (s : Stages) (are : AreStages s) where
   -- the last stage adds to the first
@@ -119,6 +119,6 @@ module _ (s : Stages) (are : AreStages s) where
 
 -- if all names are explored, those known by number are known by name
 pub explored_there : (s : Stages) → AreAllStages s
-    → AreExplored (table s.deck) s.explored s.more (is_known s.explored.settled s.before s.there)
+    → AreExplored (table s.deck) s.explored s.more (is_known s.explored.settled_flags s.before s.there)
 explored_there s are =
     explored_all (table s.deck) s.explored s.before s.there s.more are.stages.second.nodes are.all

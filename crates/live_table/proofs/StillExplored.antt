@@ -26,7 +26,12 @@ pub none_explored : (t : Table) (l : Listed) (names : List ℕ) (ends : List Dea
     → WereExplored t l names ends
 none_explored t l names ends e =
     subst (λ (ns : List ℕ). WereExplored t l ns ends) (sym e)
-    (record { within = λ n i. absurd i; present = λ n i. absurd i; written = λ n i. absurd i })
+    (record {
+      explored_in_table = λ n i. absurd i;
+      explored_have_entries = λ n i. absurd i;
+      explored_have_steps = λ n i.
+          absurd i;
+    })
 
 -- written steps stay written when more names are known
 pub written_wider : (t : Table) (l : Listed) (before list names more : List ℕ) (ends : List DeadEnd) (n : ℕ)
@@ -36,9 +41,9 @@ written_wider t l before list names more ends n wider w = record {
   steps = record {
     words = w.steps.words;
     targets = λ m i. wider m (w.steps.targets m i);
-    nowhere = w.steps.nowhere;
+    dead_ends_within = w.steps.dead_ends_within;
   };
-  starts = w.starts;
+  part_starts = w.part_starts;
   looks = w.looks;
 }
 
@@ -47,14 +52,16 @@ pub added_explored : (t : Table) (l m : Listed) (before here there : List ℕ) (
     → AreNumberedNames t l
     → AreAdded t l m before here there ends more → WereExplored t l before ends → WereExplored t m before more
 added_explored t l m before here there ends more nodes added were = record {
-  within = added.grown.listed.gone;
-  present = λ n i. subst (λ (k : Key). is_present t k ≡ true)
-      (sym (key_same l.keys m.keys n added.grown.keys_more (were.within n i))) (were.present n i);
-  written = λ n i.
-      still_written t l m before [] [] ends more n nodes (none_listed t l before [] were.within refl)
-      (grown_alone t l m before here there ends more added.grown) (were.within n i)
-      (added.same.steps n (were.within n i) tt) (added.same.callees n (were.within n i) tt)
-      (added.same.looks n (were.within n i) tt) (were.written n i);
+  explored_in_table = added.growth.list_right.explored_in_table;
+  explored_have_entries = λ n i. subst (λ (k : Key). is_present t k ≡ true)
+      (sym (key_same l.keys m.keys n added.growth.keys_more (were.explored_in_table n i)))
+      (were.explored_have_entries n i);
+  explored_have_steps = λ n i.
+      still_written t l m before [] [] ends more n nodes (none_listed t l before [] were.explored_in_table refl)
+      (grown_alone t l m before here there ends more added.growth) (were.explored_in_table n i)
+      (added.same_nodes.steps n (were.explored_in_table n i) tt)
+      (added.same_nodes.callees n (were.explored_in_table n i) tt)
+      (added.same_nodes.looks n (were.explored_in_table n i) tt) (were.explored_have_steps n i);
 }
 
 -- ---- explored names stay explored when a name is settled
@@ -63,12 +70,13 @@ module _ (t : Table) (l : Listed) (n : ℕ) (o : Outcome) (rank : ℕ) (c : Call
   abbrev after : Listed
   after = with_outcome n o (with_rank rank c) l
 
-  settled_still : (m : ℕ) → IsSettled l.settled m → IsSettled (set l.settled n true) m
+  settled_still : (m : ℕ) → IsSettled l.settled_flags m → IsSettled (set l.settled_flags n true) m
   settled_still m e = elim (cases_eq m n) [
     | inl q ↦
-        ap (slice_get (set l.settled n true)) q
-        ∙ get_set_same l.settled n true (get_lt l.settled n true (ap (slice_get l.settled) (sym q) ∙ e))
-    | inr ne ↦ get_set_other l.settled n m true ne ∙ e
+        ap (slice_get (set l.settled_flags n true)) q
+        ∙ get_set_same l.settled_flags n true
+        (get_lt l.settled_flags n true (ap (slice_get l.settled_flags) (sym q) ∙ e))
+    | inr ne ↦ get_set_other l.settled_flags n m true ne ∙ e
   ]
 
   known_after : (m : ℕ) → IsKnown l before [] m → IsKnown after before [] m
@@ -91,17 +99,17 @@ module _ (t : Table) (l : Listed) (n : ℕ) (o : Outcome) (rank : ℕ) (c : Call
     steps = record {
       words = w.steps.words;
       targets = λ q i. known_after q (w.steps.targets q i);
-      nowhere = w.steps.nowhere;
+      dead_ends_within = w.steps.dead_ends_within;
     };
-    starts = starts_after m w.starts;
-    looks = λ all. let own = w.looks all in record { looks = own.looks; once = own.once };
+    part_starts = starts_after m w.part_starts;
+    looks = λ all. let own = w.looks all in record { looks = own.looks; numbers_distinct = own.numbers_distinct };
   }
 
   explored_after : WereExplored t (with_outcome n o (with_rank rank c) l) before ends
   explored_after = record {
-    within = were.within;
-    present = were.present;
-    written = λ m i. written_after m (were.written m i);
+    explored_in_table = were.explored_in_table;
+    explored_have_entries = were.explored_have_entries;
+    explored_have_steps = λ m i. written_after m (were.explored_have_steps m i);
   }
 
 -- explored names stay explored when a name is settled, whatever the data of a function there
@@ -127,10 +135,19 @@ module _ (t : Table) (l : Listed) (before list names : List ℕ) (ends : List De
 
   pub put_explored : WereExplored t l names ends
   put_explored = record {
-    within = λ n i. elim ((same n).0 i) [ inl j ↦ all.listed.gone n j | inr j ↦ all.listed.within n j ];
-    present = λ n i. elim ((same n).0 i) [ inl j ↦ all.explored.present n j | inr j ↦ all.listed.present n j ];
-    written = λ n i. elim ((same n).0 i) [
-      | inl j ↦ written_wider t l before [] names [] ends n known_before (all.explored.written n j)
-      | inr j ↦ written_wider t l before list names [] ends n known_there (all.written n j)
+    explored_in_table = λ n i.
+        elim ((same n).0 i) [
+          | inl j ↦ all.list_right.explored_in_table n j
+          | inr j ↦ all.list_right.listed_in_table n j
+        ];
+    explored_have_entries = λ n i.
+        elim ((same n).0 i) [
+          | inl j ↦ all.earlier_explored.explored_have_entries n j
+          | inr j ↦
+              all.list_right.listed_have_entries n j
+        ];
+    explored_have_steps = λ n i. elim ((same n).0 i) [
+      | inl j ↦ written_wider t l before [] names [] ends n known_before (all.earlier_explored.explored_have_steps n j)
+      | inr j ↦ written_wider t l before list names [] ends n known_there (all.listed_have_steps n j)
     ];
   }

@@ -37,11 +37,16 @@ module _ {A : Type 0} (t : Table) (l : Listed) (ends : List DeadEnd) (fs : Fault
       → HoldsByName t l ends fs result Holds
   no_memory result e h =
       subst (λ (r : Result A Stop). HoldsByName t l ends fs r Holds) (sym e)
-      (record { answer = Err fault.OutOfMemory; named = (fault.OutOfMemory, refl, refl); holds = h })
+      (record {
+        named_answer = Err fault.OutOfMemory;
+        result_named = (fault.OutOfMemory, refl, refl);
+        answer_holds =
+            h;
+      })
 
   -- the result has no stop
   pub answers_ok : (x : A) → HoldsByName t l ends fs (Ok x) Holds → Holds (Ok x)
-  answers_ok x a = subst Holds a.named a.holds
+  answers_ok x a = subst Holds a.result_named a.answer_holds
 
   pub answered_ok : (result : Result A Stop) (x : A) → result ≡ Ok x → HoldsByName t l ends fs result Holds
       → Holds (Ok x)
@@ -50,7 +55,7 @@ module _ {A : Type 0} (t : Table) (l : Listed) (ends : List DeadEnd) (fs : Fault
   -- the result is a stop that was named
   pub answers_err : (stop : Stop) → HoldsByName t l ends fs (Err stop) Holds
       → (q : QueryFault) × IsStopFault t l ends fs stop q × Holds (Err q)
-  answers_err stop a = (a.named.0, a.named.1, subst Holds a.named.2 a.holds)
+  answers_err stop a = (a.result_named.0, a.result_named.1, subst Holds a.result_named.2 a.answer_holds)
 
   pub answered_err : (result : Result A Stop) (stop : Stop) → result ≡ Err stop
       → HoldsByName t l ends fs result Holds → (q : QueryFault) × IsStopFault t l ends fs stop q × Holds (Err q)
@@ -63,9 +68,9 @@ module _ {A : Type 0} (t : Table) (l : Listed) (ends : List DeadEnd) (fs : Fault
       → (result : Result A Stop) → result ≡ Err stop → HoldsByName t l ends fs result Holds
   passed_on {B} Part stop a whole result e =
       subst (λ (r : Result A Stop). HoldsByName t l ends fs r Holds) (sym e) (record {
-        answer = Err a.named.0;
-        named = (a.named.0, a.named.1, refl);
-        holds = whole a.named.0 (subst Part a.named.2 a.holds);
+        named_answer = Err a.result_named.0;
+        result_named = (a.result_named.0, a.result_named.1, refl);
+        answer_holds = whole a.result_named.0 (subst Part a.result_named.2 a.answer_holds);
       })
 
 -- ---- the fault of a step
@@ -76,10 +81,10 @@ module _ (t : Table) (l : Listed) (ends : List DeadEnd) (fs : Faults) (query : L
 
   pub fault_below : IsFaultBelow t l ends fs x (fault.Name name_there)
   fault_below = record {
-    known = known;
+    step_faulty = known;
     name = name_there;
-    some = ap (option_map (fault_by_name t (key_at l.keys) (fault_at ends))) of.of_step;
-    is = refl;
+    fault_found = ap (option_map (fault_by_name t (key_at l.keys) (fault_at ends))) of.of_step;
+    query_fault = refl;
   }
 
   pub first_below : fault_in t l ends query ≡ Some name_there
@@ -90,11 +95,11 @@ module _ (t : Table) (l : Listed) (ends : List DeadEnd) (fs : Faults) (query : L
       → HoldsByName t l ends fs (Err (Below x))
       (λ (answer : Result (Unit {0}) QueryFault). IsQueryAnswered t l ends query answer now now n n)
   stopped_below now n = record {
-    answer = Err (fault.Name name_there);
-    named = (fault.Name name_there, fault_below, refl);
-    holds = (
-      record { fault = of.fault_there; some = of.of_query; by_name = refl },
-      record { shown = refl; steps = refl },
+    named_answer = Err (fault.Name name_there);
+    result_named = (fault.Name name_there, fault_below, refl);
+    answer_holds = (
+      record { fault = of.fault_there; is_fault = of.of_query; by_name = refl },
+      record { table_after = refl; steps = refl },
     );
   }
 
@@ -118,14 +123,14 @@ module _ (t : Table) (l : Listed) (ends : List DeadEnd) (fs : Faults) where
 
   pub below_known : (x : Step) (stop : Stop) → stop ≡ Below x → (q : QueryFault) → IsStopFault t l ends fs stop q
       → IsFaultyStep fs x
-  below_known x stop e q is = (subst (λ (s : Stop). IsStopFault t l ends fs s q) e is).known
+  below_known x stop e q is = (subst (λ (s : Stop). IsStopFault t l ends fs s q) e is).step_faulty
 
   pub below_named : (x : Step) (stop : Stop) → stop ≡ Below x → (r : Result NameFault AllocError)
       → IfOk r (λ f. fault_in t l ends (x ∷ []) ≡ Some f)
       → IfOk r (λ f. (q : QueryFault) → IsStopFault t l ends fs stop q → q ≡ fault.Name f)
   below_named x stop e (Ok f) h =
       λ q is. let below = subst (λ (s : Stop). IsStopFault t l ends fs s q) e is in
-      below.is ∙ ap fault.Name (some_same below.name f (sym below.some ∙ h))
+      below.query_fault ∙ ap fault.Name (some_same below.name f (sym below.fault_found ∙ h))
   below_named x stop e (Err z) h = h
 
 -- ---- a query that is cut before a word that leads nowhere
@@ -133,16 +138,16 @@ pub cut_below : (t : Table) (l : Listed) (ends : List DeadEnd) (fs : Faults) (qu
     (x : Step) → IsQueryFault l.graph query x → IsFaultyStep fs x → IsCutStop t l ends fs query end (Below x)
 cut_below t l ends fs query end x of known = record {
   name = fault_by_name t (key_at l.keys) (fault_at ends) of.fault_there;
-  named = fault_below t l ends fs query x of known;
-  first = ap (λ (o : Option NameFault). fault_before o end) (first_below t l ends fs query x of known);
+  stop_named = fault_below t l ends fs query x of known;
+  fault_first = ap (λ (o : Option NameFault). fault_before o end) (first_below t l ends fs query x of known);
 }
 
 pub cut_at : (t : Table) (l : Listed) (ends : List DeadEnd) (fs : Faults) (query : List Step) (end : DeadEnd)
     → walk.steps_fault l.graph [] query ≡ None → IsCutStop t l ends fs query end (At end)
 cut_at t l ends fs query end none = record {
   name = dead_end_fault (Some end) None;
-  named = refl;
-  first = ap (λ (o : Option walk.NameFault).
+  stop_named = refl;
+  fault_first = ap (λ (o : Option walk.NameFault).
       fault_before (option_map (fault_by_name t (key_at l.keys) (fault_at ends)) o) end)
       none;
 }
@@ -176,7 +181,8 @@ module _ {A : Type 0} (event : Event) (name : Option NameFault) (Given : A → T
 named_memory : (t : Table) (l : Listed) (ends : List DeadEnd) (fs : Faults) (stop : Stop) (q : QueryFault)
     → IsStopFault t l ends fs stop q → q ≡ fault.OutOfMemory → stop ≡ OutOfMemory
 named_memory t l ends fs (At end) q is e = let x : fault.Name _ ≡ fault.OutOfMemory = sym is ∙ e in cc
-named_memory t l ends fs (Below x) q is e = let y : fault.Name is.name ≡ fault.OutOfMemory = sym is.is ∙ e in cc
+named_memory t l ends fs (Below x) q is e = let y : fault.Name is.name ≡ fault.OutOfMemory = sym is.query_fault ∙ e in
+    cc
 named_memory t l ends fs OutOfMemory q is e = refl
 
 pub memory_named : (t : Table) (l : Listed) (ends : List DeadEnd) (fs : Faults) (stop : Stop) (q : QueryFault)

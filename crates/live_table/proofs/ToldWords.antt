@@ -137,11 +137,11 @@ module _ (s : Scene) (us : List WordUse) (k : ℕ) (xs : List Step) (j : ℕ) (w
     pub are_led : (u : WordUse) → slice_get us k ≡ Some u → IsLed s u n m
     are_led u at = led_as s u xs j (each u at) n m e f
 
-    pub first_settled : IsSettled s.settled n
-    first_settled = (are_led some_word.0 some_word.1).first
+    pub first_settled : IsSettled s.settled_flags n
+    first_settled = (are_led some_word.0 some_word.1).user_settled
 
-    pub second_settled : IsSettled s.settled m
-    second_settled = (are_led some_word.0 some_word.1).second
+    pub second_settled : IsSettled s.settled_flags m
+    second_settled = (are_led some_word.0 some_word.1).target_settled
 
 -- ---- the reported meaning of a word, by the numbers to which it leads
 module _ (v : Scene) (u : WordUse) (n m : ℕ) (led : IsLed v u n m) where
@@ -152,12 +152,12 @@ module _ (v : Scene) (u : WordUse) (n m : ℕ) (led : IsLed v u n m) where
   second_key = key_at v.keys m
 
   pub stands : StandsForTargets (table v.deck) u
-  stands = kind_law.words (table v.deck) (fits_kinds v.deck) u led.word
+  stands = kind_law.words (table v.deck) (fits_kinds v.deck) u led.word_leads
 
   pub told_two : (n ≡ m → ⊥) → (a b : Bor Outcome) → a.now ≡ outcome (table v.deck) first_key
       → b.now ≡ outcome (table v.deck) second_key
       → IsMeaningTold (has_callee v) (callee_at v) (word_means v u) (told.Two a b)
-  told_two apart a b e f = elim led.are [ inl h ↦ absurd (apart h.1) | inr t ↦ by t stands ]
+  told_two apart a b e f = elim led.single_target [ inl h ↦ absurd (apart h.1) | inr t ↦ by t stands ]
     where
       by : targets (table v.deck) u ≡ first_key ∷ second_key ∷ [] → StandsForTargets (table v.deck) u
           → IsMeaningTold (has_callee v) (callee_at v) (word_means v u) (told.Two a b)
@@ -173,7 +173,7 @@ module _ (v : Scene) (u : WordUse) (n m : ℕ) (led : IsLed v u n m) where
 
   -- a prefix and a unit have different numbers
   word_is : n ≡ m → word_meaning (table v.deck) u ≡ key_meaning (table v.deck) first_key
-  word_is same = by stands led.are
+  word_is same = by stands led.single_target
     where
       by : StandsForTargets (table v.deck) u → ((targets (table v.deck) u ≡ first_key ∷ []) × (n ≡ m)) ⊎ (targets
           (table v.deck) u ≡ first_key ∷ second_key ∷ [])
@@ -189,7 +189,7 @@ module _ (v : Scene) (u : WordUse) (n m : ℕ) (led : IsLed v u n m) where
           let d : kind.Prefix ≡ kind.Unit = sym prefix ∙ (ap (λ (x : Key). x.kind) c ∙ unit) in cc
 
   first_in : Contains (targets (table v.deck) u) first_key
-  first_in = elim led.are [
+  first_in = elim led.single_target [
     | inl t ↦ subst (λ (ks : List Key). Contains ks first_key) (sym t.0) (member_first first_key first_key [] refl)
     | inr t ↦ subst (λ (ks : List Key). Contains ks first_key) (sym t)
         (member_first first_key first_key (second_key ∷ []) refl)
@@ -198,7 +198,7 @@ module _ (v : Scene) (u : WordUse) (n m : ℕ) (led : IsLed v u n m) where
   target_means : may_mean first_key.kind (key_meaning (table v.deck) first_key) ≡ true
   target_means =
       kind_law.keys (table v.deck) (fits_kinds v.deck) first_key (target_present (table v.deck) u first_key first_in)
-      (led.word.into first_key first_in)
+      (led.word_leads.into first_key first_in)
 
   module _ (same : n ≡ m) (a : Bor Outcome) (e : a.now ≡ outcome (table v.deck) first_key) where
     pub told_function : a.now ≡ outcomes.Callable → IsMeaningTold (has_callee v) (callee_at v) (word_means v u)
@@ -210,7 +210,7 @@ module _ (v : Scene) (u : WordUse) (n m : ℕ) (led : IsLed v u n m) where
         by (One x) q = absurd (not_callable (value x None) (sym (ap outcome_of q) ∙ (sym e ∙ c)))
         by (Two x y) q = let z : false ≡ true = sym (ap (may_mean first_key.kind) q) ∙ target_means in cc
         by (Callee f) q = (
-          and_from (is_settled v n) (is_callee (number_means v n)) (settled_to v.settled n led.first)
+          and_from (is_settled v n) (is_callee (number_means v n)) (settled_to v.settled_flags n led.user_settled)
               (ap is_callee q),
           word_is same ∙ is_its_callee (number_means v n) (ap is_callee q),
         )

@@ -51,4 +51,5 @@ tried_push names more all ks now kind start end w a n s e =
     let k : TriedKey = record { kind = kind; start = start; end = end } in
     (λ i. keys_of_ranges (a i) (n i))
     ∙ (map-append (key_of_range (names ++ more)) ks (k ∷ [])
-    ∙ (λ i. same_keys names more ks w.starts w.ends i ++ last_key names more k s (e ∙ ap length a) i ∷ []))
+    ∙ (λ i. same_keys names more ks w.starts_within w.ends_within i ++ last_key names more k s (e ∙ ap length a) i ∷
+    []))

@@ -11,7 +11,7 @@ use Rattle.def_entry.specs.Tables.{Table, keys_of}
 use Rattle.name_lookup.specs.declared.targets.Targets.{Targets}
 use Rattle.name_lookup.specs.Order.{plan}
 use Rattle.name_lookup.specs.Plans.{Found, run}
-use Rattle.name_lookup.specs.Targets.{AreFound, count, last_keys}
+use Rattle.name_lookup.specs.Targets.{AreFound, last_keys, target_count}
 use Rattle.name_walk.specs.Faults.{is_on_path}
 use Rattle.name_walk.specs.Lists.{In}
 use Rattle.name_walk.proofs.Lists.{In-left, In-right, take_at}
@@ -33,20 +33,20 @@ use Rattle.live_table.proofs.LookedKeys.{in_both}
 -- at the start no number is gathered
 pub gathered_start : (keys others : List Key) (old : List ℕ) → others ≡ [] → AreGathered keys others old old
 gathered_start keys others old e = record {
-  own = [];
+  own_numbers = [];
   numbers_are = e;
-  within = λ m i. absurd i;
-  put = λ m. (λ i. inl i, λ h. elim h [ inl i ↦ i | inr z ↦ absurd z ]);
+  own_in_table = λ m i. absurd i;
+  looks_merged = λ m. (λ i. inl i, λ h. elim h [ inl i ↦ i | inr z ↦ absurd z ]);
 }
 
 -- gathered keys stay gathered when keys are added
 gathered_more : (ks ls others : List Key) (old new : List ℕ) → IsMore ks ls → AreGathered ks others old new
     → AreGathered ls others old new
 gathered_more ks ls others old new more g = record {
-  own = g.own;
-  numbers_are = g.numbers_are ∙ same g.own g.within;
-  within = λ m i. let h : m < length ks = g.within m i in let b = more_length ks ls more in omega arith;
-  put = g.put;
+  own_numbers = g.own_numbers;
+  numbers_are = g.numbers_are ∙ same g.own_numbers g.own_in_table;
+  own_in_table = λ m i. let h : m < length ks = g.own_in_table m i in let b = more_length ks ls more in omega arith;
+  looks_merged = g.looks_merged;
 }
   where
     same : (ns : List ℕ) → ((m : ℕ) → In m ns → m < length ks) → map (key_at ks) ns ≡ map (key_at ls) ns
@@ -61,25 +61,25 @@ pub gathered_next : (ks ls tried : List Key) (old now next : List ℕ) (place n 
     → (n < length ls) × (key_at tried place ≡ key_at ls n)
     → next ≡ cond (is_on_path now n) now (now ++ n ∷ []) → AreGathered ls (take (place + 1) tried) old next
 gathered_next ks ls tried old now next place n more h g p e = record {
-  own = g.own ++ n ∷ [];
+  own_numbers = g.own_numbers ++ n ∷ [];
   numbers_are =
       take_at tried place (key_at tried place) (key_read tried place h)
       ∙ ((λ i. g.numbers_are i ++ key_at tried place ∷ [])
-      ∙ sym (numbered_push ks ls g.own n (key_at tried place) more g.within p.1));
-  within = within_push ks ls g.own n more g.within p.0;
-  put = λ m. (to m, from m);
+      ∙ sym (numbered_push ks ls g.own_numbers n (key_at tried place) more g.own_in_table p.1));
+  own_in_table = within_push ks ls g.own_numbers n more g.own_in_table p.0;
+  looks_merged = λ m. (to m, from m);
 }
   where
-    to : (m : ℕ) → In m next → In m old ⊎ In m (g.own ++ n ∷ [])
+    to : (m : ℕ) → In m next → In m old ⊎ In m (g.own_numbers ++ n ∷ [])
     to m i = elim ((put_one now next n e m).0 i) [
-      | inl a ↦ elim ((g.put m).0 a) [ inl b ↦ inl b | inr b ↦ inr (In-left g.own (n ∷ []) m b) ]
-      | inr is ↦ inr (In-right g.own (n ∷ []) m (inl is))
+      | inl a ↦ elim ((g.looks_merged m).0 a) [ inl b ↦ inl b | inr b ↦ inr (In-left g.own_numbers (n ∷ []) m b) ]
+      | inr is ↦ inr (In-right g.own_numbers (n ∷ []) m (inl is))
     ]
 
-    from : (m : ℕ) → In m old ⊎ In m (g.own ++ n ∷ []) → In m next
-    from m (inl a) = (put_one now next n e m).1 (inl ((g.put m).1 (inl a)))
-    from m (inr a) = elim (in_both g.own (n ∷ []) m a) [
-      | inl b ↦ (put_one now next n e m).1 (inl ((g.put m).1 (inr b)))
+    from : (m : ℕ) → In m old ⊎ In m (g.own_numbers ++ n ∷ []) → In m next
+    from m (inl a) = (put_one now next n e m).1 (inl ((g.looks_merged m).1 (inl a)))
+    from m (inr a) = elim (in_both g.own_numbers (n ∷ []) m a) [
+      | inl b ↦ (put_one now next n e m).1 (inl ((g.looks_merged m).1 (inr b)))
       | inr (inl is) ↦ (put_one now next n e m).1 (inr is)
       | inr (inr z) ↦ absurd z
     ]
@@ -98,11 +98,11 @@ adds_none t l nodes before list ends right = added_none t l before list ends end
 pub adds_both : (t : Table) (l m k : Listed) → AddsNames t l m → AddsNames t m k → AddsNames t l k
 adds_both t l m k a b before list ends right =
     let first = a before list ends right in
-    added_both t l m k before list list list ends ends ends first (b before list ends first.grown.listed)
+    added_both t l m k before list list list ends ends ends first (b before list ends first.growth.list_right)
 
 -- an addition of names is a growth without listed numbers
 grown_names : (t : Table) (l m : Listed) → AddsNames t l m → AreGrown t l m [] [] [] [] []
-grown_names t l m a = (a [] [] [] (none_listed t l [] [] (λ n i. absurd i) refl)).grown
+grown_names t l m a = (a [] [] [] (none_listed t l [] [] (λ n i. absurd i) refl)).growth
 
 -- after an addition the nodes are right
 pub added_nodes : (t : Table) (l m : Listed) → AddsNames t l m → AreNumberedNames t m
@@ -188,25 +188,25 @@ none_there (k ∷ ks) e = absurd (omega (arith, e))
 
 module _ (t : Table) (u : WordUse) (w : Targets) (tried : List Key) (found : AreFound w [] tried (word_lookup t u))
   where
-    targets_are : targets t u ≡ last_keys (count w) tried
-    targets_are = found.targets ∙ ap (last_keys (count w)) (sym found.looked)
+    targets_are : targets t u ≡ last_keys (target_count w) tried
+    targets_are = found.targets ∙ ap (last_keys (target_count w)) (sym found.looks_appended)
 
     -- there are as many keys as targets
-    pub enough : count w ≤ length tried
+    pub enough : target_count w ≤ length tried
     enough =
-        let a : length (targets t u) ≡ count w = found.many in
-        let b : length (targets t u) ≡ length (last_keys (count w) tried) = ap length targets_are in
-        let c : length (last_keys (count w) tried) ≡ length tried - (length tried - count w) =
-        length-drop (length tried - count w) tried in
+        let a : length (targets t u) ≡ target_count w = found.many in
+        let b : length (targets t u) ≡ length (last_keys (target_count w) tried) = ap length targets_are in
+        let c : length (last_keys (target_count w) tried) ≡ length tried - (length tried - target_count w) =
+        length-drop (length tried - target_count w) tried in
         omega (arith, a, b, c)
 
     -- a word without targets leads nowhere
-    pub none_found : count w ≡ 0 → targets t u ≡ []
+    pub none_found : target_count w ≡ 0 → targets t u ≡ []
     none_found e = none_there (targets t u) (found.many ∙ e)
 
     -- the lead of a word of a query
     pub is_query_lead : (keys : List Key) (lead : Lead) → is_refused u.text ≡ false
-        → LeadsToKeys keys (last_keys (count w) tried) lead → IsQueryLead t keys u lead
+        → LeadsToKeys keys (last_keys (target_count w) tried) lead → IsQueryLead t keys u lead
     is_query_lead keys Refused fine led = absurd led
     is_query_lead keys Nowhere fine led = (fine, targets_are ∙ led.0, led.1)
     is_query_lead keys (One n) fine led = (fine, targets_are ∙ led.0, led.1)
@@ -214,47 +214,49 @@ module _ (t : Table) (u : WordUse) (w : Targets) (tried : List Key) (found : Are
 
     -- ---- the targets and the other keys
     module _ (ks ls : List Key) (more : IsMore ks ls) (old mid new : List ℕ) (ns : List ℕ)
-        (led : last_keys (count w) tried ≡ map (key_at ls) ns) (inside : (m : ℕ) → In m ns → m < length ls)
-        (g : AreGathered ks (take (length tried - count w) tried) old mid) (same : new ≡ mid) where
-      now : AreGathered ls (take (length tried - count w) tried) old mid
-      now = gathered_more ks ls (take (length tried - count w) tried) old mid more g
+        (led : last_keys (target_count w) tried ≡ map (key_at ls) ns) (inside : (m : ℕ) → In m ns → m < length ls)
+        (g : AreGathered ks (take (length tried - target_count w) tried) old mid) (same : new ≡ mid) where
+      now : AreGathered ls (take (length tried - target_count w) tried) old mid
+      now = gathered_more ks ls (take (length tried - target_count w) tried) old mid more g
 
-      all : map (key_at ls) (now.own ++ ns) ≡ looked_keys t u
+      all : map (key_at ls) (now.own_numbers ++ ns) ≡ looked_keys t u
       all =
-          map-append (key_at ls) now.own ns
+          map-append (key_at ls) now.own_numbers ns
           ∙ ((λ i. sym now.numbers_are i ++ sym led i)
-          ∙ (take-append-drop (length tried - count w) tried ∙ found.looked))
+          ∙ (take-append-drop (length tried - target_count w) tried ∙ found.looks_appended))
 
-      to : (k : Key) → Contains (looked_keys t u) k → (m : ℕ) × (In m ns ⊎ In m now.own) × (k ≡ key_at ls m)
+      to : (k : Key) → Contains (looked_keys t u) k → (m : ℕ) × (In m ns ⊎ In m now.own_numbers) × (k ≡ key_at ls m)
       to k i =
-          let r = number_in (key_at ls) (now.own ++ ns) k (subst (λ (xs : List Key). Contains xs k) (sym all) i) in
-          (r.0, elim (in_both now.own ns r.0 r.2) [ inl a ↦ inr a | inr b ↦ inl b ], r.1)
+          let r = number_in (key_at ls) (now.own_numbers ++ ns) k (subst (λ (xs : List Key). Contains xs k) (sym all) i)
+          in
+          (r.0, elim (in_both now.own_numbers ns r.0 r.2) [ inl a ↦ inr a | inr b ↦ inl b ], r.1)
 
-      number_of : (m : ℕ) → In m ns ⊎ In m now.own → In m (now.own ++ ns)
-      number_of m (inl i) = In-right now.own ns m i
-      number_of m (inr i) = In-left now.own ns m i
+      number_of : (m : ℕ) → In m ns ⊎ In m now.own_numbers → In m (now.own_numbers ++ ns)
+      number_of m (inl i) = In-right now.own_numbers ns m i
+      number_of m (inr i) = In-left now.own_numbers ns m i
 
-      from : (k : Key) → ((m : ℕ) × (In m ns ⊎ In m now.own) × (k ≡ key_at ls m)) → Contains (looked_keys t u) k
+      from : (k : Key) → ((m : ℕ) × (In m ns ⊎ In m now.own_numbers) × (k ≡ key_at ls m)) → Contains (looked_keys t u) k
       from k (m, i, e) =
           subst (λ (xs : List Key). Contains xs k) all
-          (subst (λ (q : Key). Contains (map (key_at ls) (now.own ++ ns)) q) (sym e)
-          (key_in (key_at ls) (now.own ++ ns) m (number_of m i)))
+          (subst (λ (q : Key). Contains (map (key_at ls) (now.own_numbers ++ ns)) q) (sym e)
+          (key_in (key_at ls) (now.own_numbers ++ ns) m (number_of m i)))
 
       are_targets : AreTargets t ls u ns old new
       are_targets = record {
         targets = targets_are ∙ led;
-        inside = inside;
-        own = now.own;
-        put = subst (λ (xs : List ℕ). (m : ℕ) → In m xs ↔ (In m old ⊎ In m now.own)) (sym same) now.put;
-        within = now.within;
-        exactly = λ k. (to k, from k);
+        targets_in_table = inside;
+        own_numbers = now.own_numbers;
+        looks_merged = subst (λ (xs : List ℕ). (m : ℕ) → In m xs ↔ (In m old ⊎ In m now.own_numbers))
+            (sym same) now.looks_merged;
+        own_in_table = now.own_in_table;
+        word_looks = λ k. (to k, from k);
       }
 
     -- the lead of a word of an entry
     pub is_lead : (ks ls : List Key) (more : IsMore ks ls) (old mid new : List ℕ) (lead : Lead)
         → is_refused u.text ≡ false
-        → LeadsToKeys ls (last_keys (count w) tried) lead
-        → AreGathered ks (take (length tried - count w) tried) old mid → new ≡ mid
+        → LeadsToKeys ls (last_keys (target_count w) tried) lead
+        → AreGathered ks (take (length tried - target_count w) tried) old mid → new ≡ mid
         → IsLead t ls u old new lead
     is_lead ks ls more old mid new Refused fine led g same = absurd led
     is_lead ks ls more old mid new Nowhere fine led g same = (fine, targets_are ∙ led.0)

@@ -74,7 +74,7 @@ pub number_of_lead : (deck : Contents) (l : Listed) (n : ℕ) → IsClosed (tabl
 number_of_lead deck l n closed faithful k w =
     let us : List WordUse = key_words (table deck) (key_at l.keys n) in
     let fine = ((closed_law.words (table deck) us).0
-    ((closed_law.key (table deck) (key_at l.keys n)).0 closed) w.0 w.1).is_accepted in
+    ((closed_law.key (table deck) (key_at l.keys n)).0 closed) w.0 w.1).not_refused in
     step_of_lead (table deck) (key_at l.keys) dead_end us (steps l.graph n) (faithful dead_end) w.0 w.1 fine k w.2
 
 -- ---- the order in which names wait
@@ -112,12 +112,13 @@ module _ (t : Table) where
 -- ---- names are added
 module _ (deck : Contents) (l m : Listed) (before here there : List ℕ) (ends more : List DeadEnd) (r : ℕ)
     (grown : AreGrown (table deck) l m before here there ends more) (sound : IsSound deck l r) where
-  not_new : (n : ℕ) → IsSettled m.settled n → length l.keys ≤ n → ⊥
+  not_new : (n : ℕ) → IsSettled m.settled_flags n → length l.keys ≤ n → ⊥
   not_new n e s =
       let now : is_some (map_of.get (kept_of m.keys m.outcomes) (key_at m.keys n)) ≡ true =
       key_settled deck m r grown.nodes n e in
       let none = absent l.keys l.outcomes (key_at m.keys n) other in
-      true≢false (sym now ∙ (ap (λ (k : Kept). is_some (map_of.get k (key_at m.keys n))) grown.kept ∙ ap is_some none))
+      true≢false (sym now ∙ (ap (λ (k : Kept). is_some (map_of.get k (key_at m.keys n))) grown.same_outcomes
+      ∙ ap is_some none))
     where
       inside : n < length m.keys
       inside = settled_within deck m r grown.nodes n e
@@ -125,30 +126,31 @@ module _ (deck : Contents) (l m : Listed) (before here there : List ℕ) (ends m
       other : (i : ℕ) → i < length l.keys → key_at m.keys n ≡ key_at l.keys i → ⊥
       other i t q =
           let same : key_at m.keys i ≡ key_at l.keys i = key_same l.keys m.keys i grown.keys_more t in
-          let z : n ≡ i = grown.nodes.apart n i inside (omega (arith, t, s, inside)) (q ∙ sym same) in
+          let z : n ≡ i = grown.nodes.numbers_apart n i inside (omega (arith, t, s, inside)) (q ∙ sym same) in
           omega (arith, t, s, z)
 
-  settled_before : (n : ℕ) → IsSettled m.settled n → IsSettled l.settled n
+  settled_before : (n : ℕ) → IsSettled m.settled_flags n → IsSettled l.settled_flags n
   settled_before n e = elim (cases_lt n (length l.keys)) [
     | inr s ↦ absurd (not_new n e s)
     | inl t ↦ number_settled deck l r sound.numbers n t
         (subst (λ (k : Key). is_some (map_of.get (kept_of l.keys l.outcomes) k) ≡ true)
         (key_same l.keys m.keys n grown.keys_more t)
-        (ap (λ (k : Kept). is_some (map_of.get k (key_at m.keys n))) (sym grown.kept)
+        (ap (λ (k : Kept). is_some (map_of.get k (key_at m.keys n))) (sym grown.same_outcomes)
         ∙ key_settled deck m r grown.nodes n e))
   ]
 
   module _ (waiting : List ℕ) where
-    linked_now : (n : ℕ) → (is_linked m.settled waiting n ≡ true) ↔ (is_linked l.settled waiting n ≡ true)
+    linked_now : (n : ℕ) → (is_linked m.settled_flags waiting n ≡ true) ↔ (is_linked l.settled_flags waiting n ≡ true)
     linked_now n = (
       λ e.
-          let p = linked_facts m.settled waiting n e in
-          linked_where l.settled waiting n
-          (settled_flag l.settled n (settled_before n (flag_settled m.settled n p.0))) (not_waiting waiting n p.1),
+          let p = linked_facts m.settled_flags waiting n e in
+          linked_where l.settled_flags waiting n
+          (settled_flag l.settled_flags n (settled_before n (flag_settled m.settled_flags n p.0)))
+          (not_waiting waiting n p.1),
       λ e.
-          let p = linked_facts l.settled waiting n e in
-          linked_where m.settled waiting n
-          (settled_flag m.settled n (grown.settled_still n (flag_settled l.settled n p.0)))
+          let p = linked_facts l.settled_flags waiting n e in
+          linked_where m.settled_flags waiting n
+          (settled_flag m.settled_flags n (grown.settled_still n (flag_settled l.settled_flags n p.0)))
           (not_waiting waiting n p.1),
     )
 
@@ -156,102 +158,106 @@ module _ (deck : Contents) (l m : Listed) (before here there : List ℕ) (ends m
     pub grown_edges : (g : NameGraph) → HasLateEdges deck l waiting g → HasLateEdges deck m waiting g
     grown_edges g edges = record {
       names = let a = edges.names in let b = more_length l.keys m.keys grown.keys_more in omega (arith, a, b);
-      are = edges_grown (table deck) (key_at l.keys) (key_at m.keys) g.names g.names (is_linked l.settled waiting)
-          (is_linked m.settled waiting) g edges.are (omega arith)
+      edges_right = edges_grown (table deck) (key_at l.keys) (key_at m.keys) g.names g.names
+          (is_linked l.settled_flags waiting)
+          (is_linked m.settled_flags waiting) g edges.edges_right (omega arith)
           (λ n t. key_same l.keys m.keys n grown.keys_more (let a = edges.names in omega (arith, t, a)))
           linked_now;
-      settled = λ n i. grown.settled_still n (edges.settled n i);
-      order = same_order (table deck) (key_at l.keys) (key_at m.keys) waiting
+      waiting_settled = λ n i. grown.settled_still n (edges.waiting_settled n i);
+      targets_first = same_order (table deck) (key_at l.keys) (key_at m.keys) waiting
           (λ n i. key_same l.keys m.keys n grown.keys_more
-          (settled_within deck l r sound.numbers n (edges.settled n i)))
-          edges.order;
+          (settled_within deck l r sound.numbers n (edges.waiting_settled n i)))
+          edges.targets_first;
     }
 
 -- ---- one more name is settled, and waits
 module _ (deck : Contents) (l : Listed) (r n : ℕ) (sound : IsSound deck l r) (due : IsDue (table deck) l n) where
-  fresh : IsSettled l.settled n → ⊥
-  fresh s = let z : Some false ≡ Some true = sym due.fresh ∙ s in cc
+  fresh : IsSettled l.settled_flags n → ⊥
+  fresh s = let z : Some false ≡ Some true = sym due.still_unsettled ∙ s in cc
 
   -- the key of a settled number is not that of the new name
-  not_own : (m : ℕ) → IsSettled l.settled m → key_at l.keys n ≡ key_at l.keys m → ⊥
+  not_own : (m : ℕ) → IsSettled l.settled_flags m → key_at l.keys n ≡ key_at l.keys m → ⊥
   not_own m s e =
-      let same : n ≡ m = sound.numbers.apart n m due.within (settled_within deck l r sound.numbers m s) e in
-      fresh (subst (IsSettled l.settled) (sym same) s)
+      let same : n ≡ m = sound.numbers.numbers_apart n m due.in_table (settled_within deck l r sound.numbers m s) e in
+      fresh (subst (IsSettled l.settled_flags) (sym same) s)
 
   -- neither a settled name nor the new name leads to the new name
-  not_led : (m : ℕ) → IsSettled l.settled m
+  not_led : (m : ℕ) → IsSettled l.settled_flags m
       → WordsLeadTo (table deck) (key_words (table deck) (key_at l.keys m)) (key_at l.keys n) → ⊥
   not_led m s w =
-      let closed = sound.right.closed (key_at l.keys m) (key_settled deck l r sound.numbers m s) in
+      let closed = sound.is_right.settled_closed (key_at l.keys m) (key_settled deck l r sound.numbers m s) in
       let q = number_of_lead deck l m closed (sound.numbers.faithful m s) (key_at l.keys n) w in
-      not_own q.0 ((sound.numbers.net.settled m s).1 q.0 q.2) q.1
+      not_own q.0 ((sound.numbers.net.settled_right m s).1 q.0 q.2) q.1
 
   not_self : WordsLeadTo (table deck) (key_words (table deck) (key_at l.keys n)) (key_at l.keys n) → ⊥
   not_self w =
-      let q = number_of_lead deck l n due.closed due.faithful (key_at l.keys n) w in
-      not_own q.0 (due.below q.0 q.2) q.1
+      let q = number_of_lead deck l n due.key_closed due.faithful (key_at l.keys n) w in
+      not_own q.0 (due.targets_settled q.0 q.2) q.1
 
   module _ (waiting : List ℕ) (g : NameGraph) (edges : HasLateEdges deck l waiting g) where
     abbrev now : List Bool
-    now = set l.settled n true
+    now = set l.settled_flags n true
 
     abbrev more : List ℕ
     more = waiting ++ n ∷ []
 
     out : In n waiting → ⊥
-    out i = fresh (edges.settled n i)
+    out i = fresh (edges.waiting_settled n i)
 
-    same_links : (m : ℕ) → (is_linked now more m ≡ true) ↔ (is_linked l.settled waiting m ≡ true)
+    same_links : (m : ℕ) → (is_linked now more m ≡ true) ↔ (is_linked l.settled_flags waiting m ≡ true)
     same_links m = (from, to)
       where
-        from : is_linked now more m ≡ true → is_linked l.settled waiting m ≡ true
+        from : is_linked now more m ≡ true → is_linked l.settled_flags waiting m ≡ true
         from e =
             let p = linked_facts now more m e in
             let off : In m more → ⊥ = not_waiting more m p.1 in
             let other : m ≡ n → ⊥ = λ q. off (subst (λ x. In x more) (sym q) (In-last waiting n)) in
-            linked_where l.settled waiting m
-            (settled_flag l.settled m (sym (get_set_other l.settled n m true other) ∙ flag_settled now m p.0))
+            linked_where l.settled_flags waiting m
+            (settled_flag l.settled_flags m (sym (get_set_other l.settled_flags n m true other)
+            ∙ flag_settled now m p.0))
             (λ i. off (In-left waiting (n ∷ []) m i))
 
-        to : is_linked l.settled waiting m ≡ true → is_linked now more m ≡ true
+        to : is_linked l.settled_flags waiting m ≡ true → is_linked now more m ≡ true
         to e =
-            let p = linked_facts l.settled waiting m e in
-            let was : IsSettled l.settled m = flag_settled l.settled m p.0 in
-            let other : m ≡ n → ⊥ = λ q. fresh (subst (IsSettled l.settled) q was) in
-            linked_where now more m (settled_flag now m (get_set_other l.settled n m true other ∙ was))
+            let p = linked_facts l.settled_flags waiting m e in
+            let was : IsSettled l.settled_flags m = flag_settled l.settled_flags m p.0 in
+            let other : m ≡ n → ⊥ = λ q. fresh (subst (IsSettled l.settled_flags) q was) in
+            linked_where now more m (settled_flag now m (get_set_other l.settled_flags n m true other ∙ was))
             (λ i. elim (In-push waiting n m i) [ inl j ↦ not_waiting waiting m p.1 j | inr q ↦ other q ])
 
     settled_more : (m : ℕ) → In m waiting ⊎ (m ≡ n) → IsSettled now m
     settled_more m (inl i) =
-        let was : IsSettled l.settled m = edges.settled m i in
-        get_set_other l.settled n m true (λ q. fresh (subst (IsSettled l.settled) q was)) ∙ was
+        let was : IsSettled l.settled_flags m = edges.waiting_settled m i in
+        get_set_other l.settled_flags n m true (λ q. fresh (subst (IsSettled l.settled_flags) q was)) ∙ was
     settled_more m (inr e) =
-        subst (IsSettled now) (sym e) (get_set_same l.settled n true (get_lt l.settled n false due.fresh))
+        subst (IsSettled now) (sym e)
+        (get_set_same l.settled_flags n true (get_lt l.settled_flags n false due.still_unsettled))
 
     -- the edges are still those of the other names
     pub waiting_edges : (o : Outcome) (c : Callee) → HasLateEdges deck (with_outcome n o c l) (waiting ++ n ∷ []) g
     waiting_edges o c = record {
       names = edges.names;
-      are = edges_grown (table deck) (key_at l.keys) (key_at l.keys) g.names g.names (is_linked l.settled waiting)
-          (is_linked now more) g edges.are (omega arith) (λ m t. refl) same_links;
-      settled = λ m i. settled_more m (In-push waiting n m i);
-      order = push_order (table deck) (key_at l.keys) waiting n edges.order out
-          (λ m i. not_led m (edges.settled m i)) not_self;
+      edges_right = edges_grown (table deck) (key_at l.keys) (key_at l.keys) g.names g.names
+          (is_linked l.settled_flags waiting)
+          (is_linked now more) g edges.edges_right (omega arith) (λ m t. refl) same_links;
+      waiting_settled = λ m i. settled_more m (In-push waiting n m i);
+      targets_first = push_order (table deck) (key_at l.keys) waiting n edges.targets_first out
+          (λ m i. not_led m (edges.waiting_settled m i)) not_self;
     }
 
 -- ---- at the start
 no_edges : (deck : Contents) → HasLateEdges deck no_nodes [] (record { names = 0; uses = []; looks = [] })
 no_edges deck = record {
   names = omega arith;
-  are = record {
-    within = λ n e. absurd (none n e);
-    below = λ n m e. absurd (omega (arith, e));
+  edges_right = record {
+    settled_in_range = λ n e. absurd (none n e);
+    used_settled = λ n m e. absurd (omega (arith, e));
     beside = λ n m e. absurd (omega (arith, e));
-    used = λ n e k. absurd (none n e);
-    looked = λ n e k. absurd (none n e);
+    use_edges = λ n e k. absurd (none n e);
+    look_edges = λ n e k. absurd (none n e);
   };
-  settled = λ n i. absurd i;
-  order = tt;
+  waiting_settled = λ n i. absurd i;
+  targets_first = tt;
 }
   where
     none : (n : ℕ) → is_linked [] [] n ≡ true → ⊥
@@ -269,11 +275,17 @@ pub linked_of : (deck : Contents) (l : Listed) (e : LateEdges) (r : ℕ) → e.w
     → IsLinked deck l e.made r
 linked_of deck l e r none live =
     let all = subst (λ (ns : List ℕ). HasLateEdges deck l ns e.made) none live.edges in
-    record { sound = live.sound; edges = record { names = all.names; are = all.are } }
+    record { is_sound = live.is_sound; edges = record { names = all.names; edges_right = all.edges_right } }
 
 -- if all names have their edges, none waits
 pub none_waits : (deck : Contents) (l : Listed) (waiting : List ℕ) (g : NameGraph) → waiting ≡ []
     → HasEdges deck l g → HasLateEdges deck l waiting g
 none_waits deck l waiting g none edges =
     subst (λ (ns : List ℕ). HasLateEdges deck l ns g) (sym none)
-    (record { names = edges.names; are = edges.are; settled = λ n i. absurd i; order = tt })
+    (record {
+      names = edges.names;
+      edges_right = edges.edges_right;
+      waiting_settled = λ n i. absurd i;
+      targets_first =
+          tt;
+    })

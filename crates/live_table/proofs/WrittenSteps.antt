@@ -42,7 +42,8 @@ pub written_behind : (t : Table) (l : Listed) (before list : List ℕ) (ends : L
 written_behind t l before list ends us vs xs ys a b = record {
   words = words_behind t (key_at l.keys) (fault_at ends) us vs xs ys a.words b.words;
   targets = λ n i. elim (in_both xs ys (To n) i) [ inl j ↦ a.targets n j | inr j ↦ b.targets n j ];
-  nowhere = λ n i. elim (in_both xs ys (Nowhere n) i) [ inl j ↦ a.nowhere n j | inr j ↦ b.nowhere n j ];
+  dead_ends_within = λ n i.
+      elim (in_both xs ys (Nowhere n) i) [ inl j ↦ a.dead_ends_within n j | inr j ↦ b.dead_ends_within n j ];
 }
 
 -- without words there are no steps
@@ -50,7 +51,7 @@ pub written_none : (t : Table) (l : Listed) (before list : List ℕ) (ends : Lis
     → AreWritten t l before list ends [] xs
 written_none t l before list ends xs e =
     subst (AreWritten t l before list ends []) (sym e)
-    (record { words = tt; targets = λ n i. absurd i; nowhere = λ n i. absurd i })
+    (record { words = tt; targets = λ n i. absurd i; dead_ends_within = λ n i. absurd i })
 
 -- ---- the state of the loop over words
 pub record IsPutting (t : Table) (old now : Listed) (before here list : List ℕ) (ends more : List DeadEnd)
@@ -69,21 +70,22 @@ pub putting_next : (t : Table) (old now m : Listed) (before here list there : Li
 putting_next t old now m before here list there ends more most first next us xs ys i u at s a w = record {
   added = added_both t old now m before here list there ends more most s.added a;
   written = subst (λ (p : List WordUse × List Step). AreWritten t m before there most p.0 p.1)
-      (λ j. (sym (take_at us i u at) j, sym w.behind j))
-      (written_behind t m before there most (take i us) (u ∷ []) xs w.own
-      (written_more t now m before list there more most s.added.grown.nodes s.added.grown.listed a.grown
-      (take i us) xs s.written) w.written);
+      (λ j. (sym (take_at us i u at) j, sym w.steps_appended j))
+      (written_behind t m before there most (take i us) (u ∷ []) xs w.own_steps
+      (written_more t now m before list there more most s.added.growth.nodes s.added.growth.list_right a.growth
+      (take i us) xs s.written) w.own_steps_right);
   looks = λ all.
-      let led : AllLead (xs ++ w.own) = subst AllLead w.behind all in
+      let led : AllLead (xs ++ w.own_steps) = subst AllLead w.steps_appended all in
       subst (λ (p : List WordUse × List Step). AreLooks t m.keys p.0 p.1 next)
-      (λ j. (sym (take_at us i u at) j, sym w.behind j))
-      (looks_behind t m.keys (take i us) u xs w.own first next
-      (looks_more t now.keys m.keys (take i us) xs first a.grown.keys_more inside (s.looks (lead_left xs w.own led)))
-      (w.looks (lead_right xs w.own led)));
+      (λ j. (sym (take_at us i u at) j, sym w.steps_appended j))
+      (looks_behind t m.keys (take i us) u xs w.own_steps first next
+      (looks_more t now.keys m.keys (take i us) xs first a.growth.keys_more inside
+      (s.looks (lead_left xs w.own_steps led)))
+      (w.looks (lead_right xs w.own_steps led)));
 }
   where
     inside : (q : ℕ) → In (To q) xs → q < length now.keys
-    inside q j = known_within t now before list s.added.grown.nodes s.added.grown.listed q (s.written.targets q j)
+    inside q j = known_within t now before list s.added.growth.nodes s.added.growth.list_right q (s.written.targets q j)
 
 -- ---- the steps of one word
 module _ (t : Table) (l : Listed) (before list : List ℕ) (u : WordUse) where
@@ -111,7 +113,7 @@ module _ (t : Table) (l : Listed) (before list : List ℕ) (u : WordUse) where
   dead_written ends b s = record {
     words = (s, tt);
     targets = λ n i. absurd (not_to (length ends) n i);
-    nowhere = λ c i.
+    dead_ends_within = λ c i.
         let e : c ≡ length ends = place_is (length ends) c i in
         let h : length (ends ++ b ∷ []) ≡ length ends + 1 = length-append ends (b ∷ []) in omega arith;
   }
@@ -160,7 +162,7 @@ module _ (t : Table) (l : Listed) (before list : List ℕ) (u : WordUse) where
   two_written ends n m w a b = record {
     words = (w, tt);
     targets = targets_known n m a b;
-    nowhere = λ c i. absurd (no_end n m c i);
+    dead_ends_within = λ c i. absurd (no_end n m c i);
   }
 
 -- ---- targets have entries

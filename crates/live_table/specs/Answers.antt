@@ -22,8 +22,8 @@ by_names None (Ok q) = Ok q
 by_names None (Err fault) = Err (Value fault)
 
 -- the result of a query of a tree
-abbrev pub answer : Table → Syntax → Result Amount QueryFault
-answer table e = by_names (name_fault table (words_in e)) (value (expansion table e) None)
+abbrev pub table_answer : Table → Syntax → Result Amount QueryFault
+table_answer table e = by_names (name_fault table (words_in e)) (value (expansion table e) None)
 
 -- the inverse of a key that is a function; any other key has none
 abbrev pub inverse_at : Meaning → Amount → Worth

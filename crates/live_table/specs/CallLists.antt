@@ -67,24 +67,24 @@ events_in RefusedEdit before after = []
 
 -- a call, with the table and the count of steps after it
 pub record MadeCall : Type 0 where
-  pub call : Call
-  pub shown : Shown
+  pub table_call : Call
+  pub shown_after : Shown
   pub steps : ℕ
 
 -- these calls were made in turn, from this table and this count of steps
 abbrev pub AreCalls : List MadeCall → Shown → ℕ → Type 0
 AreCalls [] s n = ⊤
-AreCalls (d ∷ ds) s n = IsCall d.call s d.shown n d.steps × AreCalls ds d.shown d.steps
+AreCalls (d ∷ ds) s n = IsCall d.table_call s d.shown_after n d.steps × AreCalls ds d.shown_after d.steps
 
 -- memory sufficed for all calls
 abbrev pub AllComplete : List MadeCall → Type 0
 AllComplete [] = ⊤
-AllComplete (d ∷ ds) = (is_complete d.call ≡ true) × AllComplete ds
+AllComplete (d ∷ ds) = (is_complete d.table_call ≡ true) × AllComplete ds
 
 -- the table after all calls, and the count of steps
 abbrev pub last_shown : List MadeCall → Shown → Shown
 last_shown [] s = s
-last_shown (d ∷ ds) s = last_shown ds d.shown
+last_shown (d ∷ ds) s = last_shown ds d.shown_after
 
 abbrev pub last_steps : List MadeCall → ℕ → ℕ
 last_steps [] n = n
@@ -93,15 +93,15 @@ last_steps (d ∷ ds) n = last_steps ds d.steps
 -- the events that the calls represent
 abbrev pub all_events : List MadeCall → Shown → List Event
 all_events [] s = []
-all_events (d ∷ ds) s = events_in d.call s d.shown ++ all_events ds d.shown
+all_events (d ∷ ds) s = events_in d.table_call s d.shown_after ++ all_events ds d.shown_after
 
 -- after these calls a name is stored exactly if it was stored before or a query reached it, and no later edit affected
 -- it; its outcome is that of the present table
 pub record IsKeptSince (ds : List MadeCall) (s : Shown) (n : ℕ) : Type 0 where
-  pub follows : IsAfterEvents (all_events ds s) s (last_shown ds s) n (last_steps ds n)
-  pub names : (k : Key) → IsKeySettled (state_with_steps (last_shown ds s) 0) k
+  pub events_after : IsAfterEvents (all_events ds s) s (last_shown ds s) n (last_steps ds n)
+  pub settled_names : (k : Key) → IsKeySettled (state_with_steps (last_shown ds s) 0) k
       ↔ IsKeptByAll (all_events ds s) (table s.deck) (IsKeySettled (state_with_steps s 0)) k
-  pub outcomes : (k : Key) (o : Outcome) → map_of.get (last_shown ds s).kept k ≡ Some o
+  pub outcomes : (k : Key) (o : Outcome) → map_of.get (last_shown ds s).kept_outcomes k ≡ Some o
       → o ≡ outcome (table (last_shown ds s).deck) k
 
 -- law: an edit from any deck to any other is a possible event, whatever names are stored
@@ -115,7 +115,7 @@ DeckKindsLaw = (deck : Contents) → FitsKinds (table deck)
 -- law: after any calls every stored outcome is right. If memory sufficed for all calls, the stored names are exactly
 -- those that the calls reached and no later call affected
 pub record CallListLaw : Type 0 where
-  pub right : (ds : List MadeCall) (s : Shown) (n : ℕ) → IsRightTable s → AreCalls ds s n
+  pub stays_right : (ds : List MadeCall) (s : Shown) (n : ℕ) → IsRightTable s → AreCalls ds s n
       → IsRightTable (last_shown ds s)
-  pub kept : (ds : List MadeCall) (s : Shown) (n : ℕ) → IsRightTable s → AreCalls ds s n → AllComplete ds
+  pub keeps_names : (ds : List MadeCall) (s : Shown) (n : ℕ) → IsRightTable s → AreCalls ds s n → AllComplete ds
       → IsKeptSince ds s n

@@ -41,9 +41,9 @@ HasRank meaning callee = callee.rank ≡ rank_of_meaning meaning
 -- these are the words of an entry, and its trees begin at these starts
 pub record AreEntryWords (what : What) (us : List WordUse) (begins : PartStarts) : Type 0 where
   pub words : us ≡ what_words what
-  pub starts : (p : Part) → start_at begins p ≡ start_of what p
+  pub part_starts : (p : Part) → start_at begins p ≡ start_of what p
 
 -- these are the words of the entry of a key, and its trees begin at these starts
 pub record AreKeyWords (table : Table) (k : Key) (us : List WordUse) (begins : PartStarts) : Type 0 where
   pub words : us ≡ key_words table k
-  pub starts : (e : Entry) → entry_at table k ≡ Some e → (p : Part) → start_at begins p ≡ start_of e.what p
+  pub part_starts : (e : Entry) → entry_at table k ≡ Some e → (p : Part) → start_at begins p ≡ start_of e.what p

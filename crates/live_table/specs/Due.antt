@@ -13,14 +13,14 @@ use Rattle.live_table.specs.TableContents.{Listed, key_at}
 -- the name has an entry, no name fault, the steps of its words and the keys at which they look; it is not settled, but
 -- the names to which it leads are
 pub record IsDue (table : Table) (l : Listed) (n : ℕ) : Type 0 where
-  pub within : n < length l.keys
-  pub fresh : slice_get l.settled n ≡ Some false
-  pub present : is_present table (key_at l.keys n) ≡ true
-  pub closed : IsClosed table (key_at l.keys n)
-  pub ends : walk.IsClosedName l.graph n
-  pub below : (m : ℕ) → LeadsTo l.graph n m → IsSettled l.settled m
+  pub in_table : n < length l.keys
+  pub still_unsettled : slice_get l.settled_flags n ≡ Some false
+  pub key_has_entry : is_present table (key_at l.keys n) ≡ true
+  pub key_closed : IsClosed table (key_at l.keys n)
+  pub name_closed : walk.IsClosedName l.graph n
+  pub targets_settled : (m : ℕ) → LeadsTo l.graph n m → IsSettled l.settled_flags m
   pub faithful : IsFaithful table l n
-  pub starts : HasStartsOf table l n
+  pub part_starts : HasStartsOf table l n
   pub looks : HasLooksOf table l n
 
 -- the nodes after a name is settled, with its outcome and the data of a function
@@ -28,7 +28,7 @@ abbrev pub with_outcome : ℕ → Outcome → Callee → Listed → Listed
 with_outcome n o c l = record l {
   callees = slice_set l.callees n c;
   outcomes = slice_set l.outcomes n (Some o);
-  settled = slice_set l.settled n true;
+  settled_flags = slice_set l.settled_flags n true;
   count = l.count + 1;
 }
 

@@ -3,7 +3,7 @@ use Rattle.std.specs.Prelude.{◌≡◌, ◌⊎◌, ℕ, List, Option, Result, O
 use Rattle.std.specs.declared.alloc.AllocError.{AllocError}
 use Rattle.deck.specs.Decks.{Contents}
 use Rattle.deck.specs.FileLoads.{MayFail}
-use Rattle.deck.specs.Splices.{after_splice, inverse}
+use Rattle.deck.specs.Splices.{after_splice, inverse_splice}
 use Rattle.deck.specs.LineRemoval.{IsLastText, place_of_key, without_last}
 use Rattle.deck.specs.declared.fault.DeckFault.{DeckFault}
 use Rattle.deck.specs.declared.fault.DeckFault.TheVariants.{OutOfMemory}
@@ -33,7 +33,8 @@ IsUndefined old new (Err fault) = new ≡ old
 -- a splice yields its deck and its inverse, and the names that it affects are forgotten; or it is handed back, and
 -- nothing changes
 abbrev pub IsSpliceOf : Splice → Shown → Shown → Result Splice (Splice × AllocError) → Type 0
-IsSpliceOf s old new (Ok undo) = (new.deck ≡ after_splice s old.deck) × (undo ≡ inverse s old.deck) × IsAcceptedEdit old
+IsSpliceOf s old new (Ok undo) = (new.deck ≡ after_splice s old.deck) × (undo ≡ inverse_splice s old.deck)
+    × IsAcceptedEdit old
     new
 IsSpliceOf s old new (Err refusal) = (new ≡ old) × (refusal.0 ≡ s)
 

@@ -24,17 +24,17 @@ use Rattle.live_table.specs.TableContents.{Listed, key_at, shown_table}
 pub record AreSettledWords (table : Table) (l : Listed) (us : List WordUse) (xs : List Step) : Type 0 where
   pub dead_end : ℕ → Option Key → NameFault
   pub words : AreWords table (key_at l.keys) dead_end us xs
-  pub closed : AreClosed table us
-  pub settled : (m : ℕ) → In (To m) xs → IsSettled l.settled m
+  pub words_closed : AreClosed table us
+  pub targets_settled : (m : ℕ) → In (To m) xs → IsSettled l.settled_flags m
 
 -- a name with the steps of its words, which leads only to settled names
 pub record IsAtHand (table : Table) (l : Listed) (n : ℕ) : Type 0 where
-  pub within : n < length l.keys
-  pub present : is_present table (key_at l.keys n) ≡ true
-  pub closed : IsClosed table (key_at l.keys n)
-  pub below : (m : ℕ) → LeadsTo l.graph n m → IsSettled l.settled m
+  pub in_table : n < length l.keys
+  pub key_has_entry : is_present table (key_at l.keys n) ≡ true
+  pub key_closed : IsClosed table (key_at l.keys n)
+  pub targets_settled : (m : ℕ) → LeadsTo l.graph n m → IsSettled l.settled_flags m
   pub faithful : IsFaithful table l n
-  pub starts : HasStartsOf table l n
+  pub part_starts : HasStartsOf table l n
 
 -- the subject of an evaluation fits these nodes
 abbrev pub FitsNodes : Table → Listed → Asked → Type 0
@@ -44,7 +44,7 @@ FitsNodes table l (Name n) = IsAtHand table l n
 -- nodes with the right outcomes, and a subject that fits them
 pub record IsSurrounding (deck : Contents) (l : Listed) (asked : Asked) : Type 0 where
   pub numbers : AreNumberedNames (table deck) l
-  pub right : IsRightTable (shown_table deck l 0)
+  pub is_right : IsRightTable (shown_table deck l 0)
   pub subject : FitsNodes (table deck) l asked
 
 -- the facts that an evaluation learns from them
@@ -60,7 +60,7 @@ abbrev pub scene : Contents → Listed → Asked → Scene
 scene deck l asked = record {
   deck = deck;
   keys = l.keys;
-  settled = l.settled;
+  settled_flags = l.settled_flags;
   words = asked_words asked;
   name = asked_name asked;
 }

@@ -25,12 +25,12 @@ use Rattle.live_table.specs.TableContents.{Listed, kept_of, key_at, looks_of}
 
 -- distinct numbers of names that have an entry, are not settled and were not explored before
 pub record AreListed (table : Table) (l : Listed) (before list : List ℕ) : Type 0 where
-  pub gone : (n : ℕ) → In n before → n < length l.keys
-  pub within : (n : ℕ) → In n list → n < length l.keys
-  pub fresh : (n : ℕ) → In n list → IsSettled l.settled n → ⊥
+  pub explored_in_table : (n : ℕ) → In n before → n < length l.keys
+  pub listed_in_table : (n : ℕ) → In n list → n < length l.keys
+  pub listed_not_settled : (n : ℕ) → In n list → IsSettled l.settled_flags n → ⊥
   pub new : (n : ℕ) → In n list → In n before → ⊥
-  pub present : (n : ℕ) → In n list → is_present table (key_at l.keys n) ≡ true
-  pub once : IsDistinct nat_eq list
+  pub listed_have_entries : (n : ℕ) → In n list → is_present table (key_at l.keys n) ≡ true
+  pub numbers_distinct : IsDistinct nat_eq list
 
 -- the first list is an initial part of the second
 abbrev pub IsMore : {A : Type 0} → List A → List A → Type 0
@@ -40,10 +40,10 @@ IsMore {A} xs ys = (i : ℕ) (x : A) → slice_get xs i ≡ Some x → slice_get
 pub record AreGrown (table : Table) (l m : Listed) (before here there : List ℕ) (ends more : List DeadEnd) : Type 0
   where
     pub nodes : AreNumberedNames table m
-    pub kept : kept_of m.keys m.outcomes ≡ kept_of l.keys l.outcomes
-    pub listed : AreListed table m before there
+    pub same_outcomes : kept_of m.keys m.outcomes ≡ kept_of l.keys l.outcomes
+    pub list_right : AreListed table m before there
     pub keys_more : IsMore l.keys m.keys
-    pub settled_still : (n : ℕ) → IsSettled l.settled n → IsSettled m.settled n
+    pub settled_still : (n : ℕ) → IsSettled l.settled_flags n → IsSettled m.settled_flags n
     pub list_more : IsMore here there
     pub ends_more : IsMore ends more
 
@@ -56,12 +56,12 @@ pub record AreSame (Other : ℕ → Type 0) (l m : Listed) : Type 0 where
 -- names, listed numbers and dead ends are added, and nothing else changes
 pub record AreAdded (table : Table) (l m : Listed) (before here there : List ℕ) (ends more : List DeadEnd) : Type 0
   where
-    pub grown : AreGrown table l m before here there ends more
-    pub same : AreSame (λ _. Unit {0}) l m
+    pub growth : AreGrown table l m before here there ends more
+    pub same_nodes : AreSame (λ _. Unit {0}) l m
 
 -- the name is settled, was explored before, or is listed
 abbrev pub IsKnown : Listed → (before list : List ℕ) → ℕ → Type 0
-IsKnown l before list n = IsSettled l.settled n ⊎ (In n before ⊎ In n list)
+IsKnown l before list n = IsSettled l.settled_flags n ⊎ (In n before ⊎ In n list)
 
 -- the computed form of `IsKnown`
 abbrev pub is_some_true : Option Bool → Bool
@@ -76,29 +76,29 @@ pub record AreWritten (table : Table) (l : Listed) (before list : List ℕ) (end
     (xs : List Step) : Type 0 where
   pub words : AreWords table (key_at l.keys) (fault_at ends) us xs
   pub targets : (n : ℕ) → In (To n) xs → IsKnown l before list n
-  pub nowhere : (t : ℕ) → In (Nowhere t) xs → t < length ends
+  pub dead_ends_within : (t : ℕ) → In (Nowhere t) xs → t < length ends
 
 -- the steps of one more word are appended, and its looks are added
 pub record AreWrittenBehind (table : Table) (l : Listed) (before list : List ℕ) (ends : List DeadEnd)
     (old new : List ℕ) (u : WordUse) (xs ys : List Step) : Type 0 where
-  pub own : List Step
-  pub behind : ys ≡ xs ++ own
-  pub written : AreWritten table l before list ends (u ∷ []) own
-  pub looks : AllLead own → AreLooksPut table l.keys u own old new
+  pub own_steps : List Step
+  pub steps_appended : ys ≡ xs ++ own_steps
+  pub own_steps_right : AreWritten table l before list ends (u ∷ []) own_steps
+  pub looks : AllLead own_steps → AreLooksPut table l.keys u own_steps old new
 
 -- the steps of a number are those of its words, and if all of them lead somewhere, its looks are the keys at which its
 -- words look
 pub record HasOwnSteps (table : Table) (l : Listed) (before list : List ℕ) (ends : List DeadEnd) (n : ℕ) : Type 0 where
   pub steps : AreWritten table l before list ends (key_words table (key_at l.keys n)) (steps l.graph n)
-  pub starts : HasStartsOf table l n
+  pub part_starts : HasStartsOf table l n
   pub looks : HasLooksIfLed table l n
 
 -- names that were explored before: they have an entry and their steps, and the names to which these lead are settled or
 -- explored too
 pub record WereExplored (table : Table) (l : Listed) (before : List ℕ) (ends : List DeadEnd) : Type 0 where
-  pub within : (n : ℕ) → In n before → n < length l.keys
-  pub present : (n : ℕ) → In n before → is_present table (key_at l.keys n) ≡ true
-  pub written : (n : ℕ) → In n before → HasOwnSteps table l before [] ends n
+  pub explored_in_table : (n : ℕ) → In n before → n < length l.keys
+  pub explored_have_entries : (n : ℕ) → In n before → is_present table (key_at l.keys n) ≡ true
+  pub explored_have_steps : (n : ℕ) → In n before → HasOwnSteps table l before [] ends n
 
 -- names that were explored before still are
 abbrev pub StayExplored : Table → Listed → Listed → Type 0
@@ -107,20 +107,20 @@ StayExplored table l m =
 
 -- all names below a query are explored: those from before, and those on the agenda
 pub record AreAllExplored (table : Table) (l : Listed) (before list : List ℕ) (ends : List DeadEnd) : Type 0 where
-  pub listed : AreListed table l before list
-  pub explored : WereExplored table l before ends
-  pub written : (n : ℕ) → In n list → HasOwnSteps table l before list ends n
+  pub list_right : AreListed table l before list
+  pub earlier_explored : WereExplored table l before ends
+  pub listed_have_steps : (n : ℕ) → In n list → HasOwnSteps table l before list ends n
 
 -- the nodes with one more name, which is not settled
 abbrev pub with_new_name : Key → Bool → Callee → SmallVec Step → Vec ℕ Global → Listed → Listed
 with_new_name k b c v w l = record {
   keys = l.keys ++ k ∷ [];
-  present = l.present ++ b ∷ [];
+  entry_flags = l.entry_flags ++ b ∷ [];
   callees = l.callees ++ c ∷ [];
   outcomes = l.outcomes ++ None ∷ [];
   graph = l.graph ++ v ∷ [];
   looks = l.looks ++ w ∷ [];
-  settled = l.settled ++ false ∷ [];
+  settled_flags = l.settled_flags ++ false ∷ [];
   count = l.count;
 }
 
@@ -130,7 +130,7 @@ pub record IsNameAdded (k : Key) (b : Bool) (l m : Listed) : Type 0 where
   pub looks : Vec ℕ Global
   pub no_steps : steps.items ≡ []
   pub no_looks : looks.items ≡ []
-  pub named : m ≡ with_new_name k b callee steps looks l
+  pub name_added : m ≡ with_new_name k b callee steps looks l
 
 -- the nodes with other steps and looks of one name, and with the starts of its trees
 abbrev pub with_steps : ℕ → Callee → SmallVec Step → Vec ℕ Global → Listed → Listed

@@ -20,5 +20,5 @@ fault_at dead_ends n = dead_end_fault (slice_get dead_ends n)
 -- the names below a query have numbers, which are known
 pub record AreExplored (table : Table) (l : Listed) (dead_ends : List DeadEnd) (known : ℕ → Bool) : Type 0 where
   pub numbers_are : AreNumbered table (key_at l.keys) (fault_at dead_ends) l.graph known
-  pub starts : (n : ℕ) → known n ≡ true → HasStartsOf table l n
+  pub part_starts : (n : ℕ) → known n ≡ true → HasStartsOf table l n
   pub looks : (n : ℕ) → known n ≡ true → HasLooksIfLed table l n

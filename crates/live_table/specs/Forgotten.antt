@@ -12,11 +12,11 @@ use Rattle.live_table.specs.TableContents.{Listed, key_at}
 
 -- the flags say of the changed keys whether they have an entry now
 pub record AreFlaggedAnew (t : Table) (keys : List Key) (l m : Listed) : Type 0 where
-  pub count : length m.present ≡ length l.present
-  pub changed : (n : ℕ) → n < length l.keys → Contains keys (key_at l.keys n)
-      → slice_get m.present n ≡ Some (is_present t (key_at l.keys n))
-  pub others : (n : ℕ) → n < length l.keys → (Contains keys (key_at l.keys n) → ⊥)
-      → slice_get m.present n ≡ slice_get l.present n
+  pub flag_count : length m.entry_flags ≡ length l.entry_flags
+  pub changed_flags : (n : ℕ) → n < length l.keys → Contains keys (key_at l.keys n)
+      → slice_get m.entry_flags n ≡ Some (is_present t (key_at l.keys n))
+  pub other_flags : (n : ℕ) → n < length l.keys → (Contains keys (key_at l.keys n) → ⊥)
+      → slice_get m.entry_flags n ≡ slice_get l.entry_flags n
 
 -- the parts of the nodes that do not change
 pub record IsRest (l m : Listed) : Type 0 where
@@ -30,13 +30,13 @@ pub record AreForgotten (t : Table) (keys : List Key) (l m : Listed) (g h : Name
   pub numbers : List ℕ
   pub of : AreNumbersOf (key_at l.keys) g.names keys numbers
   pub edges : ForgetsNames (AreAffected g numbers) g h
-  pub marks : AreMarksCleared (AreAffected g numbers) (is_flagged l.settled) (is_flagged m.settled)
-  pub left : AreNumbersLeft l.settled m.settled l.count m.count l.outcomes m.outcomes
-  pub present : AreFlaggedAnew t keys l m
-  pub rest : IsRest l m
+  pub marks_cleared : AreMarksCleared (AreAffected g numbers) (is_flagged l.settled_flags) (is_flagged m.settled_flags)
+  pub numbers_left : AreNumbersLeft l.settled_flags m.settled_flags l.count m.count l.outcomes m.outcomes
+  pub flags_anew : AreFlaggedAnew t keys l m
+  pub rest_same : IsRest l m
 
 -- the precondition of forgetting: keys of different numbers differ, each has a flag, and no edge leads beyond them
 pub record CanForget (l : Listed) (g : NameGraph) : Type 0 where
-  pub apart : (n m : ℕ) → n < length l.keys → m < length l.keys → key_at l.keys n ≡ key_at l.keys m → n ≡ m
-  pub flags : length l.present ≡ length l.keys
+  pub numbers_apart : (n m : ℕ) → n < length l.keys → m < length l.keys → key_at l.keys n ≡ key_at l.keys m → n ≡ m
+  pub flag_per_key : length l.entry_flags ≡ length l.keys
   pub names : g.names ≤ length l.keys

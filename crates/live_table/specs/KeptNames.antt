@@ -32,7 +32,7 @@ IsKeptByAll (e ∷ es) table Kept = IsKeptByAll es (table_after e table) (IsKept
 -- after these events exactly those names are stored, each with its outcome in the present table
 pub record KeptAfter (es : List Event) (s : TableState) : Type 0 where
   pub names : (n : Key) → IsKeySettled (after_all es s) n ↔ IsKeptByAll es s.table (IsKeySettled s) n
-  pub outcomes : (n : Key) (o : Outcome) → map_of.get (after_all es s).kept n ≡ Some o
+  pub outcomes : (n : Key) (o : Outcome) → map_of.get (after_all es s).kept_outcomes n ≡ Some o
       → o ≡ outcome (after_all es s).table n
 
 -- law: `KeptAfter` holds after any queries and edits

@@ -15,10 +15,10 @@ AreFlagged keys nodes = nodes.present.items ≡ map (is_key_among keys) nodes.ke
 
 -- over a table of these keys only new names are added
 pub record IsExtension (keys : List Key) (start now : Nodes) : Type 0 where
-  pub added : (table : Table) → keys_of table ≡ keys → AreNumberedNames table (node_lists start)
+  pub numbered_names : (table : Table) → keys_of table ≡ keys → AreNumberedNames table (node_lists start)
       → (before list : List ℕ) (ends : List DeadEnd) → AreListed table (node_lists start) before list
       → AreAdded table (node_lists start) (node_lists now) before list list ends ends
-  pub gathered : now.gathered ≡ start.gathered
+  pub same_gathered : now.gathered ≡ start.gathered
 
 -- a key has a number: if it had none, there is one more name, with this flag; nothing else has changed
 pub record IsNumbered (k : Key) (flag : Bool) (n : ℕ) (l m : Listed) : Type 0 where

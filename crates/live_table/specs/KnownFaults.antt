@@ -11,8 +11,8 @@ use Rattle.live_table.specs.TableContents.{Listed}
 
 -- the findings are right, and each name with a finding was explored
 pub record AreFaultsKnown (l : Listed) (explored : List ℕ) (f : WalkFindings) : Type 0 where
-  pub right : AreRight l.graph l.settled f
-  pub among : (n : ℕ) → In n f.names → In n explored
+  pub is_right : AreRight l.graph l.settled_flags f
+  pub names_explored : (n : ℕ) → In n f.names → In n explored
 
 -- the names have the same steps in both states
 abbrev pub HaveSameSteps : List ℕ → Listed → Listed → Type 0
@@ -21,7 +21,7 @@ HaveSameSteps names l m = (n : ℕ) → In n names → steps m.graph n ≡ steps
 -- nothing differs except that more names are settled
 pub record IsLater (l m : Listed) : Type 0 where
   pub graph : m.graph ≡ l.graph
-  pub settled : (n : ℕ) → IsSettled l.settled n → IsSettled m.settled n
+  pub settled_stay : (n : ℕ) → IsSettled l.settled_flags n → IsSettled m.settled_flags n
 
 -- a query has no fault and newly closes these names, or its first fault is that of this step, which is known
 abbrev pub IsFirstFault : Listed → List Step → List ℕ → Faults → Option Step → Type 0

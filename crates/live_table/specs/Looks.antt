@@ -19,16 +19,16 @@ IsSeen keys xs ns k = (m : ℕ) × (In (To m) xs ⊎ In m ns) × (k ≡ key_at k
 
 -- the keys at which words look are those of the targets of their steps and those of these numbers
 pub record AreLooks (table : Table) (keys : List Key) (us : List WordUse) (xs : List Step) (ns : List ℕ) : Type 0 where
-  pub within : (m : ℕ) → In m ns → m < length keys
-  pub exactly : (k : Key) → WordsLookAt table us k ↔ IsSeen keys xs ns k
+  pub seen_in_table : (m : ℕ) → In m ns → m < length keys
+  pub words_look : (k : Key) → WordsLookAt table us k ↔ IsSeen keys xs ns k
 
 -- one more word adds its own looks
 pub record AreLooksPut (table : Table) (keys : List Key) (u : WordUse) (xs : List Step) (old new : List ℕ) : Type 0
   where
-    pub own : List ℕ
-    pub put : (m : ℕ) → In m new ↔ (In m old ⊎ In m own)
-    pub within : (m : ℕ) → In m own → m < length keys
-    pub exactly : (k : Key) → Contains (looked_keys table u) k ↔ IsSeen keys xs own k
+    pub own_numbers : List ℕ
+    pub looks_merged : (m : ℕ) → In m new ↔ (In m old ⊎ In m own_numbers)
+    pub own_in_table : (m : ℕ) → In m own_numbers → m < length keys
+    pub words_look : (k : Key) → Contains (looked_keys table u) k ↔ IsSeen keys xs own_numbers k
 
 -- each of the steps leads somewhere
 abbrev pub AllLead : List Step → Type 0

@@ -24,22 +24,22 @@ use Rattle.live_table.specs.States.{AsksKey, Event, with_outcomes}
 abbrev pub put_in : Shown → List Key → Shown
 put_in s keys = record {
   deck = s.deck;
-  kept = with_outcomes (table s.deck) keys s.kept;
+  kept_outcomes = with_outcomes (table s.deck) keys s.kept_outcomes;
   reductions = min (2 ^ 64 - 1) (s.reductions + length keys);
 }
 
 -- all keys in the order of a walk are settled, each with one step
 pub record AreAllSettled (keys : List Key) (before now : Shown) (old new : ℕ) : Type 0 where
-  pub shown : now ≡ put_in before keys
+  pub table_after : now ≡ put_in before keys
   pub steps : new ≡ old + length keys
 
 -- the first of the keys are settled, each with one step, and perhaps one step was taken for the next
 pub record AreSomeSettled (keys : List Key) (before now : Shown) (old new : ℕ) : Type 0 where
   pub count : ℕ
-  pub within : count ≤ length keys
-  pub shown : now ≡ put_in before (take count keys)
-  pub least : old + count ≤ new
-  pub most : new ≤ old + length keys
+  pub count_within : count ≤ length keys
+  pub table_after : now ≡ put_in before (take count keys)
+  pub steps_least : old + count ≤ new
+  pub steps_most : new ≤ old + length keys
 
 -- all keys are settled, or some of them were settled before memory ran out
 abbrev pub AreSettledBy : List Key → Result (Unit {0}) AllocError → Shown → Shown → ℕ → ℕ → Type 0
@@ -59,7 +59,7 @@ IsAsked event fault Given (Err OutOfMemory) before now old new = IsCutOff (event
 
 -- a settled key with this number
 abbrev pub IsSettledKey : Listed → Key → ℕ → Type 0
-IsSettledKey l key n = (key ≡ key_at l.keys n) × IsSettled l.settled n
+IsSettledKey l key n = (key ≡ key_at l.keys n) × IsSettled l.settled_flags n
 
 -- a query of a key
 abbrev pub IsKeyAsked : Key → Listed → Result ℕ QueryFault → Shown → Shown → ℕ → ℕ → Type 0
@@ -68,14 +68,14 @@ IsKeyAsked key l result before now old new =
 
 -- a walk without a fault newly closes these names
 pub record IsClosing (l : Listed) (query : List Step) (order : List ℕ) : Type 0 where
-  pub none : walk.steps_fault l.graph [] query ≡ None
-  pub closes : AreNewlyClosed l.graph l.settled query order
+  pub query_has_no_fault : walk.steps_fault l.graph [] query ≡ None
+  pub closes : AreNewlyClosed l.graph l.settled_flags query order
 
 -- the fault of a walk, by name
 pub record IsNamedFault (table : Table) (l : Listed) (ends : List DeadEnd) (query : List Step) (f : NameFault) : Type 0
   where
     pub fault : walk.NameFault
-    pub some : walk.steps_fault l.graph [] query ≡ Some fault
+    pub is_fault : walk.steps_fault l.graph [] query ≡ Some fault
     pub by_name : f ≡ fault_by_name table (key_at l.keys) (fault_at ends) fault
 
 -- the first fault of a query, by name
@@ -85,7 +85,7 @@ fault_in table l ends query = option_map (fault_by_name table (key_at l.keys) (f
 
 -- nothing changes
 pub record IsStill (before now : Shown) (old new : ℕ) : Type 0 where
-  pub shown : now ≡ before
+  pub table_after : now ≡ before
   pub steps : new ≡ old
 
 -- a query by number: the names that it newly closes are settled; or it has a fault; or memory ran out

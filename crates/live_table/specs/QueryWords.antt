@@ -15,18 +15,18 @@ use Rattle.live_table.specs.TableContents.{Listed}
 -- a word that leads nowhere: a refused name, or a name without targets
 pub record IsDeadEnd (table : Table) (u : WordUse) (end : DeadEnd) : Type 0 where
   pub text : end.text ≡ u.text
-  pub refused : end.is_refused ≡ is_refused u.text
-  pub nowhere : is_refused u.text ≡ false → targets table u ≡ []
+  pub refused_word : end.is_refused ≡ is_refused u.text
+  pub no_targets : is_refused u.text ≡ false → targets table u ≡ []
 
 -- these are the steps of the words before one that leads nowhere
 pub record AreCutAt (table : Table) (l : Listed) (before list : List ℕ) (us : List WordUse) (xs : List Step)
     (end : DeadEnd) : Type 0 where
-  pub front : List WordUse
+  pub words_before : List WordUse
   pub word : WordUse
-  pub rest : List WordUse
-  pub words : us ≡ front ++ word ∷ rest
-  pub written : AreWritten table l before list [] front xs
-  pub ends : IsDeadEnd table word end
+  pub words_after : List WordUse
+  pub words : us ≡ words_before ++ word ∷ words_after
+  pub front_steps : AreWritten table l before list [] words_before xs
+  pub dead_end_word : IsDeadEnd table word end
 
 -- these are the steps of the words of a query before the first that leads nowhere, or of all
 abbrev pub AreQuerySteps : Table → Listed → (before list : List ℕ) → List WordUse → List Step → Option DeadEnd

@@ -12,15 +12,15 @@ use Rattle.live_table.specs.States.{AllCanBe, Event, TableState, after_all}
 
 -- the name is settled
 abbrev pub IsKeySettled : TableState → Key → Type 0
-IsKeySettled s n = is_some (map_of.get s.kept n) ≡ true
+IsKeySettled s n = is_some (map_of.get s.kept_outcomes n) ≡ true
 
 -- each settled name has an entry and no name fault, the names that it reaches are settled, and its stored outcome is
 -- that of the present table
 pub record IsRight (s : TableState) : Type 0 where
-  pub present : (n : Key) → IsKeySettled s n → is_present s.table n ≡ true
-  pub closed : (n : Key) → IsKeySettled s n → IsClosed s.table n
-  pub below : (n m : Key) → IsKeySettled s n → Reaches s.table n m → IsKeySettled s m
-  pub right : (n : Key) (o : Outcome) → map_of.get s.kept n ≡ Some o → o ≡ outcome s.table n
+  pub settled_have_entries : (n : Key) → IsKeySettled s n → is_present s.table n ≡ true
+  pub settled_closed : (n : Key) → IsKeySettled s n → IsClosed s.table n
+  pub reached_settled : (n m : Key) → IsKeySettled s n → Reaches s.table n m → IsKeySettled s m
+  pub outcomes_right : (n : Key) (o : Outcome) → map_of.get s.kept_outcomes n ≡ Some o → o ≡ outcome s.table n
 
 -- law: the stored outcomes are right after any queries and edits
 abbrev pub RightLaw : Type 0

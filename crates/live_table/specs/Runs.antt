@@ -6,8 +6,9 @@ use Rattle.live_table.specs.States.{Event, after_all}
 -- law: an empty run of events leaves a table whose outcomes are right unchanged; two runs in turn are one run; and if
 -- events over an unchanged deck were made in part or in full, they are a cut-off part of more events
 pub record RunLaw : Type 0 where
-  pub none : (s : Shown) (n : ℕ) → IsRightTable s → IsAfterEvents [] s s n n
-  pub both : (es fs : List Event) (a b c : Shown) (n m k : ℕ) → IsAfterEvents es a b n m → IsAfterEvents fs b c m k
+  pub empty_run : (s : Shown) (n : ℕ) → IsRightTable s → IsAfterEvents [] s s n n
+  pub run_append : (es fs : List Event) (a b c : Shown) (n m k : ℕ) → IsAfterEvents es a b n m
+      → IsAfterEvents fs b c m k
       → IsAfterEvents (es ++ fs) a c n k
   pub cut_before : (es fs : List Event) (a b : Shown) (n m : ℕ) → IsCutOff es a b n m → IsCutOff (es ++ fs) a b n m
   pub cut_behind : (es fs : List Event) (a b c : Shown) (n m k : ℕ) → b.deck ≡ a.deck → IsAfterEvents es a b n m

@@ -23,12 +23,12 @@ use Rattle.live_table.specs.TableContents.{key_at}
 pub record Scene : Type 0 where
   pub deck : Contents
   pub keys : List Key
-  pub settled : List Bool
+  pub settled_flags : List Bool
   pub words : List WordUse
   pub name : Option ℕ
 
 abbrev pub is_settled : Scene → ℕ → Bool
-is_settled s n = unwrap_or (slice_get s.settled n) false
+is_settled s n = unwrap_or (slice_get s.settled_flags n) false
 
 abbrev pub is_this_name : Option ℕ → ℕ → Bool
 is_this_name None n = false
@@ -72,8 +72,8 @@ callee_at s n = callee_in (number_means s n)
 
 -- a word leads to settled names: to a single one, or to a prefix and a unit
 pub record IsLed (s : Scene) (u : WordUse) (n m : ℕ) : Type 0 where
-  pub word : WordLeadsInto (table s.deck) (IsClosed (table s.deck)) u
-  pub are : ((targets (table s.deck) u ≡ key_at s.keys n ∷ []) × (n ≡ m))
+  pub word_leads : WordLeadsInto (table s.deck) (IsClosed (table s.deck)) u
+  pub single_target : ((targets (table s.deck) u ≡ key_at s.keys n ∷ []) × (n ≡ m))
       ⊎ (targets (table s.deck) u ≡ key_at s.keys n ∷ key_at s.keys m ∷ [])
-  pub first : IsSettled s.settled n
-  pub second : IsSettled s.settled m
+  pub user_settled : IsSettled s.settled_flags n
+  pub target_settled : IsSettled s.settled_flags m

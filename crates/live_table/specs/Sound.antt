@@ -40,7 +40,7 @@ HasRankOf table l n =
 -- the stored looks of a number are the keys at which its words look besides their targets, each once
 pub record HasLooksOf (table : Table) (l : Listed) (n : ℕ) : Type 0 where
   pub looks : AreLooks table l.keys (key_words table (key_at l.keys n)) (steps l.graph n) (looks_of l.looks n)
-  pub once : IsDistinct nat_eq (looks_of l.looks n)
+  pub numbers_distinct : IsDistinct nat_eq (looks_of l.looks n)
 
 -- the stored looks of a number are right if all its steps lead somewhere
 abbrev pub HasLooksIfLed : Table → Listed → ℕ → Type 0
@@ -54,19 +54,19 @@ pub record AreNumberedNames (table : Table) (l : Listed) : Type 0 where
   pub outcome_count : length l.outcomes ≡ length l.keys
   pub callee_count : length l.callees ≡ length l.keys
   pub look_count : length l.looks ≡ length l.keys
-  pub flagged : l.present ≡ map (is_present table) l.keys
-  pub marked : l.settled ≡ map is_some l.outcomes
-  pub counted : l.count ≡ count_by (λ b. b) l.settled
-  pub apart : (n m : ℕ) → n < length l.keys → m < length l.keys → key_at l.keys n ≡ key_at l.keys m → n ≡ m
-  pub net : IsConsistentGraph l.graph l.settled
-  pub present : (n : ℕ) → IsSettled l.settled n → is_present table (key_at l.keys n) ≡ true
-  pub faithful : (n : ℕ) → IsSettled l.settled n → IsFaithful table l n
-  pub starts : (n : ℕ) → IsSettled l.settled n → HasStartsOf table l n
-  pub ranks : (n : ℕ) → IsSettled l.settled n → HasRankOf table l n
-  pub looked : (n : ℕ) → IsSettled l.settled n → HasLooksOf table l n
+  pub flags_right : l.entry_flags ≡ map (is_present table) l.keys
+  pub marks_right : l.settled_flags ≡ map is_some l.outcomes
+  pub count_right : l.count ≡ count_by (λ b. b) l.settled_flags
+  pub numbers_apart : (n m : ℕ) → n < length l.keys → m < length l.keys → key_at l.keys n ≡ key_at l.keys m → n ≡ m
+  pub net : IsConsistentGraph l.graph l.settled_flags
+  pub settled_have_entries : (n : ℕ) → IsSettled l.settled_flags n → is_present table (key_at l.keys n) ≡ true
+  pub faithful : (n : ℕ) → IsSettled l.settled_flags n → IsFaithful table l n
+  pub part_starts : (n : ℕ) → IsSettled l.settled_flags n → HasStartsOf table l n
+  pub ranks : (n : ℕ) → IsSettled l.settled_flags n → HasRankOf table l n
+  pub settled_looks : (n : ℕ) → IsSettled l.settled_flags n → HasLooksOf table l n
 
 -- a live table: its nodes, and the right outcome of each settled name
 pub record IsSound (deck : Contents) (l : Listed) (reductions : ℕ) : Type 0 where
   pub numbers : AreNumberedNames (table deck) l
-  pub right : IsRightTable (shown_table deck l reductions)
-  pub few : reductions ≤ 2 ^ 64 - 1
+  pub is_right : IsRightTable (shown_table deck l reductions)
+  pub few_reductions : reductions ≤ 2 ^ 64 - 1

@@ -21,7 +21,7 @@ Kept = map_of.FinMap key_cmp Outcome
 -- a table with the outcomes stored over it and the counts: names newly settled, up to 2^64 - 1, and steps
 pub record TableState : Type 0 where
   pub table : Table
-  pub kept : Kept
+  pub kept_outcomes : Kept
   pub reductions : ℕ
   pub steps : ℕ
 
@@ -39,9 +39,9 @@ with_outcomes table (k ∷ keys) kept = with_outcomes table keys (map_of.insert 
 -- these names are settled too; each new one is counted once
 abbrev pub with_settled : List Key → TableState → TableState
 with_settled keys s =
-    let kept = with_outcomes s.table keys s.kept in
-    let new = map_of.len kept - map_of.len s.kept in
-    record s { kept = kept; reductions = min (2 ^ 64 - 1) (s.reductions + new); steps = s.steps + new }
+    let kept = with_outcomes s.table keys s.kept_outcomes in
+    let new = map_of.len kept - map_of.len s.kept_outcomes in
+    record s { kept_outcomes = kept; reductions = min (2 ^ 64 - 1) (s.reductions + new); steps = s.steps + new }
 
 -- a query without a name fault settles the names that it reaches; one with a name fault settles nothing
 abbrev pub after_query : Bool → List Key → TableState → TableState
@@ -50,17 +50,20 @@ after_query closed keys s = if closed then with_settled keys s else s
 -- an edit forgets the names that it affects, and leaves the others unchanged
 abbrev pub after_edit : Table → List Key → TableState → TableState
 after_edit table keys s =
-    record s { table = table; kept = map_of.retain_keys s.kept (λ n. not (is_affected s.table keys n)) }
+    record s {
+      table = table;
+      kept_outcomes = map_of.retain_keys s.kept_outcomes (λ n. not (is_affected s.table keys n));
+    }
 
-abbrev pub after : Event → TableState → TableState
-after (AsksWords words) s = after_query (is_none (name_fault s.table words)) (reach s.table words) s
-after (AsksKey n) s = after_query (is_none (key_fault s.table n)) (n ∷ key_reach s.table n) s
-after (Becomes table) s = after_edit table (changed_keys s.table table) s
+abbrev pub after_event : Event → TableState → TableState
+after_event (AsksWords words) s = after_query (is_none (name_fault s.table words)) (reach s.table words) s
+after_event (AsksKey n) s = after_query (is_none (key_fault s.table n)) (n ∷ key_reach s.table n) s
+after_event (Becomes table) s = after_edit table (changed_keys s.table table) s
 
 -- the state after events in turn
 abbrev pub after_all : List Event → TableState → TableState
 after_all [] s = s
-after_all (e ∷ es) s = after_all es (after e s)
+after_all (e ∷ es) s = after_all es (after_event e s)
 
 -- a possible event: a queried key has an entry, and the keys that differ between two tables are those whose texts
 -- differ
@@ -71,7 +74,7 @@ CanBe (Becomes table) s = AreChanged s.table table (changed_keys s.table table)
 
 abbrev pub AllCanBe : List Event → TableState → Type 0
 AllCanBe [] s = ⊤
-AllCanBe (e ∷ es) s = CanBe e s × AllCanBe es (after e s)
+AllCanBe (e ∷ es) s = CanBe e s × AllCanBe es (after_event e s)
 
 -- law: the state after concatenated events is that after the first ones and then the others
 abbrev pub EventOrderLaw : Type 0

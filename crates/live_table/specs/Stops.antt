@@ -18,10 +18,10 @@ use Rattle.live_table.specs.TableContents.{Listed}
 -- the fault of a step that is known to have one
 pub record IsFaultBelow (table : Table) (l : Listed) (ends : List DeadEnd) (fs : Faults) (x : Step) (q : QueryFault)
     : Type 0 where
-  pub known : IsFaultyStep fs x
+  pub step_faulty : IsFaultyStep fs x
   pub name : NameFault
-  pub some : fault_in table l ends (x ∷ []) ≡ Some name
-  pub is : q ≡ fault.Name name
+  pub fault_found : fault_in table l ends (x ∷ []) ≡ Some name
+  pub query_fault : q ≡ fault.Name name
 
 -- the fault of a query with this stop
 abbrev pub IsStopFault : Table → Listed → List DeadEnd → Faults → Stop → QueryFault → Type 0
@@ -39,14 +39,14 @@ IsNamedResult table l ends fs (Err stop) answer =
 -- the property holds of a result with its stop named
 pub record HoldsByName {A : Type 0} (table : Table) (l : Listed) (ends : List DeadEnd) (fs : Faults)
     (result : Result A Stop) (Holds : Result A QueryFault → Type 0) : Type 0 where
-  pub answer : Result A QueryFault
-  pub named : IsNamedResult table l ends fs result answer
-  pub holds : Holds answer
+  pub named_answer : Result A QueryFault
+  pub result_named : IsNamedResult table l ends fs result named_answer
+  pub answer_holds : Holds named_answer
 
 -- the stop of a query that is cut before a word that leads nowhere: its fault is the first one of the preceding words,
 -- or else that of the word
 pub record IsCutStop (table : Table) (l : Listed) (ends : List DeadEnd) (fs : Faults) (query : List Step)
     (end : DeadEnd) (stop : Stop) : Type 0 where
   pub name : NameFault
-  pub named : IsStopFault table l ends fs stop (fault.Name name)
-  pub first : fault_before (fault_in table l ends query) end ≡ Some name
+  pub stop_named : IsStopFault table l ends fs stop (fault.Name name)
+  pub fault_first : fault_before (fault_in table l ends query) end ≡ Some name

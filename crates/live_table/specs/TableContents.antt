@@ -45,23 +45,23 @@ looks_of looks n = numbers_in (slice_get looks n)
 -- and whether it is settled; and the number of settled names
 pub record Listed : Type 0 where
   pub keys : List Key
-  pub present : List Bool
+  pub entry_flags : List Bool
   pub callees : List Callee
   pub outcomes : List (Option Outcome)
   pub graph : Graph
   pub looks : Looks
-  pub settled : List Bool
+  pub settled_flags : List Bool
   pub count : ℕ
 
 abbrev pub no_nodes : Listed
 no_nodes = record {
   keys = [];
-  present = [];
+  entry_flags = [];
   callees = [];
   outcomes = [];
   graph = [];
   looks = [];
-  settled = [];
+  settled_flags = [];
   count =
       0;
 }
@@ -69,14 +69,15 @@ no_nodes = record {
 abbrev pub node_lists : Nodes → Listed
 node_lists nodes = record {
   keys = nodes.keys;
-  present = nodes.present.items;
+  entry_flags = nodes.present.items;
   callees = nodes.callees.items;
   outcomes = nodes.outcomes.items;
   graph = nodes.steps.items;
   looks = nodes.looks.items;
-  settled = nodes.settled.items;
+  settled_flags = nodes.settled.items;
   count = nodes.settled_count;
 }
 
 abbrev pub shown_table : Contents → Listed → ℕ → Shown
-shown_table deck l reductions = record { deck = deck; kept = kept_of l.keys l.outcomes; reductions = reductions }
+shown_table deck l reductions =
+    record { deck = deck; kept_outcomes = kept_of l.keys l.outcomes; reductions = reductions }

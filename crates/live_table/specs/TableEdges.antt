@@ -22,11 +22,11 @@ is_flagged settled n = slice_index_or settled n false
 -- the edges are those of the settled names; the last numbers may have none yet
 pub record HasEdges (deck : Contents) (l : Listed) (g : NameGraph) : Type 0 where
   pub names : g.names ≤ length l.keys
-  pub are : AreNameEdges (table deck) (key_at l.keys) g.names (is_flagged l.settled) g
+  pub edges_right : AreNameEdges (table deck) (key_at l.keys) g.names (is_flagged l.settled_flags) g
 
 -- the nodes are sound, and each settled name has its edges
 pub record IsLinked (deck : Contents) (l : Listed) (g : NameGraph) (reductions : ℕ) : Type 0 where
-  pub sound : IsSound deck l reductions
+  pub is_sound : IsSound deck l reductions
   pub edges : HasEdges deck l g
 
 -- whether a number is settled and does not wait for its edges
@@ -43,11 +43,11 @@ AreTargetsFirst t key (n ∷ rest) =
 -- the edges are those of the settled names that do not wait for theirs
 pub record HasLateEdges (deck : Contents) (l : Listed) (waiting : List ℕ) (g : NameGraph) : Type 0 where
   pub names : g.names ≤ length l.keys
-  pub are : AreNameEdges (table deck) (key_at l.keys) g.names (is_linked l.settled waiting) g
-  pub settled : (n : ℕ) → In n waiting → IsSettled l.settled n
-  pub order : AreTargetsFirst (table deck) (key_at l.keys) waiting
+  pub edges_right : AreNameEdges (table deck) (key_at l.keys) g.names (is_linked l.settled_flags waiting) g
+  pub waiting_settled : (n : ℕ) → In n waiting → IsSettled l.settled_flags n
+  pub targets_first : AreTargetsFirst (table deck) (key_at l.keys) waiting
 
 -- a live table is sound, and has its edges except those of the waiting names
 pub record IsLive (deck : Contents) (l : Listed) (e : LateEdges) (reductions : ℕ) : Type 0 where
-  pub sound : IsSound deck l reductions
+  pub is_sound : IsSound deck l reductions
   pub edges : HasLateEdges deck l e.waiting.items e.made

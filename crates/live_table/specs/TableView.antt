@@ -13,18 +13,20 @@ use Rattle.live_table.specs.States.{Event, Kept, TableState, after_all}
 -- the deck, the settled names with their outcomes, and the number of names that were settled
 pub record Shown : Type 0 where
   pub deck : Contents
-  pub kept : Kept
+  pub kept_outcomes : Kept
   pub reductions : ℕ
 
 -- the code of a view is that of its parts
 abbrev pub shown_code : Coded Shown
 shown_code =
     code_by _ (coded× deck.the_row.coded (coded× (map_of.code key_code outcome.the_row.coded) coded_ℕ))
-    (λ s. (s.deck, (s.kept, s.reductions))) (λ p. record { deck = p.0; kept = p.1.0; reductions = p.1.1 }) (λ _. refl)
+    (λ s. (s.deck, (s.kept_outcomes, s.reductions)))
+    (λ p. record { deck = p.0; kept_outcomes = p.1.0; reductions = p.1.1 }) (λ _. refl)
 
 -- a live table with this number of steps
 abbrev pub state_with_steps : Shown → ℕ → TableState
-state_with_steps s steps = record { table = table s.deck; kept = s.kept; reductions = s.reductions; steps = steps }
+state_with_steps s steps =
+    record { table = table s.deck; kept_outcomes = s.kept_outcomes; reductions = s.reductions; steps = steps }
 
 -- the stored outcomes are right, whatever the counts
 abbrev pub IsRightTable : Shown → Type 0
@@ -33,15 +35,15 @@ IsRightTable s = IsRight (state_with_steps s 0)
 -- the state after these events
 pub record IsAfterEvents (events : List Event) (before after : Shown) (old new : ℕ) : Type 0 where
   pub stands : state_with_steps after new ≡ after_all events (state_with_steps before old)
-  pub right : IsRightTable after
+  pub is_right : IsRightTable after
 
 -- after memory ran out: the deck is unchanged; each stored outcome is right; the query lowered neither the count of
 -- steps nor that of newly settled names, and raised neither above that after the whole query (no live table counts more
 -- than 2^64 - 1 names)
 pub record IsCutOff (events : List Event) (before after : Shown) (old new : ℕ) : Type 0 where
   pub deck : after.deck ≡ before.deck
-  pub right : IsRightTable after
-  pub least : old ≤ new
-  pub most : new ≤ (after_all events (state_with_steps before old)).steps
-  pub counted : before.reductions ≤ 2 ^ 64 - 1 → (before.reductions ≤ after.reductions)
+  pub is_right : IsRightTable after
+  pub steps_least : old ≤ new
+  pub steps_most : new ≤ (after_all events (state_with_steps before old)).steps
+  pub reductions_counted : before.reductions ≤ 2 ^ 64 - 1 → (before.reductions ≤ after.reductions)
       × (after.reductions ≤ (after_all events (state_with_steps before old)).reductions)

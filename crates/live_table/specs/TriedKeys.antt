@@ -13,5 +13,5 @@ keys_of_ranges names tried = map (key_of_range names) tried
 
 -- each range is within the names
 pub record AreWithin (names : List ℕ) (tried : List TriedKey) : Type 0 where
-  pub starts : (i : ℕ) (k : TriedKey) → slice_get tried i ≡ Some k → k.start ≤ k.end
-  pub ends : (i : ℕ) (k : TriedKey) → slice_get tried i ≡ Some k → k.end ≤ length names
+  pub starts_within : (i : ℕ) (k : TriedKey) → slice_get tried i ≡ Some k → k.start ≤ k.end
+  pub ends_within : (i : ℕ) (k : TriedKey) → slice_get tried i ≡ Some k → k.end ≤ length names

@@ -34,18 +34,19 @@ steps_to lead = None
 -- these are the numbers of the targets of a word, and those of the other keys at which it looks are added
 pub record AreTargets (table : Table) (keys : List Key) (u : WordUse) (ns old new : List ℕ) : Type 0 where
   pub targets : targets table u ≡ map (key_at keys) ns
-  pub inside : (m : ℕ) → In m ns → m < length keys
-  pub own : List ℕ
-  pub put : (m : ℕ) → In m new ↔ (In m old ⊎ In m own)
-  pub within : (m : ℕ) → In m own → m < length keys
-  pub exactly : (k : Key) → Contains (looked_keys table u) k ↔ ((m : ℕ) × (In m ns ⊎ In m own) × (k ≡ key_at keys m))
+  pub targets_in_table : (m : ℕ) → In m ns → m < length keys
+  pub own_numbers : List ℕ
+  pub looks_merged : (m : ℕ) → In m new ↔ (In m old ⊎ In m own_numbers)
+  pub own_in_table : (m : ℕ) → In m own_numbers → m < length keys
+  pub word_looks : (k : Key) → Contains (looked_keys table u) k ↔
+      ((m : ℕ) × (In m ns ⊎ In m own_numbers) × (k ≡ key_at keys m))
 
 -- these keys have numbers, and their numbers are gathered
 pub record AreGathered (keys others : List Key) (old new : List ℕ) : Type 0 where
-  pub own : List ℕ
-  pub numbers_are : others ≡ map (key_at keys) own
-  pub within : (m : ℕ) → In m own → m < length keys
-  pub put : (m : ℕ) → In m new ↔ (In m old ⊎ In m own)
+  pub own_numbers : List ℕ
+  pub numbers_are : others ≡ map (key_at keys) own_numbers
+  pub own_in_table : (m : ℕ) → In m own_numbers → m < length keys
+  pub looks_merged : (m : ℕ) → In m new ↔ (In m old ⊎ In m own_numbers)
 
 -- a word leads to these keys, by number
 abbrev pub LeadsToKeys : (keys targets : List Key) → Lead → Type 0

@@ -46,7 +46,7 @@ fn link(
     n: usize,
 ) -> Result<(), AllocError>
     requires sound { (reductions : ℕ) × IsSound deck.now (node_lists nodes.now) reductions }
-    requires settled { IsSettled (node_lists nodes.now).settled n }
+    requires settled { IsSettled (node_lists nodes.now).settled_flags n }
     ensures ok { OnOk result ((rest : List ℕ) → HasLateEdges deck.now (node_lists nodes.now) (n ∷ rest) made.old
         → HasLateEdges deck.now (node_lists nodes.now) rest made.new) }
     ensures err { OnErr result ((waiting : List ℕ) → HasLateEdges deck.now (node_lists nodes.now) waiting made.old

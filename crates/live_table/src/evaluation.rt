@@ -56,7 +56,7 @@ pub(crate) fn evaluate_inverse<'a>(
     value: &Quantity,
 ) -> Result<Quantity, QueryFault>
     requires sound { (reductions : ℕ) × IsSound deck.now (node_lists nodes.now) reductions }
-    requires settled { IsSettled (node_lists nodes.now).settled n }
+    requires settled { IsSettled (node_lists nodes.now).settled_flags n }
     requires function { (key_at nodes.now.keys n).kind ≡ kind.Func }
     ensures { IsQueryResult result
         (by_names None (inverse_at (key_meaning (table deck.now) (key_at nodes.now.keys n)) value.now)) }

@@ -110,7 +110,7 @@ fn forget_number(alloc: Global, nodes: &mut Nodes, edges: &mut NameEdges, n: usi
     ensures left { AreNumbersLeft nodes.old.settled.items nodes.new.settled.items nodes.old.settled_count
         nodes.new.settled_count nodes.old.outcomes.items nodes.new.outcomes.items }
     ensures rest { node_lists nodes.new ≡ record (node_lists nodes.old) {
-      settled = nodes.new.settled.items;
+      settled_flags = nodes.new.settled.items;
       count = nodes.new.settled_count;
       outcomes = nodes.new.outcomes.items;
     } }

@@ -85,7 +85,7 @@ impl Model for LiveTable {
 impl LiveTable {
     /// Creates a table over a deck, with no name settled. It allocates no memory.
     pub fn new(alloc: Global, deck: Deck) -> LiveTable
-        ensures { result ≡ record { deck = deck; kept = map_of.empty; reductions = 0 } }
+        ensures { result ≡ record { deck = deck; kept_outcomes = map_of.empty; reductions = 0 } }
     {
         findings_law();
         let seed = deck.settings().vars.table_seed();
@@ -124,7 +124,7 @@ impl LiveTable {
         steps: &mut Steps<L>,
     ) -> Result<Quantity, QueryFault>
         ensures deck { self.new.deck ≡ self.old.deck }
-        ensures answer { spec.IsQueryResult result (spec.answer (table self.old.deck) (syntax tree.now)) }
+        ensures answer { spec.IsQueryResult result (spec.table_answer (table self.old.deck) (syntax tree.now)) }
         ensures after { IsQuery (AsksWords (words_in (syntax tree.now))) result
             self.old self.new steps.old steps.new }
     {
@@ -157,7 +157,7 @@ impl LiveTable {
         steps: &mut Steps<L>,
     ) -> Result<Option<Quantity>, AllocError>
         ensures deck { self.new.deck ≡ self.old.deck }
-        ensures value { IfOk result (λ x. x ≡ spec.value_in (spec.answer (table self.old.deck) (syntax tree.now))) }
+        ensures value { IfOk result (λ x. x ≡ spec.value_in (spec.table_answer (table self.old.deck) (syntax tree.now))) }
         ensures after { AreQueries (AsksWords (words_in (syntax tree.now)) ∷ []) result
             self.old self.new steps.old steps.new }
     {
@@ -288,7 +288,7 @@ impl LiveTable {
 
     /// Returns the counts of the table.
     pub fn counts(&self) -> Counts
-        ensures settled { result.settled ≡ map_of.len self.now.kept }
+        ensures settled { result.settled ≡ map_of.len self.now.kept_outcomes }
         ensures names { result.names ≡ length (present_names (table self.now.deck)) }
         ensures reductions { result.reductions ≡ self.now.reductions }
     {

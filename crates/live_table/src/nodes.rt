@@ -97,7 +97,7 @@ impl Nodes {
     pub(crate) fn note(&mut self, n: usize, place: Option<usize>)
         requires { n < length self.old.present.items }
         ensures present { self.new.present.items ≡ slice_set self.old.present.items n (is_some place) }
-        ensures rest { node_lists self.new ≡ record (node_lists self.old) { present = self.new.present.items } }
+        ensures rest { node_lists self.new ≡ record (node_lists self.old) { entry_flags = self.new.present.items } }
     {
         self.present[n] = place.is_some();
         if n < self.places.len() {

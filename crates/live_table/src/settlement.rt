@@ -127,7 +127,7 @@ fn settle_one<L: Ledger>(
 fn store_outcome(nodes: &mut Nodes, n: usize, outcome: Outcome, rank: u32)
     requires callees { n < length (node_lists nodes.old).callees }
     requires outcomes { n < length (node_lists nodes.old).outcomes }
-    requires settled { n < length (node_lists nodes.old).settled }
+    requires settled { n < length (node_lists nodes.old).settled_flags }
     requires room { (node_lists nodes.old).count + 1 < 2 ^ 64 }
     ensures { (c : Callee) → slice_get (node_lists nodes.old).callees n ≡ Some c
         → node_lists nodes.new ≡ with_outcome n outcome (ranks.with_rank rank c) (node_lists nodes.old) }

@@ -94,8 +94,8 @@ impl<'a, 'w> Surroundings<'a, 'w> {
         requires { place < length (scenes.holder_words self.now holder) }
         ensures led { (u : WordUse) → slice_get (scenes.holder_words self.now holder) place ≡ Some u
             → scenes.IsLed self.now u result.first result.second }
-        ensures first { IsSettled self.now.settled result.first }
-        ensures second { IsSettled self.now.settled result.second }
+        ensures first { IsSettled self.now.settled_flags result.first }
+        ensures second { IsSettled self.now.settled_flags result.second }
         ensures few { place < 2 ^ 63 }
     {
         match holder {
@@ -112,8 +112,8 @@ impl<'a, 'w> Surroundings<'a, 'w> {
 
     // Returns the meaning of a word, given the numbers of its targets.
     fn meaning_of_targets(&self, targets: Targets) -> Meaning<'_>
-        requires first { IsSettled self.now.settled targets.first }
-        requires second { IsSettled self.now.settled targets.second }
+        requires first { IsSettled self.now.settled_flags targets.first }
+        requires second { IsSettled self.now.settled_flags targets.second }
         ensures { (u : WordUse) → scenes.IsLed self.now u targets.first targets.second
             → IsMeaningTold (scenes.has_callee self.now) (scenes.callee_at self.now) (scenes.word_means self.now u)
             result }
@@ -130,7 +130,7 @@ impl<'a, 'w> Surroundings<'a, 'w> {
 
     // Returns the outcome of a settled name.
     fn outcome(&self, n: usize) -> &Outcome
-        requires { IsSettled self.now.settled n }
+        requires { IsSettled self.now.settled_flags n }
         ensures { result.now ≡ names.outcome (table self.now.deck) (key_at self.now.keys n) }
     {
         match &self.nodes.outcomes[n] {

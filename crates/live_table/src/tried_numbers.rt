@@ -2,7 +2,7 @@
 
 ghost use Rattle.std.specs.Prelude.{◌≡◌, ◌<◌, ◌≤◌, ◌-◌, ℕ, List, IfOk, length, take};
 ghost use Rattle.deck.specs.Tables.{table};
-ghost use Rattle.name_lookup.specs.Targets.{count, last_keys};
+ghost use Rattle.name_lookup.specs.Targets.{last_keys, target_count};
 ghost use Rattle.live_table.specs.declared.dead_end.DeadEnd.{DeadEnd};
 ghost use Rattle.live_table.specs.Exploration.{AreAdded, AreListed};
 ghost use Rattle.live_table.specs.WordTargets.{AreGathered, LeadsToKeys};
@@ -30,7 +30,8 @@ pub(crate) fn gather_others(
     ensures added { (before list : List ℕ) (ends : List DeadEnd)
         → AreListed (table deck.now) (node_lists nodes.old) before list
         → AreAdded (table deck.now) (node_lists nodes.old) (node_lists nodes.new) before list list ends ends }
-    ensures gathered { IfOk result (λ _. AreGathered nodes.new.keys (take (length tried.now - count targets) tried.now)
+    ensures gathered { IfOk result (λ _. AreGathered nodes.new.keys
+        (take (length tried.now - target_count targets) tried.now)
         nodes.old.gathered nodes.new.gathered) }
 {
     for place in 0..tried.len().saturating_sub(targets.count()) {
@@ -50,12 +51,12 @@ pub(crate) fn number_targets(
     targets: Targets,
 ) -> Result<Lead, AllocError>
     requires nodes { AreNumberedNames (table deck.now) (node_lists nodes.old) }
-    requires enough { count targets ≤ length tried.now }
+    requires enough { target_count targets ≤ length tried.now }
     ensures added { (before list : List ℕ) (ends : List DeadEnd)
         → AreListed (table deck.now) (node_lists nodes.old) before list
         → AreAdded (table deck.now) (node_lists nodes.old) (node_lists nodes.new) before list list ends ends }
     ensures gathered { nodes.new.gathered ≡ nodes.old.gathered }
-    ensures lead { IfOk result (LeadsToKeys nodes.new.keys (last_keys (count targets) tried.now)) }
+    ensures lead { IfOk result (LeadsToKeys nodes.new.keys (last_keys (target_count targets) tried.now)) }
 {
     match targets {
         Targets::Nowhere => Ok(Lead::Nowhere),

@@ -19,40 +19,43 @@ module _ (A B D : ℕ → Type 0) (both : IsBoth A B D) where
   gone_still : (old mid new : List Edge) → AreEdgesCut A old mid → AreEdgesCut B mid new → (x y : ℕ) → A x
       → (edge_count new x y ≡ 0 → ⊥) → ⊥
   gone_still old mid new a b x y h some =
-      let free : B x → ⊥ = λ i. some (b.gone x y i) in
-      some (b.kept x y free ∙ a.gone x y h)
+      let free : B x → ⊥ = λ i. some (b.affected_cleared x y i) in
+      some (b.others_unchanged x y free ∙ a.affected_cleared x y h)
 
   pub cut_on : (old mid new : List Edge) → AreEdgesCut A old mid → AreEdgesCut B mid new → AreEdgesCut D old new
   cut_on old mid new a b = record {
-    gone = λ x y h. elim (cases_eq (edge_count new x y) 0) [
+    affected_cleared = λ x y h. elim (cases_eq (edge_count new x y) 0) [
       | inl e ↦ e
-      | inr some ↦ absurd (both.either x h (λ i. gone_still old mid new a b x y i some) (λ i. some (b.gone x y i)))
+      | inr some ↦ absurd (both.either x h (λ i. gone_still old mid new a b x y i some)
+          (λ i. some (b.affected_cleared x y i)))
     ];
-    kept = λ x y free. b.kept x y (λ i. free (both.second x i)) ∙ a.kept x y (λ i. free (both.first x i));
+    others_unchanged = λ x y free. b.others_unchanged x y (λ i. free (both.second x i))
+        ∙ a.others_unchanged x y (λ i. free (both.first x i));
   }
 
   pub cleared_on : (marks then now : ℕ → Bool) → AreMarksCleared A marks then → AreMarksCleared B then now
       → AreMarksCleared D marks now
   cleared_on marks then now a b = record {
-    gone = λ x h. elim (cases_Bool (now x)) [
+    affected_cleared = λ x h. elim (cases_Bool (now x)) [
       | inr e ↦ e
       | inl e ↦
-          let free : B x → ⊥ = λ i. true≢false (sym e ∙ b.gone x i) in
-          absurd (both.either x h (λ i. true≢false (sym e ∙ (b.kept x free ∙ a.gone x i))) free)
+          let free : B x → ⊥ = λ i. true≢false (sym e ∙ b.affected_cleared x i) in
+          absurd (both.either x h (λ i. true≢false (sym e ∙ (b.others_unchanged x free ∙ a.affected_cleared x i))) free)
     ];
-    kept = λ x free. b.kept x (λ i. free (both.second x i)) ∙ a.kept x (λ i. free (both.first x i));
+    others_unchanged = λ x free. b.others_unchanged x (λ i. free (both.second x i))
+        ∙ a.others_unchanged x (λ i. free (both.first x i));
   }
 
 -- an edge after a cut existed before, and its user was not cut
 module _ (A : ℕ → Type 0) (old new : List Edge) (cut : AreEdgesCut A old new) where
   pub was_free : (x y : ℕ) → HasEdge new x y → A x → ⊥
-  was_free x y h i = let z : edge_count new x y ≡ 0 = cut.gone x y i in omega (arith, h, z)
+  was_free x y h i = let z : edge_count new x y ≡ 0 = cut.affected_cleared x y i in omega (arith, h, z)
 
   pub was_there : (x y : ℕ) → HasEdge new x y → HasEdge old x y
-  was_there x y h = subst (λ k. 0 < k) (cut.kept x y (was_free x y h)) h
+  was_there x y h = subst (λ k. 0 < k) (cut.others_unchanged x y (was_free x y h)) h
 
   pub stays_there : (x y : ℕ) → (A x → ⊥) → HasEdge old x y → HasEdge new x y
-  stays_there x y free h = subst (λ k. 0 < k) (sym (cut.kept x y free)) h
+  stays_there x y free h = subst (λ k. 0 < k) (sym (cut.others_unchanged x y free)) h
 
   pub reached_before : {x y : ℕ} → NodeReaches new x y → NodeReaches old x y
   reached_before (at_once h) = at_once (was_there _ _ h)
@@ -82,8 +85,8 @@ module _ (g : NameGraph) where
   pub users_affected : (keys : List ℕ) (n m : ℕ) → HasEdge g.uses n m → AreAffected g keys m → AreAffected g keys n
   users_affected keys n m h (k, c, i) = (k, c, user_affected k n m h i)
 
-  pub alone : (key n : ℕ) → AreAffected g (key ∷ []) n → IsAffectedName g key n
-  alone key n (k, c, i) = subst (λ z. IsAffectedName g z n) (only c) i
+  pub affected_by_one : (key n : ℕ) → AreAffected g (key ∷ []) n → IsAffectedName g key n
+  affected_by_one key n (k, c, i) = subst (λ z. IsAffectedName g z n) (only c) i
     where
       only : {k : ℕ} → Contains (key ∷ []) k → k ≡ key
       only {k = k} (j, l, e) = sym (first j l e)
@@ -126,8 +129,8 @@ module _ (keys others : List ℕ) (old mid : NameGraph) (left : ForgetsNames (Ar
   either_list n (k, c, i) =
       elim (Contains-append_cases keys others k c) [ inl j ↦ inl (k, j, i) | inr j ↦ inr (k, j, i) ]
 
-  pub both : IsBoth (AreAffected old keys) (AreAffected mid others) (AreAffected old (keys ++ others))
-  both = record {
+  pub affected_by_both : IsBoth (AreAffected old keys) (AreAffected mid others) (AreAffected old (keys ++ others))
+  affected_by_both = record {
     first = λ n i. (i.0, Contains-append_left keys others i.0 i.1, i.2);
     second = λ n i. (i.0, Contains-append_right keys others i.0 i.1, affected_before i.0 n i.2);
     either = λ n i before after. elim (either_list n i) [

@@ -157,10 +157,10 @@ module _ (g : EdgeGraph) (nodes : AreNodes g) (key : ℕ) (mid new : List Edge)
   Either x = node.IsAffectedNode g.edges (key * 2) x ⊎ node.IsAffectedNode g.edges (key * 2 + 1) x
 
   cut_first : AreEdgesCut First g.edges mid
-  cut_first = record { gone = first.gone; kept = first.kept }
+  cut_first = record { affected_cleared = first.affected_cleared; others_unchanged = first.others_unchanged }
 
   cut_second : AreEdgesCut Second mid new
-  cut_second = record { gone = second.gone; kept = second.kept }
+  cut_second = record { affected_cleared = second.affected_cleared; others_unchanged = second.others_unchanged }
 
   up : (x y : ℕ) → HasEdge g.edges x y → First y → First x
   up x y h (inl e) = inr (at_once (subst (λ z. HasEdge g.edges x z) e h))
@@ -194,9 +194,10 @@ module _ (g : EdgeGraph) (nodes : AreNodes g) (key : ℕ) (mid new : List Edge)
 
   between : (r : ℕ) → r < 2 → AreEdgesCut (IsAffectedName (name_graph g) key) (edges_to r g.edges) (edges_to r new)
   between r l = record {
-    gone = λ x y i. counted r l new x y ∙ cut_both.gone (x * 2) (y * 2 + r) (affected_there g nodes key x i);
-    kept = λ x y free. counted r l new x y
-        ∙ (cut_both.kept (x * 2) (y * 2 + r) (λ i. free (affected_shown g nodes key x i))
+    affected_cleared = λ x y i. counted r l new x y ∙ cut_both.affected_cleared (x * 2) (y * 2 + r)
+        (affected_there g nodes key x i);
+    others_unchanged = λ x y free. counted r l new x y
+        ∙ (cut_both.others_unchanged (x * 2) (y * 2 + r) (λ i. free (affected_shown g nodes key x i))
         ∙ sym (counted r l g.edges x y));
   }
 
@@ -220,9 +221,9 @@ module _ (g : EdgeGraph) (nodes : AreNodes g) (key : ℕ) (mid new : List Edge)
 
     pub cleared : AreMarksCleared (IsAffectedName (name_graph g) key) old_names new_names
     cleared = record {
-      gone = λ n i. sym (new_is n) ∙ clear_both.gone (n * 2) (affected_there g nodes key n i);
-      kept = λ n free. sym (new_is n)
-          ∙ (clear_both.kept (n * 2) (λ i. free (affected_shown g nodes key n i)) ∙ old_is n);
+      affected_cleared = λ n i. sym (new_is n) ∙ clear_both.affected_cleared (n * 2) (affected_there g nodes key n i);
+      others_unchanged = λ n free. sym (new_is n)
+          ∙ (clear_both.others_unchanged (n * 2) (λ i. free (affected_shown g nodes key n i)) ∙ old_is n);
     }
 
 -- the mark of a first node is that of its name

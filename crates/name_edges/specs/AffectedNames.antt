@@ -18,8 +18,8 @@ AreAffected g keys n = (key : ℕ) × Contains keys key × IsAffectedName g key 
 
 -- the edges from affected users are removed, and all other edges stay
 pub record AreEdgesCut (Affected : ℕ → Type 0) (old new : List Edge) : Type 0 where
-  pub gone : (x y : ℕ) → Affected x → edge_count new x y ≡ 0
-  pub kept : (x y : ℕ) → (Affected x → ⊥) → edge_count new x y ≡ edge_count old x y
+  pub affected_cleared : (x y : ℕ) → Affected x → edge_count new x y ≡ 0
+  pub others_unchanged : (x y : ℕ) → (Affected x → ⊥) → edge_count new x y ≡ edge_count old x y
 
 -- the edges from affected names are removed, and everything else stays
 pub record ForgetsNames (Affected : ℕ → Type 0) (old new : NameGraph) : Type 0 where

@@ -8,9 +8,9 @@ use Rattle.name_edges.specs.NameGraphs.{NameGraph}
 -- law: without a changed key nothing is forgotten; a list of one key affects what the key affects; and forgetting some
 -- keys and then others forgets exactly what all of them together affect, and clears no other mark
 pub record ForgettingLaw : Type 0 where
-  pub none : (g : NameGraph) → ForgetsNames (AreAffected g []) g g
+  pub no_key_given : (g : NameGraph) → ForgetsNames (AreAffected g []) g g
   pub none_cleared : (g : NameGraph) (marks : ℕ → Bool) → AreMarksCleared (AreAffected g []) marks marks
-  pub one : (g : NameGraph) (key n : ℕ) → AreAffected g (key ∷ []) n ↔ IsAffectedName g key n
+  pub one_key : (g : NameGraph) (key n : ℕ) → AreAffected g (key ∷ []) n ↔ IsAffectedName g key n
   pub more_keys : (keys others : List ℕ) (old mid new : NameGraph)
       → ForgetsNames (AreAffected old keys) old mid → ForgetsNames (AreAffected mid others) mid new
       → ForgetsNames (AreAffected old (keys ++ others)) old new

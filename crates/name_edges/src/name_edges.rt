@@ -13,8 +13,8 @@ use std::marker::Model;
 
 /// Which names use which, and which names looked at which other keys. Names and keys are numbered from 0.
 ///
-/// Each number has two nodes. The first stands for the name, which uses names and is used. The second stands for the
-/// key, for names that looked at it but do not use it. It is never a user, so nothing is forgotten through it.
+/// Each number has two nodes. The first is that of the name, which uses names and is used. The second is that of
+/// the key, for names that looked at it but do not use it. It is never a user, so nothing is forgotten through it.
 #[derive(Drop)]
 pub struct NameEdges {
     links: Links,

@@ -11,7 +11,7 @@ use Rattle.name_lookup.specs.Candidates.{prefix_candidate}
 use Rattle.name_lookup.specs.Candidates.{prefix_candidates, prefix_candidates_within, singular_candidates}
 use Rattle.name_lookup.specs.Laws.{CandidatesLaw}
 use Rattle.name_lookup.specs.Order.{try_key, try_kinds, try_parts, try_prefixes, try_stem, try_stem_if, with_prefix}
-use Rattle.name_lookup.specs.Plans.{Asks, Gives, LookupPlan, after, run}
+use Rattle.name_lookup.specs.Plans.{Asks, Gives, LookupPlan, found_after, run}
 use Rattle.name_lookup.specs.Plurals.{has_ending, without_end}
 
 module _ (has : Key → Bool) where
@@ -24,13 +24,13 @@ module _ (has : Key → Bool) where
       → Tries (try_key k next) ((k ∷ []) ∷ cs)
   key_tried k next cs h = by (has k)
     where
-      by : (b : Bool) → after k (cond b (record { targets = k ∷ []; looked = [] }) (run has next))
+      by : (b : Bool) → found_after k (cond b (record { targets = k ∷ []; keys_looked_at = [] }) (run has next))
           ≡ record {
             targets = cond (b && true) (k ∷ []) (first_present has cs);
-            looked = (k ∷ cond b [] []) ++ cond (b && true) [] (all_looked_at has cs);
+            keys_looked_at = (k ∷ cond b [] []) ++ cond (b && true) [] (all_looked_at has cs);
           }
       by true = refl
-      by false = ap (after k) h
+      by false = ap (found_after k) h
 
   -- a plan that tries a prefix with the rest of its word tries the candidate of both
   prefix_tried : (front rest : List ℕ) (next : LookupPlan) (cs : List (List Key)) → Tries next cs
@@ -46,15 +46,16 @@ module _ (has : Key → Bool) where
       u = key kind.Unit (b ∷ bs)
 
       by : (c d : Bool)
-          → after p (cond c (after u (cond d (record { targets = p ∷ u ∷ []; looked = [] }) (run has next)))
+          → found_after p (cond c
+          (found_after u (cond d (record { targets = p ∷ u ∷ []; keys_looked_at = [] }) (run has next)))
           (run has next))
           ≡ record {
             targets = cond (c && (d && true)) (p ∷ u ∷ []) (first_present has cs);
-            looked = (p ∷ cond c (u ∷ cond d [] []) []) ++ cond (c && (d && true)) [] (all_looked_at has cs);
+            keys_looked_at = (p ∷ cond c (u ∷ cond d [] []) []) ++ cond (c && (d && true)) [] (all_looked_at has cs);
           }
       by true true = refl
-      by true false = ap (λ (x : Found). after p (after u x)) h
-      by false d = ap (after p) h
+      by true false = ap (λ (x : Found). found_after p (found_after u x)) h
+      by false d = ap (found_after p) h
 
   -- a plan that tries the prefixes of a word tries their candidates
   prefixes_tried : (k : ℕ) (word : List ℕ) (next : LookupPlan) (cs : List (List Key)) → Tries next cs

@@ -11,13 +11,13 @@ use Rattle.name_lookup.specs.declared.targets.Targets.TheVariants.{Nowhere, Last
 use Rattle.name_lookup.specs.Candidates.{Found, candidates, found_targets}
 use Rattle.name_lookup.specs.Order.{plan, try_word}
 use Rattle.name_lookup.specs.Plans.{Gives, run}
-use Rattle.name_lookup.specs.Steps.{IsTaken, behind, with_rest_result}
-use Rattle.name_lookup.specs.Targets.{AreFound, count, last_keys}
+use Rattle.name_lookup.specs.Steps.{IsTaken, found_behind, with_rest_result}
+use Rattle.name_lookup.specs.Targets.{AreFound, last_keys, target_count}
 use Rattle.name_lookup.proofs.Candidates.{candidates_law}
 
 -- the result without targets and keys that were looked at
 abbrev nothing : Found
-nothing = record { targets = []; looked = [] }
+nothing = record { targets = []; keys_looked_at = [] }
 
 -- the last keys of two joined lists are those of the second list, if that is long enough
 last_behind : (n : ℕ) (before looked : List Key) → n ≤ length looked
@@ -33,42 +33,43 @@ length_last n keys h = let l = length-drop (length keys - n) keys in omega arith
 
 -- if the targets are the last of the keys that were looked at, they are found
 ended :
-    (which : Targets) (n : ℕ) (before after : List Key) (found_targets : Found) → count which ≡ n
+    (which : Targets) (n : ℕ) (before after : List Key) (found_targets : Found) → target_count which ≡ n
     → length before + n ≤ length after
-    → found_targets.targets ≡ last_keys n after → before ++ found_targets.looked ≡ after
+    → found_targets.targets ≡ last_keys n after → before ++ found_targets.keys_looked_at ≡ after
     → AreFound which before after found_targets
 ended which n before after found_targets c enough t l =
-    let m = length-append before found_targets.looked in
+    let m = length-append before found_targets.keys_looked_at in
     let a = ap length l in
-    let h : n ≤ length found_targets.looked = omega arith in
-    let last : found_targets.targets ≡ last_keys n found_targets.looked =
-    t ∙ (ap (last_keys n) (sym l) ∙ last_behind n before found_targets.looked h) in
+    let h : n ≤ length found_targets.keys_looked_at = omega arith in
+    let last : found_targets.targets ≡ last_keys n found_targets.keys_looked_at =
+    t ∙ (ap (last_keys n) (sym l) ∙ last_behind n before found_targets.keys_looked_at h) in
     record {
-      looked = sym l;
-      targets = last ∙ ap (λ k. last_keys k found_targets.looked) (sym c);
-      many = ap length last ∙ (length_last n found_targets.looked h ∙ sym c);
+      looks_appended = sym l;
+      targets = last ∙ ap (λ k. last_keys k found_targets.keys_looked_at) (sym c);
+      many = ap length last ∙ (length_last n found_targets.keys_looked_at h ∙ sym c);
     }
 
 -- if a search ends with some targets, they are found
 found_by :
     (which : Targets) (before after : List Key) (found_targets : Found)
-    → behind before found_targets ≡ with_rest_result which after nothing
-    → length before + count which ≤ length after → AreFound which before after found_targets
+    → found_behind before found_targets ≡ with_rest_result which after nothing
+    → length before + target_count which ≤ length after → AreFound which before after found_targets
 found_by Nowhere before after found_targets runs enough =
     let t : found_targets.targets ≡ [] = ap (λ (f : Found). f.targets) runs in
-    let l : before ++ found_targets.looked ≡ after = ap (λ (f : Found). f.looked) runs ∙ append-nil after in
+    let l : before ++ found_targets.keys_looked_at ≡ after = ap (λ (f : Found). f.keys_looked_at) runs
+    ∙ append-nil after in
     record {
-      looked = sym l;
-      targets = t ∙ sym (drop_of_length-le found_targets.looked (omega arith));
+      looks_appended = sym l;
+      targets = t ∙ sym (drop_of_length-le found_targets.keys_looked_at (omega arith));
       many =
           ap length t;
     }
 found_by Last before after found_targets runs enough =
     ended Last 1 before after found_targets refl enough (ap (λ (f : Found). f.targets) runs)
-    (ap (λ (f : Found). f.looked) runs)
+    (ap (λ (f : Found). f.keys_looked_at) runs)
 found_by LastTwo before after found_targets runs enough =
     ended LastTwo 2 before after found_targets refl enough (ap (λ (f : Found). f.targets) runs)
-    (ap (λ (f : Found). f.looked) runs)
+    (ap (λ (f : Found). f.keys_looked_at) runs)
 
 -- a search by the plan of a word finds the result of the plan
 pub all_found :

@@ -11,7 +11,7 @@ use Rattle.name_lookup.specs.Candidates.{Found, candidates, found_targets}
 use Rattle.name_lookup.specs.Laws.{SameLaw, TargetsLaw}
 use Rattle.name_lookup.specs.Order.{plan, try_key, try_kinds, try_prefixes, try_stem, try_stem_if, try_stems}
 use Rattle.name_lookup.specs.Order.{with_prefix}
-use Rattle.name_lookup.specs.Plans.{LookupPlan, Gives, Asks, after, run}
+use Rattle.name_lookup.specs.Plans.{LookupPlan, Gives, Asks, found_after, run}
 use Rattle.name_lookup.specs.Plurals.{has_ending, without_end}
 use Rattle.name_lookup.proofs.Candidates.{candidates_law}
 
@@ -57,18 +57,18 @@ rest_of has present absent b = if b then run has present else run has absent
 -- each target of an honest plan is present, and was looked up before the plan or by it
 targets_asked :
     (has : Key → Bool) (ks : List Key) (p : LookupPlan) → ((k : Key) → IsIn k ks → has k ≡ true) → IsHonest ks p
-    → (n : Key) → IsIn n (run has p).targets → (has n ≡ true) × (IsIn n ks ⊎ IsIn n (run has p).looked)
+    → (n : Key) → IsIn n (run has p).targets → (has n ≡ true) × (IsIn n ks ⊎ IsIn n (run has p).keys_looked_at)
 targets_asked has ks (Gives ts) there h n i = (there n (h n i), inl (h n i))
 targets_asked has ks (Asks k present absent) there h n i =
     (elim (has k) as
     (λ b. has k ≡ b → IsIn n (rest_of has present absent b).targets
-    → (has n ≡ true) × (IsIn n ks ⊎ ((n ≡ k) ⊎ IsIn n (rest_of has present absent b).looked))) [
+    → (has n ≡ true) × (IsIn n ks ⊎ ((n ≡ k) ⊎ IsIn n (rest_of has present absent b).keys_looked_at))) [
       | true ↦ λ e j.
-          let r : (has n ≡ true) × (IsIn n (k ∷ ks) ⊎ IsIn n (run has present).looked) =
+          let r : (has n ≡ true) × (IsIn n (k ∷ ks) ⊎ IsIn n (run has present).keys_looked_at) =
           targets_asked has (k ∷ ks) present (now_there has k ks e there) h.0 n j in
-          (r.0, regroup (n ≡ k) (IsIn n ks) (IsIn n (run has present).looked) r.1)
+          (r.0, regroup (n ≡ k) (IsIn n ks) (IsIn n (run has present).keys_looked_at) r.1)
       | false ↦ λ e j.
-          let r : (has n ≡ true) × (IsIn n ks ⊎ IsIn n (run has absent).looked) =
+          let r : (has n ≡ true) × (IsIn n ks ⊎ IsIn n (run has absent).keys_looked_at) =
           targets_asked has ks absent there h.1 n j in
           (r.0, elim r.1 [ inl f ↦ inl f | inr f ↦ inr (inr f) ])
     ]) refl i
@@ -152,25 +152,25 @@ of_looked A (inr a) = a
 
 -- each target of the plan of a word was looked at and is present
 planned_present : (has : Key → Bool) (at : WordKind) (w : List ℕ) (k : Key) → Contains (run has (plan at w)).targets k
-    → Contains (run has (plan at w)).looked k × (has k ≡ true)
+    → Contains (run has (plan at w)).keys_looked_at k × (has k ≡ true)
 planned_present has at w k i =
-    let r : (has k ≡ true) × (IsIn k [] ⊎ IsIn k (run has (plan at w)).looked) =
+    let r : (has k ≡ true) × (IsIn k [] ⊎ IsIn k (run has (plan at w)).keys_looked_at) =
     targets_asked has [] (plan at w) (λ q j. absurd j) (plan_sound at w []) k (found_in _ k i.0 i.1 i.2) in
-    (contained _ k (of_looked (IsIn k (run has (plan at w)).looked) r.1), r.0)
+    (contained _ k (of_looked (IsIn k (run has (plan at w)).keys_looked_at) r.1), r.0)
 
 -- the law of targets
 pub targets_are_present : TargetsLaw
 targets_are_present has at w k i =
     let e : run has (plan at w) ≡ found_targets has (candidates at w) = candidates_law has at w in
-    subst (λ (f : Found). Contains f.looked k × (has k ≡ true)) e
+    subst (λ (f : Found). Contains f.keys_looked_at k × (has k ≡ true)) e
     (planned_present has at w k (subst (λ (f : Found). Contains f.targets k) (sym e) i))
 
 -- equal answers after a key give equal results
 same_rest :
     (has had : Key → Bool) (present absent : LookupPlan) (b c : Bool) → b ≡ c
-    → (((k : Key) → IsIn k (run has present).looked → has k ≡ had k) → run has present ≡ run had present)
-    → (((k : Key) → IsIn k (run has absent).looked → has k ≡ had k) → run has absent ≡ run had absent)
-    → ((q : Key) → IsIn q (rest_of has present absent b).looked → has q ≡ had q)
+    → (((k : Key) → IsIn k (run has present).keys_looked_at → has k ≡ had k) → run has present ≡ run had present)
+    → (((k : Key) → IsIn k (run has absent).keys_looked_at → has k ≡ had k) → run has absent ≡ run had absent)
+    → ((q : Key) → IsIn q (rest_of has present absent b).keys_looked_at → has q ≡ had q)
     → rest_of has present absent b ≡ rest_of had present absent c
 same_rest has had present absent true true e f g h = f h
 same_rest has had present absent true false e f g h = cc
@@ -178,11 +178,11 @@ same_rest has had present absent false true e f g h = cc
 same_rest has had present absent false false e f g h = g h
 
 -- equal answers to the keys that a plan looks at give equal results
-same_run : (has had : Key → Bool) (p : LookupPlan) → ((k : Key) → IsIn k (run has p).looked → has k ≡ had k)
+same_run : (has had : Key → Bool) (p : LookupPlan) → ((k : Key) → IsIn k (run has p).keys_looked_at → has k ≡ had k)
     → run has p ≡ run had p
 same_run has had (Gives ts) h = refl
 same_run has had (Asks k present absent) h =
-    ap (after k) (same_rest has had present absent (has k) (had k) (h k (inl refl)) (same_run has had present)
+    ap (found_after k) (same_rest has had present absent (has k) (had k) (h k (inl refl)) (same_run has had present)
     (same_run has had absent) (λ q i. h q (inr i)))
 
 -- the law of equal answers
@@ -190,5 +190,5 @@ pub same_answers : SameLaw
 same_answers has had at w h =
     let e : run has (plan at w) ≡ found_targets has (candidates at w) = candidates_law has at w in
     sym e ∙ (same_run has had (plan at w)
-    (λ k i. h k (subst (λ (f : Found). Contains f.looked k) e (contained _ k i)))
+    (λ k i. h k (subst (λ (f : Found). Contains f.keys_looked_at k) e (contained _ k i)))
     ∙ candidates_law had at w)

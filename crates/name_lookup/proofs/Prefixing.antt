@@ -8,7 +8,7 @@ use Rattle.name_lookup.specs.declared.targets.Targets.{Targets}
 use Rattle.name_lookup.specs.declared.targets.Targets.TheVariants.{Nowhere, Last, LastTwo}
 use Rattle.name_lookup.specs.Order.{try_prefix, try_prefixes, with_prefix}
 use Rattle.name_lookup.specs.Plans.{LookupPlan, Asks, run}
-use Rattle.name_lookup.specs.Steps.{IsTaken, behind}
+use Rattle.name_lookup.specs.Steps.{IsTaken, found_behind}
 use Rattle.name_lookup.specs.Targets.{are_some}
 
 -- tries a prefix with the rest of its word
@@ -18,7 +18,8 @@ split_step front rest next = Asks (key kind.Prefix front) (with_prefix (key kind
 -- the prefixes of at most k bytes are still to be tried
 pub record AreTried (has : Key → Bool) (word : List ℕ) (before now : List Key) (k : ℕ) : Type 0 where
   pub taken : (next : LookupPlan)
-      → behind before (run has (try_prefixes (length word) word next)) ≡ behind now (run has (try_prefixes k word next))
+      → found_behind before (run has (try_prefixes (length word) word next)) ≡ found_behind now
+      (run has (try_prefixes k word next))
   pub enough : length before ≤ length now
 
 -- the step for a front and a rest of a word is that for the prefix of the front's length

@@ -14,7 +14,7 @@ use Rattle.name_lookup.specs.Plurals.{singulars}
 -- were looked at, in order, including absent ones
 pub record Found : Type 0 where
   pub targets : List Key
-  pub looked : List Key
+  pub keys_looked_at : List Key
 
 -- the candidate for a word split in two: the first part is a prefix, the second a unit unless it is empty
 abbrev pub prefix_candidate : List ℕ → List ℕ → List Key
@@ -64,4 +64,4 @@ module _ (has : Key → Bool) where
 
   -- the targets of a list of candidates, and the keys that are looked at to find them
   abbrev pub found_targets : List (List Key) → Found
-  found_targets cs = record { targets = first_present cs; looked = all_looked_at cs }
+  found_targets cs = record { targets = first_present cs; keys_looked_at = all_looked_at cs }

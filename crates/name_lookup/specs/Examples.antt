@@ -83,15 +83,15 @@ unit_and_function = lookup_unit (codes "f") ∷ func (codes "f") ∷ []
 
 -- the same name at each kind of place
 pub record PlaceExamples : Type 0 where
-  pub plain : found_targets (is_key_among unit_and_function) (candidates place.Plain (codes "f"))
-      ≡ record { targets = lookup_unit (codes "f") ∷ []; looked = lookup_unit (codes "f") ∷ [] }
-  pub call : found_targets (is_key_among unit_and_function) (candidates place.Call (codes "f"))
-      ≡ record { targets = func (codes "f") ∷ []; looked = func (codes "f") ∷ [] }
+  pub plain_place : found_targets (is_key_among unit_and_function) (candidates place.Plain (codes "f"))
+      ≡ record { targets = lookup_unit (codes "f") ∷ []; keys_looked_at = lookup_unit (codes "f") ∷ [] }
+  pub call_place : found_targets (is_key_among unit_and_function) (candidates place.Call (codes "f"))
+      ≡ record { targets = func (codes "f") ∷ []; keys_looked_at = func (codes "f") ∷ [] }
   pub inverse : found_targets (is_key_among unit_and_function) (candidates place.Inverse (codes "f"))
-      ≡ record { targets = func (codes "f") ∷ []; looked = func (codes "f") ∷ [] }
+      ≡ record { targets = func (codes "f") ∷ []; keys_looked_at = func (codes "f") ∷ [] }
   pub inverse_of_a_unit : found_targets (is_key_among (lookup_unit (codes "f") ∷ []))
       (candidates place.Inverse (codes "f"))
-      ≡ record { targets = []; looked = func (codes "f") ∷ [] }
+      ≡ record { targets = []; keys_looked_at = func (codes "f") ∷ [] }
 
 -- the candidates of a word, and the keys that a lookup looks at
 pub record OrderExamples : Type 0 where
@@ -100,7 +100,7 @@ pub record OrderExamples : Type 0 where
       ∷ (lookup_prefix (codes "ab") ∷ []) ∷ (lookup_prefix (codes "a") ∷ lookup_unit (codes "b") ∷ [])
       ∷ (lookup_prefix (codes "abs") ∷ []) ∷ (lookup_prefix (codes "ab") ∷ lookup_unit (codes "s") ∷ [])
       ∷ (lookup_prefix (codes "a") ∷ lookup_unit (codes "bs") ∷ []) ∷ []
-  pub none_present : (found_targets (is_key_among []) (candidates place.Plain (codes "abs"))).looked
+  pub none_present : (found_targets (is_key_among []) (candidates place.Plain (codes "abs"))).keys_looked_at
       ≡ lookup_unit (codes "abs") ∷ func (codes "abs") ∷ lookup_unit (codes "ab") ∷ lookup_prefix
       (codes "ab") ∷ lookup_prefix (codes "a")
       ∷ lookup_prefix (codes "abs") ∷ lookup_prefix (codes "ab") ∷ lookup_prefix (codes "a") ∷ []
@@ -110,7 +110,7 @@ pub record OrderExamples : Type 0 where
       (candidates place.Plain (codes "dab"))
       ≡ record {
         targets = lookup_prefix (codes "d") ∷ lookup_unit (codes "ab") ∷ [];
-        looked = lookup_unit (codes "dab") ∷ func (codes "dab") ∷ lookup_prefix (codes "dab") ∷ lookup_prefix
+        keys_looked_at = lookup_unit (codes "dab") ∷ func (codes "dab") ∷ lookup_prefix (codes "dab") ∷ lookup_prefix
             (codes "da")
             ∷ lookup_unit (codes "b") ∷ lookup_prefix (codes "d") ∷ lookup_unit (codes "ab") ∷ [];
       }
@@ -121,4 +121,4 @@ pub record LookupExamplesLaw : Type 0 where
   pub plural_words : PluralExamples
   pub prefix_words : PrefixExamples
   pub at_places : PlaceExamples
-  pub in_order : OrderExamples
+  pub candidate_order : OrderExamples

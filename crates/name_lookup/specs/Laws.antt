@@ -16,11 +16,11 @@ CandidatesLaw = (has : Key → Bool) (kind : WordKind) (word : List ℕ)
 abbrev pub TargetsLaw : Type 0
 TargetsLaw = (has : Key → Bool) (kind : WordKind) (word : List ℕ) (k : Key)
     → Contains (found_targets has (candidates kind word)).targets k
-    → Contains (found_targets has (candidates kind word)).looked k × (has k ≡ true)
+    → Contains (found_targets has (candidates kind word)).keys_looked_at k × (has k ≡ true)
 
 -- law: if two tables agree on the keys that a lookup looks at in the first, then the lookup has the same result in
 -- both
 abbrev pub SameLaw : Type 0
 SameLaw = (has had : Key → Bool) (kind : WordKind) (word : List ℕ)
-    → ((k : Key) → Contains (found_targets has (candidates kind word)).looked k → has k ≡ had k)
+    → ((k : Key) → Contains (found_targets has (candidates kind word)).keys_looked_at k → has k ≡ had k)
     → found_targets has (candidates kind word) ≡ found_targets had (candidates kind word)

@@ -9,10 +9,10 @@ pub data LookupPlan : Type 0 where
   Asks : Key → LookupPlan → LookupPlan → LookupPlan
 
 -- a result with one more key looked at before the others
-abbrev pub after : Key → Found → Found
-after k f = record { targets = f.targets; looked = k ∷ f.looked }
+abbrev pub found_after : Key → Found → Found
+found_after k f = record { targets = f.targets; keys_looked_at = k ∷ f.keys_looked_at }
 
 -- the result of a plan, given which keys are present
 abbrev pub run : (Key → Bool) → LookupPlan → Found
-run has (Gives targets) = record { targets = targets; looked = [] }
-run has (Asks k present absent) = after k (if has k then run has present else run has absent)
+run has (Gives targets) = record { targets = targets; keys_looked_at = [] }
+run has (Asks k present absent) = found_after k (if has k then run has present else run has absent)

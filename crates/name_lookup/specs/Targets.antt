@@ -11,17 +11,18 @@ are_some Nowhere = false
 are_some _ = true
 
 -- the number of targets
-abbrev pub count : Targets → ℕ
-count Nowhere = 0
-count Last = 1
-count LastTwo = 2
+abbrev pub target_count : Targets → ℕ
+target_count Nowhere = 0
+target_count Last = 1
+target_count LastTwo = 2
 
 -- the last n keys
 abbrev pub last_keys : ℕ → List Key → List Key
 last_keys n keys = drop (length keys - n) keys
 
--- the keys that a lookup looked at were appended to the earlier ones, and its targets are the last `count which` keys
+-- the keys that a lookup looked at were appended to the earlier ones, and its targets are the last `target_count which`
+-- keys
 pub record AreFound (which : Targets) (before after : List Key) (found : Found) : Type 0 where
-  pub looked : after ≡ before ++ found.looked
-  pub targets : found.targets ≡ last_keys (count which) found.looked
-  pub many : length found.targets ≡ count which
+  pub looks_appended : after ≡ before ++ found.keys_looked_at
+  pub targets : found.targets ≡ last_keys (target_count which) found.keys_looked_at
+  pub many : length found.targets ≡ target_count which

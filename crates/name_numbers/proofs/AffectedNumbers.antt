@@ -18,9 +18,10 @@ module _ (table : Table) (key : ℕ → Key) (size : ℕ) (settled : ℕ → Boo
     (keys : List Key) (numbers : List ℕ) (of : AreNumbersOf key size keys numbers) where
   -- ---- from edges to words
   way_down : {n m : ℕ} → edges.NodeReaches g.uses n m → Reaches table (key n) (key m)
-  way_down (edges.at_once {x = n} {y = m} h) = at_once ((are.used n (are.below n m h).0 (key m)).1 (m, h, refl))
+  way_down (edges.at_once {x = n} {y = m} h) =
+      at_once ((are.use_edges n (are.used_settled n m h).0 (key m)).1 (m, h, refl))
   way_down (edges.further {x = n} {y = m} h r) =
-      further ((are.used n (are.below n m h).0 (key m)).1 (m, h, refl)) (way_down r)
+      further ((are.use_edges n (are.used_settled n m h).0 (key m)).1 (m, h, refl)) (way_down r)
 
   -- a name at the end of a way that looked at a changed key affects the name at its start
   by_needs : {n m : ℕ} → Needs g n m → HasLooked table keys (key m) → IsAffected table keys (key n)
@@ -29,7 +30,7 @@ module _ (table : Table) (key : ℕ → Key) (size : ℕ) (settled : ℕ → Boo
 
   looked_by : (m i : ℕ) → HasEdge g.uses m i ⊎ HasEdge g.looks m i → settled m ≡ true → Contains numbers i
       → HasLooked table keys (key m)
-  looked_by m i h s c = (key i, of.of_keys i c, (are.looked m s (key i)).1 (i, h, refl))
+  looked_by m i h s c = (key i, of.of_keys i c, (are.look_edges m s (key i)).1 (i, h, refl))
 
   needs_onward : {n m k : ℕ} → HasEdge g.uses n m → Needs g m k → Needs g n k
   needs_onward {n = n} h (inl e) = inr (edges.at_once (subst (λ x. HasEdge g.uses n x) e h))
@@ -43,7 +44,7 @@ module _ (table : Table) (key : ℕ → Key) (size : ℕ) (settled : ℕ → Boo
   by_words : (n i : ℕ) → Contains numbers i → by_edges.IsAffectedName g i n → IsAffected table keys (key n)
   by_words n i c (inl (inl e)) = inl (subst (λ x. Contains keys (key x)) (sym e) (of.of_keys i c))
   by_words n i c (inl (inr r)) =
-      let l = last_edge r in by_needs l.1 (looked_by l.0 i (inl l.2) (are.below l.0 i l.2).0 c)
+      let l = last_edge r in by_needs l.1 (looked_by l.0 i (inl l.2) (are.used_settled l.0 i l.2).0 c)
   by_words n i c (inr (m, l, w)) = by_needs w (looked_by m i (inr l) (are.beside m i l).0 c)
 
   -- ---- from words to edges
@@ -51,15 +52,15 @@ module _ (table : Table) (key : ℕ → Key) (size : ℕ) (settled : ℕ → Boo
       → words ≡ key_words table (key n)
       → (m : ℕ) × edges.NodeReaches g.uses n m × (k ≡ key m)
   way_up {k = k} (at_once l) n s e =
-      let u = (are.used n s k).0 (subst (λ (us : List WordUse). WordsLeadTo table us k) e l) in
+      let u = (are.use_edges n s k).0 (subst (λ (us : List WordUse). WordsLeadTo table us k) e l) in
       (u.0, edges.at_once u.1, u.2)
   way_up (further {n = x} l r) n s e =
-      let u = (are.used n s x).0 (subst (λ (us : List WordUse). WordsLeadTo table us x) e l) in
-      let w = way_up r u.0 (are.below n u.0 u.1).1 (ap (key_words table) u.2) in
+      let u = (are.use_edges n s x).0 (subst (λ (us : List WordUse). WordsLeadTo table us x) e l) in
+      let w = way_up r u.0 (are.used_settled n u.0 u.1).1 (ap (key_words table) u.2) in
       (w.0, edges.further u.1 w.1, w.2)
 
   ends : {n m : ℕ} → edges.NodeReaches g.uses n m → settled m ≡ true
-  ends (edges.at_once {x = n} {y = m} h) = (are.below n m h).1
+  ends (edges.at_once {x = n} {y = m} h) = (are.used_settled n m h).1
   ends (edges.further h r) = ends r
 
   needs_use : {n m i : ℕ} → Needs g n m → HasEdge g.uses m i → Needs g n i
@@ -72,15 +73,15 @@ module _ (table : Table) (key : ℕ → Key) (size : ℕ) (settled : ℕ → Boo
 
   by_look : (n m : ℕ) → Needs g n m → settled m ≡ true → HasLooked table keys (key m) → AreAffected g numbers n
   by_look n m w s (k, c, h) =
-      let l = (are.looked m s k).0 h in
+      let l = (are.look_edges m s k).0 h in
       at l.0 l.1 (subst (λ (x : Key). Contains keys x) l.2 c)
     where
       at : (i : ℕ) → HasEdge g.uses m i ⊎ HasEdge g.looks m i → Contains keys (key i) → AreAffected g numbers n
-      at i (inl h) c = (i, of.every i (are.within i (are.below m i h).1) c, inl (needs_use w h))
+      at i (inl h) c = (i, of.every i (are.settled_in_range i (are.used_settled m i h).1) c, inl (needs_use w h))
       at i (inr h) c = (i, of.every i (are.beside m i h).1 c, inr (m, h, w))
 
   by_numbers : (n : ℕ) → settled n ≡ true → IsAffected table keys (key n) → AreAffected g numbers n
-  by_numbers n s (inl c) = (n, of.every n (are.within n s) c, inl (inl refl))
+  by_numbers n s (inl c) = (n, of.every n (are.settled_in_range n s) c, inl (inl refl))
   by_numbers n s (inr (inl h)) = by_look n n (inl refl) s h
   by_numbers n s (inr (inr (k, r, h))) =
       let w = way_up r n s refl in

@@ -19,31 +19,31 @@ module _ (table : Table) (key later : ℕ → Key) (size more : ℕ) (settled no
     (are : AreNameEdges table key size settled g) (grown : size ≤ more) (same : (n : ℕ) → n < size → later n ≡ key n)
     (marks : (n : ℕ) → (now n ≡ true) ↔ (settled n ≡ true)) where
   to_later : (n m : ℕ) → HasEdge g.uses n m ⊎ HasEdge g.looks n m → later m ≡ key m
-  to_later n m (inl h) = same m (are.within m (are.below n m h).1)
+  to_later n m (inl h) = same m (are.settled_in_range m (are.used_settled n m h).1)
   to_later n m (inr h) = same m (are.beside n m h).1
 
   own : (n : ℕ) → now n ≡ true → later n ≡ key n
-  own n e = same n (are.within n ((marks n).0 e))
+  own n e = same n (are.settled_in_range n ((marks n).0 e))
 
   pub edges_grown : AreNameEdges table later more now g
   edges_grown = record {
-    within = λ n e. let l = are.within n ((marks n).0 e) in omega (arith, l, grown);
-    below = λ n m h. ((marks n).1 (are.below n m h).0, (marks m).1 (are.below n m h).1);
+    settled_in_range = λ n e. let l = are.settled_in_range n ((marks n).0 e) in omega (arith, l, grown);
+    used_settled = λ n m h. ((marks n).1 (are.used_settled n m h).0, (marks m).1 (are.used_settled n m h).1);
     beside = λ n m h. ((marks n).1 (are.beside n m h).0, let l = (are.beside n m h).1 in omega (arith, l, grown));
-    used = λ n e k. (
+    use_edges = λ n e k. (
       λ w.
-          let u = (are.used n ((marks n).0 e) k).0
+          let u = (are.use_edges n ((marks n).0 e) k).0
           (subst (λ (x : Key). WordsLeadTo table (key_words table x) k) (own n e) w) in
           (u.0, u.1, u.2 ∙ sym (to_later n u.0 (inl u.1))),
       λ u. subst (λ (x : Key). WordsLeadTo table (key_words table x) k) (sym (own n e))
-          ((are.used n ((marks n).0 e) k).1 (u.0, u.1, u.2 ∙ to_later n u.0 (inl u.1))),
+          ((are.use_edges n ((marks n).0 e) k).1 (u.0, u.1, u.2 ∙ to_later n u.0 (inl u.1))),
     );
-    looked = λ n e k. (
+    look_edges = λ n e k. (
       λ w.
-          let u = (are.looked n ((marks n).0 e) k).0 (subst (λ (x : Key). LooksAt table x k) (own n e) w) in
+          let u = (are.look_edges n ((marks n).0 e) k).0 (subst (λ (x : Key). LooksAt table x k) (own n e) w) in
           (u.0, u.1, u.2 ∙ sym (to_later n u.0 u.1)),
       λ u. subst (λ (x : Key). LooksAt table x k) (sym (own n e))
-          ((are.looked n ((marks n).0 e) k).1 (u.0, u.1, u.2 ∙ to_later n u.0 u.1)),
+          ((are.look_edges n ((marks n).0 e) k).1 (u.0, u.1, u.2 ∙ to_later n u.0 u.1)),
     );
   }
 
@@ -62,12 +62,12 @@ module _ (table : Table) (key : ℕ → Key) (size : ℕ) (settled now : ℕ →
     now_in : (m : ℕ) → now m ≡ true → m < size
     now_in m e = elim ((marks m).0 e) [
       | inl q ↦ subst (λ x. x < size) (sym q) there
-      | inr s ↦ are.within m s
+      | inr s ↦ are.settled_in_range m s
     ]
 
     new_use : (x y : ℕ) → ((x ≡ n) × Contains used y) ⊎ HasEdge g.uses x y → (now x ≡ true) × (now y ≡ true)
     new_use x y (inl (e, i)) = ((marks x).1 (inl e), (marks y).1 (inr (used_settled y i)))
-    new_use x y (inr h) = ((marks x).1 (inr (are.below x y h).0), (marks y).1 (inr (are.below x y h).1))
+    new_use x y (inr h) = ((marks x).1 (inr (are.used_settled x y h).0), (marks y).1 (inr (are.used_settled x y h).1))
 
     new_look : (x y : ℕ) → ((x ≡ n) × Contains looked y) ⊎ HasEdge g.looks x y → (now x ≡ true) × (y < size)
     new_look x y (inl (e, i)) = ((marks x).1 (inl e), looked_there y i)
@@ -75,7 +75,7 @@ module _ (table : Table) (key : ℕ → Key) (size : ℕ) (settled now : ℕ →
 
     -- each name that the new name uses is one of those added
     use_of_new : (y : ℕ) → HasEdge h.uses n y → Contains used y
-    use_of_new y e = elim ((uses n y).0 e) [ inl i ↦ i.1 | inr o ↦ absurd (fresh (are.below n y o).0) ]
+    use_of_new y e = elim ((uses n y).0 e) [ inl i ↦ i.1 | inr o ↦ absurd (fresh (are.used_settled n y o).0) ]
 
     look_of_new : (y : ℕ) → HasEdge h.looks n y → Contains looked y
     look_of_new y e = elim ((looks n y).0 e) [ inl i ↦ i.1 | inr o ↦ absurd (fresh (are.beside n y o).0) ]
@@ -101,8 +101,8 @@ module _ (table : Table) (key : ℕ → Key) (size : ℕ) (settled now : ℕ →
       λ u. (its_used k).1 (u.0, use_of_new u.0 u.1, u.2),
     ))
     used_by x (inr s) = λ k. (
-      λ w. let u = (are.used x s k).0 w in (u.0, (uses x u.0).1 (inr u.1), u.2),
-      λ u. (are.used x s k).1 (u.0, use_of_old x u.0 s u.1, u.2),
+      λ w. let u = (are.use_edges x s k).0 w in (u.0, (uses x u.0).1 (inr u.1), u.2),
+      λ u. (are.use_edges x s k).1 (u.0, use_of_old x u.0 s u.1, u.2),
     )
 
     abbrev Looked : ℕ → Type 0
@@ -121,19 +121,19 @@ module _ (table : Table) (key : ℕ → Key) (size : ℕ) (settled now : ℕ →
     ))
     looked_by x (inr s) = λ k. (
       λ w.
-          let u = (are.looked x s k).0 w in
+          let u = (are.look_edges x s k).0 w in
           (u.0, elim u.1 [ inl i ↦ inl ((uses x u.0).1 (inr i)) | inr i ↦ inr ((looks x u.0).1 (inr i)) ], u.2),
-      λ u. (are.looked x s k).1
+      λ u. (are.look_edges x s k).1
           (u.0, elim u.1 [ inl i ↦ inl (use_of_old x u.0 s i) | inr i ↦ inr (look_of_old x u.0 s i) ], u.2),
     )
 
     pub edges_linked : AreNameEdges table key size now h
     edges_linked = record {
-      within = now_in;
-      below = λ x y e. new_use x y ((uses x y).0 e);
+      settled_in_range = now_in;
+      used_settled = λ x y e. new_use x y ((uses x y).0 e);
       beside = λ x y e. new_look x y ((looks x y).0 e);
-      used = λ x e. used_by x ((marks x).0 e);
-      looked = λ x e. looked_by x ((marks x).0 e);
+      use_edges = λ x e. used_by x ((marks x).0 e);
+      look_edges = λ x e. looked_by x ((marks x).0 e);
     }
 
 -- ---- a key that is as before: its words lead to the same keys, and look at the same keys
@@ -160,11 +160,11 @@ module _ (before after : Table) (k : Key) (is : IsAsBefore before after k) where
       u,
       subst (λ (us : List WordUse). Contains us u) same_words i,
       subst
-          (λ (f : Found). Contains f.looked m) (is.lookups u i) t,
+          (λ (f : Found). Contains f.keys_looked_at m) (is.lookups u i) t,
     ),
     λ (u, i, t).
         let j = subst (λ (us : List WordUse). Contains us u) (sym same_words) i in
-        (u, j, subst (λ (f : Found). Contains f.looked m) (sym (is.lookups u j)) t),
+        (u, j, subst (λ (f : Found). Contains f.keys_looked_at m) (sym (is.lookups u j)) t),
   )
 
 -- ---- affected names are forgotten, and the other names are as before
@@ -192,24 +192,24 @@ module _ (before after : Table) (key : ℕ → Key) (size : ℕ) (settled now : 
 
   pub edges_cut : AreNameEdges after key size now h
   edges_cut = record {
-    within = λ n e. are.within n ((marks n).0 e).0;
-    below = λ n m e.
+    settled_in_range = λ n e. are.settled_in_range n ((marks n).0 e).0;
+    used_settled = λ n m e.
         let w = use_was n m e in
-        let b = are.below n m w.0 in ((marks n).1 (b.0, w.1), (marks m).1 (b.1, λ a. w.1 (up n m w.0 a)));
+        let b = are.used_settled n m w.0 in ((marks n).1 (b.0, w.1), (marks m).1 (b.1, λ a. w.1 (up n m w.0 a)));
     beside = λ n m e. let w = look_was n m e in let b = are.beside n m w.0 in ((marks n).1 (b.0, w.1), b.1);
-    used = λ n e k.
+    use_edges = λ n e k.
         let s = ((marks n).0 e).0 in
         let same = leads_same before after (key n) (is n e) k in (
-          λ w. let u = (are.used n s k).0 (same.1 w) in (u.0, use_is n u.0 e u.1, u.2),
-          λ u. same.0 ((are.used n s k).1 (u.0, (use_was n u.0 u.1).0, u.2)),
+          λ w. let u = (are.use_edges n s k).0 (same.1 w) in (u.0, use_is n u.0 e u.1, u.2),
+          λ u. same.0 ((are.use_edges n s k).1 (u.0, (use_was n u.0 u.1).0, u.2)),
         );
-    looked = λ n e k.
+    look_edges = λ n e k.
         let s = ((marks n).0 e).0 in
         let same = looks_same before after (key n) (is n e) k in (
           λ w.
-              let u = (are.looked n s k).0 (same.1 w) in
+              let u = (are.look_edges n s k).0 (same.1 w) in
               (u.0, elim u.1 [ inl i ↦ inl (use_is n u.0 e i) | inr i ↦ inr (look_is n u.0 e i) ], u.2),
-          λ u. same.0 ((are.looked n s k).1
+          λ u. same.0 ((are.look_edges n s k).1
               (u.0, elim u.1 [ inl i ↦ inl (use_was n u.0 i).0 | inr i ↦ inr (look_was n u.0 i).0 ], u.2)),
         );
   }

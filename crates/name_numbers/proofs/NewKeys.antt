@@ -54,9 +54,9 @@ module _ (same_keys : SameKeysLaw) (closed_law : ClosedWordLaw) (table : Table) 
       → ((m : Key) → Asked m → (n : ℕ) × (m ≡ key n) × IsReached g xs n)
       → AreNewKeys settled Asked (map key order)
   new_keys Asked xs order ks closed to_key to_number = record {
-    exactly = λ m. (asked m, listed m);
-    once = distinct_keys same_keys key known numbered.apart order
-        (all_known known order (λ n i. all_reached xs ks n ((closed.exactly n).0 i).0)) closed.once;
+    unsettled_keys = λ m. (asked m, listed m);
+    keys_listed_once = distinct_keys same_keys key known numbered.keys_apart order
+        (all_known known order (λ n i. all_reached xs ks n ((closed.names_reached n).0 i).0)) closed.names_listed_once;
   }
     where
       unsettled : (n : ℕ) → IsReached g xs n → (IsSettled marks n → ⊥) → settled (key n) ≡ false
@@ -66,7 +66,7 @@ module _ (same_keys : SameKeysLaw) (closed_law : ClosedWordLaw) (table : Table) 
       asked : (m : Key) → Contains (map key order) m → Asked m × (settled m ≡ false)
       asked m i =
           let n : (n : ℕ) × (m ≡ key n) × In n order = number_in key order m i in
-          let r : IsReached g xs n.0 × (IsSettled marks n.0 → ⊥) = (closed.exactly n.0).0 n.2 in
+          let r : IsReached g xs n.0 × (IsSettled marks n.0 → ⊥) = (closed.names_reached n.0).0 n.2 in
           subst (λ (k : Key). Asked k × (settled k ≡ false)) (sym n.1) (to_key n.0 r.0, unsettled n.0 r.0 r.1)
 
       listed : (m : Key) → Asked m × (settled m ≡ false) → Contains (map key order) m
@@ -75,7 +75,7 @@ module _ (same_keys : SameKeysLaw) (closed_law : ClosedWordLaw) (table : Table) 
           let off : settled (key n.0) ≡ false = ap settled (sym n.1) ∙ h.1 in
           let fresh : IsSettled marks n.0 → ⊥ =
           λ s. both_ways (settled (key n.0)) off ((are_marks n.0 (all_reached xs ks n.0 n.2)).0 s) in
-          let i : In n.0 order = (closed.exactly n.0).1 (n.2, fresh) in
+          let i : In n.0 order = (closed.names_reached n.0).1 (n.2, fresh) in
           subst (λ (k : Key). Contains (map key order) k) (sym n.1) (key_in key order n.0 i)
 
   pub words_settle :

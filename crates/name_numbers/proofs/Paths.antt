@@ -27,7 +27,7 @@ pub map_push : (key : ℕ → Key) (p : List ℕ) (n : ℕ) → map key (p ++ n 
 map_push key p n = map-append key p (n ∷ [])
 
 -- the last key of a path is that of its last number
-pub same_last : (key : ℕ → Key) (p : List ℕ) → names.last (map key p) ≡ option_map key (walk.last p)
+pub same_last : (key : ℕ → Key) (p : List ℕ) → names.last_of_list (map key p) ≡ option_map key (walk.last_item p)
 same_last key [] = refl
 same_last key (n ∷ []) = refl
 same_last key (n ∷ m ∷ p) = same_last key (m ∷ p)

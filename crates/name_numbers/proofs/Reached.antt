@@ -92,8 +92,8 @@ module _ (table : Table) (key : ℕ → Key) (dead_end : ℕ → Option Key → 
   module _ (g : Graph) (known : ℕ → Bool) (numbered : AreNumbered table key dead_end g known) where
     -- ---- known numbers
     known_below : {n m : ℕ} → walk.NameReaches g n m → known n ≡ true → known m ≡ true
-    known_below {n} {m} (walk.at_once l) k = numbered.below n m k l
-    known_below {n} {m} (walk.further {x = x} l r) k = known_below r (numbered.below n x k l)
+    known_below {n} {m} (walk.at_once l) k = numbered.below_known n m k l
+    known_below {n} {m} (walk.further {x = x} l r) k = known_below r (numbered.below_known n x k l)
 
     pub known_reached : (xs : List Step) → LeadToKnown known xs → (n : ℕ) → IsReached g xs n → known n ≡ true
     known_reached xs ks n r = elim r.2 [
@@ -103,12 +103,12 @@ module _ (table : Table) (key : ℕ → Key) (dead_end : ℕ → Option Key → 
 
     -- ---- from numbers to names
     key_lead : (n m : ℕ) → known n ≡ true → LeadsTo g n m → WordsLeadTo table (key_words table (key n)) (key m)
-    key_lead n m k l = lead_of_step (key_words table (key n)) (steps g n) (numbered.faithful n k) m l
+    key_lead n m k l = lead_of_step (key_words table (key n)) (steps g n) (numbered.known_steps n k) m l
 
     way_of_keys : {n m : ℕ} → walk.NameReaches g n m → known n ≡ true → Reaches table (key n) (key m)
     way_of_keys {n} {m} (walk.at_once l) k = at_once (key_lead n m k l)
     way_of_keys {n} {m} (walk.further {x = x} l r) k =
-        further (key_lead n x k l) (way_of_keys r (numbered.below n x k l))
+        further (key_lead n x k l) (way_of_keys r (numbered.below_known n x k l))
 
     pub key_way : (n m : ℕ) → known n ≡ true → walk.NameReaches g n m → Reaches table (key n) (key m)
     key_way n m k r = way_of_keys r k
@@ -140,7 +140,7 @@ module _ (table : Table) (key : ℕ → Key) (dead_end : ℕ → Option Key → 
           → (k : Key) → WordsLeadTo table us k → (n : ℕ) × (k ≡ key n) × In (To n) xs
       closed_lead us xs w closed k l =
           let u : WordLeadsInto table (IsClosed table) l.0 = (closed_law.words table us).0 closed l.0 l.1 in
-          step_of_lead us xs w l.0 l.1 u.is_accepted k l.2
+          step_of_lead us xs w l.0 l.1 u.not_refused k l.2
 
       closed_target :
           (us : List WordUse) → AreClosed table us → (k : Key) → WordsLeadTo table us k
@@ -160,9 +160,10 @@ module _ (table : Table) (key : ℕ → Key) (dead_end : ℕ → Option Key → 
           let known_there : known s.0 ≡ true = ks s.0 s.2 in
           let words : AreWords table key dead_end (key_words table k) (steps g s.0) =
           subst (λ (q : Key). AreWords table key dead_end (key_words table q) (steps g s.0)) (sym s.1)
-          (numbered.faithful s.0 known_there) in
+          (numbered.known_steps s.0 known_there) in
           let t : (n : ℕ) × (m ≡ key n) × IsReached g (steps g s.0) n =
-          reached r (steps g s.0) words (λ q i. numbered.below s.0 q known_there i) (closed_target us closed k l) in
+          reached r (steps g s.0) words (λ q i. numbered.below_known s.0 q known_there i) (closed_target us closed k l)
+          in
           (t.0, t.1, onward xs s.0 t.0 s.2 t.2)
 
       pub number_reached :
@@ -176,5 +177,5 @@ module _ (table : Table) (key : ℕ → Key) (dead_end : ℕ → Option Key → 
       number_below n k closed m r =
           let words : AreClosed table (key_words table (key n)) = (closed_law.key table (key n)).0 closed in
           let t : (q : ℕ) × (m ≡ key q) × IsReached g (steps g n) q =
-          reached r (steps g n) (numbered.faithful n k) (λ q i. numbered.below n q k i) words in
+          reached r (steps g n) (numbered.known_steps n k) (λ q i. numbered.below_known n q k i) words in
           (t.0, t.1, onward (To n ∷ []) n t.0 (inl refl) t.2)

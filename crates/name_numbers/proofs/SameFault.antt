@@ -23,7 +23,7 @@ use Rattle.table_names.specs.declared.fault.NameFault.{NameFault}
 use Rattle.table_names.specs.declared.fault.NameFault.TheVariants.{Unknown, Refused, Cycle}
 use Rattle.table_names.specs.FaultLaws.{IsKeyPath, KeyPathLaw, WordsFaultLaw}
 use Rattle.table_names.specs.Faults as names
-use Rattle.table_names.specs.Faults.{Deeper, cycle_chain, first, target_fault, targets_fault, word_fault}
+use Rattle.table_names.specs.Faults.{Deeper, cycle_chain, first_some, target_fault, targets_fault, word_fault}
 use Rattle.table_names.specs.Leads.{targets}
 use Rattle.table_names.specs.Words.{key_words}
 use Rattle.name_numbers.specs.FaultLaws.{NumberedFaultLaw}
@@ -42,12 +42,12 @@ module _ (same_keys : SameKeysLaw) (table : Table) (key : ℕ → Key) (dead_end
   by_name = option_map (fault_by_name table key dead_end)
 
   on_keys : (p : List ℕ) (n : ℕ) → AllKnown known p → known n ≡ true → is_key_among (map key p) (key n) ≡ is_on_path p n
-  on_keys = same_on same_keys key known numbered.apart
+  on_keys = same_on same_keys key known numbered.keys_apart
 
   chain_of_keys :
       (p : List ℕ) (n : ℕ) → AllKnown known p → known n ≡ true
       → map key (from_name n p ++ n ∷ []) ≡ cycle_chain (key n) (map key p)
-  chain_of_keys = same_chain same_keys key known numbered.apart
+  chain_of_keys = same_chain same_keys key known numbered.keys_apart
 
   -- the second step to a target adds no fault
   twice :
@@ -89,7 +89,7 @@ module _ (same_keys : SameKeysLaw) (table : Table) (key : ℕ → Key) (dead_end
 
     refused :
         (u : WordUse) (rest : Option NameFault) → is_refused u.text ≡ true
-        → Some (Refused u.text (names.last (map key p))) ≡ option_or (fault_of_word u) rest
+        → Some (Refused u.text (names.last_of_list (map key p))) ≡ option_or (fault_of_word u) rest
     refused u rest is = ap (λ o. option_or o rest) (sym (cond-true (is_refused u.text) _ _ is))
 
     accepted :
@@ -101,8 +101,8 @@ module _ (same_keys : SameKeysLaw) (table : Table) (key : ℕ → Key) (dead_end
     -- a word that leads nowhere is a fault of the last name of the path
     ended :
         (t : ℕ) (fault : Option Key → NameFault) → ((holder : Option Key) → dead_end t holder ≡ fault holder)
-        → by_name (at_step f p (Nowhere t)) ≡ Some (fault (names.last (map key p)))
-    ended t fault e = ap Some (e (option_map key (lists.last p)) ∙ ap fault (sym (same_last key p)))
+        → by_name (at_step f p (Nowhere t)) ≡ Some (fault (names.last_of_list (map key p)))
+    ended t fault e = ap Some (e (option_map key (lists.last_item p)) ∙ ap fault (sym (same_last key p)))
 
     same_word :
         (u : WordUse) {x y : Step} → IsWord table key dead_end u x y
@@ -124,13 +124,13 @@ module _ (same_keys : SameKeysLaw) (table : Table) (key : ℕ → Key) (dead_end
 
     same_words :
         (us : List WordUse) (xs : List Step) → AreWords table key dead_end us xs → LeadToKnown known xs
-        → by_name (lists.first (at_step f p) xs) ≡ first fault_of_word us
+        → by_name (lists.first_hit (at_step f p) xs) ≡ first_some fault_of_word us
     same_words [] [] w k = refl
     same_words [] (x ∷ xs) w k = absurd w
     same_words (u ∷ us) [] w k = absurd w
     same_words (u ∷ us) (x ∷ []) w k = absurd w
     same_words (u ∷ us) (x ∷ y ∷ xs) w k =
-        same_word u w.0 (λ n c. k n (elim c [ inl e ↦ inl e | inr e ↦ inr (inl e) ])) (lists.first (at_step f p) xs)
+        same_word u w.0 (λ n c. k n (elim c [ inl e ↦ inl e | inr e ↦ inr (inl e) ])) (lists.first_hit (at_step f p) xs)
         ∙ ap (option_or (fault_of_word u)) (same_words us xs w.1 (λ n i. k n (inr (inr i))))
 
   -- ---- after all paths, by the number of names that are not on them
@@ -141,7 +141,8 @@ module _ (same_keys : SameKeysLaw) (table : Table) (key : ℕ → Key) (dead_end
         → IsKeyPath table (map key (p ++ n ∷ []))
     path_of_keys p n are on_path k off =
         subst (λ (q : List Key). IsKeyPath table q) (sym (map_push key p n))
-        (name_path.longer table (map key p) (key n) are (on_keys p n on_path k ∙ off) (numbered.present n k))
+        (name_path.longer_key_path table (map key p) (key n) are (on_keys p n on_path k ∙ off)
+        (numbered.known_have_entries n k))
 
     by_room :
         (k : ℕ) (p : List ℕ) (us : List WordUse) (xs : List Step)
@@ -149,16 +150,16 @@ module _ (same_keys : SameKeysLaw) (table : Table) (key : ℕ → Key) (dead_end
         → AreWords table key dead_end us xs → LeadToKnown known xs → length p + k ≡ length g + 1
         → by_name (walk.steps_fault g p xs) ≡ names.words_fault table (map key p) us
     by_room zero p us xs on_path is are w ks room =
-        absurd (let l : length p ≤ length g = walk_path.short g p is in omega arith)
+        absurd (let l : length p ≤ length g = walk_path.path_bound g p is in omega arith)
     by_room (suc k) p us xs on_path is are w ks room =
-        ap by_name (walk_fault.is g range p xs is (λ n i. numbered.within n (ks n i)))
+        ap by_name (walk_fault.fault_is_first g range p xs is (λ n i. numbered.known_in_range n (ks n i)))
         ∙ (same_words p on_path (λ longer n. walk.steps_fault g longer (steps g n))
         (λ longer n. names.words_fault table longer (key_words table n)) (λ n kn off.
         by_room k (p ++ n ∷ []) (key_words table (key n)) (steps g n) (known_push known p n on_path kn)
-        (walk_path.longer g p n is off (numbered.within n kn)) (path_of_keys p n are on_path kn off)
-        (numbered.faithful n kn) (λ m l. numbered.below n m kn l) (omega (arith, length-append p (n ∷ [])))
+        (walk_path.longer_path g p n is off (numbered.known_in_range n kn)) (path_of_keys p n are on_path kn off)
+        (numbered.known_steps n kn) (λ m l. numbered.below_known n m kn l) (omega (arith, length-append p (n ∷ [])))
         ∙ ap (λ q. names.words_fault table q (key_words table (key n))) (map_push key p n)) us xs w ks
-        ∙ sym (name_fault.is table (map key p) us are))
+        ∙ sym (name_fault.first_fault_is table (map key p) us are))
 
     same_fault :
         (p : List ℕ) (us : List WordUse) (xs : List Step)
@@ -166,26 +167,26 @@ module _ (same_keys : SameKeysLaw) (table : Table) (key : ℕ → Key) (dead_end
         → AreWords table key dead_end us xs → LeadToKnown known xs
         → by_name (walk.steps_fault g p xs) ≡ names.words_fault table (map key p) us
     same_fault p us xs on_path is are w ks =
-        let l : length p ≤ length g = walk_path.short g p is in
+        let l : length p ≤ length g = walk_path.path_bound g p is in
         let room : length p + (length g + 1 - length p) ≡ length g + 1 = omega arith in
         by_room (length g + 1 - length p) p us xs on_path is are w ks room
 
     pub words_fault :
         (us : List WordUse) (xs : List Step) → AreWords table key dead_end us xs → LeadToKnown known xs
         → by_name (walk.steps_fault g [] xs) ≡ names.name_fault table us
-    words_fault us xs w ks = same_fault [] us xs tt (walk_path.empty g) (name_path.empty table) w ks
+    words_fault us xs w ks = same_fault [] us xs tt (walk_path.empty_path g) (name_path.empty_key_path table) w ks
 
     pub number_fault : (n : ℕ) → known n ≡ true → by_name (walk.steps_fault g [] (To n ∷ [])) ≡ names.key_fault table
         (key n)
     number_fault n k =
-        ap by_name (walk_fault.is g range [] (To n ∷ []) (walk_path.empty g) there ∙ or_none _)
+        ap by_name (walk_fault.fault_is_first g range [] (To n ∷ []) (walk_path.empty_path g) there ∙ or_none _)
         ∙ same_fault (n ∷ []) (key_words table (key n)) (steps g n) (k, tt)
-        (walk_path.longer g [] n (walk_path.empty g) refl (numbered.within n k))
-        (path_of_keys [] n (name_path.empty table) tt k refl)
-        (numbered.faithful n k) (λ m l. numbered.below n m k l)
+        (walk_path.longer_path g [] n (walk_path.empty_path g) refl (numbered.known_in_range n k))
+        (path_of_keys [] n (name_path.empty_key_path table) tt k refl)
+        (numbered.known_steps n k) (λ m l. numbered.below_known n m k l)
       where
         there : (m : ℕ) → In (To m) (To n ∷ []) → m < length g
-        there m (inl e) = let q : m ≡ n = cc in subst (λ (x : ℕ). x < length g) (sym q) (numbered.within n k)
+        there m (inl e) = let q : m ≡ n = cc in subst (λ (x : ℕ). x < length g) (sym q) (numbered.known_in_range n k)
         there m (inr i) = absurd i
 
 -- the law of faults by number

@@ -12,12 +12,12 @@ use Rattle.table_names.specs.Words.{key_words}
 -- each settled number has an edge to each name that its words lead to, and to each other key that they look at; a
 -- number that is not settled has no edge
 pub record AreNameEdges (table : Table) (key : ℕ → Key) (size : ℕ) (settled : ℕ → Bool) (g : NameGraph) : Type 0 where
-  pub within : (n : ℕ) → settled n ≡ true → n < size
-  pub below : (n m : ℕ) → HasEdge g.uses n m → (settled n ≡ true) × (settled m ≡ true)
+  pub settled_in_range : (n : ℕ) → settled n ≡ true → n < size
+  pub used_settled : (n m : ℕ) → HasEdge g.uses n m → (settled n ≡ true) × (settled m ≡ true)
   pub beside : (n m : ℕ) → HasEdge g.looks n m → (settled n ≡ true) × (m < size)
-  pub used : (n : ℕ) → settled n ≡ true → (k : Key)
+  pub use_edges : (n : ℕ) → settled n ≡ true → (k : Key)
       → WordsLeadTo table (key_words table (key n)) k ↔ ((m : ℕ) × HasEdge g.uses n m × (k ≡ key m))
-  pub looked : (n : ℕ) → settled n ≡ true → (k : Key)
+  pub look_edges : (n : ℕ) → settled n ≡ true → (k : Key)
       → LooksAt table (key n) k ↔ ((m : ℕ) × (HasEdge g.uses n m ⊎ HasEdge g.looks n m) × (k ≡ key m))
 
 -- `numbers` are the numbers of those keys that have one

@@ -41,11 +41,11 @@ module _ (table : Table) (key : ℕ → Key) (dead_end : ℕ → Option Key → 
   -- known numbers lead only to known numbers, their keys have entries and are distinct, and their steps are those of
   -- the words of their keys
   pub record AreNumbered (g : Graph) (known : ℕ → Bool) : Type 0 where
-    pub within : (n : ℕ) → known n ≡ true → n < length g
-    pub below : (n m : ℕ) → known n ≡ true → LeadsTo g n m → known m ≡ true
-    pub apart : (n m : ℕ) → known n ≡ true → known m ≡ true → key n ≡ key m → n ≡ m
-    pub present : (n : ℕ) → known n ≡ true → is_present table (key n) ≡ true
-    pub faithful : (n : ℕ) → known n ≡ true → AreWords (key_words table (key n)) (steps g n)
+    pub known_in_range : (n : ℕ) → known n ≡ true → n < length g
+    pub below_known : (n m : ℕ) → known n ≡ true → LeadsTo g n m → known m ≡ true
+    pub keys_apart : (n m : ℕ) → known n ≡ true → known m ≡ true → key n ≡ key m → n ≡ m
+    pub known_have_entries : (n : ℕ) → known n ≡ true → is_present table (key n) ≡ true
+    pub known_steps : (n : ℕ) → known n ≡ true → AreWords (key_words table (key n)) (steps g n)
 
 -- the steps lead only to known numbers, or nowhere
 abbrev pub LeadToKnown : (ℕ → Bool) → List Step → Type 0

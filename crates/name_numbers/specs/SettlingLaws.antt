@@ -21,8 +21,8 @@ AreMarks key known marks settled = (n : ℕ) → known n ≡ true → IsSettled 
 
 -- `keys` are those of the `Asked` keys that are not settled, each once
 pub record AreNewKeys (settled : Key → Bool) (Asked : Key → Type 0) (keys : List Key) : Type 0 where
-  pub exactly : (n : Key) → Contains keys n ↔ (Asked n × (settled n ≡ false))
-  pub once : IsDistinct is_same keys
+  pub unsettled_keys : (n : Key) → Contains keys n ↔ (Asked n × (settled n ≡ false))
+  pub keys_listed_once : IsDistinct is_same keys
 
 -- law: if a query has no name fault, the numbers that a walk newly closes are those of the keys that the query reaches
 -- and that are not settled, each once

@@ -14,9 +14,9 @@ use Rattle.name_walk.proofs.Faults.{empty_path, path_length, path_push}
 use Rattle.name_walk.proofs.Lists.{all_at, all_map, all_none, none_from, not_chosen, on-In, on-push_false, or_none}
 
 -- reaching is transitive
-pub onward : {g : Graph} {n x m : ℕ} → NameReaches g n x → NameReaches g x m → NameReaches g n m
-onward (at_once l) r = further l r
-onward (further l q) r = further l (onward q r)
+pub reaches_on : {g : Graph} {n x m : ℕ} → NameReaches g n x → NameReaches g x m → NameReaches g n m
+reaches_on (at_once l) r = further l r
+reaches_on (further l q) r = further l (reaches_on q r)
 
 -- a step that leads to a name with one property leads to a name with each property that follows from it
 pub into_map : (P Q : ℕ → Type 0) → ((n : ℕ) → P n → Q n) → (s : Step) → StepLeadsInto P s → StepLeadsInto Q s
@@ -94,7 +94,7 @@ module _ (g : Graph) where
         → at_name (name_fault_within g (length g - length p)) p n ≡ None
     name_closed j p n ends there path leads =
         let clear : (m : ℕ) → NameReaches g n m → is_on_path p m ≡ false =
-        λ m r. false_from_ne_true (is_on_path p m) (λ e. no_loop j n ends (onward r (leads m (on-In p m e)))) in
+        λ m r. false_from_ne_true (is_on_path p m) (λ e. no_loop j n ends (reaches_on r (leads m (on-In p m e)))) in
         let new : is_on_path p n ≡ false = false_from_ne_true (is_on_path p n)
         (λ e. no_loop j n ends (leads n (on-In p n e))) in
         let short : length p ≤ length g = path_length g p path in
@@ -128,10 +128,10 @@ module _ (g : Graph) where
 -- the law of closed names
 pub closed_law_holds : ClosedNameLaw
 closed_law_holds = record {
-  faultless = faultless;
+  faultless_closed = faultless;
   any_depth = λ g range k n there ends. any_depth g range k n there ends;
   deeper = ends_more;
-  below = ends_below;
+  reached_closed = ends_below;
   no_cycle = no_loop;
   any_path = any_path;
 }

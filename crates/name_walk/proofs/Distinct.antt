@@ -4,7 +4,7 @@ use Rattle.std.proofs.Common.{inl, inr, nat_eq}
 use Rattle.std.specs.List.{AllByRecursion, IsDistinct}
 use Rattle.std.proofs.lemmas.Bool.{cases_Bool, eqb-false, ne_eqb}
 use Rattle.name_walk.specs.Faults.{is_on_path}
-use Rattle.name_walk.specs.Lists.{In, last}
+use Rattle.name_walk.specs.Lists.{In, last_item}
 use Rattle.name_walk.proofs.Lists.{In-on, In-right, all_append, all_at, on-In}
 
 -- a property of each member holds for all members
@@ -40,7 +40,7 @@ split_at (x ∷ xs) n (inr i) =
     record { front = x ∷ r.front; back = r.back; whole = ap (λ (ys : List ℕ). x ∷ ys) r.whole }
 
 -- the last element of two joined lists is that of the second list
-pub last_back : (xs : List ℕ) (n : ℕ) (ys : List ℕ) → last (xs ++ n ∷ ys) ≡ last (n ∷ ys)
+pub last_back : (xs : List ℕ) (n : ℕ) (ys : List ℕ) → last_item (xs ++ n ∷ ys) ≡ last_item (n ∷ ys)
 last_back [] n ys = refl
 last_back (x ∷ []) n ys = refl
 last_back (x ∷ y ∷ xs) n ys = last_back (y ∷ xs) n ys

@@ -69,13 +69,14 @@ module _ (g : Graph) (s : List Bool) where
     grown : (new : List Bool) (query : List Step) (names : List ℕ) → AreNewlyClosed g s query names
         → ((n : ℕ) → IsSettled new n ↔ IsDone s names n) → AreSettled g new
     grown new query names newly same n h = (
-      done_closed names newly.closed n ((same n).0 h),
-      λ m l. (same m).1 (done_next names newly.ordered n m ((same n).0 h) l),
+      done_closed names newly.names_closed n ((same n).0 h),
+      λ m l. (same m).1 (done_next names newly.targets_before n m ((same n).0 h) l),
     )
 
   asked : (query : List Step) (names : List ℕ) → AreNewlyClosed g s query names → (n : ℕ) → IsReached g query n
       → IsDone s names n
-  asked query names newly n r = elim (or_settled s n) [ inl e ↦ inl e | inr ne ↦ inr ((newly.exactly n).1 (r, ne)) ]
+  asked query names newly n r =
+      elim (or_settled s n) [ inl e ↦ inl e | inr ne ↦ inr ((newly.names_reached n).1 (r, ne)) ]
 
 -- another graph has the same steps for settled names
 module _ (g h : Graph) (s : List Bool) (settled : AreSettled g s)
@@ -105,8 +106,8 @@ module _ (g h : Graph) (s : List Bool) (settled : AreSettled g s)
 -- the law of settled names
 pub settled_law_holds : SettledLaw
 settled_law_holds = record {
-  below = settled_below;
-  asked = asked;
-  elsewhere = λ g h old new settled more alike same. elsewhere g h old settled same new more alike;
-  grown = λ g old new query names settled newly same. grown g old settled new query names newly same;
+  below_settled = settled_below;
+  query_settled = asked;
+  other_graph = λ g h old new settled more alike same. elsewhere g h old settled same new more alike;
+  settled_grow = λ g old new query names settled newly same. grown g old settled new query names newly same;
 }

@@ -11,25 +11,25 @@ use Rattle.name_walk.specs.FaultLaws.{IsStepsFault, StepsFaultLaw}
 use Rattle.name_walk.specs.Paths.{IsNamePath, NamePathLaw}
 use Rattle.name_walk.specs.Faults.{Cycle, NameFault, at_name, at_step, from_name, is_on_path, name_fault_within}
 use Rattle.name_walk.specs.Faults.{steps_fault}
-use Rattle.name_walk.specs.Lists.{In, first}
+use Rattle.name_walk.specs.Lists.{In, first_hit}
 use Rattle.name_walk.specs.Steps.{Graph, InRange, StayInGraph, steps}
 use Rattle.name_walk.proofs.Lists.{In-on, In-push, first_same, nothing_twice, on-In}
 
 -- a path has no more names than the graph
 pub path_length : (g : Graph) (p : List ℕ) → IsNamePath g p → length p ≤ length g
-path_length g p h = length-le_from_distinct_below p (length g) h.once h.there
+path_length g p h = length-le_from_distinct_below p (length g) h.names_differ h.names_in_graph
 
 -- the empty list is a path
 pub empty_path : (g : Graph) → IsNamePath g []
-empty_path g = record { once = nothing_twice; there = λ q e. cc }
+empty_path g = record { names_differ = nothing_twice; names_in_graph = λ q e. cc }
 
 -- a path with one more name that is not on it is a path
 pub path_push : (g : Graph) (p : List ℕ) (n : ℕ) → IsNamePath g p → is_on_path p n ≡ false → n < length g
     → IsNamePath g (p ++ n ∷ [])
 path_push g p n h new there = record {
-  once = IsDistinct-push nat_eq_equiv p n h.once new;
-  there = λ q e. elim (In-push p n q (on-In (p ++ n ∷ []) q e)) [
-    | inl i ↦ h.there q (In-on p q i)
+  names_differ = IsDistinct-push nat_eq_equiv p n h.names_differ new;
+  names_in_graph = λ q e. elim (In-push p n q (on-In (p ++ n ∷ []) q e)) [
+    | inl i ↦ h.names_in_graph q (In-on p q i)
     | inr f ↦ subst (λ (k : ℕ). k < length g) (sym f) there
   ];
 }
@@ -66,7 +66,7 @@ same_name f h p n same =
 module _ (g : Graph) (range : InRange g) where
   same_steps : (f h : List ℕ → ℕ → Option NameFault) (p : List ℕ) (xs : List Step) → StayInGraph g xs
       → ((n : ℕ) → is_on_path p n ≡ false → n < length g → f (p ++ n ∷ []) n ≡ h (p ++ n ∷ []) n)
-      → first (at_step f p) xs ≡ first (at_step h p) xs
+      → first_hit (at_step f p) xs ≡ first_hit (at_step h p) xs
   same_steps f h p xs known same = first_same (at_step f p) (at_step h p) xs each
     where
       each : (x : Step) → In x xs → at_step f p x ≡ at_step h p x
@@ -99,8 +99,8 @@ module _ (g : Graph) (range : InRange g) where
 
 -- the law of paths
 pub path_law_holds : NamePathLaw
-path_law_holds = record { empty = empty_path; longer = path_push; short = path_length }
+path_law_holds = record { empty_path = empty_path; longer_path = path_push; path_bound = path_length }
 
 -- the law of the first fault
 pub fault_law_holds : StepsFaultLaw
-fault_law_holds = record { is = fault_is; one = one_is }
+fault_law_holds = record { fault_is_first = fault_is; only_fault = one_is }

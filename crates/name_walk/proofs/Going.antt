@@ -18,7 +18,7 @@ use Rattle.name_walk.specs.Paths.{IsNamePath}
 use Rattle.name_walk.specs.Steps.{Graph, LeadsTo, NameReaches, at_once, steps}
 use Rattle.name_walk.specs.Traces.{Trace, path}
 use Rattle.name_walk.specs.Visits.{AreOrdering, IsBelow, IsFaultless}
-use Rattle.name_walk.proofs.ClosedPaths.{any_depth, into_map, name_closed, onward}
+use Rattle.name_walk.proofs.ClosedPaths.{any_depth, into_map, name_closed, reaches_on}
 use Rattle.name_walk.proofs.Faults.{empty_path, name_is, path_push}
 use Rattle.name_walk.proofs.Links.{AreDone, AreLinked, are_done_more, head, head_more, frame, last_path, linked_more}
 use Rattle.name_walk.proofs.Links.{linked_pop, linked_push, linked_reach, name_In, path_more}
@@ -62,7 +62,7 @@ module _ (g : Graph) (s : List Bool) (net : IsConsistentGraph g s) (start : ℕ)
       → IsGoing g s start before (set ms start OnPath) (es ++ start ∷ []) before [] start 0
   begin ms es h off unsettled is_open =
       let here : start < length ms = slice_get_within ms start Open is_open in
-      let there : start < length g = subst (λ (k : ℕ). start < k) h.size here in
+      let there : start < length g = subst (λ (k : ℕ). start < k) h.mark_per_name here in
       record {
         way = record {
           answer = sym (name_is g [] start (empty_path g) refl there) ∙ sym (or_none _);
@@ -86,7 +86,7 @@ module _ (g : Graph) (s : List Bool) (net : IsConsistentGraph g s) (start : ℕ)
   module _ (ms : List Mark) (es os : List ℕ) (fs : List Frame) (name place : ℕ)
       (go : IsGoing g s start before ms es os fs name place) where
     pub name_there : name < length g
-    name_there = go.way.is_path.there name (In-on (path fs name) name (name_In fs name))
+    name_there = go.way.is_path.names_in_graph name (In-on (path fs name) name (name_In fs name))
 
     pub name_marked : slice_get ms name ≡ Some OnPath
     name_marked = (go.way.on_path name).1 (name_In fs name)
@@ -108,12 +108,12 @@ module _ (g : Graph) (s : List Bool) (net : IsConsistentGraph g s) (start : ℕ)
     pass m e d =
         let leads : LeadsTo g name m = get_In _ _ _ e in
         let none : at_name (name_fault_within g (length g - length (path fs name))) (path fs name) m ≡ None =
-        name_closed g net.range (length g) (path fs name) m
-        (done_closed g s net.settled os go.in_target_order.closed m d)
-        (net.range name m leads) go.way.is_path
+        name_closed g net.steps_in_range (length g) (path fs name) m
+        (done_closed g s net.settled_right os go.in_target_order.names_closed m d)
+        (net.steps_in_range name m leads) go.way.is_path
         (λ q i. elim (linked_reach g s os fs name go.way.linked q i) [
           | inl f ↦ subst (λ (x : ℕ). NameReaches g x m) (sym f) (at_once leads)
-          | inr r ↦ onward r (at_once leads)
+          | inr r ↦ reaches_on r (at_once leads)
         ]) in
         let short : place < length (steps g name) = slice_get_within _ _ _ e in
         record {
@@ -142,7 +142,7 @@ module _ (g : Graph) (s : List Bool) (net : IsConsistentGraph g s) (start : ℕ)
         → IsGoing g s start before (set ms m OnPath) (es ++ m ∷ []) os (fs ++ frame name place ∷ []) m 0
     enter m e is_open unsettled fits =
         let leads : LeadsTo g name m = get_In _ _ _ e in
-        let there : m < length g = net.range name m leads in
+        let there : m < length g = net.steps_in_range name m leads in
         let here : m < length ms = slice_get_within ms m Open is_open in
         let apart : In m (path fs name)
         → ⊥ = other_mark OnPath Open ms (path fs name) go.way.on_path (λ q. cc) m is_open in
@@ -195,9 +195,10 @@ module _ (g : Graph) (s : List Bool) (net : IsConsistentGraph g s) (start : ℕ)
 
       name_closes : IsClosedName g name
       name_closes =
-          any_depth g net.range (suc (length g)) name name_there
+          any_depth g net.steps_in_range (suc (length g)) name name_there
           (all_map (StepLeadsInto (IsDone s os)) (StepLeadsInto (IsClosedName g))
-          (into_map (IsDone s os) (IsClosedName g) (done_closed g s net.settled os go.in_target_order.closed))
+          (into_map (IsDone s os) (IsClosedName g)
+          (done_closed g s net.settled_right os go.in_target_order.names_closed))
           (steps g name) all_done)
 
       pub ordering_after : AreOrdering g s (set ms name Closed) es (os ++ name ∷ [])
@@ -223,7 +224,7 @@ module _ (g : Graph) (s : List Bool) (net : IsConsistentGraph g s) (start : ℕ)
       let pop = linked_pop g s os fs f name go.way.linked in
       let p : path (fs ++ f ∷ []) name ≡ path fs f.name ++ name ∷ [] = path_more fs f name in
       let once : IsDistinct nat_eq (path fs f.name ++ name ∷ []) =
-      subst (λ (q : List ℕ). IsDistinct nat_eq q) p go.way.is_path.once in
+      subst (λ (q : List ℕ). IsDistinct nat_eq q) p go.way.is_path.names_differ in
       let apart : In name (path fs f.name) → ⊥ = distinct_last (path fs f.name) name once in
       let here : name < length ms =
       slice_get_within ms name OnPath (name_marked ms es os (fs ++ f ∷ []) name place go) in
@@ -235,8 +236,8 @@ module _ (g : Graph) (s : List Bool) (net : IsConsistentGraph g s) (start : ℕ)
           answer = sym (leave_pending g [] fs f name place (nothing_left ms es os (fs ++ f ∷ []) name place go full))
               ∙ go.way.answer;
           is_path = record {
-            once = distinct_front (path fs f.name) (name ∷ []) once;
-            there = λ q e. go.way.is_path.there q (In-on _ q (up q (on-In _ q e)));
+            names_differ = distinct_front (path fs f.name) (name ∷ []) once;
+            names_in_graph = λ q e. go.way.is_path.names_in_graph q (In-on _ q (up q (on-In _ q e)));
           };
           begins = sym (head_more fs f name) ∙ go.way.begins;
           linked = linked_more g s os name fs f.name pop.0;
@@ -259,25 +260,25 @@ module _ (g : Graph) (s : List Bool) (net : IsConsistentGraph g s) (start : ℕ)
   pub finish : (ms : List Mark) (es os : List ℕ) (name place : ℕ) (old : Trace) → old.order ≡ before
       → IsGoing g s start before ms es os [] name place → length (steps g name) ≤ place
       → IsFaultless g s start old
-      (record { marks = set ms name Closed; entered = es; order = os ++ name ∷ []; frames = [] })
+      (record { marks = set ms name Closed; entered_names = es; order = os ++ name ∷ []; frames = [] })
   finish ms es os name place old same go full =
       let here : name < length ms = slice_get_within ms name OnPath (name_marked ms es os [] name place go) in
       let off : AreMarked OnPath (set ms name Closed) [] =
       marked_pop ms name here OnPath Closed [] go.way.on_path (λ q. cc) (λ i. i) in
       record {
-        none = sym go.way.answer ∙ ap (λ xs. steps_fault g (name ∷ []) xs)
+        without_fault = sym go.way.answer ∙ ap (λ xs. steps_fault g (name ∷ []) xs)
             (nothing_left ms es os [] name place go full);
-        between = record {
+        state_between = record {
           in_target_order = ordering_after ms es os [] name place go full;
           off_path = λ n e. (off n).0 e;
           frames = refl;
         };
         adds = record {
-          from = λ n i. elim (from_after ms es os [] name place go full n i) [
+          new_below = λ n i. elim (from_after ms es os [] name place go full n i) [
             | inl j ↦ inl (subst (λ (xs : List ℕ). In n xs) (sym same) j)
             | inr b ↦ inr b
           ];
-          kept = λ n i. kept_after ms es os [] name place go full n (subst (λ (xs : List ℕ). In n xs) same i);
-          put = subst (λ (x : ℕ). In x (os ++ name ∷ [])) go.way.begins (In-last os name);
+          old_kept = λ n i. kept_after ms es os [] name place go full n (subst (λ (xs : List ℕ). In n xs) same i);
+          start_added = subst (λ (x : ℕ). In x (os ++ name ∷ [])) go.way.begins (In-last os name);
         };
       }

@@ -5,7 +5,7 @@ use Rattle.name_walk.specs.declared.step.Step.{Step}
 use Rattle.name_walk.specs.declared.step.Step.TheVariants.{To}
 use Rattle.name_walk.specs.declared.traces.Frame.{Frame}
 use Rattle.name_walk.specs.ClosedNames.{IsDone, StepLeadsInto}
-use Rattle.name_walk.specs.Lists.{In, last}
+use Rattle.name_walk.specs.Lists.{In, last_item}
 use Rattle.name_walk.specs.Traces.{path}
 use Rattle.name_walk.specs.Steps.{Graph, NameReaches, at_once, further, steps}
 use Rattle.name_walk.proofs.ClosedPaths.{into_map}
@@ -32,7 +32,7 @@ head_more [] f m = refl
 head_more (h ∷ fs) f m = refl
 
 -- the last name of a path is the current name
-pub last_path : (p : List ℕ) (fs : List Frame) (name : ℕ) → last (p ++ path fs name) ≡ Some name
+pub last_path : (p : List ℕ) (fs : List Frame) (name : ℕ) → last_item (p ++ path fs name) ≡ Some name
 last_path [] [] name = refl
 last_path [] (f ∷ []) name = refl
 last_path [] (f ∷ h ∷ fs) name = last_path [] (h ∷ fs) name

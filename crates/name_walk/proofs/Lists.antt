@@ -6,7 +6,7 @@ use Rattle.std.specs.Option.{option_or}
 use Rattle.std.proofs.lemmas.Bool.{or_cases, or_left, or_right, or_from, eqb-true, eq-eqb, ne_eqb, eqb-false}
 use Rattle.std.proofs.lemmas.List.Folds.{list_any-append}
 use Rattle.name_walk.specs.Faults.{is_on_path}
-use Rattle.name_walk.specs.Lists.{In, first}
+use Rattle.name_walk.specs.Lists.{In, first_hit}
 
 -- ---- properties of all elements
 pub all_map : {A : Type 0} (P Q : A → Type 0) → ((x : A) → P x → Q x) → (xs : List A) → AllByRecursion P xs
@@ -115,37 +115,39 @@ none_second None b e = e
 none_second (Some x) b e = cc
 
 -- if a list has no first result, no member has a result
-pub all_none : {A B : Type 0} (f : A → Option B) (xs : List A) → first f xs ≡ None → AllByRecursion (λ x. f x ≡ None) xs
+pub all_none : {A B : Type 0} (f : A → Option B) (xs : List A) → first_hit f xs ≡ None
+    → AllByRecursion (λ x. f x ≡ None) xs
 all_none f [] e = tt
-all_none f (x ∷ xs) e = (none_first (f x) (first f xs) e, all_none f xs (none_second (f x) (first f xs) e))
+all_none f (x ∷ xs) e = (none_first (f x) (first_hit f xs) e, all_none f xs (none_second (f x) (first_hit f xs) e))
 
 -- if no member has a result, the list has no first result
-pub none_from : {A B : Type 0} (f : A → Option B) (xs : List A) → ((x : A) → In x xs → f x ≡ None) → first f xs ≡ None
+pub none_from : {A B : Type 0} (f : A → Option B) (xs : List A) → ((x : A) → In x xs → f x ≡ None)
+    → first_hit f xs ≡ None
 none_from f [] h = refl
-none_from f (x ∷ xs) h = ap (λ o. option_or o (first f xs)) (h x (inl refl)) ∙ none_from f xs (λ y i. h y (inr i))
+none_from f (x ∷ xs) h = ap (λ o. option_or o (first_hit f xs)) (h x (inl refl)) ∙ none_from f xs (λ y i. h y (inr i))
 
 -- functions that agree on the members of a list have the same first result
 pub first_same : {A B : Type 0} (f g : A → Option B) (xs : List A) → ((x : A) → In x xs → f x ≡ g x)
-    → first f xs ≡ first g xs
+    → first_hit f xs ≡ first_hit g xs
 first_same f g [] h = refl
 first_same f g (x ∷ xs) h = λ i. option_or (h x (inl refl) i) (first_same f g xs (λ y j. h y (inr j)) i)
 
 -- if a list has no first result, then with one more member it has the result of that member
-pub first_push : {A B : Type 0} (f : A → Option B) (xs : List A) (x : A) → first f xs ≡ None
-    → first f (xs ++ x ∷ []) ≡ f x
+pub first_push : {A B : Type 0} (f : A → Option B) (xs : List A) (x : A) → first_hit f xs ≡ None
+    → first_hit f (xs ++ x ∷ []) ≡ f x
 first_push f [] x e = or_none (f x)
 first_push f (y ∷ xs) x e =
-    ap (λ o. option_or o (first f (xs ++ x ∷ []))) (none_first (f y) (first f xs) e)
-    ∙ first_push f xs x (none_second (f y) (first f xs) e)
+    ap (λ o. option_or o (first_hit f (xs ++ x ∷ []))) (none_first (f y) (first_hit f xs) e)
+    ∙ first_push f xs x (none_second (f y) (first_hit f xs) e)
 
 -- if no element before a place has a result, the first result of the list is that of the element there
 pub first_at : {A B : Type 0} (f : A → Option B) (xs : List A) (i : ℕ) (x : A) (y : B)
-    → first f (take i xs) ≡ None → slice_get xs i ≡ Some x → f x ≡ Some y → first f xs ≡ Some y
+    → first_hit f (take i xs) ≡ None → slice_get xs i ≡ Some x → f x ≡ Some y → first_hit f xs ≡ Some y
 first_at f [] i x y e g h = cc
-first_at f (z ∷ xs) zero x y e g h = let k : z ≡ x = cc in ap (λ o. option_or o (first f xs)) (ap f k ∙ h)
+first_at f (z ∷ xs) zero x y e g h = let k : z ≡ x = cc in ap (λ o. option_or o (first_hit f xs)) (ap f k ∙ h)
 first_at f (z ∷ xs) (suc i) x y e g h =
-    ap (λ o. option_or o (first f xs)) (none_first (f z) (first f (take i xs)) e)
-    ∙ first_at f xs i x y (none_second (f z) (first f (take i xs)) e) g h
+    ap (λ o. option_or o (first_hit f xs)) (none_first (f z) (first_hit f (take i xs)) e)
+    ∙ first_at f xs i x y (none_second (f z) (first_hit f (take i xs)) e) g h
 
 -- a choice is `None` only if the test is false and the alternative is `None`
 pub not_chosen : {A : Type 0} (b : Bool) (x : A) (o : Option A) → cond b (Some x) o ≡ None → (b ≡ false) × (o ≡ None)

@@ -78,28 +78,29 @@ module _ (ms : List Mark) (n : ℕ) (there : n < length ms) where
   -- ---- entered names
   pub entered_again : (v : Mark) (names : List ℕ) → In n names → AreEntered ms names → AreEntered (set ms n v) names
   entered_again v names i h = record {
-    within = λ k j. subst (λ (x : ℕ). k < x) (sym (length-set ms n v)) (h.within k j);
-    among = λ k l. elim (cases_eq k n) [
+    names_within = λ k j. subst (λ (x : ℕ). k < x) (sym (length-set ms n v)) (h.names_within k j);
+    open_or_listed = λ k l. elim (cases_eq k n) [
       | inl e ↦ inr (subst (λ (x : ℕ). In x names) (sym e) i)
       | inr ne ↦ subst (λ o. (o ≡ Some Open) ⊎ In k names) (sym (get_set_other ms n k v ne))
-          (h.among k (subst (λ (x : ℕ). k < x) (length-set ms n v) l))
+          (h.open_or_listed k (subst (λ (x : ℕ). k < x) (length-set ms n v) l))
     ];
   }
 
   pub entered_push : (v : Mark) (names : List ℕ) → AreEntered ms names → AreEntered (set ms n v) (names ++ n ∷ [])
   entered_push v names h = entered_again v (names ++ n ∷ []) (In-last names n) (record {
-    within = λ k i. elim (In-push names n k i)
-        [ inl j ↦ h.within k j | inr e ↦ subst (λ (x : ℕ). x < length ms) (sym e) there ];
-    among = λ k l. elim (h.among k l) [ inl e ↦ inl e | inr i ↦ inr (In-left names (n ∷ []) k i) ];
+    names_within = λ k i. elim (In-push names n k i)
+        [ inl j ↦ h.names_within k j | inr e ↦ subst (λ (x : ℕ). x < length ms) (sym e) there ];
+    open_or_listed = λ k l. elim (h.open_or_listed k l) [ inl e ↦ inl e | inr i ↦ inr (In-left names (n ∷ []) k i) ];
   })
 
   -- reopening the last entered name removes it from the entered names
   pub entered_pop : (names : List ℕ) → AreEntered ms (names ++ n ∷ []) → AreEntered (set ms n Open) names
   entered_pop names h = record {
-    within = λ k i. subst (λ (x : ℕ). k < x) (sym (length-set ms n Open)) (h.within k (In-left names (n ∷ []) k i));
-    among = λ k l. elim (cases_eq k n) [
+    names_within = λ k i. subst (λ (x : ℕ). k < x) (sym (length-set ms n Open))
+        (h.names_within k (In-left names (n ∷ []) k i));
+    open_or_listed = λ k l. elim (cases_eq k n) [
       | inl e ↦ inl (now_at Open k e)
-      | inr ne ↦ elim (h.among k (subst (λ (x : ℕ). k < x) (length-set ms n Open) l)) [
+      | inr ne ↦ elim (h.open_or_listed k (subst (λ (x : ℕ). k < x) (length-set ms n Open) l)) [
         | inl o ↦ inl (get_set_other ms n k Open ne ∙ o)
         | inr i ↦ elim (In-push names n k i) [ inl j ↦ inr j | inr e ↦ absurd (ne e) ]
       ]
@@ -110,4 +111,4 @@ module _ (ms : List Mark) (n : ℕ) (there : n < length ms) where
 pub entered_in : (v : Mark) → (Some v ≡ Some Open → ⊥) → (ms : List Mark) (names : List ℕ) (n : ℕ) → AreEntered ms names
     → slice_get ms n ≡ Some v → In n names
 entered_in v differ ms names n h e =
-    elim (h.among n (slice_get_within ms n v e)) [ inl o ↦ absurd (differ (sym e ∙ o)) | inr i ↦ i ]
+    elim (h.open_or_listed n (slice_get_within ms n v e)) [ inl o ↦ absurd (differ (sym e ∙ o)) | inr i ↦ i ]

@@ -19,7 +19,7 @@ use Rattle.name_walk.proofs.Weights.{enter_less, leave_less, weight}
 
 -- a visit is at a step of a name
 abbrev pub IsGoingAt : Graph → List Bool → ℕ → List ℕ → Trace → ℕ → ℕ → Type 0
-IsGoingAt g s start before t name place = IsGoing g s start before t.marks t.entered t.order t.frames name place
+IsGoingAt g s start before t name place = IsGoing g s start before t.marks t.entered_names t.order t.frames name place
 
 -- the measure of the rest of the visit
 abbrev pub weight_at : Graph → Trace → ℕ → ℕ → ℕ
@@ -30,18 +30,18 @@ module _ {g : Graph} {s : List Bool} (net : IsConsistentGraph g s) {start : ℕ}
       → IsGoingAt g s start t.order new start 0
   begin_at t new b fresh e =
       let going : List Frame → Type 0 =
-      λ fs. IsGoing g s start t.order (set t.marks start OnPath) (t.entered ++ start ∷ []) t.order fs start 0 in
+      λ fs. IsGoing g s start t.order (set t.marks start OnPath) (t.entered_names ++ start ∷ []) t.order fs start 0 in
       subst (λ (x : Trace). IsGoingAt g s start t.order x start 0) (sym e)
       (subst going (sym b.frames)
-      (begin g s net start t.order t.marks t.entered b.in_target_order b.off_path fresh.0 fresh.1))
+      (begin g s net start t.order t.marks t.entered_names b.in_target_order b.off_path fresh.0 fresh.1))
 
   module _ {before : List ℕ} {t : Trace} {name place : ℕ} (go : IsGoingAt g s start before t name place) where
     on_path : slice_get t.marks name ≡ Some OnPath
-    on_path = name_marked g s net start before t.marks t.entered t.order t.frames name place go
+    on_path = name_marked g s net start before t.marks t.entered_names t.order t.frames name place go
 
     pub there_at : (name < length g) × (name < length t.marks)
     there_at = (
-      name_there g s net start before t.marks t.entered t.order t.frames name place go,
+      name_there g s net start before t.marks t.entered_names t.order t.frames name place go,
       slice_get_within t.marks name OnPath on_path,
     )
 
@@ -49,35 +49,35 @@ module _ {g : Graph} {s : List Bool} (net : IsConsistentGraph g s) {start : ℕ}
     pub next_at : (m : ℕ) → slice_get (steps g name) place ≡ Some (To m)
         → (m < length g) × (m < length s) × (m < length t.marks)
     next_at m e =
-        let there : m < length g = net.range name m (get_In _ _ _ e) in (
+        let there : m < length g = net.steps_in_range name m (get_In _ _ _ e) in (
           there,
-          subst (λ (k : ℕ). m < k) (sym net.size) there,
-          subst (λ (k : ℕ). m < k) (sym go.in_target_order.size) there,
+          subst (λ (k : ℕ). m < k) (sym net.mark_per_name) there,
+          subst (λ (k : ℕ). m < k) (sym go.in_target_order.mark_per_name) there,
         )
 
     pub dead_end_at : (w : ℕ) → slice_get (steps g name) place ≡ Some (Nowhere w)
         → steps_fault g [] (To start ∷ []) ≡ Some (DeadEnd w (Some name))
-    dead_end_at w e = dead_end g s net start before t.marks t.entered t.order t.frames name place go w e
+    dead_end_at w e = dead_end g s net start before t.marks t.entered_names t.order t.frames name place go w e
 
     pub is_on_at : (m : ℕ) (fs : List Frame) → slice_get t.marks m ≡ Some OnPath → fs ≡ t.frames
         → is_on_path (path fs name) m ≡ true
     is_on_at m fs found e =
         subst (λ (hs : List Frame). is_on_path (path hs name) m ≡ true) (sym e)
-        (is_on g s net start before t.marks t.entered t.order t.frames name place go m found)
+        (is_on g s net start before t.marks t.entered_names t.order t.frames name place go m found)
 
     pub cycle_at : (m : ℕ) (fs : List Frame) (names : List ℕ) → slice_get (steps g name) place ≡ Some (To m)
         → slice_get t.marks m ≡ Some OnPath → fs ≡ t.frames → names ≡ from_name m (path fs name) ++ m ∷ []
         → steps_fault g [] (To start ∷ []) ≡ Some (Cycle names)
     cycle_at m fs names e found same chain =
-        cycle g s net start before t.marks t.entered t.order t.frames name place go m e found
+        cycle g s net start before t.marks t.entered_names t.order t.frames name place go m e found
         ∙ ap (λ xs. Some (Cycle xs))
         (ap (λ (hs : List Frame). from_name m (path hs name) ++ m ∷ []) (sym same) ∙ sym chain)
 
     pub pass_at : (m : ℕ) → slice_get (steps g name) place ≡ Some (To m) → IsMarkFound s t.marks m Closed
         → IsGoingAt g s start before t name (place + 1)
     pass_at m e found =
-        pass g s net start before t.marks t.entered t.order t.frames name place go m e
-        (elim found [ inl d ↦ inl d | inr d ↦ inr ((go.in_target_order.marked m).0 d) ])
+        pass g s net start before t.marks t.entered_names t.order t.frames name place go m e
+        (elim found [ inl d ↦ inl d | inr d ↦ inr ((go.in_target_order.marked_in_order m).0 d) ])
 
     pub enter_at : (m : ℕ) (pushed new : Trace) → slice_get (steps g name) place ≡ Some (To m)
         → IsMarkFound s t.marks m Open
@@ -87,27 +87,30 @@ module _ {g : Graph} {s : List Bool} (net : IsConsistentGraph g s) {start : ℕ}
         let is : new ≡ with_entered (with_frame t (frame name place)) m =
         entering ∙ ap (λ (x : Trace). with_entered x m) push in (
           subst (λ (x : Trace). IsGoingAt g s start before x m 0) (sym is)
-              (enter g s net start before t.marks t.entered t.order t.frames name place go m e found.1 found.0 fits),
+              (enter g s net start before t.marks t.entered_names t.order t.frames name place go m e found.1 found.0
+              fits),
           subst (λ (x : Trace). weight_at g x m 0 < weight_at g t name place) (sym is)
               (enter_less g t.marks t.frames (frame name place) m found.1 (next_at m e).0),
         )
 
     module _ (full : length (steps g name) ≤ place) {closed : Trace} (close : closed ≡ with_closed t name) where
-      pub entered_at : (new : Trace) → new ≡ closed → AreEntered new.marks new.entered
+      pub entered_at : (new : Trace) → new ≡ closed → AreEntered new.marks new.entered_names
       entered_at new same =
-          subst (λ (x : Trace). AreEntered x.marks x.entered) (sym (same ∙ close))
-          (ordering_after g s net start before t.marks t.entered t.order t.frames name place go full).entered
+          subst (λ (x : Trace). AreEntered x.marks x.entered_names) (sym (same ∙ close))
+          (ordering_after g s net start before t.marks t.entered_names t.order t.frames name place go
+          full).names_entered
 
       pub finish_at : (old new : Trace) → old.order ≡ before → new ≡ closed → closed.frames ≡ []
           → IsFaultless g s start old new
       finish_at old new same popped none =
           let top : t.frames ≡ [] = sym (ap (λ (x : Trace). x.frames) close) ∙ none in
-          let going : List Frame → Type 0 = λ fs. IsGoing g s start before t.marks t.entered t.order fs name place in
+          let going : List Frame → Type 0 = λ fs. IsGoing g s start before t.marks t.entered_names t.order fs name place
+          in
           let ended : List Frame
           → Type 0 = λ fs. IsFaultless g s start old (record (with_closed t name) { frames = fs }) in
           subst (λ (x : Trace). IsFaultless g s start old x) (sym (popped ∙ close))
           (subst ended (sym top)
-          (finish g s net start before t.marks t.entered t.order name place old same (subst going top go) full))
+          (finish g s net start before t.marks t.entered_names t.order name place old same (subst going top go) full))
 
       module _ (f : Frame) (new : Trace) (pop : closed ≡ with_frame new f) where
         frames_are : t.frames ≡ new.frames ++ f ∷ []
@@ -118,9 +121,10 @@ module _ {g : Graph} {s : List Bool} (net : IsConsistentGraph g s) {start : ℕ}
 
         pub leave_at : IsGoingAt g s start before new f.name (f.place + 1)
         leave_at =
-            let going : List Frame → Type 0 = λ fs. IsGoing g s start before t.marks t.entered t.order fs name place in
+            let going : List Frame → Type 0 = λ fs. IsGoing g s start before t.marks t.entered_names t.order fs name
+            place in
             subst (λ (x : Trace). IsGoingAt g s start before x f.name (f.place + 1)) new_is
-            (leave g s net start before t.marks t.entered t.order new.frames f name place
+            (leave g s net start before t.marks t.entered_names t.order new.frames f name place
             (subst going frames_are go) full)
 
         pub leave_less_at : weight_at g new f.name (f.place + 1) < weight_at g t name place

@@ -8,7 +8,7 @@ use Rattle.name_walk.specs.declared.traces.Frame.{Frame}
 use Rattle.name_walk.specs.declared.trail.Ending.{Ending}
 use Rattle.name_walk.specs.declared.trail.FaultyStep.{FaultyStep}
 use Rattle.name_walk.specs.Lists.{In}
-use Rattle.name_walk.specs.PathRecords.{AreNoted, above, end_for, ending_above, step_down}
+use Rattle.name_walk.specs.PathRecords.{AreNoted, end_for, ending_above, ending_of_path, step_down}
 use Rattle.name_walk.specs.Traces.{Trace, path, with_frame, without_frames}
 use Rattle.name_walk.specs.Trails.{Faults}
 use Rattle.name_walk.proofs.Distinct.{distinct_apart}
@@ -34,7 +34,7 @@ pub record IsNoting (old now : Trace) (fs hs : Faults) (last : ℕ) (last_step :
   pub others : (n : ℕ) → (In n below → ⊥) → slice_get hs n ≡ slice_get fs n
   pub size : length hs ≡ length fs
   pub step_is : step ≡ step_down last_step below
-  pub ending_is : ending ≡ above last_ending below
+  pub ending_is : ending ≡ ending_of_path last_ending below
   pub traces : without_frames now ≡ without_frames old
 
 module _ (old : Trace) (fs : Faults) (last : ℕ) (x : Step) (last_ending : Ending)

@@ -10,8 +10,8 @@ use Rattle.name_walk.specs.declared.trail.Ending.{Ending}
 use Rattle.name_walk.specs.declared.trail.Ending.TheVariants.{At, Ring}
 use Rattle.name_walk.specs.declared.trail.FaultyStep.{FaultyStep}
 use Rattle.name_walk.specs.Faults.{is_on_path}
-use Rattle.name_walk.specs.Lists.{In, last}
-use Rattle.name_walk.specs.PathRecords.{AreNoted, above, end_for, ending_above, step_down}
+use Rattle.name_walk.specs.Lists.{In, last_item}
+use Rattle.name_walk.specs.PathRecords.{AreNoted, end_for, ending_above, ending_of_path, step_down}
 use Rattle.name_walk.specs.Steps.{Graph}
 use Rattle.name_walk.specs.Traces.{path}
 use Rattle.name_walk.specs.Trails.{AreFindings, AreTrails, EndsAt, Faults, FollowsFaults, GoesBy, IsFaulty, IsFirst}
@@ -28,17 +28,17 @@ to_name : (a b : ℕ) → To a ≡ To b → a ≡ b
 to_name a b e = cc
 
 -- ---- endings
-above_at : (e : ℕ) (below : List ℕ) → above (At e) below ≡ At e
+above_at : (e : ℕ) (below : List ℕ) → ending_of_path (At e) below ≡ At e
 above_at e [] = refl
 above_at e (n ∷ below) = ap (λ d. ending_above d n) (above_at e below)
 
-above_out : (m : ℕ) (below : List ℕ) → (In m below → ⊥) → above (Ring m) below ≡ Ring m
+above_out : (m : ℕ) (below : List ℕ) → (In m below → ⊥) → ending_of_path (Ring m) below ≡ Ring m
 above_out m [] out = refl
 above_out m (n ∷ below) out =
     ap (λ d. ending_above d n) (above_out m below (λ i. out (inr i)))
     ∙ cond-false (nat_eq n m) (At m) (Ring m) (ne_eqb n m (λ e. out (inl (sym e))))
 
-above_in : (m : ℕ) (below : List ℕ) → In m below → above (Ring m) below ≡ At m
+above_in : (m : ℕ) (below : List ℕ) → In m below → ending_of_path (Ring m) below ≡ At m
 above_in m [] i = absurd i
 above_in m (n ∷ below) i = elim (cases_Bool (is_on_path below m)) [
   | inl t ↦ ap (λ d. ending_above d n) (above_in m below (on-In below m t))
@@ -63,13 +63,13 @@ module _ (hs : Faults) (ending : Ending) (x : Step) where
   noted_faulty [] h n i = absurd i
   noted_faulty (k ∷ ns) h n (inl e) =
       subst (λ (j : ℕ). IsFaulty hs j) (sym e)
-      (record { step = step_down x ns; end = end_for (above ending ns) k }, h.0)
+      (record { step = step_down x ns; end = end_for (ending_of_path ending ns) k }, h.0)
   noted_faulty (k ∷ ns) h n (inr i) = noted_faulty ns h.1 n i
 
   noted_follows : (n : ℕ) (below : List ℕ) → AreNoted hs ending x (n ∷ below) → FollowsFaults hs n below x
   noted_follows n [] h = (record { step = x; end = end_for ending n }, h.0, refl)
   noted_follows n (m ∷ below) h = (
-    (record { step = To m; end = end_for (above ending (m ∷ below)) n }, h.0, refl),
+    (record { step = To m; end = end_for (ending_of_path ending (m ∷ below)) n }, h.0, refl),
     noted_follows m below h.1,
   )
 
@@ -83,7 +83,7 @@ module _ (hs : Faults) (ending : Ending) (x : Step) where
       let same : b.0 ≡ c = two_same b.0 c (sym b.1 ∙ (ap (slice_get hs) e ∙ h.0)) in
       ends m (sym (ap (λ (d : FaultyStep). d.step) same) ∙ b.2)
   noted_leads (k ∷ j ∷ ns) h all ends n m (inl e) b =
-      let c : FaultyStep = record { step = To j; end = end_for (above ending (j ∷ ns)) k } in
+      let c : FaultyStep = record { step = To j; end = end_for (ending_of_path ending (j ∷ ns)) k } in
       let same : b.0 ≡ c = two_same b.0 c (sym b.1 ∙ (ap (slice_get hs) e ∙ h.0)) in
       subst (λ (i : ℕ). IsFaulty hs i) (to_name j m (sym (ap (λ (d : FaultyStep). d.step) same) ∙ b.2))
       (all j (inr (inl refl)))
@@ -103,7 +103,7 @@ module _ (g : Graph) (s : List Bool) (os : List ℕ) (x : Step) where
   linked_first [] name l a = (a, tt)
   linked_first (f ∷ fs) name l a = (
     subst (λ (y : Step). IsFirst g s os f.name y) (sym (down_head fs name))
-        (record { place = f.place; at = l.0; before = l.1 }),
+        (record { place = f.place; step_at = l.0; earlier_done = l.1 }),
     linked_first fs name l.2 a,
   )
 
@@ -112,7 +112,7 @@ module _ (g : Graph) (s : List Bool) (os : List ℕ) (x : Step) where
   first_noted hs ending [] h a n c i e = absurd i
   first_noted hs ending (k ∷ ns) h a n c (inr i) e = first_noted hs ending ns h.1 a.1 n c i e
   first_noted hs ending (k ∷ ns) h a n c (inl q) e =
-      let d : FaultyStep = record { step = step_down x ns; end = end_for (above ending ns) k } in
+      let d : FaultyStep = record { step = step_down x ns; end = end_for (ending_of_path ending ns) k } in
       let same : c ≡ d = two_same c d (sym e ∙ (ap (slice_get hs) q ∙ h.0)) in
       subst (λ (v : ℕ × Step). IsFirst g s os v.0 v.1)
       (λ i. (sym q i, ap (λ (b : FaultyStep). b.step) (sym same) i)) a.0
@@ -125,7 +125,7 @@ In_either (x ∷ xs) ys n (inr i) = elim (In_either xs ys n i) [ inl j ↦ inl (
 
 -- how a path ends by the step of its last name
 abbrev pub PathEnds : Faults → List ℕ → ℕ → Step → Ending → Type 0
-PathEnds fs ns here (Nowhere w) d = (d ≡ At here) × (last ns ≡ Some here)
+PathEnds fs ns here (Nowhere w) d = (d ≡ At here) × (last_item ns ≡ Some here)
 PathEnds fs ns here (To m) (At e) = (c : FaultyStep) × (slice_get fs m ≡ Some (Some c)) × (c.end ≡ e)
 PathEnds fs ns here (To m) (Ring k) = (k ≡ m) × In m ns
 
@@ -151,9 +151,9 @@ module _ (fs hs : Faults) (ending : Ending) (x : Step) (ns : List ℕ) (noted : 
   trail_still n e t = record {
     names = t.names;
     step = t.step;
-    follows = follows_same fs hs still n t.names t.step t.follows;
-    once = t.once;
-    ends = t.ends;
+    follows_faults = follows_same fs hs still n t.names t.step t.follows_faults;
+    names_differ = t.names_differ;
+    ends_at = t.ends_at;
   }
 
   -- a part of the path
@@ -170,22 +170,22 @@ module _ (fs hs : Faults) (ending : Ending) (x : Step) (ns : List ℕ) (noted : 
     here_follows : FollowsFaults hs n back x
     here_follows = noted_follows hs ending x n back here_noted
 
-    here_ends : (c : FaultyStep) → slice_get hs n ≡ Some (Some c) → c.end ≡ end_for (above ending back) n
+    here_ends : (c : FaultyStep) → slice_get hs n ≡ Some (Some c) → c.end ≡ end_for (ending_of_path ending back) n
     here_ends c e =
-        let d : FaultyStep = record { step = step_down x back; end = end_for (above ending back) n } in
+        let d : FaultyStep = record { step = step_down x back; end = end_for (ending_of_path ending back) n } in
         ap (λ (b : FaultyStep). b.end) (two_same c d (sym e ∙ here_noted.0))
 
     in_whole : (k : ℕ) → In k (front ++ n ∷ back) → In k ns
     in_whole k i = subst (λ (ks : List ℕ). In k ks) (sym whole) i
 
     -- a way to a word that leads nowhere
-    to_dead_end : (w e : ℕ) → x ≡ Nowhere w → last ns ≡ Some e → IsTrail hs n e
+    to_dead_end : (w e : ℕ) → x ≡ Nowhere w → last_item ns ≡ Some e → IsTrail hs n e
     to_dead_end w e is final = record {
       names = back;
       step = Nowhere w;
-      follows = subst (λ (y : Step). FollowsFaults hs n back y) is here_follows;
-      once = back_once;
-      ends = sym (last_back front n back) ∙ (ap last (sym whole) ∙ final);
+      follows_faults = subst (λ (y : Step). FollowsFaults hs n back y) is here_follows;
+      names_differ = back_once;
+      ends_at = sym (last_back front n back) ∙ (ap last_item (sym whole) ∙ final);
     }
 
     -- a way to a name that is known to have a fault
@@ -196,17 +196,17 @@ module _ (fs hs : Faults) (ending : Ending) (x : Step) (ns : List ℕ) (noted : 
 
     to_known : (m e : ℕ) → x ≡ To m → IsTrail fs m e → IsTrail hs n e
     to_known m e is t =
-        let new : FollowsFaults hs m t.names t.step = follows_same fs hs still m t.names t.step t.follows in
+        let new : FollowsFaults hs m t.names t.step = follows_same fs hs still m t.names t.step t.follows_faults in
         record {
           names = back ++ m ∷ t.names;
           step = t.step;
-          follows = follows_join hs n back m t.names t.step
+          follows_faults = follows_join hs n back m t.names t.step
               (subst (λ (y : Step). FollowsFaults hs n back y) is here_follows)
               new;
-          once = distinct_append (n ∷ back) (m ∷ t.names) back_once t.once
+          names_differ = distinct_append (n ∷ back) (m ∷ t.names) back_once t.names_differ
               (λ k i j. fresh k (in_whole k (In-right front (n ∷ back) k i))
-              (all_faulty fs m t.names t.step t.follows k j));
-          ends = ends_further m t.names t.step e t.ends;
+              (all_faulty fs m t.names t.step t.follows_faults k j));
+          ends_at = ends_further m t.names t.step e t.ends_at;
         }
 
     -- a way into a ring below the name
@@ -214,9 +214,9 @@ module _ (fs hs : Faults) (ending : Ending) (x : Step) (ns : List ℕ) (noted : 
     to_ring m is i = record {
       names = back;
       step = To m;
-      follows = subst (λ (y : Step). FollowsFaults hs n back y) is here_follows;
-      once = back_once;
-      ends = (refl, i);
+      follows_faults = subst (λ (y : Step). FollowsFaults hs n back y) is here_follows;
+      names_differ = back_once;
+      ends_at = (refl, i);
     }
 
   -- the way of a name in a ring, below the first name of the ring
@@ -230,10 +230,10 @@ module _ (fs hs : Faults) (ending : Ending) (x : Step) (ns : List ℕ) (noted : 
       record {
         names = back ++ m ∷ b;
         step = To n;
-        follows = follows_join hs n back m b (To n) parts.1 parts.0;
-        once = distinct_append (n ∷ back) (m ∷ b) (distinct_back (m ∷ b) (n ∷ back) apart)
+        follows_faults = follows_join hs n back m b (To n) parts.1 parts.0;
+        names_differ = distinct_append (n ∷ back) (m ∷ b) (distinct_back (m ∷ b) (n ∷ back) apart)
             (front_once (m ∷ b) (n ∷ back) apart) (λ k i j. distinct_apart (m ∷ b) (n ∷ back) apart k j i);
-        ends = (refl, inl refl);
+        ends_at = (refl, inl refl);
       }
     where
       front_once : (xs ys : List ℕ) → IsDistinct nat_eq (xs ++ ys) → IsDistinct nat_eq xs
@@ -241,18 +241,18 @@ module _ (fs hs : Faults) (ending : Ending) (x : Step) (ns : List ℕ) (noted : 
 
   -- the name at which the fault of a name occurs is the one given by the ending
   end_is : (front : List ℕ) (n : ℕ) (back : List ℕ) → ns ≡ front ++ n ∷ back → (d : Ending)
-      → above ending back ≡ d → (c : FaultyStep) → slice_get hs n ≡ Some (Some c) → c.end ≡ end_for d n
+      → ending_of_path ending back ≡ d → (c : FaultyStep) → slice_get hs n ≡ Some (Some c) → c.end ≡ end_for d n
   end_is front n back whole d same c e = here_ends front n back whole c e ∙ ap (λ q. end_for q n) same
 
   trail_in_ring : (m : ℕ) → x ≡ To m → ending ≡ Ring m → In m ns → (n : ℕ) (c : FaultyStep) (front back : List ℕ)
       → ns ≡ front ++ n ∷ back → slice_get hs n ≡ Some (Some c) → In m back ⊎ (In m back → ⊥) → IsTrail hs n c.end
   trail_in_ring m xe de i n c front back whole e (inl j) =
       subst (λ (k : ℕ). IsTrail hs n k)
-      (sym (end_is front n back whole (At m) (ap (λ d. above d back) de ∙ above_in m back j) c e))
+      (sym (end_is front n back whole (At m) (ap (λ d. ending_of_path d back) de ∙ above_in m back j) c e))
       (to_ring front n back whole m xe (inr j))
   trail_in_ring m xe de i n c front back whole e (inr out) =
       subst (λ (k : ℕ). IsTrail hs n k)
-      (sym (end_is front n back whole (Ring m) (ap (λ d. above d back) de ∙ above_out m back out) c e))
+      (sym (end_is front n back whole (Ring m) (ap (λ d. ending_of_path d back) de ∙ above_out m back out) c e))
       (elim (In_either front (n ∷ back) m (subst (λ (ks : List ℕ). In m ks) whole i)) [
         | inl j ↦ above_here j
         | inr j ↦ elim j [
@@ -273,12 +273,12 @@ module _ (fs hs : Faults) (ending : Ending) (x : Step) (ns : List ℕ) (noted : 
       let r = split_at ns n i in
       subst (λ (k : ℕ). IsTrail hs n k)
       (sym (end_is r.front n r.back r.whole (At here)
-      (ap (λ q. above q r.back) (de ∙ p.0) ∙ above_at here r.back) c e))
+      (ap (λ q. ending_of_path q r.back) (de ∙ p.0) ∙ above_at here r.back) c e))
       (to_dead_end r.front n r.back r.whole w here xe p.1)
   trail_by here (To m) (At f) xe de p n c i e =
       let r = split_at ns n i in
       subst (λ (k : ℕ). IsTrail hs n k)
-      (sym (end_is r.front n r.back r.whole (At f) (ap (λ q. above q r.back) de ∙ above_at f r.back) c e))
+      (sym (end_is r.front n r.back r.whole (At f) (ap (λ q. ending_of_path q r.back) de ∙ above_at f r.back) c e))
       (to_known r.front n r.back r.whole m f xe (subst (λ (k : ℕ). IsTrail fs m k) p.2 (old.trails m p.0 p.1)))
   trail_by here (To m) (Ring k) xe de p n c i e =
       let r = split_at ns n i in
@@ -294,10 +294,10 @@ module _ (fs hs : Faults) (ending : Ending) (x : Step) (ns : List ℕ) (noted : 
 
   pub path_trails : (here : ℕ) → PathEnds fs ns here x ending → AreTrails hs
   path_trails here p = record {
-    leads = λ n m b. elim (is_noted n) [
+    leads_to_faulty = λ n m b. elim (is_noted n) [
       | inl i ↦ noted_leads hs ending x ns noted (noted_faulty hs ending x ns noted)
           (last_leads here x ending p) n m i b
-      | inr out ↦ still_faulty m (old.leads n m (b.0, before n b.0 out b.1, b.2))
+      | inr out ↦ still_faulty m (old.leads_to_faulty n m (b.0, before n b.0 out b.1, b.2))
     ];
     trails = λ n c e. elim (is_noted n) [
       | inl i ↦ trail_by here x ending refl refl p n c i e
@@ -309,12 +309,12 @@ module _ (fs hs : Faults) (ending : Ending) (x : Step) (ns : List ℕ) (noted : 
       → ns ≡ path frames name → AreLinked g s os frames name → IsFirst g s os name x → AreFindings g s os fs
       → AreFindings g s os hs
   path_findings g s os frames name same linked at are = record {
-    sound = are.sound;
-    first = λ n c e. elim (is_noted n) [
+    names_sound = are.names_sound;
+    first_faults = λ n c e. elim (is_noted n) [
       | inl i ↦ first_noted g s os x hs ending (path frames name)
           (subst (λ (ks : List ℕ). AreNoted hs ending x ks) same noted) (linked_first g s os x frames name linked at) n
           c
           (subst (λ (ks : List ℕ). In n ks) same i) e
-      | inr out ↦ are.first n c (before n c out e)
+      | inr out ↦ are.first_faults n c (before n c out e)
     ];
   }

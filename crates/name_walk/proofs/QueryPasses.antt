@@ -54,7 +54,7 @@ cover_length n marks =
 covered_idle : (n : ℕ) (t : Trace) → IsIdle t → IsIdle (trace_with_names n t)
 covered_idle n t idle = record {
   are_open = open_front n t.marks (n - length t.marks) idle.are_open;
-  entered = idle.entered;
+  none_entered = idle.none_entered;
   frames = idle.frames;
 }
 
@@ -70,7 +70,7 @@ between_idle g s t covered new idle c e =
     still_between : (g : Graph) (s : List Bool) (t new : Trace) → IsIdle t → length t.marks ≡ length g
         → new ≡ without_order t → IsBetween g s new
     still_between g s t new idle size e = subst (λ (x : Trace). IsBetween g s x) (sym e) (record {
-      in_target_order = subst (λ (es : List ℕ). AreOrdering g s t.marks es []) (sym idle.entered)
+      in_target_order = subst (λ (es : List ℕ). AreOrdering g s t.marks es []) (sym idle.none_entered)
           (ordering_start g s t.marks size idle.are_open);
       off_path = λ n h. let o : slice_get t.marks n ≡ Some Open =
           idle.are_open n (slice_get_within t.marks n OnPath h) in absurd (cc);
@@ -105,8 +105,8 @@ module _ (g : Graph) (s : List Bool) (query : List Step) where
       → ArePassed g s (query ++ To n ∷ []) t
   passed_done net t n p there d = record {
     between = p.between;
-    none = none_push (To n) p.none (or_none _ ∙ name_closed g net.range (length g) [] n
-        (done_closed g s net.settled t.order p.between.in_target_order.closed n d) there (empty_path g)
+    none = none_push (To n) p.none (or_none _ ∙ name_closed g net.steps_in_range (length g) [] n
+        (done_closed g s net.settled_right t.order p.between.in_target_order.names_closed n d) there (empty_path g)
         (λ q i. absurd i));
     reached = λ m i. reached_push (To n) m (p.reached m i);
     done = λ r i. elim (last_step n r i)
@@ -117,15 +117,15 @@ module _ (g : Graph) (s : List Bool) (query : List Step) where
   pub passed_visit : (old new : Trace) (n : ℕ) → ArePassed g s query old → IsFaultless g s n old new
       → ArePassed g s (query ++ To n ∷ []) new
   passed_visit old new n p v = record {
-    between = v.between;
-    none = none_push (To n) p.none v.none;
-    reached = λ m i. elim (v.adds.from m i) [
+    between = v.state_between;
+    none = none_push (To n) p.none v.without_fault;
+    reached = λ m i. elim (v.adds.new_below m i) [
       | inl j ↦ reached_push (To n) m (p.reached m j)
       | inr b ↦ (n, In-here, b)
     ];
     done = λ r i. elim (last_step n r i) [
-      | inl j ↦ elim (p.done r j) [ inl e ↦ inl e | inr k ↦ inr (v.adds.kept r k) ]
-      | inr e ↦ inr (subst (λ (x : ℕ). In x new.order) (sym e) v.adds.put)
+      | inl j ↦ elim (p.done r j) [ inl e ↦ inl e | inr k ↦ inr (v.adds.old_kept r k) ]
+      | inr e ↦ inr (subst (λ (x : ℕ). In x new.order) (sym e) v.adds.start_added)
     ];
   }
     where
@@ -139,13 +139,13 @@ module _ (g : Graph) (s : List Bool) (query : List Step) where
   -- after all steps are passed, the order has the names that the query newly closes
   pub newly_closed : IsConsistentGraph g s → (t : Trace) → ArePassed g s query t → AreNewlyClosed g s query t.order
   newly_closed net t p = record {
-    closed = p.between.in_target_order.closed;
-    exactly = λ n. (
-      λ i. (p.reached n i, p.between.in_target_order.fresh n i),
+    names_closed = p.between.in_target_order.names_closed;
+    names_reached = λ n. (
+      λ i. (p.reached n i, p.between.in_target_order.names_not_settled n i),
       λ h. only_new n (done_reached n h.0) h.1,
     );
-    once = p.between.in_target_order.once;
-    ordered = p.between.in_target_order.ordered;
+    names_listed_once = p.between.in_target_order.names_differ;
+    targets_before = p.between.in_target_order.targets_before;
   }
     where
       only_new : (n : ℕ) → IsDone s t.order n → (IsSettled s n → ⊥) → In n t.order
@@ -155,7 +155,7 @@ module _ (g : Graph) (s : List Bool) (query : List Step) where
       done_reached : (n : ℕ) → IsReached g query n → IsDone s t.order n
       done_reached n w = elim w.2 [
         | inl e ↦ subst (λ (x : ℕ). IsDone s t.order x) (sym e) (p.done w.0 w.1)
-        | inr r ↦ done_below g s net.settled t.order p.between.in_target_order.ordered (p.done w.0 w.1) r
+        | inr r ↦ done_below g s net.settled_right t.order p.between.in_target_order.targets_before (p.done w.0 w.1) r
       ]
 
 -- the fault of the next step is the fault of the query, if the steps before it have none
@@ -180,7 +180,7 @@ module _ {g : Graph} {s : List Bool} (net : IsConsistentGraph g s) (query : List
   next_done there found =
       subst (λ (xs : List Step). ArePassed g s xs t) (sym (take_at query i (To n) here))
       (passed_done g s (take i query) net t n passed there
-      (elim found [ inl d ↦ inl d | inr d ↦ inr ((passed.between.in_target_order.marked n).0 d) ]))
+      (elim found [ inl d ↦ inl d | inr d ↦ inr ((passed.between.in_target_order.marked_in_order n).0 d) ]))
 
   pub next_visit : (new : Trace) → IsFaultless g s n t new → ArePassed g s (take (i + 1) query) new
   next_visit new v =

@@ -52,8 +52,8 @@ module _ (fs : Faults) (last first here : ℕ) (names : List ℕ) where
   has_room passed [] whole ring way ne = absurd (ne way)
   has_room passed (n ∷ left) whole ring way ne =
       let all : length (last ∷ passed ++ n ∷ left) ≤ length fs =
-      length-le_from_distinct_below (last ∷ passed ++ n ∷ left) (length fs) ring.once
-      (λ k o. ring.there k (on-In (last ∷ passed ++ n ∷ left) k o)) in
+      length-le_from_distinct_below (last ∷ passed ++ n ∷ left) (length fs) ring.names_differ
+      (λ k o. ring.names_in_faults k (on-In (last ∷ passed ++ n ∷ left) k o)) in
       let size : length names ≡ suc (length passed) = ap (λ (ns : List ℕ). length ns) whole in
       let parts : length (passed ++ n ∷ left) ≡ length passed + suc (length left) = length-append passed (n ∷ left) in
       omega arith

@@ -8,7 +8,7 @@ use Rattle.name_walk.specs.declared.step.Step.{Step}
 use Rattle.name_walk.specs.declared.step.Step.TheVariants.{Nowhere, To}
 use Rattle.name_walk.specs.declared.trail.FaultyStep.{FaultyStep}
 use Rattle.name_walk.specs.Faults.{Cycle, DeadEnd, from_name, steps_fault}
-use Rattle.name_walk.specs.Lists.{In, last}
+use Rattle.name_walk.specs.Lists.{In, last_item}
 use Rattle.name_walk.specs.Nets.{IsConsistentGraph}
 use Rattle.name_walk.specs.Rings.{IsFaultRing, IsWay}
 use Rattle.name_walk.specs.Steps.{Graph}
@@ -23,7 +23,7 @@ one_target : (a b : ℕ) → To a ≡ To b → a ≡ b
 one_target a b e = cc
 
 -- the last name of a list is a member of the list
-last_In : (ns : List ℕ) (e : ℕ) → last ns ≡ Some e → In e ns
+last_In : (ns : List ℕ) (e : ℕ) → last_item ns ≡ Some e → In e ns
 last_In [] e h = absurd (cc)
 last_In (n ∷ []) e h = inl (sym (one_name n e h))
 last_In (n ∷ m ∷ ns) e h = inr (last_In (m ∷ ns) e h)
@@ -43,7 +43,7 @@ LeadInto fs e (k ∷ ks) = FollowsFaults fs k ks (To e)
 
 module _ (fs : Faults) where
   -- the last name of a way takes its last step
-  last_goes : (n : ℕ) (ms : List ℕ) (x : Step) (e : ℕ) → FollowsFaults fs n ms x → last (n ∷ ms) ≡ Some e
+  last_goes : (n : ℕ) (ms : List ℕ) (x : Step) (e : ℕ) → FollowsFaults fs n ms x → last_item (n ∷ ms) ≡ Some e
       → GoesBy fs e x
   last_goes n [] x e h l = subst (λ (k : ℕ). GoesBy fs k x) (one_name n e l) h
   last_goes n (m ∷ ms) x e h l = last_goes m ms x e h.1 l
@@ -97,11 +97,11 @@ module _ (fs : Faults) where
       where
         by_step : (x : Step) → t.step ≡ x → IsFaulty fs e
         by_step (Nowhere w) q =
-            all_faulty fs n t.names t.step t.follows e
-            (last_In (n ∷ t.names) e (subst (λ (y : Step). EndsAt (n ∷ t.names) y e) q t.ends))
+            all_faulty fs n t.names t.step t.follows_faults e
+            (last_In (n ∷ t.names) e (subst (λ (y : Step). EndsAt (n ∷ t.names) y e) q t.ends_at))
         by_step (To m) q =
-            let ends : (m ≡ e) × In e (n ∷ t.names) = subst (λ (y : Step). EndsAt (n ∷ t.names) y e) q t.ends in
-            all_faulty fs n t.names t.step t.follows e ends.1
+            let ends : (m ≡ e) × In e (n ∷ t.names) = subst (λ (y : Step). EndsAt (n ∷ t.names) y e) q t.ends_at in
+            all_faulty fs n t.names t.step t.follows_faults e ends.1
 
     -- a name whose word leads nowhere ends the way
     dead_end_is : (w : ℕ) → GoesBy fs e (Nowhere w) → (g : Graph) (s : List Bool) (os : List ℕ) → IsConsistentGraph g s
@@ -110,17 +110,17 @@ module _ (fs : Faults) where
       where
         by_step : (x : Step) → t.step ≡ x → steps_fault g [] (To n ∷ []) ≡ Some (DeadEnd w (Some e))
         by_step (Nowhere v) q =
-            let ends : last (n ∷ t.names) ≡ Some e = subst (λ (y : Step). EndsAt (n ∷ t.names) y e) q t.ends in
+            let ends : last_item (n ∷ t.names) ≡ Some e = subst (λ (y : Step). EndsAt (n ∷ t.names) y e) q t.ends_at in
             let follows : FollowsFaults fs n t.names (Nowhere v) =
-            subst (λ (y : Step). FollowsFaults fs n t.names y) q t.follows in
+            subst (λ (y : Step). FollowsFaults fs n t.names y) q t.follows_faults in
             let same : Nowhere v ≡ Nowhere w =
             one_step fs e (Nowhere v) (Nowhere w) (last_goes n t.names (Nowhere v) e follows ends) goes in
             dead_end_fault g s net os fs are n t.names w e
-            (subst (λ (y : Step). FollowsFaults fs n t.names y) same follows) t.once ends
+            (subst (λ (y : Step). FollowsFaults fs n t.names y) same follows) t.names_differ ends
         by_step (To m) q =
-            let ends : (m ≡ e) × In e (n ∷ t.names) = subst (λ (y : Step). EndsAt (n ∷ t.names) y e) q t.ends in
+            let ends : (m ≡ e) × In e (n ∷ t.names) = subst (λ (y : Step). EndsAt (n ∷ t.names) y e) q t.ends_at in
             let leads : (j : ℕ) × GoesBy fs e (To j) =
-            each_leads n t.names m (subst (λ (y : Step). FollowsFaults fs n t.names y) q t.follows) e ends.1 in
+            each_leads n t.names m (subst (λ (y : Step). FollowsFaults fs n t.names y) q t.follows_faults) e ends.1 in
             let same : To leads.0 ≡ Nowhere w = one_step fs e (To leads.0) (Nowhere w) leads.1 goes in
             absurd (cc)
 
@@ -135,7 +135,8 @@ module _ (fs : Faults) (n e : ℕ) (t : IsTrail fs n e) (here : ℕ) (goes : Goe
   ring_from : FollowsFaults fs n t.names (To e) → (front back : List ℕ) → n ∷ t.names ≡ front ++ e ∷ back
       → LeadsToRing fs n e here
   ring_from follows front back whole =
-      let once : IsDistinct nat_eq (front ++ e ∷ back) = subst (λ (ns : List ℕ). IsDistinct nat_eq ns) whole t.once in
+      let once : IsDistinct nat_eq (front ++ e ∷ back) = subst (λ (ns : List ℕ). IsDistinct nat_eq ns) whole
+      t.names_differ in
       let own : IsDistinct nat_eq (e ∷ back) = distinct_back front (e ∷ back) once in
       let round : FollowsFaults fs e back (To e) = from_ring fs n t.names front e back whole follows in
       let named : from_name e (n ∷ t.names) ≡ e ∷ back =
@@ -145,11 +146,12 @@ module _ (fs : Faults) (n e : ℕ) (t : IsTrail fs n e) (here : ℕ) (goes : Goe
         rest = back;
         ring = record {
           way = way_of fs e e back here round goes (λ i. distinct_apart (e ∷ []) back own e (inl refl) i);
-          once = own;
-          there = λ k i. let f = all_faulty fs e back (To e) round k i in slice_get_within fs k (Some f.0) f.1;
+          names_differ = own;
+          names_in_faults = λ k i. let f = all_faulty fs e back (To e) round k i in
+              slice_get_within fs k (Some f.0) f.1;
         };
         is_fault = λ g s os net are.
-            ring_fault g s net os fs are n t.names e follows t.once
+            ring_fault g s net os fs are n t.names e follows t.names_differ
             (subst (λ (ns : List ℕ). In e ns) (sym whole) (in_middle front))
             ∙ ap (λ (ns : List ℕ). Some (Cycle (ns ++ e ∷ []))) named;
       }
@@ -163,16 +165,16 @@ module _ (fs : Faults) (n e : ℕ) (t : IsTrail fs n e) (here : ℕ) (goes : Goe
     where
       by_step : (x : Step) → t.step ≡ x → LeadsToRing fs n e here
       by_step (Nowhere v) q =
-          let ends : last (n ∷ t.names) ≡ Some e = subst (λ (y : Step). EndsAt (n ∷ t.names) y e) q t.ends in
+          let ends : last_item (n ∷ t.names) ≡ Some e = subst (λ (y : Step). EndsAt (n ∷ t.names) y e) q t.ends_at in
           let follows : FollowsFaults fs n t.names (Nowhere v) =
-          subst (λ (y : Step). FollowsFaults fs n t.names y) q t.follows in
+          subst (λ (y : Step). FollowsFaults fs n t.names y) q t.follows_faults in
           let same : Nowhere v ≡ To here =
           one_step fs e (Nowhere v) (To here) (last_goes fs n t.names (Nowhere v) e follows ends) goes in
           absurd (cc)
       by_step (To m) q =
-          let ends : (m ≡ e) × In e (n ∷ t.names) = subst (λ (y : Step). EndsAt (n ∷ t.names) y e) q t.ends in
+          let ends : (m ≡ e) × In e (n ∷ t.names) = subst (λ (y : Step). EndsAt (n ∷ t.names) y e) q t.ends_at in
           let follows : FollowsFaults fs n t.names (To e) =
-          subst (λ (y : Step). FollowsFaults fs n t.names y) (q ∙ ap To ends.0) t.follows in
+          subst (λ (y : Step). FollowsFaults fs n t.names y) (q ∙ ap To ends.0) t.follows_faults in
           let r = split_at (n ∷ t.names) e ends.1 in
           ring_from follows r.front r.back r.whole
 

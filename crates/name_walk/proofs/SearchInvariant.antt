@@ -56,7 +56,7 @@ pub record IsSeeking (g : Graph) (s : List Bool) (start : ℕ) (old : Trace) (ms
   pub marks_size : length g ≤ length ms
   pub faults_size : length g ≤ length fs
   pub kept : (n : ℕ) → In n old.order → In n os
-  pub from : (n : ℕ) → In n es → In n old.entered ⊎ (IsBelow g start n × (IsSettled s n → ⊥))
+  pub from : (n : ℕ) → In n es → In n old.entered_names ⊎ (IsBelow g start n × (IsSettled s n → ⊥))
 
 -- a name that is done stays done after one more name is closed
 done_wider : (s : List Bool) (os : List ℕ) (n m : ℕ) → IsDone s os m → IsDone s (os ++ n ∷ []) m
@@ -67,42 +67,42 @@ first_wider : (g : Graph) (s : List Bool) (os : List ℕ) (k n : ℕ) (x : Step)
     → IsFirst g s (os ++ k ∷ []) n x
 first_wider g s os k n x a = record {
   place = a.place;
-  at = a.at;
-  before = are_done_more s os k (take a.place (steps g n)) a.before;
+  step_at = a.step_at;
+  earlier_done = are_done_more s os k (take a.place (steps g n)) a.earlier_done;
 }
 
 findings_close : (g : Graph) (s : List Bool) (os : List ℕ) (fs : Faults) (n : ℕ) → AreFindings g s os fs
     → IsClosedName g n → ((m : ℕ) → LeadsTo g n m → IsDone s os m) → AreFindings g s (os ++ n ∷ []) fs
 findings_close g s os fs n are closed below = record {
-  sound = λ k i. elim (In-push os n k i) [
-    | inl j ↦ ((are.sound k j).0, λ m l. done_wider s os n m ((are.sound k j).1 m l))
+  names_sound = λ k i. elim (In-push os n k i) [
+    | inl j ↦ ((are.names_sound k j).0, λ m l. done_wider s os n m ((are.names_sound k j).1 m l))
     | inr e ↦ subst (λ (q : ℕ). IsClosedName g q × ((m : ℕ) → LeadsTo g q m → IsDone s (os ++ n ∷ []) m)) (sym e)
         (closed, λ m l. done_wider s os n m (below m l))
   ];
-  first = λ k c e. first_wider g s os n k c.step (are.first k c e);
+  first_faults = λ k c e. first_wider g s os n k c.step (are.first_faults k c e);
 }
 
 module _ (g : Graph) (s : List Bool) (net : IsConsistentGraph g s) (start : ℕ) (old : Trace) where
   -- ---- the start
   pub seek_begin : (fs : Faults) → IsBetween g s old fs → IsOpen s old.marks fs start
-      → IsSeeking g s start old (set old.marks start OnPath) (old.entered ++ start ∷ []) old.order fs [] start 0
+      → IsSeeking g s start old (set old.marks start OnPath) (old.entered_names ++ start ∷ []) old.order fs [] start 0
   seek_begin fs b o =
       let there : start < length g =
       (let c : start < length s = slice_get_within s start false o.not_settled in
-      subst (λ (k : ℕ). start < k) net.size c) in
+      subst (λ (k : ℕ). start < k) net.mark_per_name c) in
       record {
-        are = b.are;
+        are = b.findings_right;
         trails = b.consistent.trails;
-        marks = marks_enter old.marks old.entered old.order fs [] start (record {
-          entered = b.consistent.can_clear.entered;
-          within = b.consistent.can_clear.within;
-          noted = b.consistent.can_clear.noted;
-          closed = b.consistent.closed;
-          sound = b.consistent.sound;
+        marks = marks_enter old.marks old.entered_names old.order fs [] start (record {
+          entered = b.consistent.can_clear.names_entered;
+          within = b.consistent.can_clear.names_within;
+          noted = b.consistent.can_clear.faulty_entered;
+          closed = b.consistent.marked_in_order;
+          sound = b.consistent.order_entered;
           marked = λ n e. inr (b.consistent.off_path n e);
           on_path = λ n i. absurd i;
           fresh = λ n i f. i;
-        }) o.mark (let l : length g ≤ length fs = b.faults in omega arith) o.faultless;
+        }) o.mark (let l : length g ≤ length fs = b.fault_room in omega arith) o.not_faulty;
         way = record {
           is_path = path_push g [] start (empty_path g) refl there;
           begins = refl;
@@ -112,9 +112,9 @@ module _ (g : Graph) (s : List Bool) (net : IsConsistentGraph g s) (start : ℕ)
           room = tt;
         };
         marks_size = subst (λ (k : ℕ). length g ≤ k) (sym (length-set old.marks start OnPath)) b.marks;
-        faults_size = b.faults;
+        faults_size = b.fault_room;
         kept = λ n i. i;
-        from = λ n i. elim (In-push old.entered start n i) [
+        from = λ n i. elim (In-push old.entered_names start n i) [
           | inl j ↦ inl j
           | inr e ↦ inr (inl e, λ q. let f : slice_get s n ≡ Some false = ap (slice_get s) e ∙ o.not_settled in cc)
         ];
@@ -123,7 +123,7 @@ module _ (g : Graph) (s : List Bool) (net : IsConsistentGraph g s) (start : ℕ)
   module _ (fs : Faults) (ms : List Mark) (es os : List ℕ) (frames : List Frame) (name place : ℕ)
       (go : IsSeeking g s start old ms es os fs frames name place) where
     pub seek_there : name < length g
-    seek_there = go.way.is_path.there name (In-on (path frames name) name (name_In frames name))
+    seek_there = go.way.is_path.names_in_graph name (In-on (path frames name) name (name_In frames name))
 
     seek_mark : slice_get ms name ≡ Some OnPath
     seek_mark = go.marks.on_path name (name_In frames name)
@@ -173,7 +173,7 @@ module _ (g : Graph) (s : List Bool) (net : IsConsistentGraph g s) (start : ℕ)
         → IsSeeking g s start old (set ms m OnPath) (es ++ m ∷ []) os fs (frames ++ frame name place ∷ []) m 0
     seek_enter m e o fits =
         let leads : LeadsTo g name m = get_In _ _ _ e in
-        let there : m < length g = net.range name m leads in
+        let there : m < length g = net.steps_in_range name m leads in
         let p : path (frames ++ frame name place ∷ []) m ≡ path frames name ++ m ∷ [] =
         path_more frames (frame name place) m in
         let new : is_on_path (path frames name) m ≡ false =
@@ -184,7 +184,7 @@ module _ (g : Graph) (s : List Bool) (net : IsConsistentGraph g s) (start : ℕ)
           trails = go.trails;
           marks = subst (λ (q : List ℕ). AreMarks (set ms m OnPath) (es ++ m ∷ []) os fs q) (sym p)
               (marks_enter ms es os fs (path frames name) m go.marks o.mark
-              (let l : length g ≤ length fs = go.faults_size in omega arith) o.faultless);
+              (let l : length g ≤ length fs = go.faults_size in omega arith) o.not_faulty);
           way = record {
             is_path = subst (λ (q : List ℕ). IsNamePath g q) (sym p)
                 (path_push g (path frames name) m go.way.is_path new there);
@@ -214,9 +214,10 @@ module _ (g : Graph) (s : List Bool) (net : IsConsistentGraph g s) (start : ℕ)
 
       name_closes : IsClosedName g name
       name_closes =
-          any_depth g net.range (suc (length g)) name seek_there
+          any_depth g net.steps_in_range (suc (length g)) name seek_there
           (all_map (StepLeadsInto (IsDone s os)) (StepLeadsInto (IsClosedName g))
-          (into_map (IsDone s os) (IsClosedName g) (done_closed g s net.settled os (λ n i. (go.are.sound n i).0)))
+          (into_map (IsDone s os) (IsClosedName g)
+          (done_closed g s net.settled_right os (λ n i. (go.are.names_sound n i).0)))
           (steps g name) all_done)
 
       pub close_findings : AreFindings g s (os ++ name ∷ []) fs
@@ -228,10 +229,10 @@ module _ (g : Graph) (s : List Bool) (net : IsConsistentGraph g s) (start : ℕ)
       close_clear =
           let here : name < length ms = slice_get_within ms name OnPath seek_mark in
           record {
-            entered = entered_again ms name here Closed es
+            names_entered = entered_again ms name here Closed es
                 (entered_in OnPath (λ q. cc) ms es name go.marks.entered seek_mark) go.marks.entered;
-            within = go.marks.within;
-            noted = go.marks.noted;
+            names_within = go.marks.within;
+            faulty_entered = go.marks.noted;
           }
 
       pub close_size : length g ≤ length (set ms name Closed)
@@ -248,7 +249,7 @@ module _ (g : Graph) (s : List Bool) (net : IsConsistentGraph g s) (start : ℕ)
       let pop = linked_pop g s os frames f name go.way.linked in
       let p : path (frames ++ f ∷ []) name ≡ path frames f.name ++ name ∷ [] = path_more frames f name in
       let once : IsDistinct nat_eq (path frames f.name ++ name ∷ []) =
-      subst (λ (q : List ℕ). IsDistinct nat_eq q) p go.way.is_path.once in
+      subst (λ (q : List ℕ). IsDistinct nat_eq q) p go.way.is_path.names_differ in
       let apart : In name (path frames f.name) → ⊥ = distinct_last (path frames f.name) name once in
       let short : f.place < length (steps g f.name) = slice_get_within _ _ _ pop.1 in
       let up : (n : ℕ) → In n (path frames f.name) → In n (path (frames ++ f ∷ []) name) =
@@ -260,8 +261,8 @@ module _ (g : Graph) (s : List Bool) (net : IsConsistentGraph g s) (start : ℕ)
             (subst (λ (q : List ℕ). AreMarks ms es os fs q) p go.marks) apart;
         way = record {
           is_path = record {
-            once = distinct_front (path frames f.name) (name ∷ []) once;
-            there = λ q e. go.way.is_path.there q (In-on _ q (up q (on-In _ q e)));
+            names_differ = distinct_front (path frames f.name) (name ∷ []) once;
+            names_in_graph = λ q e. go.way.is_path.names_in_graph q (In-on _ q (up q (on-In _ q e)));
           };
           begins = sym (head_more frames f name) ∙ go.way.begins;
           linked = linked_more g s os name frames f.name pop.0;
@@ -282,27 +283,27 @@ module _ (g : Graph) (s : List Bool) (net : IsConsistentGraph g s) (start : ℕ)
   pub seek_finish : (fs : Faults) (ms : List Mark) (es os : List ℕ) (name place : ℕ)
       → IsSeeking g s start old ms es os fs [] name place → length (steps g name) ≤ place
       → IsSearched g s start old
-      (record { marks = set ms name Closed; entered = es; order = os ++ name ∷ []; frames = [] }) fs fs false
+      (record { marks = set ms name Closed; entered_names = es; order = os ++ name ∷ []; frames = [] }) fs fs false
   seek_finish fs ms es os name place go full =
       let m : AreMarks (set ms name Closed) es (os ++ name ∷ []) fs [] =
       marks_close ms es os fs [] name go.marks (λ i. i) in
       record {
-        between = record {
-          are = close_findings fs ms es os [] name place go full;
+        state_between = record {
+          findings_right = close_findings fs ms es os [] name place go full;
           consistent = record {
             can_clear = marks_clear (set ms name Closed) es (os ++ name ∷ []) fs [] m;
-            closed = m.closed;
-            sound = m.sound;
+            marked_in_order = m.closed;
+            order_entered = m.sound;
             trails = go.trails;
             off_path = λ n e. elim (m.marked n e) [ inl i ↦ absurd i | inr f ↦ f ];
             frames = refl;
           };
           marks = close_size fs ms es os [] name place go full;
-          faults = go.faults_size;
+          fault_room = go.faults_size;
         };
         more = record {
-          sound = close_kept fs ms es os [] name place go full;
-          faulty = λ n f. f;
+          order_grows = close_kept fs ms es os [] name place go full;
+          faults_grow = λ n f. f;
           names = go.from;
         };
         decision = inr (subst (λ (x : ℕ). In x (os ++ name ∷ [])) go.way.begins (In-last os name));
@@ -314,12 +315,12 @@ module _ (g : Graph) (s : List Bool) (net : IsConsistentGraph g s) (start : ℕ)
       (at : slice_get (steps g name) place ≡ Some x) (is : IsEnding ms fs name x ending) where
     path_there : (n : ℕ) → In n (path frames name) → n < length fs
     path_there n i =
-        let l : n < length g = go.way.is_path.there n (In-on (path frames name) n i) in
+        let l : n < length g = go.way.is_path.names_in_graph n (In-on (path frames name) n i) in
         let k : length g ≤ length fs = go.faults_size in
         omega arith
 
     path_once : IsDistinct nat_eq (path frames name)
-    path_once = go.way.is_path.once
+    path_once = go.way.is_path.names_differ
 
     ends_so : (y : Step) (d : Ending) → IsEnding ms fs name y d → PathEnds fs (path frames name) name y d
     ends_so (Nowhere w) d h = (h, last_path [] frames name)
@@ -345,21 +346,23 @@ module _ (g : Graph) (s : List Bool) (net : IsConsistentGraph g s) (start : ℕ)
       -- the marks of the path may stay
       pub fault_clear : CanClear ms es hs
       fault_clear = record {
-        entered = go.marks.entered;
-        within = λ n i. subst (λ (k : ℕ). n < k) (sym size) (go.marks.within n i);
-        noted = all_noted;
+        names_entered = go.marks.entered;
+        names_within = λ n i. subst (λ (k : ℕ). n < k) (sym size) (go.marks.within n i);
+        faulty_entered = all_noted;
       }
 
       pub seek_fault : IsSearched g s start old
-          (record { marks = ms; entered = es; order = os; frames = [] }) fs hs true
+          (record { marks = ms; entered_names = es; order = os; frames = [] }) fs hs true
       seek_fault = record {
-        between = record {
-          are = path_findings fs hs ending x (path frames name) noted others go.marks.fresh path_once go.trails
-              g s os frames name refl go.way.linked (record { place = place; at = at; before = go.way.passed }) go.are;
+        state_between = record {
+          findings_right = path_findings fs hs ending x (path frames name) noted others go.marks.fresh path_once
+              go.trails
+              g s os frames name refl go.way.linked
+              (record { place = place; step_at = at; earlier_done = go.way.passed }) go.are;
           consistent = record {
             can_clear = fault_clear;
-            closed = go.marks.closed;
-            sound = go.marks.sound;
+            marked_in_order = go.marks.closed;
+            order_entered = go.marks.sound;
             trails = path_trails fs hs ending x (path frames name) noted others go.marks.fresh path_once go.trails
                 name (ends_so x ending is);
             off_path = λ n e. elim (go.marks.marked n e) [
@@ -369,9 +372,9 @@ module _ (g : Graph) (s : List Bool) (net : IsConsistentGraph g s) (start : ℕ)
             frames = refl;
           };
           marks = go.marks_size;
-          faults = subst (λ (k : ℕ). length g ≤ k) (sym size) go.faults_size;
+          fault_room = subst (λ (k : ℕ). length g ≤ k) (sym size) go.faults_size;
         };
-        more = record { sound = go.kept; faulty = more_faulty; names = go.from };
+        more = record { order_grows = go.kept; faults_grow = more_faulty; names = go.from };
         decision = subst (λ (n : ℕ). IsFaulty hs n) go.way.begins
             (noted_faulty hs ending x (path frames name) noted (head frames name) (head_In frames name));
       }

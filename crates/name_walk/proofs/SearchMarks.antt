@@ -40,7 +40,7 @@ pub record AreMarks (ms : List Mark) (es os : List ℕ) (fs : Faults) (ps : List
 -- the marks can be cleared
 pub marks_clear : (ms : List Mark) (es os : List ℕ) (fs : Faults) (ps : List ℕ) → AreMarks ms es os fs ps
     → CanClear ms es fs
-marks_clear ms es os fs ps h = record { entered = h.entered; within = h.within; noted = h.noted }
+marks_clear ms es os fs ps h = record { names_entered = h.entered; names_within = h.within; faulty_entered = h.noted }
 
 -- an open name is put on the path
 pub marks_enter : (ms : List Mark) (es os : List ℕ) (fs : Faults) (ps : List ℕ) (m : ℕ) → AreMarks ms es os fs ps

@@ -31,25 +31,26 @@ use Rattle.name_walk.proofs.Weights.{enter_less, leave_less, pass_less, weight}
 -- a search is at a step of a name
 abbrev pub IsSeekingAt : Graph → List Bool → ℕ → Trace → Trace → Faults → ℕ → ℕ → Type 0
 IsSeekingAt g s start old t fs name place =
-    IsSeeking g s start old t.marks t.entered t.order fs t.frames name place
+    IsSeeking g s start old t.marks t.entered_names t.order fs t.frames name place
 
 module _ {g : Graph} {s : List Bool} (net : IsConsistentGraph g s) {start : ℕ} {old : Trace} {fs : Faults} where
   pub begin_seek : (new : Trace) → IsBetween g s old fs → IsOpen s old.marks fs start → new ≡ with_entered old start
       → IsSeekingAt g s start old new fs start 0
   begin_seek new b o e =
       let seeking : List Frame → Type 0 =
-      λ hs. IsSeeking g s start old (set old.marks start OnPath) (old.entered ++ start ∷ []) old.order fs hs start 0 in
+      λ hs. IsSeeking g s start old (set old.marks start OnPath) (old.entered_names ++ start ∷ []) old.order fs hs start
+      0 in
       subst (λ (x : Trace). IsSeekingAt g s start old x fs start 0) (sym e)
       (subst seeking (sym b.consistent.frames) (seek_begin g s net start old fs b o))
 
   module _ {t : Trace} {name place : ℕ} (go : IsSeekingAt g s start old t fs name place) where
     pub name_there : name < length g
-    name_there = seek_there g s net start old fs t.marks t.entered t.order t.frames name place go
+    name_there = seek_there g s net start old fs t.marks t.entered_names t.order t.frames name place go
 
     pub pass_seek : (m : ℕ) → slice_get (steps g name) place ≡ Some (To m) → IsMarkFound s t.marks m Closed
         → IsSeekingAt g s start old t fs name (place + 1)
     pass_seek m e found =
-        seek_pass g s net start old fs t.marks t.entered t.order t.frames name place go m e
+        seek_pass g s net start old fs t.marks t.entered_names t.order t.frames name place go m e
         (elim found [ inl d ↦ inl d | inr d ↦ inr (go.marks.closed m d) ])
 
     pub enter_seek : (m : ℕ) (pushed new : Trace) → slice_get (steps g name) place ≡ Some (To m)
@@ -58,29 +59,29 @@ module _ {g : Graph} {s : List Bool} (net : IsConsistentGraph g s) {start : ℕ}
     enter_seek m pushed new e o fits push entering =
         subst (λ (x : Trace). IsSeekingAt g s start old x fs m 0)
         (sym (entering ∙ ap (λ (x : Trace). with_entered x m) push))
-        (seek_enter g s net start old fs t.marks t.entered t.order t.frames name place go m e o fits)
+        (seek_enter g s net start old fs t.marks t.entered_names t.order t.frames name place go m e o fits)
 
-    pub clear_seek : (new : Trace) → new ≡ t → CanClear new.marks new.entered fs
+    pub clear_seek : (new : Trace) → new ≡ t → CanClear new.marks new.entered_names fs
     clear_seek new e =
-        subst (λ (x : Trace). CanClear x.marks x.entered fs) (sym e)
-        (marks_clear t.marks t.entered t.order fs _ go.marks)
+        subst (λ (x : Trace). CanClear x.marks x.entered_names fs) (sym e)
+        (marks_clear t.marks t.entered_names t.order fs _ go.marks)
 
     module _ (full : length (steps g name) ≤ place) {closed : Trace} (close : closed ≡ with_closed t name) where
-      pub clear_closed : (new : Trace) → new ≡ closed → CanClear new.marks new.entered fs
+      pub clear_closed : (new : Trace) → new ≡ closed → CanClear new.marks new.entered_names fs
       clear_closed new same =
-          subst (λ (x : Trace). CanClear x.marks x.entered fs) (sym (same ∙ close))
-          (close_clear g s net start old fs t.marks t.entered t.order t.frames name place go full)
+          subst (λ (x : Trace). CanClear x.marks x.entered_names fs) (sym (same ∙ close))
+          (close_clear g s net start old fs t.marks t.entered_names t.order t.frames name place go full)
 
       pub finish_seek : (new : Trace) → new ≡ closed → closed.frames ≡ [] → IsSearched g s start old new fs fs false
       finish_seek new popped none =
           let top : t.frames ≡ [] = sym (ap (λ (x : Trace). x.frames) close) ∙ none in
           let seeking : List Frame → Type 0 =
-          λ hs. IsSeeking g s start old t.marks t.entered t.order fs hs name place in
+          λ hs. IsSeeking g s start old t.marks t.entered_names t.order fs hs name place in
           let ended : List Frame → Type 0 =
           λ hs. IsSearched g s start old (record (with_closed t name) { frames = hs }) fs fs false in
           subst (λ (x : Trace). IsSearched g s start old x fs fs false) (sym (popped ∙ close))
           (subst ended (sym top)
-          (seek_finish g s net start old fs t.marks t.entered t.order name place (subst seeking top go) full))
+          (seek_finish g s net start old fs t.marks t.entered_names t.order name place (subst seeking top go) full))
 
       pub leave_seek : (f : Frame) (new : Trace) → closed ≡ with_frame new f
           → IsSeekingAt g s start old new fs f.name (f.place + 1)
@@ -89,9 +90,9 @@ module _ {g : Graph} {s : List Bool} (net : IsConsistentGraph g s) {start : ℕ}
           let is : record (with_closed t name) { frames = new.frames } ≡ new =
           ap (λ (x : Trace). record x { frames = new.frames }) (sym close ∙ pop) in
           let seeking : List Frame → Type 0 =
-          λ hs. IsSeeking g s start old t.marks t.entered t.order fs hs name place in
+          λ hs. IsSeeking g s start old t.marks t.entered_names t.order fs hs name place in
           subst (λ (x : Trace). IsSeekingAt g s start old x fs f.name (f.place + 1)) is
-          (seek_leave g s net start old fs t.marks t.entered t.order new.frames f name place
+          (seek_leave g s net start old fs t.marks t.entered_names t.order new.frames f name place
           (subst seeking frames go) full)
 
       pub room_seek : (f : Frame) (new : Trace) → closed ≡ with_frame new f → f.place + 1 < 2 ^ 64
@@ -119,10 +120,10 @@ module _ {g : Graph} {s : List Bool} (net : IsConsistentGraph g s) {start : ℕ}
     pub next_there : (m : ℕ) → slice_get (steps g name) place ≡ Some (To m)
         → (m < length s) × (m < length t.marks) × (m < length fs)
     next_there m e =
-        let there : m < length g = net.range name m (get_In _ _ _ e) in
+        let there : m < length g = net.steps_in_range name m (get_In _ _ _ e) in
         let ms : length g ≤ length t.marks = go.marks_size in
         let hs : length g ≤ length fs = go.faults_size in
-        (subst (λ (k : ℕ). m < k) (sym net.size) there, omega arith, omega arith)
+        (subst (λ (k : ℕ). m < k) (sym net.mark_per_name) there, omega arith, omega arith)
 
     pub enter_less_seek : (m : ℕ) (pushed new : Trace) → slice_get (steps g name) place ≡ Some (To m)
         → IsOpen s t.marks fs m → pushed ≡ with_frame t (frame name place) → new ≡ with_entered pushed m
@@ -130,7 +131,7 @@ module _ {g : Graph} {s : List Bool} (net : IsConsistentGraph g s) {start : ℕ}
     enter_less_seek m pushed new e o push entering =
         subst (λ (x : Trace). weight_at g x m 0 < weight_at g t name place)
         (sym (entering ∙ ap (λ (x : Trace). with_entered x m) push))
-        (enter_less g t.marks t.frames (frame name place) m o.mark (net.range name m (get_In _ _ _ e)))
+        (enter_less g t.marks t.frames (frame name place) m o.mark (net.steps_in_range name m (get_In _ _ _ e)))
 
     pub pass_less_seek : (x : Step) → slice_get (steps g name) place ≡ Some x
         → weight_at g t name (place + 1) < weight_at g t name place
@@ -138,7 +139,7 @@ module _ {g : Graph} {s : List Bool} (net : IsConsistentGraph g s) {start : ℕ}
 
     pub path_there_seek : (n : ℕ) → In n (path t.frames name) → n < length fs
     path_there_seek n i =
-        let l : n < length g = go.way.is_path.there n (In-on (path t.frames name) n i) in
+        let l : n < length g = go.way.is_path.names_in_graph n (In-on (path t.frames name) n i) in
         let k : length g ≤ length fs = go.faults_size in
         omega arith
 
@@ -146,14 +147,16 @@ module _ {g : Graph} {s : List Bool} (net : IsConsistentGraph g s) {start : ℕ}
         (is : IsEnding t.marks fs name x ending) (noted : AreNoted hs ending x (path t.frames name))
         (others : (n : ℕ) → (In n (path t.frames name) → ⊥) → slice_get hs n ≡ slice_get fs n)
         (size : length hs ≡ length fs) (new : Trace) (same : new ≡ without_frames t) where
-      pub fault_clear_seek : CanClear new.marks new.entered hs
+      pub fault_clear_seek : CanClear new.marks new.entered_names hs
       fault_clear_seek =
-          subst (λ (y : Trace). CanClear y.marks y.entered hs) (sym same)
-          (fault_clear g s net start old fs hs t.marks t.entered t.order t.frames name place go x ending at is noted
+          subst (λ (y : Trace). CanClear y.marks y.entered_names hs) (sym same)
+          (fault_clear g s net start old fs hs t.marks t.entered_names t.order t.frames name place go x ending at is
+          noted
           others size)
 
       pub fault_seek : IsSearched g s start old new fs hs true
       fault_seek =
           subst (λ (y : Trace). IsSearched g s start old y fs hs true) (sym same)
-          (seek_fault g s net start old fs hs t.marks t.entered t.order t.frames name place go x ending at is noted
+          (seek_fault g s net start old fs hs t.marks t.entered_names t.order t.frames name place go x ending at is
+          noted
           others size)

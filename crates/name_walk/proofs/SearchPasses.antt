@@ -31,7 +31,7 @@ pub record HasFault (g : Graph) (n : ℕ) : Type 0 where
 pub record ArePassedBy (g : Graph) (s : List Bool) (query : List Step) (old now : Trace) (fs : Faults) : Type 0 where
   pub between : IsBetween g s now fs
   pub none : steps_fault g [] query ≡ None
-  pub names : AreFromQuery g s query old.entered now.entered
+  pub names : AreFromQuery g s query old.entered_names now.entered_names
 
 module _ (g : Graph) (s : List Bool) (net : IsConsistentGraph g s) where
   trail_has : (os : List ℕ) (fs : Faults) → AreFindings g s os fs → (n e : ℕ) (t : IsTrail fs n e) (x : Step)
@@ -39,16 +39,17 @@ module _ (g : Graph) (s : List Bool) (net : IsConsistentGraph g s) where
   trail_has os fs are n e t (Nowhere w) is = record {
     own = DeadEnd w (Some e);
     is = dead_end_fault g s net os fs are n t.names w e
-        (subst (λ (y : Step). FollowsFaults fs n t.names y) is t.follows)
-        t.once
-        (subst (λ (y : Step). EndsAt (n ∷ t.names) y e) is t.ends);
+        (subst (λ (y : Step). FollowsFaults fs n t.names y) is t.follows_faults)
+        t.names_differ
+        (subst (λ (y : Step). EndsAt (n ∷ t.names) y e) is t.ends_at);
   }
   trail_has os fs are n e t (To m) is =
-      let end : (m ≡ e) × In e (n ∷ t.names) = subst (λ (y : Step). EndsAt (n ∷ t.names) y e) is t.ends in
+      let end : (m ≡ e) × In e (n ∷ t.names) = subst (λ (y : Step). EndsAt (n ∷ t.names) y e) is t.ends_at in
       record {
         own = Cycle (from_name e (n ∷ t.names) ++ e ∷ []);
         is = ring_fault g s net os fs are n t.names e
-            (subst (λ (y : Step). FollowsFaults fs n t.names y) (is ∙ ap To end.0) t.follows) t.once end.1;
+            (subst (λ (y : Step). FollowsFaults fs n t.names y) (is ∙ ap To end.0) t.follows_faults) t.names_differ
+            end.1;
       }
 
   pub has_fault : (os : List ℕ) (fs : Faults) → AreFindings g s os fs → AreTrails fs → (n : ℕ) → IsFaulty fs n
@@ -68,8 +69,8 @@ module _ (g : Graph) (s : List Bool) (net : IsConsistentGraph g s) where
 
   -- after one more name is searched, each known name was known before or is reached by the query
   names_more : (query : List Step) (n : ℕ) (old now later : Trace) (fs hs : Faults)
-      → AreFromQuery g s query old.entered now.entered → AreMore g s n now later fs hs
-      → AreFromQuery g s (query ++ To n ∷ []) old.entered later.entered
+      → AreFromQuery g s query old.entered_names now.entered_names → AreMore g s n now later fs hs
+      → AreFromQuery g s (query ++ To n ∷ []) old.entered_names later.entered_names
   names_more query n old now later fs hs names more k i = elim (more.names k i) [
     | inl j ↦ elim (names k j) [ inl q ↦ inl q | inr r ↦ inr (reached_more query (To n) k r.0, r.1) ]
     | inr r ↦ inr ((n, at_end query (To n), r.0), r.1)
@@ -90,10 +91,11 @@ module _ (g : Graph) (s : List Bool) (net : IsConsistentGraph g s) where
       passed_next n e there later hs h =
           subst (λ (xs : List Step). ArePassedBy g s xs old later hs) (sym (take_at query i (To n) e))
           (record {
-            between = h.between;
+            between = h.state_between;
             none = first_push (at_step (name_fault_within g (length g - 0)) []) (take i query) (To n) p.none
-                ∙ name_closed g net.range (length g) [] n
-                (is_closed g s net later.order hs h.between.are n h.decision) there (empty_path g) (λ q j. absurd j);
+                ∙ name_closed g net.steps_in_range (length g) [] n
+                (is_closed g s net later.order hs h.state_between.findings_right n h.decision) there (empty_path g)
+                (λ q j. absurd j);
             names = names_more (take i query) n old now later fs hs p.names h.more;
           })
 
@@ -108,8 +110,8 @@ module _ (g : Graph) (s : List Bool) (net : IsConsistentGraph g s) where
         tt,
       )
 
-      pub passed_names : AreFromQuery g s query old.entered now.entered
-      passed_names = names_whole query i old.entered now.entered p.names
+      pub passed_names : AreFromQuery g s query old.entered_names now.entered_names
+      passed_names = names_whole query i old.entered_names now.entered_names p.names
 
       -- the next step leads to a name with a fault
       module _ (n : ℕ) (e : slice_get query i ≡ Some (To n)) (later : Trace) (hs : Faults)
@@ -117,7 +119,7 @@ module _ (g : Graph) (s : List Bool) (net : IsConsistentGraph g s) where
         pub passed_faulty : IsFirstFaulty g query hs (Some (To n))
         passed_faulty =
             let f : HasFault g n =
-            has_fault later.order hs h.between.are h.between.consistent.trails n h.decision in (
+            has_fault later.order hs h.state_between.findings_right h.state_between.consistent.trails n h.decision in (
               record {
                 fault_there = f.own;
                 of_step = f.is;
@@ -126,10 +128,11 @@ module _ (g : Graph) (s : List Bool) (net : IsConsistentGraph g s) where
               h.decision,
             )
 
-        pub faulty_names : AreFromQuery g s query old.entered later.entered
+        pub faulty_names : AreFromQuery g s query old.entered_names later.entered_names
         faulty_names =
-            names_whole query (i + 1) old.entered later.entered
-            (subst (λ (xs : List Step). AreFromQuery g s xs old.entered later.entered) (sym (take_at query i (To n) e))
+            names_whole query (i + 1) old.entered_names later.entered_names
+            (subst (λ (xs : List Step). AreFromQuery g s xs old.entered_names later.entered_names)
+            (sym (take_at query i (To n) e))
             (names_more (take i query) n old now later fs hs p.names h.more))
 
       -- if all steps are passed, the query has no fault
@@ -140,15 +143,15 @@ module _ (g : Graph) (s : List Bool) (net : IsConsistentGraph g s) where
 pub searched_faulty : (g : Graph) (s : List Bool) (t : Trace) (fs : Faults) (n : ℕ) → IsBetween g s t fs
     → IsFaulty fs n → IsSearched g s n t t fs fs true
 searched_faulty g s t fs n b f = record {
-  between = b;
-  more = record { sound = λ k i. i; faulty = λ k h. h; names = λ k i. inl i };
+  state_between = b;
+  more = record { order_grows = λ k i. i; faults_grow = λ k h. h; names = λ k i. inl i };
   decision = f;
 }
 
 pub searched_sound : (g : Graph) (s : List Bool) (t : Trace) (fs : Faults) (n : ℕ) → IsBetween g s t fs
     → IsDone s t.order n → IsSearched g s n t t fs fs false
 searched_sound g s t fs n b d = record {
-  between = b;
-  more = record { sound = λ k i. i; faulty = λ k h. h; names = λ k i. inl i };
+  state_between = b;
+  more = record { order_grows = λ k i. i; faults_grow = λ k h. h; names = λ k i. inl i };
   decision = d;
 }

@@ -37,7 +37,7 @@ module _ (g h : Graph) (s r : List Bool) (os : List ℕ) (fs : Faults) (are : Ar
   still_done n (inr i) = inr i
 
   next_ends : (k m : ℕ) → IsDone s os m → (In m os → EndsWithin h (k + length h) m) → EndsWithin h (k + length h) m
-  next_ends k m (inl d) f = ends_longer h (length h) k m ((net.settled m (settled m d)).0)
+  next_ends k m (inl d) f = ends_longer h (length h) k m ((net.settled_right m (settled m d)).0)
   next_ends k m (inr j) f = f j
 
   -- ways down from a sound name go through sound names, and then through settled ones
@@ -49,7 +49,7 @@ module _ (g h : Graph) (s r : List Bool) (os : List ℕ) (fs : Faults) (are : Ar
       (subst (λ (xs : List Step). AllByRecursion (StepLeadsInto (EndsWithin h (k + length h))) xs)
       (sym (sound_same n i))
       (all_map_in (StepLeadsInto (EndsWithin g k)) (StepLeadsInto (EndsWithin h (k + length h))) (steps g n)
-      (into_there k (λ m l f. next_ends k m ((are.sound n i).1 m l) (λ j. still_ends k m j f))) e))
+      (into_there k (λ m l f. next_ends k m ((are.names_sound n i).1 m l) (λ j. still_ends k m j f))) e))
     where
       into_there : (j : ℕ) → ((m : ℕ) → LeadsTo g n m → EndsWithin g j m → EndsWithin h (j + length h) m) → (x : Step)
           → In x (steps g n) → StepLeadsInto (EndsWithin g j) x → StepLeadsInto (EndsWithin h (j + length h)) x
@@ -68,43 +68,44 @@ module _ (g h : Graph) (s r : List Bool) (os : List ℕ) (fs : Faults) (are : Ar
 
   still_closed : (n : ℕ) → In n os → IsClosedName h n
   still_closed n i = elim (cases_lt n (length h)) [
-    | inl there ↦ any_depth h net.range (length g + length h) n there
-        (still_ends (length g) n i (are.sound n i).0)
+    | inl there ↦ any_depth h net.steps_in_range (length g + length h) n there
+        (still_ends (length g) n i (are.names_sound n i).0)
     | inr beyond ↦ ends_at_once (length h) n
-        (let some : 0 < length g = some_depth (length g) n (are.sound n i).0 in omega arith)
+        (let some : 0 < length g = some_depth (length g) n (are.names_sound n i).0 in omega arith)
         (no_steps h n beyond)
   ]
 
   still_first : (n : ℕ) (c : FaultyStep) → slice_get fs n ≡ Some (Some c) → IsFirst h r os n c.step
   still_first n c e =
-      let a : IsFirst g s os n c.step = are.first n c e in
+      let a : IsFirst g s os n c.step = are.first_faults n c e in
       let same : steps h n ≡ steps g n = faulty_same n (c, e) in
       record {
         place = a.place;
-        at = subst (λ (xs : List Step). slice_get xs a.place ≡ Some c.step) (sym same) a.at;
-        before = subst (λ (xs : List Step). AllByRecursion (StepLeadsInto (IsDone r os)) (take a.place xs)) (sym same)
+        step_at = subst (λ (xs : List Step). slice_get xs a.place ≡ Some c.step) (sym same) a.step_at;
+        earlier_done = subst (λ (xs : List Step). AllByRecursion (StepLeadsInto (IsDone r os)) (take a.place xs))
+            (sym same)
             (all_map (StepLeadsInto (IsDone s os)) (StepLeadsInto (IsDone r os))
-            (into_map (IsDone s os) (IsDone r os) still_done) (take a.place (steps g n)) a.before);
+            (into_map (IsDone s os) (IsDone r os) still_done) (take a.place (steps g n)) a.earlier_done);
       }
 
   still_are : AreFindings h r os fs
   still_are = record {
-    sound = λ n i. (
+    names_sound = λ n i. (
       still_closed n i,
-      λ m l. still_done m ((are.sound n i).1 m (subst (λ (xs : List Step). In (To m) xs) (sound_same n i) l)),
+      λ m l. still_done m ((are.names_sound n i).1 m (subst (λ (xs : List Step). In (To m) xs) (sound_same n i) l)),
     );
-    first = still_first;
+    first_faults = still_first;
   }
 
 -- empty findings are right
 pub nothing_right : (g : Graph) (s : List Bool) (f : WalkFindings) → IsNothing f → AreRight g s f
 nothing_right g s f h = record {
-  are = record {
-    sound = λ n i. absurd (subst (λ (ns : List ℕ). In n ns) h.sound i);
-    first = λ n c e. absurd (h.faultless n (c, e));
+  findings_right = record {
+    names_sound = λ n i. absurd (subst (λ (ns : List ℕ). In n ns) h.no_sound_names i);
+    first_faults = λ n c e. absurd (h.no_faults n (c, e));
   };
-  sound_named = λ n i. absurd (subst (λ (ns : List ℕ). In n ns) h.sound i);
-  faulty_named = λ n q. absurd (h.faultless n q);
+  sound_named = λ n i. absurd (subst (λ (ns : List ℕ). In n ns) h.no_sound_names i);
+  faulty_named = λ n q. absurd (h.no_faults n q);
 }
 
 still_right : (g h : Graph) (s r : List Bool) (f : WalkFindings) → AreRight g s f → IsConsistentGraph h r
@@ -112,7 +113,8 @@ still_right : (g h : Graph) (s r : List Bool) (f : WalkFindings) → AreRight g 
     → ((n : ℕ) → IsSettled s n → IsSettled r n) → ((n : ℕ) → In n f.names → steps h n ≡ steps g n)
     → AreRight h r f
 still_right g h s r f right net more settled same = record {
-  are = still_are g h s r f.sound f.faults right.are net more settled (λ n i. same n (right.sound_named n i))
+  findings_right = still_are g h s r f.sound_names f.faults right.findings_right net more settled
+      (λ n i. same n (right.sound_named n i))
       (λ n q. same n (right.faulty_named n q));
   sound_named = right.sound_named;
   faulty_named = right.faulty_named;
@@ -127,15 +129,20 @@ pub nothing_consistent : (t : Trace) (fs : Faults) → IsIdle t → t.order ≡ 
     → IsConsistent t fs
 nothing_consistent t fs idle none faultless = record {
   can_clear = record {
-    entered = record { within = λ n i. absurd (no_name n i); among = λ n l. inl (idle.are_open n l) };
-    within = λ n i. absurd (no_name n i);
-    noted = λ n f. absurd (faultless n f);
+    names_entered = record {
+      names_within = λ n i. absurd (no_name n i);
+      open_or_listed = λ n l.
+          inl (idle.are_open n l);
+    };
+    names_within = λ n i. absurd (no_name n i);
+    faulty_entered = λ n f. absurd (faultless n f);
   };
-  closed = λ n e. let o : slice_get t.marks n ≡ Some Open = idle.are_open n (slice_get_within t.marks n Closed e) in
+  marked_in_order = λ n e. let o : slice_get t.marks n ≡ Some Open =
+      idle.are_open n (slice_get_within t.marks n Closed e) in
       absurd (cc);
-  sound = λ n i. absurd (subst (λ (ns : List ℕ). In n ns) none i);
+  order_entered = λ n i. absurd (subst (λ (ns : List ℕ). In n ns) none i);
   trails = record {
-    leads = λ n m b. absurd (faultless n (b.0, b.1));
+    leads_to_faulty = λ n m b. absurd (faultless n (b.0, b.1));
     trails = λ n c e. absurd (faultless n (c, e));
   };
   off_path = λ n e. let o : slice_get t.marks n ≡ Some Open = idle.are_open n (slice_get_within t.marks n OnPath e) in
@@ -143,5 +150,5 @@ nothing_consistent t fs idle none faultless = record {
   frames = idle.frames;
 }
   where
-    no_name : (n : ℕ) → In n t.entered → ⊥
-    no_name n i = subst (λ (ns : List ℕ). In n ns) idle.entered i
+    no_name : (n : ℕ) → In n t.entered_names → ⊥
+    no_name n i = subst (λ (ns : List ℕ). In n ns) idle.none_entered i

@@ -9,12 +9,12 @@ use Rattle.name_walk.specs.declared.trail.FaultyStep.{FaultyStep}
 use Rattle.name_walk.specs.ClosedNames.{IsClosedName, IsDone, StepLeadsInto}
 use Rattle.name_walk.specs.Faults.{Cycle, DeadEnd, NameFault, at_step, from_name, is_on_path, name_fault_within}
 use Rattle.name_walk.specs.Faults.{steps_fault}
-use Rattle.name_walk.specs.Lists.{In, last}
+use Rattle.name_walk.specs.Lists.{In, last_item}
 use Rattle.name_walk.specs.Nets.{IsConsistentGraph}
 use Rattle.name_walk.specs.Paths.{IsNamePath}
 use Rattle.name_walk.specs.Steps.{Graph, LeadsTo, NameReaches, at_once, steps}
 use Rattle.name_walk.specs.Trails.{AreFindings, Faults, FollowsFaults, GoesBy, IsFaulty, IsFirst}
-use Rattle.name_walk.proofs.ClosedPaths.{name_closed, onward}
+use Rattle.name_walk.proofs.ClosedPaths.{name_closed, reaches_on}
 use Rattle.name_walk.proofs.Distinct.{take_In}
 use Rattle.name_walk.proofs.Faults.{name_is}
 use Rattle.name_walk.proofs.Lists.{In-left, In-on, In-push, all_at, distinct_front, distinct_last, first_at, get_In}
@@ -67,28 +67,28 @@ follows_same fs hs same n (m ∷ ms) x h = ((h.0.0, same n h.0.0 h.0.1, h.0.2), 
 -- the front of a path is a path
 pub path_front : (g : Graph) (p q : List ℕ) → IsNamePath g (p ++ q) → IsNamePath g p
 path_front g p q h = record {
-  once = distinct_front p q h.once;
-  there = λ n e. h.there n (In-on (p ++ q) n (In-left p q n (on-In p n e)));
+  names_differ = distinct_front p q h.names_differ;
+  names_in_graph = λ n e. h.names_in_graph n (In-on (p ++ q) n (In-left p q n (on-In p n e)));
 }
 
 module _ (g : Graph) (s : List Bool) (net : IsConsistentGraph g s) (os : List ℕ) (fs : Faults)
     (are : AreFindings g s os fs) where
   -- a name that is done is closed
   pub is_closed : (n : ℕ) → IsDone s os n → IsClosedName g n
-  is_closed n d = done_closed g s net.settled os (λ m i. (are.sound m i).0) n d
+  is_closed n d = done_closed g s net.settled_right os (λ m i. (are.names_sound m i).0) n d
 
   -- a name with a fault is in the graph
   pub faulty_there : (n : ℕ) → IsFaulty fs n → n < length g
-  faulty_there n f = let a = are.first n f.0 f.1 in has_steps g n a.place f.0.step a.at
+  faulty_there n f = let a = are.first_faults n f.0 f.1 in has_steps g n a.place f.0.step a.step_at
 
   -- the first step of a name that has a fault
   pub first_step : (n : ℕ) (x : Step) → GoesBy fs n x → IsFirst g s os n x
-  first_step n x b = subst (λ (y : Step). IsFirst g s os n y) b.2 (are.first n b.0 b.1)
+  first_step n x b = subst (λ (y : Step). IsFirst g s os n y) b.2 (are.first_faults n b.0 b.1)
 
   module _ (p : List ℕ) (n : ℕ) (path : IsNamePath g (p ++ n ∷ [])) (reach : (q : ℕ) → In q p → NameReaches g q n) where
     longer_reach : (m : ℕ) → LeadsTo g n m → (q : ℕ) → In q (p ++ n ∷ []) → NameReaches g q m
     longer_reach m l q i = elim (In-push p n q i) [
-      | inl j ↦ onward (reach q j) (at_once l)
+      | inl j ↦ reaches_on (reach q j) (at_once l)
       | inr e ↦ subst (λ (k : ℕ). NameReaches g k m) (sym e) (at_once l)
     ]
 
@@ -97,7 +97,8 @@ module _ (g : Graph) (s : List Bool) (net : IsConsistentGraph g s) (os : List �
         → at_step (name_fault_within g (length g - length (p ++ n ∷ []))) (p ++ n ∷ []) x ≡ None
     none_before (Nowhere w) i h = absurd h
     none_before (To m) i h =
-        name_closed g net.range (length g) (p ++ n ∷ []) m (is_closed m h) (net.range n m i) path (longer_reach m i)
+        name_closed g net.steps_in_range (length g) (p ++ n ∷ []) m (is_closed m h) (net.steps_in_range n m i) path
+        (longer_reach m i)
 
     -- the fault of a name is that of its first step with a fault
     at_first : (x : Step) (f : NameFault) → IsFirst g s os n x
@@ -105,16 +106,16 @@ module _ (g : Graph) (s : List Bool) (net : IsConsistentGraph g s) (os : List �
         → steps_fault g p (To n ∷ []) ≡ Some f
     at_first x f a h =
         let new : is_on_path p n ≡ false =
-        false_from_ne_true (is_on_path p n) (λ e. distinct_last p n path.once (on-In p n e)) in
+        false_from_ne_true (is_on_path p n) (λ e. distinct_last p n path.names_differ (on-In p n e)) in
         or_none _
-        ∙ (name_is g p n (path_front g p (n ∷ []) path) new (has_steps g n a.place x a.at)
+        ∙ (name_is g p n (path_front g p (n ∷ []) path) new (has_steps g n a.place x a.step_at)
         ∙ first_at (at_step (name_fault_within g (length g - length (p ++ n ∷ []))) (p ++ n ∷ [])) (steps g n) a.place x
         f
         (none_from (at_step (name_fault_within g (length g - length (p ++ n ∷ []))) (p ++ n ∷ []))
         (take a.place (steps g n))
         (λ y i. none_before y (take_In a.place (steps g n) y i)
-        (all_at (StepLeadsInto (IsDone s os)) (take a.place (steps g n)) y a.before i)))
-        a.at h)
+        (all_at (StepLeadsInto (IsDone s os)) (take a.place (steps g n)) y a.earlier_done i)))
+        a.step_at h)
 
   -- the fault of a name is the one at the end of its way
   pub way_fault : (p : List ℕ) (n : ℕ) (ms : List ℕ) (x : Step) (f : NameFault) → IsNamePath g (p ++ n ∷ ms)
@@ -131,20 +132,20 @@ module _ (g : Graph) (s : List Bool) (net : IsConsistentGraph g s) (os : List �
       let short : IsNamePath g (p ++ n ∷ []) = path_front g (p ++ n ∷ []) (m ∷ ms) long in
       at_first p n short reach (To m) f a
       (sym (or_none _)
-      ∙ way_fault (p ++ n ∷ []) m ms x f long (longer_reach p n short reach m (get_In _ _ _ a.at)) h.1
+      ∙ way_fault (p ++ n ∷ []) m ms x f long (longer_reach p n short reach m (get_In _ _ _ a.step_at)) h.1
       (λ deeper. subst (λ (q : List ℕ). at_step deeper q x ≡ Some f) (sym same) (gives deeper)))
 
   -- the names of a way are a path
   pub way_path : (n : ℕ) (ms : List ℕ) (x : Step) → FollowsFaults fs n ms x → IsDistinct nat_eq (n ∷ ms)
       → IsNamePath g (n ∷ ms)
   way_path n ms x h once = record {
-    once = once;
-    there = λ k e. faulty_there k (all_faulty fs n ms x h k (on-In (n ∷ ms) k e));
+    names_differ = once;
+    names_in_graph = λ k e. faulty_there k (all_faulty fs n ms x h k (on-In (n ∷ ms) k e));
   }
 
   -- a way to a word that leads nowhere gives a dead end
   pub dead_end_fault : (n : ℕ) (ms : List ℕ) (w e : ℕ) → FollowsFaults fs n ms (Nowhere w) → IsDistinct nat_eq (n ∷ ms)
-      → last (n ∷ ms) ≡ Some e → steps_fault g [] (To n ∷ []) ≡ Some (DeadEnd w (Some e))
+      → last_item (n ∷ ms) ≡ Some e → steps_fault g [] (To n ∷ []) ≡ Some (DeadEnd w (Some e))
   dead_end_fault n ms w e h once is =
       way_fault [] n ms (Nowhere w) (DeadEnd w (Some e)) (way_path n ms (Nowhere w) h once) (λ q i. absurd i) h
       (λ deeper. ap (λ (o : Option ℕ). Some (DeadEnd w o)) is)

@@ -69,7 +69,7 @@ element_at (x ∷ xs) (suc i) l = let r = element_at xs i (omega arith) in recor
 pub marks_same : (t : Trace) → AreMarksCovered t t
 marks_same t = record {
   marks = λ n m d e. e;
-  entered = λ h. h;
+  names_entered = λ h. h;
   names = refl;
   order = refl;
   frames = refl;
@@ -78,11 +78,11 @@ marks_same t = record {
 entered_longer : (ms : List Mark) (es : List ℕ) (n : ℕ) → length ms ≤ n → AreEntered ms es
     → AreEntered (take n ms ++ replicate (n - length ms) Open) es
 entered_longer ms es n l h = record {
-  within = λ k i. let a : k < length ms = h.within k i in
+  names_within = λ k i. let a : k < length ms = h.names_within k i in
       let b : length (take n ms ++ replicate (n - length ms) Open) ≡ n = longer_length Open ms n l in omega arith;
-  among = λ k j. let r = element_at (take n ms ++ replicate (n - length ms) Open) k j in
+  open_or_listed = λ k j. let r = element_at (take n ms ++ replicate (n - length ms) Open) k j in
       elim (of_longer Open ms n k r.value l r.is) [
-        | inl e ↦ elim (h.among k (slice_get_within ms k r.value e)) [
+        | inl e ↦ elim (h.open_or_listed k (slice_get_within ms k r.value e)) [
           | inl o ↦ inl (in_longer Open ms n k Open l o)
           | inr i ↦ inr i
         ]
@@ -94,21 +94,22 @@ entered_longer ms es n l h = record {
 pub marks_longer : (n : ℕ) (t : Trace) → length t.marks ≤ n → AreMarksCovered t (trace_with_names n t)
 marks_longer n t l = record {
   marks = λ k m d e. elim (of_longer Open t.marks n k m l e) [ inl q ↦ q | inr q ↦ absurd (d q) ];
-  entered = entered_longer t.marks t.entered n l;
+  names_entered = entered_longer t.marks t.entered_names n l;
   names = refl;
   order = refl;
   frames = refl;
 }
 
 pub faults_same : (fs : Faults) → AreFaultsCovered fs fs
-faults_same fs = record { new_faults = λ n c e. e; old_faults = λ n c e. e; longer = omega arith }
+faults_same fs = record { new_faults = λ n c e. e; old_faults = λ n c e. e; fault_list_grows = omega arith }
 
 pub faults_longer : (n : ℕ) (fs : Faults) → length fs ≤ n
     → AreFaultsCovered fs (take n fs ++ replicate (n - length fs) None)
 faults_longer n fs l = record {
   new_faults = λ k c e. elim (of_longer None fs n k (Some c) l e) [ inl q ↦ q | inr q ↦ absurd (cc) ];
   old_faults = λ k c e. in_longer None fs n k (Some c) l e;
-  longer = let b : length (take n fs ++ replicate (n - length fs) None) ≡ n = longer_length None fs n l in omega arith;
+  fault_list_grows = let b : length (take n fs ++ replicate (n - length fs) None) ≡ n = longer_length None fs n l in
+      omega arith;
 }
 
 -- ---- what is known after names are added
@@ -119,32 +120,32 @@ module _ (old new : Trace) (fs hs : Faults) (m : AreMarksCovered old new) (f : A
   is_new : (n : ℕ) → IsFaulty fs n → IsFaulty hs n
   is_new n h = (h.0, f.old_faults n h.0 h.1)
 
-  pub covered_clear : CanClear old.marks old.entered fs → CanClear new.marks new.entered hs
+  pub covered_clear : CanClear old.marks old.entered_names fs → CanClear new.marks new.entered_names hs
   covered_clear h = record {
-    entered = m.entered h.entered;
-    within = λ n i. let a : n < length fs = h.within n (subst (λ (es : List ℕ). In n es) m.names i) in
-        let b : length fs ≤ length hs = f.longer in omega arith;
-    noted = λ n g. subst (λ (es : List ℕ). In n es) (sym m.names) (h.noted n (is_old n g));
+    names_entered = m.names_entered h.names_entered;
+    names_within = λ n i. let a : n < length fs = h.names_within n (subst (λ (es : List ℕ). In n es) m.names i) in
+        let b : length fs ≤ length hs = f.fault_list_grows in omega arith;
+    faulty_entered = λ n g. subst (λ (es : List ℕ). In n es) (sym m.names) (h.faulty_entered n (is_old n g));
   }
 
   trail_new : (n e : ℕ) → IsTrail fs n e → IsTrail hs n e
   trail_new n e t = record {
     names = t.names;
     step = t.step;
-    follows = follows_same fs hs f.old_faults n t.names t.step t.follows;
-    once = t.once;
-    ends = t.ends;
+    follows_faults = follows_same fs hs f.old_faults n t.names t.step t.follows_faults;
+    names_differ = t.names_differ;
+    ends_at = t.ends_at;
   }
 
   pub covered_consistent : IsConsistent old fs → IsConsistent new hs
   covered_consistent k = record {
     can_clear = covered_clear k.can_clear;
-    closed = λ n e. subst (λ (os : List ℕ). In n os) (sym m.order)
-        (k.closed n (m.marks n Closed (λ q. cc) e));
-    sound = λ n i. subst (λ (es : List ℕ). In n es) (sym m.names)
-        (k.sound n (subst (λ (os : List ℕ). In n os) m.order i));
+    marked_in_order = λ n e. subst (λ (os : List ℕ). In n os) (sym m.order)
+        (k.marked_in_order n (m.marks n Closed (λ q. cc) e));
+    order_entered = λ n i. subst (λ (es : List ℕ). In n es) (sym m.names)
+        (k.order_entered n (subst (λ (os : List ℕ). In n os) m.order i));
     trails = record {
-      leads = λ n j b. is_new j (k.trails.leads n j (b.0, f.new_faults n b.0 b.1, b.2));
+      leads_to_faulty = λ n j b. is_new j (k.trails.leads_to_faulty n j (b.0, f.new_faults n b.0 b.1, b.2));
       trails = λ n c e. trail_new n c.end (k.trails.trails n c (f.new_faults n c e));
     };
     off_path = λ n e. is_new n (k.off_path n (m.marks n OnPath (λ q. cc) e));
@@ -154,13 +155,13 @@ module _ (old new : Trace) (fs hs : Faults) (m : AreMarksCovered old new) (f : A
   pub covered_findings : (g : Graph) (s : List Bool) → AreFindings g s old.order fs → AreFindings g s new.order hs
   covered_findings g s are =
       subst (λ (os : List ℕ). AreFindings g s os hs) (sym m.order)
-      (record { sound = are.sound; first = λ n c e. are.first n c (f.new_faults n c e) })
+      (record { names_sound = are.names_sound; first_faults = λ n c e. are.first_faults n c (f.new_faults n c e) })
 
   pub covered_between : (g : Graph) (s : List Bool) → IsConsistent old fs → AreFindings g s old.order fs
       → length g ≤ length new.marks → length g ≤ length hs → IsBetween g s new hs
   covered_between g s k are ms fs_size = record {
-    are = covered_findings g s are;
+    findings_right = covered_findings g s are;
     consistent = covered_consistent k;
     marks = ms;
-    faults = fs_size;
+    fault_room = fs_size;
   }

@@ -27,16 +27,16 @@ module _ (g : Graph) (s : List Bool) where
   -- at the start no name is closed
   pub ordering_start : (ms : List Mark) → length ms ≡ length g → AreOpen ms → AreOrdering g s ms [] []
   ordering_start ms size are_open = record {
-    size = size;
-    marked = λ n. (
+    mark_per_name = size;
+    marked_in_order = λ n. (
       λ h. let o : slice_get ms n ≡ Some Open = are_open n (slice_get_within ms n Closed h) in absurd (cc),
       λ i. absurd i,
     );
-    closed = λ n i. absurd i;
-    fresh = λ n i. absurd i;
-    once = nothing_twice;
-    ordered = tt;
-    entered = record { within = λ n i. absurd i; among = λ n l. inl (are_open n l) };
+    names_closed = λ n i. absurd i;
+    names_not_settled = λ n i. absurd i;
+    names_differ = nothing_twice;
+    targets_before = tt;
+    names_entered = record { names_within = λ n i. absurd i; open_or_listed = λ n l. inl (are_open n l) };
   }
 
   -- an open name is put on the path
@@ -45,14 +45,14 @@ module _ (g : Graph) (s : List Bool) where
   ordering_enter ms es os n h is_open =
       let there : n < length ms = slice_get_within ms n Open is_open in
       record {
-        size = length-set ms n OnPath ∙ h.size;
-        marked = marked_same ms n there Closed OnPath os h.marked (λ e. cc)
-            (other_mark Closed Open ms os h.marked (λ e. cc) n is_open);
-        closed = h.closed;
-        fresh = h.fresh;
-        once = h.once;
-        ordered = h.ordered;
-        entered = entered_push ms n there OnPath es h.entered;
+        mark_per_name = length-set ms n OnPath ∙ h.mark_per_name;
+        marked_in_order = marked_same ms n there Closed OnPath os h.marked_in_order (λ e. cc)
+            (other_mark Closed Open ms os h.marked_in_order (λ e. cc) n is_open);
+        names_closed = h.names_closed;
+        names_not_settled = h.names_not_settled;
+        names_differ = h.names_differ;
+        targets_before = h.targets_before;
+        names_entered = entered_push ms n there OnPath es h.names_entered;
       }
 
   -- a name on the path is closed
@@ -63,13 +63,14 @@ module _ (g : Graph) (s : List Bool) where
   ordering_close ms es os n h on_path closed fresh done =
       let there : n < length ms = slice_get_within ms n OnPath on_path in
       record {
-        size = length-set ms n Closed ∙ h.size;
-        marked = marked_push ms n there Closed os h.marked;
-        closed = either_new {P = λ m. IsClosedName g m} os n h.closed closed;
-        fresh = either_new {P = λ m. IsSettled s m → ⊥} os n h.fresh fresh;
-        once = IsDistinct-push nat_eq_equiv os n h.once
+        mark_per_name = length-set ms n Closed ∙ h.mark_per_name;
+        marked_in_order = marked_push ms n there Closed os h.marked_in_order;
+        names_closed = either_new {P = λ m. IsClosedName g m} os n h.names_closed closed;
+        names_not_settled = either_new {P = λ m. IsSettled s m → ⊥} os n h.names_not_settled fresh;
+        names_differ = IsDistinct-push nat_eq_equiv os n h.names_differ
             (false_from_ne_true (is_on_path os n)
-            (λ e. other_mark Closed OnPath ms os h.marked (λ q. cc) n on_path (on-In os n e)));
-        ordered = ordered_push g s [] os n h.ordered done;
-        entered = entered_again ms n there Closed es (entered_in OnPath (λ q. cc) ms es n h.entered on_path) h.entered;
+            (λ e. other_mark Closed OnPath ms os h.marked_in_order (λ q. cc) n on_path (on-In os n e)));
+        targets_before = ordered_push g s [] os n h.targets_before done;
+        names_entered = entered_again ms n there Closed es (entered_in OnPath (λ q. cc) ms es n h.names_entered on_path)
+            h.names_entered;
       }

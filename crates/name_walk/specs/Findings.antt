@@ -15,35 +15,35 @@ use Rattle.name_walk.specs.Trails.{AreFindings, AreTrails, Faults, IsFaulty}
 -- the names that are known to be sound, what is known about the names with a fault, and all names about which
 -- something is known
 pub record WalkFindings : Type 0 where
-  pub sound : List ℕ
+  pub sound_names : List ℕ
   pub faults : Faults
   pub names : List ℕ
 
 -- what is known about names is true, and `f.names` are all the names about which something is known
 pub record AreRight (g : Graph) (s : List Bool) (f : WalkFindings) : Type 0 where
-  pub are : AreFindings g s f.sound f.faults
-  pub sound_named : (n : ℕ) → In n f.sound → In n f.names
+  pub findings_right : AreFindings g s f.sound_names f.faults
+  pub sound_named : (n : ℕ) → In n f.sound_names → In n f.names
   pub faulty_named : (n : ℕ) → IsFaulty f.faults n → In n f.names
 
 -- marks and faults can be cleared: each name that has one is in the list
 pub record CanClear (ms : List Mark) (es : List ℕ) (fs : Faults) : Type 0 where
-  pub entered : AreEntered ms es
-  pub within : (n : ℕ) → In n es → n < length fs
-  pub noted : (n : ℕ) → IsFaulty fs n → In n es
+  pub names_entered : AreEntered ms es
+  pub names_within : (n : ℕ) → In n es → n < length fs
+  pub faulty_entered : (n : ℕ) → IsFaulty fs n → In n es
 
 -- each mark agrees with what is known about its name, and each name with a fault has a way to it
 pub record IsConsistent (t : Trace) (fs : Faults) : Type 0 where
-  pub can_clear : CanClear t.marks t.entered fs
-  pub closed : (n : ℕ) → slice_get t.marks n ≡ Some Closed → In n t.order
-  pub sound : (n : ℕ) → In n t.order → In n t.entered
+  pub can_clear : CanClear t.marks t.entered_names fs
+  pub marked_in_order : (n : ℕ) → slice_get t.marks n ≡ Some Closed → In n t.order
+  pub order_entered : (n : ℕ) → In n t.order → In n t.entered_names
   pub trails : AreTrails fs
   pub off_path : (n : ℕ) → slice_get t.marks n ≡ Some OnPath → IsFaulty fs n
   pub frames : t.frames ≡ []
 
 -- nothing is known about any name
 pub record IsNothing (f : WalkFindings) : Type 0 where
-  pub sound : f.sound ≡ []
-  pub faultless : (n : ℕ) → IsFaulty f.faults n → ⊥
+  pub no_sound_names : f.sound_names ≡ []
+  pub no_faults : (n : ℕ) → IsFaulty f.faults n → ⊥
   pub names : f.names ≡ []
 
 -- a step leads nowhere, or to a name that is known to have a fault

@@ -6,6 +6,6 @@ use Rattle.name_walk.specs.Steps.{Graph, InRange}
 -- each step leads to a name of the graph or nowhere, settled names are closed, and the names that they lead to are
 -- settled
 pub record IsConsistentGraph (g : Graph) (marks : List Bool) : Type 0 where
-  pub range : InRange g
-  pub size : length marks ≡ length g
-  pub settled : AreSettled g marks
+  pub steps_in_range : InRange g
+  pub mark_per_name : length marks ≡ length g
+  pub settled_right : AreSettled g marks

@@ -19,7 +19,7 @@ AreOrdered g settled before (n ∷ ns) =
 
 -- the names that the query reaches and that are not settled, each once, targets before users; all are closed
 pub record AreNewlyClosed (g : Graph) (settled : List Bool) (query : List Step) (names : List ℕ) : Type 0 where
-  pub closed : (n : ℕ) → In n names → IsClosedName g n
-  pub exactly : (n : ℕ) → In n names ↔ (IsReached g query n × (IsSettled settled n → ⊥))
-  pub once : IsDistinct nat_eq names
-  pub ordered : AreOrdered g settled [] names
+  pub names_closed : (n : ℕ) → In n names → IsClosedName g n
+  pub names_reached : (n : ℕ) → In n names ↔ (IsReached g query n × (IsSettled settled n → ⊥))
+  pub names_listed_once : IsDistinct nat_eq names
+  pub targets_before : AreOrdered g settled [] names

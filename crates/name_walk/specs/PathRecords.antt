@@ -17,9 +17,9 @@ ending_above (At e) n = At e
 ending_above (Ring m) n = if nat_eq n m then At m else Ring m
 
 -- the ending for the names above a list of names
-abbrev pub above : Ending → List ℕ → Ending
-above ending [] = ending
-above ending (n ∷ below) = ending_above (above ending below) n
+abbrev pub ending_of_path : Ending → List ℕ → Ending
+ending_of_path ending [] = ending
+ending_of_path ending (n ∷ below) = ending_above (ending_of_path ending below) n
 
 -- the step to the first name of a list, or x if the list is empty
 abbrev pub step_down : Step → List ℕ → Step
@@ -30,5 +30,5 @@ step_down x (n ∷ below) = To n
 abbrev pub AreNoted : Faults → Ending → Step → List ℕ → Type 0
 AreNoted fs ending x [] = Unit {0}
 AreNoted fs ending x (n ∷ below) =
-    (slice_get fs n ≡ Some (Some (record { step = step_down x below; end = end_for (above ending below) n })))
+    (slice_get fs n ≡ Some (Some (record { step = step_down x below; end = end_for (ending_of_path ending below) n })))
     × AreNoted fs ending x below

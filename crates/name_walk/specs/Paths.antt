@@ -6,13 +6,13 @@ use Rattle.name_walk.specs.Steps.{Graph}
 
 -- a path consists of distinct names of the graph
 pub record IsNamePath (g : Graph) (p : List ℕ) : Type 0 where
-  pub once : IsDistinct nat_eq p
-  pub there : (n : ℕ) → is_on_path p n ≡ true → n < length g
+  pub names_differ : IsDistinct nat_eq p
+  pub names_in_graph : (n : ℕ) → is_on_path p n ≡ true → n < length g
 
 -- law: the empty list is a path, a path can be extended by each name of the graph that is not on it, and no path has
 -- more names than the graph
 pub record NamePathLaw : Type 0 where
-  pub empty : (g : Graph) → IsNamePath g []
-  pub longer : (g : Graph) (p : List ℕ) (n : ℕ) → IsNamePath g p → is_on_path p n ≡ false → n < length g
+  pub empty_path : (g : Graph) → IsNamePath g []
+  pub longer_path : (g : Graph) (p : List ℕ) (n : ℕ) → IsNamePath g p → is_on_path p n ≡ false → n < length g
       → IsNamePath g (p ++ n ∷ [])
-  pub short : (g : Graph) (p : List ℕ) → IsNamePath g p → length p ≤ length g
+  pub path_bound : (g : Graph) (p : List ℕ) → IsNamePath g p → length p ≤ length g

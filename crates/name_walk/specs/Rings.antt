@@ -14,5 +14,5 @@ IsWay fs last here (n ∷ ns) =
 -- from `here` the faulty steps lead back to `name`, through no name twice
 pub record IsFaultRing (fs : Faults) (name here : ℕ) (rest : List ℕ) : Type 0 where
   pub way : IsWay fs name here rest
-  pub once : IsDistinct nat_eq (name ∷ rest)
-  pub there : (n : ℕ) → In n (name ∷ rest) → n < length fs
+  pub names_differ : IsDistinct nat_eq (name ∷ rest)
+  pub names_in_faults : (n : ℕ) → In n (name ∷ rest) → n < length fs

@@ -21,7 +21,7 @@ use Rattle.name_walk.specs.Visits.{IsBelow, IsMarkFound}
 pub record IsOpen (s : List Bool) (ms : List Mark) (fs : Faults) (n : ℕ) : Type 0 where
   pub not_settled : slice_get s n ≡ Some false
   pub mark : slice_get ms n ≡ Some Open
-  pub faultless : IsFaulty fs n → ⊥
+  pub not_faulty : IsFaulty fs n → ⊥
 
 -- if a step leads to a name, then the name is in range of all tables
 abbrev pub CanFind : List Bool → List Mark → Faults → Step → Type 0
@@ -41,16 +41,16 @@ IsFinding s ms fs name x (found.Faulty ending) = IsEnding ms fs name x ending
 
 -- the state between two steps of a query
 pub record IsBetween (g : Graph) (s : List Bool) (t : Trace) (fs : Faults) : Type 0 where
-  pub are : AreFindings g s t.order fs
+  pub findings_right : AreFindings g s t.order fs
   pub consistent : IsConsistent t fs
   pub marks : length g ≤ length t.marks
-  pub faults : length g ≤ length fs
+  pub fault_room : length g ≤ length fs
 
 -- what was known is still known, and each name that is newly known is at or below `start` and not settled
 pub record AreMore (g : Graph) (s : List Bool) (start : ℕ) (old new : Trace) (fs hs : Faults) : Type 0 where
-  pub sound : (n : ℕ) → In n old.order → In n new.order
-  pub faulty : (n : ℕ) → IsFaulty fs n → IsFaulty hs n
-  pub names : (n : ℕ) → In n new.entered → In n old.entered ⊎ (IsBelow g start n × (IsSettled s n → ⊥))
+  pub order_grows : (n : ℕ) → In n old.order → In n new.order
+  pub faults_grow : (n : ℕ) → IsFaulty fs n → IsFaulty hs n
+  pub names : (n : ℕ) → In n new.entered_names → In n old.entered_names ⊎ (IsBelow g start n × (IsSettled s n → ⊥))
 
 -- it is known whether a name has a fault
 abbrev pub IsDecided : List Bool → List ℕ → Faults → ℕ → Bool → Type 0
@@ -60,15 +60,15 @@ IsDecided s order fs n false = IsDone s order n
 -- the search has gone through a name, and `is_faulty` says whether it has a fault
 pub record IsSearched (g : Graph) (s : List Bool) (start : ℕ) (old new : Trace) (fs hs : Faults) (is_faulty : Bool)
     : Type 0 where
-  pub between : IsBetween g s new hs
+  pub state_between : IsBetween g s new hs
   pub more : AreMore g s start old new fs hs
   pub decision : IsDecided s new.order hs start is_faulty
 
 -- there may be marks for more names, and the new marks are open
 pub record AreMarksCovered (old new : Trace) : Type 0 where
   pub marks : (n : ℕ) (m : Mark) → (m ≡ Open → ⊥) → slice_get new.marks n ≡ Some m → slice_get old.marks n ≡ Some m
-  pub entered : AreEntered old.marks old.entered → AreEntered new.marks new.entered
-  pub names : new.entered ≡ old.entered
+  pub names_entered : AreEntered old.marks old.entered_names → AreEntered new.marks new.entered_names
+  pub names : new.entered_names ≡ old.entered_names
   pub order : new.order ≡ old.order
   pub frames : new.frames ≡ old.frames
 
@@ -76,4 +76,4 @@ pub record AreMarksCovered (old new : Trace) : Type 0 where
 pub record AreFaultsCovered (fs hs : Faults) : Type 0 where
   pub new_faults : (n : ℕ) (c : FaultyStep) → slice_get hs n ≡ Some (Some c) → slice_get fs n ≡ Some (Some c)
   pub old_faults : (n : ℕ) (c : FaultyStep) → slice_get fs n ≡ Some (Some c) → slice_get hs n ≡ Some (Some c)
-  pub longer : length fs ≤ length hs
+  pub fault_list_grows : length fs ≤ length hs

@@ -10,12 +10,12 @@ use Rattle.name_walk.specs.Lists.{In}
 -- current name
 pub record Trace : Type 0 where
   pub marks : List Mark
-  pub entered : List ℕ
+  pub entered_names : List ℕ
   pub order : List ℕ
   pub frames : List Frame
 
 abbrev pub no_traces : Trace
-no_traces = record { marks = []; entered = []; order = []; frames = [] }
+no_traces = record { marks = []; entered_names = []; order = []; frames = [] }
 
 -- the path: the names of the frames, and then the current name
 abbrev pub path : List Frame → ℕ → List ℕ
@@ -28,7 +28,7 @@ trace_with_names count t = record t { marks = take count t.marks ++ replicate (c
 
 -- a name is put on the path
 abbrev pub with_entered : Trace → ℕ → Trace
-with_entered t n = record t { marks = slice_set t.marks n OnPath; entered = t.entered ++ n ∷ [] }
+with_entered t n = record t { marks = slice_set t.marks n OnPath; entered_names = t.entered_names ++ n ∷ [] }
 
 -- a name is closed
 abbrev pub with_closed : Trace → ℕ → Trace
@@ -51,17 +51,17 @@ AreOpen marks = (n : ℕ) → n < length marks → slice_get marks n ≡ Some Op
 
 -- each name with a mark other than open is in the list, and each name in the list has a mark
 pub record AreEntered (marks : List Mark) (names : List ℕ) : Type 0 where
-  pub within : (n : ℕ) → In n names → n < length marks
-  pub among : (n : ℕ) → n < length marks → (slice_get marks n ≡ Some Open) ⊎ In n names
+  pub names_within : (n : ℕ) → In n names → n < length marks
+  pub open_or_listed : (n : ℕ) → n < length marks → (slice_get marks n ≡ Some Open) ⊎ In n names
 
 -- the state between two walks
 pub record IsIdle (t : Trace) : Type 0 where
   pub are_open : AreOpen t.marks
-  pub entered : t.entered ≡ []
+  pub none_entered : t.entered_names ≡ []
   pub frames : t.frames ≡ []
 
 -- all marks are open again, and the order is unchanged
 pub record IsCleared (old new : Trace) : Type 0 where
-  pub idle : IsIdle new
-  pub size : length new.marks ≡ length old.marks
+  pub is_idle : IsIdle new
+  pub same_size : length new.marks ≡ length old.marks
   pub order : new.order ≡ old.order

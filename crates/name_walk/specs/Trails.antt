@@ -6,7 +6,7 @@ use Rattle.name_walk.specs.declared.step.Step.{Step}
 use Rattle.name_walk.specs.declared.step.Step.TheVariants.{Nowhere, To}
 use Rattle.name_walk.specs.declared.trail.FaultyStep.{FaultyStep}
 use Rattle.name_walk.specs.ClosedNames.{IsClosedName, IsDone, StepLeadsInto}
-use Rattle.name_walk.specs.Lists.{In, last}
+use Rattle.name_walk.specs.Lists.{In, last_item}
 use Rattle.name_walk.specs.Steps.{Graph, LeadsTo, steps}
 
 -- what is known about each name that has a fault
@@ -29,30 +29,30 @@ FollowsFaults fs n (m ∷ ms) x = GoesBy fs n (To m) × FollowsFaults fs m ms x
 -- names on a way to a fault end at e: the last name if the step leads nowhere, or else the name among them to which
 -- the step leads back
 abbrev pub EndsAt : List ℕ → Step → ℕ → Type 0
-EndsAt names (Nowhere w) e = last names ≡ Some e
+EndsAt names (Nowhere w) e = last_item names ≡ Some e
 EndsAt names (To m) e = (m ≡ e) × In e names
 
 -- the way from n to its fault, which occurs at e
 pub record IsTrail (fs : Faults) (n e : ℕ) : Type 0 where
   pub names : List ℕ
   pub step : Step
-  pub follows : FollowsFaults fs n names step
-  pub once : IsDistinct nat_eq (n ∷ names)
-  pub ends : EndsAt (n ∷ names) step e
+  pub follows_faults : FollowsFaults fs n names step
+  pub names_differ : IsDistinct nat_eq (n ∷ names)
+  pub ends_at : EndsAt (n ∷ names) step e
 
 -- x is a step of n, and each earlier step of n leads to a name that is settled or sound
 pub record IsFirst (g : Graph) (s : List Bool) (sound : List ℕ) (n : ℕ) (x : Step) : Type 0 where
   pub place : ℕ
-  pub at : slice_get (steps g n) place ≡ Some x
-  pub before : AllByRecursion (StepLeadsInto (IsDone s sound)) (take place (steps g n))
+  pub step_at : slice_get (steps g n) place ≡ Some x
+  pub earlier_done : AllByRecursion (StepLeadsInto (IsDone s sound)) (take place (steps g n))
 
 -- each faulty step to a name leads to a name with a fault, and each name with a fault has a way to it
 pub record AreTrails (fs : Faults) : Type 0 where
-  pub leads : (n m : ℕ) → GoesBy fs n (To m) → IsFaulty fs m
+  pub leads_to_faulty : (n m : ℕ) → GoesBy fs n (To m) → IsFaulty fs m
   pub trails : (n : ℕ) (c : FaultyStep) → slice_get fs n ≡ Some (Some c) → IsTrail fs n c.end
 
 -- what is known about names is true: sound names are closed and lead only to settled and sound names, and each name
 -- with a fault comes to it by the first of its steps that has a fault
 pub record AreFindings (g : Graph) (s : List Bool) (names : List ℕ) (fs : Faults) : Type 0 where
-  pub sound : (n : ℕ) → In n names → IsClosedName g n × ((m : ℕ) → LeadsTo g n m → IsDone s names m)
-  pub first : (n : ℕ) (c : FaultyStep) → slice_get fs n ≡ Some (Some c) → IsFirst g s names n c.step
+  pub names_sound : (n : ℕ) → In n names → IsClosedName g n × ((m : ℕ) → LeadsTo g n m → IsDone s names m)
+  pub first_faults : (n : ℕ) (c : FaultyStep) → slice_get fs n ≡ Some (Some c) → IsFirst g s names n c.step

@@ -23,17 +23,17 @@ IsMarkFound settled marks n Open = (slice_get settled n ≡ Some false) × (slic
 -- the names in `order` are exactly those marked as closed; all are closed names, none was settled before, and they are
 -- distinct, with targets before users
 pub record AreOrdering (g : Graph) (settled : List Bool) (marks : List Mark) (names order : List ℕ) : Type 0 where
-  pub size : length marks ≡ length g
-  pub marked : (n : ℕ) → (slice_get marks n ≡ Some Closed) ↔ In n order
-  pub closed : (n : ℕ) → In n order → IsClosedName g n
-  pub fresh : (n : ℕ) → In n order → IsSettled settled n → ⊥
-  pub once : IsDistinct nat_eq order
-  pub ordered : AreOrdered g settled [] order
-  pub entered : AreEntered marks names
+  pub mark_per_name : length marks ≡ length g
+  pub marked_in_order : (n : ℕ) → (slice_get marks n ≡ Some Closed) ↔ In n order
+  pub names_closed : (n : ℕ) → In n order → IsClosedName g n
+  pub names_not_settled : (n : ℕ) → In n order → IsSettled settled n → ⊥
+  pub names_differ : IsDistinct nat_eq order
+  pub targets_before : AreOrdered g settled [] order
+  pub names_entered : AreEntered marks names
 
 -- the order is right, and no name is on a path
 pub record IsBetween (g : Graph) (settled : List Bool) (t : Trace) : Type 0 where
-  pub in_target_order : AreOrdering g settled t.marks t.entered t.order
+  pub in_target_order : AreOrdering g settled t.marks t.entered_names t.order
   pub off_path : (n : ℕ) → slice_get t.marks n ≡ Some OnPath → ⊥
   pub frames : t.frames ≡ []
 
@@ -43,14 +43,14 @@ IsBelow g start n = (n ≡ start) ⊎ NameReaches g start n
 
 -- the name `start` was closed, together with some of the names that it reaches
 pub record AddsBelow (g : Graph) (start : ℕ) (old new : List ℕ) : Type 0 where
-  pub from : (n : ℕ) → In n new → In n old ⊎ IsBelow g start n
-  pub kept : (n : ℕ) → In n old → In n new
-  pub put : In start new
+  pub new_below : (n : ℕ) → In n new → In n old ⊎ IsBelow g start n
+  pub old_kept : (n : ℕ) → In n old → In n new
+  pub start_added : In start new
 
 -- the result of a visit that finds no fault: the name is closed
 pub record IsFaultless (g : Graph) (settled : List Bool) (start : ℕ) (old new : Trace) : Type 0 where
-  pub none : steps_fault g [] (To start ∷ []) ≡ None
-  pub between : IsBetween g settled new
+  pub without_fault : steps_fault g [] (To start ∷ []) ≡ None
+  pub state_between : IsBetween g settled new
   pub adds : AddsBelow g start old.order new.order
 
 abbrev pub IsVisited : Graph → List Bool → ℕ → Trace → Trace → Option Fault → Type 0

@@ -33,9 +33,9 @@ impl Model for Findings {
     ghost Value = { WalkFindings };
 
     ghost view = { λ f. record {
-      sound = f.traces.order;
+      sound_names = f.traces.order;
       faults = f.faults.items;
-      names = f.traces.entered;
+      names = f.traces.entered_names;
     } };
 
     ghost invariant = { λ f. IsConsistent f.traces f.faults.items };

@@ -64,7 +64,7 @@ fn search_name(
     requires net { IsConsistentGraph net.now.steps.now net.now.settled.now }
     requires between { spec.IsBetween net.now.steps.now net.now.settled.now traces.old faults.old.items }
     requires fresh { spec.IsOpen net.now.settled.now traces.old.marks faults.old.items start }
-    ensures can_clear { CanClear traces.new.marks traces.new.entered faults.new.items }
+    ensures can_clear { CanClear traces.new.marks traces.new.entered_names faults.new.items }
     ensures found { IfOk result (spec.IsSearched net.now.steps.now net.now.settled.now start traces.old traces.new
         faults.old.items faults.new.items) }
 {
@@ -104,11 +104,12 @@ pub(crate) fn search_query(
     requires net { IsConsistentGraph net.now.steps.now net.now.settled.now }
     requires query { StayInGraph net.now.steps.now query.now }
     requires between { spec.IsBetween net.now.steps.now net.now.settled.now traces.old faults.old.items }
-    ensures can_clear { CanClear traces.new.marks traces.new.entered faults.new.items }
+    ensures can_clear { CanClear traces.new.marks traces.new.entered_names faults.new.items }
     ensures between { IfOk result
         (λ _. spec.IsBetween net.now.steps.now net.now.settled.now traces.new faults.new.items) }
-    ensures names { IfOk result (λ _. AreFromQuery net.now.steps.now net.now.settled.now query.now traces.old.entered
-        traces.new.entered) }
+    ensures names { IfOk result (λ _. AreFromQuery net.now.steps.now net.now.settled.now query.now
+        traces.old.entered_names
+        traces.new.entered_names) }
     ensures found { IfOk result (IsFirstFaulty net.now.steps.now query.now faults.new.items) }
 {
     for &step in query {
@@ -133,7 +134,7 @@ fn is_faulty(
     requires net { IsConsistentGraph net.now.steps.now net.now.settled.now }
     requires name { name < length net.now.steps.now }
     requires between { spec.IsBetween net.now.steps.now net.now.settled.now traces.old faults.old.items }
-    ensures can_clear { CanClear traces.new.marks traces.new.entered faults.new.items }
+    ensures can_clear { CanClear traces.new.marks traces.new.entered_names faults.new.items }
     ensures found { IfOk result (spec.IsSearched net.now.steps.now net.now.settled.now name traces.old traces.new
         faults.old.items faults.new.items) }
 {
@@ -157,12 +158,13 @@ pub(crate) fn search_from(
     requires query { StayInGraph net.now.steps.now query.now }
     requires consistent { IsConsistent traces.old faults.old.items }
     requires right { AreFindings net.now.steps.now net.now.settled.now traces.old.order faults.old.items }
-    ensures can_clear { CanClear traces.new.marks traces.new.entered faults.new.items }
+    ensures can_clear { CanClear traces.new.marks traces.new.entered_names faults.new.items }
     ensures consistent { IfOk result (λ _. IsConsistent traces.new faults.new.items) }
     ensures right { IfOk result
         (λ _. AreFindings net.now.steps.now net.now.settled.now traces.new.order faults.new.items) }
-    ensures names { IfOk result (λ _. AreFromQuery net.now.steps.now net.now.settled.now query.now traces.old.entered
-        traces.new.entered) }
+    ensures names { IfOk result (λ _. AreFromQuery net.now.steps.now net.now.settled.now query.now
+        traces.old.entered_names
+        traces.new.entered_names) }
     ensures found { IfOk result (IsFirstFaulty net.now.steps.now query.now faults.new.items) }
 {
     let names = net.steps.len();
@@ -195,7 +197,7 @@ fn cover_faults(names: usize, faults: &mut Vec<Option<FaultyStep>>) -> Result<()
 
 // Forgets everything. The cost is proportional to the number of names about which something is known.
 pub(crate) fn clear(alloc: Global, traces: &mut Traces, faults: &mut Vec<Option<FaultyStep>>)
-    requires { CanClear traces.old.marks traces.old.entered faults.old.items }
+    requires { CanClear traces.old.marks traces.old.entered_names faults.old.items }
     ensures marks { IsIdle traces.new }
     ensures order { traces.new.order ≡ [] }
     ensures faults { (n : ℕ) → IsFaulty faults.new.items n → ⊥ }

@@ -54,7 +54,7 @@ impl Model for Traces {
 
     ghost view = { λ t. record {
       marks = t.marks.items;
-      entered = t.entered.items;
+      entered_names = t.entered.items;
       order = t.order.items;
       frames = t.frames.items;
     } };
@@ -98,7 +98,7 @@ impl Traces {
 
     // Returns the names that were entered. All names with a mark other than open are among them.
     pub(crate) fn entered_names(&self) -> &[usize]
-        ensures { result.now ≡ self.now.entered }
+        ensures { result.now ≡ self.now.entered_names }
     {
         &self.entered
     }
@@ -166,7 +166,7 @@ impl Traces {
     // Resets the marks and the path. The cost is proportional to the number of entered names. The memory of the entered
     // names and of the path is freed: a long walk is rare, and the work after it needs memory of its own.
     pub(crate) fn clean(&mut self, alloc: Global)
-        requires { AreEntered self.old.marks self.old.entered }
+        requires { AreEntered self.old.marks self.old.entered_names }
         ensures { IsCleared self.old self.new }
     {
         while let Some(name) = self.entered.pop() {

@@ -38,7 +38,7 @@ pub(crate) fn visit(
     requires net { IsConsistentGraph net.now.steps.now net.now.settled.now }
     requires between { IsBetween net.now.steps.now net.now.settled.now traces.old }
     requires fresh { IsMarkFound net.now.settled.now traces.old.marks start Open }
-    ensures entered { AreEntered traces.new.marks traces.new.entered }
+    ensures entered { AreEntered traces.new.marks traces.new.entered_names }
     ensures size { length traces.new.marks ≡ length traces.old.marks }
     ensures visited { IfOk result (IsVisited net.now.steps.now net.now.settled.now start traces.old traces.new) }
 {

@@ -88,7 +88,7 @@ fn visit_each(
     requires query { StayInGraph net.now.steps.now query.now }
     requires between { IsBetween net.now.steps.now net.now.settled.now traces.old }
     requires nothing { traces.old.order ≡ [] }
-    ensures entered { AreEntered traces.new.marks traces.new.entered }
+    ensures entered { AreEntered traces.new.marks traces.new.entered_names }
     ensures size { length traces.new.marks ≡ length traces.old.marks }
     ensures visited { IfOk result
         (IsWalked net.now.steps.now net.now.settled.now query.now traces.new.order) }

@@ -15,14 +15,15 @@ use Rattle.piecewise.specs.Tables.{are_around, holds_x, holds_y, segments, x_at,
 use Rattle.piecewise.specs.Tables.{value_on}
 use Rattle.piecewise.specs.declared.fault.TableFault.TheVariants.{OutsideTable}
 use Rattle.std.proofs.lemmas.List.{get_or_default, get_or_read}
-use Rattle.piecewise.proofs.Neighbours.{AreNeighbours, both, between-around, compared-reverse, drop-left, drop-right}
+use Rattle.piecewise.proofs.Neighbours.{AreNeighbours, and_both_hold, between-around, compared-reverse, drop-left}
+use Rattle.piecewise.proofs.Neighbours.{drop-right}
 
 -- the segments from the left neighbour on start with the segment of the neighbours
 pub segments-left : (points : List Point) (i : ℕ) (p q : Point) → AreNeighbours points i p q
-    → segments (drop (i - 1) points) ≡ record { left = p; right = q } ∷ segments (drop i points)
+    → segments (drop (i - 1) points) ≡ record { left_end = p; right_end = q } ∷ segments (drop i points)
 segments-left points i p q are =
     ap segments (drop-left points i p q are)
-    ∙ sym (ap (λ xs. record { left = p; right = q } ∷ segments xs) (drop-right points i p q are))
+    ∙ sym (ap (λ xs. record { left_end = p; right_end = q } ∷ segments xs) (drop-right points i p q are))
 
 -- a single point has no segment
 pub segments-last : (points : List Point) (i : ℕ) → length points ≡ i + 1 → segments (drop i points) ≡ []
@@ -38,16 +39,16 @@ pub find-y_more : (points : List Point) (i : ℕ) (p q : Point) (y : Fraction) �
     → find (holds_y y) (segments (drop (i - 1) points)) ≡ find (holds_y y) (segments (drop i points))
 find-y_more points i p q y are other =
     ap (find (holds_y y)) (segments-left points i p q are)
-    ∙ ap (λ b. cond b (Some (record { left = p; right = q })) (find (holds_y y) (segments (drop i points))))
+    ∙ ap (λ b. cond b (Some (record { left_end = p; right_end = q })) (find (holds_y y) (segments (drop i points))))
     (between-around p.1 q.1 y ∙ other)
 
 -- the search for y ends at neighbours that are around it
 pub find-y_here : (points : List Point) (i : ℕ) (p q : Point) (y : Fraction) → AreNeighbours points i p q
     → are_around (order_of p.1 y) (order_of q.1 y) ≡ true
-    → find (holds_y y) (segments (drop (i - 1) points)) ≡ Some (record { left = p; right = q })
+    → find (holds_y y) (segments (drop (i - 1) points)) ≡ Some (record { left_end = p; right_end = q })
 find-y_here points i p q y are around =
     ap (find (holds_y y)) (segments-left points i p q are)
-    ∙ ap (λ b. cond b (Some (record { left = p; right = q })) (find (holds_y y) (segments (drop i points))))
+    ∙ ap (λ b. cond b (Some (record { left_end = p; right_end = q })) (find (holds_y y) (segments (drop i points))))
     (between-around p.1 q.1 y ∙ around)
 
 -- if the second test fails, so does the conjunction
@@ -95,19 +96,19 @@ pub record AreRising (points : List Point) : Type 0 where
 
 -- the points of a table are increasing, with denominators above 0
 pub kept_rising : (points : List Point) → ArePoints points → AreRising points
-kept_rising points are = record { rise = (both _ (rises points) are.table).1; denominators = are.denominators }
+kept_rising points are = record { rise = (and_both_hold _ (rises points) are.table).1; denominators = are.denominators }
 
 -- if points are increasing, so are those after the first one
 rising-tail : (p : Point) (points : List Point) → AreRising (p ∷ points) → AreRising points
 unfolding rises
 rising-tail p [] are = record { rise = refl; denominators = All-tail IsKnown p [] are.denominators }
 rising-tail p (q ∷ points) are =
-    record { rise = (both _ _ are.rise).1; denominators = All-tail IsKnown p (q ∷ points) are.denominators }
+    record { rise = (and_both_hold _ _ are.rise).1; denominators = All-tail IsKnown p (q ∷ points) are.denominators }
 
 -- if points are increasing, the first is less than the second
 rising-next : (p q : Point) (points : List Point) → AreRising (p ∷ q ∷ points) → order_of p.0 q.0 ≡ Less
 unfolding rises
-rising-next p q points are = less_is _ (both _ _ are.rise).0
+rising-next p q points are = less_is _ (and_both_hold _ _ are.rise).0
 
 -- if points are increasing, the first is less than each other one
 rising-first : OrderLaw → (p : Point) (points : List Point) → AreRising (p ∷ points) → (j : ℕ) (d : Point)
@@ -153,7 +154,7 @@ find-x_before law x some p (q ∷ points) are h =
     let next =
     law.1 x p.0 q.0 some (All-head IsKnown p (q ∷ points) are.denominators)
     (All-head IsKnown q points rest.denominators) h (rising-next p q points are) in
-    ap (λ b. cond (b && is_le (order_of x q.0)) (Some (record { left = p; right = q }))
+    ap (λ b. cond (b && is_le (order_of x q.0)) (Some (record { left_end = p; right_end = q }))
     (find (holds_x x) (segments (q ∷ points)))) low
     ∙ find-x_before law x some q points rest next
 
@@ -161,7 +162,7 @@ find-x_before law x some p (q ∷ points) are h =
 find-x_more : (x : Fraction) (p q : Point) (points : List Point) → is_left x q ≡ true
     → find (holds_x x) (segments (p ∷ q ∷ points)) ≡ find (holds_x x) (segments (q ∷ points))
 find-x_more x p q points left =
-    ap (λ b. cond b (Some (record { left = p; right = q })) (find (holds_x x) (segments (q ∷ points))))
+    ap (λ b. cond b (Some (record { left_end = p; right_end = q })) (find (holds_x x) (segments (q ∷ points))))
     (and-false (is_le (order_of p.0 x)) (is_le (order_of x q.0)) (le-less x q.0 false left))
 
 -- if all x but the first are less than a number, no segment contains it
@@ -183,13 +184,14 @@ record IsFirst (x : Fraction) (d : Point) (points : List Point) (r : ℕ) : Type
 
 -- the search finds the segment of the points at r and r + 1 if it is the first that contains x
 find-x_here : (x : Fraction) (d : Point) (points : List Point) (r : ℕ) → IsFirst x d points r
-    → find (holds_x x) (segments points) ≡ Some (record { left = get_or points r d; right = get_or points (suc r) d })
+    → find (holds_x x) (segments points) ≡ Some
+    (record { left_end = get_or points r d; right_end = get_or points (suc r) d })
 find-x_here x d [] r is = let h = is.within in absurd (omega arith)
 find-x_here x d (p ∷ []) r is = let h = is.within in absurd (omega arith)
 find-x_here x d (p ∷ q ∷ points) zero is =
-    ap (λ b. cond (b && is_le (order_of x q.0)) (Some (record { left = p; right = q }))
+    ap (λ b. cond (b && is_le (order_of x q.0)) (Some (record { left_end = p; right_end = q }))
     (find (holds_x x) (segments (q ∷ points)))) (le-less p.0 x true is.low)
-    ∙ ap (λ b. cond b (Some (record { left = p; right = q })) (find (holds_x x) (segments (q ∷ points))))
+    ∙ ap (λ b. cond b (Some (record { left_end = p; right_end = q })) (find (holds_x x) (segments (q ∷ points))))
     (le-less x q.0 true is.high)
 find-x_here x d (p ∷ q ∷ points) (suc r) is =
     let h = is.within in
@@ -244,7 +246,7 @@ pub y_at-here : (x : Fraction) (points : List Point) (count place : ℕ) (left r
     → IsPlace x points count place
     → AreNeighbours points place left right
     → is_lt (order_of x left.0) ≡ false → y_at points x ≡ number_or_fault
-    (y_on x (record { left = left; right = right }))
+    (y_on x (record { left_end = left; right_end = right }))
 unfolding y_at
 y_at-here x points count place left right is are low =
     let shift : suc (place - 1) ≡ place = shifted place are.some in
@@ -260,8 +262,8 @@ y_at-here x points count place left right is are low =
           ∙ is.parted.1 place right (omega arith) (omega arith);
     }) in
     ap (value_on (y_on x))
-    (found ∙ ap (λ p. Some (record { left = p; right = get_or points (suc (place - 1)) right })) (sym left_is)
-    ∙ ap (λ p. Some (record { left = left; right = p })) (sym right_is))
+    (found ∙ ap (λ p. Some (record { left_end = p; right_end = get_or points (suc (place - 1)) right })) (sym left_is)
+    ∙ ap (λ p. Some (record { left_end = left; right_end = p })) (sym right_is))
   where
     shifted : (place : ℕ) → 0 < place → suc (place - 1) ≡ place
     shifted place h = omega arith
@@ -306,7 +308,7 @@ x_at-more points y i before after right is some within right_is after_is other =
 pub x_at-here : (points : List Point) (y : Fraction) (i : ℕ) (before after : Ordering) (left right : Point)
     → IsSearched points y i before → AreNeighbours points i left right
     → after ≡ order_of right.1 y → are_around before after ≡ true
-    → x_at points y ≡ number_or_fault (x_on y (record { left = left; right = right }))
+    → x_at points y ≡ number_or_fault (x_on y (record { left_end = left; right_end = right }))
 unfolding x_at
 x_at-here points y i before after left right is are after_is around =
     let same : are_around before after ≡ are_around (order_of left.1 y) (order_of right.1 y) =

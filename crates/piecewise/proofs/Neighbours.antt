@@ -15,9 +15,9 @@ use Rattle.piecewise.specs.Points.{is_table, rises}
 use Rattle.piecewise.specs.Tables.{are_around, is_from_to}
 
 -- if a conjunction holds, so do both of its tests
-pub both : (a b : Bool) → IsTrue (a && b) → IsTrue a × IsTrue b
-both true b h = (refl, h)
-both false b h = absurd (cc)
+pub and_both_hold : (a b : Bool) → IsTrue (a && b) → IsTrue a × IsTrue b
+and_both_hold true b h = (refl, h)
+and_both_hold false b h = absurd (cc)
 
 -- p and q are the points at the indices i - 1 and i
 pub record AreNeighbours (points : List Point) (i : ℕ) (p q : Point) : Type 0 where
@@ -114,7 +114,8 @@ between-around a b y = rw (compared-reverse y b, compared-reverse y a) (by_order
 -- a table has two points or more
 pub table_many : (points : List Point) → IsTrue (is_table points) → 2 ≤ length points
 table_many points h =
-    least (length points) (both (nat_le 2 (length points)) (nat_le (length points) 1000) (both _ (rises points) h).0).0
+    least (length points)
+    (and_both_hold (nat_le 2 (length points)) (nat_le (length points) 1000) (and_both_hold _ (rises points) h).0).0
   where
     least : (n : ℕ) → nat_le 2 n ≡ true → 2 ≤ n
     least n e = grind (arith, nat_tests)

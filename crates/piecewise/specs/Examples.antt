@@ -35,13 +35,13 @@ pub record TableExamples : Type 0 where
   pub gauge_rises : is_table gauge ≡ true
   pub one_point : is_table ((whole (pos 1), whole (pos 1)) ∷ []) ≡ false
   pub same_x : is_table ((whole (pos 1), whole (pos 1)) ∷ (whole (pos 1), whole (pos 2)) ∷ []) ≡ false
-  pub between : y_at gauge (whole (pos 12)) ≡ Ok (table_quotient 7 250)
+  pub between_points : y_at gauge (whole (pos 12)) ≡ Ok (table_quotient 7 250)
   pub between_back : x_at gauge (table_quotient 7 250) ≡ Ok (whole (pos 12))
   pub first_end : y_at gauge (whole (pos 1)) ≡ Ok (table_quotient 1 500)
   pub last_end : y_at gauge (whole (pos 23)) ≡ Ok (table_quotient 1 10)
   pub inner_point : y_at gauge (whole (pos 10)) ≡ Ok (table_quotient 1 50)
-  pub above : y_at gauge (whole (pos 24)) ≡ Err OutsideTable
-  pub below : y_at gauge (table_quotient 1 2) ≡ Err OutsideTable
+  pub above_points : y_at gauge (whole (pos 24)) ≡ Err OutsideTable
+  pub below_points : y_at gauge (table_quotient 1 2) ≡ Err OutsideTable
   pub above_back : x_at gauge (table_quotient 11 100) ≡ Err OutsideTable
   pub flat_back : x_at falling_points (whole (pos 5)) ≡ Ok (whole (pos 1))
   pub falling_back : x_at falling_points (table_quotient 9 2) ≡ Ok (table_quotient 5 2)

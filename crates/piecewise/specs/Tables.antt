@@ -13,12 +13,12 @@ use Rattle.piecewise.specs.declared.fault.TableFault.TheVariants.{OutsideTable, 
 
 -- a segment: two neighbouring points
 pub record Segment : Type 0 where
-  pub left : Point
-  pub right : Point
+  pub left_end : Point
+  pub right_end : Point
 
 -- the segments of a table, from left to right
 abbrev pub segments : List Point → List Segment
-segments (p ∷ q ∷ points) = record { left = p; right = q } ∷ segments (q ∷ points)
+segments (p ∷ q ∷ points) = record { left_end = p; right_end = q } ∷ segments (q ∷ points)
 segments _ = []
 
 -- a is between low and high, inclusive
@@ -27,11 +27,11 @@ is_from_to low high a = is_le (order_of low a) && is_le (order_of a high)
 
 -- x is between the two x of the segment, inclusive
 abbrev pub holds_x : Fraction → Segment → Bool
-holds_x x s = is_from_to s.left.0 s.right.0 x
+holds_x x s = is_from_to s.left_end.0 s.right_end.0 x
 
 -- y is between the two y of the segment, inclusive, whichever of them is greater
 abbrev pub holds_y : Fraction → Segment → Bool
-holds_y y s = is_from_to s.left.1 s.right.1 y || is_from_to s.right.1 s.left.1 y
+holds_y y s = is_from_to s.left_end.1 s.right_end.1 y || is_from_to s.right_end.1 s.left_end.1 y
 
 -- two numbers are on opposite sides of a third, or one of them equals it, given how they compare with it
 abbrev pub are_around : Ordering → Ordering → Bool
@@ -41,14 +41,14 @@ are_around _ _ = true
 
 -- the y at x on the segment
 abbrev pub y_on : Fraction → Segment → Result Fraction FracFault
-y_on x s = on_line s.left s.right x
+y_on x s = on_line s.left_end s.right_end x
 
 -- the x at y on the segment, or the x of its left end if the segment is flat
 abbrev pub x_on : Fraction → Segment → Result Fraction FracFault
 x_on y s =
-    if is_eq (order_of s.left.1 s.right.1)
-    then Ok s.left.0
-    else on_line (swapped_point s.left) (swapped_point s.right) y
+    if is_eq (order_of s.left_end.1 s.right_end.1)
+    then Ok s.left_end.0
+    else on_line (swapped_point s.left_end) (swapped_point s.right_end) y
 
 -- the number, or the fault of the operation that failed
 abbrev pub number_or_fault : Result Fraction FracFault → Result Fraction TableFault

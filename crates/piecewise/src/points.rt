@@ -134,7 +134,7 @@ fn encloses(left: Ordering, right: Ordering) -> bool
 
 // Returns the y at x on the segment.
 fn y_on(left: &Point, right: &Point, x: &Frac) -> Result<Frac, TableFault>
-    ensures { result ≡ spec.number_or_fault (spec.y_on x.now (record { left = left.now; right = right.now })) }
+    ensures { result ≡ spec.number_or_fault (spec.y_on x.now (record { left_end = left.now; right_end = right.now })) }
 {
     let line = Line {
         x0: &left.0,
@@ -147,7 +147,7 @@ fn y_on(left: &Point, right: &Point, x: &Frac) -> Result<Frac, TableFault>
 
 // Returns the x at y on the segment, or the x of its left end if it is flat.
 fn x_on(left: &Point, right: &Point, y: &Frac) -> Result<Frac, TableFault>
-    ensures { result ≡ spec.number_or_fault (spec.x_on y.now (record { left = left.now; right = right.now })) }
+    ensures { result ≡ spec.number_or_fault (spec.x_on y.now (record { left_end = left.now; right_end = right.now })) }
 {
     if left.1.cmp(&right.1).is_eq() {
         return Ok(left.0);

@@ -58,7 +58,7 @@ right_alone factor ps os es all none copied =
 
 -- an empty list of powers is in order
 pub no_order : AreInOrder []
-no_order = record { sorted = tt; kept = All-from_recursion IsPower [] tt }
+no_order = record { sorted_powers = tt; powers_right = All-from_recursion IsPower [] tt }
 
 -- multiplying or dividing by a number does not change the exponents
 pub with_number : ReducedLaw → (factor : Factor) (p : Exponents) (ps : Powers) → AreInOrder ps → exponents_in ps ≡ p
@@ -67,7 +67,7 @@ with_number law factor p ps order is =
     let left = list_of ps ps p order is refl in
     let right = list_of [] [] map_of.empty no_order no_power refl in
     sym (product_ok law factor p map_of.empty ps [] ps left right
-    (left_alone (exponent_in factor) ps [] order.kept refl)) ∙ ap Some is
+    (left_alone (exponent_in factor) ps [] order.powers_right refl)) ∙ ap Some is
 
 -- multiplying a number by a factor gives the exponents of the factor
 pub number_with : ReducedLaw → (o : Exponents) (os : Powers) → AreInOrder os → exponents_in os ≡ o
@@ -76,7 +76,7 @@ number_with law o os order is =
     let left = list_of [] [] map_of.empty no_order no_power refl in
     let right = list_of os os o order is refl in
     sym (product_ok law Plain map_of.empty o [] os os left right
-    (right_alone Plain [] os os order.kept refl (sym (taken_plain os)))) ∙ ap Some is
+    (right_alone Plain [] os os order.powers_right refl (sym (taken_plain os)))) ∙ ap Some is
 
 -- a map without names is empty
 pub no_names : (p : Exponents) → IsTrue (map_of.len p == 0) → p ≡ map_of.empty

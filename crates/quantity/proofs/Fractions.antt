@@ -21,11 +21,11 @@ kept e = cond (is_zero e) None (Some e)
 
 -- the exponent of an absent name is in lowest terms
 pub nothing_reduced : IsReduced nothing
-nothing_reduced = record { positive = omega arith; lowest = (dvd-zero 1, dvd_refl 1, λ d p q. q) }
+nothing_reduced = record { den_positive = omega arith; coprime = (dvd-zero 1, dvd_refl 1, λ d p q. q) }
 
 -- each whole number is in lowest terms
 pub whole_reduced : (n : ℤ) → IsReduced (whole n)
-whole_reduced n = record { positive = omega arith; lowest = (one-dvd (unsigned_abs n), dvd_refl 1, λ d p q. q) }
+whole_reduced n = record { den_positive = omega arith; coprime = (one-dvd (unsigned_abs n), dvd_refl 1, λ d p q. q) }
 
 -- negating a number preserves its magnitude
 pub abs-neg : (n : ℤ) → unsigned_abs (neg_ℤ n) ≡ unsigned_abs n
@@ -36,7 +36,7 @@ abs-neg (negsuc n) = refl
 -- negating a fraction preserves lowest terms
 pub negated_reduced : (e : Fraction) → IsReduced e → IsReduced (negative_of e)
 negated_reduced e is =
-    record { positive = is.positive; lowest = subst (λ n. IsGcd n e.den 1) (sym (abs-neg e.num)) is.lowest }
+    record { den_positive = is.den_positive; coprime = subst (λ n. IsGcd n e.den 1) (sym (abs-neg e.num)) is.coprime }
 
 -- negating an exponent preserves whether it is 0
 pub negated_zero : (e : Fraction) → is_zero (negative_of e) ≡ is_zero e
@@ -44,7 +44,7 @@ negated_zero e = ap (λ n. n == 0) (abs-neg e.num)
 
 -- a reduced fraction that is 0 is the exponent of an absent name
 pub zero_is : (e : Fraction) → IsReduced e → is_zero e ≡ true → e ≡ nothing
-zero_is e is none = go e.num e.den is.lowest none
+zero_is e is none = go e.num e.den is.coprime none
   where
     den_one : (d : ℕ) → IsGcd 0 d 1 → d ≡ 1
     den_one d h = dvd_antisymm (h.2 d (dvd-zero d) (dvd_refl d)) (one-dvd d)
@@ -85,7 +85,7 @@ module _ (law : ReducedLaw) where
       ap (λ z. (a.num *ℤ pos 1) +ℤ z) (zero-*ℤ (pos a.den)) ∙ +ℤ_idr _ ∙ *ℤ-one a.num in
       let den : a.den * 1 ≡ a.den = omega arith in
       ap (λ z. lowest_terms z (a.den * 1)) num ∙ ap (lowest_terms a.num) den
-      ∙ sym ((law a.num a.den is.positive).2 a is refl)
+      ∙ sym ((law a.num a.den is.den_positive).2 a is refl)
 
   pub sum_right : (b : Fraction) → IsReduced b → exponent_sum nothing b ≡ b
   unfolding one
@@ -94,7 +94,7 @@ module _ (law : ReducedLaw) where
       ap (λ z. z +ℤ (b.num *ℤ pos 1)) (zero-*ℤ (pos b.den)) ∙ +ℤ_idl _ ∙ *ℤ-one b.num in
       let den : 1 * b.den ≡ b.den = omega arith in
       ap (λ z. lowest_terms z (1 * b.den)) num ∙ ap (lowest_terms b.num) den
-      ∙ sym ((law b.num b.den is.positive).2 b is refl)
+      ∙ sym ((law b.num b.den is.den_positive).2 b is refl)
 
   -- a whole number over 1 reduces to that whole number
   pub whole_is : (n : ℤ) → lowest_terms n 1 ≡ whole n

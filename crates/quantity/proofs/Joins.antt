@@ -21,7 +21,7 @@ use Rattle.quantity.proofs.OrderedPowers.{at, found_exponent, found_fault, kept_
 use Rattle.quantity.proofs.MergedPowers.{IsStep, at-below, at-past, at_own, at_reduced, find-at, find-merged}
 use Rattle.quantity.proofs.MergedPowers.{sorted-merged}
 use Rattle.quantity.proofs.Ranges.{exponent_passes}
-use Rattle.quantity.proofs.Names.{Name, by_bytes, first, is_itself, is_name, one_or_two, same_name, second}
+use Rattle.quantity.proofs.Names.{Name, and_first, by_bytes, is_itself, is_name, one_or_two, same_name, second}
 use Rattle.quantity.proofs.Single.{IsListOf, list_of}
 use Rattle.quantity.proofs.Steps.{factor_step, product_order}
 
@@ -43,18 +43,19 @@ turned_name x y other = elim (one_or_two y x) [
 
 -- the powers after the first are in order
 pub order_tail : (o : Name × Fraction) (more : Powers) → AreInOrder (o ∷ more) → AreInOrder more
-order_tail o more all = record { sorted = second _ _ all.sorted; kept = All-tail IsPower o more all.kept }
+order_tail o more all =
+    record { sorted_powers = second _ _ all.sorted_powers; powers_right = All-tail IsPower o more all.powers_right }
 
 -- a single power is in order
 pub order_alone : (o : Name × Fraction) → IsPower o → AreInOrder (alone o)
-order_alone o known = record { sorted = tt; kept = All-from_recursion IsPower (alone o) (known, tt) }
+order_alone o known = record { sorted_powers = tt; powers_right = All-from_recursion IsPower (alone o) (known, tt) }
 
 pub order_head : (o : Name × Fraction) (more : Powers) → AreInOrder (o ∷ more) → AreInOrder (alone o)
-order_head o more all = order_alone o (All-head IsPower o more all.kept)
+order_head o more all = order_alone o (All-head IsPower o more all.powers_right)
 
 -- each power of a list in order is one of the program
 each : (es : Powers) → AreInOrder es → Each IsPower es
-each es order = recursion_from_All IsPower es order.kept
+each es order = recursion_from_All IsPower es order.powers_right
 
 -- if a fraction is an exponent, the exponent is that fraction, which is in range
 pub as_some : (x v : Fraction) → Some v ≡ as_exponent x → (v ≡ x) × (is_exponent x ≡ true)
@@ -86,14 +87,15 @@ module _ (law : ReducedLaw) (factor : Factor) where
   -- the exponent of a name in a merge is in lowest terms
   total_reduced : (es os : Powers) (q : Name) → AreInOrder es → AreInOrder os → IsReduced (total es os q)
   total_reduced es os q left right =
-      sum_reduced law (at es q) (exponent_in factor (at os q)) (at_reduced es q (each es left)).positive
-      (is.reduced (at os q) (at_reduced os q (each os right))).positive
+      sum_reduced law (at es q) (exponent_in factor (at os q)) (at_reduced es q (each es left)).den_positive
+      (is.reduced (at os q) (at_reduced os q (each os right))).den_positive
 
   -- the result of a lookup in a merge
   found : (es os : Powers) (q : Name) → AreInOrder es → AreInOrder os
       → find by_bytes q (merge_of (exponent_in factor) es os) ≡ kept (total es os q)
   found es os q left right =
-      find-merged law (exponent_in factor) is es os q (each es left) (each os right) left.sorted right.sorted
+      find-merged law (exponent_in factor) is es os q (each es left) (each os right) left.sorted_powers
+      right.sorted_powers
 
   -- the exponent of a name in a merge
   at-merged : (es os : Powers) (q : Name) → AreInOrder es → AreInOrder os
@@ -115,8 +117,8 @@ module _ (law : ReducedLaw) (factor : Factor) where
       → merge_of (exponent_in factor) es os ≡ merge_of (exponent_in factor) ds ns
   same_merges es os ds ns left right left2 right2 same =
       same_entries by_bytes nat_list_cmp_total same_name _ _
-      (sorted-merged (exponent_in factor) es os left.sorted right.sorted)
-      (sorted-merged (exponent_in factor) ds ns left2.sorted right2.sorted)
+      (sorted-merged (exponent_in factor) es os left.sorted_powers right.sorted_powers)
+      (sorted-merged (exponent_in factor) ds ns left2.sorted_powers right2.sorted_powers)
       (λ q. found es os q left right ∙ ap kept (same q) ∙ sym (found ds ns q left2 right2))
 
   -- a merge in range is in order
@@ -171,7 +173,7 @@ module _ (law : ReducedLaw) (factor : Factor) where
     one_fits fits = go (are_exponents (merge_of (exponent_in factor) es (alone o))) refl
       where
         old : (q : Name) (v : Fraction) → kept (at es q) ≡ Some v → is_exponent v ≡ true
-        old q v there = found_exponent es q v (all_fit es left.kept) (find-at es q (each es left) ∙ there)
+        old q v there = found_exponent es q v (all_fit es left.powers_right) (find-at es q (each es left) ∙ there)
 
         in_range : (q : Name) (v : Fraction)
             → find by_bytes q (merge_of (exponent_in factor) es (alone o)) ≡ Some v → is_exponent v ≡ true
@@ -188,7 +190,7 @@ module _ (law : ReducedLaw) (factor : Factor) where
         go true all = refl
         go false some =
             let fault = found_fault (merge_of (exponent_in factor) es (alone o))
-            (sorted-merged (exponent_in factor) es (alone o) left.sorted right.sorted) some in
+            (sorted-merged (exponent_in factor) es (alone o) left.sorted_powers right.sorted_powers) some in
             let fits = in_range fault.0 fault.1 fault.2 in
             let fails = fault.3 in
             absurd (cc)
@@ -203,7 +205,7 @@ module _ (law : ReducedLaw) (factor : Factor) where
         → new ≡ merge_of (exponent_in factor) es (alone o)
     one_joined new v sorted updated value =
         same_entries by_bytes nat_list_cmp_total same_name new _ sorted
-        (sorted-merged (exponent_in factor) es (alone o) left.sorted right.sorted)
+        (sorted-merged (exponent_in factor) es (alone o) left.sorted_powers right.sorted_powers)
         (λ q. updated q ∙ go q ∙ sym (found es (alone o) q left right))
       where
         go : (q : Name) → cond (is_name o.0 q) v (find by_bytes q es) ≡ kept (total es (alone o) q)
@@ -218,13 +220,13 @@ module _ (law : ReducedLaw) (factor : Factor) where
     -- ---- the new exponent of the name
 
     power : IsPower o
-    power = All-head IsPower o [] right.kept
+    power = All-head IsPower o [] right.powers_right
 
     -- the new exponent of an absent name is that of the factor
     new_sum : find by_bytes o.0 es ≡ None → sum ≡ exponent_in factor o.1
     new_sum none =
         ap (λ v. exponent_sum (unwrap_or v nothing) (exponent_in factor o.1)) none
-        ∙ sum_right law (exponent_in factor o.1) (is.reduced o.1 power.exponent.reduced)
+        ∙ sum_right law (exponent_in factor o.1) (is.reduced o.1 power.exponent.exponent_reduced)
 
     -- the new exponent of a name that is present is the sum
     old_sum : (e x : Fraction) → find by_bytes o.0 es ≡ Some e → x ≡ exponent_in factor o.1 → sum ≡ exponent_sum e x
@@ -239,7 +241,7 @@ module _ (law : ReducedLaw) (factor : Factor) where
         × IsTrue (are_exponents (merge_of (exponent_in factor) es (alone o)))
     joined_new new x taken none sorted updated =
         let same : sum ≡ exponent_in factor o.1 = new_sum none in
-        let some : is_zero sum ≡ false = ap is_zero same ∙ is.zero o.1 ∙ power.some in
+        let some : is_zero sum ≡ false = ap is_zero same ∙ is.zero o.1 ∙ power.not_zero in
         let fits : is_exponent sum ≡ true = ap is_exponent same ∙ is.fits o.1 ∙ exponent_passes o.1 power.exponent in
         (one_joined new (Some x) sorted updated (sym (some_kept sum some ∙ ap Some (same ∙ sym taken))), one_fits fits)
 
@@ -290,7 +292,8 @@ module _ (law : ReducedLaw) (factor : Factor) where
         totals q = elim (one_or_two q o.0) [
           | inl same ↦ total_left (merge_of (exponent_in factor) es (alone o)) more q
               (merged_order es (alone o) left right fits)
-              (at-below q more (subst (λ n. T (below_all by_bytes n more)) (sym same) (first _ _ all.sorted)))
+              (at-below q more (subst (λ n. T (below_all by_bytes n more)) (sym same)
+              (and_first _ _ all.sorted_powers)))
               ∙ at-merged es (alone o) q left right ∙ total_own q same
               ∙ sym (ap₂ (λ n e. exponent_sum (at es n) (exponent_in factor e)) same (at_own q o.0 o.1 more same))
           | inr other ↦ ap₂ (λ a b. exponent_sum a (exponent_in factor b))
@@ -325,7 +328,7 @@ pub joining_end : (factor : Factor) (ps os es rest : Powers) → IsJoining facto
 joining_end factor ps os es rest is none =
     let all : es ≡ merge_of (exponent_in factor) ps os =
     sym (merged_nothing (exponent_in factor) es) ∙ ap (merge_of (exponent_in factor) es) (sym none) ∙ is.done in
-    (all, sym (ap are_exponents all) ∙ all_fit es is.left.kept)
+    (all, sym (ap are_exponents all) ∙ all_fit es is.left.powers_right)
 
 -- one more power is merged
 pub joining_next : ReducedLaw → (factor : Factor) (ps os es rest new more : Powers) (o : Name × Fraction)
@@ -348,7 +351,7 @@ joining_next law factor ps os es rest new more o is parts joined =
 pub joining_power : (factor : Factor) (ps os es rest more : Powers) (o : Name × Fraction)
     → IsJoining factor ps os es rest → rest ≡ o ∷ more → IsPower o
 joining_power factor ps os es rest more o is parts =
-    All-head IsPower o more (subst (All IsPower) parts is.right.kept)
+    All-head IsPower o more (subst (All IsPower) parts is.right.powers_right)
 
 -- a fault of one power is a fault of the whole merge
 pub joining_fault : ReducedLaw → (factor : Factor) (ps os es rest more : Powers) (o : Name × Fraction)
@@ -370,4 +373,4 @@ handed_over part all OutOfMemory h show = tt
 pub no_fault : (ps part all : Powers) → AreInOrder ps → part ≡ ps → IsFalse (are_exponents part)
     → IsFalse (are_exponents all)
 no_fault ps part all order same fails =
-    let fits : are_exponents part ≡ true = ap are_exponents same ∙ all_fit ps order.kept in absurd (cc)
+    let fits : are_exponents part ≡ true = ap are_exponents same ∙ all_fit ps order.powers_right in absurd (cc)

@@ -5,7 +5,7 @@ use Rattle.std.specs.FinMap.Entries.{find}
 use lib.Dec.{eqb}
 use Rattle.frac128.specs.Fraction.{Fraction}
 use Rattle.quantity.specs.Merges.{Powers}
-use Rattle.quantity.proofs.OrderedPowers.{past}
+use Rattle.quantity.proofs.OrderedPowers.{find_past_power}
 use Rattle.quantity.proofs.MergedPowers.{here_own}
 use Rattle.quantity.proofs.Names.{Name, by_bytes, is_name, one_or_two}
 
@@ -19,7 +19,7 @@ found_first q o rest more parts same =
 pub passed_first : (q : Name) (o : Name × Fraction) (rest more : Powers) → rest ≡ o ∷ more
     → false ≡ pointwise eqb q o.0 → find by_bytes q more ≡ find by_bytes q rest
 passed_first q o rest more parts other =
-    sym (ap (find by_bytes q) parts ∙ past q o.0 o.1 more (apart (one_or_two q o.0)))
+    sym (ap (find by_bytes q) parts ∙ find_past_power q o.0 o.1 more (apart (one_or_two q o.0)))
   where
     apart : (q ≡ o.0) ⊎ (is_name q o.0 ≡ false) → is_name q o.0 ≡ false
     apart (inl same) = let e = (bytes_decides q o.0).1 same in absurd (cc)

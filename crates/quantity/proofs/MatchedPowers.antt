@@ -11,7 +11,7 @@ use Rattle.std.specs.Ordering.{int_eq}
 use Rattle.std.proofs.lemmas.Bool.Decides.{Decides-int_eq, nat_tests}
 use Rattle.std.proofs.lemmas.List.Elements.{recursion_from_All}
 use Rattle.frac128.specs.Fraction.{Fraction, negative_of}
-use Rattle.quantity.specs.Amount.{ConformLaw, conform, matches, same}
+use Rattle.quantity.specs.Amount.{ConformLaw, conform, matches, same_fraction}
 use Rattle.quantity.specs.Exponents.{AreExponents, Exponents, IsPower, SameExponentsLaw, exponent_of}
 use Rattle.quantity.specs.Merges.{Powers, power_by}
 use Rattle.quantity.proofs.Fractions.{kept, negated_zero, nothing, some_kept}
@@ -28,14 +28,14 @@ num_is : (m n : ℕ) → (m == n) ≡ true → m ≡ n
 num_is m n h = grind (arith, nat_tests)
 
 -- fractions for which the equality test is true are equal
-same_is : (x y : Fraction) → same x y ≡ true → x ≡ y
+same_is : (x y : Fraction) → same_fraction x y ≡ true → x ≡ y
 same_is x y h =
     let num : x.num ≡ y.num = (Decides-int_eq x.num y.num).0 (first_so _ _ h) in
     let den : x.den ≡ y.den = num_is x.den y.den (second_so (int_eq x.num y.num) _ h) in
     ap (λ n. record { num = n; den = x.den }) num ∙ ap (λ d. record { num = y.num; den = d }) den
 
 -- the equality test is true for a fraction and itself
-same_self : (x : Fraction) → same x x ≡ true
+same_self : (x : Fraction) → same_fraction x x ≡ true
 same_self x = ap (λ b. b && (x.den == x.den)) ((Decides-int_eq x.num x.num).1 refl) ∙ num_self x.den
 
 -- the equality test is true for a name and itself
@@ -59,7 +59,7 @@ matches_is (e ∷ es) (f ∷ fs) h =
     let front = first_so _ _ h in
     let name : e.0 ≡ f.0 = (bytes_decides e.0 f.0).0 (first_so _ _ front) in
     let value : e.1 ≡ f.1 = same_is e.1 f.1 (second_so (pointwise nat_eq e.0 f.0) _ front) in
-    let rest : es ≡ fs = matches_is es fs (second_so (pointwise nat_eq e.0 f.0 && same e.1 f.1) _ h) in
+    let rest : es ≡ fs = matches_is es fs (second_so (pointwise nat_eq e.0 f.0 && same_fraction e.1 f.1) _ h) in
     ap₂ (λ n v. (n, v) ∷ es) name value ∙ ap (λ ds. f ∷ ds) rest
 
 -- the lists of two maps match if and only if the maps are equal
@@ -80,7 +80,7 @@ opposite_at (p ∷ ps) (o ∷ os) q h =
     let front = first_so _ _ h in
     let name : p.0 ≡ o.0 = (bytes_decides p.0 o.0).0 (first_so _ _ front) in
     let value : p.1 ≡ negative_of o.1 = same_is p.1 (negative_of o.1) (second_so (pointwise nat_eq p.0 o.0) _ front) in
-    let rest = opposite_at ps os q (second_so (pointwise nat_eq p.0 o.0 && same p.1 (negative_of o.1)) _ h) in
+    let rest = opposite_at ps os q (second_so (pointwise nat_eq p.0 o.0 && same_fraction p.1 (negative_of o.1)) _ h) in
     subst (λ n. at (p ∷ ps) q ≡ negative_of (unwrap_or (cond (is_name q n) (Some o.1) (find by_bytes q os)) nothing))
     name
     (go (is_name q p.0) value rest)
@@ -100,7 +100,7 @@ find-negated (o ∷ os) q all = go (is_name q o.0) (find-negated os q all.1)
     go : (b : Bool) → find by_bytes q (map (power_by negative_of) os) ≡ kept (negative_of (at os q))
         → cond b (Some (negative_of o.1)) (find by_bytes q (map (power_by negative_of) os))
         ≡ kept (negative_of (unwrap_or (cond b (Some o.1) (find by_bytes q os)) nothing))
-    go true rest = sym (some_kept (negative_of o.1) (negated_zero o.1 ∙ all.0.some))
+    go true rest = sym (some_kept (negative_of o.1) (negated_zero o.1 ∙ all.0.not_zero))
     go false rest = rest
 
 -- negated powers match with opposite signs

@@ -12,8 +12,9 @@ use Rattle.frac128.specs.Sign.{is_zero}
 use Rattle.quantity.specs.Exponents.{IsPower, exponent_sum, is_exponent}
 use Rattle.quantity.specs.Merges.{Powers, merge_of, merged_into, put_some, power_by}
 use Rattle.quantity.proofs.Fractions.{kept, nothing, nothing_reduced, some_kept, sum_left, sum_right}
-use Rattle.quantity.proofs.OrderedPowers.{at, here, past}
-use Rattle.quantity.proofs.Names.{Name, below_less, both, by_bytes, find_below, first, is_less, is_name, one_or_two}
+use Rattle.quantity.proofs.OrderedPowers.{at, find_first_power, find_past_power}
+use Rattle.quantity.proofs.Names.{Name, and_first, and_from_both, below_less, by_bytes, find_below, is_less, is_name}
+use Rattle.quantity.proofs.Names.{one_or_two}
 use Rattle.quantity.proofs.Names.{same_name, second, turned}
 
 -- the properties of a step that takes the exponents of the second list
@@ -29,7 +30,7 @@ pub record IsStep (step : Fraction → Fraction) : Type 0 where
 below-map : (step : Fraction → Fraction) (x : Name) (os : Powers) → T (below_all by_bytes x os)
     → T (below_all by_bytes x (map (power_by step) os))
 below-map step x [] h = tt
-below-map step x (o ∷ os) h = both _ _ (first _ _ h) (below-map step x os (second _ _ h))
+below-map step x (o ∷ os) h = and_from_both _ _ (and_first _ _ h) (below-map step x os (second _ _ h))
 
 -- a name below a power and below all others is below the list with that power in front
 pub below-put : (x : Name) (p : Name × Fraction) (es : Powers) → T (is_lt (by_bytes x p.0))
@@ -39,22 +40,22 @@ below-put x p es h g = go (is_zero p.1)
   where
     go : (z : Bool) → T (below_all by_bytes x (cond z es (p ∷ es)))
     go true = g
-    go false = both _ _ h g
+    go false = and_from_both _ _ h g
 
 -- a name below all powers is below the merge with one power in front
 below-into : (step : Fraction → Fraction) (x : Name) (p : Name × Fraction) (rest : Powers → Powers) (os : Powers)
     → ((os : Powers) → T (below_all by_bytes x os) → T (below_all by_bytes x (rest os)))
     → T (is_lt (by_bytes x p.0)) → T (below_all by_bytes x os) → T (below_all by_bytes x (merged_into step p rest os))
-below-into step x p rest [] below h g = both _ _ h (below [] tt)
+below-into step x p rest [] below h g = and_from_both _ _ h (below [] tt)
 below-into step x p rest (o ∷ os) below h g =
     let more = below-into step x p rest os below h (second _ _ g) in
     elim (by_bytes p.0 o.0) as
     (λ r. T (below_all by_bytes x
     (match_ordering r (p ∷ rest (o ∷ os)) (put_some (p.0, exponent_sum p.1 (step o.1)) (rest os))
     (power_by step o ∷ merged_into step p rest os)))) [
-      | Less ↦ both _ _ h (below (o ∷ os) g)
+      | Less ↦ and_from_both _ _ h (below (o ∷ os) g)
       | Equal ↦ below-put x (p.0, exponent_sum p.1 (step o.1)) (rest os) h (below os (second _ _ g))
-      | Greater ↦ both _ _ (first _ _ g) more
+      | Greater ↦ and_from_both _ _ (and_first _ _ g) more
     ]
 
 -- a name below all powers of two lists is below their merge
@@ -62,13 +63,14 @@ below-merged : (step : Fraction → Fraction) (x : Name) (ps os : Powers) → T 
     → T (below_all by_bytes x os) → T (below_all by_bytes x (merge_of step ps os))
 below-merged step x [] os h g = below-map step x os g
 below-merged step x (p ∷ ps) os h g =
-    below-into step x p (merge_of step ps) os (λ os g. below-merged step x ps os (second _ _ h) g) (first _ _ h) g
+    below-into step x p (merge_of step ps) os (λ os g. below-merged step x ps os (second _ _ h) g) (and_first _ _ h) g
 
 -- a step preserves the order of sorted powers
 pub sorted-map : (step : Fraction → Fraction) (os : Powers) → T (is_sorted by_bytes os)
     → T (is_sorted by_bytes (map (power_by step) os))
 sorted-map step [] h = tt
-sorted-map step (o ∷ os) h = both _ _ (below-map step o.0 os (first _ _ h)) (sorted-map step os (second _ _ h))
+sorted-map step (o ∷ os) h = and_from_both _ _ (below-map step o.0 os (and_first _ _ h))
+    (sorted-map step os (second _ _ h))
 
 -- putting a lower power in front preserves the order of sorted powers
 pub sorted-put : (p : Name × Fraction) (es : Powers) → T (below_all by_bytes p.0 es) → T (is_sorted by_bytes es)
@@ -77,13 +79,13 @@ sorted-put p es h g = go (is_zero p.1)
   where
     go : (z : Bool) → T (is_sorted by_bytes (cond z es (p ∷ es)))
     go true = g
-    go false = both _ _ h g
+    go false = and_from_both _ _ h g
 
 -- merging sorted powers with a lower one in front gives sorted powers
 sorted-into : (step : Fraction → Fraction) (p : Name × Fraction) (ps os : Powers)
     → ((os : Powers) → T (is_sorted by_bytes os) → T (is_sorted by_bytes (merge_of step ps os)))
     → T (below_all by_bytes p.0 ps) → T (is_sorted by_bytes os) → T (is_sorted by_bytes (merge_of step (p ∷ ps) os))
-sorted-into step p ps [] rest h g = both _ _ (below-merged step p.0 ps [] h tt) (rest [] tt)
+sorted-into step p ps [] rest h g = and_from_both _ _ (below-merged step p.0 ps [] h tt) (rest [] tt)
 sorted-into step p ps (o ∷ os) rest h g =
     let more = sorted-into step p ps os rest h (second _ _ g) in
     elim (by_bytes p.0 o.0) as
@@ -91,16 +93,18 @@ sorted-into step p ps (o ∷ os) rest h g =
     → T (is_sorted by_bytes
     (match_ordering r (p ∷ merge_of step ps (o ∷ os))
     (put_some (p.0, exponent_sum p.1 (step o.1)) (merge_of step ps os)) (power_by step o ∷ merge_of step (p ∷ ps) os)))) [
-      | Less ↦ λ e. both _ _
-          (below-merged step p.0 ps (o ∷ os) h (both _ _ (is_less p.0 o.0 e) (below_less p.0 o.0 os e (first _ _ g))))
+      | Less ↦ λ e. and_from_both _ _
+          (below-merged step p.0 ps (o ∷ os) h
+          (and_from_both _ _ (is_less p.0 o.0 e) (below_less p.0 o.0 os e (and_first _ _ g))))
           (rest (o ∷ os) g)
       | Equal ↦ λ e. sorted-put (p.0, exponent_sum p.1 (step o.1)) (merge_of step ps os)
           (below-merged step p.0 ps os h
-          (subst (λ n. T (below_all by_bytes n os)) (sym (same_name p.0 o.0 e)) (first _ _ g)))
+          (subst (λ n. T (below_all by_bytes n os)) (sym (same_name p.0 o.0 e)) (and_first _ _ g)))
           (rest os (second _ _ g))
-      | Greater ↦ λ e. both _ _
+      | Greater ↦ λ e. and_from_both _ _
           (below-merged step o.0 (p ∷ ps) os
-          (both _ _ (is_less o.0 p.0 (turned p.0 o.0 e)) (below_less o.0 p.0 ps (turned p.0 o.0 e) h)) (first _ _ g))
+          (and_from_both _ _ (is_less o.0 p.0 (turned p.0 o.0 e)) (below_less o.0 p.0 ps (turned p.0 o.0 e) h))
+          (and_first _ _ g))
           more
     ] refl
 
@@ -110,13 +114,13 @@ pub sorted-merged : (step : Fraction → Fraction) (ps os : Powers) → T (is_so
     → T (is_sorted by_bytes (merge_of step ps os))
 sorted-merged step [] os h g = sorted-map step os g
 sorted-merged step (p ∷ ps) os h g =
-    sorted-into step p ps os (λ os g. sorted-merged step ps os (second _ _ h) g) (first _ _ h) g
+    sorted-into step p ps os (λ os g. sorted-merged step ps os (second _ _ h) g) (and_first _ _ h) g
 
 -- ---- each name has the sum of its exponents
 
 -- a power with another name does not change the exponent of a name
 pub at-past : (q n : Name) (v : Fraction) (es : Powers) → is_name q n ≡ false → at ((n, v) ∷ es) q ≡ at es q
-at-past q n v es other = ap (λ o. unwrap_or o nothing) (past q n v es other)
+at-past q n v es other = ap (λ o. unwrap_or o nothing) (find_past_power q n v es other)
 
 -- a name below all powers has the exponent 0
 pub at-below : (q : Name) (es : Powers) → T (below_all by_bytes q es) → at es q ≡ nothing
@@ -127,7 +131,7 @@ pub at_reduced : (es : Powers) (q : Name) → Each IsPower es → IsReduced (at 
 at_reduced [] q all = nothing_reduced
 at_reduced (e ∷ es) q all =
     elim (is_name q e.0) as (λ b. IsReduced (unwrap_or (cond b (Some e.1) (find by_bytes q es)) nothing)) [
-      | true ↦ all.0.exponent.reduced
+      | true ↦ all.0.exponent.exponent_reduced
       | false ↦ at_reduced es q all.1
     ]
 
@@ -137,13 +141,13 @@ find-at [] q all = refl
 find-at (e ∷ es) q all =
     elim (is_name q e.0) as
     (λ b. cond b (Some e.1) (find by_bytes q es) ≡ kept (unwrap_or (cond b (Some e.1) (find by_bytes q es)) nothing)) [
-      | true ↦ sym (some_kept e.1 all.0.some)
+      | true ↦ sym (some_kept e.1 all.0.not_zero)
       | false ↦ find-at es q all.1
     ]
 
 -- a lookup finds the name of the first power
 pub here_own : (q n : Name) (v : Fraction) (es : Powers) → q ≡ n → find by_bytes q ((n, v) ∷ es) ≡ Some v
-here_own q n v es same = subst (λ m. find by_bytes q ((m, v) ∷ es) ≡ Some v) same (here q v es)
+here_own q n v es same = subst (λ m. find by_bytes q ((m, v) ∷ es) ≡ Some v) same (find_first_power q v es)
 
 -- the exponent of the name of the first power is that of the power
 pub at_own : (q n : Name) (v : Fraction) (es : Powers) → q ≡ n → at ((n, v) ∷ es) q ≡ v
@@ -185,8 +189,9 @@ module _ (law : ReducedLaw) (step : Fraction → Fraction) (is : IsStep step) wh
       let rest = find-map os q all.1 in
       elim (one_or_two q o.0) [
         | inl same ↦ here_own q o.0 (step o.1) (map (power_by step) os) same
-            ∙ right_alone [] (o ∷ os) q o.1 all.0.exponent.reduced all.0.some refl (at_own q o.0 o.1 os same)
-        | inr other ↦ past q o.0 (step o.1) (map (power_by step) os) other ∙ rest
+            ∙ right_alone [] (o ∷ os) q o.1 all.0.exponent.exponent_reduced all.0.not_zero refl
+            (at_own q o.0 o.1 os same)
+        | inr other ↦ find_past_power q o.0 (step o.1) (map (power_by step) os) other ∙ rest
             ∙ same_total [] (o ∷ os) [] os q refl (at-past q o.0 o.1 os other)
       ]
 
@@ -196,9 +201,9 @@ module _ (law : ReducedLaw) (step : Fraction → Fraction) (is : IsStep step) wh
       → find by_bytes q (p ∷ merge_of step ps os) ≡ kept (total (p ∷ ps) os q)
   find-left p ps os q known below rest = elim (one_or_two q p.0) [
     | inl same ↦ here_own q p.0 p.1 (merge_of step ps os) same
-        ∙ left_alone (p ∷ ps) os q p.1 known.exponent.reduced known.some (at_own q p.0 p.1 ps same)
+        ∙ left_alone (p ∷ ps) os q p.1 known.exponent.exponent_reduced known.not_zero (at_own q p.0 p.1 ps same)
         (at-below q os (subst (λ n. T (below_all by_bytes n os)) (sym same) below))
-    | inr other ↦ past q p.0 p.1 (merge_of step ps os) other ∙ rest
+    | inr other ↦ find_past_power q p.0 p.1 (merge_of step ps os) other ∙ rest
         ∙ same_total (p ∷ ps) os ps os q (at-past q p.0 p.1 ps other) refl
   ]
 
@@ -208,9 +213,9 @@ module _ (law : ReducedLaw) (step : Fraction → Fraction) (is : IsStep step) wh
       → find by_bytes q (power_by step o ∷ merge_of step ps os) ≡ kept (total ps (o ∷ os) q)
   find-right o ps os q known below rest = elim (one_or_two q o.0) [
     | inl same ↦ here_own q o.0 (step o.1) (merge_of step ps os) same
-        ∙ right_alone ps (o ∷ os) q o.1 known.exponent.reduced known.some
+        ∙ right_alone ps (o ∷ os) q o.1 known.exponent.exponent_reduced known.not_zero
         (at-below q ps (subst (λ n. T (below_all by_bytes n ps)) (sym same) below)) (at_own q o.0 o.1 os same)
-    | inr other ↦ past q o.0 (step o.1) (merge_of step ps os) other ∙ rest
+    | inr other ↦ find_past_power q o.0 (step o.1) (merge_of step ps os) other ∙ rest
         ∙ same_total ps (o ∷ os) ps os q refl (at-past q o.0 o.1 os other)
   ]
 
@@ -231,7 +236,7 @@ module _ (law : ReducedLaw) (step : Fraction → Fraction) (is : IsStep step) wh
           → find by_bytes q (cond z (merge_of step ps os) ((p.0, exponent_sum p.1 (step o.1)) ∷ merge_of step ps os))
           ≡ find by_bytes q (merge_of step ps os)
       another true other = refl
-      another false other = past q p.0 (exponent_sum p.1 (step o.1)) (merge_of step ps os) other
+      another false other = find_past_power q p.0 (exponent_sum p.1 (step o.1)) (merge_of step ps os) other
 
       value : q ≡ p.0 → total (p ∷ ps) (o ∷ os) q ≡ exponent_sum p.1 (step o.1)
       value same = ap₂ (λ a b. exponent_sum a (step b)) (at_own q p.0 p.1 ps same) (at_own q o.0 o.1 os (same ∙ names))
@@ -270,11 +275,13 @@ module _ (law : ReducedLaw) (step : Fraction → Fraction) (is : IsStep step) wh
       (put_some (p.0, exponent_sum p.1 (step o.1)) (merge_of step ps os)) (power_by step o ∷ merge_of step (p ∷ ps) os))
       ≡ kept (total (p ∷ ps) (o ∷ os) q)) [
         | Less ↦ λ e. find-left p ps (o ∷ os) q known
-            (both _ _ (is_less p.0 o.0 e) (below_less p.0 o.0 os e (first _ _ sorted))) (rest (o ∷ os) all sorted)
-        | Equal ↦ λ e. find-both p o ps os q (same_name p.0 o.0 e) below (first _ _ sorted)
+            (and_from_both _ _ (is_less p.0 o.0 e) (below_less p.0 o.0 os e (and_first _ _ sorted)))
+            (rest (o ∷ os) all sorted)
+        | Equal ↦ λ e. find-both p o ps os q (same_name p.0 o.0 e) below (and_first _ _ sorted)
             (rest os all.1 (second _ _ sorted))
         | Greater ↦ λ e. find-right o (p ∷ ps) os q all.0
-            (both _ _ (is_less o.0 p.0 (turned p.0 o.0 e)) (below_less o.0 p.0 ps (turned p.0 o.0 e) below)) more
+            (and_from_both _ _ (is_less o.0 p.0 (turned p.0 o.0 e)) (below_less o.0 p.0 ps (turned p.0 o.0 e) below))
+            more
       ] refl
 
   pub find-merged : (ps os : Powers) (q : Name) → Each IsPower ps → Each IsPower os → T (is_sorted by_bytes ps)
@@ -282,5 +289,5 @@ module _ (law : ReducedLaw) (step : Fraction → Fraction) (is : IsStep step) wh
       → find by_bytes q (merge_of step ps os) ≡ kept (total ps os q)
   find-merged [] os q all all_os sorted sorted_os = find-map os q all_os
   find-merged (p ∷ ps) os q all all_os sorted sorted_os =
-      find-into p ps os q all.0 all_os (first _ _ sorted) sorted_os
+      find-into p ps os q all.0 all_os (and_first _ _ sorted) sorted_os
       (λ os all_os sorted_os. find-merged ps os q all.1 all_os (second _ _ sorted) sorted_os)

@@ -39,14 +39,14 @@ one_or_two x y = elim (by_bytes x y) as (λ r. by_bytes x y ≡ r → (x ≡ y) 
 ] refl
 
 -- if two tests hold, their conjunction holds
-pub both : (a b : Bool) → T a → T b → T (a && b)
-both true b p q = q
-both false b p q = p
+pub and_from_both : (a b : Bool) → T a → T b → T (a && b)
+and_from_both true b p q = q
+and_from_both false b p q = p
 
 -- if a conjunction holds, so does its first test
-pub first : (a b : Bool) → T (a && b) → T a
-first true b p = tt
-first false b p = p
+pub and_first : (a b : Bool) → T (a && b) → T a
+and_first true b p = tt
+and_first false b p = p
 
 -- if a conjunction holds, so does its second test
 pub second : (a b : Bool) → T (a && b) → T b
@@ -72,11 +72,11 @@ pub below_less : (x y : Name) (es : Powers) → by_bytes x y ≡ Less → T (bel
     → T (below_all by_bytes x es)
 below_less x y [] p h = tt
 below_less x y (e ∷ es) p h =
-    both _ _ (is_less x e.0 (nat_list_cmp_total.trans x y e.0 p (less _ (first _ _ h))))
+    and_from_both _ _ (is_less x e.0 (nat_list_cmp_total.trans x y e.0 p (less _ (and_first _ _ h))))
     (below_less x y es p (second _ _ h))
 
 -- a lookup does not find a name that is below all powers
 pub find_below : (q : Name) (es : Powers) → T (below_all by_bytes q es) → find by_bytes q es ≡ None
 find_below q [] h = refl
-find_below q (e ∷ es) h = ap (λ r. cond (is_eq r) (Some e.1) (find by_bytes q es)) (less _ (first _ _ h))
+find_below q (e ∷ es) h = ap (λ r. cond (is_eq r) (Some e.1) (find by_bytes q es)) (less _ (and_first _ _ h))
     ∙ find_below q es (second _ _ h)

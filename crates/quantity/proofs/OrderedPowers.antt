@@ -13,7 +13,8 @@ use Rattle.frac128.specs.Sign.{is_zero}
 use Rattle.quantity.specs.Exponents.{IsExponent, IsPower, exponent_of, exponents_by, is_exponent}
 use Rattle.quantity.specs.Merges.{Powers, are_exponents, exponents_in}
 use Rattle.quantity.proofs.Fractions.{kept, nothing, some_kept, unwrap_kept, zero_is}
-use Rattle.quantity.proofs.Names.{Name, by_bytes, find_below, first, is_itself, is_name, one_or_two, same_name, second}
+use Rattle.quantity.proofs.Names.{Name, and_first, by_bytes, find_below, is_itself, is_name, one_or_two, same_name}
+use Rattle.quantity.proofs.Names.{second}
 
 -- the exponent of a name in a list, or 0
 abbrev pub at : Powers → Name → Fraction
@@ -24,13 +25,13 @@ abbrev given : (Name → Fraction) → List Name → Powers
 given f names = filter (λ e. not (is_zero e.1)) (map (λ n. (n, f n)) names)
 
 -- a lookup skips a power with another name
-pub past : (q n : Name) (v : Fraction) (es : Powers) → is_name q n ≡ false
+pub find_past_power : (q n : Name) (v : Fraction) (es : Powers) → is_name q n ≡ false
     → find by_bytes q ((n, v) ∷ es) ≡ find by_bytes q es
-past q n v es other = ap (λ b. cond b (Some v) (find by_bytes q es)) other
+find_past_power q n v es other = ap (λ b. cond b (Some v) (find by_bytes q es)) other
 
 -- a lookup finds the name of the first power
-pub here : (q : Name) (v : Fraction) (es : Powers) → find by_bytes q ((q, v) ∷ es) ≡ Some v
-here q v es = ap (λ b. cond b (Some v) (find by_bytes q es)) (is_itself q)
+pub find_first_power : (q : Name) (v : Fraction) (es : Powers) → find by_bytes q ((q, v) ∷ es) ≡ Some v
+find_first_power q v es = ap (λ b. cond b (Some v) (find by_bytes q es)) (is_itself q)
 
 -- a choice between `None` and `None` is `None`
 none_at : (b : Bool) (v : Option Fraction) → v ≡ None → cond b v None ≡ None
@@ -62,13 +63,13 @@ find-given f (n ∷ ns) q =
     own false e rest =
         let stays : kept (f q) ≡ Some (f q) = some_kept (f q) e in
         ap (λ z. find by_bytes q (cond (not z) ((q, f q) ∷ given f ns) (given f ns))) e
-        ∙ here q (f q) (given f ns)
+        ∙ find_first_power q (f q) (given f ns)
         ∙ sym stays ∙ sym (ap (λ b. cond (b || list_any (is_name q) ns) (kept (f q)) None) (is_itself q))
 
     another : (z : Bool) → is_name q n ≡ false
         → find by_bytes q (cond (not z) ((n, f n) ∷ given f ns) (given f ns)) ≡ find by_bytes q (given f ns)
     another true other = refl
-    another false other = past q n (f n) (given f ns) other
+    another false other = find_past_power q n (f n) (given f ns) other
 
 -- the properties of a function that gives exponents to names
 pub record GivesNames (f : Name → Fraction) (names : List Name) : Type 0 where
@@ -154,8 +155,8 @@ found_behind : (e : Name × Fraction) (es : Powers) → T (is_sorted by_bytes (e
     → find by_bytes q es ≡ Some v → find by_bytes q (e ∷ es) ≡ Some v
 found_behind e es sorted q v found = elim (one_or_two q e.0) [
   | inl same ↦ (let gone : find by_bytes q es ≡ None = ap (λ k. find by_bytes k es) same
-      ∙ find_below e.0 es (first _ _ sorted) in absurd (cc))
-  | inr other ↦ past q e.0 e.1 es other ∙ found
+      ∙ find_below e.0 es (and_first _ _ sorted) in absurd (cc))
+  | inr other ↦ find_past_power q e.0 e.1 es other ∙ found
 ]
 
 -- if a power of an ordered list is out of range, a lookup finds it
@@ -171,7 +172,7 @@ found_fault (e ∷ es) sorted some = go (is_exponent e.1) refl some (λ rest. fo
     go true is some rest =
         let fault = rest some in
         (fault.0, fault.1, found_behind e es sorted fault.0 fault.1 fault.2, fault.3)
-    go false is some rest = (e.0, e.1, here e.0 e.1 es, is)
+    go false is some rest = (e.0, e.1, find_first_power e.0 e.1 es, is)
 
 -- the range tests of the list and of the names agree
 pub listed_range : (f : Name → Fraction) (names : List Name) (es : Powers) → GivesNames f names → Lists f es
@@ -213,7 +214,7 @@ weaker P Q (e ∷ es) h all = (h e all.0, weaker P Q es h all.1)
 all_found : (es : Powers) → T (is_sorted by_bytes es) → Each (λ e. find by_bytes e.0 es ≡ Some e.1) es
 all_found [] sorted = tt
 all_found (e ∷ es) sorted = (
-  here e.0 e.1 es,
+  find_first_power e.0 e.1 es,
   weaker _ _ es (λ d found. found_behind e es sorted d.0 d.1 found) (all_found es (second _ _ sorted)),
 )
 
@@ -224,7 +225,7 @@ within m n h = grind (arith, nat_tests)
 -- a fraction in lowest terms that passes the range test is an exponent
 exponent_fits : (e : Fraction) → IsReduced e → is_exponent e ≡ true → IsExponent e
 exponent_fits e is h = record {
-  reduced = is;
+  exponent_reduced = is;
   num_fits = within _ _ (first_so (nat_le (unsigned_abs e.num) 32767) (nat_le e.den 60) h);
   den_fits = within _ _ (second_so (nat_le (unsigned_abs e.num) 32767) (nat_le e.den 60) h);
 }
@@ -245,7 +246,7 @@ all_kept f names es is lists all = go es (all_found es lists.sorted) all
         let same : kept (f e.0) ≡ Some e.1 = sym (lists.found e.0) ∙ found in
         record {
           exponent = exponent_fits e.1 (subst IsReduced (kept_value (f e.0) e.1 same) (is.reduced e.0)) fits;
-          some = some_is e.0 e.1 (is_zero (f e.0)) refl same;
+          not_zero = some_is e.0 e.1 (is_zero (f e.0)) refl same;
         }
 
     go : (ds : Powers) → Each (λ e. find by_bytes e.0 es ≡ Some e.1) ds → are_exponents ds ≡ true → Each IsPower ds

@@ -295,8 +295,8 @@ module _ (step : Fraction → Fraction) (o : Name × Fraction) where
         put_fault law known all last answer =
             let own : IsPower there.power =
             all_behind there.front there.power there.rest (subst (All IsPower) there.parts all) in
-            let reduced = sum_reduced law there.power.1 (step o.1) own.exponent.reduced.positive
-            (known.reduced o.1 last.exponent.reduced).positive in
+            let reduced = sum_reduced law there.power.1 (step o.1) own.exponent.exponent_reduced.den_positive
+            (known.reduced o.1 last.exponent.exponent_reduced).den_positive in
             let fails : is_exponent (exponent_sum there.power.1 (step o.1)) ≡ false =
             ap₂ (λ (p : Name × Fraction) e. is_exponent (exponent_sum p.1 e)) (sym (power_is q at_place)) (sym taken)
             ∙ as_none sum answer in

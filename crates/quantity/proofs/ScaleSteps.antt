@@ -52,7 +52,7 @@ scaling_fault law by all out rest more p some is parts fails =
     let kept = All-head IsPower p more (subst (All IsPower) parts is.kept) in
     ap are_exponents (sym (scaling_next by all out rest more p is parts))
     ∙ fault_stays out (p.0, exponent_product p.1 by) (scaled_powers by more)
-    (product_reduced law p.1 by kept.exponent.reduced.positive some) fails
+    (product_reduced law p.1 by kept.exponent.exponent_reduced.den_positive some) fails
 
 -- if no power is left, all powers are scaled
 pub scaling_end : (by : Fraction) (all out rest items : Powers) → IsScaling by all out rest → rest ≡ [] → all ≡ items

@@ -25,7 +25,7 @@ one = whole (pos 1)
 -- the number 1 is an exponent
 one_exponent : IsExponent one
 one_exponent = record {
-  reduced = record { positive = omega arith; lowest = (dvd_refl 1, dvd_refl 1, λ d p q. p) };
+  exponent_reduced = record { den_positive = omega arith; coprime = (dvd_refl 1, dvd_refl 1, λ d p q. p) };
   num_fits = omega arith;
   den_fits = omega arith;
 }
@@ -33,8 +33,9 @@ one_exponent = record {
 -- a single power is in order
 pub one_in_order : (name : Name) → AreInOrder ((name, one) ∷ [])
 one_in_order name = record {
-  sorted = tt;
-  kept = All-from_recursion IsPower ((name, one) ∷ []) (record { exponent = one_exponent; some = refl }, tt);
+  sorted_powers = tt;
+  powers_right = All-from_recursion IsPower ((name, one) ∷ [])
+      (record { exponent = one_exponent; not_zero = refl }, tt);
 }
 
 -- the empty map has no entries
@@ -55,7 +56,7 @@ one_power name = map_of.same_entries_map _ _ (
 
 -- powers in order are the entries of their map
 pub entries_in : (items : Powers) (m : Exponents) → AreInOrder items → exponents_in items ≡ m → map_of.entries m ≡ items
-entries_in items m order is = ap map_of.entries (sym is) ∙ map_of.entries-from_sorted by_bytes items order.sorted
+entries_in items m order is = ap map_of.entries (sym is) ∙ map_of.entries-from_sorted by_bytes items order.sorted_powers
 
 -- a list in order has as many powers as its map has entries
 pub len_in : (items : Powers) (m : Exponents) → AreInOrder items → exponents_in items ≡ m → length items ≡ map_of.len m
@@ -71,7 +72,7 @@ pub list_of : (items powers : Powers) (m : Exponents) → AreInOrder items → e
     → IsListOf m powers
 list_of items powers m order is slice = record {
   same = slice ∙ sym (entries_in items m order is);
-  kept = subst (All IsPower) (sym (entries_in items m order is)) order.kept;
+  kept = subst (All IsPower) (sym (entries_in items m order is)) order.powers_right;
 }
 
 -- the exponent of a name in the list is its exponent in the map

@@ -63,8 +63,8 @@ pub listed_order : (f : Name → Fraction) (names : List Name) (es : Powers) →
     → IsTrue (are_exponents es) → AreInOrder es
 listed_order f names es is all =
     record {
-      sorted = is.lists.sorted;
-      kept =
+      sorted_powers = is.lists.sorted;
+      powers_right =
           All-from_recursion IsPower es (all_kept f names es is.gives is.lists all);
     }
 
@@ -154,8 +154,8 @@ total_gives : ReducedLaw → (step : Fraction → Fraction) (p o : Exponents) �
     → AreExponents o
     → GivesNames (total step p o) (names_of_both p o)
 total_gives law step p o is all all_o = record {
-  reduced = λ q. sum_reduced law (exponent_of p q) (step (exponent_of o q)) (exponent_reduced p q all).positive
-      (is.reduced _ (exponent_reduced o q all_o)).positive;
+  reduced = λ q. sum_reduced law (exponent_of p q) (step (exponent_of o q)) (exponent_reduced p q all).den_positive
+      (is.reduced _ (exponent_reduced o q all_o)).den_positive;
   others = λ q none. others q (sym (any-append (is_name q) (map_of.keys p) (map_of.keys o)) ∙ none);
 }
   where
@@ -236,7 +236,7 @@ pub scaled_ranged : ReducedLaw → (p : Exponents) (by : Fraction) → 0 < by.de
     → IsRanged (λ q. exponent_product (exponent_of p q) by) (map_of.keys p) (scaled_powers by (map_of.entries p))
 scaled_ranged law p by some all = record {
   gives = record {
-    reduced = λ q. product_reduced law (exponent_of p q) by (exponent_reduced p q all).positive some;
+    reduced = λ q. product_reduced law (exponent_of p q) by (exponent_reduced p q all).den_positive some;
     others = λ q none. ap (λ e. exponent_product e by) (absent p q none) ∙ product_zero law by some;
   };
   lists = record {

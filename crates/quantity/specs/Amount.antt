@@ -31,12 +31,12 @@ abbrev pub is_number : Amount → Bool
 is_number x = map_of.len x.exponents == 0
 
 -- two fractions are equal
-abbrev pub same : Fraction → Fraction → Bool
-same x y = int_eq x.num y.num && x.den == y.den
+abbrev pub same_fraction : Fraction → Fraction → Bool
+same_fraction x y = int_eq x.num y.num && x.den == y.den
 
 -- two lists have the same names in the same order, and each exponent is the result of the step on the other one
 abbrev pub matches : (Fraction → Fraction) → List (List ℕ × Fraction) → List (List ℕ × Fraction) → Bool
-matches step = pointwise (λ e d. pointwise nat_eq e.0 d.0 && same e.1 (step d.1))
+matches step = pointwise (λ e d. pointwise nat_eq e.0 d.0 && same_fraction e.1 (step d.1))
 
 -- two maps are equal
 abbrev pub conform : Exponents → Exponents → Bool

@@ -8,7 +8,7 @@ is_degree by = nat_le (unsigned_abs by.num) 32767 && nat_le by.den 32767
 
 -- the facts known about each exponent of a power in the program
 pub record IsDegree (by : Fraction) : Type 0 where
-  pub some : 0 < by.den
+  pub den_not_zero : 0 < by.den
   pub num_fits : unsigned_abs by.num ≤ 32767
   pub den_fits : by.den ≤ 32767
 

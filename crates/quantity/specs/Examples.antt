@@ -11,29 +11,29 @@ abbrev pub quotient : ℤ → ℕ → Fraction
 quotient n d = record { num = n; den = d }
 
 -- a name with its exponent
-abbrev pub power : List ℕ → Fraction → List ℕ × Fraction
-power name e = (name, e)
+abbrev pub unit_power : List ℕ → Fraction → List ℕ × Fraction
+unit_power name e = (name, e)
 
 -- some numbers raised to fractions: the power of a root, or no result
 pub record PowersLaw : Type 0 where
   pub root : rational_power (quotient (pos 4) 9) (quotient (pos 1) 2) ≡ Ok (quotient (pos 2) 3)
-  pub turned_round : rational_power (quotient (pos 8) 27) (quotient (negsuc 1) 3) ≡ Ok (quotient (pos 9) 4)
+  pub negative_power : rational_power (quotient (pos 8) 27) (quotient (negsuc 1) 3) ≡ Ok (quotient (pos 9) 4)
   pub odd_root : rational_power (whole (negsuc 7)) (quotient (pos 2) 3) ≡ Ok (whole (pos 4))
   pub no_power : rational_power (whole (pos 7)) (whole (pos 0)) ≡ Ok (whole (pos 1))
   pub no_root : rational_power (whole (pos 2)) (quotient (pos 1) 2) ≡ Err NoExactRoot
   pub below_zero : rational_power (whole (negsuc 3)) (quotient (pos 1) 2) ≡ Err NoExactRoot
-  pub by_zero : rational_power (whole (pos 0)) (whole (negsuc 0)) ≡ Err DivisionByZero
+  pub zero_to_negative : rational_power (whole (pos 0)) (whole (negsuc 0)) ≡ Err DivisionByZero
   pub out_of_range : is_degree (whole (pos 32768)) ≡ false
 
 -- the texts of some names with exponents
 pub record TextsLaw : Type 0 where
-  pub none : listed_text [] ≡ []
-  pub plain : listed_text (power (codes "kg") (whole (pos 1)) ∷ power (codes "m") (whole (pos 2)) ∷ [])
+  pub no_units : listed_text [] ≡ []
+  pub whole_powers : listed_text (unit_power (codes "kg") (whole (pos 1)) ∷ unit_power (codes "m") (whole (pos 2)) ∷ [])
       ≡ codes " kg m^2"
-  pub under : listed_text (power (codes "m") (whole (pos 1)) ∷ power (codes "s") (whole (negsuc 1)) ∷ [])
+  pub under : listed_text (unit_power (codes "m") (whole (pos 1)) ∷ unit_power (codes "s") (whole (negsuc 1)) ∷ [])
       ≡ codes " m / s^2"
-  pub only_under : listed_text (power (codes "s") (whole (negsuc 0)) ∷ []) ≡ codes " / s"
-  pub root : listed_text (power (codes "V") (quotient (pos 3) 2) ∷ []) ≡ codes " V^3|2"
+  pub only_under : listed_text (unit_power (codes "s") (whole (negsuc 0)) ∷ []) ≡ codes " / s"
+  pub root : listed_text (unit_power (codes "V") (quotient (pos 3) 2) ∷ []) ≡ codes " V^3|2"
 
 -- law: the powers and the texts are those found by hand
 pub record QuantityExamplesLaw : Type 0 where

@@ -12,7 +12,7 @@ use Rattle.frac128.specs.Steps.{lowest_terms}
 
 -- a reduced fraction with a numerator in -32,767..32,767 and a denominator of at most 60
 pub record IsExponent (e : Fraction) : Type 0 where
-  pub reduced : IsReduced e
+  pub exponent_reduced : IsReduced e
   pub num_fits : unsigned_abs e.num ≤ 32767
   pub den_fits : e.den ≤ 60
 
@@ -27,7 +27,7 @@ Exponents = map_of.FinMap (slice_cmp nat_cmp) Fraction
 -- the facts known about a name with its exponent in the program
 pub record IsPower (power : List ℕ × Fraction) : Type 0 where
   pub exponent : IsExponent power.1
-  pub some : IsFalse (is_zero power.1)
+  pub not_zero : IsFalse (is_zero power.1)
 
 -- the facts known about all exponents in the program
 abbrev pub AreExponents : Exponents → Type 0
@@ -47,12 +47,12 @@ exponents_by f names =
     map_of.from_entries (filter (λ power. not (is_zero power.1)) (map (λ name. (name, f name)) names))
 
 -- a fraction in lowest terms
-abbrev pub lowest : Fraction → Fraction
-lowest x = lowest_terms x.num x.den
+abbrev pub lowest_exponent : Fraction → Fraction
+lowest_exponent x = lowest_terms x.num x.den
 
 -- the sum of two exponents in lowest terms
 abbrev pub exponent_sum : Fraction → Fraction → Fraction
-exponent_sum a b = lowest (sum a b)
+exponent_sum a b = lowest_exponent (sum a b)
 
 -- the difference of two exponents in lowest terms
 abbrev pub exponent_difference : Fraction → Fraction → Fraction
@@ -60,7 +60,7 @@ exponent_difference a b = exponent_sum a (negative_of b)
 
 -- an exponent times a fraction, in lowest terms
 abbrev pub exponent_product : Fraction → Fraction → Fraction
-exponent_product e by = lowest (product e by)
+exponent_product e by = lowest_exponent (product e by)
 
 -- law: maps of the program that give the same exponent to each name are equal
 abbrev pub SameExponentsLaw : Type 0

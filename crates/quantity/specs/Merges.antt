@@ -16,8 +16,8 @@ Powers = List (List ℕ × Fraction)
 
 -- the names strictly increase, and each has an exponent
 pub record AreInOrder (powers : Powers) : Type 0 where
-  pub sorted : T (map_of.is_sorted (slice_cmp nat_cmp) powers)
-  pub kept : All IsPower powers
+  pub sorted_powers : T (map_of.is_sorted (slice_cmp nat_cmp) powers)
+  pub powers_right : All IsPower powers
 
 -- the map of an ordered list
 abbrev pub exponents_in : Powers → Exponents

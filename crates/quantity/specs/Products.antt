@@ -20,8 +20,8 @@ quotient_exponents p o = exponents_in_range (λ name. exponent_difference (expon
     (names_of_both p o)
 
 -- a number without exponents
-abbrev pub number : Fraction → Amount
-number x = record { value = x; exponents = map_of.empty }
+abbrev pub plain_amount : Fraction → Amount
+plain_amount x = record { value = x; exponents = map_of.empty }
 
 abbrev pub product_of : Amount → Amount → Result Amount QuantityFault
 product_of x y = amount_from (fraction_product x.value y.value) (product_exponents x.exponents y.exponents)

@@ -5,7 +5,7 @@ ghost use Rattle.std.specs.Cmp.Lexicographic.{pointwise, slice_cmp};
 ghost use Rattle.std.specs.FinMap as map;
 ghost use Rattle.std.specs.Ordering.{nat_cmp};
 ghost use Rattle.frac128.specs.Fraction.{whole};
-ghost use Rattle.quantity.specs.Amount.{matches, same};
+ghost use Rattle.quantity.specs.Amount.{matches, same_fraction};
 ghost use Rattle.quantity.specs.Factors as spec;
 ghost use Rattle.quantity.specs.Stores.{rest_of};
 
@@ -69,7 +69,7 @@ pub(crate) fn same_powers(left: Walk<'_>, right: Walk<'_>, factor: Factor) -> bo
 // Reports whether two powers have the same name, and the left exponent is the right one as the factor uses it.
 fn same_power(left: &Entry<'_>, right: &Entry<'_>, factor: Factor) -> bool
     ensures { result ≡ (pointwise nat_eq left.now.name.now right.now.name.now
-        && same left.now.exponent (spec.exponent_in factor right.now.exponent)) }
+        && same_fraction left.now.exponent (spec.exponent_in factor right.now.exponent)) }
 {
     left.name.as_bytes() == right.name.as_bytes()
         && left.exponent == factor.exponent(right.exponent)

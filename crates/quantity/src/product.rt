@@ -1,7 +1,7 @@
 //! Products and quotients.
 
 ghost use Rattle.quantity.specs.Answers.{IsAnswer, IsStepOnNumbers};
-ghost use Rattle.quantity.specs.Products.{number, product_of, quotient_of};
+ghost use Rattle.quantity.specs.Products.{plain_amount, product_of, quotient_of};
 
 use crate::factor::Factor;
 use crate::fault::QuantityFault;
@@ -57,7 +57,7 @@ impl Quantity {
     /// Returns the product with a number. The exponents do not change. The error is that of the product of the
     /// numbers.
     pub fn times_number(self, x: &Frac) -> Result<Quantity, FracFault>
-        ensures { IsStepOnNumbers result (product_of self (number x.now)) }
+        ensures { IsStepOnNumbers result (product_of self (plain_amount x.now)) }
     {
         self.powers.number_facts();
         let value = self.value.mul(x)?;
@@ -70,7 +70,7 @@ impl Quantity {
     /// Returns the quotient by a number. The exponents do not change. The error is that of the quotient of the
     /// numbers.
     pub fn over_number(self, x: &Frac) -> Result<Quantity, FracFault>
-        ensures { IsStepOnNumbers result (quotient_of self (number x.now)) }
+        ensures { IsStepOnNumbers result (quotient_of self (plain_amount x.now)) }
     {
         self.powers.number_facts();
         let value = self.value.div(x)?;

@@ -48,8 +48,8 @@ impl Store {
         Store::Few(Vec::new(alloc))
     }
 
-    // Creates a store of a power with this exponent, or an empty one if the exponent is 0. An exponent of `None`
-    // stands for a fraction that is out of range.
+    // Creates a store of a power with this exponent, or an empty one if the exponent is 0. `None` is the
+    // exponent of a fraction that is out of range.
     fn of(alloc: Global, power: Power, exponent: Option<Exponent>) -> Result<Store, ExponentFault>
         ensures { (e : Fraction) → IsReduced e → exponent ≡ as_exponent e
             → ArePowers powers_of result (put_some (power.0, e) []) }

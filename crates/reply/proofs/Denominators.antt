@@ -1,6 +1,6 @@
 -- The values of texts have denominators above 0.
 use Rattle.std.proofs.Common.{◌≡◌, Option, Some, None, option_and_then, slice_get}
-use Rattle.deck_lines.proofs.Entries.{reads}
+use Rattle.deck_lines.proofs.Entries.{entry_of_text}
 use Rattle.deck_lines.specs.declared.line.DeckLine.{DeckLine}
 use Rattle.deck_lines.specs.Readings.{entry_in}
 use Rattle.deck.specs.Decks.{Contents}
@@ -19,7 +19,7 @@ module _ (law : ReducedLaw) (tables : DeckTableLaw) where
       go (slice_get d.lines found.0) found.1
     where
       go : (o : Option DeckLine) → option_and_then entry_in o ≡ Some (k, e) → HasTablePoints e.what
-      go (Some x) i = line-says law x.text k e (reads x (k, e) i)
+      go (Some x) i = line-says law x.text k e (entry_of_text x (k, e) i)
       go None i = absurd (cc)
 
   pub denominator-law : DenominatorLaw

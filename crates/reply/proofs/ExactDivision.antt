@@ -56,7 +56,7 @@ fitting-of r v h = go (fits_most r) refl h
 
 fraction-of : (r : Fraction) → IsReduced r → fits_most r ≡ true → IsFrac r
 fraction-of r is e = record {
-  reduced = is;
+  lowest_terms = is;
   num_fits = is-at-most (unsigned_abs r.num) most (first-true _ (nat_le r.den most) e);
   den_fits = is-at-most r.den most (second-true (nat_le (unsigned_abs r.num) most) _ e);
 }
@@ -83,7 +83,7 @@ module _ (law : ReducedLaw) (v : Fraction) where
 
   ratio-fitting : (n : ℤ) (d : ℕ) → 0 < d → IsFrac v → SameValue v (record { num = n; den = d })
       → fit_or_overflow (lowest_terms n d) ≡ Ok v
-  ratio-fitting n d some is same = ap fit_or_overflow (sym ((law n d some).2 v is.reduced same)) ∙ of-fraction v is
+  ratio-fitting n d some is same = ap fit_or_overflow (sym ((law n d some).2 v is.lowest_terms same)) ∙ of-fraction v is
 
   -- the ratio over a number above 0
   ratio-of : (n : ℤ) (d : ℕ) → 0 < d → ratio n (pos d) ≡ Ok v → IsRatio n d
@@ -176,6 +176,6 @@ pub quotient-law : ReducedLaw → QuotientLaw
 quotient-law law x y v = (
   λ h.
       let q = over-of law v x.num y.den x.den y.num h in
-      record { denominator = q.denominator; divisor = q.divisor; exact = q.exact; frac = q.frac },
-  λ q. of-over law v x.num y.den x.den y.num q.denominator q.divisor q.frac q.exact,
+      record { denominator = q.denominator; divisor = q.divisor; product_exact = q.exact; frac = q.frac },
+  λ q. of-over law v x.num y.den x.den y.num q.denominator q.divisor q.frac q.product_exact,
 )

@@ -4,7 +4,7 @@ use Rattle.std.proofs.Common.{append_assoc, get_or}
 use Rattle.std.proofs.lemmas.List.{append-nil, drop_all, drop_more}
 use Rattle.frac128.specs.Fraction.{Fraction}
 use Rattle.reply.specs.declared.form.Form.{Form}
-use Rattle.reply.specs.Lines.{between, count_text, further_text}
+use Rattle.reply.specs.Lines.{count_text, further_text, separator}
 
 module _ (form : Form) where
   -- without counts there is no text
@@ -16,12 +16,14 @@ module _ (form : Form) where
     -- the text with one more count
     pub further-more : (part : List ℕ) (rest : List (List ℕ)) (count : Fraction) → parts ≡ part ∷ rest
         → i < length counts → count ≡ get_or counts i count
-        → ((text ++ between form.layout) ++ count_text form part count) ++ further_text form rest (drop (i + 1) counts)
+        → ((text ++ separator form.layout) ++ count_text form part count) ++ further_text form rest
+        (drop (i + 1) counts)
         ≡ text ++ further_text form parts (drop i counts)
     further-more part rest count e within is =
-        append_assoc (text ++ between form.layout) (count_text form part count) behind
-        ∙ (append_assoc text (between form.layout) (count_text form part count ++ behind)
-        ∙ (ap (λ (w : List ℕ). text ++ w) (sym (append_assoc (between form.layout) (count_text form part count) behind))
+        append_assoc (text ++ separator form.layout) (count_text form part count) behind
+        ∙ (append_assoc text (separator form.layout) (count_text form part count ++ behind)
+        ∙ (ap (λ (w : List ℕ). text ++ w)
+        (sym (append_assoc (separator form.layout) (count_text form part count) behind))
         ∙ (λ j. text ++ further_text form (sym e j) (sym next j))))
       where
         behind : List ℕ

@@ -105,7 +105,7 @@ module _ (table : Table) (options : Options) (to : List ℕ) (x : Amount) where
     by-key y None names (Ok q) evaluates h =
         let is = inverse-of (key_meaning table function) x y (kinds.keys table fits function present names)
         (evaluates ∙ ap Ok (ok-same q y h)) in
-        record { names = names; function = is.function; meaning = is.meaning; evaluates = is.evaluates }
+        record { names = names; function = is.function; function_meaning = is.meaning; evaluates = is.evaluates }
     by-key y None names (Err fault) evaluates h = absurd (no-ok _ y h)
     by-key y (Some fault) names w evaluates h = absurd (no-ok _ y h)
 
@@ -127,8 +127,8 @@ module _ (table : Table) (options : Options) (to : List ℕ) (x : Amount) where
           units = u.0;
           evaluates = values-of table (parts_of list) t.0 u.0 t.1 u.1;
           conformable = k.has.conformable;
-          positive = k.has.positive;
-          counted = k.has.counted;
+          units_positive = k.has.positive;
+          counts_are = k.has.counted;
         },
       )
   converts-of law kinds fits Unit is c h g =
@@ -148,15 +148,15 @@ module _ (table : Table) (options : Options) (to : List ℕ) (x : Amount) where
       (join-answers (worths table v.0) (counts_by list) c h.units v.2
       (ap (split_conversion x list h.units) (of-counts options.round x h.units counts (record {
         conformable = h.conformable;
-        positive = h.positive;
-        counted = h.counted;
+        positive = h.units_positive;
+        counted = h.counts_are;
       }))))
 
   pub of-function : (y : Amount) → ConvertsToFunction table to x y
       → (converted_to table options to Function x).answer ≡ Ok (Inverse y)
   of-function y h =
       join-answers (single_query (AsksKey function) (inverse_answer table to x)) inverse (Inverse y) y
-      (ap₂ (λ f w. as_answer (by_names f w)) h.names (ap (λ m. inverse_at m x) h.meaning ∙ h.evaluates)) refl
+      (ap₂ (λ f w. as_answer (by_names f w)) h.names (ap (λ m. inverse_at m x) h.function_meaning ∙ h.evaluates)) refl
 
   pub of-parts : (list text : List ℕ) (counts : List Fraction) → text ≡ list
       → ConvertsToList table options.round list x counts
@@ -265,7 +265,7 @@ module _ (table : Table) (options : Options) (from to : List ℕ) where
 
       table-law : IsConversionReply table options from to (conversion_reply table options from to)
       table-law = record {
-        exactly = (only-granted answer refl, λ granted. not-refused granted.0 granted.1);
+        granted_exactly = (only-granted answer refl, λ granted. not-refused granted.0 granted.1);
         conversion = λ c h.
             ap reply_by (answer-of c h)
             ∙ ap (λ b. record {
@@ -273,7 +273,7 @@ module _ (table : Table) (options : Options) (from to : List ℕ) where
               refused = not b;
             }) (granted-of c h);
         comparison = unit-reply;
-        zero = λ is y v zero. refused-zero is y v zero (conversion_reply table options from to).refused refl;
+        zero_target = λ is y v zero. refused-zero is y v zero (conversion_reply table options from to).refused refl;
       }
 
 -- the law of granted conversions

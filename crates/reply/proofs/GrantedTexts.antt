@@ -32,7 +32,7 @@ use Rattle.expr_tree.specs.Syntax.{Word}
 use Rattle.tree_eval.specs.declared.fault.ValueFault.TheVariants as fault
 use Rattle.tree_eval.specs.declared.step.Step.TheVariants.{Multiply}
 use Rattle.tree_eval.specs.Expansions.{Named, Primitive, Table}
-use Rattle.tree_eval.specs.Steps.{Worth, amount, number, plain_number, step_worth}
+use Rattle.tree_eval.specs.Steps.{Worth, amount, plain_number, step_worth, worth_of_number}
 use Rattle.tree_eval.specs.Value.{looked_up}
 use Rattle.reply.specs.declared.options.Options.{Options}
 use Rattle.reply.specs.declared.reply.Reply.{Reply}
@@ -300,8 +300,8 @@ split =
       evaluates = (value-yards, (value-m, tt));
       conformable = All-from_recursion (λ unit. conform (single m one) unit.exponents ≡ true) both_units
           (m-m, (m-m, tt));
-      positive = All-from_recursion (λ unit. is_positive unit.value ≡ true) both_units (refl, (refl, tt));
-      counted = refl;
+      units_positive = All-from_recursion (λ unit. is_positive unit.value ≡ true) both_units (refl, (refl, tt));
+      counts_are = refl;
     }))
     ∙ refl
 
@@ -311,7 +311,7 @@ points = (whole (pos 1), whole (pos 2)) ∷ (whole (pos 3), whole (pos 6)) ∷ [
 -- the number that the table yields for a quantity that conforms to its unit
 abbrev looked_up_if : Bool → Worth
 looked_up_if conforming =
-    after (if conforming then number (fraction_quotient (whole (pos 4)) one) else Err
+    after (if conforming then worth_of_number (fraction_quotient (whole (pos 4)) one) else Err
     (fault.WrongArgument (codes "gauge")))
     (λ y. looked_up (codes "gauge") (x_at points y.value))
 
@@ -323,7 +323,7 @@ inverse =
     (of-function measures default (codes "gauge") (meters (whole (pos 4))) (plain_number (whole (pos 2))) (record {
       names = refl;
       function = Table (codes "gauge") 1 (Named (Primitive m)) points;
-      meaning = refl;
+      function_meaning = refl;
       evaluates = ap looked_up_if m-m;
     }))
     ∙ ap (λ es. granted_reply (codes "\t2" ++ listed_text es ++ codes "\n")) no-entries
@@ -362,7 +362,7 @@ examples = record {
   reciprocal = reciprocal;
   strict = strict;
   unlike = unlike;
-  split = split;
+  split_into_list = split;
   inverse = inverse;
   zero = zero;
   too_large = too-large;

@@ -15,7 +15,7 @@ use Rattle.table_names.specs.Faults.{name_fault}
 use Rattle.table_names.specs.Meanings.{expansion}
 use Rattle.live_table.specs.Answers.{by_names}
 use Rattle.reply.specs.declared.fault.ReplyFault.{ReplyFault}
-use Rattle.reply.specs.Inquiries.{◌>>=◌, Inquiry, after_query, as_answer, text_worth, tree_value, without_queries}
+use Rattle.reply.specs.Inquiries.{◌>>=◌, Inquiry, as_answer, inquiry_after, text_worth, tree_value, without_queries}
 use Rattle.reply.specs.Inquiries.{worths}
 use Rattle.reply.specs.TextValues.{AreValuesOf, IsValueOf}
 use Rattle.reply.specs.Trees.{as_parsed, tree_in, trees_in}
@@ -42,7 +42,7 @@ module _ {A B E : Type 0} (first : Result A E) (step : A → Result B E) (y : B)
 
 -- the result of two inquiries, by that of the first
 abbrev pub answer_after : {A B : Type 0} → Inquiry A → (A → Inquiry B) → Result A ReplyFault → Result B ReplyFault
-answer_after first next answer = (after_query first.events answer next).answer
+answer_after first next answer = (inquiry_after first.events answer next).answer
 
 module _ {A B : Type 0} (first : Inquiry A) (next : A → Inquiry B) (y : B) where
   pub split-answers : (first >>= next).answer ≡ Ok y → (x : A) × (first.answer ≡ Ok x) × ((next x).answer ≡ Ok y)
@@ -59,7 +59,7 @@ module _ {A B : Type 0} (first : Inquiry A) (next : A → Inquiry B) (y : B) whe
 -- ---- the value of a text
 module _ (table : Table) (text : List ℕ) (x : Amount) where
   abbrev answer_for : Result Syntax ParseFault → Result Amount ReplyFault
-  answer_for tree = (after_query [] (as_parsed tree) (tree_value table)).answer
+  answer_for tree = (inquiry_after [] (as_parsed tree) (tree_value table)).answer
 
   by-tree : (tree : Syntax) → parse_of None text ≡ Ok tree
       → (fault : Option NameFault) → name_fault table (words_in tree) ≡ fault

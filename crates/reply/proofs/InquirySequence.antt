@@ -14,17 +14,17 @@ use Rattle.live_table.proofs.Runs.{run_law}
 use Rattle.reply.specs.declared.failure.Failure.{Failure}
 use Rattle.reply.specs.declared.failure.Failure.TheVariants.{Fault, OutOfMemory}
 use Rattle.reply.specs.declared.fault.ReplyFault.{ReplyFault}
-use Rattle.reply.specs.Calls.{IsInquired, IsRead, as_inquired, same}
-use Rattle.reply.specs.Inquiries.{◌>>=◌, Inquiry, after_query, as_answer, single_query, without_queries}
+use Rattle.reply.specs.Calls.{IsInquired, IsRead, as_inquired, itself}
+use Rattle.reply.specs.Inquiries.{◌>>=◌, Inquiry, as_answer, inquiry_after, single_query, without_queries}
 
 -- a query that was answered is an inquiry
 module _ (e : Event) (said : Result Amount QueryFault) (a b : Shown) (n m : ℕ) where
-  pub asked : (r : Result Amount QueryFault) → IsQueryResult r said → IsQuery e r a b n m
-      → IsInquired same (single_query e said) (as_inquired r) a b n m
-  asked (Ok x) h q = elim h [ inl p ↦ cc | inr p ↦ (ap as_answer (sym p), q) ]
-  asked (Err (query.Name f)) h q = elim h [ inl p ↦ cc | inr p ↦ (ap as_answer (sym p), q) ]
-  asked (Err (query.Value f)) h q = elim h [ inl p ↦ cc | inr p ↦ (ap as_answer (sym p), q) ]
-  asked (Err query.OutOfMemory) h q = q
+  pub query_inquired : (r : Result Amount QueryFault) → IsQueryResult r said → IsQuery e r a b n m
+      → IsInquired itself (single_query e said) (as_inquired r) a b n m
+  query_inquired (Ok x) h q = elim h [ inl p ↦ cc | inr p ↦ (ap as_answer (sym p), q) ]
+  query_inquired (Err (query.Name f)) h q = elim h [ inl p ↦ cc | inr p ↦ (ap as_answer (sym p), q) ]
+  query_inquired (Err (query.Value f)) h q = elim h [ inl p ↦ cc | inr p ↦ (ap as_answer (sym p), q) ]
+  query_inquired (Err query.OutOfMemory) h q = q
 
 -- a result that is read without a query is an inquiry that makes none
 module _ {A B : Type 0} (seen : A → B) (said : Result B ReplyFault) (a : Shown) (n : ℕ) where
@@ -36,7 +36,7 @@ module _ {A B : Type 0} (seen : A → B) (said : Result B ReplyFault) (a : Shown
 
 module _ {A B C : Type 0} (seen : C → B) (m : Inquiry A) (next : A → Inquiry B) where
   abbrev both : Result A ReplyFault → Inquiry B
-  both said = after_query m.events said next
+  both said = inquiry_after m.events said next
 
   -- an inquiry after one that has a result
   pub then-answered : (x : A) (r : Result C Failure) (a b c : Shown) (n k l : ℕ) → b.deck ≡ a.deck → m.answer ≡ Ok x
@@ -77,4 +77,4 @@ pub read-behind : {A B C D : Type 0} (seen : C → B) (m : Inquiry A) (to : D �
     → IsRead seen (said (to x)) r → IsInquired seen (m >>= (λ x. without_queries (said x))) r a b n k
 read-behind seen m to said x r a b n k deck h read =
     then-answered seen m (λ x. without_queries (said x)) (to x) r a b b n k k deck h.0 h.1
-    (read-given seen (said (to x)) b k r h.1.right read)
+    (read-given seen (said (to x)) b k r h.1.is_right read)

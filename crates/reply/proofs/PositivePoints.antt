@@ -195,7 +195,7 @@ call-says name (b ∷ bytes) rest =
     says-then (read.units_in form.options.units) _ (λ units j.
     says-then (entry_tree (Some parameter) form.forward) _ (λ forward k.
     says-then (read.inverse_in name form.inverse) _ (λ inverse l.
-    says-ok (read.function form units forward inverse) tt)))))
+    says-ok (read.function_definition form units forward inverse) tt)))))
 
 module _ (law : ReducedLaw) where
   in-points : (text : List ℕ) (points : List Point) → read.points_in text ≡ Ok points

@@ -66,7 +66,7 @@ HasPositive p = 0 < p.0.den
 
 module _ (law : ReducedLaw) where
   reduced-positive : (n : ℤ) (d : ℕ) → 0 < d → 0 < (lowest_terms n d).den
-  reduced-positive n d some = (law n d some).0.positive
+  reduced-positive n d some = (law n d some).0.den_positive
 
   fitting-positive : (x : Fraction) → 0 < x.den → IsPositive (fit_or_overflow x)
   fitting-positive x h = if-positive (fits_most x) (Ok x) (Err Overflow) (ok-positive x h) (err-positive Overflow)
@@ -136,19 +136,19 @@ module _ (law : ReducedLaw) where
       then-positive (minus q.0 p.0) _ (λ width.
       added-positive p.1 some (fraction_quotient product width) (over-positive product width)))))
 
-  segment-positive : (y : Fraction) (s : Segment) → 0 < s.left.0.den → IsPositive (x_on y s)
+  segment-positive : (y : Fraction) (s : Segment) → 0 < s.left_end.0.den → IsPositive (x_on y s)
   segment-positive y s some =
-      if-positive (is_eq (order_of s.left.1 s.right.1)) (Ok s.left.0)
-      (on_line (swapped_point s.left) (swapped_point s.right) y) (ok-positive s.left.0 some)
-      (line-positive (swapped_point s.left) (swapped_point s.right) y some)
+      if-positive (is_eq (order_of s.left_end.1 s.right_end.1)) (Ok s.left_end.0)
+      (on_line (swapped_point s.left_end) (swapped_point s.right_end) y) (ok-positive s.left_end.0 some)
+      (line-positive (swapped_point s.left_end) (swapped_point s.right_end) y some)
 
   segments-positive : (points : List Point) → Each HasPositive points
-      → Each (λ (s : Segment). 0 < s.left.0.den) (segments points)
+      → Each (λ (s : Segment). 0 < s.left_end.0.den) (segments points)
   segments-positive [] h = tt
   segments-positive (p ∷ []) h = tt
   segments-positive (p ∷ q ∷ points) h = (h.0, segments-positive (q ∷ points) h.1)
 
-  found-positive : (test : Segment → Bool) (all : List Segment) → Each (λ (s : Segment). 0 < s.left.0.den) all
+  found-positive : (test : Segment → Bool) (all : List Segment) → Each (λ (s : Segment). 0 < s.left_end.0.den) all
       → (y : Fraction) → IsPositive (value_on (x_on y) (find test all))
   found-positive test [] h y = err-positive _
   found-positive test (s ∷ all) h y = go (test s) (found-positive test all h.1 y)

@@ -29,9 +29,10 @@ use Rattle.tree_eval.specs.declared.step.Step.TheVariants.{Add, Divide, Multiply
 use Rattle.tree_eval.specs.Expansions.{Expanded, Number, Bar, Argument, Primitive, Dimensionless, Named, Prefixed}
 use Rattle.tree_eval.specs.Expansions.{Uncalled, Applied, Unapplied, Root, Group, Negated, Power, Chain}
 use Rattle.tree_eval.specs.Expansions.{Links, NoLink, Link, Callable, Function, Alias, Table, Given, Absent, Present}
-use Rattle.tree_eval.specs.Steps.{Worth, amount, negative_amount, number, numeral_quotient, plain_number, root}
+use Rattle.tree_eval.specs.Steps.{Worth, amount, negative_amount, numeral_quotient, plain_number, root_worth}
+use Rattle.tree_eval.specs.Steps.{worth_of_number}
 use Rattle.tree_eval.specs.Steps.{step_worth}
-use Rattle.tree_eval.specs.Tests.{end_test, inside, is_within, number_in, unit_check}
+use Rattle.tree_eval.specs.Tests.{end_test, is_within, number_in, unit_check, value_inside}
 use Rattle.tree_eval.specs.Value.{as_number, chain_value, in_unit_of, looked_up, most_rank, shallow, value_at}
 use Rattle.tree_eval.specs.Value.{inverse_value_at, optional_unit_value, value}
 use Rattle.reply.proofs.PositiveSteps.{HasPositive, IsPositive, err-positive, minus-positive, over-positive}
@@ -92,7 +93,7 @@ gives-if : (b : Bool) (r s : Worth) → GivesPositive r → GivesPositive s → 
 gives-if true r s h k = h
 gives-if false r s h k = k
 
-gives-number : (r : Result Fraction FracFault) → IsPositive r → GivesPositive (number r)
+gives-number : (r : Result Fraction FracFault) → IsPositive r → GivesPositive (worth_of_number r)
 gives-number (Ok x) h = gives-ok (plain_number x) (h x refl)
 gives-number (Err f) h = gives-err _
 
@@ -112,7 +113,7 @@ gives-shallow rank name w h = gives-if (nat_lt most_rank rank) _ w (gives-err _)
 
 -- a test returns the quantity itself
 gives-inside : (outside : ValueFault) (unit : Option Amount) (span : Option Span) (q : Amount) → HasDenominator q
-    → GivesPositive (inside outside unit span q)
+    → GivesPositive (value_inside outside unit span q)
 gives-inside outside unit None q h = gives-ok q h
 gives-inside outside unit (Some span) q h =
     gives-then (number_in unit q) _ (λ x e. gives-if (is_within span x) (Ok q) _ (gives-ok q h) (gives-err _))
@@ -152,7 +153,7 @@ module _ (law : ReducedLaw) where
   gives-step Add x y h k = gives-conforming (plus x.value y.value) x y (plus-positive law x.value y.value h k)
   gives-step Subtract x y h k = gives-conforming (minus x.value y.value) x y (minus-positive law x.value y.value h k)
 
-  gives-quotient : (x y : Decimal) → GivesPositive (number (numeral_quotient x y))
+  gives-quotient : (x y : Decimal) → GivesPositive (worth_of_number (numeral_quotient x y))
   gives-quotient x y = gives-number (numeral_quotient x y) (go (value_of_decimal x) (value_of_decimal y))
     where
       go : (p q : Result Fraction FracFault) → IsPositive (p >>= (λ a. q >>= (λ b. fraction_quotient a b)))
@@ -160,12 +161,13 @@ module _ (law : ReducedLaw) where
       go (Ok a) (Err f) = err-positive f
       go (Err f) q = err-positive f
 
-  gives-root : (kind : RootKind) (x : Amount) → GivesPositive (root kind x)
-  gives-root kind x = gives-then (number (ratio (pos 1) (pos (degree kind)))) _ (λ exponent e. gives-power x exponent)
+  gives-root : (kind : RootKind) (x : Amount) → GivesPositive (root_worth kind x)
+  gives-root kind x = gives-then (worth_of_number (ratio (pos 1) (pos (degree kind)))) _
+      (λ exponent e. gives-power x exponent)
 
   gives-in_unit : (name : List ℕ) (unit x : Amount) → GivesPositive (in_unit_of name unit x)
   gives-in_unit name unit x =
-      gives-if (conform x.exponents unit.exponents) (number (fraction_quotient x.value unit.value)) _
+      gives-if (conform x.exponents unit.exponents) (worth_of_number (fraction_quotient x.value unit.value)) _
       (gives-number (fraction_quotient x.value unit.value) (over-positive law x.value unit.value)) (gives-err _)
 
   -- ---- values

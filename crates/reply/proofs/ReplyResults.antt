@@ -20,7 +20,7 @@ use Rattle.reply.specs.declared.fault.ReplyFault.{ReplyFault}
 use Rattle.reply.specs.declared.form.Form.{Form}
 use Rattle.reply.specs.declared.options.Options.{Options}
 use Rattle.reply.specs.declared.reply.Reply.{Reply}
-use Rattle.reply.specs.Calls.{IsInquired, same}
+use Rattle.reply.specs.Calls.{IsInquired, itself}
 use Rattle.reply.specs.Conversions.{conversion}
 use Rattle.reply.specs.Faults.{fault_text, is_reportable}
 use Rattle.reply.specs.Inquiries.{text_worth}
@@ -28,7 +28,7 @@ use Rattle.reply.specs.Options.{reply_form, style_of}
 use Rattle.reply.specs.Replies.{as_conversion, as_definition, as_value, body_of, conversion_as, conversion_queries}
 use Rattle.reply.specs.Replies.{conversion_reply, definition_as, definition_reply, from_value, refusal, value_queries}
 use Rattle.reply.specs.declared.reply.FromValue.TheVariants.{Good, Bad}
-use Rattle.reply.proofs.Runs.{made}
+use Rattle.reply.proofs.Runs.{queries_made}
 use Rattle.reply.proofs.ToldFaults.{IsTold, conversion-told, text-told}
 
 -- a fault of an inquiry is not lack of memory
@@ -49,7 +49,7 @@ module _ (options : Options) (from to f g : List ℕ) (p : f ≡ trim_of from) (
   t = table a.deck
 
   abbrev answered : Result Conversion Failure → Type 0
-  answered r = IsInquired same (conversion t options f g) r a b n m
+  answered r = IsInquired itself (conversion t options f g) r a b n m
 
   trimmed-reply : as_conversion (reply_form options) f g (conversion t options f g).answer ≡ conversion_reply t options
       from to
@@ -80,7 +80,7 @@ module _ (options : Options) (from to f g : List ℕ) (p : f ≡ trim_of from) (
       b n m
   conversion-made r deck h =
       subst (λ (es : List Event). AreQueries es r a b n m) trimmed-queries
-      (made r (conversion t options f g).events a b n m deck h)
+      (queries_made r (conversion t options f g).events a b n m deck h)
 
   pub conversion-cut : answered (Err OutOfMemory) → IsCutOff (conversion_queries t options from to) a b n m
   conversion-cut h = subst (λ (es : List Event). IsCutOff es a b n m) trimmed-queries h
@@ -91,7 +91,7 @@ module _ (options : Options) (from f : List ℕ) (p : f ≡ trim_of from) (a b :
   u = table a.deck
 
   abbrev valued : Result Amount Failure → Type 0
-  valued r = IsInquired same (text_worth u f) r a b n m
+  valued r = IsInquired itself (text_worth u f) r a b n m
 
   value-queries : (text_worth u f).events ≡ value_queries u from
   value-queries = λ i. (text_worth u (p i)).events
@@ -134,7 +134,8 @@ module _ (options : Options) (from f : List ℕ) (p : f ≡ trim_of from) (a b :
       → IsAfterEvents (text_worth u f).events a b n m
       → AreQueries (value_queries u from) r a b n m
   value-made r deck h =
-      subst (λ (es : List Event). AreQueries es r a b n m) value-queries (made r (text_worth u f).events a b n m deck h)
+      subst (λ (es : List Event). AreQueries es r a b n m) value-queries
+      (queries_made r (text_worth u f).events a b n m deck h)
 
   pub value-cut : valued (Err OutOfMemory) → IsCutOff (value_queries u from) a b n m
   value-cut h = subst (λ (es : List Event). IsCutOff es a b n m) value-queries h

@@ -15,7 +15,7 @@ cut_after es a b n m same p =
     subst (λ (fs : List Event). IsCutOff fs a b n m) (append-nil es) (run_law.cut_between es [] a b n m same p)
 
 -- queries were made, or cut off for lack of memory, whatever the result of the call after them
-pub made : {A : Type 0} (r : Result A AllocError) (es : List Event) (a b : Shown) (n m : ℕ) → b.deck ≡ a.deck
+pub queries_made : {A : Type 0} (r : Result A AllocError) (es : List Event) (a b : Shown) (n m : ℕ) → b.deck ≡ a.deck
     → IsAfterEvents es a b n m → AreQueries es r a b n m
-made (Ok x) es a b n m same p = p
-made (Err e) es a b n m same p = cut_after es a b n m same p
+queries_made (Ok x) es a b n m same p = p
+queries_made (Err e) es a b n m same p = cut_after es a b n m same p

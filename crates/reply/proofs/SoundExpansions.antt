@@ -12,7 +12,7 @@ use Rattle.tree_eval.specs.Entries.{alias, meaning_of}
 use Rattle.tree_eval.specs.Expansions.{Callee, Expanded, Meaning, One, Two}
 use Rattle.tree_eval.specs.Expansion.{call_expansion, called_word, expand, expand_if, factor_links, inverse_expansion}
 use Rattle.tree_eval.specs.Expansion.{inverted_word}
-use Rattle.tree_eval.specs.Expansion.{member_links, plain, plain_word, term_links}
+use Rattle.tree_eval.specs.Expansion.{expanded_meaning, member_links, plain_word, term_links}
 use Rattle.table_names.specs.Leads.{targets}
 use Rattle.table_names.specs.Meanings.{entry_meaning, expansion, meaning_within, targets_meaning, word_meaning_by}
 use Rattle.reply.proofs.PositivePoints.{HasTablePoints}
@@ -24,7 +24,7 @@ IsSoundMeaning (Two x y) = IsSound x × IsSound y
 IsSoundMeaning (Callee f) = IsSoundCall f
 
 -- ---- words
-sound-plain : (m : Meaning) → IsSoundMeaning m → IsSound (plain m)
+sound-plain : (m : Meaning) → IsSoundMeaning m → IsSound (expanded_meaning m)
 sound-plain (One x) h = h
 sound-plain (Two x y) h = h
 sound-plain (Callee f) h = h

@@ -30,9 +30,10 @@ use Rattle.reply.specs.declared.options.Options.{Options}
 use Rattle.reply.specs.declared.ratio.Ratio.{Ratio}
 use Rattle.reply.specs.declared.target.Target.{Target}
 use Rattle.reply.specs.declared.target.Target.TheVariants as target
-use Rattle.reply.specs.Conversions.{conversion_between, conversion, converted_to, split_conversion, linear, reciprocal}
+use Rattle.reply.specs.Conversions.{conversion_between, conversion, converted_to, split_conversion, linear_conversion}
+use Rattle.reply.specs.Conversions.{reciprocal_conversion}
 use Rattle.reply.specs.Faults.{is_reportable}
-use Rattle.reply.specs.Inquiries.{Inquiry, after_query, as_answer, single_query, text_worth, tree_value}
+use Rattle.reply.specs.Inquiries.{Inquiry, as_answer, inquiry_after, single_query, text_worth, tree_value}
 use Rattle.reply.specs.Inquiries.{without_queries, worths}
 use Rattle.reply.specs.Ratios.{ratio_of, reciprocal_ratio}
 use Rattle.reply.specs.Targets as targets
@@ -45,10 +46,10 @@ IsTold (Err fault) = is_reportable fault ≡ true
 
 -- if neither an inquiry nor its continuation lacks memory, their composition does not
 followed-told : {A B : Type 0} (m : Inquiry A) (next : A → Inquiry B) → IsTold m.answer
-    → ((x : A) → IsTold (next x).answer) → IsTold (after_query m.events m.answer next).answer
+    → ((x : A) → IsTold (next x).answer) → IsTold (inquiry_after m.events m.answer next).answer
 followed-told {A = A} m next told h = go m.answer told
   where
-    go : (said : Result A ReplyFault) → IsTold said → IsTold (after_query m.events said next).answer
+    go : (said : Result A ReplyFault) → IsTold said → IsTold (inquiry_after m.events said next).answer
     go (Ok x) told = h x
     go (Err fault) told = told
 
@@ -69,17 +70,17 @@ worths-told : (t : Table) (trees : List Syntax) → IsTold (worths t trees).answ
 worths-told t [] = tt
 worths-told t (tree ∷ trees) =
     followed-told (tree_value t tree)
-    (λ x. after_query (worths t trees).events (worths t trees).answer (λ xs. without_queries (Ok (x ∷ xs))))
+    (λ x. inquiry_after (worths t trees).events (worths t trees).answer (λ xs. without_queries (Ok (x ∷ xs))))
     (answer-told (name_fault t (words_in tree)) (value (expansion t tree) None))
     (λ x. followed-told (worths t trees) (λ xs. without_queries (Ok (x ∷ xs))) (worths-told t trees) (λ xs. tt))
 
 -- the result of a linear conversion is not lack of memory
-linear-told : (r : Result Ratio FracFault) → IsTold (linear r)
+linear-told : (r : Result Ratio FracFault) → IsTold (linear_conversion r)
 linear-told (Ok x) = tt
 linear-told (Err fault) = refl
 
 -- the result of a reciprocal conversion is not lack of memory
-reciprocal-told : (r : Result Ratio FracFault) → IsTold (reciprocal r)
+reciprocal-told : (r : Result Ratio FracFault) → IsTold (reciprocal_conversion r)
 reciprocal-told (Ok x) = tt
 reciprocal-told (Err fault) = refl
 
@@ -91,12 +92,13 @@ if-told false p q h k = k
 -- the result of converting two quantities is not lack of memory
 pub compared-told : (strict : Bool) (x y : Amount) → IsTold (conversion_between strict x y)
 compared-told strict x y =
-    if-told (conform x.exponents y.exponents) (linear (ratio_of x.value y.value))
+    if-told (conform x.exponents y.exponents) (linear_conversion (ratio_of x.value y.value))
     (if are_reciprocal x.exponents y.exponents && not strict
-    then reciprocal (reciprocal_ratio x.value y.value)
+    then reciprocal_conversion (reciprocal_ratio x.value y.value)
     else Ok (NonConforming x y))
     (linear-told (ratio_of x.value y.value))
-    (if-told (are_reciprocal x.exponents y.exponents && not strict) (reciprocal (reciprocal_ratio x.value y.value))
+    (if-told (are_reciprocal x.exponents y.exponents && not strict)
+    (reciprocal_conversion (reciprocal_ratio x.value y.value))
     (Ok (NonConforming x y)) (reciprocal-told (reciprocal_ratio x.value y.value)) tt)
 
 -- the result of counting the units of a list is not lack of memory
@@ -144,7 +146,7 @@ module _ (law : ParseMemoryLaw) where
       (answer-told (key_fault t (key kind.Func to)) (inverse_at (key_meaning t (key kind.Func to)) x)) (λ y. tt)
   converted-told t options to (target.Parts list) x =
       followed-told (without_queries (trees_in (targets.parts_of list)))
-      (λ trees. after_query (worths t trees).events (worths t trees).answer
+      (λ trees. inquiry_after (worths t trees).events (worths t trees).answer
       (λ units. without_queries (split_conversion x list units (counts_in options.round x units))))
       (trees-told (targets.parts_of list))
       (λ trees. followed-told (worths t trees)

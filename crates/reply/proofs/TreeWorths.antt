@@ -13,8 +13,8 @@ use Rattle.live_table.proofs.Runs.{run_law}
 use Rattle.reply.specs.declared.failure.Failure.{Failure}
 use Rattle.reply.specs.declared.failure.Failure.TheVariants.{Fault, OutOfMemory}
 use Rattle.reply.specs.declared.fault.ReplyFault.{ReplyFault}
-use Rattle.reply.specs.Calls.{IsInquired, same}
-use Rattle.reply.specs.Inquiries.{Inquiry, after_query, tree_value, without_queries, worths}
+use Rattle.reply.specs.Calls.{IsInquired, itself}
+use Rattle.reply.specs.Inquiries.{Inquiry, inquiry_after, tree_value, without_queries, worths}
 use Rattle.reply.proofs.Fronts.{with_front, with_front-none}
 
 -- an inquiry after these queries, with these values before its result
@@ -41,11 +41,11 @@ underway-start t trees a n right = record {
 
 -- an inquiry with a value before those of its result
 abbrev onto : Inquiry (List Amount) → Amount → Inquiry (List Amount)
-onto m x = after_query m.events m.answer (λ ys. without_queries (Ok (x ∷ ys)))
+onto m x = inquiry_after m.events m.answer (λ ys. without_queries (Ok (x ∷ ys)))
 
 module _ (es : List Event) (xs : List Amount) (e : Event) (x : Amount) (gs : List Event) where
   more : (r : Result (List Amount) ReplyFault)
-      → behind es xs (after_query (e ∷ []) (Ok x) (onto (record { events = gs; answer = r })))
+      → behind es xs (inquiry_after (e ∷ []) (Ok x) (onto (record { events = gs; answer = r })))
       ≡ behind (es ++ e ∷ []) (xs ++ x ∷ []) (record { events = gs; answer = r })
   more (Ok ys) = λ i. record {
     events = (ap (λ (hs : List Event). es ++ (e ∷ hs)) (append-nil gs) ∙ sym (append_assoc es (e ∷ []) gs)) i;
@@ -60,10 +60,10 @@ module _ (t : Table) (trees rest : List Syntax) (tree : Syntax) (values : List A
 
   -- the whole inquiry, by the result for the next tree
   abbrev whole_by : Result Amount ReplyFault → Inquiry (List Amount)
-  whole_by said = behind u.events values (after_query (event ∷ []) said (onto (worths t rest)))
+  whole_by said = behind u.events values (inquiry_after (event ∷ []) said (onto (worths t rest)))
 
   -- the next tree has a value
-  pub underway-next : (x : Amount) → IsInquired same (tree_value t tree) (Ok x) b c m k
+  pub underway-next : (x : Amount) → IsInquired itself (tree_value t tree) (Ok x) b c m k
       → IsUnderway t trees rest (values ++ x ∷ []) a c n k
   underway-next x h = record {
     events = u.events ++ event ∷ [];
@@ -76,7 +76,8 @@ module _ (t : Table) (trees rest : List Syntax) (tree : Syntax) (values : List A
 
   -- the next tree has no value
   pub underway-failed : {A : Type 0} (seen : A → List Amount) (failure : Failure)
-      → IsInquired same (tree_value t tree) (Err failure) b c m k → IsInquired seen (worths t trees) (Err failure) a c n
+      → IsInquired itself (tree_value t tree) (Err failure) b c m k → IsInquired seen (worths t trees) (Err failure) a c
+      n
       k
   underway-failed seen failure h =
       subst (λ (w : Inquiry (List Amount)). IsInquired seen w (Err failure) a c n k) (sym u.whole) (go failure h)
@@ -86,7 +87,7 @@ module _ (t : Table) (trees rest : List Syntax) (tree : Syntax) (values : List A
           cut_both u.events (event ∷ []) (onto (worths t rest) x).events a b c n m k u.deck u.follows q
       cut (Err fault) q = run_law.cut_behind u.events (event ∷ []) a b c n m k u.deck u.follows q
 
-      go : (failure : Failure) → IsInquired same (tree_value t tree) (Err failure) b c m k
+      go : (failure : Failure) → IsInquired itself (tree_value t tree) (Err failure) b c m k
           → IsInquired seen (whole_by (tree_value t tree).answer) (Err failure) a c n k
       go (Fault fault) h =
           subst (λ (s : Result Amount ReplyFault). IsInquired seen (whole_by s) (Err (Fault fault)) a c n k) (sym h.0)

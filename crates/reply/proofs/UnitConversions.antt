@@ -11,7 +11,7 @@ use Rattle.reply.specs.declared.conversion.Conversion.{Conversion}
 use Rattle.reply.specs.declared.conversion.Conversion.TheVariants.{Linear, Reciprocal, Inverse, NonConforming, Split}
 use Rattle.reply.specs.declared.fault.ReplyFault.{ReplyFault}
 use Rattle.reply.specs.declared.ratio.Ratio.{Ratio}
-use Rattle.reply.specs.Conversions.{conversion_between, is_granted, linear, reciprocal}
+use Rattle.reply.specs.Conversions.{conversion_between, is_granted, linear_conversion, reciprocal_conversion}
 use Rattle.reply.specs.Grants.{AreFactors, IsBackFactor, IsUnitConversion}
 use Rattle.reply.specs.Quotients.{QuotientLaw}
 use Rattle.reply.specs.Ratios.{inverse_ratio, ratio_of, reciprocal_ratio}
@@ -59,26 +59,27 @@ module _ (law : QuotientLaw) (x y : Fraction) where
           let same : (record { forward = f; back = b }) ≡ r = ok-same _ r h in
           record {
             forward = (law x y r.forward).0 (e ∙ ap (λ (s : Ratio). Ok s.forward) same);
-            back = subst (λ (s : Ratio). IsBackFactor x y s.back) same
+            back_factor = subst (λ (s : Ratio). IsBackFactor x y s.back) same
                 (back-of (is_zero x) refl (fraction_quotient y x) refl b is);
           }
       go (Ok f) e (Err fault) is h = absurd (no-ok fault r h)
       go (Err fault) e b is h = absurd (no-ok fault r h)
 
   of-factors : (r : Ratio) → AreFactors x y r → ratio_of x y ≡ Ok r
-  of-factors r q = ap₂ ratio_by ((law x y r.forward).1 q.forward) (of-back r.back q.back)
+  of-factors r q = ap₂ ratio_by ((law x y r.forward).1 q.forward) (of-back r.back q.back_factor)
 
 -- ---- two quantities
 -- the conversion by the three tests
 abbrev pub conversion_by : (x y : Amount) (conforming opposite strict : Bool) → Result Conversion ReplyFault
 conversion_by x y conforming opposite strict =
-    if conforming then linear (ratio_of x.value y.value)
-    else (if opposite && not strict then reciprocal (reciprocal_ratio x.value y.value) else Ok (NonConforming x y))
+    if conforming then linear_conversion (ratio_of x.value y.value)
+    else (if opposite && not strict then reciprocal_conversion (reciprocal_ratio x.value y.value) else Ok
+    (NonConforming x y))
 
 module _ (law : QuotientLaw) (strict : Bool) (x y : Amount) where
   module _ (c : Conversion) where
     linear-of : conform x.exponents y.exponents ≡ true → (q : Result Ratio FracFault) → ratio_of x.value y.value ≡ q
-        → linear q ≡ Ok c → IsUnitConversion strict x y c
+        → linear_conversion q ≡ Ok c → IsUnitConversion strict x y c
     linear-of conforming (Ok r) e h =
         subst (IsUnitConversion strict x y) (ok-same (Linear r) c h)
         (record { conformable = conforming; factors = factors-of law x.value y.value r e })
@@ -86,7 +87,7 @@ module _ (law : QuotientLaw) (strict : Bool) (x y : Amount) where
 
     reciprocal-of : conform x.exponents y.exponents ≡ false → are_reciprocal x.exponents y.exponents ≡ true
         → strict ≡ false → (q : Result Ratio FracFault) → reciprocal_ratio x.value y.value ≡ q
-        → reciprocal q ≡ Ok c → IsUnitConversion strict x y c
+        → reciprocal_conversion q ≡ Ok c → IsUnitConversion strict x y c
     reciprocal-of unlike opposite lenient (Ok r) e h =
         let inverse = split-steps (fraction_quotient (whole (pos 1)) x.value) (λ i. ratio_of i y.value) r e in
         subst (IsUnitConversion strict x y) (ok-same (Reciprocal r) c h) (
@@ -95,7 +96,7 @@ module _ (law : QuotientLaw) (strict : Bool) (x y : Amount) where
             unlike = unlike;
             opposite = opposite;
             inverse = inverse.0;
-            inverted = (law (whole (pos 1)) x.value inverse.0).0 inverse.1;
+            inverse_is_quotient = (law (whole (pos 1)) x.value inverse.0).0 inverse.1;
             factors = factors-of law inverse.0 y.value r inverse.2;
           },
         )
@@ -120,14 +121,14 @@ module _ (law : QuotientLaw) (strict : Bool) (x y : Amount) where
   pub of-conversion : (c : Conversion) → IsUnitConversion strict x y c → conversion_between strict x y ≡ Ok c
   of-conversion (Linear r) h =
       ap (λ a. conversion_by x y a (are_reciprocal x.exponents y.exponents) strict) h.conformable
-      ∙ ap linear (of-factors law x.value y.value r h.factors)
+      ∙ ap linear_conversion (of-factors law x.value y.value r h.factors)
   of-conversion (Reciprocal r) h =
       let is = h.1 in
       ap (λ a. conversion_by x y a (are_reciprocal x.exponents y.exponents) strict) is.unlike
       ∙ ap₂ (conversion_by x y false) is.opposite h.0
-      ∙ ap (λ i. reciprocal (bound i (λ v. ratio_of v y.value)))
-      ((law (whole (pos 1)) x.value is.inverse).1 is.inverted)
-      ∙ ap reciprocal (of-factors law is.inverse y.value r is.factors)
+      ∙ ap (λ i. reciprocal_conversion (bound i (λ v. ratio_of v y.value)))
+      ((law (whole (pos 1)) x.value is.inverse).1 is.inverse_is_quotient)
+      ∙ ap reciprocal_conversion (of-factors law is.inverse y.value r is.factors)
   of-conversion (Inverse z) h = absurd h
   of-conversion (Split list counts) h = absurd h
   of-conversion (NonConforming p q) h = absurd h

@@ -11,7 +11,7 @@ use Rattle.def_entry.specs.EntryReading.{is_semicolon}
 use Rattle.def_entry.specs.Tables.{Table}
 use Rattle.def_lines.specs.Blanks.{trim_of}
 use Rattle.reply.specs.declared.fault.ReplyFault.{ReplyFault}
-use Rattle.reply.specs.Inquiries.{after_query, tree_value, without_queries, worths}
+use Rattle.reply.specs.Inquiries.{inquiry_after, tree_value, without_queries, worths}
 use Rattle.reply.specs.Targets.{parts_of}
 use Rattle.reply.specs.Trees.{tree_in, trees_in}
 
@@ -39,8 +39,8 @@ worths-count t (tree ∷ trees) xs e = go (worths-count t trees) (tree_value t t
   where
     go : ((ys : List Amount) → (worths t trees).answer ≡ Ok ys → length ys ≡ length trees)
         → (p : Result Amount ReplyFault) (q : Result (List Amount) ReplyFault) → (worths t trees).answer ≡ q
-        → (after_query (tree_value t tree).events p
-        (λ x. after_query (worths t trees).events q (λ ys. without_queries (Ok (x ∷ ys))))).answer
+        → (inquiry_after (tree_value t tree).events p
+        (λ x. inquiry_after (worths t trees).events q (λ ys. without_queries (Ok (x ∷ ys))))).answer
         ≡ Ok xs
         → length xs ≡ length (tree ∷ trees)
     go few (Ok x) (Ok ys) is e =

@@ -42,5 +42,5 @@ abbrev pub syntaxes_of : List Tree → List Syntax
 syntaxes_of trees = map syntax trees
 
 -- the identity function
-abbrev pub same : {A : Type 0} → A → A
-same x = x
+abbrev pub itself : {A : Type 0} → A → A
+itself x = x

@@ -30,21 +30,21 @@ abbrev pub is_granted : Conversion → Bool
 is_granted (NonConforming x y) = false
 is_granted _ = true
 
-abbrev pub linear : Result Ratio FracFault → Result Conversion ReplyFault
-linear (Ok ratio) = Ok (Linear ratio)
-linear (Err fault) = Err (Value (Number fault))
+abbrev pub linear_conversion : Result Ratio FracFault → Result Conversion ReplyFault
+linear_conversion (Ok ratio) = Ok (Linear ratio)
+linear_conversion (Err fault) = Err (Value (Number fault))
 
-abbrev pub reciprocal : Result Ratio FracFault → Result Conversion ReplyFault
-reciprocal (Ok ratio) = Ok (Reciprocal ratio)
-reciprocal (Err fault) = Err (Value (Number fault))
+abbrev pub reciprocal_conversion : Result Ratio FracFault → Result Conversion ReplyFault
+reciprocal_conversion (Ok ratio) = Ok (Reciprocal ratio)
+reciprocal_conversion (Err fault) = Err (Value (Number fault))
 
 -- two quantities: `Linear` if they conform; else `Reciprocal` if they are reciprocal and `strict` is off; else
 -- `NonConforming`
 abbrev pub conversion_between : (strict : Bool) (x y : Amount) → Result Conversion ReplyFault
 conversion_between strict x y =
-    if conform x.exponents y.exponents then linear (ratio_of x.value y.value)
+    if conform x.exponents y.exponents then linear_conversion (ratio_of x.value y.value)
     else (if are_reciprocal x.exponents y.exponents && not strict
-    then reciprocal (reciprocal_ratio x.value y.value)
+    then reciprocal_conversion (reciprocal_ratio x.value y.value)
     else Ok (NonConforming x y))
 
 -- the conversion by the counts of the units of a list in a quantity

@@ -19,15 +19,15 @@ use Rattle.reply.specs.declared.conversion.Conversion.{Conversion}
 use Rattle.reply.specs.declared.conversion.Conversion.TheVariants.{Split}
 use Rattle.reply.specs.declared.fault.ReplyFault.{ReplyFault}
 use Rattle.reply.specs.declared.fault.ReplyFault.TheVariants.{Value, List as ListUnit}
-use Rattle.reply.specs.Conversions.{linear, reciprocal}
+use Rattle.reply.specs.Conversions.{linear_conversion, reciprocal_conversion}
 use Rattle.reply.specs.Options.{reply_form}
 use Rattle.reply.specs.Ratios.{ratio_of, reciprocal_ratio}
 use Rattle.reply.specs.Replies.{as_conversion, conversion_queries, conversion_reply, definition_reply}
 use Rattle.reply.specs.Targets.{conversion_target, parts_of}
 
 -- a single word
-abbrev pub plain : List ℕ → WordUse
-plain w = record { text = w; kind = word.Plain }
+abbrev pub example_word : List ℕ → WordUse
+example_word w = record { text = w; kind = word.Plain }
 
 abbrev pub example_fraction : ℕ → ℕ → Fraction
 example_fraction n d = record { num = pos n; den = d }
@@ -80,11 +80,12 @@ refused_reply text = record { text = text; refused = true }
 
 -- a linear conversion, given the values of both units
 abbrev pub linearly : Options → (from to : List ℕ) → Fraction → Fraction → Reply
-linearly options from to x y = as_conversion (reply_form options) from to (linear (ratio_of x y))
+linearly options from to x y = as_conversion (reply_form options) from to (linear_conversion (ratio_of x y))
 
 -- a reciprocal conversion, given the values of both units
 abbrev pub reciprocally : Options → (from to : List ℕ) → Fraction → Fraction → Reply
-reciprocally options from to x y = as_conversion (reply_form options) from to (reciprocal (reciprocal_ratio x y))
+reciprocally options from to x y = as_conversion (reply_form options) from to
+    (reciprocal_conversion (reciprocal_ratio x y))
 
 -- ten meters in feet
 abbrev pub ten_meters : Options → Reply
@@ -158,10 +159,11 @@ ReplyFaultsLaw =
     × (definition_reply small_reply_table default (codes "gauge") ≡ refused_reply (codes "argument needed: gauge\n"))
     × (definition_reply small_reply_table default (codes "sin(1)") ≡ refused_reply (codes "refused function: sin\n"))
     × (conversion_queries small_reply_table default (codes "m") (codes "s")
-    ≡ AsksWords (plain (codes "m") ∷ []) ∷ AsksWords (plain (codes "s") ∷ []) ∷ [])
+    ≡ AsksWords (example_word (codes "m") ∷ []) ∷ AsksWords (example_word (codes "s") ∷ []) ∷ [])
     × (conversion_queries small_reply_table default (codes "nosuch") (codes "s") ≡ AsksWords
-    (plain (codes "nosuch") ∷ []) ∷ [])
-    × (conversion_queries small_reply_table default (codes "m") (codes "m;;s") ≡ AsksWords (plain (codes "m") ∷ []) ∷
+    (example_word (codes "nosuch") ∷ []) ∷ [])
+    × (conversion_queries small_reply_table default (codes "m") (codes "m;;s") ≡ AsksWords
+    (example_word (codes "m") ∷ []) ∷
     [])
 
 -- law: all examples

@@ -72,7 +72,7 @@ pub record GrantExamplesLaw : Type 0 where
       ≡ refused_reply (codes "conformability error\n\t2 / s\n\t1 s\n")
   pub unlike : example_reply default (codes "m") (codes "s")
       ≡ refused_reply (codes "conformability error\n\t1 m\n\t1 s\n")
-  pub split : example_reply default (codes "2 km") (codes "yards;m")
+  pub split_into_list : example_reply default (codes "2 km") (codes "yards;m")
       ≡ granted_reply (codes "\t2187 yards + 0.2072 m\n")
   pub inverse : example_reply default (codes "4 m") (codes "gauge") ≡ granted_reply (codes "\t2\n")
   pub zero : example_reply default (codes "m") (codes "0 m") ≡ refused_reply (codes "division by zero\n")

@@ -37,7 +37,7 @@ IsBackFactor from to (Some back) = IsQuotient to from back
 -- the two numbers of a reply: after `*` how often TO goes into FROM, and after `/` how often FROM goes into TO
 pub record AreFactors (from to : Fraction) (ratio : Ratio) : Type 0 where
   pub forward : IsQuotient from to ratio.forward
-  pub back : IsBackFactor from to ratio.back
+  pub back_factor : IsBackFactor from to ratio.back
 
 -- a linear conversion: x conforms to y
 pub record IsLinearConversion (x y : Amount) (ratio : Ratio) : Type 0 where
@@ -49,7 +49,7 @@ pub record IsReciprocalConversion (x y : Amount) (ratio : Ratio) : Type 0 where
   pub unlike : conform x.exponents y.exponents ≡ false
   pub opposite : are_reciprocal x.exponents y.exponents ≡ true
   pub inverse : Fraction
-  pub inverted : IsQuotient (whole (pos 1)) x.value inverse
+  pub inverse_is_quotient : IsQuotient (whole (pos 1)) x.value inverse
   pub factors : AreFactors inverse y.value ratio
 
 -- x in terms of y; with `strict` no conversion is reciprocal
@@ -69,7 +69,7 @@ module _ (table : Table) where
   pub record ConvertsToFunction (name : List ℕ) (x y : Amount) : Type 0 where
     pub names : key_fault table (key kind.Func name) ≡ None
     pub function : Callable
-    pub meaning : key_meaning table (key kind.Func name) ≡ Callee function
+    pub function_meaning : key_meaning table (key kind.Func name) ≡ Callee function
     pub evaluates : inverse_value_at function x ≡ Ok y
 
   -- a conversion to a list: each of its parts has a value above 0 to which x conforms, and x has counts of these
@@ -77,8 +77,8 @@ module _ (table : Table) where
     pub units : List Amount
     pub evaluates : AreValuesOf table (parts_of list) units
     pub conformable : All (λ unit. conform x.exponents unit.exponents ≡ true) units
-    pub positive : All (λ unit. is_positive unit.value ≡ true) units
-    pub counted : number_counts round x.value (numbers_of units) ≡ Ok counts
+    pub units_positive : All (λ unit. is_positive unit.value ≡ true) units
+    pub counts_are : number_counts round x.value (numbers_of units) ≡ Ok counts
 
 -- a conversion, by the meaning of the target
 abbrev pub ConvertsTo : Table → Options → (to : List ℕ) → Target → Amount → Conversion → Type 0
@@ -102,7 +102,7 @@ module _ (table : Table) (options : Options) (from to : List ℕ) where
   -- the reply to FROM and TO
   pub record IsConversionReply (reply : Reply) : Type 0 where
     -- the reply is not a refusal if and only if the conversion is granted
-    pub exactly : (reply.refused ≡ false) ↔ IsGranted
+    pub granted_exactly : (reply.refused ≡ false) ↔ IsGranted
     -- the reply to a granted conversion states the numbers of that conversion
     pub conversion : (c : Conversion) → IsConversion c
         → reply
@@ -111,7 +111,7 @@ module _ (table : Table) (options : Options) (from to : List ℕ) where
     pub comparison : conversion_target table (trim_of to) ≡ Unit → (x y : Amount) → IsValueOf table (trim_of from) x
         → IsValueOf table (trim_of to) y → reply ≡ comparison_reply options (trim_of from) (trim_of to) x y
     -- no conversion to a unit of the value 0 is granted
-    pub zero : conversion_target table (trim_of to) ≡ Unit → (y : Amount) → IsValueOf table (trim_of to) y
+    pub zero_target : conversion_target table (trim_of to) ≡ Unit → (y : Amount) → IsValueOf table (trim_of to) y
         → y.value.num ≡ pos 0 → reply.refused ≡ true
 
 -- law: the reply over the definitions of a deck grants exactly these conversions

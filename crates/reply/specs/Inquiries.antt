@@ -7,7 +7,7 @@ use Rattle.quantity.specs.Amount.{Amount}
 use Rattle.def_entry.specs.Tables.{Table}
 use Rattle.live_table.specs.declared.fault.QueryFault.{QueryFault}
 use Rattle.live_table.specs.declared.fault.QueryFault.TheVariants as query
-use Rattle.live_table.specs.Answers.{answer}
+use Rattle.live_table.specs.Answers.{table_answer}
 use Rattle.live_table.specs.States.{Event, AsksWords}
 use Rattle.reply.specs.declared.fault.ReplyFault.{ReplyFault}
 use Rattle.reply.specs.declared.fault.ReplyFault.TheVariants.{Parse, Name, Value}
@@ -22,14 +22,14 @@ pub record Inquiry (A : Type 0) : Type 0 where
 abbrev pub without_queries : {A : Type 0} → Result A ReplyFault → Inquiry A
 without_queries answer = record { events = []; answer = answer }
 
-abbrev pub after_query : {A B : Type 0} → List Event → Result A ReplyFault → (A → Inquiry B) → Inquiry B
-after_query events (Ok x) next = record { events = events ++ (next x).events; answer = (next x).answer }
-after_query events (Err fault) next = record { events = events; answer = Err fault }
+abbrev pub inquiry_after : {A B : Type 0} → List Event → Result A ReplyFault → (A → Inquiry B) → Inquiry B
+inquiry_after events (Ok x) next = record { events = events ++ (next x).events; answer = (next x).answer }
+inquiry_after events (Err fault) next = record { events = events; answer = Err fault }
 
 -- one inquiry, and then another that depends on its result; a fault ends both
 infixl 10 ◌>>=◌
 abbrev pub ◌>>=◌ : {A B : Type 0} → Inquiry A → (A → Inquiry B) → Inquiry B
-first >>= next = after_query first.events first.answer next
+first >>= next = inquiry_after first.events first.answer next
 
 -- lack of memory, which is never the result of a query
 abbrev pub no_memory : ReplyFault
@@ -49,7 +49,7 @@ single_query event result = record { events = event ∷ []; answer = as_answer r
 module _ (table : Table) where
   -- the value of a tree
   abbrev pub tree_value : Syntax → Inquiry Amount
-  tree_value tree = single_query (AsksWords (words_in tree)) (answer table tree)
+  tree_value tree = single_query (AsksWords (words_in tree)) (table_answer table tree)
 
   -- the values of trees, in order
   abbrev pub worths : List Syntax → Inquiry (List Amount)

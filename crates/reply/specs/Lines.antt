@@ -54,14 +54,14 @@ count_text form part count = with_part form.layout
     with_part _ = (number_text form.style count ++ codes " ") ++ part
 
 -- the separator of two counts
-abbrev pub between : Layout → List ℕ
-between Compact = codes ";"
-between _ = codes " + "
+abbrev pub separator : Layout → List ℕ
+separator Compact = codes ";"
+separator _ = codes " + "
 
 -- the counts of the parts after the first
 abbrev pub further_text : Form → (parts : List (List ℕ)) → List Fraction → List ℕ
 further_text form (part ∷ parts) (count ∷ counts) =
-    (between form.layout ++ count_text form part count) ++ further_text form parts counts
+    (separator form.layout ++ count_text form part count) ++ further_text form parts counts
 further_text form _ _ = []
 
 -- the counts of all parts

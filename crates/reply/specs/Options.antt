@@ -9,8 +9,8 @@ use Rattle.reply.specs.declared.options.Options.{Options}
 
 -- the digits are from 1 to 36
 pub record IsPrintable (options : Options) : Type 0 where
-  pub least : 1 ≤ options.digits
-  pub most : options.digits ≤ 36
+  pub digits_least : 1 ≤ options.digits
+  pub digits_most : options.digits ≤ 36
 
 -- the style of numbers: with `exact` the digits have no effect
 abbrev pub style_of : Options → Style

@@ -9,7 +9,7 @@ use Rattle.frac128.specs.Steps.{fraction_quotient}
 pub record IsQuotient (x y v : Fraction) : Type 0 where
   pub denominator : 0 < x.den
   pub divisor : y.num ≢ pos 0
-  pub exact : SameValue (product v y) x
+  pub product_exact : SameValue (product v y) x
   pub frac : IsFrac v
 
 -- law: the result of a division is a fraction if and only if it is the exact quotient

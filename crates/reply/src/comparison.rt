@@ -22,7 +22,7 @@ pub(crate) fn compare_quantities(
     x: Quantity,
     y: &Quantity,
 ) -> Result<Conversion, Failure>
-    ensures { call.IsRead call.same (spec.conversion_between strict x y.now) result }
+    ensures { call.IsRead call.itself (spec.conversion_between strict x y.now) result }
 {
     if x.conforms(y) {
         return Ok(Conversion::Linear(ratio_of(&x.value(), &y.value())?));
@@ -42,7 +42,7 @@ pub(crate) fn count_units(
     mut units: Vec<Quantity>,
 ) -> Result<Conversion, Failure>
     requires { 0 < length units.items }
-    ensures { call.IsRead call.same (spec.split_conversion x list units.items (counts_in round x units.items)) result }
+    ensures { call.IsRead call.itself (spec.split_conversion x list units.items (counts_in round x units.items)) result }
 {
     match split(alloc, &x, units.as_slice(), round) {
         Ok(split) => Ok(Conversion::Split(list, split.counts)),

@@ -47,7 +47,7 @@ pub(crate) fn convert<L: Ledger>(
     steps: &mut Steps<L>,
 ) -> Result<Conversion, Failure>
     ensures deck { table.new.deck ≡ table.old.deck }
-    ensures inquired { call.IsInquired call.same
+    ensures inquired { call.IsInquired call.itself
         (spec.conversion (tables.table table.old.deck) options.now from.now to.now) result
         table.old table.new steps.old steps.new }
 {
@@ -68,7 +68,7 @@ fn converted_to<L: Ledger>(
 ) -> Result<Conversion, Failure>
     requires { target ≡ targets.conversion_target (tables.table table.old.deck) to.now }
     ensures deck { table.new.deck ≡ table.old.deck }
-    ensures inquired { call.IsInquired call.same
+    ensures inquired { call.IsInquired call.itself
         (spec.converted_to (tables.table table.old.deck) options.now to.now target x) result
         table.old table.new steps.old steps.new }
 {
@@ -89,7 +89,7 @@ fn convert_to_unit<L: Ledger>(
     steps: &mut Steps<L>,
 ) -> Result<Conversion, Failure>
     ensures deck { table.new.deck ≡ table.old.deck }
-    ensures inquired { call.IsInquired call.same
+    ensures inquired { call.IsInquired call.itself
         (spec.conversion_to_unit (tables.table table.old.deck) options.now to.now x) result
         table.old table.new steps.old steps.new }
 {
@@ -107,7 +107,7 @@ fn apply_inverse<L: Ledger>(
 ) -> Result<Conversion, Failure>
     requires there { is_present (tables.table table.old.deck) (keys.key kinds.Func name.now) ≡ true }
     ensures deck { table.new.deck ≡ table.old.deck }
-    ensures inquired { call.IsInquired call.same (spec.inverse_conversion (tables.table table.old.deck) name.now x)
+    ensures inquired { call.IsInquired call.itself (spec.inverse_conversion (tables.table table.old.deck) name.now x)
         result
         table.old table.new steps.old steps.new }
 {
@@ -125,7 +125,7 @@ fn convert_to_list<L: Ledger>(
     steps: &mut Steps<L>,
 ) -> Result<Conversion, Failure>
     ensures deck { table.new.deck ≡ table.old.deck }
-    ensures inquired { call.IsInquired call.same
+    ensures inquired { call.IsInquired call.itself
         (spec.conversion_to_list (tables.table table.old.deck) options.now list x) result
         table.old table.new steps.old steps.new }
 {

@@ -104,7 +104,7 @@ fn put_count(
 
 // Appends the separator of two counts.
 fn put_between(text: &mut Vec<u8>, layout: Layout) -> Result<(), AllocError>
-    ensures { OnOk result (text.new.items ≡ text.old.items ++ spec.between layout) }
+    ensures { OnOk result (text.new.items ≡ text.old.items ++ spec.separator layout) }
 {
     match layout {
         Layout::Compact => text.extend_from_slice(b";".as_slice())?,

@@ -52,7 +52,7 @@ fn evaluate_tree<L: Ledger>(
     steps: &mut Steps<L>,
 ) -> Result<Quantity, QueryFault>
     ensures deck { table.new.deck ≡ table.old.deck }
-    ensures inquired { call.IsInquired call.same (spec.tree_value (tables.table table.old.deck) (syntax tree.now))
+    ensures inquired { call.IsInquired call.itself (spec.tree_value (tables.table table.old.deck) (syntax tree.now))
         (call.as_inquired result) table.old table.new steps.old steps.new }
 {
     table.value(alloc, tree, steps)
@@ -97,7 +97,7 @@ pub(crate) fn evaluate_text<L: Ledger>(
     steps: &mut Steps<L>,
 ) -> Result<Quantity, Failure>
     ensures deck { table.new.deck ≡ table.old.deck }
-    ensures inquired { call.IsInquired call.same (spec.text_worth (tables.table table.old.deck) text.now) result
+    ensures inquired { call.IsInquired call.itself (spec.text_worth (tables.table table.old.deck) text.now) result
         table.old table.new steps.old steps.new }
 {
     // The cached outcomes are right even if nothing is queried.

@@ -32,7 +32,7 @@ use Rattle.session.specs.AnswerExamples.{AnswerExamples, IsAnsweredBy, IsPending
 use Rattle.session.specs.Answers.{edit_answer, output_answer, save_answer, watch_answer}
 use Rattle.session.specs.TextQueries.{from_of, from_reply}
 use Rattle.session.specs.Commands.{colon_command, command_in}
-use Rattle.session.specs.TableCounts.{count_text, statistics}
+use Rattle.session.specs.TableCounts.{statistics, table_count_text}
 use Rattle.session.specs.EditResults.{edit_result, turn_result}
 use Rattle.session.specs.DeckEdits.{notice_lines}
 use Rattle.session.specs.HeardLines.{readable}
@@ -54,8 +54,8 @@ reply_trimmed table options from to same e =
 -- the answer to a text as TO, from the reply over the definitions of the examples
 expression_converted : (from text : List ℕ) (reply : Reply) → conversion_reply measures default from text ≡ reply
     → (state : State) → table_in (deck_in state) ≡ measures → state.session.options ≡ default
-    → state.session.pending ≡ Some from
-    → IsAnsweredBy reply.text (expression_answer state.session.pending text state) state
+    → state.session.pending_from ≡ Some from
+    → IsAnsweredBy reply.text (expression_answer state.session.pending_from text state) state
 unfolding after_events
 expression_converted from text reply gives state table options pending = record {
   out = ap (λ (p : Option (List ℕ)). (expression_answer p text state).out) pending
@@ -63,28 +63,29 @@ expression_converted from text reply gives state table options pending = record 
       ∙ ap (λ (o : Options). (conversion_reply measures o from text).text) options
       ∙ ap (λ (r : Reply). r.text) gives;
   err = ap (λ (p : Option (List ℕ)). (expression_answer p text state).err) pending;
-  pending = ap (λ (p : Option (List ℕ)). (expression_answer p text state).after.session.pending) pending;
-  deck = ap (λ (p : Option (List ℕ)). deck_in (expression_answer p text state).after) pending;
+  none_pending = ap (λ (p : Option (List ℕ)). (expression_answer p text state).state_after.session.pending_from)
+      pending;
+  deck = ap (λ (p : Option (List ℕ)). deck_in (expression_answer p text state).state_after) pending;
 }
 
 -- a text becomes the pending FROM, if it has a value
-expression_pending : (text : List ℕ) (state : State) (x : Amount) → state.session.pending ≡ None
+expression_pending : (text : List ℕ) (state : State) (x : Amount) → state.session.pending_from ≡ None
     → from_value (table_in (deck_in state)) state.session.options text ≡ Good x
-    → IsPending text (expression_answer state.session.pending text state)
+    → IsPending text (expression_answer state.session.pending_from text state)
 expression_pending text state x none good = record {
   out = ap (λ (p : Option (List ℕ)). (expression_answer p text state).out) none
       ∙ ap (λ (v : FromValue). (from_reply v).text) good;
-  pending = ap (λ (p : Option (List ℕ)). (expression_answer p text state).after.session.pending) none
+  from_is_pending = ap (λ (p : Option (List ℕ)). (expression_answer p text state).state_after.session.pending_from) none
       ∙ ap (λ (v : FromValue). from_of v text) good;
 }
 
 -- the three counts of `:stats`
 abbrev counts_text : (settled names reductions : ℕ) → List ℕ
 counts_text settled names reductions =
-    ((codes "settled " ++ count_text settled (codes " of ")) ++ count_text names (codes ", reductions "))
-    ++ count_text reductions (codes "\n")
+    ((codes "settled " ++ table_count_text settled (codes " of ")) ++ table_count_text names (codes ", reductions "))
+    ++ table_count_text reductions (codes "\n")
 
-stats_counted : (state : State) → map_of.len state.session.table.kept ≡ 4
+stats_counted : (state : State) → map_of.len state.session.table.kept_outcomes ≡ 4
     → length (present_names (table_in (deck_in state))) ≡ 7 → state.session.table.reductions ≡ 6
     → statistics state.session.table ≡ codes "settled 4 of 7, reductions 6\n"
 unfolding statistics digits
@@ -99,9 +100,9 @@ unfolding readable line_content command_in colon_command answer_to after_events 
     what_of
 examples law = record {
   quit = λ state. refl;
-  blank = λ state h. ap (λ pending. blank_answer pending state) h;
+  blank_line = λ state h. ap (λ pending. blank_answer pending state) h;
   long = λ state line h. ap (answer_read state) h;
-  unknown = λ state. refl;
+  unknown_command = λ state. refl;
   bad = λ state. refl;
   no_key = λ state. refl;
   no_such_key = λ state h.
@@ -127,7 +128,7 @@ examples law = record {
       (notice_lines (with_answer state.files (codes "my units") (answer_of found) (deck_in state))) state) h;
   too_long = λ state h. ap (λ outcome. save_answer outcome (codes "mine") state) h;
   many_watches = λ state h. ap (λ full. watch_answer full (watch_subject (codes "ft") (codes "m")) state) h;
-  from = expression_pending (codes "2 km");
+  from_line = expression_pending (codes "2 km");
   linear = expression_converted (codes "2 km") (codes "yards") _
       (reply_trimmed measures default (codes "2 km") (codes "yards") (codes " yards ") refl ∙ law.linear);
   reciprocal = expression_converted (codes "2 Hz") (codes "s") _ law.reciprocal;
@@ -135,10 +136,11 @@ examples law = record {
   define = λ state h.
       let d = with_line (codes "m !") (deck_in state) in
       ap (λ (b : Bool). (deck_in (edit_answer
-      (edit_result (if b then Err DeckFull else Ok d) [] (dated_in state.session)) [] state).after).lines) h;
+      (edit_result (if b then Err DeckFull else Ok d) [] (dated_in state.session)) [] state).state_after).lines) h;
   drop_last = λ state place h.
       ap (λ p. (deck_in (edit_answer
-      (edit_result (without_some p (deck_in state)) (codes "k-") (dated_in state.session)) [] state).after).lines) h;
+      (edit_result (without_some p (deck_in state)) (codes "k-") (dated_in state.session)) [] state).state_after).lines)
+      h;
   set = λ state. refl;
   locale = λ state. refl;
   stats = λ state settled names reductions. ap (λ text. output_answer text state)

@@ -18,7 +18,7 @@ use Rattle.session.proofs.TalkParts.{next, fed_piece, fed_line, fed_last}
 -- a session at this point holds the rest of the bytes read
 pub stands_holds : (base : Base) (first : SessionTrace) (taken : List ℕ) (held : Option (List ℕ)) (now : Now)
     → Stands base first taken held now → Holds taken held
-stands_holds base first taken held now s = record { going = s.going; part = s.part }
+stands_holds base first taken held now s = record { going = s.going; held_part = s.held_part }
 
 -- a block in progress: one part of it is answered, and the rest is to come
 module _ (base : Base) (first : SessionTrace) (taken block ready rest : List ℕ) (held : Option (List ℕ)) (now : Now)

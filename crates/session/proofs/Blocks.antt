@@ -95,9 +95,9 @@ of_two (inr b) = inr (inl b)
 pub none_left : (left : Option (List ℕ)) (rest : List ℕ) → left ≡ Some rest → IsNoneLeft left → rest ≡ []
 none_left left rest e h = rw e at h
 
-pub loses : (old new : Option (List ℕ)) (left bytes : List ℕ) → old ≡ Some left → Loses old new bytes
+pub loses_from_known : (old new : Option (List ℕ)) (left bytes : List ℕ) → old ≡ Some left → Loses old new bytes
     → Loses (Some left) new bytes
-loses old new left bytes e h = rw e at h
+loses_from_known old new left bytes e h = rw e at h
 
 -- the bytes taken of an input are those before the rest
 pub taken_is : (input taken rest : List ℕ) (left : Option (List ℕ)) → input ≡ taken ++ rest → left ≡ Some rest
@@ -119,20 +119,20 @@ left_and_more taken bytes done left more e =
     sym (append_assoc (taken ++ done) left more) ∙ same_input taken bytes done left more e
 
 -- after the opening is written, the session waits for its first line
-pub opens : (first : SessionTrace) (held : Option (List ℕ)) (said : Said) (session : SessionState)
+pub waits_after_opening : (first : SessionTrace) (held : Option (List ℕ)) (said : Said) (session : SessionState)
     (before opening now : Outside)
     → Opens first said session before opening
     → now.out ≡ known_append opening.out said.out.items → now.err ≡ known_append opening.err said.err.items
     → now.files ≡ opening.files → now.steps ≡ opening.steps → held ≡ readable []
     → WaitsForInput first [] held session before now
-opens first held said session before opening now w o e f n h = record {
-  out = o ∙ ap (λ p. known_append p said.out.items) w.out ∙ ap (known_append before.out) (sym w.at.out);
-  err = e ∙ ap (λ p. known_append p said.err.items) w.err ∙ ap (known_append before.err) (sym w.at.err);
-  files = f ∙ w.at.files;
-  steps = omega (arith, n, w.at.steps);
-  session = w.at.session;
+waits_after_opening first held said session before opening now w o e f n h = record {
+  out = o ∙ ap (λ p. known_append p said.out.items) w.out ∙ ap (known_append before.out) (sym w.is_at.out);
+  err = e ∙ ap (λ p. known_append p said.err.items) w.err ∙ ap (known_append before.err) (sym w.is_at.err);
+  files = f ∙ w.is_at.files;
+  steps = omega (arith, n, w.is_at.steps);
+  session = w.is_at.session;
   going = refl;
-  part = h;
+  held_part = h;
 }
 
 module _ (first : SessionTrace) (taken : List ℕ) (held : Option (List ℕ)) (session : SessionState)
@@ -148,9 +148,9 @@ module _ (first : SessionTrace) (taken : List ℕ) (held : Option (List ℕ)) (s
   -- as long as there is no new output, the session is at the same point
   pub stands : (said : Said) → said.out.items ≡ [] → said.err.items ≡ []
       → Stands written first taken held
-      (record { said = said; session = session; files = now.files; steps = now.steps })
+      (record { said_output = said; session = session; files = now.files; steps = now.steps })
   stands said o e = record {
-    at = record {
+    is_at = record {
       out = sym (append-nil told.out) ∙ ap (λ t. told.out ++ t) (sym o);
       err = sym (append-nil told.err) ∙ ap (λ t. told.err ++ t) (sym e);
       session = w.session;
@@ -158,7 +158,7 @@ module _ (first : SessionTrace) (taken : List ℕ) (held : Option (List ℕ)) (s
       steps = w.steps;
     };
     going = w.going;
-    part = w.part;
+    held_part = w.held_part;
   }
 
   -- a front of the written and the new output together is a front of the whole
@@ -175,41 +175,42 @@ module _ (first : SessionTrace) (taken : List ℕ) (held : Option (List ℕ)) (s
   -- the output is a part of the whole, according to how far the talk is answered
   pub part_by : (failed : Type 0) (input : List ℕ) (said : Said) (new : SessionState) (after : Outside)
       → BreaksOff failed written first (heard (lines_of input))
-      (record { said = said; session = new; files = after.files; steps = after.steps })
+      (record { said_output = said; session = new; files = after.files; steps = after.steps })
       → GrowsByFront now.out after.out said.out.items → GrowsByFront now.err after.err said.err.items
       → IsPartIf failed (session_course first input) before after
   part_by failed input said new after broken o e = record {
-    answered = broken.answered;
-    rest = broken.rest;
-    split = broken.split;
-    front = fronts (trace_over first broken.answered) said after broken.before o e;
-    files = broken.left;
+    answered_lines = broken.answered_lines;
+    lines_left = broken.lines_left;
+    lines_split = broken.lines_split;
+    output_front = fronts (trace_over first broken.answered_lines) said after broken.output_before o e;
+    files = broken.files_left;
   }
 
   -- the session waits again after its output is written
-  pub waits : (front : List ℕ) (held_now : Option (List ℕ)) (said : Said) (new : SessionState) (after : Outside)
+  pub waits_after_output : (front : List ℕ) (held_now : Option (List ℕ)) (said : Said) (new : SessionState)
+      (after : Outside)
       → Stands written first front held_now
-      (record { said = said; session = new; files = after.files; steps = after.steps })
+      (record { said_output = said; session = new; files = after.files; steps = after.steps })
       → after.out ≡ known_append now.out said.out.items → after.err ≡ known_append now.err said.err.items
       → WaitsForInput first front held_now new before after
-  waits front held_now said new after s o e = record {
+  waits_after_output front held_now said new after s o e = record {
     out = o ∙ ap (λ p. known_append p said.out.items) w.out ∙ grown_twice before.out told.out said.out.items
-        ∙ ap (known_append before.out) (sym s.at.out);
+        ∙ ap (known_append before.out) (sym s.is_at.out);
     err = e ∙ ap (λ p. known_append p said.err.items) w.err ∙ grown_twice before.err told.err said.err.items
-        ∙ ap (known_append before.err) (sym s.at.err);
-    files = s.at.files;
-    steps = s.at.steps;
-    session = s.at.session;
+        ∙ ap (known_append before.err) (sym s.is_at.err);
+    files = s.is_at.files;
+    steps = s.is_at.steps;
+    session = s.is_at.session;
     going = s.going;
-    part = s.part;
+    held_part = s.held_part;
   }
 
   -- the run is complete after the talk over its input is written
-  pub whole : (talk : SessionTrace) (said : Said) (new : SessionState) (after : Outside)
-      → IsAt written talk (record { said = said; session = new; files = after.files; steps = after.steps })
+  pub all_after_talk : (talk : SessionTrace) (said : Said) (new : SessionState) (after : Outside)
+      → IsAt written talk (record { said_output = said; session = new; files = after.files; steps = after.steps })
       → after.out ≡ known_append now.out said.out.items → after.err ≡ known_append now.err said.err.items
       → IsAll (output_of talk) before after
-  whole talk said new after at o e = record {
+  all_after_talk talk said new after at o e = record {
     out = o ∙ ap (λ p. known_append p said.out.items) w.out ∙ grown_twice before.out told.out said.out.items
         ∙ ap (known_append before.out) (sym at.out);
     err = e ∙ ap (λ p. known_append p said.err.items) w.err ∙ grown_twice before.err told.err said.err.items
@@ -219,14 +220,14 @@ module _ (first : SessionTrace) (taken : List ℕ) (held : Option (List ℕ)) (s
   }
 
   -- the output of a waiting session is cut after the bytes read
-  pub cut : (input rest : List ℕ) (after : Outside) → input ≡ taken ++ rest → after.left ≡ Some rest
+  pub output_cut_short : (input rest : List ℕ) (after : Outside) → input ≡ taken ++ rest → after.input_left ≡ Some rest
       → after.out ≡ now.out → after.err ≡ now.err → after.files ≡ now.files → after.steps ≡ now.steps
       → IsCutShort (session_course first input) before after
-  cut input rest after p q o e f n =
+  output_cut_short input rest after p q o e f n =
       subst (λ t. IsOutputCut (output_of (trace_over first (whole_lines t))) t before after)
-      (sym (taken_is input taken rest after.left p q))
+      (sym (taken_is input taken rest after.input_left p q))
       (record {
-        all = record {
+        all_written = record {
           out = o ∙ w.out;
           err = e ∙ w.err;
           files = f ∙ w.files;
@@ -242,10 +243,10 @@ module _ (first : SessionTrace) (taken : List ℕ) (held : Option (List ℕ)) (s
   cut_part input rest after p o e f =
       let more = heard_more taken w.going rest in
       record {
-        answered = whole_lines taken;
-        rest = more.0;
-        split = ap (λ i. heard (lines_of i)) p ∙ more.1;
-        front = record {
+        answered_lines = whole_lines taken;
+        lines_left = more.0;
+        lines_split = ap (λ i. heard (lines_of i)) p ∙ more.1;
+        output_front = record {
           out = front_all before.out after.out told.out (o ∙ w.out);
           err = front_all before.err after.err told.err (e ∙ w.err);
         };
@@ -258,16 +259,16 @@ open_front : (first : SessionTrace) (said : Said) (session : SessionState) (befo
     → GrowsByFront opening.out after.out said.out.items → GrowsByFront opening.err after.err said.err.items
     → IsOutputFront (output_of first) before after
 open_front first said session before opening after w o e = record {
-  out = subst (GrowsByFront before.out after.out) (sym w.at.out)
+  out = subst (GrowsByFront before.out after.out) (sym w.is_at.out)
       (subst (λ p. GrowsByFront p after.out said.out.items) w.out o);
-  err = subst (GrowsByFront before.err after.err) (sym w.at.err)
+  err = subst (GrowsByFront before.err after.err) (sym w.is_at.err)
       (subst (λ p. GrowsByFront p after.err said.err.items) w.err e);
 }
 
 -- before any line is answered, the files are as they were
 pub opened_files : (first : SessionTrace) (said : Said) (session : SessionState) (before opening : Outside)
     → Opens first said session before opening → opening.files ≡ when_told before.files first.state.files
-opened_files first said session before opening w = w.at.files
+opened_files first said session before opening w = w.is_at.files
 
 -- if the opening is written in part, the output is a part of the whole
 pub open_part : (first : SessionTrace) (input : List ℕ) (said : Said) (session : SessionState)
@@ -276,10 +277,10 @@ pub open_part : (first : SessionTrace) (input : List ℕ) (said : Said) (session
     → GrowsByFront opening.err after.err said.err.items → after.files ≡ opening.files
     → IsPrefixRunExceptFile (session_course first input) before after
 open_part first input said session before opening after w o e f = record {
-  answered = [];
-  rest = heard (lines_of input);
-  split = refl;
-  front = open_front first said session before opening after w o e;
+  answered_lines = [];
+  lines_left = heard (lines_of input);
+  lines_split = refl;
+  output_front = open_front first said session before opening after w o e;
   files = (first.state.files, f ∙ opened_files first said session before opening w, inl refl);
 }
 
@@ -304,9 +305,9 @@ pub took_enough : (total most before after : ℕ) → TookAtLeast total before a
 took_enough total most before after (inl e) h = inl (omega (arith, e, h))
 took_enough total most before after (inr e) h = inr e
 
-pub went : (input taken rest bytes more : List ℕ) → input ≡ taken ++ rest → rest ≡ bytes ++ more
+pub bytes_rejoined : (input taken rest bytes more : List ℕ) → input ≡ taken ++ rest → rest ≡ bytes ++ more
     → (taken ++ bytes) ++ more ≡ input
-went input taken rest bytes more p q = append_assoc taken bytes more ∙ ap (λ t. taken ++ t) (sym q) ∙ sym p
+bytes_rejoined input taken rest bytes more p q = append_assoc taken bytes more ∙ ap (λ t. taken ++ t) (sym q) ∙ sym p
 
 module _ (first : SessionTrace) (taken : List ℕ) (held : Option (List ℕ)) (session : SessionState)
     (before now : Outside)
@@ -314,11 +315,11 @@ module _ (first : SessionTrace) (taken : List ℕ) (held : Option (List ℕ)) (s
   -- the run over an equal input is complete, too
   pub whole_at : (i input : List ℕ) (said : Said) (new : SessionState) (after : Outside) → i ≡ input
       → IsAt (written first taken held session before now w) (trace_on first i)
-      (record { said = said; session = new; files = after.files; steps = after.steps })
+      (record { said_output = said; session = new; files = after.files; steps = after.steps })
       → after.out ≡ known_append now.out said.out.items → after.err ≡ known_append now.err said.err.items
       → IsAll (output_of (trace_on first input)) before after
   whole_at i input said new after p at o e = subst (λ t. IsAll (output_of (trace_on first t)) before after) p
-      (whole first taken held session before now w (trace_on first i) said new after at o e)
+      (all_after_talk first taken held session before now w (trace_on first i) said new after at o e)
 
 -- the input was read to a line that ends the session
 pub heard_by : (input taken bytes more : List ℕ) (left : Option (List ℕ)) → (taken ++ bytes) ++ more ≡ input

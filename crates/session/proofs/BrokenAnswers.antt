@@ -60,25 +60,25 @@ left_more failed rest after left files (inr spoilt) = inr (
   spoilt.0,
   record {
     line = spoilt.1.line;
-    later = spoilt.1.later ++ after;
+    lines_later = spoilt.1.lines_later ++ after;
     name = spoilt.1.name;
-    next = ap (λ ls. ls ++ after) spoilt.1.next;
+    rest_begins = ap (λ ls. ls ++ after) spoilt.1.rest_begins;
     saves = spoilt.1.saves;
-    others = spoilt.1.others;
+    others_same = spoilt.1.others_same;
   },
 )
 
 pub broken_by : (failed cause : Type 0) (base : Base) (talk : SessionTrace) (lines : List (List ℕ)) (now : Now)
     → (failed → cause) → BreaksOff failed base talk lines now → BreaksOff cause base talk lines now
 broken_by failed cause base talk lines now h b = record {
-  answered = b.answered;
-  rest = b.rest;
-  split = b.split;
-  before = b.before;
-  left = (
-    b.left.0,
-    b.left.1,
-    left_by failed cause b.rest (trace_over talk b.answered).state.files b.left.0 h b.left.2,
+  answered_lines = b.answered_lines;
+  lines_left = b.lines_left;
+  lines_split = b.lines_split;
+  output_before = b.output_before;
+  files_left = (
+    b.files_left.0,
+    b.files_left.1,
+    left_by failed cause b.lines_left (trace_over talk b.answered_lines).state.files b.files_left.0 h b.files_left.2,
   );
 }
 
@@ -86,11 +86,11 @@ broken_by failed cause base talk lines now h b = record {
 pub broken_last : (failed : Type 0) (base : Base) (talk : SessionTrace) (lines : List (List ℕ)) (now : Now)
     → IsAt base (trace_over talk lines) now → BreaksOff failed base talk lines now
 broken_last failed base talk lines now at = record {
-  answered = lines;
-  rest = [];
-  split = sym (append-nil lines);
-  before = at_before base (trace_over talk lines) (trace_over talk lines) [] now at refl;
-  left = ((trace_over talk lines).state.files, at.files, inl refl);
+  answered_lines = lines;
+  lines_left = [];
+  lines_split = sym (append-nil lines);
+  output_before = at_before base (trace_over talk lines) (trace_over talk lines) [] now at refl;
+  files_left = ((trace_over talk lines).state.files, at.files, inl refl);
 }
 
 -- the answers break off at a line, with those before it answered
@@ -98,22 +98,24 @@ broken_more : (fault : SessionFault) (base : Base) (first : SessionTrace) (befor
     (after all : List (List ℕ)) (now : Now) → all ≡ before ++ line ∷ after
     → IsBroken fault base (trace_over first before) (line ∷ []) now → IsBroken fault base first all now
 broken_more fault base first before line after all now e b =
-    let same : trace_over (trace_over first before) b.answered ≡ trace_over first (before ++ b.answered) =
-    sym (talk-append first before b.answered) in
+    let same : trace_over (trace_over first before) b.answered_lines ≡ trace_over first (before ++ b.answered_lines) =
+    sym (talk-append first before b.answered_lines) in
     record {
-      answered = before ++ b.answered;
-      rest = b.rest ++ after;
-      split =
-          e ∙ ap (λ ls. before ++ (ls ++ after)) b.split
-          ∙ ap (λ ls. before ++ ls) (append_assoc b.answered b.rest after)
-          ∙ sym (append_assoc before b.answered (b.rest ++ after));
-      before = subst (λ (t : SessionTrace). IsBefore base t now.said) same b.before;
-      left = (
-        b.left.0,
-        b.left.1,
-        subst (λ (t : SessionTrace). AreLeft (fault ≡ WriteFailed) (b.rest ++ after) t.state.files b.left.0) same
-            (left_more (fault ≡ WriteFailed) b.rest after (trace_over (trace_over first before) b.answered).state.files
-            b.left.0 b.left.2),
+      answered_lines = before ++ b.answered_lines;
+      lines_left = b.lines_left ++ after;
+      lines_split =
+          e ∙ ap (λ ls. before ++ (ls ++ after)) b.lines_split
+          ∙ ap (λ ls. before ++ ls) (append_assoc b.answered_lines b.lines_left after)
+          ∙ sym (append_assoc before b.answered_lines (b.lines_left ++ after));
+      output_before = subst (λ (t : SessionTrace). IsBefore base t now.said_output) same b.output_before;
+      files_left = (
+        b.files_left.0,
+        b.files_left.1,
+        subst (λ (t : SessionTrace). AreLeft (fault ≡ WriteFailed) (b.lines_left ++ after) t.state.files b.files_left.0)
+            same
+            (left_more (fault ≡ WriteFailed) b.lines_left after
+            (trace_over (trace_over first before) b.answered_lines).state.files
+            b.files_left.0 b.files_left.2),
       );
     }
 
@@ -121,11 +123,11 @@ broken_more fault base first before line after all now e b =
 pub broken_at : (fault : SessionFault) (base : Base) (talk : SessionTrace) (lines : List (List ℕ)) (now : Now)
     → IsAt base talk now → IsBroken fault base talk lines now
 broken_at fault base talk lines now at = record {
-  answered = [];
-  rest = lines;
-  split = refl;
-  before = at_before base talk talk [] now at refl;
-  left = (talk.state.files, at.files, inl refl);
+  answered_lines = [];
+  lines_left = lines;
+  lines_split = refl;
+  output_before = at_before base talk talk [] now at refl;
+  files_left = (talk.state.files, at.files, inl refl);
 }
 
 -- the files after a save that failed
@@ -136,7 +138,18 @@ left_of_save None left part name files e kept = (left, kept, inl refl)
 left_of_save (Some old) left part name files e kept = (
   kept.0,
   kept.1,
-  inr (refl, record { line = part; later = []; name = name; next = refl; saves = e; others = kept.2 }),
+  inr (
+    refl,
+    record {
+      line = part;
+      lines_later = [];
+      name = name;
+      rest_begins = refl;
+      saves = e;
+      others_same =
+          kept.2;
+    },
+  ),
 )
 
 -- the files after a line that was not answered
@@ -163,11 +176,11 @@ module _ (fault : SessionFault) (base : Base) (first : SessionTrace) (taken : Li
       let rest = heard_more taken s.going more in
       let talk = trace_over first (whole_lines taken) in
       record {
-        answered = whole_lines taken;
-        rest = rest.0;
-        split = rest.1;
-        before = at_before base talk talk [] now s.at refl;
-        left = (talk.state.files, s.at.files, inl refl);
+        answered_lines = whole_lines taken;
+        lines_left = rest.0;
+        lines_split = rest.1;
+        output_before = at_before base talk talk [] now s.is_at refl;
+        files_left = (talk.state.files, s.is_at.files, inl refl);
       }
 
   -- the answers break off at a line that a line feed ends

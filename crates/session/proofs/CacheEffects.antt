@@ -20,7 +20,8 @@ use Rattle.session.specs.HeardLines.{is_last, longest_line, readable}
 use Rattle.session.specs.HistoryLaws.{AreSameButCached, CacheLaw, CacheTalkLaw, IsSameButCached, asks_stats, with_cache}
 use Rattle.session.specs.Queries.{after_events}
 use Rattle.session.specs.Sessions.{State, dated_in, prompt}
-use Rattle.session.specs.Steps.{answer, answer_read, answer_to, blank_answer, conformable_answer, expression_answer}
+use Rattle.session.specs.Steps.{answer_read, answer_to, blank_answer, conformable_answer, expression_answer}
+use Rattle.session.specs.Steps.{line_answer}
 use Rattle.session.specs.Talks.{SessionTrace, talk_with_answer}
 use Rattle.session.specs.WatchQueries.{is_full}
 use Rattle.watch.specs.WatchViews.{Subject, watch_subject}
@@ -35,28 +36,33 @@ module _ (state : State) (cached : Kept) (reductions : ℕ) where
 
   blank-cached : (pending : Option (List ℕ)) → Alike (blank_answer pending)
   unfolding after_events
-  blank-cached None = record { out = refl; err = refl; cached = _; reductions = _; after = refl }
-  blank-cached (Some from) = record { out = refl; err = refl; cached = _; reductions = _; after = refl }
+  blank-cached None = record { out = refl; err = refl; cached_outcomes = _; reductions = _; same_state = refl }
+  blank-cached (Some from) = record { out = refl; err = refl; cached_outcomes = _; reductions = _; same_state = refl }
 
   conformable-cached : (pending : Option (List ℕ)) → Alike (conformable_answer pending)
   unfolding after_events
-  conformable-cached None = record { out = refl; err = refl; cached = _; reductions = _; after = refl }
-  conformable-cached (Some from) = record { out = refl; err = refl; cached = _; reductions = _; after = refl }
+  conformable-cached None = record { out = refl; err = refl; cached_outcomes = _; reductions = _; same_state = refl }
+  conformable-cached (Some from) =
+      record { out = refl; err = refl; cached_outcomes = _; reductions = _; same_state = refl }
 
   expression-cached : (pending : Option (List ℕ)) (text : List ℕ) → Alike (expression_answer pending text)
   unfolding after_events
-  expression-cached None text = record { out = refl; err = refl; cached = _; reductions = _; after = refl }
-  expression-cached (Some from) text = record { out = refl; err = refl; cached = _; reductions = _; after = refl }
+  expression-cached None text =
+      record { out = refl; err = refl; cached_outcomes = _; reductions = _; same_state = refl }
+  expression-cached (Some from) text =
+      record { out = refl; err = refl; cached_outcomes = _; reductions = _; same_state = refl }
 
   watching-cached : (full : Bool) (s : Subject) → Alike (watch_answer full s)
   unfolding after_events
-  watching-cached true s = record { out = refl; err = refl; cached = _; reductions = _; after = refl }
-  watching-cached false s = record { out = refl; err = refl; cached = _; reductions = _; after = refl }
+  watching-cached true s = record { out = refl; err = refl; cached_outcomes = _; reductions = _; same_state = refl }
+  watching-cached false s = record { out = refl; err = refl; cached_outcomes = _; reductions = _; same_state = refl }
 
   made-cached : (result : EditResult) (notices : List ℕ) → Alike (edit_answer result notices)
   unfolding after_events
-  made-cached (Refused line) notices = record { out = refl; err = refl; cached = _; reductions = _; after = refl }
-  made-cached (Made deck versions) notices = record { out = refl; err = refl; cached = _; reductions = _; after = refl }
+  made-cached (Refused line) notices =
+      record { out = refl; err = refl; cached_outcomes = _; reductions = _; same_state = refl }
+  made-cached (Made deck versions) notices =
+      record { out = refl; err = refl; cached_outcomes = _; reductions = _; same_state = refl }
 
   -- an edit has the same result
   result-cached : (outcome : Result Contents DeckFault) (named : List ℕ)
@@ -85,13 +91,13 @@ module _ (state : State) (cached : Kept) (reductions : ℕ) where
 
 pub cache-law : CacheLaw
 unfolding answer_to
-cache-law state cached reductions command.Blank h = blank-cached state cached reductions state.session.pending
+cache-law state cached reductions command.Blank h = blank-cached state cached reductions state.session.pending_from
 cache-law state cached reductions command.Quit h =
-    record { out = refl; err = refl; cached = cached; reductions = reductions; after = refl }
+    record { out = refl; err = refl; cached_outcomes = cached; reductions = reductions; same_state = refl }
 cache-law state cached reductions command.Conformable h = conformable-cached state cached reductions
-    state.session.pending
+    state.session.pending_from
 cache-law state cached reductions (command.Search text) h =
-    record { out = refl; err = refl; cached = cached; reductions = reductions; after = refl }
+    record { out = refl; err = refl; cached_outcomes = cached; reductions = reductions; same_state = refl }
 cache-law state cached reductions (Edit edit) h =
     editing-cached state cached reductions _ _ [] (edited-cached state cached reductions edit)
 cache-law state cached reductions (command.Load name) h =
@@ -99,18 +105,18 @@ cache-law state cached reductions (command.Load name) h =
     editing-cached state cached reductions _ _ (notice_lines outcome)
     (result-cached state cached reductions outcome name)
 cache-law state cached reductions (command.Save name) h =
-    record { out = refl; err = refl; cached = cached; reductions = reductions; after = refl }
+    record { out = refl; err = refl; cached_outcomes = cached; reductions = reductions; same_state = refl }
 cache-law state cached reductions (command.Watch from to) h =
-    watching-cached state cached reductions (is_full state.session.watched) (watch_subject from to)
+    watching-cached state cached reductions (is_full state.session.watched_pairs) (watch_subject from to)
 cache-law state cached reductions command.Unwatch h =
-    record { out = refl; err = refl; cached = cached; reductions = reductions; after = refl }
+    record { out = refl; err = refl; cached_outcomes = cached; reductions = reductions; same_state = refl }
 cache-law state cached reductions command.Stats h = absurd (true≢false h)
 cache-law state cached reductions (command.Unknown word) h =
-    record { out = refl; err = refl; cached = cached; reductions = reductions; after = refl }
+    record { out = refl; err = refl; cached_outcomes = cached; reductions = reductions; same_state = refl }
 cache-law state cached reductions (command.Bad word) h =
-    record { out = refl; err = refl; cached = cached; reductions = reductions; after = refl }
+    record { out = refl; err = refl; cached_outcomes = cached; reductions = reductions; same_state = refl }
 cache-law state cached reductions (command.Expression text) h =
-    expression-cached state cached reductions state.session.pending text
+    expression-cached state cached reductions state.session.pending_from text
 
 pub or-first : (a b : Bool) → (a || b) ≡ false → a ≡ false
 or-first true b h = absurd (true≢false h)
@@ -127,7 +133,7 @@ unfolding prompt
 prompt-cached state cached reductions = refl
 
 read-line : (state : State) (cached : Kept) (reductions : ℕ) (line : List ℕ) → asks_stats (command_of line) ≡ false
-    → IsSameButCached (answer state line) (answer (with_cache cached reductions state) line)
+    → IsSameButCached (line_answer state line) (line_answer (with_cache cached reductions state) line)
 unfolding readable
 read-line state cached reductions line h = go (nat_le (length line) longest_line)
   where
@@ -135,29 +141,31 @@ read-line state cached reductions line h = go (nat_le (length line) longest_line
         → IsSameButCached (answer_read state (if short then Some line else None))
         (answer_read (with_cache cached reductions state) (if short then Some line else None))
     go true = cache-law state cached reductions (command_of line) h
-    go false = record { out = refl; err = refl; cached = cached; reductions = reductions; after = refl }
+    go false = record { out = refl; err = refl; cached_outcomes = cached; reductions = reductions; same_state = refl }
 
 -- the talks stay the same with one more line
 talk-line : (a b : SessionTrace) (line : List ℕ) → asks_stats (command_of line) ≡ false → AreSameButCached a b
-    → AreSameButCached (talk_with_answer a (answer a.state line) line) (talk_with_answer b (answer b.state line) line)
+    → AreSameButCached (talk_with_answer a (line_answer a.state line) line)
+    (talk_with_answer b (line_answer b.state line) line)
 talk-line a b line h d =
-    let said : IsSameButCached (answer a.state line) (answer b.state line) =
-    subst (λ s. IsSameButCached (answer a.state line) (answer s line)) (sym d.state)
-    (read-line a.state d.cached d.reductions line h) in
+    let said : IsSameButCached (line_answer a.state line) (line_answer b.state line) =
+    subst (λ s. IsSameButCached (line_answer a.state line) (line_answer s line)) (sym d.state)
+    (read-line a.state d.cached_outcomes d.reductions line h) in
     record {
       out = ap₂ (λ x y. x ++ y) d.out
-          (ap₂ (λ x (s : State). x ++ (if is_last line then [] else prompt s.session)) said.out said.after
-          ∙ ap (λ p. (answer a.state line).out ++ (if is_last line then [] else p))
-          (prompt-cached (answer a.state line).after said.cached said.reductions));
+          (ap₂ (λ x (s : State). x ++ (if is_last line then [] else prompt s.session)) said.out said.same_state
+          ∙ ap (λ p. (line_answer a.state line).out ++ (if is_last line then [] else p))
+          (prompt-cached (line_answer a.state line).state_after said.cached_outcomes said.reductions));
       err = ap₂ (λ x y. x ++ y) d.err said.err;
-      cached = said.cached;
+      cached_outcomes = said.cached_outcomes;
       reductions = said.reductions;
-      state = said.after;
+      state = said.same_state;
     }
 
 pub cache-talk : CacheTalkLaw
 cache-talk a b [] h d = d
 cache-talk a b (line ∷ lines) h d =
-    cache-talk (talk_with_answer a (answer a.state line) line) (talk_with_answer b (answer b.state line) line) lines
+    cache-talk (talk_with_answer a (line_answer a.state line) line) (talk_with_answer b (line_answer b.state line) line)
+    lines
     (or-second (asks_stats (command_of line)) (list_any (λ line. asks_stats (command_of line)) lines) h)
     (talk-line a b line (or-first (asks_stats (command_of line)) _ h) d)

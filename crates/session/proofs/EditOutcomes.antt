@@ -23,7 +23,7 @@ pub edit_made : TimelineLaw → (outcome : Result Contents DeckFault) (named : L
     → Makes (edit_result outcome named (table_with_versions old before)) (table_with_versions old before)
     (table_with_versions new after)
 edit_made law outcome named old new before after made edit noted = record {
-  is = ap (λ o. edit_result o named (table_with_versions old before)) made
+  result_is = ap (λ o. edit_result o named (table_with_versions old before)) made
       ∙ ap (λ t. Made new.deck (versions_of t)) (sym (law.edit before after old.deck new.deck noted));
   edit = edit;
 }

@@ -14,6 +14,7 @@ unread n (Err WriteFailed) h = refl
 unread n (Err OutOfMemory) h = refl
 
 -- the count is the same if the session goes on
-pub still : (before now : ℕ) (fed : Result Bool SessionFault) → fed ≡ Ok false → now ≡ faults_after before fed
+pub same_fault_count : (before now : ℕ) (fed : Result Bool SessionFault) → fed ≡ Ok false
+    → now ≡ faults_after before fed
     → now ≡ before
-still before now fed is counted = counted ∙ ap (faults_after before) is
+same_fault_count before now fed is counted = counted ∙ ap (faults_after before) is

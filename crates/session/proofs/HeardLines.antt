@@ -71,8 +71,8 @@ module _ (taken : List ℕ) (going : list_any is_last (whole_lines taken) ≡ fa
     last_among behind d =
         ap (λ t. list_any is_last (whole_lines t)) (sym joined)
         ∙ ap (list_any is_last) (whole_split front behind)
-        ∙ list_any-append is_last (whole_lines front) (cut_from (unfinished_line front) behind).whole
-        ∙ ap (λ d. d || list_any is_last (cut_from (unfinished_line front) behind).whole) (last_feed ∙ sym d)
+        ∙ list_any-append is_last (whole_lines front) (cut_from (unfinished_line front) behind).complete_lines
+        ∙ ap (λ d. d || list_any is_last (cut_from (unfinished_line front) behind).complete_lines) (last_feed ∙ sym d)
       where
         front : List ℕ
         front = taken ++ (piece ++ 10 ∷ [])
@@ -99,7 +99,7 @@ none-among p before line after h =
 
 -- before any byte is read, nothing is held
 pub holds_none : (held : Option (List ℕ)) → held ≡ readable [] → Holds [] held
-holds_none held h = record { going = refl; part = h }
+holds_none held h = record { going = refl; held_part = h }
 
 -- a block in progress: one part of it was fed, and the rest is to come
 module _ (taken block ready rest : List ℕ) (held : Option (List ℕ)) (b : block ≡ ready ++ rest)
@@ -114,7 +114,7 @@ module _ (taken block ready rest : List ℕ) (held : Option (List ℕ)) (b : blo
       let clear : lacks 10 rest ≡ true = cut-none 10 rest cut in
       subst (λ t. Holds t held_now) (whole rest refl) (record {
         going = ap (list_any is_last) (whole_piece (taken ++ ready) rest clear) ∙ h.going;
-        part = e ∙ ap readable (sym (open_piece (taken ++ ready) rest clear));
+        held_part = e ∙ ap readable (sym (open_piece (taken ++ ready) rest clear));
       })
 
   -- the rest has a line feed
@@ -142,7 +142,7 @@ module _ (taken block ready rest : List ℕ) (held : Option (List ℕ)) (b : blo
           ∙ ap (λ t. ready ++ t) (append_assoc piece (10 ∷ []) behind)),
       subst (λ t. Holds t held_now) (append_assoc taken ready (piece ++ 10 ∷ [])) (record {
         going = last_feed (taken ++ ready) h.going piece parts.1 ∙ sym d;
-        part = e ∙ ap readable (sym (open_line (taken ++ ready) piece parts.1));
+        held_part = e ∙ ap readable (sym (open_line (taken ++ ready) piece parts.1));
       }),
     )
 

@@ -20,7 +20,8 @@ use Rattle.session.specs.Parts.{IsAnswerGiven, IsLine}
 use Rattle.session.specs.CommandViews.{seen_command}
 use Rattle.session.specs.Sessions.{SessionState, State, dated_in, prompt, state_of}
 use Rattle.session.specs.SessionProgress.{Base, IsAt, Begins, IsBefore, IsBroken}
-use Rattle.session.specs.Steps.{answer, answer_read, answer_to, blank_answer, conformable_answer, expression_answer}
+use Rattle.session.specs.Steps.{answer_read, answer_to, blank_answer, conformable_answer, expression_answer}
+use Rattle.session.specs.Steps.{line_answer}
 use Rattle.session.specs.Talks.{SessionTrace, talk_with_answer, spoken}
 use Rattle.session.specs.KnownContents.{IsToldIf, TellsIf, when_told}
 use Rattle.session.specs.WatchQueries.{is_full}
@@ -62,45 +63,45 @@ files_serve loads (Some old) files m needed e = tells_told loads files m e
 
 -- only the answer to a save changes the files
 pub keeps_files : (session : SessionState) (m : FileMap) (c : Command) → is_save c ≡ false
-    → (answer_to (state_of session m) c).after.files ≡ m
+    → (answer_to (state_of session m) c).state_after.files ≡ m
 unfolding answer_to
-keeps_files session m command.Blank unsaved = blank session.pending
+keeps_files session m command.Blank unsaved = blank session.pending_from
   where
-    blank : (p : Option (List ℕ)) → (blank_answer p (state_of session m)).after.files ≡ m
+    blank : (p : Option (List ℕ)) → (blank_answer p (state_of session m)).state_after.files ≡ m
     blank None = refl
     blank (Some from) = refl
 keeps_files session m command.Quit unsaved = refl
-keeps_files session m command.Conformable unsaved = listed session.pending
+keeps_files session m command.Conformable unsaved = listed session.pending_from
   where
-    listed : (p : Option (List ℕ)) → (conformable_answer p (state_of session m)).after.files ≡ m
+    listed : (p : Option (List ℕ)) → (conformable_answer p (state_of session m)).state_after.files ≡ m
     listed None = refl
     listed (Some from) = refl
 keeps_files session m (command.Search text) unsaved = refl
 keeps_files session m (command.Edit edit) unsaved = edited (edited_by edit (dated_in session)) []
   where
-    edited : (r : EditResult) (notices : List ℕ) → (edit_answer r notices (state_of session m)).after.files ≡ m
+    edited : (r : EditResult) (notices : List ℕ) → (edit_answer r notices (state_of session m)).state_after.files ≡ m
     edited (Refused line) notices = refl
     edited (Made deck versions) notices = refl
 keeps_files session m (command.Load name) unsaved =
     loaded (edit_result (after_append m name session.table.deck) name (dated_in session))
   where
     loaded : (r : EditResult) → (edit_answer r (notice_lines (after_append m name session.table.deck))
-        (state_of session m)).after.files ≡ m
+        (state_of session m)).state_after.files ≡ m
     loaded (Refused line) = refl
     loaded (Made deck versions) = refl
 keeps_files session m (command.Save name) unsaved = cc
-keeps_files session m (command.Watch from to) unsaved = watched (is_full session.watched)
+keeps_files session m (command.Watch from to) unsaved = watched (is_full session.watched_pairs)
   where
-    watched : (full : Bool) → (watch_answer full (watch_subject from to) (state_of session m)).after.files ≡ m
+    watched : (full : Bool) → (watch_answer full (watch_subject from to) (state_of session m)).state_after.files ≡ m
     watched true = refl
     watched false = refl
 keeps_files session m command.Unwatch unsaved = refl
 keeps_files session m command.Stats unsaved = refl
 keeps_files session m (command.Unknown word) unsaved = refl
 keeps_files session m (command.Bad word) unsaved = refl
-keeps_files session m (command.Expression text) unsaved = expression session.pending
+keeps_files session m (command.Expression text) unsaved = expression session.pending_from
   where
-    expression : (p : Option (List ℕ)) → (expression_answer p text (state_of session m)).after.files ≡ m
+    expression : (p : Option (List ℕ)) → (expression_answer p text (state_of session m)).state_after.files ≡ m
     expression None = refl
     expression (Some from) = refl
 
@@ -166,109 +167,110 @@ save_answered (Ok reply) session m name needed files after steps h line saved un
 
 module _ (base : Base) (talk : SessionTrace) (part : List ℕ) (said : Said) (session : SessionState)
     (files : Option FileMap)
-    (steps : ℕ) (at : IsAt base talk (record { said = said; session = session; files = files; steps = steps })) where
-  abbrev asked : Answer
-  asked = answer talk.state part
+    (steps : ℕ) (at : IsAt base talk (record { said_output = said; session = session; files = files; steps = steps }))
+  where
+    abbrev asked : Answer
+    asked = line_answer talk.state part
 
-  state_of_talk : state_of session talk.state.files ≡ talk.state
-  state_of_talk = ap (λ s. state_of s talk.state.files) at.session
+    state_of_talk : state_of session talk.state.files ≡ talk.state
+    state_of_talk = ap (λ s. state_of s talk.state.files) at.session
 
-  -- the files of the talk can be used for a line
-  pub serve : (line : Option (List ℕ)) → line ≡ readable part → IsToldIf (loads_file_in part) base.files
-      → TellsIf (loads_file_read line) files talk.state.files
-  serve line heard told =
-      files_serve (loads_file_read line) base.files files talk.state.files
-      (subst (λ l. IsToldIf (loads_file_read l) base.files) (sym heard) told) at.files
+    -- the files of the talk can be used for a line
+    pub files_serve_line : (line : Option (List ℕ)) → line ≡ readable part → IsToldIf (loads_file_in part) base.files
+        → TellsIf (loads_file_read line) files talk.state.files
+    files_serve_line line heard told =
+        files_serve (loads_file_read line) base.files files talk.state.files
+        (subst (λ l. IsToldIf (loads_file_read l) base.files) (sym heard) told) at.files
 
-  module _ (line : Option (List ℕ)) (heard : line ≡ readable part) (reply : LineReply) (session_now : SessionState)
-      (files_now : Option FileMap) (steps_now : ℕ) (last : reply.done ≡ is_last_read line)
-      (says : AnswersWith (answer_read (state_of session talk.state.files) line) reply
-      (record { session = session; files = files; steps = steps })
-      (record { session = session_now; files = files_now; steps = steps_now })) where
-    same : AnswersWith asked reply (record { session = session; files = files; steps = steps })
-        (record { session = session_now; files = files_now; steps = steps_now })
-    same = subst (λ (st : State). AnswersWith (answer st part) reply
+    module _ (line : Option (List ℕ)) (heard : line ≡ readable part) (reply : LineReply) (session_now : SessionState)
+        (files_now : Option FileMap) (steps_now : ℕ) (last : reply.done ≡ is_last_read line)
+        (says : AnswersWith (answer_read (state_of session talk.state.files) line) reply
         (record { session = session; files = files; steps = steps })
-        (record { session = session_now; files = files_now; steps = steps_now })) state_of_talk
-        (subst (λ l. AnswersWith (answer_read (state_of session talk.state.files) l) reply
-        (record { session = session; files = files; steps = steps })
-        (record { session = session_now; files = files_now; steps = steps_now })) heard says)
+        (record { session = session_now; files = files_now; steps = steps_now })) where
+      same : AnswersWith asked reply (record { session = session; files = files; steps = steps })
+          (record { session = session_now; files = files_now; steps = steps_now })
+      same = subst (λ (st : State). AnswersWith (line_answer st part) reply
+          (record { session = session; files = files; steps = steps })
+          (record { session = session_now; files = files_now; steps = steps_now })) state_of_talk
+          (subst (λ l. AnswersWith (answer_read (state_of session talk.state.files) l) reply
+          (record { session = session; files = files; steps = steps })
+          (record { session = session_now; files = files_now; steps = steps_now })) heard says)
 
-    pub done : reply.done ≡ is_last part
-    done = last ∙ ap is_last_read heard
+      pub done_is_last : reply.done ≡ is_last part
+      done_is_last = last ∙ ap is_last_read heard
 
-    abbrev text : List ℕ
-    text = reply.out ++ cond reply.done [] (prompt session_now)
+      abbrev text : List ℕ
+      text = reply.out ++ cond reply.done [] (prompt session_now)
 
-    text_spoken : text ≡ spoken asked part
-    text_spoken =
-        ap (λ t. t ++ cond reply.done [] (prompt session_now)) same.out
-        ∙ ap (λ d. asked.out ++ cond d [] (prompt session_now)) done
-        ∙ ap (λ s. asked.out ++ cond (is_last part) [] (prompt s)) same.session
+      text_spoken : text ≡ spoken asked part
+      text_spoken =
+          ap (λ t. t ++ cond reply.done [] (prompt session_now)) same.out
+          ∙ ap (λ d. asked.out ++ cond d [] (prompt session_now)) done_is_last
+          ∙ ap (λ s. asked.out ++ cond (is_last part) [] (prompt s)) same.session
 
-    out_now : talk.out ++ spoken asked part ≡ base.out ++ (said.out.items ++ text)
-    out_now =
-        ap (λ t. t ++ spoken asked part) at.out ∙ append_assoc base.out said.out.items (spoken asked part)
-        ∙ ap (λ t. base.out ++ (said.out.items ++ t)) (sym text_spoken)
+      out_now : talk.out ++ spoken asked part ≡ base.out ++ (said.out.items ++ text)
+      out_now =
+          ap (λ t. t ++ spoken asked part) at.out ∙ append_assoc base.out said.out.items (spoken asked part)
+          ∙ ap (λ t. base.out ++ (said.out.items ++ t)) (sym text_spoken)
 
-    err_now : talk.err ++ asked.err ≡ base.err ++ (said.err.items ++ reply.err)
-    err_now =
-        ap (λ t. t ++ asked.err) at.err ∙ append_assoc base.err said.err.items asked.err
-        ∙ ap (λ t. base.err ++ (said.err.items ++ t)) (sym same.err)
+      err_now : talk.err ++ asked.err ≡ base.err ++ (said.err.items ++ reply.err)
+      err_now =
+          ap (λ t. t ++ asked.err) at.err ∙ append_assoc base.err said.err.items asked.err
+          ∙ ap (λ t. base.err ++ (said.err.items ++ t)) (sym same.err)
 
-    files_after : files_now ≡ when_told base.files asked.after.files
-    files_after =
-        same.files ∙ ap (λ f. when_told f asked.after.files) at.files
-        ∙ told_again base.files talk.state.files asked.after.files
+      files_after : files_now ≡ when_told base.files asked.state_after.files
+      files_after =
+          same.files ∙ ap (λ f. when_told f asked.state_after.files) at.files
+          ∙ told_again base.files talk.state.files asked.state_after.files
 
-    -- the talk goes on with the answer
-    pub replied_at : (said_now : Said) → said_now.out.items ≡ said.out.items ++ text
-        → said_now.err.items ≡ said.err.items ++ reply.err
-        → IsAt base (talk_with_answer talk asked part)
-        (record { said = said_now; session = session_now; files = files_now; steps = steps_now })
-    replied_at said_now o e = record {
-      out = out_now ∙ ap (λ t. base.out ++ t) (sym o);
-      err = err_now ∙ ap (λ t. base.err ++ t) (sym e);
-      session = same.session;
-      files = files_after;
-      steps = omega (arith, same.steps, at.steps);
-    }
+      -- the talk goes on with the answer
+      pub replied_at : (said_now : Said) → said_now.out.items ≡ said.out.items ++ text
+          → said_now.err.items ≡ said.err.items ++ reply.err
+          → IsAt base (talk_with_answer talk asked part)
+          (record { said_output = said_now; session = session_now; files = files_now; steps = steps_now })
+      replied_at said_now o e = record {
+        out = out_now ∙ ap (λ t. base.out ++ t) (sym o);
+        err = err_now ∙ ap (λ t. base.err ++ t) (sym e);
+        session = same.session;
+        files = files_after;
+        steps = omega (arith, same.steps, at.steps);
+      }
 
-    -- or only a front of the answer is output
-    replied_before : (said_now : Said) → Begins said_now.out.items (said.out.items ++ text)
-        → Begins said_now.err.items (said.err.items ++ reply.err) → IsBefore base (talk_with_answer talk asked part)
-        said_now
-    replied_before said_now o e = record {
-      out = (o.0, out_now ∙ ap (λ t. base.out ++ t) o.1 ∙ sym (append_assoc base.out said_now.out.items o.0));
-      err = (e.0, err_now ∙ ap (λ t. base.err ++ t) e.1 ∙ sym (append_assoc base.err said_now.err.items e.0));
-    }
+      -- or only a front of the answer is output
+      replied_before : (said_now : Said) → Begins said_now.out.items (said.out.items ++ text)
+          → Begins said_now.err.items (said.err.items ++ reply.err) → IsBefore base (talk_with_answer talk asked part)
+          said_now
+      replied_before said_now o e = record {
+        out = (o.0, out_now ∙ ap (λ t. base.out ++ t) o.1 ∙ sym (append_assoc base.out said_now.out.items o.0));
+        err = (e.0, err_now ∙ ap (λ t. base.err ++ t) e.1 ∙ sym (append_assoc base.err said_now.err.items e.0));
+      }
 
-    -- a front of the answer breaks off the talk
-    pub replied_broken : (fault : SessionFault) (said_now : Said)
-        → Begins said_now.out.items (said.out.items ++ text) → Begins said_now.err.items (said.err.items ++ reply.err)
+      -- a front of the answer breaks off the talk
+      pub replied_broken : (fault : SessionFault) (said_now : Said)
+          → Begins said_now.out.items (said.out.items ++ text) → Begins said_now.err.items (said.err.items ++ reply.err)
+          → IsBroken fault base talk (part ∷ [])
+          (record { said_output = said_now; session = session_now; files = files_now; steps = steps_now })
+      replied_broken fault said_now o e = record {
+        answered_lines = part ∷ [];
+        lines_left = [];
+        lines_split = refl;
+        output_before = replied_before said_now o e;
+        files_left = (asked.state_after.files, files_after, inl refl);
+      }
+
+    -- a line that is not answered has no output
+    pub unanswered : (A : Type 0) (line : Option (List ℕ)) → line ≡ readable part → (fault : SessionFault)
+        (session_now : SessionState) (files_now : Option FileMap) (steps_now : ℕ)
+        → LineKeeps {A = A} (saved_by_read line) (Err fault) files files_now
         → IsBroken fault base talk (part ∷ [])
-        (record { said = said_now; session = session_now; files = files_now; steps = steps_now })
-    replied_broken fault said_now o e = record {
-      answered = part ∷ [];
-      rest = [];
-      split = refl;
-      before = replied_before said_now o e;
-      left = (asked.after.files, files_after, inl refl);
+        (record { said_output = said; session = session_now; files = files_now; steps = steps_now })
+    unanswered A line heard fault session_now files_now steps_now kept = record {
+      answered_lines = [];
+      lines_left = part ∷ [];
+      lines_split = refl;
+      output_before = at_before base talk talk []
+          (record { said_output = said; session = session; files = files; steps = steps }) at refl;
+      files_left = left_of_line A base.files talk part fault files_now
+          (subst (λ old. LineKeeps {A = A} (saved_by part) (Err fault) old files_now) at.files
+          (subst (λ l. LineKeeps {A = A} (saved_by_read l) (Err fault) files files_now) heard kept));
     }
-
-  -- a line that is not answered has no output
-  pub unanswered : (A : Type 0) (line : Option (List ℕ)) → line ≡ readable part → (fault : SessionFault)
-      (session_now : SessionState) (files_now : Option FileMap) (steps_now : ℕ)
-      → LineKeeps {A = A} (saved_by_read line) (Err fault) files files_now
-      → IsBroken fault base talk (part ∷ [])
-      (record { said = said; session = session_now; files = files_now; steps = steps_now })
-  unanswered A line heard fault session_now files_now steps_now kept = record {
-    answered = [];
-    rest = part ∷ [];
-    split = refl;
-    before = at_before base talk talk []
-        (record { said = said; session = session; files = files; steps = steps }) at refl;
-    left = left_of_line A base.files talk part fault files_now
-        (subst (λ old. LineKeeps {A = A} (saved_by part) (Err fault) old files_now) at.files
-        (subst (λ l. LineKeeps {A = A} (saved_by_read l) (Err fault) files files_now) heard kept));
-  }

@@ -8,7 +8,7 @@ use Rattle.session.specs.Input.{Cut, cut_from, cut_with_line, whole_lines, unfin
 
 -- the cut of two parts together
 abbrev pub both : Cut → Cut → Cut
-both a b = record { whole = a.whole ++ b.whole; open_line = b.open_line }
+both a b = record { complete_lines = a.complete_lines ++ b.complete_lines; open_line = b.open_line }
 
 pub cut-append : (part xs ys : List ℕ)
     → cut_from part (xs ++ ys) ≡ both (cut_from part xs) (cut_from (cut_from part xs).open_line ys)
@@ -27,24 +27,24 @@ cut-append part (x ∷ xs) ys = by (cut-append [] xs ys) (cut-append (part ++ x 
 
 -- a piece without a line feed continues the line
 pub cut-piece : (part piece : List ℕ) → lacks 10 piece ≡ true
-    → cut_from part piece ≡ record { whole = []; open_line = part ++ piece }
-cut-piece part [] e = ap (λ t. record { whole = []; open_line = t }) (sym (append-nil part))
+    → cut_from part piece ≡ record { complete_lines = []; open_line = part ++ piece }
+cut-piece part [] e = ap (λ t. record { complete_lines = []; open_line = t }) (sym (append-nil part))
 cut-piece part (b ∷ piece) e = by (b == 10) (and_parts (not (b == 10)) (lacks 10 piece) e)
     (cut-piece (part ++ b ∷ []) piece)
   where
     by : (t : Bool) → (not t ≡ true) × (lacks 10 piece ≡ true)
         → (lacks 10 piece ≡ true
-        → cut_from (part ++ b ∷ []) piece ≡ record { whole = []; open_line = (part ++ b ∷ []) ++ piece })
+        → cut_from (part ++ b ∷ []) piece ≡ record { complete_lines = []; open_line = (part ++ b ∷ []) ++ piece })
         → cond t (cut_with_line part (cut_from [] piece)) (cut_from (part ++ b ∷ []) piece)
-        ≡ record { whole = []; open_line = part ++ b ∷ piece }
+        ≡ record { complete_lines = []; open_line = part ++ b ∷ piece }
     by true clear ih = cc
     by false clear ih =
-        ih clear.1 ∙ ap (λ t. record { whole = []; open_line = t }) (append_assoc part (b ∷ []) piece)
+        ih clear.1 ∙ ap (λ t. record { complete_lines = []; open_line = t }) (append_assoc part (b ∷ []) piece)
 
 pub whole_piece : (taken piece : List ℕ) → lacks 10 piece ≡ true → whole_lines (taken ++ piece) ≡ whole_lines taken
 whole_piece taken piece e =
-    ap (λ (c : Cut). c.whole) (cut-append [] taken piece)
-    ∙ ap (λ (c : Cut). whole_lines taken ++ c.whole) (cut-piece (unfinished_line taken) piece e)
+    ap (λ (c : Cut). c.complete_lines) (cut-append [] taken piece)
+    ∙ ap (λ (c : Cut). whole_lines taken ++ c.complete_lines) (cut-piece (unfinished_line taken) piece e)
     ∙ append-nil (whole_lines taken)
 
 pub open_piece : (taken piece : List ℕ) → lacks 10 piece ≡ true
@@ -55,7 +55,7 @@ open_piece taken piece e =
 
 -- a line feed ends the line
 whole_feed : (taken : List ℕ) → whole_lines (taken ++ 10 ∷ []) ≡ whole_lines taken ++ unfinished_line taken ∷ []
-whole_feed taken = ap (λ (c : Cut). c.whole) (cut-append [] taken (10 ∷ []))
+whole_feed taken = ap (λ (c : Cut). c.complete_lines) (cut-append [] taken (10 ∷ []))
 
 open_feed : (taken : List ℕ) → unfinished_line (taken ++ 10 ∷ []) ≡ []
 open_feed taken = ap (λ (c : Cut). c.open_line) (cut-append [] taken (10 ∷ []))
@@ -63,7 +63,7 @@ open_feed taken = ap (λ (c : Cut). c.open_line) (cut-append [] taken (10 ∷ []
 lines_feed : (taken more : List ℕ)
     → lines_of (taken ++ 10 ∷ more) ≡ whole_lines taken ++ unfinished_line taken ∷ lines_of more
 lines_feed taken more =
-    ap (λ (c : Cut). c.whole ++ if_any c.open_line) (cut-append [] taken (10 ∷ more))
+    ap (λ (c : Cut). c.complete_lines ++ if_any c.open_line) (cut-append [] taken (10 ∷ more))
     ∙ append_assoc (whole_lines taken) (unfinished_line taken ∷ whole_lines more) (if_any (unfinished_line more))
 
 -- a piece and a line feed end the line, and the bytes after them have their own lines
@@ -89,9 +89,9 @@ module _ (taken piece : List ℕ) (clear : lacks 10 piece ≡ true) where
 pub lines_split : (front rest : List ℕ)
     → (more : List (List ℕ)) × (lines_of (front ++ rest) ≡ whole_lines front ++ more)
 lines_split front rest = (
-  (cut_from (unfinished_line front) rest).whole ++ if_any (unfinished_line (front ++ rest)),
-  ap (λ (c : Cut). c.whole ++ if_any (unfinished_line (front ++ rest))) (cut-append [] front rest)
-      ∙ append_assoc (whole_lines front) (cut_from (unfinished_line front) rest).whole
+  (cut_from (unfinished_line front) rest).complete_lines ++ if_any (unfinished_line (front ++ rest)),
+  ap (λ (c : Cut). c.complete_lines ++ if_any (unfinished_line (front ++ rest))) (cut-append [] front rest)
+      ∙ append_assoc (whole_lines front) (cut_from (unfinished_line front) rest).complete_lines
       (if_any (unfinished_line (front ++ rest))),
 )
 
@@ -110,8 +110,8 @@ line_open taken h = ap (λ t. whole_lines taken ++ t) (any_of (unfinished_line t
 
 -- the complete lines of all bytes begin with those of a front of them
 pub whole_split : (front rest : List ℕ)
-    → whole_lines (front ++ rest) ≡ whole_lines front ++ (cut_from (unfinished_line front) rest).whole
-whole_split front rest = ap (λ (c : Cut). c.whole) (cut-append [] front rest)
+    → whole_lines (front ++ rest) ≡ whole_lines front ++ (cut_from (unfinished_line front) rest).complete_lines
+whole_split front rest = ap (λ (c : Cut). c.complete_lines) (cut-append [] front rest)
 
 -- the bytes taken are those before the bytes left
 pub take-front : (xs ys : List ℕ) → take (length (xs ++ ys) - length ys) (xs ++ ys) ≡ xs

@@ -12,7 +12,7 @@ use Rattle.session.specs.Laws.{line_bytes}
 use Rattle.session.proofs.LineCuts.{both, cut-append, cut-piece}
 
 abbrev bytes_of : Cut → List ℕ
-bytes_of cut = line_bytes cut.whole ++ cut.open_line
+bytes_of cut = line_bytes cut.complete_lines ++ cut.open_line
 
 is_feed : (b : ℕ) → (b == 10) ≡ true → b ≡ 10
 is_feed b e = grind (arith, nat_tests)
@@ -27,7 +27,7 @@ joined_from part (b ∷ bytes) = by (b == 10) refl (joined_from [] bytes) (joine
         → bytes_of (cond t (cut_with_line part (cut_from [] bytes)) (cut_from (part ++ b ∷ []) bytes)) ≡ part ++ b ∷
         bytes
     by true e ends goes =
-        append_assoc part (10 ∷ line_bytes (cut_from [] bytes).whole) (cut_from [] bytes).open_line
+        append_assoc part (10 ∷ line_bytes (cut_from [] bytes).complete_lines) (cut_from [] bytes).open_line
         ∙ ap (λ t. part ++ 10 ∷ t) ends ∙ ap (λ n. part ++ n ∷ bytes) (sym (is_feed b e))
     by false e ends goes = goes ∙ append_assoc part (b ∷ []) bytes
 
@@ -37,13 +37,16 @@ still-clear part b q e =
     list_all-append (λ b. not (b == 10)) part (b ∷ []) ∙ ap₂ (λ (x y : Bool). x && (not y && true)) e q
 
 -- no line contains a line feed
-pub lines-clear : (part bytes : List ℕ) → lacks 10 part ≡ true → list_all (lacks 10) (cut_from part bytes).whole ≡ true
+pub lines-clear : (part bytes : List ℕ) → lacks 10 part ≡ true
+    → list_all (lacks 10) (cut_from part bytes).complete_lines ≡ true
 lines-clear part [] e = refl
 lines-clear part (b ∷ bytes) e = by (b == 10) refl (lines-clear [] bytes refl) (lines-clear (part ++ b ∷ []) bytes)
   where
-    by : (t : Bool) → (b == 10) ≡ t → list_all (lacks 10) (cut_from [] bytes).whole ≡ true
-        → (lacks 10 (part ++ b ∷ []) ≡ true → list_all (lacks 10) (cut_from (part ++ b ∷ []) bytes).whole ≡ true)
-        → list_all (lacks 10) (cond t (cut_with_line part (cut_from [] bytes)) (cut_from (part ++ b ∷ []) bytes)).whole
+    by : (t : Bool) → (b == 10) ≡ t → list_all (lacks 10) (cut_from [] bytes).complete_lines ≡ true
+        → (lacks 10 (part ++ b ∷ []) ≡ true
+        → list_all (lacks 10) (cut_from (part ++ b ∷ []) bytes).complete_lines ≡ true)
+        → list_all (lacks 10)
+        (cond t (cut_with_line part (cut_from [] bytes)) (cut_from (part ++ b ∷ []) bytes)).complete_lines
         ≡ true
     by true q ends goes = ap₂ (λ (x y : Bool). x && y) e ends
     by false q ends goes = goes (still-clear part b q e)
@@ -60,7 +63,7 @@ rest-clear part (b ∷ bytes) e = by (b == 10) refl (rest-clear [] bytes refl) (
 
 -- lines without line feeds are the lines of their bytes
 cut-of : (lines : List (List ℕ)) (rest : List ℕ) → list_all (lacks 10) lines ≡ true → lacks 10 rest ≡ true
-    → cut_from [] (line_bytes lines ++ rest) ≡ record { whole = lines; open_line = rest }
+    → cut_from [] (line_bytes lines ++ rest) ≡ record { complete_lines = lines; open_line = rest }
 cut-of [] rest h k = cut-piece [] rest k
 cut-of (line ∷ lines) rest h k =
     let parts : (lacks 10 line ≡ true) × (list_all (lacks 10) lines ≡ true) =
@@ -73,4 +76,4 @@ cut-of (line ∷ lines) rest h k =
 pub only-cut : (lines : List (List ℕ)) (rest : List ℕ) → list_all (lacks 10) lines ≡ true → lacks 10 rest ≡ true
     → (whole_lines (line_bytes lines ++ rest) ≡ lines) × (unfinished_line (line_bytes lines ++ rest) ≡ rest)
 only-cut lines rest h k =
-    (ap (λ (c : Cut). c.whole) (cut-of lines rest h k), ap (λ (c : Cut). c.open_line) (cut-of lines rest h k))
+    (ap (λ (c : Cut). c.complete_lines) (cut-of lines rest h k), ap (λ (c : Cut). c.open_line) (cut-of lines rest h k))

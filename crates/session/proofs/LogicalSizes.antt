@@ -7,7 +7,7 @@ use Rattle.std.proofs.lemmas.List.{length-reverse, length-take}
 use Rattle.std.proofs.lemmas.List.Sums.{sum_by-cons}
 use Rattle.def_lines.proofs.TrimmedTexts.{length-after_blanks}
 use Rattle.def_lines.specs.Blanks.{after_blanks, before_blanks, trim_of}
-use Rattle.def_lines.specs.Lines.{before_byte, begins_with, continuation, ends_with, front, without_comment}
+use Rattle.def_lines.specs.Lines.{before_byte, begins_with, continuation, ends_with, front_of_line, without_comment}
 use Rattle.def_lines.specs.Lines.{without_first_byte}
 use Rattle.def_lines.specs.Lines.{is_shown}
 use Rattle.def_lines.specs.Lines.{logical_lines, nonblank_lines, numbered_lines, onto_line, physical_lines}
@@ -57,7 +57,7 @@ behind_shorter : (bytes : List ℕ) → length (without_first_byte bytes) ≤ le
 behind_shorter [] = omega arith
 behind_shorter (b ∷ bytes) = omega arith
 
-front_shorter : (bytes : List ℕ) → length (front bytes) ≤ length bytes
+front_shorter : (bytes : List ℕ) → length (front_of_line bytes) ≤ length bytes
 front_shorter bytes =
     omega
     (arith, length-reverse (without_first_byte (reverse bytes)), behind_shorter (reverse bytes), length-reverse bytes)
@@ -65,19 +65,25 @@ front_shorter bytes =
 cleaned_shorter : (line : List ℕ) → length (without_comment line) ≤ length line
 cleaned_shorter line = by (ends_with 13 line)
   where
-    by : (t : Bool) → length (before_blanks (before_byte 35 (if t then front line else line))) ≤ length line
+    by : (t : Bool) → length (before_blanks (before_byte 35 (if t then front_of_line line else line))) ≤ length line
     by true =
-        omega (arith, before_shorter (before_byte 35 (front line)), first_shorter 35 (front line), front_shorter line)
+        omega (
+          arith,
+          before_shorter (before_byte 35 (front_of_line line)),
+          first_shorter 35
+              (front_of_line line),
+          front_shorter line,
+        )
     by false = omega (arith, before_shorter (before_byte 35 line), first_shorter 35 line)
 
 -- a text that ends with a byte is one longer than the text before that byte
-front_one : (b : ℕ) (text : List ℕ) → ends_with b text ≡ true → length (front text) + 1 ≡ length text
+front_one : (b : ℕ) (text : List ℕ) → ends_with b text ≡ true → length (front_of_line text) + 1 ≡ length text
 front_one b text e = by (reverse text) refl
   where
-    by : (r : List ℕ) → reverse text ≡ r → length (front text) + 1 ≡ length text
+    by : (r : List ℕ) → reverse text ≡ r → length (front_of_line text) + 1 ≡ length text
     by [] is = let no : false ≡ true = sym (ap (begins_with b) is) ∙ e in cc
     by (x ∷ xs) is =
-        let one : length (front text) ≡ length xs =
+        let one : length (front_of_line text) ≡ length xs =
         ap (λ r. length (reverse (without_first_byte r))) is ∙ length-reverse xs in
         let all : length text ≡ length (x ∷ xs) = sym (length-reverse text) ∙ ap length is in
         omega arith
@@ -96,14 +102,14 @@ continued_room : (number : ℕ) (text : List ℕ) (lines : List Line)
 continued_room number text lines = by (ends_with 92 text) refl
   where
     by : (t : Bool) → ends_with 92 text ≡ t
-        → sum_by room (if t then with_front number (front text ++ 32 ∷ []) lines
+        → sum_by room (if t then with_front number (front_of_line text ++ 32 ∷ []) lines
         else record { number = number; text = text } ∷ lines) ≤ weight text + sum_by room lines
     by true e =
         omega (
           arith,
           front_one 92 text e,
-          joined_room number (front text ++ 32 ∷ []) lines,
-          length-append (front text) (32 ∷ []),
+          joined_room number (front_of_line text ++ 32 ∷ []) lines,
+          length-append (front_of_line text) (32 ∷ []),
         )
     by false e =
         let whole : Line = record { number = number; text = text } in

@@ -19,7 +19,8 @@ use Rattle.session.specs.HeardLines.{is_last, longest_line, readable}
 use Rattle.session.specs.HistoryLaws.{AreSameButVersions, IsSameButVersions, VersionsLaw, VersionsTalkLaw}
 use Rattle.session.specs.HistoryLaws.{asks_undo_or_redo, is_undo_or_redo, with_versions}
 use Rattle.session.specs.Sessions.{State, dated_in, prompt}
-use Rattle.session.specs.Steps.{answer, answer_read, answer_to, blank_answer, conformable_answer, expression_answer}
+use Rattle.session.specs.Steps.{answer_read, answer_to, blank_answer, conformable_answer, expression_answer}
+use Rattle.session.specs.Steps.{line_answer}
 use Rattle.session.specs.Talks.{SessionTrace, talk_with_answer}
 use Rattle.session.specs.Versions.{Versions}
 use Rattle.session.specs.WatchQueries.{is_full}
@@ -34,34 +35,35 @@ module _ (state : State) (versions : Versions) where
   AlikeBut of = IsSameButVersions (of state) (of dated_otherwise)
 
   blank-dated : (pending : Option (List ℕ)) → AlikeBut (blank_answer pending)
-  blank-dated None = record { out = refl; err = refl; newly = refl; versions = versions; after = refl }
-  blank-dated (Some from) = record { out = refl; err = refl; newly = refl; versions = versions; after = refl }
+  blank-dated None = record { out = refl; err = refl; newly = refl; versions = versions; same_state = refl }
+  blank-dated (Some from) = record { out = refl; err = refl; newly = refl; versions = versions; same_state = refl }
 
   conformable-dated : (pending : Option (List ℕ)) → AlikeBut (conformable_answer pending)
-  conformable-dated None = record { out = refl; err = refl; newly = refl; versions = versions; after = refl }
-  conformable-dated (Some from) = record { out = refl; err = refl; newly = refl; versions = versions; after = refl }
+  conformable-dated None = record { out = refl; err = refl; newly = refl; versions = versions; same_state = refl }
+  conformable-dated (Some from) =
+      record { out = refl; err = refl; newly = refl; versions = versions; same_state = refl }
 
   expression-dated : (pending : Option (List ℕ)) (text : List ℕ) → AlikeBut (expression_answer pending text)
-  expression-dated None text = record { out = refl; err = refl; newly = refl; versions = versions; after = refl }
+  expression-dated None text = record { out = refl; err = refl; newly = refl; versions = versions; same_state = refl }
   expression-dated (Some from) text =
-      record { out = refl; err = refl; newly = refl; versions = versions; after = refl }
+      record { out = refl; err = refl; newly = refl; versions = versions; same_state = refl }
 
   watching-dated : (full : Bool) (s : Subject) → AlikeBut (watch_answer full s)
-  watching-dated true s = record { out = refl; err = refl; newly = refl; versions = versions; after = refl }
-  watching-dated false s = record { out = refl; err = refl; newly = refl; versions = versions; after = refl }
+  watching-dated true s = record { out = refl; err = refl; newly = refl; versions = versions; same_state = refl }
+  watching-dated false s = record { out = refl; err = refl; newly = refl; versions = versions; same_state = refl }
 
   result-dated : (outcome : Result Contents DeckFault) (named notices : List ℕ)
       → IsSameButVersions (edit_answer (edit_result outcome named (dated_in state.session)) notices state)
       (edit_answer (edit_result outcome named (dated_in dated_otherwise.session)) notices dated_otherwise)
   result-dated (Ok deck) named notices =
-      record { out = refl; err = refl; newly = refl; versions = _; after = refl }
+      record { out = refl; err = refl; newly = refl; versions = _; same_state = refl }
   result-dated (Err fault) named notices =
-      record { out = refl; err = refl; newly = refl; versions = versions; after = refl }
+      record { out = refl; err = refl; newly = refl; versions = versions; same_state = refl }
 
   drop-dated : (key : Option Key) (text : List ℕ)
       → IsSameButVersions (edit_answer (drop_result key text (dated_in state.session)) [] state)
       (edit_answer (drop_result key text (dated_in dated_otherwise.session)) [] dated_otherwise)
-  drop-dated None text = record { out = refl; err = refl; newly = refl; versions = versions; after = refl }
+  drop-dated None text = record { out = refl; err = refl; newly = refl; versions = versions; same_state = refl }
   drop-dated (Some key) text = result-dated (after_drop key state.session.table.deck) text []
 
   edited-dated : (edit : DeckEdit) → is_undo_or_redo edit ≡ false
@@ -80,30 +82,30 @@ module _ (state : State) (versions : Versions) where
 
 pub versions-law : VersionsLaw
 unfolding answer_to
-versions-law state versions command.Blank h = blank-dated state versions state.session.pending
+versions-law state versions command.Blank h = blank-dated state versions state.session.pending_from
 versions-law state versions command.Quit h =
-    record { out = refl; err = refl; newly = refl; versions = versions; after = refl }
-versions-law state versions command.Conformable h = conformable-dated state versions state.session.pending
+    record { out = refl; err = refl; newly = refl; versions = versions; same_state = refl }
+versions-law state versions command.Conformable h = conformable-dated state versions state.session.pending_from
 versions-law state versions (command.Search text) h =
-    record { out = refl; err = refl; newly = refl; versions = versions; after = refl }
+    record { out = refl; err = refl; newly = refl; versions = versions; same_state = refl }
 versions-law state versions (Edit edit) h = edited-dated state versions edit h
 versions-law state versions (command.Load name) h =
     let outcome = after_append state.files name state.session.table.deck in
     result-dated state versions outcome name (notice_lines outcome)
 versions-law state versions (command.Save name) h =
-    record { out = refl; err = refl; newly = refl; versions = versions; after = refl }
+    record { out = refl; err = refl; newly = refl; versions = versions; same_state = refl }
 versions-law state versions (command.Watch from to) h =
-    watching-dated state versions (is_full state.session.watched) (watch_subject from to)
+    watching-dated state versions (is_full state.session.watched_pairs) (watch_subject from to)
 versions-law state versions command.Unwatch h =
-    record { out = refl; err = refl; newly = refl; versions = versions; after = refl }
+    record { out = refl; err = refl; newly = refl; versions = versions; same_state = refl }
 versions-law state versions command.Stats h =
-    record { out = refl; err = refl; newly = refl; versions = versions; after = refl }
+    record { out = refl; err = refl; newly = refl; versions = versions; same_state = refl }
 versions-law state versions (command.Unknown word) h =
-    record { out = refl; err = refl; newly = refl; versions = versions; after = refl }
+    record { out = refl; err = refl; newly = refl; versions = versions; same_state = refl }
 versions-law state versions (command.Bad word) h =
-    record { out = refl; err = refl; newly = refl; versions = versions; after = refl }
+    record { out = refl; err = refl; newly = refl; versions = versions; same_state = refl }
 versions-law state versions (command.Expression text) h =
-    expression-dated state versions state.session.pending text
+    expression-dated state versions state.session.pending_from text
 
 -- the prompt does not depend on the versions
 prompt-dated : (state : State) (versions : Versions)
@@ -112,7 +114,7 @@ unfolding prompt
 prompt-dated state versions = refl
 
 read-line : (state : State) (versions : Versions) (line : List ℕ) → asks_undo_or_redo (command_of line) ≡ false
-    → IsSameButVersions (answer state line) (answer (with_versions versions state) line)
+    → IsSameButVersions (line_answer state line) (line_answer (with_versions versions state) line)
 unfolding readable
 read-line state versions line h = go (nat_le (length line) longest_line)
   where
@@ -120,29 +122,31 @@ read-line state versions line h = go (nat_le (length line) longest_line)
         → IsSameButVersions (answer_read state (if short then Some line else None))
         (answer_read (with_versions versions state) (if short then Some line else None))
     go true = versions-law state versions (command_of line) h
-    go false = record { out = refl; err = refl; newly = refl; versions = versions; after = refl }
+    go false = record { out = refl; err = refl; newly = refl; versions = versions; same_state = refl }
 
 -- the talks stay the same with one more line
 talk-line : (a b : SessionTrace) (line : List ℕ) → asks_undo_or_redo (command_of line) ≡ false → AreSameButVersions a b
-    → AreSameButVersions (talk_with_answer a (answer a.state line) line) (talk_with_answer b (answer b.state line) line)
+    → AreSameButVersions (talk_with_answer a (line_answer a.state line) line)
+    (talk_with_answer b (line_answer b.state line) line)
 talk-line a b line h d =
-    let said : IsSameButVersions (answer a.state line) (answer b.state line) =
-    subst (λ s. IsSameButVersions (answer a.state line) (answer s line)) (sym d.state)
+    let said : IsSameButVersions (line_answer a.state line) (line_answer b.state line) =
+    subst (λ s. IsSameButVersions (line_answer a.state line) (line_answer s line)) (sym d.state)
     (read-line a.state d.versions line h) in
     record {
       out = ap₂ (λ x y. x ++ y) d.out
-          (ap₂ (λ x (s : State). x ++ (if is_last line then [] else prompt s.session)) said.out said.after
-          ∙ ap (λ p. (answer a.state line).out ++ (if is_last line then [] else p))
-          (prompt-dated (answer a.state line).after said.versions));
+          (ap₂ (λ x (s : State). x ++ (if is_last line then [] else prompt s.session)) said.out said.same_state
+          ∙ ap (λ p. (line_answer a.state line).out ++ (if is_last line then [] else p))
+          (prompt-dated (line_answer a.state line).state_after said.versions));
       err = ap₂ (λ x y. x ++ y) d.err said.err;
       steps = ap₂ (λ (x y : ℕ). x + y) d.steps said.newly;
       versions = said.versions;
-      state = said.after;
+      state = said.same_state;
     }
 
 pub versions-talk : VersionsTalkLaw
 versions-talk a b [] h d = d
 versions-talk a b (line ∷ lines) h d =
-    versions-talk (talk_with_answer a (answer a.state line) line) (talk_with_answer b (answer b.state line) line) lines
+    versions-talk (talk_with_answer a (line_answer a.state line) line)
+    (talk_with_answer b (line_answer b.state line) line) lines
     (or-second (asks_undo_or_redo (command_of line)) (list_any (λ line. asks_undo_or_redo (command_of line)) lines) h)
     (talk-line a b line (or-first (asks_undo_or_redo (command_of line)) _ h) d)

@@ -20,7 +20,8 @@ use Rattle.session.specs.declared.fault.SessionFault.{SessionFault}
 use Rattle.session.specs.declared.fault.SessionFault.TheVariants.{ReadFailed, WriteFailed}
 use Rattle.session.specs.declared.over_source.SessionEnd.{SessionEnd}
 use Rattle.session.specs.declared.session_output.Said.{Said}
-use Rattle.session.proofs.Blocks.{front_all, left_and_more, part_by, same_input, waits, whole, whole_at, written}
+use Rattle.session.proofs.Blocks.{all_after_talk, front_all, left_and_more, part_by, same_input, waits_after_output}
+use Rattle.session.proofs.Blocks.{whole_at, written}
 use Rattle.session.proofs.BrokenAnswers.{broken_by, broken_last}
 use Rattle.session.proofs.SourceEnding.{by_fault, ended_by, part_but}
 use Rattle.session.proofs.HeardLines.{heard_more}
@@ -34,14 +35,14 @@ fed_broken (Ok false) base first taken bytes left more held now fed =
     let lines = heard_more (taken ++ fed.0) fed.2.going (left ++ more) in
     let talk = trace_over first (whole_lines (taken ++ fed.0)) in
     record {
-      answered = whole_lines (taken ++ fed.0);
-      rest = lines.0;
-      split = ap (λ i. heard (lines_of i)) (sym (left_and_more taken bytes fed.0 left more fed.1)) ∙ lines.1;
-      before = at_before base talk talk [] now fed.2.at refl;
-      left = (talk.state.files, fed.2.at.files, inl refl);
+      answered_lines = whole_lines (taken ++ fed.0);
+      lines_left = lines.0;
+      lines_split = ap (λ i. heard (lines_of i)) (sym (left_and_more taken bytes fed.0 left more fed.1)) ∙ lines.1;
+      output_before = at_before base talk talk [] now fed.2.is_at refl;
+      files_left = (talk.state.files, fed.2.is_at.files, inl refl);
     }
 fed_broken (Ok true) base first taken bytes left more held now over =
-    broken_last (Ok true ≡ Err WriteFailed) base first (heard (lines_of ((taken ++ bytes) ++ more))) now over.at
+    broken_last (Ok true ≡ Err WriteFailed) base first (heard (lines_of ((taken ++ bytes) ++ more))) now over.is_at
 fed_broken (Err fault) base first taken bytes left more held now broken =
     broken_by (fault ≡ WriteFailed) (Err fault ≡ Err WriteFailed) base first
     (heard (lines_of ((taken ++ bytes) ++ more))) now (λ is. ap Err is) broken
@@ -98,7 +99,7 @@ module _ (first : SessionTrace) (taken block ready rest left more : List ℕ) (b
   whole_written o e is =
       whole_at first (taken ++ ready) held session start now w (((taken ++ ready) ++ rest) ++ more) all_input said new
       after (same_input taken block ready rest more b)
-      (fed_over fed stood first (taken ++ ready) rest left more held_now stands_now is up).at o e
+      (fed_over fed stood first (taken ++ ready) rest left more held_now stands_now is up).is_at o e
 
   -- the output is written in full, and the session ended
   pub ended_written : (ending : SessionEnd) → Some ending ≡ end_after_feed fed
@@ -121,7 +122,8 @@ module _ (first : SessionTrace) (taken block ready rest left more : List ℕ) (b
         ready ++ on.0,
         b ∙ ap (λ t. ready ++ t) on.1 ∙ sym (append_assoc ready on.0 left),
         subst (λ t. WaitsForInput first t held_now new start after) (append_assoc taken ready on.0)
-            (waits first (taken ++ ready) held session start now w ((taken ++ ready) ++ on.0) held_now said new after
+            (waits_after_output first (taken ++ ready) held session start now w ((taken ++ ready) ++ on.0) held_now said
+            new after
             on.2 o e),
       )
 
@@ -144,7 +146,7 @@ waits_at_first first taken block held session start was is out err files fetches
         steps = w.steps;
         session = w.session;
         going = w.going;
-        part = w.part;
+        held_part = w.held_part;
       }),
 )
 
@@ -214,5 +216,5 @@ module _ (first : SessionTrace) (input : List ℕ) (held : Option (List ℕ)) (s
           → (r ≡ Err WriteFailed → CountRose start.store_faults after.store_faults)
           → IsEnded (session_course first input) (end_at_input_end r) start after
       by (Ok done) at part f s =
-          whole first input held session start now w (trace_on first input) said new after at o e
+          all_after_talk first input held session start now w (trace_on first input) said new after at o e
       by (Err fault) broken part f s = by_fault A (Err fault) first input start after part fault refl f s

@@ -35,29 +35,30 @@ module _ (A : Type 0) (fed : Result A SessionFault) (first : SessionTrace) (inpu
     (part : IsPartIf (fed ≡ Err WriteFailed) (session_course first input) start after) where
   part_whole : (fed ≡ Err WriteFailed → ⊥) → IsPrefixRun (session_course first input) start after
   part_whole calm = record {
-    answered = part.answered;
-    rest = part.rest;
-    split = part.split;
-    front = part.front;
+    answered_lines = part.answered_lines;
+    lines_left = part.lines_left;
+    lines_split = part.lines_split;
+    output_front = part.output_front;
     files =
         part.files.1
         ∙ ap (when_told start.files)
-        (left_whole (fed ≡ Err WriteFailed) part.rest (trace_over first part.answered).state.files part.files.0 calm
+        (left_whole (fed ≡ Err WriteFailed) part.lines_left (trace_over first part.answered_lines).state.files
+        part.files.0 calm
         part.files.2);
   }
 
   pub part_but : (fed ≡ Err WriteFailed → CountRose start.store_faults after.store_faults)
       → IsPrefixRunExceptFile (session_course first input) start after
   part_but rose = record {
-    answered = part.answered;
-    rest = part.rest;
-    split = part.split;
-    front = part.front;
+    answered_lines = part.answered_lines;
+    lines_left = part.lines_left;
+    lines_split = part.lines_split;
+    output_front = part.output_front;
     files = (
       part.files.0,
       part.files.1,
-      left_by (fed ≡ Err WriteFailed) (CountRose start.store_faults after.store_faults) part.rest
-          (trace_over first part.answered).state.files part.files.0 rose part.files.2,
+      left_by (fed ≡ Err WriteFailed) (CountRose start.store_faults after.store_faults) part.lines_left
+          (trace_over first part.answered_lines).state.files part.files.0 rose part.files.2,
     );
   }
 
@@ -110,44 +111,44 @@ done_by (Err OutOfMemory) ending e d = cc
 -- the cause of each ending
 module _ (before after : World) where
   pub read_cause : CountRose before.source.faults after.source.faults → HasItsCause ReadFault before after
-  read_cause r = record { read = λ e. inl r; write = λ e. cc; too_long = λ e. cc }
+  read_cause r = record { read_cause = λ e. inl r; write_cause = λ e. cc; too_long = λ e. cc }
 
   pub write_cause : CountRose before.out.faults after.out.faults ⊎ CountRose before.err.faults after.err.faults
       → HasItsCause WriteFault before after
-  write_cause r = record { read = λ e. cc; write = λ e. of_two r; too_long = λ e. cc }
+  write_cause r = record { read_cause = λ e. cc; write_cause = λ e. of_two r; too_long = λ e. cc }
 
   pub memory_cause : HasItsCause NoMemory before after
-  memory_cause = record { read = λ e. cc; write = λ e. cc; too_long = λ e. cc }
+  memory_cause = record { read_cause = λ e. cc; write_cause = λ e. cc; too_long = λ e. cc }
 
-  pub length_cause : TookMoreThan 4294967296 before.source.taken after.source.taken
+  pub length_cause : TookMoreThan 4294967296 before.source.bytes_taken after.source.bytes_taken
       → HasItsCause InputTooLong before after
-  length_cause more = record { read = λ e. cc; write = λ e. cc; too_long = λ e. more }
+  length_cause more = record { read_cause = λ e. cc; write_cause = λ e. cc; too_long = λ e. more }
 
   pub fed_cause : (fed : Result Bool SessionFault) (ending : SessionEnd) → Some ending ≡ end_after_feed fed
       → (IsErrOf fed ReadFailed → CountRose before.files.fetch_faults after.files.fetch_faults)
       → (IsErrOf fed WriteFailed → CountRose before.files.store_faults after.files.store_faults)
       → HasItsCause ending before after
   fed_cause (Ok false) ending e read stored = cc
-  fed_cause (Ok true) ending e read stored = record { read = λ q. cc; write = λ q. cc; too_long = λ q. cc }
+  fed_cause (Ok true) ending e read stored = record { read_cause = λ q. cc; write_cause = λ q. cc; too_long = λ q. cc }
   fed_cause (Err ReadFailed) ending e read stored =
-      record { read = λ q. inr (read refl); write = λ q. cc; too_long = λ q. cc }
+      record { read_cause = λ q. inr (read refl); write_cause = λ q. cc; too_long = λ q. cc }
   fed_cause (Err WriteFailed) ending e read stored =
-      record { read = λ q. cc; write = λ q. inr (inr (stored refl)); too_long = λ q. cc }
+      record { read_cause = λ q. cc; write_cause = λ q. inr (inr (stored refl)); too_long = λ q. cc }
   fed_cause (Err OutOfMemory) ending e read stored =
-      record { read = λ q. cc; write = λ q. cc; too_long = λ q. cc }
+      record { read_cause = λ q. cc; write_cause = λ q. cc; too_long = λ q. cc }
 
   -- the cause of an ending at the end of the input
   pub end_cause : {A : Type 0} (fed : Result A SessionFault) (ending : SessionEnd) → ending ≡ end_at_input_end fed
       → (IsErrOf fed ReadFailed → CountRose before.files.fetch_faults after.files.fetch_faults)
       → (IsErrOf fed WriteFailed → CountRose before.files.store_faults after.files.store_faults)
       → HasItsCause ending before after
-  end_cause (Ok done) ending e read stored = record { read = λ q. cc; write = λ q. cc; too_long = λ q. cc }
+  end_cause (Ok done) ending e read stored = record { read_cause = λ q. cc; write_cause = λ q. cc; too_long = λ q. cc }
   end_cause (Err ReadFailed) ending e read stored =
-      record { read = λ q. inr (read refl); write = λ q. cc; too_long = λ q. cc }
+      record { read_cause = λ q. inr (read refl); write_cause = λ q. cc; too_long = λ q. cc }
   end_cause (Err WriteFailed) ending e read stored =
-      record { read = λ q. cc; write = λ q. inr (inr (stored refl)); too_long = λ q. cc }
+      record { read_cause = λ q. cc; write_cause = λ q. inr (inr (stored refl)); too_long = λ q. cc }
   end_cause (Err OutOfMemory) ending e read stored =
-      record { read = λ q. cc; write = λ q. cc; too_long = λ q. cc }
+      record { read_cause = λ q. cc; write_cause = λ q. cc; too_long = λ q. cc }
 
 -- a cause since a later time is a cause since an earlier time
 pub cause_since : (ending : SessionEnd) (source : SourceSeen) (out err out_mid err_mid : SinkSeen)
@@ -157,12 +158,12 @@ pub cause_since : (ending : SessionEnd) (source : SourceSeen) (out err out_mid e
     → HasItsCause ending (world_of source out_mid err_mid files_mid steps_mid) after
     → HasItsCause ending (world_of source out err files steps) after
 cause_since ending source out err out_mid err_mid files files_mid steps steps_mid after o e f s cause = record {
-  read = λ is.
+  read_cause = λ is.
       either_rose source.faults source.faults after.source.faults files.fetch_faults files_mid.fetch_faults
-      after.files.fetch_faults (omega arith) f (cause.read is);
-  write = λ is.
+      after.files.fetch_faults (omega arith) f (cause.read_cause is);
+  write_cause = λ is.
       any_since out.faults out_mid.faults after.out.faults err.faults err_mid.faults after.err.faults
-      files.store_faults files_mid.store_faults after.files.store_faults o e s (cause.write is);
+      files.store_faults files_mid.store_faults after.files.store_faults o e s (cause.write_cause is);
   too_long = cause.too_long;
 }
 
@@ -175,10 +176,10 @@ nothing_put (Some held) out bytes e = (0, omega arith, e ∙ ap Some (sym (appen
 pub unwritten : (first : SessionTrace) (input : List ℕ) (said : Said) (session : SessionState) (start now : Outside)
     → Opens first said session start now → IsPrefixRun (session_course first input) start now
 unwritten first input said session start now opened = record {
-  answered = [];
-  rest = heard (lines_of input);
-  split = refl;
-  front = record {
+  answered_lines = [];
+  lines_left = heard (lines_of input);
+  lines_split = refl;
+  output_front = record {
     out = nothing_put start.out now.out first.out opened.out;
     err = nothing_put start.err now.err first.err opened.err;
   };

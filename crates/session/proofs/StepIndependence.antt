@@ -6,7 +6,7 @@ use Rattle.def_entry.specs.declared.key.Key.{Key}
 use Rattle.table_names.specs.Faults.{key_fault, name_fault}
 use Rattle.table_names.specs.Reach.{key_reach, reach}
 use Rattle.live_table.specs.TableView.{IsAfterEvents, Shown, state_with_steps}
-use Rattle.live_table.specs.States.{AsksKey, AsksWords, Becomes, Event, TableState, after, after_all, after_query}
+use Rattle.live_table.specs.States.{AsksKey, AsksWords, Becomes, Event, TableState, after_all, after_event, after_query}
 use Rattle.live_table.specs.States.{with_outcomes}
 use Rattle.session.specs.Queries.{Leaves, after_events, newly, shown_with}
 
@@ -17,11 +17,11 @@ later n s = record s { steps = n + s.steps }
 query_later : (b : Bool) (keys : List Key) (n : ℕ) (s : TableState)
     → after_query b keys (later n s) ≡ later n (after_query b keys s)
 query_later true keys n s =
-    let new : ℕ = map_of.len (with_outcomes s.table keys s.kept) - map_of.len s.kept in
+    let new : ℕ = map_of.len (with_outcomes s.table keys s.kept_outcomes) - map_of.len s.kept_outcomes in
     ap (λ (m : ℕ). record (after_query true keys s) { steps = m }) (add_assoc n s.steps new)
 query_later false keys n s = refl
 
-event_later : (e : Event) (n : ℕ) (s : TableState) → after e (later n s) ≡ later n (after e s)
+event_later : (e : Event) (n : ℕ) (s : TableState) → after_event e (later n s) ≡ later n (after_event e s)
 event_later (AsksWords words) n s =
     query_later (is_none (name_fault s.table words)) (reach s.table words) n s
 event_later (AsksKey k) n s =
@@ -30,7 +30,7 @@ event_later (Becomes t) n s = refl
 
 all_later : (es : List Event) (n : ℕ) (s : TableState) → after_all es (later n s) ≡ later n (after_all es s)
 all_later [] n s = refl
-all_later (e ∷ es) n s = ap (after_all es) (event_later e n s) ∙ all_later es n (after e s)
+all_later (e ∷ es) n s = ap (after_all es) (event_later e n s) ∙ all_later es n (after_event e s)
 
 none_before : (n : ℕ) → n ≡ n + 0
 none_before n = omega arith

@@ -7,7 +7,7 @@ use Rattle.std.proofs.lemmas.List.{append-nil}
 use Rattle.def_entry.specs.Cuts.{lacks}
 use Rattle.session.specs.HeardLines.{is_last, heard, readable}
 use Rattle.session.specs.Input.{whole_lines, unfinished_line, lines_of}
-use Rattle.session.specs.Steps.{answer}
+use Rattle.session.specs.Steps.{line_answer}
 use Rattle.session.specs.Talks.{SessionTrace, talk_with_answer, spoken, trace_over, trace_on}
 use Rattle.session.specs.SessionProgress.{Base, Now, IsAt, Begins, IsBefore, Stands, IsOver}
 use Rattle.session.proofs.LineCuts.{nothing_open, open_line, open_piece, whole_line, whole_piece}
@@ -17,7 +17,7 @@ use Rattle.session.proofs.HeardLines.{heard-going, heard_end, heard_feed, last_a
 pub talk-append : (talk : SessionTrace) (xs ys : List (List ℕ)) → trace_over talk (xs ++ ys) ≡ trace_over
     (trace_over talk xs) ys
 talk-append talk [] ys = refl
-talk-append talk (x ∷ xs) ys = talk-append (talk_with_answer talk (answer talk.state x) x) xs ys
+talk-append talk (x ∷ xs) ys = talk-append (talk_with_answer talk (line_answer talk.state x) x) xs ys
 
 -- a front of a front is a front
 pub begins-more : (xs ys zs : List ℕ) → Begins xs ys → Begins ys zs → Begins xs zs
@@ -29,19 +29,20 @@ begins-all xs ys e = ([], e ∙ sym (append-nil xs))
 pub talk-out : (talk : SessionTrace) (lines : List (List ℕ)) → Begins talk.out (trace_over talk lines).out
 talk-out talk [] = begins-all talk.out talk.out refl
 talk-out talk (line ∷ lines) =
-    let next = talk_with_answer talk (answer talk.state line) line in
-    begins-more talk.out next.out (trace_over next lines).out (spoken (answer talk.state line) line, refl)
+    let next = talk_with_answer talk (line_answer talk.state line) line in
+    begins-more talk.out next.out (trace_over next lines).out (spoken (line_answer talk.state line) line, refl)
     (talk-out next lines)
 
 pub talk-err : (talk : SessionTrace) (lines : List (List ℕ)) → Begins talk.err (trace_over talk lines).err
 talk-err talk [] = begins-all talk.err talk.err refl
 talk-err talk (line ∷ lines) =
-    let next = talk_with_answer talk (answer talk.state line) line in
-    begins-more talk.err next.err (trace_over next lines).err ((answer talk.state line).err, refl) (talk-err next lines)
+    let next = talk_with_answer talk (line_answer talk.state line) line in
+    begins-more talk.err next.err (trace_over next lines).err ((line_answer talk.state line).err, refl)
+    (talk-err next lines)
 
 -- the talk with one more answer
 abbrev pub next : SessionTrace → List ℕ → SessionTrace
-next talk line = talk_with_answer talk (answer talk.state line) line
+next talk line = talk_with_answer talk (line_answer talk.state line) line
 
 module _ (first : SessionTrace) (taken : List ℕ) (going : list_any is_last (whole_lines taken) ≡ false) where
   abbrev talked : SessionTrace
@@ -73,7 +74,7 @@ module _ (first : SessionTrace) (taken : List ℕ) (going : list_any is_last (wh
 
 -- the output at a point of a talk is a front of that of everything that follows
 pub at_before : (base : Base) (talk more : SessionTrace) (lines : List (List ℕ)) (now : Now) → IsAt base talk now
-    → more ≡ trace_over talk lines → IsBefore base more now.said
+    → more ≡ trace_over talk lines → IsBefore base more now.said_output
 at_before base talk more lines now at e = record {
   out = begins-more _ talk.out more.out (begins-all _ talk.out at.out)
       (subst (λ (t : SessionTrace). Begins talk.out t.out) (sym e) (talk-out talk lines));
@@ -87,9 +88,9 @@ module _ (base : Base) (first : SessionTrace) (taken : List ℕ) (held : Option 
   pub fed_piece : (piece : List ℕ) (held_now : Option (List ℕ)) → lacks 10 piece ≡ true
       → held_now ≡ readable (unfinished_line taken ++ piece) → Stands base first (taken ++ piece) held_now now
   fed_piece piece held_now clear h = record {
-    at = subst (λ ls. IsAt base (trace_over first ls) now) (sym (whole_piece taken piece clear)) s.at;
+    is_at = subst (λ ls. IsAt base (trace_over first ls) now) (sym (whole_piece taken piece clear)) s.is_at;
     going = ap (list_any is_last) (whole_piece taken piece clear) ∙ s.going;
-    part = h ∙ ap readable (sym (open_piece taken piece clear));
+    held_part = h ∙ ap readable (sym (open_piece taken piece clear));
   }
 
   module _ (piece : List ℕ) (clear : lacks 10 piece ≡ true) where
@@ -101,9 +102,9 @@ module _ (base : Base) (first : SessionTrace) (taken : List ℕ) (held : Option 
         → held_now ≡ Some [] → IsAt base answered after → Stands base first (taken ++ (piece ++ 10 ∷ [])) held_now after
     unfolding readable
     fed_line held_now after d h a = record {
-      at = subst (λ t. IsAt base t after) (sym (over_feed first taken s.going piece clear)) a;
+      is_at = subst (λ t. IsAt base t after) (sym (over_feed first taken s.going piece clear)) a;
       going = last_feed taken s.going piece clear ∙ sym d;
-      part = h ∙ ap readable (sym (open_line taken piece clear));
+      held_part = h ∙ ap readable (sym (open_line taken piece clear));
     }
 
     -- the line is the last, whatever follows it
@@ -111,8 +112,8 @@ module _ (base : Base) (first : SessionTrace) (taken : List ℕ) (held : Option 
         → IsAt base answered after
         → IsOver base first (taken ++ (piece ++ 10 ∷ behind)) ((taken ++ (piece ++ 10 ∷ behind)) ++ more) after
     fed_last behind more after d a = record {
-      at = subst (λ t. IsAt base t after) (sym (whole ∙ alone)) a;
-      last = last_among taken s.going piece clear behind d;
+      is_at = subst (λ t. IsAt base t after) (sym (whole ∙ alone)) a;
+      last_line = last_among taken s.going piece clear behind d;
     }
       where
         regroup : (taken ++ (piece ++ 10 ∷ behind)) ++ more ≡ taken ++ (piece ++ 10 ∷ (behind ++ more))
@@ -132,7 +133,7 @@ module _ (base : Base) (first : SessionTrace) (taken : List ℕ) (held : Option 
 
   -- the end of the input, with no line open or with one open
   pub end_open : unfinished_line taken ≡ [] → IsAt base (trace_on first taken) now
-  end_open e = subst (λ t. IsAt base t now) (sym (talk_ended first taken s.going e)) s.at
+  end_open e = subst (λ t. IsAt base t now) (sym (talk_ended first taken s.going e)) s.is_at
 
   pub end_line : (after : Now) → (unfinished_line taken ≡ [] → ⊥)
       → IsAt base (next (trace_over first (whole_lines taken)) (unfinished_line taken)) after

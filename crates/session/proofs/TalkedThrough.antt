@@ -15,7 +15,7 @@ use Rattle.session.specs.Talks.{SessionTrace, trace_on}
 use Rattle.session.specs.TrialEffects.{IsTalked, Tells}
 use Rattle.session.specs.TextDecks.{text_deck}
 use Rattle.session.specs.TrialLines.{rounds, trial_definitions}
-use Rattle.session.specs.Trials.{Trial, quiet_session, silent, summary, trial_deck, trial_over, trial_session}
+use Rattle.session.specs.Trials.{Trial, quiet_session, silent_trace, summary, trial_deck, trial_over, trial_session}
 use Rattle.session.specs.BetweenPieces.{at_first}
 use Rattle.session.specs.declared.session_output.Said.{Said}
 use Rattle.session.proofs.HeldLine.{readable_short}
@@ -26,27 +26,27 @@ pub stands_first :
     (session : SessionState) (said : Said) (held : Option (List ℕ)) (steps : ℕ) → said.out.items ≡ []
     → said.err.items ≡ []
     → held ≡ Some []
-    → Stands (at_first (Some no_files) steps) (silent session) [] held
-    (record { said = said; session = session; files = Some no_files; steps = steps })
+    → Stands (at_first (Some no_files) steps) (silent_trace session) [] held
+    (record { said_output = said; session = session; files = Some no_files; steps = steps })
 stands_first session said held steps o e h = record {
-  at = record { out = sym o; err = sym e; session = refl; files = refl; steps = omega arith };
+  is_at = record { out = sym o; err = sym e; session = refl; files = refl; steps = omega arith };
   going = refl;
-  part = h ∙ sym (readable_short [] (omega arith));
+  held_part = h ∙ sym (readable_short [] (omega arith));
 }
 
 -- the session is after a talk, and has said all of it
 pub talked_at : (talk : SessionTrace) (now : Now) (steps : ℕ) → IsAt (at_first (Some no_files) steps) talk now
-    → IsTalked talk now.said now.session steps now.steps
+    → IsTalked talk now.said_output now.session steps now.steps
 talked_at talk now steps at = record { out = sym at.out; session = at.session; steps = at.steps }
 
 -- the session is after the last line of a talk, and has said all of it
 pub talked_over : (first : SessionTrace) (lines : List ℕ) (now : Now) (steps : ℕ)
     → IsOver (at_first (Some no_files) steps) first lines
     (lines ++ []) now
-    → IsTalked (trace_on first lines) now.said now.session steps now.steps
+    → IsTalked (trace_on first lines) now.said_output now.session steps now.steps
 talked_over first lines now steps over =
     talked_at (trace_on first lines) now steps
-    (subst (λ bytes. IsAt (at_first (Some no_files) steps) (trace_on first bytes) now) (append-nil lines) over.at)
+    (subst (λ bytes. IsAt (at_first (Some no_files) steps) (trace_on first bytes) now) (append-nil lines) over.is_at)
 
 -- some of the lines were fed, and then more
 module _ (base : Base) (first : SessionTrace) (lines done rest : List ℕ) (b : lines ≡ done ++ rest) where
@@ -86,15 +86,16 @@ pub told_trial : (options : Options) (settings : Settings) (n : ℕ) (deck : Con
     (first last : SessionState) (said : Said) (bytes : ℕ) (table : Shown) (text : List ℕ) (old new : ℕ)
     → source ≡ trial_definitions n → deck ≡ text_deck (codes "trial") source settings
     → first ≡ quiet_session options deck
-    → lines ≡ rounds n n → IsTalked (trace_on (silent first) lines) said last old new → bytes ≡ length said.out.items
+    → lines ≡ rounds n n → IsTalked (trace_on (silent_trace first) lines) said last old new
+    → bytes ≡ length said.out.items
     → table ≡ last.table → text ≡ summary n bytes table → Tells (trial_session options settings n) text old new
 unfolding trial_session
 told_trial options settings n deck source lines first last said bytes table text old new e d f l t b s h =
     let made : deck ≡ trial_deck settings n = d ∙ ap (λ bytes. text_deck (codes "trial") bytes settings) e in
-    let talk = trace_on (silent (quiet_session options deck)) (rounds n n) in
+    let talk = trace_on (silent_trace (quiet_session options deck)) (rounds n n) in
     let talked : IsTalked talk said last old new =
-    subst (λ (known : SessionState). IsTalked (trace_on (silent known) (rounds n n)) said last old new) f
-    (subst (λ ls. IsTalked (trace_on (silent first) ls) said last old new) l t) in
+    subst (λ (known : SessionState). IsTalked (trace_on (silent_trace known) (rounds n n)) said last old new) f
+    (subst (λ ls. IsTalked (trace_on (silent_trace first) ls) said last old new) l t) in
     let tells : Tells (trial_over options n deck) text old new = record {
       text = h ∙ ap (λ k. summary n k table) (b ∙ ap length talked.out)
           ∙ ap (summary n (length talk.out)) (s ∙ ap (λ (known : SessionState). known.table) talked.session);

@@ -67,7 +67,7 @@ module _ (before : Dated) (deck : Contents) (versions : Versions) where
 
 -- the version of the deck after an undo
 abbrev undone_version : State → Version
-undone_version state = version_of (deck_in (answer_to state (Edit Undo)).after)
+undone_version state = version_of (deck_in (answer_to state (Edit Undo)).state_after)
 
 -- decks with the same lines and settings have the same table
 restored : (before after : Contents) → version_of after ≡ version_of before → IsRestored before after
@@ -79,11 +79,11 @@ restored before after e = record {
 -- undoing an edit with this result restores the version
 undone-made : (state : State) (result : EditResult) (notices : List ℕ) (deck : Contents) (versions : Versions)
     → result ≡ Made deck versions → versions ≡ versions_behind deck (dated_in state.session)
-    → undone_version (edit_answer result notices state).after ≡ version_of (deck_in state)
+    → undone_version (edit_answer result notices state).state_after ≡ version_of (deck_in state)
 unfolding answer_to after_events
 undone-made state result notices deck versions made behind =
-    ap (λ r. undone_version (edit_answer r notices state).after) made
-    ∙ ap (λ v. undone_version (edit_answer (Made deck v) notices state).after) behind
+    ap (λ r. undone_version (edit_answer r notices state).state_after) made
+    ∙ ap (λ v. undone_version (edit_answer (Made deck v) notices state).state_after) behind
 
 undo-law : UndoLaw
 unfolding answer_to
@@ -108,7 +108,7 @@ file-there : (files : FileMap) (name : List ℕ) (d : Contents) → CanBeSaved d
     → file_of (files_saved (saved_file d) name files) name ≡ Some (saved_text d)
 file-there files name d can =
     ap (λ b. file_of (files_saved (if b then Err TooLong else Ok (saved_text d)) name files) name)
-    (not-less longest_file (length (saved_text d)) can.short)
+    (not-less longest_file (length (saved_text d)) can.text_within_limit)
     ∙ map_of.get-insert nat_list_cmp_total files name (saved_text d) name
     ∙ ap (λ b. cond b (Some (saved_text d)) (map_of.get files name)) (is_itself name)
 

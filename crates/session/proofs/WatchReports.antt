@@ -84,5 +84,5 @@ module _ (r : EditResult) (notices : List ℕ) (options : Options) (pending : Op
         (session_of_versions options (table_with_versions new after) pending watched_now) n k
     made_answered told noticed =
         subst (λ (e : EditResult). Said (edit_answer e notices was) reply
-        (session_of_versions options (table_with_versions new after) pending watched_now) n k) (sym makes.is)
+        (session_of_versions options (table_with_versions new after) pending watched_now) n k) (sym makes.result_is)
         (record { out = told; err = noticed; session = behind; steps = left.steps })

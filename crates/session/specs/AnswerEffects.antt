@@ -1,7 +1,7 @@
 -- The effects of the answer to a line.
 use Rattle.std.specs.Prelude.{◌≡◌, ◌+◌, ◌≤◌, ℕ, Result, Ok, Err, IsErrOf, ⊤}
 use Rattle.std.specs.declared.option.Option.{Option}
-use Rattle.units_io.specs.Faults.{CountRose, next}
+use Rattle.units_io.specs.Faults.{CountRose, next_count}
 use Rattle.units_io.specs.FileMap.{FileMap}
 use Rattle.session.specs.declared.answer.LineReply.{LineReply}
 use Rattle.session.specs.declared.fault.SessionFault.{SessionFault}
@@ -25,8 +25,8 @@ scene_of session files steps = record { session = session; files = files; steps 
 pub record AnswersWith (answer : Answer) (reply : LineReply) (before after : LineScene) : Type 0 where
   pub out : reply.out ≡ answer.out
   pub err : reply.err ≡ answer.err
-  pub session : after.session ≡ answer.after.session
-  pub files : after.files ≡ when_told before.files answer.after.files
+  pub session : after.session ≡ answer.state_after.session
+  pub files : after.files ≡ when_told before.files answer.state_after.files
   pub steps : after.steps ≡ before.steps + answer.newly
 
 -- a line was answered in this way, unless there was a fault
@@ -43,7 +43,7 @@ IsAnswerTo command result before after =
 
 -- the count of failed fetches afterwards: one more exactly if a file could not be read
 abbrev pub faults_after : {A : Type 0} → (faults : ℕ) → Result A SessionFault → ℕ
-faults_after faults (Err ReadFailed) = next faults
+faults_after faults (Err ReadFailed) = next_count faults
 faults_after faults _ = faults
 
 -- the numbers of failed fetches and failed stores
@@ -57,10 +57,10 @@ file_faults fetches stores = record { fetches = fetches; stores = stores }
 -- file faults are counted: a fetch failed exactly if a file could not be read, and a store failed if a file could not
 -- be written
 pub record AreCounted {A : Type 0} (result : Result A SessionFault) (before now : FileFaults) : Type 0 where
-  pub counted : now.fetches ≡ faults_after before.fetches result
+  pub fetches_counted : now.fetches ≡ faults_after before.fetches result
   pub cause : IsErrOf result ReadFailed → CountRose before.fetches now.fetches
-  pub written : IsErrOf result WriteFailed → CountRose before.stores now.stores
-  pub later : before.stores ≤ now.stores
+  pub failed_write_counted : IsErrOf result WriteFailed → CountRose before.stores now.stores
+  pub stores_grow : before.stores ≤ now.stores
 
 -- there was no file fault
 abbrev pub FailsOnlyForMemory : {A : Type 0} → Result A SessionFault → Type 0

@@ -23,41 +23,41 @@ use Rattle.session.specs.DeckEdits.{with_locale, with_variable}
 use Rattle.session.specs.HeardLines.{readable}
 use Rattle.session.specs.HistoryLaws.{deck_in}
 use Rattle.session.specs.Sessions.{State}
-use Rattle.session.specs.Steps.{answer}
+use Rattle.session.specs.Steps.{line_answer}
 use Rattle.session.specs.WatchQueries.{is_full}
 
 -- the answer is a reply on `out`, and nothing changes
 abbrev pub IsOnly : (line : List ℕ) → (reply : List ℕ) → State → Type 0
-IsOnly line reply state = answer state line ≡ output_answer reply state
+IsOnly line reply state = line_answer state line ≡ output_answer reply state
 
 -- the deck after a line is answered
 abbrev pub deck_after_line : State → (line : List ℕ) → Contents
-deck_after_line state line = deck_in (answer state line).after
+deck_after_line state line = deck_in (line_answer state line).state_after
 
 -- the answer is this reply, no FROM is pending after it, and the deck is as before
 pub record IsAnsweredBy (reply : List ℕ) (given : Answer) (state : State) : Type 0 where
   pub out : given.out ≡ reply
   pub err : given.err ≡ []
-  pub pending : given.after.session.pending ≡ None
-  pub deck : deck_in given.after ≡ deck_in state
+  pub none_pending : given.state_after.session.pending_from ≡ None
+  pub deck : deck_in given.state_after ≡ deck_in state
 
 -- the answer is empty, and this FROM is pending after it
 pub record IsPending (from : List ℕ) (given : Answer) : Type 0 where
   pub out : given.out ≡ []
-  pub pending : given.after.session.pending ≡ Some from
+  pub from_is_pending : given.state_after.session.pending_from ≡ Some from
 
 -- the reply to a line as TO of this FROM, over the definitions of the examples of replies
 abbrev pub Converts : (from line reply : List ℕ) → Type 0
 Converts from line reply =
     (state : State) → table_in (deck_in state) ≡ measures → state.session.options ≡ default
-    → state.session.pending ≡ Some from → IsAnsweredBy reply (answer state line) state
+    → state.session.pending_from ≡ Some from → IsAnsweredBy reply (line_answer state line) state
 
 pub record AnswerExamples : Type 0 where
   pub quit : (state : State) → IsOnly (codes "quit") [] state
-  pub blank : (state : State) → state.session.pending ≡ None → IsOnly (codes " # no text") [] state
+  pub blank_line : (state : State) → state.session.pending_from ≡ None → IsOnly (codes " # no text") [] state
   pub long : (state : State) (line : List ℕ) → readable line ≡ None → IsOnly line (codes "line too long\n") state
   -- lines that are refused
-  pub unknown : (state : State) → IsOnly (codes ":exit") (codes "unknown command: :exit\n") state
+  pub unknown_command : (state : State) → IsOnly (codes ":exit") (codes "unknown command: :exit\n") state
   pub bad : (state : State) → IsOnly (codes ":set SYSTEM") (codes "bad command: :set\n") state
   pub no_key : (state : State) → IsOnly (codes ":drop") (codes "bad command: :drop\n") state
   pub no_such_key : (state : State)
@@ -75,12 +75,12 @@ pub record AnswerExamples : Type 0 where
       → IsOnly (codes ":load my units") (codes "no file: my units\n") state
   pub too_long : (state : State) → saved_file (deck_in state) ≡ Err TooLong
       → IsOnly (codes ":save mine") (codes "file too long: mine\n") state
-  pub many_watches : (state : State) → is_full state.session.watched ≡ true
+  pub many_watches : (state : State) → is_full state.session.watched_pairs ≡ true
       → IsOnly (codes ":watch ft ; m") (codes "too many watches\n") state
   -- a FROM that has a value: its text is pending, not the value
-  pub from : (state : State) (x : Amount) → state.session.pending ≡ None
+  pub from_line : (state : State) (x : Amount) → state.session.pending_from ≡ None
       → from_value (table_in (deck_in state)) state.session.options (codes "2 km") ≡ Good x
-      → IsPending (codes "2 km") (answer state (codes " 2 km"))
+      → IsPending (codes "2 km") (line_answer state (codes " 2 km"))
   -- conversions that succeed, and one of units that do not conform
   pub linear : Converts (codes "2 km") (codes " yards # far") (codes "\t* 2187.2266\n\t/ 0.0004572\n")
   pub reciprocal : Converts (codes "2 Hz") (codes "s") (codes "\treciprocal conversion\n\t* 0.5\n\t/ 2\n")
@@ -98,14 +98,14 @@ pub record AnswerExamples : Type 0 where
   pub locale : (state : State) → deck_after_line state (codes ":locale en_GB")
       ≡ after_switch (with_locale (deck_in state).settings (codes "en_GB")) (deck_in state)
   -- lines that edit nothing: four of seven names are settled, after six reductions
-  pub stats : (state : State) → map_of.len state.session.table.kept ≡ 4
+  pub stats : (state : State) → map_of.len state.session.table.kept_outcomes ≡ 4
       → length (present_names (table_in (deck_in state))) ≡ 7 → state.session.table.reductions ≡ 6
       → IsOnly (codes ":stats") (codes "settled 4 of 7, reductions 6\n") state
   pub save : (state : State) (text : List ℕ) → saved_file (deck_in state) ≡ Ok text
-      → answer state (codes ":save mine") ≡ record {
+      → line_answer state (codes ":save mine") ≡ record {
         out = [];
         err = [];
         newly = 0;
-        after = record { session = state.session; files = with_file state.files (codes "mine") text };
+        state_after = record { session = state.session; files = with_file state.files (codes "mine") text };
       }
-  pub unwatch : (state : State) → (answer state (codes ":unwatch")).after.session.watched ≡ []
+  pub unwatch : (state : State) → (line_answer state (codes ":unwatch")).state_after.session.watched_pairs ≡ []

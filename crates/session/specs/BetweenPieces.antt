@@ -24,8 +24,8 @@ pub record Opens (first : SessionTrace) (said : Said) (session : SessionState) (
   pub files : now.files ≡ before.files
   pub faults : before.fetch_faults ≤ now.fetch_faults
   pub stores : before.store_faults ≤ now.store_faults
-  pub at : IsAt (at_first before.files before.steps) first
-      (record { said = said; session = session; files = now.files; steps = now.steps })
+  pub is_at : IsAt (at_first before.files before.steps) first
+      (record { said_output = said; session = session; files = now.files; steps = now.steps })
 
 -- the complete lines of the bytes read are answered and their output is written, none of them is the last, and the rest
 -- is held
@@ -38,7 +38,7 @@ pub record WaitsForInput (first : SessionTrace) (taken : List ℕ) (held : Optio
   pub steps : now.steps ≡ before.steps + (trace_over first (whole_lines taken)).steps
   pub session : new ≡ (trace_over first (whole_lines taken)).state.session
   pub going : list_any is_last (whole_lines taken) ≡ false
-  pub part : held ≡ readable (unfinished_line taken)
+  pub held_part : held ≡ readable (unfinished_line taken)
 
 -- at least `total` bytes were read between two counts, which saturate at the maximum of their type
 abbrev pub TookAtLeast : (total before after : ℕ) → Type 0

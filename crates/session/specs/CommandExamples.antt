@@ -42,5 +42,5 @@ pub record CommandExamples : Type 0 where
   pub list_as_to : IsBad (codes ":watch ft ; ?") (codes ":watch")
   pub unwatch_one : IsBad (codes ":unwatch ft") (codes ":unwatch")
   -- words that are not command words
-  pub unknown : command_of (codes ":quit now") ≡ Unknown (codes ":quit")
+  pub unknown_command : command_of (codes ":quit now") ≡ Unknown (codes ":quit")
   pub prefix : command_of (codes ":und") ≡ Unknown (codes ":und")

@@ -29,11 +29,11 @@ LineKeeps (Some name) result old new = SaveKeeps name result old new
 -- the next of these lines saves a file, which may now have any contents; all other files are as they were left
 pub record IsSpoilt (rest : List (List ℕ)) (left files : FileMap) : Type 0 where
   pub line : List ℕ
-  pub later : List (List ℕ)
+  pub lines_later : List (List ℕ)
   pub name : List ℕ
-  pub next : rest ≡ line ∷ later
+  pub rest_begins : rest ≡ line ∷ lines_later
   pub saves : saved_by line ≡ Some name
-  pub others : KeepsOthers left files name
+  pub others_same : KeepsOthers left files name
 
 -- the files if the answers broke off before these lines: as the answers left them, or, only if a store failed, with the
 -- file damaged that the next line saves

@@ -22,9 +22,9 @@ use Rattle.session.specs.Versions.{Versions}
 abbrev pub with_cache : Kept → (reductions : ℕ) → State → State
 with_cache cached reductions state =
     let session = state.session in
-    let table : Shown = record { deck = session.table.deck; kept = cached; reductions = reductions } in
+    let table : Shown = record { deck = session.table.deck; kept_outcomes = cached; reductions = reductions } in
     record {
-      session = session_of session.options table session.pending session.versions session.watched;
+      session = session_of session.options table session.pending_from session.versions session.watched_pairs;
       files = state.files;
     }
 
@@ -33,7 +33,7 @@ abbrev pub with_versions : Versions → State → State
 with_versions versions state =
     let session = state.session in
     record {
-      session = session_of session.options session.table session.pending versions session.watched;
+      session = session_of session.options session.table session.pending_from versions session.watched_pairs;
       files = state.files;
     }
 
@@ -54,9 +54,9 @@ asks_undo_or_redo _ = false
 pub record IsSameButCached (a b : Answer) : Type 0 where
   pub out : b.out ≡ a.out
   pub err : b.err ≡ a.err
-  pub cached : Kept
+  pub cached_outcomes : Kept
   pub reductions : ℕ
-  pub after : b.after ≡ with_cache cached reductions a.after
+  pub same_state : b.state_after ≡ with_cache cached_outcomes reductions a.state_after
 
 -- two answers have the same bytes and settle equally many names, and the states after them differ only in their
 -- versions
@@ -65,15 +65,15 @@ pub record IsSameButVersions (a b : Answer) : Type 0 where
   pub err : b.err ≡ a.err
   pub newly : b.newly ≡ a.newly
   pub versions : Versions
-  pub after : b.after ≡ with_versions versions a.after
+  pub same_state : b.state_after ≡ with_versions versions a.state_after
 
 -- two talks have said the same bytes, and their states differ only in the cache and its count
 pub record AreSameButCached (a b : SessionTrace) : Type 0 where
   pub out : b.out ≡ a.out
   pub err : b.err ≡ a.err
-  pub cached : Kept
+  pub cached_outcomes : Kept
   pub reductions : ℕ
-  pub state : b.state ≡ with_cache cached reductions a.state
+  pub state : b.state ≡ with_cache cached_outcomes reductions a.state
 
 pub record AreSameButVersions (a b : SessionTrace) : Type 0 where
   pub out : b.out ≡ a.out
@@ -93,7 +93,7 @@ deck_in state = state.session.table.deck
 
 -- the state after a command and then an undo
 abbrev pub after_undone : State → Command → State
-after_undone state command = (answer_to (answer_to state command).after (Edit Undo)).after
+after_undone state command = (answer_to (answer_to state command).state_after (Edit Undo)).state_after
 
 -- law: the cache and its count affect only the answer to `:stats`
 abbrev pub CacheLaw : Type 0
@@ -140,4 +140,4 @@ pub record HistoryLaws : Type 0 where
 -- law: if a run loads a file that a session saved, it has the definitions of that session, under all settings
 abbrev pub SaveLaw : Type 0
 SaveLaw = (state : State) (name : List ℕ) (settings : Settings) → CanBeSaved (deck_in state)
-    → IsGivenBack (deck_in state) settings (after_load (answer_to state (Save name)).after.files name settings)
+    → IsGivenBack (deck_in state) settings (after_load (answer_to state (Save name)).state_after.files name settings)

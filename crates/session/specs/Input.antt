@@ -3,20 +3,20 @@ use Rattle.std.specs.Prelude.{◌==◌, ◌∷◌, ◌++◌, [], ℕ, List, if�
 
 -- the lines that end with a line feed, and the bytes after the last line feed
 pub record Cut : Type 0 where
-  pub whole : List (List ℕ)
+  pub complete_lines : List (List ℕ)
   pub open_line : List ℕ
 
 abbrev pub cut_with_line : List ℕ → Cut → Cut
-cut_with_line line cut = record { whole = line ∷ cut.whole; open_line = cut.open_line }
+cut_with_line line cut = record { complete_lines = line ∷ cut.complete_lines; open_line = cut.open_line }
 
 -- the cut of `bytes` after the bytes `part` of an unfinished line
 abbrev pub cut_from : (part bytes : List ℕ) → Cut
-cut_from part [] = record { whole = []; open_line = part }
+cut_from part [] = record { complete_lines = []; open_line = part }
 cut_from part (b ∷ bytes) = if b == 10 then cut_with_line part (cut_from [] bytes) else cut_from (part ++ b ∷ []) bytes
 
 -- the lines that end with a line feed
 abbrev pub whole_lines : List ℕ → List (List ℕ)
-whole_lines bytes = (cut_from [] bytes).whole
+whole_lines bytes = (cut_from [] bytes).complete_lines
 
 -- the bytes after the last line feed
 abbrev pub unfinished_line : List ℕ → List ℕ

@@ -11,7 +11,7 @@ use Rattle.session.specs.Input.{whole_lines}
 -- the known contents of the source, the sinks and the files; the counts of failed fetches and stores; and the count of
 -- steps
 pub record Outside : Type 0 where
-  pub left : Option (List ℕ)
+  pub input_left : Option (List ℕ)
   pub out : Option (List ℕ)
   pub err : Option (List ℕ)
   pub files : Option FileMap
@@ -22,7 +22,7 @@ pub record Outside : Type 0 where
 abbrev pub outside_of : (left out err : Option (List ℕ)) → Option FileMap → (fetch_faults store_faults steps : ℕ)
     → Outside
 outside_of left out err files fetch_faults store_faults steps = record {
-  left = left;
+  input_left = left;
   out = out;
   err = err;
   files = files;

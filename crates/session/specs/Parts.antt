@@ -15,7 +15,7 @@ use Rattle.session.specs.Versions.{Dated}
 -- the reply is the answer to a query, and the table and the count of steps are as its queries leave them
 pub record Replies {A : Type 0} (events : List Event) (answer reply : A) (old new : Shown) (steps_old steps_new : ℕ)
     : Type 0 where
-  pub said : reply ≡ answer
+  pub reply_is : reply ≡ answer
   pub table : new ≡ asked_table events old
   pub steps : steps_new ≡ steps_old + newly events old
 
@@ -27,7 +27,7 @@ IsReplied events answer (Err _) old new steps_old steps_new = ⊤
 
 -- an edit with this result was made
 pub record Makes (r : EditResult) (old new : Dated) : Type 0 where
-  pub is : r ≡ Made new.table.deck new.versions
+  pub result_is : r ≡ Made new.table.deck new.versions
   pub edit : IsAcceptedEdit old.table new.table
 
 -- an edit with this result was made; or it was refused with a line, and nothing changes; or there was a fault, and
@@ -41,13 +41,13 @@ IsEdited r (Err _) old new = new ≡ old
 pub record IsLine (reply : LineReply) (text notices : List ℕ) (last : Bool) : Type 0 where
   pub out : reply.out ≡ text
   pub err : reply.err ≡ notices
-  pub done : reply.done ≡ last
+  pub ends_session : reply.done ≡ last
 
 -- an answer that leaves the files as they are
 pub record Said (answer : Answer) (reply : LineReply) (new : SessionState) (steps_old steps_new : ℕ) : Type 0 where
   pub out : reply.out ≡ answer.out
   pub err : reply.err ≡ answer.err
-  pub session : new ≡ answer.after.session
+  pub session : new ≡ answer.state_after.session
   pub steps : steps_new ≡ steps_old + answer.newly
 
 abbrev pub IsAnswerGiven : {E : Type 0} → Answer → Result LineReply E → (new : SessionState) → (steps_old steps_new : ℕ)

@@ -7,15 +7,15 @@ use Rattle.live_table.specs.States.{Event, TableState, after_all}
 
 -- a state as contracts see it, with its deck
 abbrev pub shown_with : Contents → TableState → Shown
-shown_with deck s = record { deck = deck; kept = s.kept; reductions = s.reductions }
+shown_with deck s = record { deck = deck; kept_outcomes = s.kept_outcomes; reductions = s.reductions }
 
 -- the table after these events, which lead to this deck
 unfoldable pub after_events : List Event → Contents → Shown → Shown
 after_events events deck table = shown_with deck (after_all events (state_with_steps table 0))
 
 -- a table over a deck in which no name is settled
-abbrev pub fresh : Contents → Shown
-fresh deck = record { deck = deck; kept = map_of.empty; reductions = 0 }
+abbrev pub fresh_table : Contents → Shown
+fresh_table deck = record { deck = deck; kept_outcomes = map_of.empty; reductions = 0 }
 
 -- the table after queries, which do not change the deck
 abbrev pub asked_table : List Event → Shown → Shown

@@ -11,7 +11,7 @@ use Rattle.session.specs.SessionProgress.{Holds}
 use Rattle.session.specs.Talks.{SessionTrace}
 use Rattle.session.specs.KnownContents.{IsToldIf}
 use Rattle.session.specs.BetweenPieces.{Opens, WaitsForInput}
-use Rattle.session.specs.Worlds.{World, outside}
+use Rattle.session.specs.Worlds.{World, world_outside}
 use Rattle.session.specs.WrittenOutput.{IsEnded, session_course}
 use Rattle.session.specs.declared.fault.SessionFault.{SessionFault}
 use Rattle.session.specs.declared.fault.SessionFault.TheVariants.{ReadFailed, WriteFailed, OutOfMemory}
@@ -23,32 +23,35 @@ use Rattle.session.specs.declared.session_output.Said.{Said}
 -- the cause of an ending other than the end of the input or of the session: a read or a fetch failed, a write or a
 -- store failed, or more bytes were read than the limit
 pub record HasItsCause (ending : SessionEnd) (before after : World) : Type 0 where
-  pub read : ending ≡ ReadFault →
+  pub read_cause : ending ≡ ReadFault →
       CountRose before.source.faults after.source.faults ⊎ CountRose before.files.fetch_faults after.files.fetch_faults
-  pub write : ending ≡ WriteFault →
+  pub write_cause : ending ≡ WriteFault →
       CountRose before.out.faults after.out.faults ⊎ CountRose before.err.faults after.err.faults
       ⊎ CountRose before.files.store_faults after.files.store_faults
-  pub too_long : ending ≡ InputTooLong → TookMoreThan 4294967296 before.source.taken after.source.taken
+  pub too_long : ending ≡ InputTooLong → TookMoreThan 4294967296 before.source.bytes_taken after.source.bytes_taken
 
 -- each sink still has all the bytes that it had
 pub record HaveGrown (before after : World) : Type 0 where
-  pub out : GrowsAtLeast before.out.written after.out.written []
-  pub err : GrowsAtLeast before.err.written after.err.written []
+  pub out : GrowsAtLeast before.out.bytes_written after.out.bytes_written []
+  pub err : GrowsAtLeast before.err.bytes_written after.err.bytes_written []
 
 -- a session wrote its opening `said`, answered the lines of a source, and ended in this way
 pub record IsSessionRun (said : Said) (session : SessionState) (ending : SessionEnd) (before after : World) : Type 0
   where
-    -- after `Done` both sinks have everything that the session says over its whole input, and the files are as it leaves
-    -- them; after any other ending the lines up to some line are answered, each sink has a front of the output for them,
-    -- and the files are as they leave them; if the input is too long or the source failed, these are the complete lines
-    -- of the bytes read, and all of their output is written; a store that failed can have damaged the one file that the
-    -- next line saves. If no line loads a file, the files may hold anything, and their contents need not be known
-    pub told : (first : SessionTrace) (input : List ℕ) (start : Outside) → before.source.left ≡ Some input →
-        IsToldIf (any_loads_file input) before.files.told → Opens first said session start (outside before) →
-        IsEnded (session_course first input) ending start (outside after)
+    -- after `Done` both sinks have everything that the session says over its whole input, and the files are as it
+    -- leaves them; after any other ending the lines up to some line are answered, each sink has a front of the output
+    -- for them, and the files are as they leave them; if the input is too long or the source failed, these are the
+    -- complete lines of the bytes read, and all of their output is written; a store that failed can have damaged the
+    -- one file that the next line saves. If no line loads a file, the files may hold anything, and their contents need
+    -- not be known
+    pub run_if_known : (first : SessionTrace) (input : List ℕ) (start : Outside) → before.source.input_left ≡ Some input
+        →
+        IsToldIf (any_loads_file input) before.files.known_files → Opens first said session start (world_outside before)
+        →
+        IsEnded (session_course first input) ending start (world_outside after)
     -- a session that ended with `Done` has read its input to the end, or to a line that ends it
-    pub heard : (input : List ℕ) → before.source.left ≡ Some input → ending ≡ Done →
-        IsReadToEnd input after.source.left
+    pub whole_run : (input : List ℕ) → before.source.input_left ≡ Some input → ending ≡ Done →
+        IsReadToEnd input after.source.input_left
     -- every other ending has its cause
     pub has_cause : HasItsCause ending before after
 
@@ -56,13 +59,14 @@ pub record IsSessionRun (said : Said) (session : SessionState) (ending : Session
 pub record AreAnswered (held : Option (List ℕ)) (session : SessionState) (ending : SessionEnd)
     (before after : World) : Type 0
   where
-    pub told : (first : SessionTrace) (input : List ℕ) (start : Outside) → before.source.left ≡ Some input →
+    pub run_if_known : (first : SessionTrace) (input : List ℕ) (start : Outside) → before.source.input_left ≡ Some input
+        →
         IsToldIf (any_loads_file input) start.files → start.fetch_faults ≤ before.files.fetch_faults →
         start.store_faults ≤ before.files.store_faults →
-        WaitsForInput first [] held session start (outside before) →
-        IsEnded (session_course first input) ending start (outside after)
-    pub heard : (input : List ℕ) → before.source.left ≡ Some input → Holds [] held → ending ≡ Done →
-        IsReadToEnd input after.source.left
+        WaitsForInput first [] held session start (world_outside before) →
+        IsEnded (session_course first input) ending start (world_outside after)
+    pub whole_run : (input : List ℕ) → before.source.input_left ≡ Some input → Holds [] held → ending ≡ Done →
+        IsReadToEnd input after.source.input_left
     pub has_cause : HasItsCause ending before after
     pub grows : HaveGrown before after
 
@@ -76,21 +80,21 @@ pub record AreLater (before now : World) : Type 0 where
 -- a waiting session has answered a block of its input and written all of the output for it, and waits again
 pub record GoesOn (block : List ℕ) (held : Option (List ℕ)) (session : SessionState) (held_now : Option (List ℕ))
     (session_now : SessionState) (before after : World) : Type 0 where
-  pub waits : (first : SessionTrace) (taken more : List ℕ) (start : Outside) →
+  pub waits_on : (first : SessionTrace) (taken more : List ℕ) (start : Outside) →
       IsToldIf (any_loads_file ((taken ++ block) ++ more)) start.files →
-      WaitsForInput first taken held session start (outside before) →
-      WaitsForInput first (taken ++ block) held_now session_now start (outside after)
-  pub later : AreLater before after
+      WaitsForInput first taken held session start (world_outside before) →
+      WaitsForInput first (taken ++ block) held_now session_now start (world_outside after)
+  pub counts_later : AreLater before after
   pub grows : HaveGrown before after
 
 -- a line of the block, or a fault at one, ended a waiting session in this way
 pub record EndsInBlock (ending : SessionEnd) (block : List ℕ) (held : Option (List ℕ)) (session : SessionState)
     (before after : World) : Type 0 where
-  pub told : (first : SessionTrace) (taken more : List ℕ) (start : Outside) →
+  pub run_if_known : (first : SessionTrace) (taken more : List ℕ) (start : Outside) →
       IsToldIf (any_loads_file ((taken ++ block) ++ more)) start.files →
       start.fetch_faults ≤ before.files.fetch_faults → start.store_faults ≤ before.files.store_faults →
-      WaitsForInput first taken held session start (outside before) →
-      IsEnded (session_course first ((taken ++ block) ++ more)) ending start (outside after)
+      WaitsForInput first taken held session start (world_outside before) →
+      IsEnded (session_course first ((taken ++ block) ++ more)) ending start (world_outside after)
   pub has_cause : HasItsCause ending before after
   pub grows : HaveGrown before after
 
@@ -105,10 +109,11 @@ IsBlockAnswered (Some ending) block held session held_now session_now before aft
 -- a session that waited for more input ended in this way at the end of its input
 pub record IsEndAnswered (ending : SessionEnd) (held : Option (List ℕ)) (session : SessionState) (before after : World)
     : Type 0 where
-  pub told : (first : SessionTrace) (input : List ℕ) (start : Outside) → IsToldIf (any_loads_file input) start.files →
+  pub run_if_known : (first : SessionTrace) (input : List ℕ) (start : Outside)
+      → IsToldIf (any_loads_file input) start.files →
       start.fetch_faults ≤ before.files.fetch_faults → start.store_faults ≤ before.files.store_faults →
-      WaitsForInput first input held session start (outside before) →
-      IsEnded (session_course first input) ending start (outside after)
+      WaitsForInput first input held session start (world_outside before) →
+      IsEnded (session_course first input) ending start (world_outside after)
   pub has_cause : HasItsCause ending before after
   pub grows : HaveGrown before after
 

@@ -22,18 +22,18 @@ pub record Base : Type 0 where
 
 -- the state of the program: the output that is not written yet, the session, the files, and the count of steps
 pub record Now : Type 0 where
-  pub said : Said
+  pub said_output : Said
   pub session : SessionState
   pub files : Option FileMap
   pub steps : ℕ
 
 abbrev pub now_of : Said → SessionState → (files : Option FileMap) → (steps : ℕ) → Now
-now_of said session files steps = record { said = said; session = session; files = files; steps = steps }
+now_of said session files steps = record { said_output = said; session = session; files = files; steps = steps }
 
 -- the program is at this point of the talk; files whose contents are not known may hold anything
 pub record IsAt (base : Base) (talk : SessionTrace) (now : Now) : Type 0 where
-  pub out : talk.out ≡ base.out ++ now.said.out.items
-  pub err : talk.err ≡ base.err ++ now.said.err.items
+  pub out : talk.out ≡ base.out ++ now.said_output.out.items
+  pub err : talk.err ≡ base.err ++ now.said_output.err.items
   pub session : now.session ≡ talk.state.session
   pub files : now.files ≡ when_told base.files talk.state.files
   pub steps : now.steps ≡ base.steps + talk.steps
@@ -52,12 +52,12 @@ pub record IsBefore (base : Base) (talk : SessionTrace) (said : Said) : Type 0 w
 -- line saves
 pub record BreaksOff (failed : Type 0) (base : Base) (talk : SessionTrace) (lines : List (List ℕ)) (now : Now) : Type 0
   where
-    pub answered : List (List ℕ)
-    pub rest : List (List ℕ)
-    pub split : lines ≡ answered ++ rest
-    pub before : IsBefore base (trace_over talk answered) now.said
-    pub left : (m : FileMap) × (now.files ≡ when_told base.files m)
-        × AreLeft failed rest (trace_over talk answered).state.files m
+    pub answered_lines : List (List ℕ)
+    pub lines_left : List (List ℕ)
+    pub lines_split : lines ≡ answered_lines ++ lines_left
+    pub output_before : IsBefore base (trace_over talk answered_lines) now.said_output
+    pub files_left : (m : FileMap) × (now.files ≡ when_told base.files m)
+        × AreLeft failed lines_left (trace_over talk answered_lines).state.files m
 
 -- the answers to these lines broke off with a fault
 abbrev pub IsBroken : SessionFault → Base → SessionTrace → (lines : List (List ℕ)) → Now → Type 0
@@ -66,7 +66,7 @@ IsBroken fault base talk lines now = BreaksOff (fault ≡ WriteFailed) base talk
 -- no complete line of the bytes read is the last, and the rest is held
 pub record Holds (taken : List ℕ) (held : Option (List ℕ)) : Type 0 where
   pub going : list_any is_last (whole_lines taken) ≡ false
-  pub part : held ≡ readable (unfinished_line taken)
+  pub held_part : held ≡ readable (unfinished_line taken)
 
 -- bytes of an input were fed: a front of them, so that these are left; or one of their lines is the last; or there was
 -- a fault
@@ -79,14 +79,14 @@ IsTakenUp (Err _) taken bytes left held = ⊤
 -- the complete lines of the bytes read are answered, none of them is the last, and the rest is held
 pub record Stands (base : Base) (first : SessionTrace) (taken : List ℕ) (held : Option (List ℕ)) (now : Now) : Type 0
   where
-    pub at : IsAt base (trace_over first (whole_lines taken)) now
+    pub is_at : IsAt base (trace_over first (whole_lines taken)) now
     pub going : list_any is_last (whole_lines taken) ≡ false
-    pub part : held ≡ readable (unfinished_line taken)
+    pub held_part : held ≡ readable (unfinished_line taken)
 
 -- the talk over the whole input is finished
 pub record IsOver (base : Base) (first : SessionTrace) (taken input : List ℕ) (now : Now) : Type 0 where
-  pub at : IsAt base (trace_on first input) now
-  pub last : list_any is_last (whole_lines taken) ≡ true
+  pub is_at : IsAt base (trace_on first input) now
+  pub last_line : list_any is_last (whole_lines taken) ≡ true
 
 -- bytes of an input were fed: the session goes on after some of them, and these are left; or one of their lines ended
 -- it; or there was a fault

@@ -21,9 +21,9 @@ use Rattle.watch.specs.declared.watch.Watch.{Watch}
 pub record SessionState : Type 0 where
   pub options : Options
   pub table : Shown
-  pub pending : Option (List ℕ)
+  pub pending_from : Option (List ℕ)
   pub versions : Versions
-  pub watched : List Subject
+  pub watched_pairs : List Subject
 
 -- the encodings of sessions and their parts
 abbrev pub version_code : Coded Version
@@ -47,8 +47,15 @@ known_code =
     (coded× options.the_row.coded
     (coded× live_table.the_row.coded
     (coded× (coded_option (coded_list coded_ℕ)) (coded× versions_code (coded_list subject_code)))))
-    (λ k. (k.options, (k.table, (k.pending, (k.versions, k.watched)))))
-    (λ p. record { options = p.0; table = p.1.0; pending = p.1.1.0; versions = p.1.1.1.0; watched = p.1.1.1.1 })
+    (λ k. (k.options, (k.table, (k.pending_from, (k.versions, k.watched_pairs)))))
+    (λ p. record {
+      options = p.0;
+      table = p.1.0;
+      pending_from = p.1.1.0;
+      versions = p.1.1.1.0;
+      watched_pairs =
+          p.1.1.1.1;
+    })
     (λ _. refl)
 
 -- a session and the files that it can use
@@ -60,7 +67,7 @@ pub record State : Type 0 where
 abbrev pub session_of : Options → Shown → (pending : Option (List ℕ)) → Versions → (watched : List Subject)
     → SessionState
 session_of options table pending versions watched =
-    record { options = options; table = table; pending = pending; versions = versions; watched = watched }
+    record { options = options; table = table; pending_from = pending; versions = versions; watched_pairs = watched }
 
 -- a session with these parts, given a live table with the versions of its deck
 abbrev pub session_of_versions : Options → Dated → (pending : Option (List ℕ)) → (watched : List Subject) → SessionState
@@ -90,4 +97,4 @@ prompt_by (Some from) = codes "You want: "
 
 -- the prompt before the next line
 unfoldable pub prompt : SessionState → List ℕ
-prompt session = if session.options.quiet then [] else prompt_by session.pending
+prompt session = if session.options.quiet then [] else prompt_by session.pending_from

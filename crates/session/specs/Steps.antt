@@ -44,21 +44,21 @@ expression_answer (Some from) text state =
 
 -- the answer to a command
 unfoldable pub answer_to : State → Command → Answer
-answer_to state Blank = blank_answer state.session.pending state
+answer_to state Blank = blank_answer state.session.pending_from state
 answer_to state Quit = output_answer [] state
-answer_to state Conformable = conformable_answer state.session.pending state
+answer_to state Conformable = conformable_answer state.session.pending_from state
 answer_to state (Search text) = output_answer (search_report (table_in state.session.table.deck) text) state
 answer_to state (Edit edit) = edit_answer (edited_by edit (dated_in state.session)) [] state
 answer_to state (Load name) =
     let outcome = after_append state.files name state.session.table.deck in
     edit_answer (edit_result outcome name (dated_in state.session)) (notice_lines outcome) state
 answer_to state (Save name) = save_answer (saved_file state.session.table.deck) name state
-answer_to state (Watch from to) = watch_answer (is_full state.session.watched) (watch_subject from to) state
+answer_to state (Watch from to) = watch_answer (is_full state.session.watched_pairs) (watch_subject from to) state
 answer_to state Unwatch = unwatch_answer state
 answer_to state Stats = output_answer (statistics state.session.table) state
 answer_to state (Unknown word) = output_answer (word_line (codes "unknown command: ") word) state
 answer_to state (Bad word) = output_answer (word_line (codes "bad command: ") word) state
-answer_to state (Expression text) = expression_answer state.session.pending text state
+answer_to state (Expression text) = expression_answer state.session.pending_from text state
 
 -- the answer to a line as it was read, which may be too long
 abbrev pub answer_read : State → Option (List ℕ) → Answer
@@ -66,5 +66,5 @@ answer_read state None = output_answer (codes "line too long\n") state
 answer_read state (Some line) = answer_to state (command_of line)
 
 -- the answer to a line
-abbrev pub answer : State → (line : List ℕ) → Answer
-answer state line = answer_read state (readable line)
+abbrev pub line_answer : State → (line : List ℕ) → Answer
+line_answer state line = answer_read state (readable line)

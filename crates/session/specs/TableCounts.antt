@@ -10,19 +10,19 @@ use Rattle.live_table.specs.Calls.{present_names}
 use Rattle.live_table.specs.TableView.{Shown}
 
 -- a count, followed by words
-abbrev pub count_text : ℕ → (words : List ℕ) → List ℕ
-count_text n words = decimal n ++ words
+abbrev pub table_count_text : ℕ → (words : List ℕ) → List ℕ
+table_count_text n words = decimal n ++ words
 
 -- the line with the number of settled names, the number of all names, and the number of reductions so far
 unfoldable pub statistics : Shown → List ℕ
 statistics table =
-    ((codes "settled " ++ count_text (map_of.len table.kept) (codes " of "))
-    ++ count_text (length (present_names (table_in table.deck))) (codes ", reductions "))
-    ++ count_text table.reductions (codes "\n")
+    ((codes "settled " ++ table_count_text (map_of.len table.kept_outcomes) (codes " of "))
+    ++ table_count_text (length (present_names (table_in table.deck))) (codes ", reductions "))
+    ++ table_count_text table.reductions (codes "\n")
 
 -- the line with the numbers of definitions
 unfoldable pub banner : Contents → List ℕ
 banner deck =
-    (count_text (key_count (table_in deck) kind.Unit) (codes " units, ")
-    ++ count_text (key_count (table_in deck) kind.Prefix) (codes " prefixes, "))
-    ++ count_text (key_count (table_in deck) kind.Func) (codes " nonlinear units\n")
+    (table_count_text (key_count (table_in deck) kind.Unit) (codes " units, ")
+    ++ table_count_text (key_count (table_in deck) kind.Prefix) (codes " prefixes, "))
+    ++ table_count_text (key_count (table_in deck) kind.Func) (codes " nonlinear units\n")

@@ -7,7 +7,7 @@ use Rattle.session.specs.HeardLines.{is_last, heard}
 use Rattle.session.specs.Input.{lines_of}
 use Rattle.session.specs.Lines.{lines_of_texts}
 use Rattle.session.specs.Sessions.{SessionState, State, prompt}
-use Rattle.session.specs.Steps.{answer}
+use Rattle.session.specs.Steps.{line_answer}
 
 -- the output so far for each sink, the number of newly settled names, and the state
 pub record SessionTrace : Type 0 where
@@ -33,20 +33,20 @@ opened_talk state = record {
 
 -- the output of an answer on `out`, and the prompt for the next line, unless this line was the last
 abbrev pub spoken : Answer → (line : List ℕ) → List ℕ
-spoken answer line = answer.out ++ (if is_last line then [] else prompt answer.after.session)
+spoken answer line = answer.out ++ (if is_last line then [] else prompt answer.state_after.session)
 
 abbrev pub talk_with_answer : SessionTrace → Answer → (line : List ℕ) → SessionTrace
 talk_with_answer talk answer line = record {
   out = talk.out ++ spoken answer line;
   err = talk.err ++ answer.err;
   steps = talk.steps + answer.newly;
-  state = answer.after;
+  state = answer.state_after;
 }
 
 -- a talk after these lines are answered
 abbrev pub trace_over : SessionTrace → List (List ℕ) → SessionTrace
 trace_over talk [] = talk
-trace_over talk (line ∷ lines) = trace_over (talk_with_answer talk (answer talk.state line) line) lines
+trace_over talk (line ∷ lines) = trace_over (talk_with_answer talk (line_answer talk.state line) line) lines
 
 -- a talk over a whole input, up to a line that ends it
 abbrev pub trace_on : SessionTrace → (input : List ℕ) → SessionTrace

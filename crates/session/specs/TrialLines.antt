@@ -35,4 +35,4 @@ rounds n (suc k) = rounds n k ++ round n (suc k)
 -- law: the definitions of a trial of three rounds, and its second round
 pub record TrialExamples : Type 0 where
   pub three_units : trial_definitions 3 ≡ codes "u_0 !\nu_1 2 u_0\nu_2 3 u_1\nu_3 1 u_1\n"
-  pub second : round 3 2 ≡ codes ":define u_3 4 u_1\nu_2\nu_0\n"
+  pub second_round : round 3 2 ≡ codes ":define u_3 4 u_1\nu_2\nu_0\n"

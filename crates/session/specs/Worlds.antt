@@ -6,30 +6,30 @@ use Rattle.session.specs.Outside.{Outside, outside_of}
 
 -- a source: the bytes left of it, the number of bytes read, and the number of failed reads
 pub record SourceSeen : Type 0 where
-  pub left : Option (List ℕ)
-  pub taken : ℕ
+  pub input_left : Option (List ℕ)
+  pub bytes_taken : ℕ
   pub faults : ℕ
 
 abbrev pub source_of : (left : Option (List ℕ)) → (taken faults : ℕ) → SourceSeen
-source_of left taken faults = record { left = left; taken = taken; faults = faults }
+source_of left taken faults = record { input_left = left; bytes_taken = taken; faults = faults }
 
 -- a sink: the bytes written to it, and the number of failed writes
 pub record SinkSeen : Type 0 where
-  pub written : Option (List ℕ)
+  pub bytes_written : Option (List ℕ)
   pub faults : ℕ
 
 abbrev pub sink_of : (written : Option (List ℕ)) → (faults : ℕ) → SinkSeen
-sink_of written faults = record { written = written; faults = faults }
+sink_of written faults = record { bytes_written = written; faults = faults }
 
 -- files: their known contents, and the numbers of failed fetches and failed stores
 pub record FilesSeen : Type 0 where
-  pub told : Option FileMap
+  pub known_files : Option FileMap
   pub fetch_faults : ℕ
   pub store_faults : ℕ
 
 abbrev pub files_seen : (told : Option FileMap) → (fetch_faults store_faults : ℕ) → FilesSeen
 files_seen told fetch_faults store_faults =
-    record { told = told; fetch_faults = fetch_faults; store_faults = store_faults }
+    record { known_files = told; fetch_faults = fetch_faults; store_faults = store_faults }
 
 -- everything that a run touches, and the count of steps
 pub record World : Type 0 where
@@ -43,7 +43,8 @@ abbrev pub world_of : SourceSeen → (out err : SinkSeen) → FilesSeen → (ste
 world_of source out err files steps = record { source = source; out = out; err = err; files = files; steps = steps }
 
 -- the state outside the program in a world
-abbrev pub outside : World → Outside
-outside world =
-    outside_of world.source.left world.out.written world.err.written world.files.told world.files.fetch_faults
+abbrev pub world_outside : World → Outside
+world_outside world =
+    outside_of world.source.input_left world.out.bytes_written world.err.bytes_written world.files.known_files
+    world.files.fetch_faults
     world.files.store_faults world.steps

@@ -36,12 +36,12 @@ pub record IsOutputFront (output : Output) (before after : Outside) : Type 0 whe
 -- the session goes on after the bytes read: the output for their complete lines is written in full, and none of these
 -- lines is the last
 pub record IsOutputCut (shown : Output) (taken : List ℕ) (before after : Outside) : Type 0 where
-  pub all : IsAll shown before after
+  pub all_written : IsAll shown before after
   pub going : list_any is_last (whole_lines taken) ≡ false
 
 -- the output after any lines are answered, and the input
 pub record Course : Type 0 where
-  pub shown : (lines : List (List ℕ)) → Output
+  pub output_for : (lines : List (List ℕ)) → Output
   pub input : List ℕ
 
 -- the lines of the input that the session hears
@@ -49,30 +49,31 @@ abbrev pub heard_in : Course → List (List ℕ)
 heard_in course = heard (lines_of course.input)
 
 -- the output over the whole input
-abbrev pub whole : Course → Output
-whole course = course.shown (heard_in course)
+abbrev pub course_output : Course → Output
+course_output course = course.output_for (heard_in course)
 
 abbrev pub IsCutShort : Course → Outside → Outside → Type 0
 IsCutShort course before after =
-    let taken = taken_of course.input after.left in IsOutputCut (course.shown (whole_lines taken)) taken before after
+    let taken = taken_of course.input after.input_left in
+    IsOutputCut (course.output_for (whole_lines taken)) taken before after
 
 -- a part of a course: the heard lines up to some line are answered, each sink has a front of the output for them, and
 -- the files are as they leave them
 pub record IsPrefixRun (course : Course) (before after : Outside) : Type 0 where
-  pub answered : List (List ℕ)
-  pub rest : List (List ℕ)
-  pub split : heard_in course ≡ answered ++ rest
-  pub front : IsOutputFront (course.shown answered) before after
-  pub files : after.files ≡ when_told before.files (course.shown answered).files
+  pub answered_lines : List (List ℕ)
+  pub lines_left : List (List ℕ)
+  pub lines_split : heard_in course ≡ answered_lines ++ lines_left
+  pub output_front : IsOutputFront (course.output_for answered_lines) before after
+  pub files : after.files ≡ when_told before.files (course.output_for answered_lines).files
 
 -- a part of a course, or, only if a store failed, one with the file damaged that the next line saves
 pub record IsPartIf (failed : Type 0) (course : Course) (before after : Outside) : Type 0 where
-  pub answered : List (List ℕ)
-  pub rest : List (List ℕ)
-  pub split : heard_in course ≡ answered ++ rest
-  pub front : IsOutputFront (course.shown answered) before after
+  pub answered_lines : List (List ℕ)
+  pub lines_left : List (List ℕ)
+  pub lines_split : heard_in course ≡ answered_lines ++ lines_left
+  pub output_front : IsOutputFront (course.output_for answered_lines) before after
   pub files : (m : FileMap) × (after.files ≡ when_told before.files m)
-      × AreLeft failed rest (course.shown answered).files m
+      × AreLeft failed lines_left (course.output_for answered_lines).files m
 
 -- a part of a course, where a risen count of failed stores says that a store failed
 abbrev pub IsPrefixRunExceptFile : Course → (before after : Outside) → Type 0
@@ -85,12 +86,12 @@ output_of talk = record { out = talk.out; err = talk.err; steps = talk.steps; fi
 
 -- the course of a session
 abbrev pub session_course : SessionTrace → (input : List ℕ) → Course
-session_course first input = record { shown = λ lines. output_of (trace_over first lines); input = input }
+session_course first input = record { output_for = λ lines. output_of (trace_over first lines); input = input }
 
 -- the output of a session by its ending: all of it; or a part, which is cut after the bytes read if the input is too
 -- long, or if a read failed and no fetch did
 abbrev pub IsEnded : Course → SessionEnd → Outside → Outside → Type 0
-IsEnded course Done before after = IsAll (whole course) before after
+IsEnded course Done before after = IsAll (course_output course) before after
 IsEnded course ReadFault before after =
     IsPrefixRun course before after × (CountUnchanged before.fetch_faults after.fetch_faults
     → IsCutShort course before after)

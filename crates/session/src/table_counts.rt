@@ -49,7 +49,7 @@ pub(crate) fn put_count(
     count: u64,
     words: &[u8],
 ) -> Result<(), AllocError>
-    ensures { OnOk result (text.new.items ≡ text.old.items ++ spec.count_text count words.now) }
+    ensures { OnOk result (text.new.items ≡ text.old.items ++ spec.table_count_text count words.now) }
 {
     text.extend_from_slice(count.to_string(alloc)?.as_bytes())?;
     text.extend_from_slice(words)?;

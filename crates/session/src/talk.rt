@@ -117,7 +117,7 @@ fn end_line<F: Files, L: Ledger>(
         (now_of said.old session.old (F.files files.old) steps.old) →
         MatchResult result
         (λ done. (done ≡ is_last (part ++ piece.now)) × (held.new ≡ Some [])
-        × IsAt base (talk_with_answer talk (spec.answer talk.state (part ++ piece.now)) (part ++ piece.now))
+        × IsAt base (talk_with_answer talk (spec.line_answer talk.state (part ++ piece.now)) (part ++ piece.now))
         (now_of said.new session.new (F.files files.new) steps.new))
         (λ fault. IsBroken fault base talk ((part ++ piece.now) ∷ [])
         (now_of said.new session.new (F.files files.new) steps.new)) }
@@ -168,7 +168,7 @@ fn reply<F: Files, L: Ledger>(
         IsToldIf (loads_file_in part) base.files → IsAt base talk
         (now_of said.old session.old (F.files files.old) steps.old) →
         MatchResult result
-        (λ done. (done ≡ is_last part) × IsAt base (talk_with_answer talk (spec.answer talk.state part) part)
+        (λ done. (done ≡ is_last part) × IsAt base (talk_with_answer talk (spec.line_answer talk.state part) part)
         (now_of said.new session.new (F.files files.new) steps.new))
         (λ fault. IsBroken fault base talk (part ∷ [])
         (now_of said.new session.new (F.files files.new) steps.new)) }

@@ -62,7 +62,7 @@ fn run_lines<L: Ledger>(
     steps: &mut Steps<L>,
 ) -> Result<Said, AllocError>
     ensures { IfOk result (λ said.
-        IsTalked (trace_on (spec.silent session.old) lines.now) said session.new steps.old steps.new) }
+        IsTalked (trace_on (spec.silent_trace session.old) lines.now) said session.new steps.old steps.new) }
 {
     let mut files = NoFiles::new();
     let mut held = Held::new(alloc);

@@ -9,30 +9,30 @@ use Rattle.survey.specs.Examples.{CheckLaw, SearchRowsLaw}
 pub checks : CheckLaw
 unfolding digits gcd gcd_within lowest_terms
 checks = record {
-  sound = refl;
-  unknown = refl;
+  sound_key = refl;
+  unknown_unit = refl;
   overflow = refl;
   out_unit = refl;
   alias_of = refl;
-  table_unit = refl;
+  fault_in_table = refl;
   own_chain = refl;
   from_unit = refl;
   other_chain = refl;
   part = refl;
   unlike = refl;
   not_positive = refl;
-  in_order = refl;
-  asked = refl;
+  checks_in_order = refl;
+  queries_asked = refl;
 }
 
 -- the examples of rows
 pub rows : SearchRowsLaw
 unfolding gcd gcd_within lowest_terms
 rows = record {
-  inside = refl;
+  rows_inside = refl;
   not_in_key_text = refl;
   anywhere = refl;
   without_value = refl;
   units_alone = refl;
-  turned_round = refl;
+  chain_turned = refl;
 }

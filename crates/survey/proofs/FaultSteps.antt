@@ -14,7 +14,8 @@ use Rattle.table_names.specs.declared.fault.NameFault.{NameFault}
 use Rattle.table_names.specs.declared.fault.NameFault.TheVariants.{Unknown, Refused, Cycle}
 use Rattle.table_names.specs.ClosedKeys.{IsClosed}
 use Rattle.table_names.specs.FaultLaws.{IsKeyPath}
-use Rattle.table_names.specs.Faults.{Deeper, cycle_chain, first, key_fault, key_fault_within, last, target_fault}
+use Rattle.table_names.specs.Faults.{Deeper, cycle_chain, first_some, key_fault, key_fault_within, last_of_list}
+use Rattle.table_names.specs.Faults.{target_fault}
 use Rattle.table_names.specs.Faults.{words_fault}
 use Rattle.table_names.specs.Faults.{targets_fault, word_fault}
 use Rattle.table_names.specs.Leads.{Reaches, targets}
@@ -44,31 +45,31 @@ module _ (table : Table) where
       elim (cases_Bool (is_present table n)) [
         | inl there ↦ there
         | inr absent ↦ absurd
-            (h (subst (λ ws. first (word_fault table (key_fault_within table (length table - 1)) (n ∷ [])) ws
+            (h (subst (λ ws. first_some (word_fault table (key_fault_within table (length table - 1)) (n ∷ [])) ws
             ≡ None)
             (sym (no_words (entry_at table n) absent)) refl))
       ]
 
-  pub never : (n : Key) (f : NameFault) → key_fault table n ≡ Some f → IsClosed table n → ⊥
-  never n f e closed = cc
+  pub faulty_not_closed : (n : Key) (f : NameFault) → key_fault table n ≡ Some f → IsClosed table n → ⊥
+  faulty_not_closed n f e closed = cc
 
   abbrev key_step : (n : Key) (o : Option NameFault) → key_fault table n ≡ o → Option (Step table)
   key_step n None e = None
-  key_step n (Some f) e = Some (Open n (never n f e))
+  key_step n (Some f) e = Some (Open n (faulty_not_closed n f e))
 
   abbrev target_step : Key → Option (Step table)
   target_step n = key_step n (key_fault table n) refl
 
   abbrev targets_step : WordUse → List Key → Option (Step table)
   targets_step u [] = Some (Lost u.text)
-  targets_step u (n ∷ ns) = first target_step (n ∷ ns)
+  targets_step u (n ∷ ns) = first_some target_step (n ∷ ns)
 
   abbrev word_step : WordUse → Option (Step table)
   word_step u = if is_refused u.text then Some (Barred u.text) else targets_step u (targets table u)
 
   -- the step at which words first lead to a fault, if they lead to one
   abbrev pub step : List WordUse → Option (Step table)
-  step words = first word_step words
+  step words = first_some word_step words
 
   -- the fault of the words of a key after a path
   abbrev pub by_words : Deeper
@@ -76,8 +77,8 @@ module _ (table : Table) where
 
   -- the fault that a step leads to after a path
   abbrev pub meet : List Key → Step table → Option NameFault
-  meet path (Lost word) = Some (Unknown word (last path))
-  meet path (Barred word) = Some (Refused word (last path))
+  meet path (Lost word) = Some (Unknown word (last_of_list path))
+  meet path (Barred word) = Some (Refused word (last_of_list path))
   meet path (Open n h) = target_fault table by_words path n
 
   -- a fault is the one that a step leads to
@@ -97,10 +98,10 @@ module _ (table : Table) where
       (sym h.1.1 ∙ h.0, (h.1.0, refl))
 
   fits_first : {A : Type 0} (path : List Key) (f : A → Option NameFault) (g : A → Option (Step table)) (xs : List A)
-      → ((x : A) → Contains xs x → Fits path (f x) (g x)) → Fits path (first f xs) (first g xs)
+      → ((x : A) → Contains xs x → Fits path (f x) (g x)) → Fits path (first_some f xs) (first_some g xs)
   fits_first path f g [] h = refl
   fits_first path f g (x ∷ xs) h =
-      fits_both path (f x) (first f xs) (g x) (first g xs) (h x (member_first x x xs refl))
+      fits_both path (f x) (first_some f xs) (g x) (first_some g xs) (h x (member_first x x xs refl))
       (fits_first path f g xs (λ y i. h y (member_later y x xs i)))
 
   module _ (path : List Key) (is : IsKeyPath table path) (all_open : AreOpen path) where
@@ -115,7 +116,7 @@ module _ (table : Table) where
         (closed_ending table (key_words table n) (key_words_closed table n e))
         (longer table path n is (off n e) there)
         (λ m r. off_longer path n m
-        (off m (closed_law.below table (key_words table n) (key_words_closed table n e) m r))
+        (off m (closed_law.reached_words_closed table (key_words table n) (key_words_closed table n e) m r))
         (λ q. closed_law.no_cycle table n e (subst (λ (x : Key). Reaches table n x) q r)))
 
     -- any other key has a fault
@@ -137,25 +138,26 @@ module _ (table : Table) where
         go : (o : Option NameFault) (e : key_fault table n ≡ o)
             → Fits path (target_fault table by_words path n) (key_step n o e)
         go None e = closed_passes n there e
-        go (Some f) e = (refl, open_some n (never n f e))
+        go (Some f) e = (refl, open_some n (faulty_not_closed n f e))
 
     fits_word : (u : WordUse) → Fits path (word_fault table by_words path u) (word_step u)
     fits_word u = go (is_refused u.text)
       where
         by_targets : (ns : List Key) → ((n : Key) → Contains ns n → is_present table n ≡ true)
             → Fits path (targets_fault table by_words path u ns) (targets_step u ns)
-        by_targets [] h = (refl, (Unknown u.text (last path), refl))
+        by_targets [] h = (refl, (Unknown u.text (last_of_list path), refl))
         by_targets (n ∷ ns) h =
             fits_first path (target_fault table by_words path) target_step (n ∷ ns) (λ m i. fits_target m (h m i))
 
         go : (b : Bool) → Fits path
-            (if b then Some (Refused u.text (last path)) else targets_fault table by_words path u (targets table u))
+            (if b then Some (Refused u.text (last_of_list path)) else targets_fault table by_words path u
+            (targets table u))
             (if b then Some (Barred u.text) else targets_step u (targets table u))
-        go true = (refl, (Refused u.text (last path), refl))
+        go true = (refl, (Refused u.text (last_of_list path), refl))
         go false = by_targets (targets table u) (λ n i. target_present table u n i)
 
     -- if no key of a path is closed, the fault of words after it is the fault that their step leads to
     pub fits_words : (words : List WordUse) → Fits path (words_fault table path words) (step words)
     fits_words words =
-        subst (λ (o : Option NameFault). Fits path o (step words)) (sym (fault_law.is table path words is))
+        subst (λ (o : Option NameFault). Fits path o (step words)) (sym (fault_law.first_fault_is table path words is))
         (fits_first path (word_fault table by_words path) word_step words (λ u i. fits_word u))

@@ -10,13 +10,13 @@ use Rattle.def_entry.specs.declared.key.Key.{Key}
 use Rattle.digits_print.specs.declared.style.Style.{Style}
 use Rattle.survey.specs.declared.check_result.Finding.{Finding}
 use Rattle.survey.specs.Checks.{finding_line}
-use Rattle.reply.specs.Calls.{IsInquired, as_inquired, same}
+use Rattle.reply.specs.Calls.{IsInquired, as_inquired, itself}
 use Rattle.reply.specs.Inquiries.{Inquiry, as_answer}
-use Rattle.reply.proofs.Runs.{made}
+use Rattle.reply.proofs.Runs.{queries_made}
 
 module _ {A : Type 0} (m : Inquiry A) (a b : Shown) (n l : ℕ) where
   -- a result other than running out of memory is the answer
-  pub is-answer : (r : Result A QueryFault) → (r ≡ Err OutOfMemory → ⊥) → IsInquired same m (as_inquired r) a b n l
+  pub is-answer : (r : Result A QueryFault) → (r ≡ Err OutOfMemory → ⊥) → IsInquired itself m (as_inquired r) a b n l
       → m.answer ≡ as_answer r
   is-answer (Ok x) memory h = h.0
   is-answer (Err (Name fault)) memory h = h.0
@@ -24,17 +24,17 @@ module _ {A : Type 0} (m : Inquiry A) (a b : Shown) (n l : ℕ) where
   is-answer (Err OutOfMemory) memory h = absurd (memory refl)
 
   -- all queries were made, whether or not memory ran out afterwards
-  pub are-made : (r : Result A QueryFault) → b.deck ≡ a.deck → IsInquired same m (as_inquired r) a b n l
+  pub are-made : (r : Result A QueryFault) → b.deck ≡ a.deck → IsInquired itself m (as_inquired r) a b n l
       → (q : Result (Unit {0}) AllocError) → OnOk q (r ≡ Err OutOfMemory → ⊥) → AreQueries m.events q a b n l
-  are-made (Ok x) deck h q memory = made q m.events a b n l deck h.1
-  are-made (Err (Name fault)) deck h q memory = made q m.events a b n l deck h.1
-  are-made (Err (Value fault)) deck h q memory = made q m.events a b n l deck h.1
+  are-made (Ok x) deck h q memory = queries_made q m.events a b n l deck h.1
+  are-made (Err (Name fault)) deck h q memory = queries_made q m.events a b n l deck h.1
+  are-made (Err (Value fault)) deck h q memory = queries_made q m.events a b n l deck h.1
   are-made (Err OutOfMemory) deck h (Ok u) memory = absurd (memory refl)
   are-made (Err OutOfMemory) deck h (Err e) memory = h
 
 -- a line for the result is a line for the answer of the inquiry
 pub line-told : (style : Style) (k : Key) (m : Inquiry Finding) (a b : Shown) (n l : ℕ) (before after : List ℕ)
-    (r : Result Finding QueryFault) → IsInquired same m (as_inquired r) a b n l → (q : Result (Unit {0}) AllocError)
+    (r : Result Finding QueryFault) → IsInquired itself m (as_inquired r) a b n l → (q : Result (Unit {0}) AllocError)
     → OnOk q (after ≡ before ++ finding_line style k (as_answer r)) → OnOk q (r ≡ Err OutOfMemory → ⊥)
     → OnOk q (after ≡ before ++ finding_line style k m.answer)
 line-told style k m a b n l before after r h (Ok u) line memory =

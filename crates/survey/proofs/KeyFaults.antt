@@ -12,36 +12,37 @@ use Rattle.table_names.specs.declared.fault.NameFault.{NameFault}
 use Rattle.table_names.specs.declared.fault.NameFault.TheVariants.{Unknown, Refused, Cycle}
 use Rattle.table_names.specs.ClosedKeys.{IsClosed}
 use Rattle.table_names.specs.FaultLaws.{IsKeyPath}
-use Rattle.table_names.specs.Faults.{cycle_chain, key_fault, last, name_fault, words_fault}
+use Rattle.table_names.specs.Faults.{cycle_chain, key_fault, last_of_list, name_fault, words_fault}
 use Rattle.table_names.specs.Words.{key_words}
 use Rattle.table_names.proofs.KeyLists.{off_longer, on_longer, one_key, same_itself}
-use Rattle.table_names.proofs.Paths.{empty, key_words_closed, longer, short, words_closed_key}
+use Rattle.table_names.proofs.Paths.{empty_is_path, key_words_closed, longer, path_fits_table, words_closed_key}
 use Rattle.survey.specs.PrefixFaults.{PrefixLaw, prefix_fault}
-use Rattle.survey.proofs.FaultSteps.{AreOpen, Barred, Fits, Lost, Open, Step, by_words, fits_words, never, open_present}
+use Rattle.survey.proofs.FaultSteps.{AreOpen, Barred, Fits, Lost, Open, Step, by_words, faulty_not_closed, fits_words}
+use Rattle.survey.proofs.FaultSteps.{open_present}
 use Rattle.survey.proofs.FaultSteps.{step}
 use Rattle.survey.proofs.ChainTurns.{chain_off, turned_back, turned_here, turned_off}
 
 -- ---- the key in which a word is reported
 unknown_last : (k : Key) (word : List ℕ) (x : Key) (path : List Key)
-    → prefix_fault k (Unknown word (last (x ∷ path))) ≡ Unknown word (last (x ∷ path))
+    → prefix_fault k (Unknown word (last_of_list (x ∷ path))) ≡ Unknown word (last_of_list (x ∷ path))
 unknown_last k word x [] = refl
 unknown_last k word x (y ∷ path) = unknown_last k word y path
 
 -- a refused word after a nonempty path is reported in the last key of that path
 refused_last : (k : Key) (word : List ℕ) (x : Key) (path : List Key)
-    → prefix_fault k (Refused word (last (x ∷ path))) ≡ Refused word (last (x ∷ path))
+    → prefix_fault k (Refused word (last_of_list (x ∷ path))) ≡ Refused word (last_of_list (x ∷ path))
 refused_last k word x [] = refl
 refused_last k word x (y ∷ path) = refused_last k word y path
 
 -- an unknown word is reported in the prefix if there is no other key in between
 unknown_behind : (k : Key) (word : List ℕ) (path : List Key)
-    → prefix_fault k (Unknown word (last path)) ≡ Unknown word (last (k ∷ path))
+    → prefix_fault k (Unknown word (last_of_list path)) ≡ Unknown word (last_of_list (k ∷ path))
 unknown_behind k word [] = refl
 unknown_behind k word (x ∷ path) = unknown_last k word x path
 
 -- a refused word is reported in the prefix if there is no other key in between
 refused_behind : (k : Key) (word : List ℕ) (path : List Key)
-    → prefix_fault k (Refused word (last path)) ≡ Refused word (last (k ∷ path))
+    → prefix_fault k (Refused word (last_of_list path)) ≡ Refused word (last_of_list (k ∷ path))
 refused_behind k word [] = refl
 refused_behind k word (x ∷ path) = refused_last k word x path
 
@@ -110,7 +111,7 @@ module _ (table : Table) (k : Key) (k_open : IsClosed table k → ⊥) where
   has_step h h_open e =
       h_open (words_closed_key table h (subst (λ (s : Option (Step table)). Fits table []
       (words_fault table [] (key_words table h)) s) e
-      (fits_words table [] (empty table) (λ n on closed. absurd (cc on)) (key_words table h))))
+      (fits_words table [] (empty_is_path table) (λ n on closed. absurd (cc on)) (key_words table h))))
 
   -- the words of the keys below a path have this property
   abbrev Below : List Key → Type 0
@@ -177,15 +178,15 @@ module _ (table : Table) (k : Key) (k_open : IsClosed table k → ⊥) where
       → Fits table path (words_fault table path words) s → Comes path words
   comes_at path words b below None some p q = absurd (some refl)
   comes_at path words b below (Some (Lost w)) some p q =
-      (Unknown w (last (k ∷ path)), p.0, inl (Unknown w (last path), q.0, unknown_behind k w path))
+      (Unknown w (last_of_list (k ∷ path)), p.0, inl (Unknown w (last_of_list path), q.0, unknown_behind k w path))
   comes_at path words b below (Some (Barred w)) some p q =
-      (Refused w (last (k ∷ path)), p.0, inl (Refused w (last path), q.0, refused_behind k w path))
+      (Refused w (last_of_list (k ∷ path)), p.0, inl (Refused w (last_of_list path), q.0, refused_behind k w path))
   comes_at path words b below (Some (Open h h_open)) some p q =
       comes_by path words b below h h_open (is_same h k) (is_key_among path h) refl refl p.0 q.0
 
   comes : (room : ℕ) (path : List Key) (words : List WordUse) → IsBoth path → (step table words ≡ None → ⊥)
       → length (k ∷ path) + room ≡ length table + 1 → Comes path words
-  comes zero path words b some room = absurd (let l = short table (k ∷ path) b.behind in omega arith)
+  comes zero path words b some room = absurd (let l = path_fits_table table (k ∷ path) b.behind in omega arith)
   comes (suc room) path words b some r =
       comes_at path words b
       (λ h c h_open. comes room (path ++ h ∷ []) (key_words table h) c (has_step h h_open)
@@ -197,8 +198,8 @@ module _ (table : Table) (k : Key) (k_open : IsClosed table k → ⊥) where
   -- the empty path can be continued after the key and without it
   alone : is_present table k ≡ true → IsBoth []
   alone there = record {
-    behind = longer table [] k (empty table) refl there;
-    without = empty table;
+    behind = longer table [] k (empty_is_path table) refl there;
+    without = empty_is_path table;
     off = refl;
     none_closed = λ n on closed. absurd (cc on);
   }
@@ -266,7 +267,7 @@ module _ (table : Table) (k : Key) (k_open : IsClosed table k → ⊥) where
       (ap Cycle (turned_here k)))
   at_key there h h_open steps false e =
       let b : IsBoth [] = alone there in
-      let some : length (k ∷ []) ≤ length table = short table (k ∷ []) b.behind in
+      let some : length (k ∷ []) ≤ length table = path_fits_table table (k ∷ []) b.behind in
       go (comes (length table - 1) (h ∷ []) (key_words table h)
       (both_longer [] h b (λ s. cc (e, ap (is_same h) (sym s) ∙ same_itself h)) refl h_open) (has_step h h_open)
       (omega arith))
@@ -316,6 +317,6 @@ prefix_law table k there = go (key_fault table k) refl
         → key_fault table k ≡ option_map (prefix_fault k) (name_fault table (key_words table k))
     go None e = e ∙ ap (option_map (prefix_fault k)) (sym (key_words_closed table k e))
     go (Some f) e =
-        at_step table k (never table k f e) there (step table (key_words table k))
-        (has_step table k (never table k f e) k (never table k f e))
+        at_step table k (faulty_not_closed table k f e) there (step table (key_words table k))
+        (has_step table k (faulty_not_closed table k f e) k (faulty_not_closed table k f e))
         (λ path is none. fits_words table path is none (key_words table k))

@@ -13,10 +13,10 @@ use Rattle.reply.specs.declared.reply.FromValue.{FromValue}
 use Rattle.survey.specs.ConversionReplies.{conformable_to}
 
 -- queries that follow others that were made are the queries of both
-pub joined : {A : Type 0} (es fs : List Event) (r : Result A AllocError) (a b c : Shown) (n m k : ℕ)
+pub queries_appended : {A : Type 0} (es fs : List Event) (r : Result A AllocError) (a b c : Shown) (n m k : ℕ)
     → b.deck ≡ a.deck → IsAfterEvents es a b n m → AreQueries fs r b c m k → AreQueries (es ++ fs) r a c n k
-joined es fs (Ok x) a b c n m k deck f q = follows_both es fs a b c n m k f q
-joined es fs (Err e) a b c n m k deck f q = run_law.cut_behind es fs a b c n m k deck f q
+queries_appended es fs (Ok x) a b c n m k deck f q = follows_both es fs a b c n m k f q
+queries_appended es fs (Err e) a b c n m k deck f q = run_law.cut_behind es fs a b c n m k deck f q
 
 -- the units that conform to equal values are the same over equal decks
 pub asked_same : (d e : Contents) (x y : FromValue) → d ≡ e → x ≡ y

@@ -10,7 +10,7 @@ use Rattle.live_table.specs.Answers.{IsQueryResult, by_names}
 use Rattle.live_table.specs.Calls.{IsQuery}
 use Rattle.live_table.specs.TableView.{IsAfterEvents, Shown}
 use Rattle.live_table.specs.States.{Event}
-use Rattle.reply.specs.Calls.{IsInquired, as_inquired, same}
+use Rattle.reply.specs.Calls.{IsInquired, as_inquired, itself}
 use Rattle.reply.specs.Inquiries.{Inquiry}
 use Rattle.survey.specs.Calls.{names_alone}
 use Rattle.survey.specs.Checks.{names_answer}
@@ -22,7 +22,7 @@ names-asked e fault = record { events = e ∷ []; answer = names_answer fault }
 module _ (e : Event) (fault : Option NameFault) (w : Worth) (a b : Shown) (n m : ℕ) where
   -- the result of the query, without its value, is the answer of the inquiry
   abbrev answers-names : Result Amount QueryFault → Type 0
-  answers-names r = IsInquired same (names-asked e fault) (as_inquired (names_alone r)) a b n m
+  answers-names r = IsInquired itself (names-asked e fault) (as_inquired (names_alone r)) a b n m
 
   answered : IsAfterEvents (e ∷ []) a b n m → (f : Option NameFault) (w : Worth) → f ≡ fault
       → answers-names (by_names f w)

@@ -20,7 +20,7 @@ use Rattle.live_table.specs.Calls.{AreQueries}
 use Rattle.live_table.specs.TableView.{IsAfterEvents, IsRightTable, Shown}
 use Rattle.live_table.proofs.QuerySequence.{follows_none}
 use Rattle.reply.specs.declared.fault.ReplyFault.{ReplyFault}
-use Rattle.reply.specs.Calls.{IsInquired, as_inquired, same}
+use Rattle.reply.specs.Calls.{IsInquired, as_inquired, itself}
 use Rattle.reply.specs.Inquiries.{as_answer, tree_value}
 use Rattle.survey.specs.Conformable.{conforming_row, is_conforming, unit_worth}
 use Rattle.survey.specs.Places.{given_by_key, unit_only, unit_there}
@@ -112,7 +112,7 @@ module _ (deck : Contents) (place : ℕ) (a b : Shown) (n l : ℕ) (found : Resu
     (q : Result (Unit {0}) AllocError) (memory : OnOk q (found ≡ Err OutOfMemory → ⊥)) where
   -- the result found is the answer for the value of a tree
   abbrev finds : Syntax → Type 0
-  finds tree = IsInquired same (tree_value (table deck) tree) (as_inquired found) a b n l
+  finds tree = IsInquired itself (tree_value (table deck) tree) (as_inquired found) a b n l
 
   key-asked : (k : Key) → unit_there deck place ≡ Some k → finds (Word k.name) → b.deck ≡ a.deck
       → AreQueries (unit_queries_at deck place) q a b n l
@@ -135,7 +135,7 @@ if-conforming from t k row = if is_conforming from (unit_worth t k).answer then 
 -- the result found conforms exactly if the value of the unit does
 key-told : (from : Amount) (deck : Contents) (place : ℕ) (k : Key) → unit_there deck place ≡ Some k
     → (a b : Shown) (n l : ℕ) (found : Result Amount QueryFault)
-    → IsInquired same (unit_worth (table deck) k) (as_inquired found) a b n l
+    → IsInquired itself (unit_worth (table deck) k) (as_inquired found) a b n l
     → (seen : Contents) → seen ≡ deck → (before after : List ℕ) (q : Result (Unit {0}) AllocError)
     → OnOk q (after ≡ before ++ (if is_conforming from (as_answer found)
     then given_by_key (key_row (table seen)) (key_there seen.lines place) else []))
@@ -156,7 +156,7 @@ key-told from deck place k there a b n l found h seen is before after (Ok u) row
 pub word-told : (from : Amount) (deck : Contents) (place : ℕ) (tree : Syntax)
     → Some tree ≡ option_map (λ k. Word k.name) (unit_there deck place)
     → (a b : Shown) (n l : ℕ) (found : Result Amount QueryFault)
-    → IsInquired same (tree_value (table deck) tree) (as_inquired found) a b n l
+    → IsInquired itself (tree_value (table deck) tree) (as_inquired found) a b n l
     → (seen : Contents) → seen ≡ deck → (before after : List ℕ) (q : Result (Unit {0}) AllocError)
     → OnOk q (after ≡ before ++ (if is_conforming from (as_answer found)
     then given_by_key (key_row (table seen)) (key_there seen.lines place) else []))
@@ -164,4 +164,4 @@ pub word-told : (from : Amount) (deck : Contents) (place : ℕ) (tree : Syntax)
 word-told from deck place tree word a b n l found h =
     let u = unit-of-word tree (unit_there deck place) word in
     key-told from deck place u.0 u.1.0 a b n l found
-    (subst (λ (t : Syntax). IsInquired same (tree_value (table deck) t) (as_inquired found) a b n l) u.1.1 h)
+    (subst (λ (t : Syntax). IsInquired itself (tree_value (table deck) t) (as_inquired found) a b n l) u.1.1 h)

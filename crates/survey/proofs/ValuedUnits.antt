@@ -12,9 +12,9 @@ use Rattle.live_table.specs.Calls.{AreQueries}
 use Rattle.live_table.specs.TableView.{Shown}
 use Rattle.live_table.specs.States.{Event}
 use Rattle.live_table.proofs.QuerySequence.{query_answer}
-use Rattle.reply.specs.Calls.{IsInquired, as_inquired, same}
+use Rattle.reply.specs.Calls.{IsInquired, as_inquired, itself}
 use Rattle.reply.specs.Inquiries.{as_answer, single_query}
-use Rattle.reply.proofs.InquirySequence.{asked}
+use Rattle.reply.proofs.InquirySequence.{query_inquired}
 use Rattle.survey.specs.Conformable.{is_conforming, is_value_conforming}
 
 -- the answer of a query for an optional value
@@ -25,10 +25,10 @@ answer_of answer (Err e) = Err query.OutOfMemory
 -- a query for an optional value is an inquiry
 pub value_asked : (e : Event) (answer : Result Amount QueryFault) (found : Result (Option Amount) AllocError)
     (a b : Shown) (n m : ℕ) → b.deck ≡ a.deck → AreQueries (e ∷ []) found a b n m
-    → IsInquired same (single_query e answer) (as_inquired (answer_of answer found)) a b n m
+    → IsInquired itself (single_query e answer) (as_inquired (answer_of answer found)) a b n m
 value_asked e answer (Ok value) a b n m deck made =
-    asked e answer a b n m answer (inr refl) (query_answer e answer a b n m deck made)
-value_asked e answer (Err x) a b n m deck made = asked e answer a b n m (Err query.OutOfMemory) (inl refl) made
+    query_inquired e answer a b n m answer (inr refl) (query_answer e answer a b n m deck made)
+value_asked e answer (Err x) a b n m deck made = query_inquired e answer a b n m (Err query.OutOfMemory) (inl refl) made
 
 -- no query answers that memory ran out if it did not
 no_memory_there : (name : Option NameFault) (worth : Worth) → by_names name worth ≡ Err query.OutOfMemory → ⊥

@@ -65,8 +65,8 @@ names_answer None = Ok tt
 names_answer (Some fault) = Err (Name fault)
 
 -- the finding if the values alone decide: sound if all of them exist
-abbrev pub sound : Inquiry (List Amount) → Inquiry Finding
-sound values = do
+abbrev pub sound_finding : Inquiry (List Amount) → Inquiry Finding
+sound_finding values = do
   _ ← values
   without_queries (Ok Sound)
 
@@ -95,11 +95,11 @@ module _ (table : Table) where
   -- a unit and a prefix are checked by value; a function, an alias and a table by the faults of their names, and then
   -- by the values of their units; a list by the values of its parts, and then by whether the parts agree
   abbrev pub checked_by : Kind → Key → Inquiry (List Amount) → Inquiry Finding
-  checked_by kind.Unit k values = sound values
-  checked_by kind.Prefix k values = sound (of_prefix k values)
+  checked_by kind.Unit k values = sound_finding values
+  checked_by kind.Prefix k values = sound_finding (of_prefix k values)
   checked_by kind.Func k values = do
     _ ← names_finding k
-    sound values
+    sound_finding values
   checked_by kind.List k values = list_finding values
 
   abbrev pub key_finding : Key → Inquiry Finding

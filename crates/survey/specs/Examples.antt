@@ -24,8 +24,8 @@ survey_unit w = key kind.Unit w
 abbrev pub survey_prefix : List ℕ → Key
 survey_prefix w = key kind.Prefix w
 
-abbrev pub function : List ℕ → Key
-function w = key kind.Func w
+abbrev pub example_function_key : List ℕ → Key
+example_function_key w = key kind.Func w
 
 abbrev pub example_entry : List ℕ → What → Entry
 example_entry text what = record { text = text; what = what }
@@ -45,16 +45,16 @@ abbrev pub big_key : Key
 big_key = survey_unit (codes "big")
 
 abbrev pub function_f : Key
-function_f = function (codes "f")
+function_f = example_function_key (codes "f")
 
 abbrev pub function_g : Key
-function_g = function (codes "g")
+function_g = example_function_key (codes "g")
 
 abbrev pub gauge_key : Key
-gauge_key = function (codes "gauge")
+gauge_key = example_function_key (codes "gauge")
 
-abbrev pub metre : Key
-metre = survey_unit (codes "m")
+abbrev pub example_metre : Key
+example_metre = survey_unit (codes "m")
 
 abbrev pub p : Key
 p = survey_prefix (codes "p")
@@ -99,7 +99,7 @@ survey_table =
         points = (whole (pos 1), whole (pos 2)) ∷ (whole (pos 3), whole (pos 6)) ∷ [];
       })),
     )
-    ∷ (metre, example_entry (codes "!") Primitive)
+    ∷ (example_metre, example_entry (codes "!") Primitive)
     ∷ (p, entry_of_word (codes "q"))
     ∷ (q, entry_of_word (codes "pm"))
     ∷ (r, entry_of_word (codes "u"))
@@ -110,43 +110,44 @@ survey_table =
 
 -- the keys of the table, in order
 abbrev pub small_keys : List Key
-small_keys = bad_key ∷ big_key ∷ function_f ∷ function_g ∷ gauge_key ∷ metre ∷ p ∷ parts_key ∷ q ∷ r ∷ u ∷ v ∷ []
+small_keys = bad_key ∷ big_key ∷ function_f ∷ function_g ∷ gauge_key ∷ example_metre ∷ p ∷ parts_key ∷ q ∷ r ∷ u ∷ v ∷
+    []
 
-abbrev pub line : Key → List ℕ
-line k = check_line survey_table (Digits 8) k
+abbrev pub line_of_key : Key → List ℕ
+line_of_key k = check_line survey_table (Digits 8) k
 
 -- law: the faults of each kind of key, and several of them one after another
 pub record CheckLaw : Type 0 where
-  pub sound : line metre ≡ []
-  pub unknown : line bad_key ≡ codes "bad: unknown unit: none in bad\n"
-  pub overflow : line big_key ≡ codes "big: overflow\n"
-  pub out_unit : line function_f ≡ codes "f(): overflow\n"
-  pub alias_of : line function_g ≡ codes "g(): unknown unit: none in bad\n"
-  pub table_unit : line gauge_key ≡ codes "gauge(): unknown unit: none in bad\n"
-  pub own_chain : line p ≡ codes "p-: cycle: p- -> q -> p-\n"
-  pub from_unit : line q ≡ codes "q: cycle: q -> p- -> q\n"
-  pub other_chain : line r ≡ codes "r-: cycle: u -> v -> u\n"
-  pub part : line parts_key ≡ codes "!unitlist parts: unknown unit: none\n"
+  pub sound_key : line_of_key example_metre ≡ []
+  pub unknown_unit : line_of_key bad_key ≡ codes "bad: unknown unit: none in bad\n"
+  pub overflow : line_of_key big_key ≡ codes "big: overflow\n"
+  pub out_unit : line_of_key function_f ≡ codes "f(): overflow\n"
+  pub alias_of : line_of_key function_g ≡ codes "g(): unknown unit: none in bad\n"
+  pub fault_in_table : line_of_key gauge_key ≡ codes "gauge(): unknown unit: none in bad\n"
+  pub own_chain : line_of_key p ≡ codes "p-: cycle: p- -> q -> p-\n"
+  pub from_unit : line_of_key q ≡ codes "q: cycle: q -> p- -> q\n"
+  pub other_chain : line_of_key r ≡ codes "r-: cycle: u -> v -> u\n"
+  pub part : line_of_key parts_key ≡ codes "!unitlist parts: unknown unit: none\n"
   pub unlike : finding_line (Digits 8) parts_key (Ok NonConforming) ≡ codes "!unitlist parts: conformability error\n"
   pub not_positive : finding_line (Digits 8) parts_key (Ok (NotPositive 1))
       ≡ codes "!unitlist parts: list unit not positive: 2\n"
-  pub in_order : check_among survey_table (Digits 8) (bad_key ∷ metre ∷ p ∷ parts_key ∷ [])
+  pub checks_in_order : check_among survey_table (Digits 8) (bad_key ∷ example_metre ∷ p ∷ parts_key ∷ [])
       ≡ codes "bad: unknown unit: none in bad\np-: cycle: p- -> q -> p-\n!unitlist parts: unknown unit: none\n"
-  pub asked : queries_among survey_table (function_f ∷ parts_key ∷ [])
+  pub queries_asked : queries_among survey_table (function_f ∷ parts_key ∷ [])
       ≡ AsksWords (called_word (codes "f") ∷ []) ∷ AsksWords (plain_word (codes "m") ∷ [])
       ∷ AsksWords (plain_word (codes "big") ∷ []) ∷ AsksWords (plain_word (codes "m") ∷ [])
       ∷ AsksWords (plain_word (codes "none") ∷ []) ∷ []
 
 -- law: the rows that a search finds, units without a value that conforms, and how a chain is turned
 pub record SearchRowsLaw : Type 0 where
-  pub inside : search_among survey_table (codes "a") small_keys
+  pub rows_inside : search_among survey_table (codes "a") small_keys
       ≡ codes "\tbad\tnone\n\tgauge()\t[bad] 1 2, 3 6\n\t!unitlist parts\tm; none\n"
   pub not_in_key_text : search_among survey_table (codes "()") small_keys ≡ codes "no matching names\n"
-  pub anywhere : search_among survey_table [] (metre ∷ p ∷ []) ≡ codes "\tm\t!\n\tp-\tq\n"
+  pub anywhere : search_among survey_table [] (example_metre ∷ p ∷ []) ≡ codes "\tm\t!\n\tp-\tq\n"
   pub without_value : conformable_among survey_table one (bad_key ∷ p ∷ big_key ∷ []) ≡ codes "no matching names\n"
-  pub units_alone : unit_queries survey_table (bad_key ∷ p ∷ function_f ∷ metre ∷ parts_key ∷ [])
+  pub units_alone : unit_queries survey_table (bad_key ∷ p ∷ function_f ∷ example_metre ∷ parts_key ∷ [])
       ≡ AsksWords (plain_word (codes "bad") ∷ []) ∷ AsksWords (plain_word (codes "m") ∷ []) ∷ []
-  pub turned_round : chain_from_key p (u ∷ q ∷ p ∷ v ∷ u ∷ []) ≡ p ∷ v ∷ u ∷ q ∷ p ∷ []
+  pub chain_turned : chain_from_key p (u ∷ q ∷ p ∷ v ∷ u ∷ []) ≡ p ∷ v ∷ u ∷ q ∷ p ∷ []
 
 abbrev pub SurveyExamplesLaw : Type 0
 SurveyExamplesLaw = CheckLaw × SearchRowsLaw

@@ -3,14 +3,14 @@ use Rattle.std.specs.Prelude.{ℕ, List}
 use Rattle.std.specs.List.{filter, flat_map}
 use Rattle.def_entry.specs.declared.key.Key.{Key}
 use Rattle.def_entry.specs.Tables.{Table}
-use Rattle.deck.specs.SubstringKeys.{holds}
+use Rattle.deck.specs.SubstringKeys.{has_substring}
 use Rattle.deck.specs.KeyLists.{table_keys}
 use Rattle.survey.specs.Rows.{key_row, or_none}
 
 module _ (table : Table) (text : List ℕ) where
   -- the rows of those keys whose names contain the text
   abbrev pub search_among : List Key → List ℕ
-  search_among keys = or_none (flat_map (key_row table) (filter (λ k. holds k.name text) keys))
+  search_among keys = or_none (flat_map (key_row table) (filter (λ k. has_substring k.name text) keys))
 
   -- the rows of all keys whose names contain the text; a search makes no query
   abbrev pub search_report : List ℕ

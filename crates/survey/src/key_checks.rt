@@ -145,7 +145,7 @@ fn check_key<L: Ledger>(
     steps: &mut Steps<L>,
 ) -> Result<Finding, QueryFault>
     requires { IsRightTable table.old }
-    ensures inquired { call.IsInquired call.same (spec.key_finding (tables.table table.old.deck) key.now)
+    ensures inquired { call.IsInquired call.itself (spec.key_finding (tables.table table.old.deck) key.now)
         (call.as_inquired result) table.old table.new steps.old steps.new }
     ensures deck { table.new.deck ≡ table.old.deck }
 {
@@ -166,7 +166,7 @@ fn unit_checked<L: Ledger>(
     trees: &[Tree],
     steps: &mut Steps<L>,
 ) -> Result<Finding, QueryFault>
-    ensures inquired { call.IsInquired call.same (spec.sound
+    ensures inquired { call.IsInquired call.itself (spec.sound_finding
         (inquiries.worths (tables.table table.old.deck) (call.syntaxes_of trees.now))) (call.as_inquired result)
         table.old table.new steps.old steps.new }
     ensures deck { table.new.deck ≡ table.old.deck }
@@ -183,7 +183,7 @@ fn prefix_checked<L: Ledger>(
     trees: &[Tree],
     steps: &mut Steps<L>,
 ) -> Result<Finding, QueryFault>
-    ensures inquired { call.IsInquired call.same (spec.checked_by (tables.table table.old.deck) kinds.Prefix key.now
+    ensures inquired { call.IsInquired call.itself (spec.checked_by (tables.table table.old.deck) kinds.Prefix key.now
         (inquiries.worths (tables.table table.old.deck) (call.syntaxes_of trees.now))) (call.as_inquired result)
         table.old table.new steps.old steps.new }
     ensures deck { table.new.deck ≡ table.old.deck }
@@ -204,7 +204,7 @@ fn function_checked<L: Ledger>(
     steps: &mut Steps<L>,
 ) -> Result<Finding, QueryFault>
     requires { IsRightTable table.old }
-    ensures inquired { call.IsInquired call.same (spec.checked_by (tables.table table.old.deck) kinds.Func key.now
+    ensures inquired { call.IsInquired call.itself (spec.checked_by (tables.table table.old.deck) kinds.Func key.now
         (inquiries.worths (tables.table table.old.deck) (call.syntaxes_of trees.now))) (call.as_inquired result)
         table.old table.new steps.old steps.new }
     ensures deck { table.new.deck ≡ table.old.deck }
@@ -221,7 +221,7 @@ fn list_checked<L: Ledger>(
     trees: &[Tree],
     steps: &mut Steps<L>,
 ) -> Result<Finding, QueryFault>
-    ensures inquired { call.IsInquired call.same (spec.list_finding
+    ensures inquired { call.IsInquired call.itself (spec.list_finding
         (inquiries.worths (tables.table table.old.deck) (call.syntaxes_of trees.now))) (call.as_inquired result)
         table.old table.new steps.old steps.new }
     ensures deck { table.new.deck ≡ table.old.deck }

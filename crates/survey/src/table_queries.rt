@@ -27,7 +27,7 @@ pub(crate) fn ask_function<L: Ledger>(
     steps: &mut Steps<L>,
 ) -> Result<(), QueryFault>
     requires { IsRightTable table.old }
-    ensures inquired { call.IsInquired call.same (spec.names_finding (tables.table table.old.deck) key.now)
+    ensures inquired { call.IsInquired call.itself (spec.names_finding (tables.table table.old.deck) key.now)
         (call.as_inquired result) table.old table.new steps.old steps.new }
     ensures deck { table.new.deck ≡ table.old.deck }
 {

@@ -16,7 +16,7 @@ use Rattle.table_names.proofs.Lookups.{target_looked}
 use Rattle.table_names.proofs.Members.{any_cases, any_member, flat_cases, flat_member, member_cases, member_first}
 use Rattle.table_names.proofs.Members.{member_later}
 use Rattle.table_names.proofs.Paths.{key_words_closed}
-use Rattle.table_names.proofs.ReachedKeys.{onward, reach_law}
+use Rattle.table_names.proofs.ReachedKeys.{reach_law, reached_on}
 
 -- each reached key is looked at by one of the words, or by a key that they reach
 reached_looked :
@@ -33,7 +33,7 @@ module _ (table : Table) (keys : List Key) where
   users n m r (inl c) =
       elim (reached_looked r) [ inl h ↦ inr (inl (m, c, h)) | inr h ↦ inr (inr (h.0, h.1, (m, c, h.2))) ]
   users n m r (inr (inl h)) = inr (inr (m, r, h))
-  users n m r (inr (inr (x, q, h))) = inr (inr (x, onward r q, h))
+  users n m r (inr (inr (x, q, h))) = inr (inr (x, reached_on r q, h))
 
   looked_told : (n : Key) → HasLooked table keys n → has_looked table keys n ≡ true
   looked_told n (k, c, (u, i, l)) =
@@ -48,7 +48,7 @@ module _ (table : Table) (keys : List Key) where
 
   module _ (n : Key) (closed : IsClosed table n) where
     listed : (m : Key) → Contains (key_reach table n) m ↔ Reaches table n m
-    listed = reach_law.listed table (key_words table n) (key_words_closed table n closed)
+    listed = reach_law.reached_words table (key_words table n) (key_words_closed table n closed)
 
     told : is_affected table keys n ≡ true → IsAffected table keys n
     told e = elim (or_cases (is_key_among keys n) (list_any (has_looked table keys) (n ∷ key_reach table n)) e) [
@@ -75,4 +75,8 @@ module _ (table : Table) (keys : List Key) where
 
 -- the law of affected keys
 pub affected_law : AffectedLaw
-affected_law = record { computed = λ table keys n e. (told table keys n e, tells table keys n e); users = users }
+affected_law = record {
+  affected_exactly = λ table keys n e. (told table keys n e, tells table keys n e);
+  users =
+      users;
+}

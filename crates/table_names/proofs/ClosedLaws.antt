@@ -15,7 +15,7 @@ use Rattle.table_names.proofs.EndingWays.{EndsWithin, ends_reached, into_others,
 use Rattle.table_names.proofs.KeyLists.{member_among, off_longer}
 use Rattle.table_names.proofs.Paths.{closed_ending, closed_key_ending, ending_closed, ending_key_closed}
 use Rattle.table_names.proofs.Paths.{key_words_closed, longer, no_fault, words_closed_key}
-use Rattle.table_names.proofs.ReachedKeys.{onward}
+use Rattle.table_names.proofs.ReachedKeys.{reached_on}
 
 module _ (table : Table) where
   closed_words_lead : (words : List WordUse) → AreClosed table words → (u : WordUse) → Contains words u
@@ -47,7 +47,7 @@ module _ (table : Table) where
       no_fault table (length table) (path ++ n ∷ []) (key_words table n)
       (closed_ending table (key_words table n) (key_words_closed table n e))
       (longer table path n is (off n (λ i. leads n i)) there)
-      (λ m r. off_longer path n m (off m (λ i. onward r (leads m i)))
+      (λ m r. off_longer path n m (off m (λ i. reached_on r (leads m i)))
       (λ q. no_cycle n e (subst (λ (x : Key). Reaches table n x) q r)))
     where
       -- a key is not on the path if `n` would then reach itself
@@ -59,7 +59,7 @@ pub closed_law : ClosedWordLaw
 closed_law = record {
   words = λ table words. (closed_words_lead table words, leading_words_close table words);
   key = λ table n. (key_words_closed table n, words_closed_key table n);
-  below = below;
+  reached_words_closed = below;
   no_cycle = no_cycle;
   any_path = any_path;
 }

@@ -7,7 +7,7 @@ use Rattle.def_entry.specs.declared.key.Key.{Key}
 use Rattle.def_entry.specs.SameKeys.{is_key_among}
 use Rattle.def_entry.specs.Tables.{Table}
 use Rattle.table_names.specs.ClosedKeys.{WordLeadsInto}
-use Rattle.table_names.specs.Faults.{first, key_fault_within, target_fault, targets_fault, word_fault}
+use Rattle.table_names.specs.Faults.{first_some, key_fault_within, target_fault, targets_fault, word_fault}
 use Rattle.table_names.specs.Leads.{Reaches, WordsLeadTo, WordsReach, at_once, further, targets}
 use Rattle.table_names.specs.Words.{key_words}
 use Rattle.table_names.proofs.Members.{first_none}
@@ -30,7 +30,8 @@ module _ (table : Table) where
   pub into_others :
       (P Q : Key → Type 0) (u : WordUse) → ((n : Key) → Contains (targets table u) n → P n → Q n)
       → WordLeadsInto table P u → WordLeadsInto table Q u
-  into_others P Q u f h = record { is_accepted = h.is_accepted; known = h.known; into = λ n t. f n t (h.into n t) }
+  into_others P Q u f h =
+      record { not_refused = h.not_refused; has_targets = h.has_targets; into = λ n t. f n t (h.into n t) }
 
   pub ends_more : (k : ℕ) (n : Key) → EndsWithin k n → EndsWithin (suc k) n
   ends_more zero n h = absurd h
@@ -60,7 +61,7 @@ module _ (table : Table) where
       → ((longer : List Key) (n : Key) → key_fault_within table k longer n ≡ None → EndsWithin k n)
       → (u : WordUse) → word_fault table (key_fault_within table k) path u ≡ None → WordLeadsInto table (EndsWithin k) u
   word_ends k path deeper u e =
-      record { is_accepted = h.0; known = known (targets table u) h.1; into = into (targets table u) h.1 }
+      record { not_refused = h.0; has_targets = known (targets table u) h.1; into = into (targets table u) h.1 }
     where
       h : (is_refused u.text ≡ false) × (targets_fault table (key_fault_within table k) path u (targets table u) ≡ None)
       h = not_chosen (is_refused u.text) _ _ e
@@ -86,6 +87,6 @@ module _ (table : Table) where
 
   pub words_end :
       (k : ℕ) (path : List Key) (words : List WordUse)
-      → first (word_fault table (key_fault_within table k) path) words ≡ None → AreEnding k words
+      → first_some (word_fault table (key_fault_within table k) path) words ≡ None → AreEnding k words
   words_end k path words e u i =
       word_ends k path (key_ends k) u (first_none (word_fault table (key_fault_within table k) path) words e u i)

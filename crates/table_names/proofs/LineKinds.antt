@@ -66,7 +66,7 @@ call_says name (b ∷ bytes) behind =
     then_says kind.Func (read.units_in form.options.units) _ (λ units.
     then_says kind.Func (entry_tree (Some parameter) form.forward) _ (λ forward.
     then_says kind.Func (read.inverse_in name form.inverse) _ (λ inverse.
-    told kind.Func (read.function form units forward inverse) refl)))))
+    told kind.Func (read.function_definition form units forward inverse) refl)))))
 
 -- the text of a table after its unit gives a definition that a function may have
 table_says : (text behind : List ℕ) → Says kind.Func (read.table_in text behind)

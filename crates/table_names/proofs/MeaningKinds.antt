@@ -83,7 +83,7 @@ module _ (table : Table) (fits : FitsKinds table) where
       → may_mean kind.Func (word_meaning_by table mean (inverted_word w)) ≡ true
   inverse_means mean w h =
       let f : Key = key kind.Func w in
-      let is : targets table (inverted_word w) ≡ f ∷ [] = inverse_target table w h.known in
+      let is : targets table (inverted_word w) ≡ f ∷ [] = inverse_target table w h.has_targets in
       let t : Contains (targets table (inverted_word w)) f =
       subst (λ ks. Contains ks f) (sym is) (member_first f f [] refl) in
       subst (λ ks. may_mean kind.Func (targets_meaning (map mean ks)) ≡ true) (sym is) (h.into f t)
@@ -143,7 +143,7 @@ module _ (table : Table) (fits : FitsKinds table) where
       of_targets ks = targets_meaning (map (key_meaning table) ks)
 
       by : (ks : List Key) → targets table u ≡ ks → AreTargets ks → StandsForTargets table u
-      by [] q a = absurd (h.known q)
+      by [] q a = absurd (h.has_targets q)
       by (n ∷ []) q a = ForOne n q (ap of_targets q)
       by (n ∷ m ∷ []) q a =
           let first_in : Contains (targets table u) n =

@@ -12,7 +12,8 @@ use Rattle.def_entry.specs.Tables.{Table, is_present}
 use Rattle.table_names.specs.declared.fault.NameFault.{NameFault}
 use Rattle.table_names.specs.declared.fault.NameFault.TheVariants.{Cycle, Refused}
 use Rattle.table_names.specs.FaultLaws.{IsKeyPath}
-use Rattle.table_names.specs.Faults.{Deeper, cycle_chain, first, key_fault_within, last, target_fault, targets_fault}
+use Rattle.table_names.specs.Faults.{Deeper, cycle_chain, first_some, key_fault_within, last_of_list, target_fault}
+use Rattle.table_names.specs.Faults.{targets_fault}
 use Rattle.table_names.specs.Faults.{words_fault}
 use Rattle.table_names.specs.Faults.{word_fault}
 use Rattle.table_names.specs.Leads.{targets}
@@ -24,7 +25,7 @@ use Rattle.table_names.specs.Words.{key_words}
 use Rattle.table_names.proofs.Lookups.{target_present}
 use Rattle.table_names.proofs.Members.{member_cases, member_first, member_later, no_member}
 use Rattle.table_names.proofs.OneFault.{fault_law}
-use Rattle.table_names.proofs.Paths.{empty, longer, short}
+use Rattle.table_names.proofs.Paths.{empty_is_path, longer, path_fits_table}
 
 some_same : {A : Type 0} (x y : A) → Some x ≡ Some y → x ≡ y
 some_same x y e = cc
@@ -46,13 +47,14 @@ module _ (table : Table) where
   here path u = word_fault table deep path u
 
   abbrev at_keys : List Key → List Key → Option NameFault
-  at_keys path ns = first (target_fault table deep path) ns
+  at_keys path ns = first_some (target_fault table deep path) ns
 
   -- the fault of words is that of the first word, or else that of the rest
   in_order : (path : List Key) (u : WordUse) (us : List WordUse) → IsKeyPath table path
       → words_fault table path (u ∷ us) ≡ option_or (here path u) (words_fault table path us)
   in_order path u us p =
-      fault_law.is table path (u ∷ us) p ∙ ap (option_or (here path u)) (sym (fault_law.is table path us p))
+      fault_law.first_fault_is table path (u ∷ us) p
+      ∙ ap (option_or (here path u)) (sym (fault_law.first_fault_is table path us p))
 
   of_word : (path : List Key) (u : WordUse) (us : List WordUse) (o : Option NameFault) → IsKeyPath table path
       → here path u ≡ o → words_fault table path (u ∷ us) ≡ option_or o (words_fault table path us)
@@ -151,18 +153,18 @@ module _ (table : Table) where
   key_joined path ns n (Some f) q off m d = InEntry off m
 
   told_keys : (F : Deeper) (path ns : List Key) → Goes F path → ArePresent ns
-      → ToldKeys path ns (first (target_fault table F path) ns)
+      → ToldKeys path ns (first_some (target_fault table F path) ns)
   told_keys F path [] deeper there = NoKey
   told_keys F path (n ∷ ns) deeper there =
       by (told_keys F path ns deeper (λ m i. there m (member_later m n ns i))) (is_key_among path n) refl
     where
-      by : ToldKeys path ns (first (target_fault table F path) ns) → (b : Bool) → is_key_among path n ≡ b
+      by : ToldKeys path ns (first_some (target_fault table F path) ns) → (b : Bool) → is_key_among path n ≡ b
           → ToldKeys path (n ∷ ns)
           (option_or (cond b (Some (Cycle (cycle_chain n path))) (F (path ++ n ∷ []) n))
-          (first (target_fault table F path) ns))
+          (first_some (target_fault table F path) ns))
       by rest true q = OnPath q refl
       by rest false q =
-          key_joined path ns n (F (path ++ n ∷ []) n) (first (target_fault table F path) ns) q
+          key_joined path ns n (F (path ++ n ∷ []) n) (first_some (target_fault table F path) ns) q
           (deeper n q (there n (member_first n n ns refl))) rest
 
   word_joined : (path ns : List Key) (u : WordUse) (us : List WordUse) (o q : Option NameFault)
@@ -175,29 +177,30 @@ module _ (table : Table) where
   word_joined path ns u us (Some f) q r some e m d = AtTargets r (subst (λ x. MeetKeys table path x f) (sym e) m)
 
   told_words : (F : Deeper) (path : List Key) (words : List WordUse) → Goes F path
-      → Told path words (first (word_fault table F path) words)
+      → Told path words (first_some (word_fault table F path) words)
   told_words F path [] deeper = NoWord
   told_words F path (u ∷ us) deeper = by (told_words F path us deeper) (is_refused u.text) refl
     where
       behind : Option NameFault
-      behind = first (word_fault table F path) us
+      behind = first_some (word_fault table F path) us
 
       at : Told path us behind → (ns : List Key) → is_refused u.text ≡ false → targets table u ≡ ns
           → Told path (u ∷ us) (option_or (targets_fault table F path u ns) behind)
       at rest [] r e = AtUnknownWord r e refl
       at rest (n ∷ ns) r e =
-          word_joined path (n ∷ ns) u us (first (target_fault table F path) (n ∷ ns)) behind r (λ z. cc) e
+          word_joined path (n ∷ ns) u us (first_some (target_fault table F path) (n ∷ ns)) behind r (λ z. cc) e
           (told_keys F path (n ∷ ns) deeper (subst ArePresent e (target_present table u))) rest
 
       by : Told path us behind → (b : Bool) → is_refused u.text ≡ b
-          → Told path (u ∷ us) (option_or (cond b (Some (Refused u.text (last path)))
+          → Told path (u ∷ us) (option_or (cond b (Some (Refused u.text (last_of_list path)))
           (targets_fault table F path u (targets table u))) behind)
       by rest true r = AtRefusedName r refl
       by rest false r = at rest (targets table u) r refl
 
   told_key : (k : ℕ) (path : List Key) (n : Key) → IsKeyPath table path → length path + k ≡ length table + 1
       → Told path (key_words table n) (key_fault_within table k path n)
-  told_key zero path n p room = absurd (let l : length path ≤ length table = short table path p in omega arith)
+  told_key zero path n p room = absurd (let l : length path ≤ length table = path_fits_table table path p in
+      omega arith)
   told_key (suc k) path n p room =
       told_words (key_fault_within table k) path (key_words table n) (λ m off there.
       told_key k (path ++ m ∷ []) m (longer table path m p off there) (omega (arith, length-append path (m ∷ []))))
@@ -205,7 +208,7 @@ module _ (table : Table) where
   told : (path : List Key) (words : List WordUse) → IsKeyPath table path
       → Told path words (words_fault table path words)
   told path words p =
-      let l : length path ≤ length table = short table path p in
+      let l : length path ≤ length table = path_fits_table table path p in
       told_words (key_fault_within table (length table - length path)) path words (λ m off there.
       told_key (length table - length path) (path ++ m ∷ []) m (longer table path m p off there)
       (omega (arith, length-append path (m ∷ []))))
@@ -234,13 +237,13 @@ module _ (table : Table) where
 -- the law of the fault that words meet
 pub meets_law : MeetsLaw
 meets_law = record {
-  one = one;
-  clean = λ table path words p. (
+  one_fault = one;
+  no_fault_met = λ table path words p. (
     λ c f m. none_some (words_fault table path words) f (clean table c p) (met table m p),
     no_fault table path words p,
   );
-  met = λ table path words f p. (met_is table path words f p, λ m. met table m p);
-  none = λ table path words p. (clean_is table path words p, λ c. clean table c p);
-  name = λ table words f. (met_is table [] words f (empty table), λ m. met table m (empty table));
+  fault_met = λ table path words f p. (met_is table path words f p, λ m. met table m p);
+  none_met = λ table path words p. (clean_is table path words p, λ c. clean table c p);
+  name = λ table words f. (met_is table [] words f (empty_is_path table), λ m. met table m (empty_is_path table));
   key = λ table n f p. (met_is table (n ∷ []) (key_words table n) f p, λ m. met table m p);
 }

@@ -9,13 +9,13 @@ use Rattle.def_entry.specs.Tables.{Table}
 use Rattle.table_names.specs.declared.fault.NameFault.{NameFault}
 use Rattle.table_names.specs.declared.fault.NameFault.TheVariants.{Cycle, Refused}
 use Rattle.table_names.specs.FaultLaws.{IsKeyPath, IsWordsFault, WordsFaultLaw}
-use Rattle.table_names.specs.Faults.{Deeper, cycle_chain, key_fault_within, last, target_fault, targets_fault}
+use Rattle.table_names.specs.Faults.{Deeper, cycle_chain, key_fault_within, last_of_list, target_fault, targets_fault}
 use Rattle.table_names.specs.Faults.{word_fault, words_fault}
 use Rattle.table_names.specs.Leads.{targets}
 use Rattle.table_names.specs.Words.{key_words}
 use Rattle.table_names.proofs.Lookups.{target_present}
 use Rattle.table_names.proofs.Members.{first_same}
-use Rattle.table_names.proofs.Paths.{longer, short}
+use Rattle.table_names.proofs.Paths.{longer, path_fits_table}
 
 -- the fault of the words in the entry of the last key of a path
 abbrev by_words : Table → (List Key → List WordUse → Option NameFault) → Deeper
@@ -34,7 +34,8 @@ module _ (table : Table) where
       → f (path ++ n ∷ []) n ≡ g (path ++ n ∷ []) n)
       → word_fault table f path u ≡ word_fault table g path u
   word_same f g path u h =
-      ap (λ o. cond (is_refused u.text) (Some (Refused u.text (last path))) o) (targets_same (targets table u) h)
+      ap (λ o. cond (is_refused u.text) (Some (Refused u.text (last_of_list path))) o)
+      (targets_same (targets table u) h)
     where
       targets_same :
           (ns : List Key) → ((n : Key) → Contains ns n → is_key_among path n ≡ false
@@ -53,7 +54,7 @@ module _ (table : Table) where
       → key_fault_within table (length table - length path) (path ++ n ∷ []) n
       ≡ words_fault table (path ++ n ∷ []) (key_words table n)
   room_left path n is =
-      let l : length (path ++ n ∷ []) ≤ length table = short table (path ++ n ∷ []) is in
+      let l : length (path ++ n ∷ []) ≤ length table = path_fits_table table (path ++ n ∷ []) is in
       let left : length table - length path ≡ suc (length table - length (path ++ n ∷ [])) =
       omega (arith, length-append path (n ∷ [])) in
       ap (λ k. key_fault_within table k (path ++ n ∷ []) n) left
@@ -71,7 +72,8 @@ module _ (table : Table) where
       (f : List Key → List WordUse → Option NameFault) → IsWordsFault table f
       → (k : ℕ) (path : List Key) (words : List WordUse) → IsKeyPath table path → length path + k ≡ length table + 1
       → f path words ≡ words_fault table path words
-  one_by f is zero path words p room = absurd (let l : length path ≤ length table = short table path p in omega arith)
+  one_by f is zero path words p room = absurd (let l : length path ≤ length table = path_fits_table table path p in
+      omega arith)
   one_by f is (suc k) path words p room =
       is path words p
       ∙ (first_same (word_fault table (by_words table f) path)
@@ -86,10 +88,10 @@ module _ (table : Table) where
       (f : List Key → List WordUse → Option NameFault) → IsWordsFault table f
       → (path : List Key) (words : List WordUse) → IsKeyPath table path → f path words ≡ words_fault table path words
   one_is f is path words p =
-      let l : length path ≤ length table = short table path p in
+      let l : length path ≤ length table = path_fits_table table path p in
       let e : length path + (length table + 1 - length path) ≡ length table + 1 = omega arith in
       one_by f is (length table + 1 - length path) path words p e
 
 -- the law of the name fault
 pub fault_law : WordsFaultLaw
-fault_law = record { is = fault_is; one = one_is }
+fault_law = record { first_fault_is = fault_is; fault_is_only = one_is }

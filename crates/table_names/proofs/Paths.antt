@@ -14,7 +14,7 @@ use Rattle.def_entry.specs.SameKeys.{is_key_among, is_same}
 use Rattle.def_entry.specs.Tables.{Table, entry_at, is_present}
 use Rattle.table_names.specs.ClosedKeys.{AreClosed, IsClosed, WordLeadsInto}
 use Rattle.table_names.specs.FaultLaws.{IsKeyPath, KeyPathLaw}
-use Rattle.table_names.specs.Faults.{first, key_fault_within, target_fault, targets_fault, word_fault}
+use Rattle.table_names.specs.Faults.{first_some, key_fault_within, target_fault, targets_fault, word_fault}
 use Rattle.table_names.specs.Leads.{Reaches, WordsLeadTo, WordsReach, at_once, further, targets}
 use Rattle.table_names.specs.Words.{entry_words, key_words}
 use Rattle.table_names.proofs.EndingWays.{AreEnding, EndsWithin, no_loop, words_end}
@@ -33,22 +33,22 @@ no_words None e = refl
 no_words (Some x) e = cc
 
 module _ (table : Table) where
-  pub empty : IsKeyPath table []
-  empty = record { distinct = nothing_twice; present = λ k e. cc }
+  pub empty_is_path : IsKeyPath table []
+  empty_is_path = record { distinct = nothing_twice; path_has_entries = λ k e. cc }
 
   pub longer :
       (path : List Key) (n : Key) → IsKeyPath table path → is_key_among path n ≡ false → is_present table n ≡ true
       → IsKeyPath table (path ++ n ∷ [])
   longer path n is off there = record {
     distinct = IsDistinct-push same_laws path n is.distinct off;
-    present = λ k e. elim (on_longer path n k e) [
-      | inl q ↦ is.present k q
+    path_has_entries = λ k e. elim (on_longer path n k e) [
+      | inl q ↦ is.path_has_entries k q
       | inr q ↦ subst (λ (x : Key). is_present table x ≡ true) (sym q) there
     ];
   }
 
-  pub short : (path : List Key) → IsKeyPath table path → length path ≤ length table
-  short path is = length-le_from_keys same_laws path table is.distinct is.present
+  pub path_fits_table : (path : List Key) → IsKeyPath table path → length path ≤ length table
+  path_fits_table path is = length-le_from_keys same_laws path table is.distinct is.path_has_entries
 
   -- no key that words reach is on the path
   abbrev IsClear : List Key → List WordUse → Type 0
@@ -69,12 +69,12 @@ module _ (table : Table) where
       → ((m : Key) → EndsWithin table j m → IsKeyPath table (path ++ m ∷ [])
       → IsClear (path ++ m ∷ []) (key_words table m)
       → key_fault_within table k (path ++ m ∷ []) m ≡ None)
-      → first (word_fault table (key_fault_within table k) path) words ≡ None
+      → first_some (word_fault table (key_fault_within table k) path) words ≡ None
   words_pass j k path words ends is clear deeper =
       none_first (word_fault table (key_fault_within table k) path) words (λ u i.
       let h : WordLeadsInto table (EndsWithin table j) u = ends u i in
-      cond-false (is_refused u.text) _ _ h.is_accepted
-      ∙ targets_pass u (targets table u) h.known (λ m t.
+      cond-false (is_refused u.text) _ _ h.not_refused
+      ∙ targets_pass u (targets table u) h.has_targets (λ m t.
       let off : is_key_among path m ≡ false = clear m (at_once (u, i, t)) in
       cond-false (is_key_among path m) _ _ off
       ∙ deeper m (h.into m t) (longer path m is off (target_present table u m t))
@@ -93,7 +93,7 @@ module _ (table : Table) where
       → length path + k ≡ length table + 1 → key_fault_within table k path n ≡ None
   key_passes zero k path n ends is clear room = absurd ends
   key_passes (suc j) zero path n ends is clear room =
-      absurd (let l : length path ≤ length table = short path is in omega arith)
+      absurd (let l : length path ≤ length table = path_fits_table path is in omega arith)
   key_passes (suc j) (suc k) path n ends is clear room =
       words_pass j k path (key_words table n) ends is clear (λ m e p c.
       key_passes j k (path ++ m ∷ []) m e p c (omega (arith, length-append path (m ∷ []))))
@@ -103,9 +103,9 @@ module _ (table : Table) where
       (j : ℕ) (path : List Key) (words : List WordUse)
       → AreEnding table j words → IsKeyPath table path
       → ((m : Key) → WordsReach table words m → is_key_among path m ≡ false)
-      → first (word_fault table (key_fault_within table (length table - length path)) path) words ≡ None
+      → first_some (word_fault table (key_fault_within table (length table - length path)) path) words ≡ None
   no_fault j path words ends is clear =
-      let l : length path ≤ length table = short path is in
+      let l : length path ≤ length table = path_fits_table path is in
       words_pass j (length table - length path) path words ends is clear (λ m e p c.
       key_passes j (length table - length path) (path ++ m ∷ []) m e p c (omega (arith, length-append path (m ∷ []))))
 
@@ -114,10 +114,10 @@ module _ (table : Table) where
   closed_ending words e =
       let z : length table - 0 ≡ length table = omega arith in
       words_end table (length table) [] words
-      (subst (λ k. first (word_fault table (key_fault_within table k) []) words ≡ None) z e)
+      (subst (λ k. first_some (word_fault table (key_fault_within table k) []) words ≡ None) z e)
 
   pub ending_closed : (j : ℕ) (words : List WordUse) → AreEnding table j words → AreClosed table words
-  ending_closed j words ends = no_fault j [] words ends empty (λ m r. refl)
+  ending_closed j words ends = no_fault j [] words ends empty_is_path (λ m r. refl)
 
   -- the words of a closed key are closed
   pub key_words_closed : (n : Key) → IsClosed table n → AreClosed table (key_words table n)
@@ -133,10 +133,11 @@ module _ (table : Table) where
   words_closed_key n e =
       elim (cases_Bool (is_present table n)) [
         | inl there ↦ no_fault (length table) (n ∷ []) (key_words table n) (closed_ending (key_words table n) e)
-            (longer [] n empty refl there) (alone_clear (suc (length table)) n (closed_ending (key_words table n) e))
+            (longer [] n empty_is_path refl there)
+            (alone_clear (suc (length table)) n (closed_ending (key_words table n) e))
         | inr absent ↦
             let none : key_words table n ≡ [] = no_words (entry_at table n) absent in
-            subst (λ ws. first (word_fault table (key_fault_within table (length table - 1)) (n ∷ [])) ws ≡ None)
+            subst (λ ws. first_some (word_fault table (key_fault_within table (length table - 1)) (n ∷ [])) ws ≡ None)
             (sym none) refl
       ]
 
@@ -146,7 +147,7 @@ module _ (table : Table) where
   -- every descent from a closed key that has an entry ends within the number of keys
   pub present_key_ending : (n : Key) → is_present table n ≡ true → IsClosed table n → EndsWithin table (length table) n
   present_key_ending n there e =
-      let l : 1 ≤ length table = short (n ∷ []) (longer [] n empty refl there) in
+      let l : 1 ≤ length table = path_fits_table (n ∷ []) (longer [] n empty_is_path refl there) in
       let z : suc (length table - 1) ≡ length table = omega (arith, l) in
       subst (λ k. EndsWithin table k n) z (words_end table (length table - 1) (n ∷ []) (key_words table n) e)
 
@@ -156,4 +157,4 @@ module _ (table : Table) where
 
 -- the law of paths
 pub path_law : KeyPathLaw
-path_law = record { empty = empty; longer = longer; short = short }
+path_law = record { empty_key_path = empty_is_path; longer_key_path = longer; key_path_bound = path_fits_table }

@@ -13,11 +13,11 @@ use Rattle.table_names.proofs.Members.{flat_cases, flat_member, member_cases, me
 use Rattle.table_names.proofs.Paths.{closed_ending}
 
 -- the keys that the words of a reached key reach are reached
-pub onward :
+pub reached_on :
     {table : Table} {words : List WordUse} {n m : Key}
     → WordsReach table words n → WordsReach table (key_words table n) m → WordsReach table words m
-onward (at_once l) r = further l r
-onward (further l q) r = further l (onward q r)
+reached_on (at_once l) r = further l r
+reached_on (further l q) r = further l (reached_on q r)
 
 -- a reached key has an entry
 pub reached_present : {table : Table} {words : List WordUse} {n : Key} → WordsReach table words n
@@ -64,8 +64,8 @@ module _ (table : Table) where
 -- the law of reached keys
 pub reach_law : ReachLaw
 reach_law = record {
-  listed = λ table words e n.
+  reached_words = λ table words e n.
       (from_list table (length table) words n, λ r. in_list table r (length table) (closed_ending table words e));
-  present = λ table words n r. reached_present r;
-  further = λ table words n m q r. onward q r;
+  reached_have_entries = λ table words n r. reached_present r;
+  reached_further = λ table words n m q r. reached_on q r;
 }

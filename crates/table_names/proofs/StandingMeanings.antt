@@ -133,20 +133,20 @@ module _ (table : Table) where
 
     leads : {u : WordUse} {m : Meaning} → WordStandsFor table u m → WordLeadsInto table (IsClosed table) u
     leads {u} (ByOneTarget n r t s) = record {
-      is_accepted = r;
-      known = some_keys (targets table u) n [] t;
+      not_refused = r;
+      has_targets = some_keys (targets table u) n [] t;
       into = λ k i. subst (IsClosed table) (sym (only_one (targets table u) k n t i)) (closes s);
     }
     leads {u} (ByPrefixAndUnit n k x y r t s v e) = record {
-      is_accepted = r;
-      known = some_keys (targets table u) n (k ∷ []) t;
+      not_refused = r;
+      has_targets = some_keys (targets table u) n (k ∷ []) t;
       into = into_two (IsClosed table) (targets table u) n k t (closes s) (closes v);
     }
 
   -- ---- in a table that fits kinds, each closed name stands for its computed meaning
   module _ (fits : FitsKinds table) where
     name : (u : WordUse) (n : Key) → Contains (targets table u) n → IsName table n
-    name u n i = record { present = target_present table u n i; no_list = target_no_list table u n i }
+    name u n i = record { name_has_entry = target_present table u n i; no_list = target_no_list table u n i }
 
     closed_leads : (k : ℕ) (u : WordUse) → WordLeadsInto table (EndsWithin table k) u
         → WordLeadsInto table (IsClosed table) u
@@ -162,10 +162,10 @@ module _ (table : Table) where
         by : StandsForTargets table u → WordStandsFor table u (word_meaning table u)
         by (kinds.ForOne n t e) =
             subst (WordStandsFor table u) (sym e)
-            (ByOneTarget n h.is_accepted t
+            (ByOneTarget n h.not_refused t
             (key_stands n (subst (λ (ks : List Key). Contains ks n) (sym t) (member_first n n [] refl))))
         by (kinds.ForTwo n m x y t kn km en em e) =
-            ByPrefixAndUnit n m x y h.is_accepted t
+            ByPrefixAndUnit n m x y h.not_refused t
             (subst (StandsFor table n) en
             (key_stands n (subst (λ (ks : List Key). Contains ks n) (sym t) (member_first n n (m ∷ []) refl))))
             (subst (StandsFor table m) em
@@ -177,7 +177,7 @@ module _ (table : Table) where
     stands zero n ends is = absurd ends
     stands (suc k) n ends is =
         by (λ u i. word_from u (closed_leads k u (ends u i)) (λ m t. stands k m ((ends u i).into m t) (name u m t)))
-        (entry_at table n) refl is.present
+        (entry_at table n) refl is.name_has_entry
       where
         in_key : (e : Entry) (u : WordUse) → entry_at table n ≡ Some e → Contains (what_words e.what) u
             → Contains (key_words table n) u
@@ -219,10 +219,10 @@ module _ (table : Table) where
 -- the law of the meanings of keys and words
 pub stands_for_law : StandsForLaw
 stands_for_law = record {
-  one = λ table n m k a b. same table a b;
+  one_meaning = λ table n m k a b. same table a b;
   one_word = λ table u m k a b. same_word table a b;
-  closed = λ table n m s. closes table s;
-  exactly = λ table fits n is. (
+  name_is_closed = λ table n m s. closes table s;
+  closed_exactly = λ table fits n is. (
     λ closed. stands table fits (suc (length table)) n (closed_key_ending table n closed) is,
     λ s. closes table s,
   );

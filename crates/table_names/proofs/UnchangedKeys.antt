@@ -49,8 +49,8 @@ module _ (before after : Table) (keys : List Key) (changed : AreChanged before a
       let h : WordLeadsInto before (EndsWithin before k) u = e u i in
       let same : word_lookup before u ≡ word_lookup after u = lookup_kept n free u i in
       record {
-        is_accepted = h.is_accepted;
-        known = subst (λ (f : Found). f.targets ≢ []) same h.known;
+        not_refused = h.not_refused;
+        has_targets = subst (λ (f : Found). f.targets ≢ []) same h.has_targets;
         into = λ m t.
             let was : Contains (targets before u) m = subst (λ (f : Found). Contains f.targets m) (sym same) t in
             ends_kept k m (h.into m was) (target_unaffected n free u i m was);
@@ -131,8 +131,8 @@ module _ (before after : Table) (keys : List Key) (changed : AreChanged before a
 
     pub as_before : IsAsBefore before after n
     as_before = record {
-      closed = closed_after;
-      meaning = meaning_after;
+      still_closed = closed_after;
+      same_meaning = meaning_after;
       outcome = ap outcome_of meaning_after;
       entry = entry_kept n free;
       lookups = lookup_kept n free;

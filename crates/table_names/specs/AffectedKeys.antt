@@ -26,7 +26,7 @@ is_affected table keys n = is_key_among keys n || list_any (has_looked table key
 
 -- law: `is_affected` computes `IsAffected` for a closed key, and each key that reaches an affected key is affected
 pub record AffectedLaw : Type 0 where
-  pub computed : (table : Table) (keys : List Key) (n : Key) → IsClosed table n
+  pub affected_exactly : (table : Table) (keys : List Key) (n : Key) → IsClosed table n
       → (is_affected table keys n ≡ true) ↔ IsAffected table keys n
   pub users : (table : Table) (keys : List Key) (n m : Key) → Reaches table n m → IsAffected table keys m
       → IsAffected table keys n

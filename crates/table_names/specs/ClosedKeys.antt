@@ -17,6 +17,6 @@ IsClosed table n = key_fault table n ≡ None
 
 -- a word is not a refused name and has targets, all of which have this property
 pub record WordLeadsInto (table : Table) (Holds : Key → Type 0) (u : WordUse) : Type 0 where
-  pub is_accepted : is_refused u.text ≡ false
-  pub known : targets table u ≢ []
+  pub not_refused : is_refused u.text ≡ false
+  pub has_targets : targets table u ≢ []
   pub into : (n : Key) → Contains (targets table u) n → Holds n

@@ -16,7 +16,7 @@ pub record ClosedWordLaw : Type 0 where
   pub words : (table : Table) (words : List WordUse)
       → AreClosed table words ↔ ((u : WordUse) → Contains words u → WordLeadsInto table (IsClosed table) u)
   pub key : (table : Table) (n : Key) → IsClosed table n ↔ AreClosed table (key_words table n)
-  pub below : (table : Table) (words : List WordUse) → AreClosed table words
+  pub reached_words_closed : (table : Table) (words : List WordUse) → AreClosed table words
       → (n : Key) → WordsReach table words n → IsClosed table n
   pub no_cycle : (table : Table) (n : Key) → IsClosed table n → Reaches table n n → ⊥
   pub any_path : (table : Table) (path : List Key) (n : Key) → IsKeyPath table path

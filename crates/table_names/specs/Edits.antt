@@ -13,8 +13,8 @@ use Rattle.table_names.specs.Words.{key_words}
 -- a closed key is still closed, has the same meaning, outcome and entry, the same lookup of each of its words, and
 -- reaches the same keys
 pub record IsAsBefore (before after : Table) (n : Key) : Type 0 where
-  pub closed : IsClosed after n
-  pub meaning : key_meaning before n ≡ key_meaning after n
+  pub still_closed : IsClosed after n
+  pub same_meaning : key_meaning before n ≡ key_meaning after n
   pub outcome : outcome before n ≡ outcome after n
   pub entry : entry_at before n ≡ entry_at after n
   pub lookups : (u : WordUse) → Contains (key_words before n) u → word_lookup before u ≡ word_lookup after u

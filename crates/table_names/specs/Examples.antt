@@ -22,14 +22,14 @@ table_unit w = key kind.Unit w
 abbrev pub table_prefix : List ℕ → Key
 table_prefix w = key kind.Prefix w
 
-abbrev pub entry : What → Entry
-entry what = record { text = []; what = what }
+abbrev pub entry_of_what : What → Entry
+entry_of_what what = record { text = []; what = what }
 
 abbrev pub word_entry : List ℕ → Entry
-word_entry w = entry (Body (Word w))
+word_entry w = entry_of_what (Body (Word w))
 
-abbrev pub one : Decimal
-one = record { coefficient = 1; scale = pos 0 }
+abbrev pub decimal_one : Decimal
+decimal_one = record { coefficient = 1; scale = pos 0 }
 
 abbrev pub a : Key
 a = table_unit (codes "a")
@@ -60,7 +60,7 @@ abbrev pub small_names : Table
 small_names =
     (d, word_entry (codes "xm")) ∷ (c, word_entry (codes "km"))
     ∷ (b, word_entry (codes "ka")) ∷ (a, word_entry (codes "b"))
-    ∷ (k, entry (Body (Number one))) ∷ (m, entry Primitive) ∷ []
+    ∷ (k, entry_of_what (Body (Number decimal_one))) ∷ (m, entry_of_what Primitive) ∷ []
 
 -- the words of an expression that consists of one word
 abbrev pub one_word : List ℕ → List WordUse
@@ -72,7 +72,7 @@ two_words v w = one_word v ++ one_word w
 
 -- `small_names`, and a unit `sin`
 abbrev pub with_sin : Table
-with_sin = (table_unit (codes "sin"), entry Primitive) ∷ small_names
+with_sin = (table_unit (codes "sin"), entry_of_what Primitive) ∷ small_names
 
 -- `small_names`, and a prefix `p` that stands for the unknown word `xm`
 abbrev pub with_bad_prefix : Table
@@ -86,8 +86,8 @@ pub record NameExamplesLaw : Type 0 where
   pub from_a : name_fault small_names (one_word (codes "a")) ≡ Some (Cycle (a ∷ b ∷ a ∷ []))
   pub from_b : name_fault small_names (one_word (codes "kb")) ≡ Some (Cycle (b ∷ a ∷ b ∷ []))
   pub by_key : key_fault small_names b ≡ Some (Cycle (b ∷ a ∷ b ∷ []))
-  pub inside : name_fault small_names (one_word (codes "d")) ≡ Some (Unknown (codes "xm") (Some d))
-  pub outside : name_fault small_names (one_word (codes "xm")) ≡ Some (Unknown (codes "xm") None)
+  pub inner_fault : name_fault small_names (one_word (codes "d")) ≡ Some (Unknown (codes "xm") (Some d))
+  pub outer_fault : name_fault small_names (one_word (codes "xm")) ≡ Some (Unknown (codes "xm") None)
   pub refused_function : name_fault small_names (one_word (codes "sin")) ≡ Some (Refused (codes "sin") None)
   pub refused_before_targets : name_fault with_sin (one_word (codes "sin")) ≡ Some (Refused (codes "sin") None)
   pub refused_inside : key_fault ((e, word_entry (codes "sin")) ∷ small_names) e ≡ Some (Refused (codes "sin") (Some e))
@@ -103,6 +103,6 @@ pub record NameExamplesLaw : Type 0 where
   pub looked_at : key_looked_keys small_names c ≡ km ∷ key kind.Func (codes "km") ∷ table_prefix (codes "km") ∷ k ∷ m ∷
       []
   pub stands_for : key_meaning small_names c
-      ≡ expanded.One (expanded.Prefixed (expanded.Number one) (expanded.Primitive (codes "m")))
+      ≡ expanded.One (expanded.Prefixed (expanded.Number decimal_one) (expanded.Primitive (codes "m")))
   pub depends : is_affected small_names (km ∷ []) c ≡ true
-  pub stays : is_affected small_names (a ∷ b ∷ d ∷ []) c ≡ false
+  pub not_affected : is_affected small_names (a ∷ b ∷ d ∷ []) c ≡ false

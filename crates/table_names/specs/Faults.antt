@@ -12,15 +12,15 @@ use Rattle.table_names.specs.Leads.{targets}
 use Rattle.table_names.specs.Words.{key_words}
 
 -- the first result of `f` on the elements of a list that is not `None`, or `None` if all are `None`
-abbrev pub first : {A B : Type 0} → (A → Option B) → List A → Option B
-first f [] = None
-first f (x ∷ xs) = option_or (f x) (first f xs)
+abbrev pub first_some : {A B : Type 0} → (A → Option B) → List A → Option B
+first_some f [] = None
+first_some f (x ∷ xs) = option_or (f x) (first_some f xs)
 
 -- the last element of a list, or `None` if the list is empty
-abbrev pub last : {A : Type 0} → List A → Option A
-last [] = None
-last (x ∷ []) = Some x
-last (x ∷ y ∷ ys) = last (y ∷ ys)
+abbrev pub last_of_list : {A : Type 0} → List A → Option A
+last_of_list [] = None
+last_of_list (x ∷ []) = Some x
+last_of_list (x ∷ y ∷ ys) = last_of_list (y ∷ ys)
 
 -- the keys of a path from the first place of a key on, and then that key again
 abbrev pub cycle_chain : Key → List Key → List Key
@@ -42,26 +42,26 @@ module _ (table : Table) where
 
   -- a word without targets is unknown
   abbrev pub targets_fault : Deeper → List Key → WordUse → List Key → Option NameFault
-  targets_fault deeper path u [] = Some (Unknown u.text (last path))
-  targets_fault deeper path u (n ∷ ns) = first (target_fault deeper path) (n ∷ ns)
+  targets_fault deeper path u [] = Some (Unknown u.text (last_of_list path))
+  targets_fault deeper path u (n ∷ ns) = first_some (target_fault deeper path) (n ∷ ns)
 
   -- the fault of a refused name, or else the first fault of the targets in order
   abbrev pub word_fault : Deeper → List Key → WordUse → Option NameFault
   word_fault deeper path u =
       if is_refused u.text
-      then Some (Refused u.text (last path))
+      then Some (Refused u.text (last_of_list path))
       else targets_fault deeper path u (targets table u)
 
   -- the first fault in the entry of the last key of a path, if at most `room` more keys may be entered; there is always
   -- enough room, so the value for `zero` does not matter
   abbrev pub key_fault_within : ℕ → Deeper
   key_fault_within zero path n = Some (Cycle path)
-  key_fault_within (suc room) path n = first (word_fault (key_fault_within room) path) (key_words table n)
+  key_fault_within (suc room) path n = first_some (word_fault (key_fault_within room) path) (key_words table n)
 
   -- the first fault of words after a path: no key occurs twice in a path, so the number of keys of the table that are
   -- not on it is room enough
   abbrev pub words_fault : List Key → List WordUse → Option NameFault
-  words_fault path words = first (word_fault (key_fault_within (length table - length path)) path) words
+  words_fault path words = first_some (word_fault (key_fault_within (length table - length path)) path) words
 
   -- the name fault of the words of an expression
   abbrev pub name_fault : List WordUse → Option NameFault

@@ -9,7 +9,7 @@ use Rattle.def_entry.specs.Tables.{Table}
 use Rattle.tree_eval.specs.Entries.{rank_of_meaning}
 use Rattle.table_names.specs.declared.fault.NameFault.{NameFault}
 use Rattle.table_names.specs.declared.fault.NameFault.TheVariants.{Unknown}
-use Rattle.table_names.specs.Examples.{entry, one, table_unit}
+use Rattle.table_names.specs.Examples.{decimal_one, entry_of_what, table_unit}
 use Rattle.table_names.specs.Faults.{key_fault}
 use Rattle.table_names.specs.Meanings.{key_meaning}
 
@@ -18,7 +18,7 @@ function_key name = key kind.Func name
 
 -- the entry of a function that has only a forward expression
 abbrev pub forward_entry : Syntax → Entry
-forward_entry e = entry (Function (record {
+forward_entry e = entry_of_what (Function (record {
   in_unit = None;
   out_unit = None;
   domain = None;
@@ -30,22 +30,22 @@ forward_entry e = entry (Function (record {
 -- the lines `m !`, `g(x) x`, `f(x) g(x)`, `back(x) ~g(x)`, `h() f`, `word(x) f`, `u f(1)`, `over(x) u` and `t[m]`
 abbrev pub ranked_table : Table
 ranked_table =
-    (function_key (codes "t"), entry (PointTable (record { unit = Word (codes "m"); points = [] })))
+    (function_key (codes "t"), entry_of_what (PointTable (record { unit = Word (codes "m"); points = [] })))
     ∷ (function_key (codes "over"), forward_entry (Word (codes "u")))
-    ∷ (table_unit (codes "u"), entry (Body (Call (codes "f") (Number one))))
+    ∷ (table_unit (codes "u"), entry_of_what (Body (Call (codes "f") (Number decimal_one))))
     ∷ (function_key (codes "word"), forward_entry (Word (codes "f")))
-    ∷ (function_key (codes "h"), entry (Alias (codes "f")))
+    ∷ (function_key (codes "h"), entry_of_what (Alias (codes "f")))
     ∷ (function_key (codes "back"), forward_entry (Inverse (codes "g") Argument))
     ∷ (function_key (codes "f"), forward_entry (Call (codes "g") Argument))
     ∷ (function_key (codes "g"), forward_entry Argument)
-    ∷ (table_unit (codes "m"), entry Primitive) ∷ []
+    ∷ (table_unit (codes "m"), entry_of_what Primitive) ∷ []
 
 abbrev pub example_rank : List ℕ → ℕ
 example_rank name = rank_of_meaning (key_meaning ranked_table (function_key name))
 
 -- a function with four expressions, each of which is one word
 abbrev pub four_words : Entry
-four_words = entry (Function (record {
+four_words = entry_of_what (Function (record {
   in_unit = Some (Word (codes "a"));
   out_unit = Some (Word (codes "b"));
   domain = None;
@@ -57,7 +57,7 @@ four_words = entry (Function (record {
 -- the table of that function and these units
 abbrev pub four_words_with : List (List ℕ) → Table
 four_words_with [] = (function_key (codes "f"), four_words) ∷ []
-four_words_with (w ∷ ws) = (table_unit w, entry Primitive) ∷ four_words_with ws
+four_words_with (w ∷ ws) = (table_unit w, entry_of_what Primitive) ∷ four_words_with ws
 
 -- the fault of the function if these units are present
 abbrev pub fault_with : List (List ℕ) → Option NameFault
@@ -85,5 +85,6 @@ pub record FunctionExamplesLaw : Type 0 where
   pub inverse_last : fault_with (codes "a" ∷ codes "b" ∷ codes "c" ∷ []) ≡ unknown_in_f (codes "d")
   pub no_fault : fault_with (codes "a" ∷ codes "b" ∷ codes "c" ∷ codes "d" ∷ []) ≡ None
   pub alias_of_a_unit :
-      key_fault ((function_key (codes "h"), entry (Alias (codes "a"))) ∷ (table_unit (codes "a"), entry Primitive) ∷ [])
+      key_fault ((function_key (codes "h"), entry_of_what (Alias (codes "a"))) ∷
+      (table_unit (codes "a"), entry_of_what Primitive) ∷ [])
       (function_key (codes "h")) ≡ Some (Unknown (codes "a") (Some (function_key (codes "h"))))

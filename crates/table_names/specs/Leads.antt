@@ -24,7 +24,7 @@ targets table u = (word_lookup table u).targets
 
 -- the keys that the lookup of a word looks at, including absent ones
 abbrev pub looked_keys : Table → WordUse → List Key
-looked_keys table u = (word_lookup table u).looked
+looked_keys table u = (word_lookup table u).keys_looked_at
 
 -- one of the words leads to the key
 abbrev pub WordsLeadTo : Table → List WordUse → Key → Type 0

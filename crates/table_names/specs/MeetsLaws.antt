@@ -12,13 +12,13 @@ use Rattle.table_names.specs.Words.{key_words}
 -- law: Words meet at most one fault, and none exactly if they are clean. `words_fault` computes that fault,
 -- `name_fault` the fault of the words of an expression, and `key_fault` that of a key that has an entry.
 pub record MeetsLaw : Type 0 where
-  pub one : (table : Table) (path : List Key) (words : List WordUse) (f g : NameFault) → IsKeyPath table path
+  pub one_fault : (table : Table) (path : List Key) (words : List WordUse) (f g : NameFault) → IsKeyPath table path
       → Meets table path words f → Meets table path words g → f ≡ g
-  pub clean : (table : Table) (path : List Key) (words : List WordUse) → IsKeyPath table path
+  pub no_fault_met : (table : Table) (path : List Key) (words : List WordUse) → IsKeyPath table path
       → AreClean table path words ↔ ((f : NameFault) → Meets table path words f → ⊥)
-  pub met : (table : Table) (path : List Key) (words : List WordUse) (f : NameFault) → IsKeyPath table path
+  pub fault_met : (table : Table) (path : List Key) (words : List WordUse) (f : NameFault) → IsKeyPath table path
       → (words_fault table path words ≡ Some f) ↔ Meets table path words f
-  pub none : (table : Table) (path : List Key) (words : List WordUse) → IsKeyPath table path
+  pub none_met : (table : Table) (path : List Key) (words : List WordUse) → IsKeyPath table path
       → (words_fault table path words ≡ None) ↔ AreClean table path words
   pub name : (table : Table) (words : List WordUse) (f : NameFault)
       → (name_fault table words ≡ Some f) ↔ Meets table [] words f

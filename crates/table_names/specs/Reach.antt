@@ -29,9 +29,9 @@ module _ (table : Table) where
 -- law: `reach` lists exactly the keys that closed words reach. Each key that words reach has an entry, and each key
 -- that a reached key reaches is reached too.
 pub record ReachLaw : Type 0 where
-  pub listed : (table : Table) (words : List WordUse) → AreClosed table words
+  pub reached_words : (table : Table) (words : List WordUse) → AreClosed table words
       → (n : Key) → Contains (reach table words) n ↔ WordsReach table words n
-  pub present : (table : Table) (words : List WordUse) (n : Key) → WordsReach table words n
+  pub reached_have_entries : (table : Table) (words : List WordUse) (n : Key) → WordsReach table words n
       → is_present table n ≡ true
-  pub further : (table : Table) (words : List WordUse) (n m : Key) → WordsReach table words n
+  pub reached_further : (table : Table) (words : List WordUse) (n m : Key) → WordsReach table words n
       → WordsReach table (key_words table n) m → WordsReach table words m

@@ -14,7 +14,7 @@ use Rattle.table_names.specs.StandsFor.{StandsFor, WordStandsFor}
 
 -- the key has an entry, and is a unit, a prefix or a function
 pub record IsName (table : Table) (n : Key) : Type 0 where
-  pub present : is_present table n ≡ true
+  pub name_has_entry : is_present table n ≡ true
   pub no_list : is_same_kind n.kind kind.List ≡ false
 
 -- law: A key and a word stand for at most one meaning. A key that stands for a meaning has no name fault. If the table
@@ -22,11 +22,11 @@ pub record IsName (table : Table) (n : Key) : Type 0 where
 -- each stands for a meaning, and `key_meaning` and `word_meaning` compute these meanings; a word after a `~` can only
 -- stand for a function.
 pub record StandsForLaw : Type 0 where
-  pub one : (table : Table) (n : Key) (m k : Meaning) → StandsFor table n m → StandsFor table n k → m ≡ k
+  pub one_meaning : (table : Table) (n : Key) (m k : Meaning) → StandsFor table n m → StandsFor table n k → m ≡ k
   pub one_word : (table : Table) (u : WordUse) (m k : Meaning) → WordStandsFor table u m → WordStandsFor table u k
       → m ≡ k
-  pub closed : (table : Table) (n : Key) (m : Meaning) → StandsFor table n m → IsClosed table n
-  pub exactly : (table : Table) → FitsKinds table → (n : Key) → IsName table n
+  pub name_is_closed : (table : Table) (n : Key) (m : Meaning) → StandsFor table n m → IsClosed table n
+  pub closed_exactly : (table : Table) → FitsKinds table → (n : Key) → IsName table n
       → IsClosed table n ↔ StandsFor table n (key_meaning table n)
   pub words : (table : Table) → FitsKinds table → (words : List WordUse)
       → AreClosed table words ↔ ((u : WordUse) → Contains words u → WordStandsFor table u (word_meaning table u))

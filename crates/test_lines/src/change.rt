@@ -17,8 +17,8 @@ pub struct Change {
     pub put: DeckLines,
 }
 
-/// Reads a place, the number of lines to cut out there, and the lines to insert there, which are separated by `;`. A `~`
-/// precedes each line that has the mark.
+/// Reads a place, the number of lines to cut out there, and the lines to insert there, which are separated by `;`. A
+/// `~` precedes each line that has the mark.
 pub fn read_change(alloc: Global, text: &[u8]) -> Result<Change, CallFault> {
     let (at, text) = split_at_space(text);
     let (cut, lines) = split_at_space(text);

@@ -12,7 +12,7 @@ use Rattle.tree_eval.specs.declared.step.Step.{Step}
 use Rattle.tree_eval.specs.Answers.{GivesWorth}
 use Rattle.tree_eval.specs.Environment.{Stand}
 use Rattle.tree_eval.specs.Expansions.{Meaning}
-use Rattle.tree_eval.specs.Expansion.{expand, plain, plain_word}
+use Rattle.tree_eval.specs.Expansion.{expand, expanded_meaning, plain_word}
 use Rattle.tree_eval.specs.Operands.{with_worth}
 use Rattle.tree_eval.specs.Value.{value}
 use Rattle.tree_eval.proofs.Places.{first_stands, first_within}
@@ -31,7 +31,7 @@ module _ (us : List WordUse) (p : ℕ) {e : Syntax} {w : List ℕ} (is : e ≡ t
     -- a result for the word at the place is a result for the tree
     pub alone_gives : (means : WordUse → Meaning) (a : Option Amount) {A : Type 0} (seen : A → Amount)
         (r : Result A EvalFault)
-        → ((u : WordUse) → slice_get us p ≡ Some u → GivesWorth seen r (value (plain (means u)) a))
+        → ((u : WordUse) → slice_get us p ≡ Some u → GivesWorth seen r (value (expanded_meaning (means u)) a))
         → GivesWorth seen r (value (expand means e) a)
     alone_gives means a seen r h =
         subst (λ y. GivesWorth seen r (value (expand means y) a)) (sym is)
@@ -41,7 +41,7 @@ module _ (us : List WordUse) (p : ℕ) {e : Syntax} {w : List ℕ} (is : e ≡ t
     pub member_gives : (means : WordUse → Meaning) (a : Option Amount) (step : Step) (held : Amount) {A : Type 0}
         (seen : A → Amount) (r : Result A EvalFault)
         → ((u : WordUse) → slice_get us p ≡ Some u
-        → GivesWorth seen r (with_worth step held (value (plain (means u)) a)))
+        → GivesWorth seen r (with_worth step held (value (expanded_meaning (means u)) a)))
         → GivesWorth seen r (with_worth step held (value (expand means e) a))
     member_gives means a step held seen r h =
         subst (λ y. GivesWorth seen r (with_worth step held (value (expand means y) a))) (sym is)

@@ -12,7 +12,7 @@ use Rattle.tree_eval.specs.declared.outcome.Outcome.TheVariants as outcome
 use Rattle.tree_eval.specs.Environment.{IsMeaningTold}
 use Rattle.tree_eval.specs.Expansions.{Callable, Function, Alias, Table, Absent, Present, Meaning, callable_name}
 use Rattle.tree_eval.specs.Expansions.{rank_of}
-use Rattle.tree_eval.specs.Expansion.{plain}
+use Rattle.tree_eval.specs.Expansion.{expanded_meaning}
 use Rattle.tree_eval.specs.Outcomes.{stored_outcome, worth_in}
 use Rattle.tree_eval.specs.Steps.{Worth}
 use Rattle.tree_eval.specs.WordValues.{IsUsable, told_worth}
@@ -60,12 +60,12 @@ usable has callee m (told.Function id) h = h.0
 -- the value of a single word by its reported meaning
 pub told_plain : (has : ℕ → Bool) (callee : ℕ → Callable) (m : Meaning) (t : Told) (a : Option Amount)
     → IsMeaningTold has callee m t
-    → value (plain m) a ≡ told_worth callee t
+    → value (expanded_meaning m) a ≡ told_worth callee t
 told_plain has callee m (told.One o) a h =
     let w : worth_in o.now ≡ value h.0 None = ap worth_in h.2 ∙ worth_kept (value h.0 None) in
-    ap (λ x. value (plain x) a) h.1 ∙ sym w
+    ap (λ x. value (expanded_meaning x) a) h.1 ∙ sym w
 told_plain has callee m (told.Two p u) a h =
     let v : worth_in p.now ≡ value h.0 None = ap worth_in h.3 ∙ worth_kept (value h.0 None) in
     let w : worth_in u.now ≡ value h.1 None = ap worth_in h.4 ∙ worth_kept (value h.1 None) in
     rw (h.2, v, w) refl
-told_plain has callee m (told.Function id) a h = ap (λ x. value (plain x) a) h.1
+told_plain has callee m (told.Function id) a h = ap (λ x. value (expanded_meaning x) a) h.1

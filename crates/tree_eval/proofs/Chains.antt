@@ -132,9 +132,9 @@ module _ {means : WordUse → Meaning} {us : List WordUse} {place : ℕ} {all : 
     member_fault e h = fault_first amount_in amount_in e here others (value (chain means all) a) worth_here h
 
     -- the loop continues with the result of the step
-    pub goes : {x : Amount} {after : ℕ} → here ≡ Ok x → after ≡ next + length (words_in o.1)
+    pub run_goes_on : {x : Amount} {after : ℕ} → here ≡ Ok x → after ≡ next + length (words_in o.1)
         → IsRunning means us place all a (i + 1) x after
-    goes {x} {after} j n =
+    run_goes_on {x} {after} j n =
         let m : length (words_of_members (drop i all)) ≡ length (words_in o.1) + length
         (words_of_members (drop (i + 1) all)) =
         ap length words_here ∙ length-append (words_in o.1) (words_of_members (drop (i + 1) all)) in

@@ -3,7 +3,8 @@ use Rattle.std.proofs.Common.{◌≡◌, ℕ, Bool, true, false, Option, Some, N
 use Rattle.std.specs.Prelude.{IsTrue, if◌then◌else◌}
 use Rattle.tree_eval.specs.declared.meaning.Meaning.{Meaning as Told}
 use Rattle.tree_eval.specs.declared.meaning.Meaning.TheVariants as told
-use Rattle.tree_eval.specs.Environment.{IsMeaningTold, OfFunction, OfName, OfPrefixed, Report, given_report, report_of}
+use Rattle.tree_eval.specs.Environment.{IsMeaningTold, OfFunction, OfName, OfPrefixed, Report, given_report}
+use Rattle.tree_eval.specs.Environment.{meaning_report}
 use Rattle.tree_eval.specs.Expansions.{Callable, Callee, Meaning, One, Two}
 use Rattle.tree_eval.specs.Outcomes.{outcome_of}
 
@@ -15,7 +16,7 @@ numbered false f r e = cc
 
 -- the report on a word tells its meaning
 pub meaning_by_report : (has : ℕ → Bool) (callee : ℕ → Callable) (m : Meaning) (t : Told)
-    → given_report has callee t ≡ Some (report_of m) → IsMeaningTold has callee m t
+    → given_report has callee t ≡ Some (meaning_report m) → IsMeaningTold has callee m t
 meaning_by_report has callee (One x) (told.One o) e =
     let same : o.now ≡ outcome_of (One x) = cc in
     (x, refl, same)
@@ -41,5 +42,5 @@ meaning_by_report has callee (Callee f) (told.Function id) e =
 
 -- a number that is reported is that of a function
 pub function_reported : (has : ℕ → Bool) (callee : ℕ → Callable) (m : Meaning) (id : ℕ)
-    → given_report has callee (told.Function id) ≡ Some (report_of m) → has id ≡ true
-function_reported has callee m id e = (numbered (has id) (callee id) (report_of m) e).0
+    → given_report has callee (told.Function id) ≡ Some (meaning_report m) → has id ≡ true
+function_reported has callee m id e = (numbered (has id) (callee id) (meaning_report m) e).0

@@ -15,7 +15,7 @@ use Rattle.tree_eval.specs.Expansions as x
 use Rattle.tree_eval.specs.Expansions.{Meaning}
 use Rattle.tree_eval.specs.Expansion.{call_expansion, called_word, expand, expand_if, factor_links, inverse_expansion}
 use Rattle.tree_eval.specs.Expansion.{inverted_word}
-use Rattle.tree_eval.specs.Expansion.{member_links, plain, plain_word, scale_step, sign_step, term_links}
+use Rattle.tree_eval.specs.Expansion.{expanded_meaning, member_links, plain_word, scale_step, sign_step, term_links}
 use Rattle.tree_eval.specs.Laws.{Agree}
 use Rattle.tree_eval.proofs.Places.{get_left, get_right}
 
@@ -38,7 +38,7 @@ module _ (m n : WordUse → Meaning) where
     pub expand_same : (e : Syntax) → Agree m n (words_in e) → expand m e ≡ expand n e
     expand_same (tree.Number k) h = refl
     expand_same (tree.Bar k l) h = refl
-    expand_same (tree.Word w) h = ap plain (h 0 (plain_word w) refl)
+    expand_same (tree.Word w) h = ap expanded_meaning (h 0 (plain_word w) refl)
     expand_same tree.Argument h = refl
     expand_same (tree.Call w e) h =
         let a : m (called_word w) ≡ n (called_word w) = h 0 (called_word w) refl in

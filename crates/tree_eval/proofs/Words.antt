@@ -12,7 +12,7 @@ use Rattle.tree_eval.specs.Answers.{GivesWorth, amount_in}
 use Rattle.tree_eval.specs.Environment.{IsMeaningTold}
 use Rattle.tree_eval.specs.Expansions.{Callable, Expanded, Meaning, Callee, Chain, Link, NoLink}
 use Rattle.tree_eval.specs.Directions.{direction_value, operand_expansion}
-use Rattle.tree_eval.specs.Expansion.{plain}
+use Rattle.tree_eval.specs.Expansion.{expanded_meaning}
 use Rattle.units_io.specs.Outcomes.{◌>>=◌}
 use Rattle.tree_eval.specs.Steps.{Worth, amount, step_worth}
 use Rattle.tree_eval.specs.WordValues.{told_worth}
@@ -37,27 +37,31 @@ chain_two (Ok v) (Ok w) = last_ok (amount (product_of v w))
 
 -- the value of a word and one more operand is their product
 chained_word : (m : Meaning) (y : Expanded) (a : Option Amount)
-    → value (Chain (plain m) (Link Multiply y NoLink)) a ≡ times (value (plain m) a) (value y a)
-chained_word m y a = chain_two (value (plain m) a) (value y a)
+    → value (Chain (expanded_meaning m) (Link Multiply y NoLink)) a ≡ times (value (expanded_meaning m) a) (value y a)
+chained_word m y a = chain_two (value (expanded_meaning m) a) (value y a)
 
 module _ (has : ℕ → Bool) (callee : ℕ → Callable) (m : Meaning) (t : Told) (y : Expanded) (a : Option Amount)
     (h : IsMeaningTold has callee m t) where
-  worth_told : times (value (plain m) a) (value y a) ≡ times (told_worth callee t) (value y a)
+  worth_told : times (value (expanded_meaning m) a) (value y a) ≡ times (told_worth callee t) (value y a)
   worth_told = ap (λ r. times r (value y a)) (told_plain has callee m t a h)
 
 -- a word that is not a function, before an operand, is a chain of the two
 operated_chain : (direction : Direction) (has : ℕ → Bool) (callee : ℕ → Callable) (m : Meaning) (t : Told)
     (y : Expanded)
     → IsMeaningTold has callee m t → ((id : ℕ) → t ≡ told.Function id → ⊥)
-    → operand_expansion direction m y ≡ Chain (plain m) (Link Multiply y NoLink)
+    → operand_expansion direction m y ≡ Chain (expanded_meaning m) (Link Multiply y NoLink)
 operated_chain Forward has callee m (told.One o) y h n =
-    ap (λ k. operand_expansion Forward k y) h.1 ∙ ap (λ k. Chain (plain k) (Link Multiply y NoLink)) (sym h.1)
+    ap (λ k. operand_expansion Forward k y) h.1 ∙ ap (λ k. Chain (expanded_meaning k) (Link Multiply y NoLink))
+    (sym h.1)
 operated_chain Forward has callee m (told.Two p u) y h n =
-    ap (λ k. operand_expansion Forward k y) h.2 ∙ ap (λ k. Chain (plain k) (Link Multiply y NoLink)) (sym h.2)
+    ap (λ k. operand_expansion Forward k y) h.2 ∙ ap (λ k. Chain (expanded_meaning k) (Link Multiply y NoLink))
+    (sym h.2)
 operated_chain Inverse has callee m (told.One o) y h n =
-    ap (λ k. operand_expansion Inverse k y) h.1 ∙ ap (λ k. Chain (plain k) (Link Multiply y NoLink)) (sym h.1)
+    ap (λ k. operand_expansion Inverse k y) h.1 ∙ ap (λ k. Chain (expanded_meaning k) (Link Multiply y NoLink))
+    (sym h.1)
 operated_chain Inverse has callee m (told.Two p u) y h n =
-    ap (λ k. operand_expansion Inverse k y) h.2 ∙ ap (λ k. Chain (plain k) (Link Multiply y NoLink)) (sym h.2)
+    ap (λ k. operand_expansion Inverse k y) h.2 ∙ ap (λ k. Chain (expanded_meaning k) (Link Multiply y NoLink))
+    (sym h.2)
 operated_chain direction has callee m (told.Function id) y h n = absurd (n id refl)
 
 -- the value of a word that is not a function, before an operand, is the product of both

@@ -15,20 +15,20 @@ use Rattle.tree_eval.specs.Expansions.{Uncalled, Applied, Unapplied, Root, Group
 use Rattle.tree_eval.specs.Expansions.{Links, NoLink, Link, Given, Absent, Present, Meaning, One, Two, Callee}
 
 -- a single word
-abbrev pub plain : Meaning → Expanded
-plain (One x) = Named x
-plain (Two x y) = Prefixed x y
-plain (Callee f) = Uncalled f
+abbrev pub expanded_meaning : Meaning → Expanded
+expanded_meaning (One x) = Named x
+expanded_meaning (Two x y) = Prefixed x y
+expanded_meaning (Callee f) = Uncalled f
 
 -- a word before its operand: a function is applied, any other meaning is multiplied
 abbrev pub call_expansion : Meaning → Expanded → Expanded
 call_expansion (Callee f) y = Applied f y
-call_expansion m y = Chain (plain m) (Link Multiply y NoLink)
+call_expansion m y = Chain (expanded_meaning m) (Link Multiply y NoLink)
 
 -- a word after a `~`, which is a function
 abbrev pub inverse_expansion : Meaning → Expanded → Expanded
 inverse_expansion (Callee f) y = Unapplied f y
-inverse_expansion m y = Chain (plain m) (Link Multiply y NoLink)
+inverse_expansion m y = Chain (expanded_meaning m) (Link Multiply y NoLink)
 
 abbrev pub scale_step : Scale → Step
 scale_step scale.Multiply = Multiply
@@ -54,7 +54,7 @@ module _ (means : WordUse → Meaning) where
     pub expand : Syntax → Expanded
     expand (tree.Number x) = Number x
     expand (tree.Bar x y) = Bar x y
-    expand (tree.Word w) = plain (means (plain_word w))
+    expand (tree.Word w) = expanded_meaning (means (plain_word w))
     expand tree.Argument = Argument
     expand (tree.Call w e) = call_expansion (means (called_word w)) (expand e)
     expand (tree.Inverse w e) = inverse_expansion (means (inverted_word w)) (expand e)

@@ -14,7 +14,7 @@ use Rattle.tree_eval.specs.declared.step.Step.TheVariants.{Multiply}
 use Rattle.tree_eval.specs.Expansions.{Meaning}
 use Rattle.tree_eval.specs.Expansion.{expand}
 use Rattle.tree_eval.specs.Operands.{with_worth}
-use Rattle.tree_eval.specs.Steps.{Worth, number, numeral_quotient}
+use Rattle.tree_eval.specs.Steps.{Worth, numeral_quotient, worth_of_number}
 use Rattle.tree_eval.specs.Value.{value}
 
 -- the number that a factor states, a numeral or a quotient of two
@@ -24,7 +24,7 @@ factor_number (factor.Bar bar) = numeral_quotient bar.now.top bar.now.bottom
 
 -- the value of a tree is this number in every context
 abbrev pub SaysNumber : Syntax → Result Fraction FracFault → Type 0
-SaysNumber e x = (means : WordUse → Meaning) (a : Option Amount) → value (expand means e) a ≡ number x
+SaysNumber e x = (means : WordUse → Meaning) (a : Option Amount) → value (expand means e) a ≡ worth_of_number x
 
 -- the members are a tree without words that states the number, and a word
 abbrev pub IsMultiple : List Syntax → Result Fraction FracFault → Type 0
@@ -32,4 +32,4 @@ IsMultiple es x = (e : Syntax) × (w : List ℕ) × (es ≡ e ∷ Word w ∷ [])
 
 -- a number times the value of a word
 abbrev pub word_multiple : Result Fraction FracFault → Worth → Worth
-word_multiple x worth = number x >>= λ left. with_worth Multiply left worth
+word_multiple x worth = worth_of_number x >>= λ left. with_worth Multiply left worth

@@ -35,9 +35,9 @@ fraction_step (Ok x) = Ok x
 fraction_step (Err fault) = Err (Number fault)
 
 -- the result of a step on fractions, as a number without exponents
-abbrev pub number : Result Fraction FracFault → Worth
-number (Ok x) = Ok (plain_number x)
-number (Err fault) = Err (Number fault)
+abbrev pub worth_of_number : Result Fraction FracFault → Worth
+worth_of_number (Ok x) = Ok (plain_number x)
+worth_of_number (Err fault) = Err (Number fault)
 
 -- the result of a step on quantities
 abbrev pub amount : Result Amount QuantityFault → Worth
@@ -62,9 +62,9 @@ abbrev pub step_worth : Step → Amount → Amount → Worth
 step_worth step x y = amount (step_of step x y)
 
 -- a root: the power whose exponent is 1 over the degree
-abbrev pub root : RootKind → Amount → Worth
-root kind x = do
-  exponent ← number (ratio (pos 1) (pos (degree kind)))
+abbrev pub root_worth : RootKind → Amount → Worth
+root_worth kind x = do
+  exponent ← worth_of_number (ratio (pos 1) (pos (degree kind)))
   amount (power_of x exponent)
 
 abbrev pub negative_amount : Amount → Amount

@@ -36,9 +36,9 @@ number_in (Some unit) q = fraction_step (fraction_quotient q.value unit.value)
 number_in None q = Ok q.value
 
 -- the number of a quantity in the unit is in the span, if there is one
-abbrev pub inside : (outside : ValueFault) → (unit : Option Amount) → Option Span → Amount → Worth
-inside outside unit None q = Ok q
-inside outside unit (Some span) q = do
+abbrev pub value_inside : (outside : ValueFault) → (unit : Option Amount) → Option Span → Amount → Worth
+value_inside outside unit None q = Ok q
+value_inside outside unit (Some span) q = do
   x ← number_in unit q
   if is_within span x then Ok q else Err outside
 
@@ -48,4 +48,4 @@ abbrev pub end_test : (wrong outside : ValueFault) → (unit : Result (Option Am
 end_test wrong outside unit span q = do
   u ← unit
   _ ← unit_check wrong u span q
-  inside outside u span q
+  value_inside outside u span q

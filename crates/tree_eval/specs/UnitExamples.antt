@@ -10,7 +10,8 @@ use Rattle.quantity.specs.Amount.{Amount}
 use Rattle.tree_eval.specs.declared.fault.ValueFault.TheVariants as fault
 use Rattle.tree_eval.specs.declared.step.Step.{Step}
 use Rattle.tree_eval.specs.declared.step.Step.TheVariants.{Add, Divide, Multiply, Subtract}
-use Rattle.tree_eval.specs.Examples.{by_nothing, example_quotient, half_open, number_three, numeral_expanded, same}
+use Rattle.tree_eval.specs.Examples.{by_nothing, example_quotient, half_open, identity_function, number_three}
+use Rattle.tree_eval.specs.Examples.{numeral_expanded}
 use Rattle.tree_eval.specs.Expansions.{Absent, Alias, Applied, Argument, Callable, Chain, Expanded, Function, Given}
 use Rattle.tree_eval.specs.Expansions.{Link}
 use Rattle.tree_eval.specs.Expansions.{Named, NoLink, Power, Prefixed, Present, Primitive, Root, Table, Unapplied}
@@ -33,8 +34,8 @@ seconds n = measure_of (whole n) (codes "s") (whole (pos 1))
 abbrev pub metre : Expanded
 metre = Named (Primitive (codes "m"))
 
-abbrev pub second : Expanded
-second = Named (Primitive (codes "s"))
+abbrev pub one_second : Expanded
+one_second = Named (Primitive (codes "s"))
 
 -- one step on two expressions
 abbrev pub step_of : Step → Expanded → Expanded → Expanded
@@ -56,7 +57,7 @@ pub record UnitValuesLaw : Type 0 where
   pub with_a_prefix : value_alone (Prefixed (numeral_expanded 1000 (pos 0)) (Primitive (codes "m"))) ≡ Ok
       (metres (pos 1000))
   pub ratio_of_like_units : value_alone (step_of Divide metre metre) ≡ Ok one
-  pub reciprocal : value_alone (step_of Divide (numeral_expanded 1 (pos 0)) second)
+  pub reciprocal : value_alone (step_of Divide (numeral_expanded 1 (pos 0)) one_second)
       ≡ Ok (measure_of (whole (pos 1)) (codes "s") (whole (negsuc 0)))
   pub square : value_alone (Power metre (numeral_expanded 2 (pos 0)))
       ≡ Ok (measure_of (whole (pos 1)) (codes "m") (whole (pos 2)))
@@ -64,9 +65,9 @@ pub record UnitValuesLaw : Type 0 where
       (measure_of (whole (pos 1)) (codes "m") (example_quotient (pos 1) 2))
   pub sum : value_alone (step_of Add metre metre) ≡ Ok (metres (pos 2))
   pub difference : value_alone (step_of Subtract metre metre) ≡ Ok (metres (pos 0))
-  pub unlike_sum : value_alone (step_of Add metre second) ≡ Err
+  pub unlike_sum : value_alone (step_of Add metre one_second) ≡ Err
       (fault.NotConformable (metres (pos 1)) (seconds (pos 1)))
-  pub unlike_difference : value_alone (step_of Subtract second metre)
+  pub unlike_difference : value_alone (step_of Subtract one_second metre)
       ≡ Err (fault.NotConformable (seconds (pos 1)) (metres (pos 1)))
   pub sum_with_a_number : value_alone (step_of Add metre number_three)
       ≡ Err (fault.NotConformable (metres (pos 1)) (plain_number (whole (pos 3))))
@@ -76,29 +77,30 @@ pub record UnitValuesLaw : Type 0 where
 
 -- ---- functions
 
-abbrev pub function : (in_unit out_unit : Given) → (domain range : Option Span) → Expanded → (inverse : Given)
+abbrev pub example_function : (in_unit out_unit : Given) → (domain range : Option Span) → Expanded → (inverse : Given)
     → Callable
-function in_unit out_unit domain range forward inverse =
+example_function in_unit out_unit domain range forward inverse =
     Function (codes "f") 1 in_unit out_unit domain range forward inverse
 
 -- a function that returns its argument, with these tests of the argument and of the result
 abbrev pub testing_function : (in_unit out_unit : Given) → (domain range : Option Span) → Callable
-testing_function in_unit out_unit domain range = function in_unit out_unit domain range Argument (Present Argument)
+testing_function in_unit out_unit domain range = example_function in_unit out_unit domain range Argument
+    (Present Argument)
 
 -- a function that is 3 everywhere, and whose inverse is 5 everywhere
 abbrev pub three_and_five : Callable
-three_and_five = function Absent Absent None None number_three (Present (numeral_expanded 5 (pos 0)))
+three_and_five = example_function Absent Absent None None number_three (Present (numeral_expanded 5 (pos 0)))
 
 -- The value at an argument: the argument is tested by the in unit and the domain before the forward expression is
 -- evaluated; its value is then tested by the out unit and the range. The unit is tested before the interval, and the
 -- number in the interval is the number of the quantity in the unit.
 pub record ArgumentLaw : Type 0 where
   pub in_unit : value_alone (Applied (testing_function (Present metre) Absent None None) metre) ≡ Ok (metres (pos 1))
-  pub wrong_argument : value_alone (Applied (testing_function (Present metre) Absent None None) second)
+  pub wrong_argument : value_alone (Applied (testing_function (Present metre) Absent None None) one_second)
       ≡ Err (fault.WrongArgument (codes "f"))
   pub number_for_a_unit : value_alone (Applied (testing_function (Present metre) Absent None None) number_three)
       ≡ Err (fault.WrongArgument (codes "f"))
-  pub wrong_result : value_alone (Applied (testing_function Absent (Present metre) None None) second)
+  pub wrong_result : value_alone (Applied (testing_function Absent (Present metre) None None) one_second)
       ≡ Err (fault.WrongResult (codes "f"))
   pub unit_for_a_number : value_alone (Applied (testing_function Absent Absent (Some half_open) None) metre)
       ≡ Err (fault.WrongArgument (codes "f"))
@@ -110,13 +112,17 @@ pub record ArgumentLaw : Type 0 where
       ≡ Err (fault.NotInRange (codes "f"))
   pub range_in_units : value_alone (Applied (testing_function Absent (Present two_metres) None (Some half_open)) metre)
       ≡ Ok (metres (pos 1))
-  pub unit_before_domain : value_alone (Applied (testing_function (Present metre) Absent (Some half_open) None) second)
+  pub unit_before_domain : value_alone
+      (Applied (testing_function (Present metre) Absent (Some half_open) None) one_second)
       ≡ Err (fault.WrongArgument (codes "f"))
-  pub unit_before_range : value_alone (Applied (testing_function Absent (Present metre) None (Some half_open)) second)
+  pub unit_before_range : value_alone
+      (Applied (testing_function Absent (Present metre) None (Some half_open)) one_second)
       ≡ Err (fault.WrongResult (codes "f"))
-  pub argument_before_value : value_alone (Applied (function (Present metre) Absent None None by_nothing Absent) second)
+  pub argument_before_value : value_alone
+      (Applied (example_function (Present metre) Absent None None by_nothing Absent) one_second)
       ≡ Err (fault.WrongArgument (codes "f"))
-  pub value_before_result : value_alone (Applied (function Absent (Present metre) None None by_nothing Absent) second)
+  pub value_before_result : value_alone
+      (Applied (example_function Absent (Present metre) None None by_nothing Absent) one_second)
       ≡ Err (fault.Number DivisionByZero)
 
 -- An inverse: its argument is tested by the out unit and the range, its result by the in unit and the domain. The
@@ -127,9 +133,9 @@ pub record FunctionInverseLaw : Type 0 where
   pub backward : value_alone (Unapplied three_and_five (numeral_expanded 1 (pos 0))) ≡ Ok (plain_number (whole (pos 5)))
   pub backward_by_alias : value_alone (Unapplied (Alias (codes "g") 2 three_and_five) (numeral_expanded 1 (pos 0)))
       ≡ Ok (plain_number (whole (pos 5)))
-  pub wrong_argument : value_alone (Unapplied (testing_function Absent (Present metre) None None) second)
+  pub wrong_argument : value_alone (Unapplied (testing_function Absent (Present metre) None None) one_second)
       ≡ Err (fault.WrongArgument (codes "f"))
-  pub wrong_result : value_alone (Unapplied (testing_function (Present metre) Absent None None) second)
+  pub wrong_result : value_alone (Unapplied (testing_function (Present metre) Absent None None) one_second)
       ≡ Err (fault.WrongResult (codes "f"))
   pub not_in_range : value_alone
       (Unapplied (testing_function Absent Absent None (Some half_open)) (numeral_expanded 1 (pos 0)))
@@ -137,9 +143,9 @@ pub record FunctionInverseLaw : Type 0 where
   pub not_in_domain : value_alone
       (Unapplied (testing_function Absent Absent (Some half_open) None) (numeral_expanded 1 (pos 0)))
       ≡ Err (fault.NotInDomain (codes "f"))
-  pub too_deep : value_alone (Unapplied (same 17) number_three) ≡ Err (fault.CallsTooDeep (codes "same"))
-  pub not_too_deep : value_alone (Unapplied (same 16) number_three) ≡ Err (fault.NoInverse (codes "same"))
-  pub too_deep_alias : value_alone (Applied (Alias (codes "other") 17 (same 16)) number_three)
+  pub too_deep : value_alone (Unapplied (identity_function 17) number_three) ≡ Err (fault.CallsTooDeep (codes "same"))
+  pub not_too_deep : value_alone (Unapplied (identity_function 16) number_three) ≡ Err (fault.NoInverse (codes "same"))
+  pub too_deep_alias : value_alone (Applied (Alias (codes "other") 17 (identity_function 16)) number_three)
       ≡ Err (fault.CallsTooDeep (codes "other"))
 
 -- ---- tables
@@ -148,19 +154,21 @@ pub record FunctionInverseLaw : Type 0 where
 abbrev pub table_of_rank : ℕ → Callable
 table_of_rank rank = Table (codes "t") rank metre ((whole (pos 1), whole (pos 0)) ∷ (whole (pos 3), whole (pos 2)) ∷ [])
 
-abbrev pub table : Callable
-table = table_of_rank 1
+abbrev pub example_table : Callable
+example_table = table_of_rank 1
 
 -- A table takes a number and returns a quantity in its unit; its inverse takes a quantity that conforms to the unit,
 -- and returns a number. Between two points both follow the straight line; outside the points there is no value.
 pub record TableValuesLaw : Type 0 where
-  pub forward : value_alone (Applied table (numeral_expanded 2 (pos 0))) ≡ Ok (metres (pos 1))
-  pub backward : value_alone (Unapplied table metre) ≡ Ok (plain_number (whole (pos 2)))
-  pub above : value_alone (Applied table (numeral_expanded 4 (pos 0))) ≡ Err (fault.OutsideTable (codes "t"))
-  pub below : value_alone (Applied table (numeral_expanded 0 (pos 0))) ≡ Err (fault.OutsideTable (codes "t"))
-  pub wrong_argument : value_alone (Applied table metre) ≡ Err (fault.WrongArgument (codes "t"))
-  pub wrong_value : value_alone (Unapplied table second) ≡ Err (fault.WrongArgument (codes "t"))
-  pub number_for_a_unit : value_alone (Unapplied table number_three) ≡ Err (fault.WrongArgument (codes "t"))
+  pub forward : value_alone (Applied example_table (numeral_expanded 2 (pos 0))) ≡ Ok (metres (pos 1))
+  pub backward : value_alone (Unapplied example_table metre) ≡ Ok (plain_number (whole (pos 2)))
+  pub above_table : value_alone (Applied example_table (numeral_expanded 4 (pos 0))) ≡ Err
+      (fault.OutsideTable (codes "t"))
+  pub below_table : value_alone (Applied example_table (numeral_expanded 0 (pos 0))) ≡ Err
+      (fault.OutsideTable (codes "t"))
+  pub wrong_argument : value_alone (Applied example_table metre) ≡ Err (fault.WrongArgument (codes "t"))
+  pub wrong_value : value_alone (Unapplied example_table one_second) ≡ Err (fault.WrongArgument (codes "t"))
+  pub number_for_a_unit : value_alone (Unapplied example_table number_three) ≡ Err (fault.WrongArgument (codes "t"))
   pub too_deep : value_alone (Applied (table_of_rank 17) number_three) ≡ Err (fault.CallsTooDeep (codes "t"))
   pub backward_too_deep : value_alone (Unapplied (table_of_rank 17) metre) ≡ Err (fault.CallsTooDeep (codes "t"))
 

@@ -17,9 +17,9 @@ use Rattle.tree_eval.specs.Expansions.{Uncalled, Applied, Unapplied, Root, Group
 use Rattle.tree_eval.specs.Expansions.{Links, NoLink, Link, Callable, Function, Alias, Table, Given, Absent, Present}
 use Rattle.tree_eval.specs.Expansions.{callable_name}
 use Rattle.units_io.specs.Outcomes.{◌>>=◌}
-use Rattle.tree_eval.specs.Steps.{Worth, amount, step_worth, negative_amount, number, numeral_quotient, one}
+use Rattle.tree_eval.specs.Steps.{Worth, amount, step_worth, negative_amount, numeral_quotient, one, worth_of_number}
 use Rattle.tree_eval.specs.Steps.{plain_number}
-use Rattle.tree_eval.specs.Steps.{root}
+use Rattle.tree_eval.specs.Steps.{root_worth}
 use Rattle.tree_eval.specs.Tests.{end_test}
 
 -- the quantity 1 of a primitive unit
@@ -27,9 +27,9 @@ abbrev pub primitive : List ℕ → Amount
 primitive name = record { value = whole (pos 1); exponents = map_of.insert map_of.empty name (whole (pos 1)) }
 
 -- the argument, or 1 if none is given
-abbrev pub argument : Option Amount → Amount
-argument (Some a) = a
-argument None = one
+abbrev pub argument_or_one : Option Amount → Amount
+argument_or_one (Some a) = a
+argument_or_one None = one
 
 -- the greatest rank of a function that may be called
 abbrev pub most_rank : ℕ
@@ -52,15 +52,15 @@ as_number name x = if is_number x then Ok x else Err (fault.WrongArgument name)
 -- a quantity that conforms to the unit of a table, as a number in that unit
 abbrev pub in_unit_of : List ℕ → Amount → Amount → Worth
 in_unit_of name unit x =
-    if conform x.exponents unit.exponents then number (fraction_quotient x.value unit.value) else Err
+    if conform x.exponents unit.exponents then worth_of_number (fraction_quotient x.value unit.value) else Err
     (fault.WrongArgument name)
 
 abbrev mutual
   -- a: the argument of the function whose expression this is
   pub value : Expanded → Option Amount → Worth
-  value (Number x) a = number (value_of_decimal x)
-  value (Bar x y) a = number (numeral_quotient x y)
-  value Argument a = Ok (argument a)
+  value (Number x) a = worth_of_number (value_of_decimal x)
+  value (Bar x y) a = worth_of_number (numeral_quotient x y)
+  value Argument a = Ok (argument_or_one a)
   value (Primitive name) a = Ok (primitive name)
   value Dimensionless a = Ok one
   value (Named x) a = value x None
@@ -77,7 +77,7 @@ abbrev mutual
     inverse_value_at f b
   value (Root kind x) a = do
     v ← value x a
-    root kind v
+    root_worth kind v
   value (Group x) a = value x a
   value (Negated x) a = do
     v ← value x a

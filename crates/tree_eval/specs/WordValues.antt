@@ -15,15 +15,15 @@ use Rattle.units_io.specs.Outcomes.{◌>>=◌}
 use Rattle.tree_eval.specs.Steps.{Worth, amount}
 
 -- a prefix times a unit
-abbrev pub both : Worth → Worth → Worth
-both prefix unit = do
+abbrev pub both_worths : Worth → Worth → Worth
+both_worths prefix unit = do
   p ← prefix
   u ← unit
   amount (product_of p u)
 
 abbrev pub told_worth : (ℕ → Callable) → Meaning → Worth
 told_worth callee (One o) = worth_in o.now
-told_worth callee (Two p u) = both (worth_in p.now) (worth_in u.now)
+told_worth callee (Two p u) = both_worths (worth_in p.now) (worth_in u.now)
 told_worth callee (Function id) = Err (NeedsArgument (callable_name (callee id)))
 
 -- no outcome is that of a function, and the number is the number of one

@@ -30,7 +30,7 @@ pub(crate) fn number_answer(
     alloc: Global,
     answer: Result<Frac, FracFault>,
 ) -> Result<Quantity, EvalFault>
-    ensures { IsEvalResult result (spec.number answer) }
+    ensures { IsEvalResult result (spec.worth_of_number answer) }
 {
     match answer {
         Ok(x) => Ok(Quantity::number(alloc, x)),

@@ -123,7 +123,7 @@ impl<'f> End<'f> {
         unit: Option<&Quantity>,
         q: &Quantity,
     ) -> Result<(), EvalFault>
-        ensures { GivesWorth (λ _. q.now) result (spec.inside (refusal_fault self.now.outside name.now)
+        ensures { GivesWorth (λ _. q.now) result (spec.value_inside (refusal_fault self.now.outside name.now)
             (option_copied unit.entry) self.now.span.now q.now) }
     {
         let Some(span) = self.span else {

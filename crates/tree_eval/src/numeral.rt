@@ -14,7 +14,7 @@ use std::alloc::Global;
 // Stores the value of a numeral.
 #[inline(never)]
 pub(crate) fn put_numeral(alloc: Global, x: &Numeral, held: &mut Held<'_>) -> Result<(), EvalFault>
-    ensures { GivesWorth (λ _. amount_in held.new) result (spec.number (value_of_decimal x.now)) }
+    ensures { GivesWorth (λ _. amount_in held.new) result (spec.worth_of_number (value_of_decimal x.now)) }
 {
     *held = Held::Own(number_answer(alloc, x.value())?);
     Ok(())
@@ -28,7 +28,7 @@ pub(crate) fn put_bar(
     y: &Numeral,
     held: &mut Held<'_>,
 ) -> Result<(), EvalFault>
-    ensures { GivesWorth (λ _. amount_in held.new) result (spec.number (spec.numeral_quotient x.now y.now)) }
+    ensures { GivesWorth (λ _. amount_in held.new) result (spec.worth_of_number (spec.numeral_quotient x.now y.now)) }
 {
     *held = Held::Own(number_answer(alloc, quotient(x, y))?);
     Ok(())

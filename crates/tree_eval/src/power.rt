@@ -29,7 +29,7 @@ pub(crate) fn take_power(
 // Replaces the held quantity by its root of the given kind.
 #[inline(never)]
 pub(crate) fn take_root(alloc: Global, kind: RootKind, held: &mut Held<'_>) -> Result<(), EvalFault>
-    ensures { GivesWorth (λ _. amount_in held.new) result (spec.root kind (amount_in held.old)) }
+    ensures { GivesWorth (λ _. amount_in held.new) result (spec.root_worth kind (amount_in held.old)) }
 {
     let base = held.take(alloc);
     *held = Held::Own(root(alloc, kind, base)?);
@@ -46,7 +46,7 @@ fn power(alloc: Global, base: Held<'_>, exponent: &Quantity) -> Result<Quantity,
 
 // Returns the root of the given kind.
 fn root(alloc: Global, kind: RootKind, base: Held<'_>) -> Result<Quantity, EvalFault>
-    ensures { IsEvalResult result (spec.root kind (amount_in base.entry)) }
+    ensures { IsEvalResult result (spec.root_worth kind (amount_in base.entry)) }
 {
     let exponent = number_answer(alloc, Frac::new(1, i128::from(kind.degree())))?;
     power(alloc, base, &exponent)

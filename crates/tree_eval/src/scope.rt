@@ -11,7 +11,7 @@ ghost use Rattle.tree_eval.specs.Answers.{GivesWorth, IsEvalResult, amount_in};
 ghost use Rattle.tree_eval.specs.Directions.{direction_value, operand_expansion};
 ghost use Rattle.tree_eval.specs.Environment.{IsMeaningTold, Stand};
 ghost use Rattle.tree_eval.specs.Expansions as expanded;
-ghost use Rattle.tree_eval.specs.Expansion.{expand, plain};
+ghost use Rattle.tree_eval.specs.Expansion.{expand, expanded_meaning};
 ghost use Rattle.tree_eval.specs.Operands.{by_side, chain, operands_of, with_worth, words_of_members};
 ghost use Rattle.tree_eval.specs.WordValues.{IsUsable};
 ghost use Rattle.tree_eval.specs.Value as spec;
@@ -192,7 +192,7 @@ impl<'a, E: Env> Scope<'a, E> {
         requires { place.old < length (E.words self.now.env.now self.now.holder) }
         ensures worth { (u : WordUse) → slice_get (E.words self.now.env.now self.now.holder) place.old ≡ Some u
             → GivesWorth (λ _. amount_in held.new) result
-            (spec.value (plain (E.means self.now.env.now u)) (option_copied self.now.arg)) }
+            (spec.value (expanded_meaning (E.means self.now.env.now u)) (option_copied self.now.arg)) }
         ensures place { place.new ≡ place.old + 1 }
     {
         put_word(self.alloc, self.env, self.next_meaning(place), held)
@@ -204,7 +204,7 @@ impl<'a, E: Env> Scope<'a, E> {
         requires { place.old < length (E.words self.now.env.now self.now.holder) }
         ensures worth { (u : WordUse) → slice_get (E.words self.now.env.now self.now.holder) place.old ≡ Some u
             → GivesWorth (λ _. amount_in held.new) result (with_worth step (amount_in held.old)
-            (spec.value (plain (E.means self.now.env.now u)) (option_copied self.now.arg))) }
+            (spec.value (expanded_meaning (E.means self.now.env.now u)) (option_copied self.now.arg))) }
         ensures place { place.new ≡ place.old + 1 }
     {
         take_word(self.alloc, self.env, held, step, self.next_meaning(place))
@@ -349,7 +349,7 @@ impl<'a, E: Env> Scope<'a, E> {
 // Stores the argument, or 1 if none is given.
 #[inline(never)]
 fn put_argument<'a>(alloc: Global, arg: Option<&'a Quantity>, held: &mut Held<'a>)
-    ensures { amount_in held.new ≡ spec.argument (option_copied arg.entry) }
+    ensures { amount_in held.new ≡ spec.argument_or_one (option_copied arg.entry) }
 {
     *held = match arg {
         Some(arg) => Held::Lent(arg),

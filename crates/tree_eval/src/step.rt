@@ -105,7 +105,7 @@ impl Step {
         right: &Numeral,
     ) -> Result<(), EvalFault>
         ensures { GivesWorth (λ _. amount_in held.new) result
-            (with_worth self (amount_in held.old) (spec.number (value_of_decimal right.now))) }
+            (with_worth self (amount_in held.old) (spec.worth_of_number (value_of_decimal right.now))) }
     {
         let right = fraction_answer(alloc, right.value())?;
         let left = held.take(alloc);

@@ -89,7 +89,7 @@ pub(crate) fn join_word<'a, E: Env>(
 fn both(alloc: Global, prefix: &Outcome, unit: &Outcome) -> Result<Quantity, EvalFault>
     requires prefix { prefix.now ≢ Outcome.Callable }
     requires unit { unit.now ≢ Outcome.Callable }
-    ensures { answer.IsEvalResult result (spec.both (worth_in prefix.now) (worth_in unit.now)) }
+    ensures { answer.IsEvalResult result (spec.both_worths (worth_in prefix.now) (worth_in unit.now)) }
 {
     let prefix = quantity_of(alloc, prefix)?;
     let unit = quantity_of(alloc, unit)?;

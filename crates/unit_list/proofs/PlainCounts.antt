@@ -14,7 +14,7 @@ use Rattle.frac128.specs.Steps.{◌>>=◌, ReducedLaw, fraction_product, fractio
 use Rattle.frac128.specs.Sums.{minus}
 use Rattle.unit_list.specs.declared.part.Part.{Part}
 use Rattle.frac128.specs.Exact.{difference, product, sum}
-use Rattle.unit_list.specs.Counts.{AreGreatest, IsGreatest, IsUnit, total}
+use Rattle.unit_list.specs.Counts.{AreGreatest, IsGreatest, IsUnit, total_of_counts}
 use Rattle.frac128.specs.Sign.{magnitude}
 use Rattle.unit_list.specs.Splits.{counts_of, part_of}
 use Rattle.unit_list.proofs.Values.{HasValue, floor_value, minus_value, over_lowest, over_value, times_value}
@@ -27,11 +27,11 @@ pub record Goes {A B : Type 0} (first : Result A FracFault) (step : A → Result
   pub step_is : step value ≡ Ok answer
 
 -- if a step succeeds, its first part does
-pub goes : {A B : Type 0} (first : Result A FracFault) (step : A → Result B FracFault) (answer : B)
+pub first_part_succeeds : {A B : Type 0} (first : Result A FracFault) (step : A → Result B FracFault) (answer : B)
     → (first >>= step) ≡ Ok answer
     → Goes first step answer
-goes (Ok x) step answer h = record { value = x; first_is = refl; step_is = h }
-goes (Err fault) step answer h = absurd (cc)
+first_part_succeeds (Ok x) step answer h = record { value = x; first_is = refl; step_is = h }
+first_part_succeeds (Err fault) step answer h = absurd (cc)
 
 -- two results of the same step are equal
 pub ok_same : {A : Type 0} (result : Result A FracFault) (x y : A) → result ≡ Ok x → result ≡ Ok y → x ≡ y
@@ -45,7 +45,7 @@ pub record HasNatural (unit : Fraction) : Type 0 where
 
 -- the numerator of a unit is a natural number above 0
 pub unit_natural : (unit : Fraction) → IsUnit unit → HasNatural unit
-unit_natural unit is = by_num unit.num refl is.positive
+unit_natural unit is = by_num unit.num refl is.unit_positive
   where
     by_num : (z : ℤ) → unit.num ≡ z → pos 0 <ℤ z → HasNatural unit
     by_num (pos n) e some = record { num = n; num_is = e; some = omega (arith, ints) }
@@ -66,9 +66,9 @@ pub part_is : ReducedLaw → LcmLaw → (x unit : Fraction) (a b c : ℕ) (part 
     → 0 < c → 0 < unit.den
     → part_of x unit ≡ Ok part → IsPart a b c unit.den part
 part_is law multiples x unit a b c part is some_b c_is some_c some_d h =
-    let quotient = goes (fraction_quotient x unit) _ part h in
-    let taken = goes (fraction_product (floor_of quotient.value) unit) _ part quotient.step_is in
-    let rest = goes (minus x taken.value) _ part taken.step_is in
+    let quotient = first_part_succeeds (fraction_quotient x unit) _ part h in
+    let taken = first_part_succeeds (fraction_product (floor_of quotient.value) unit) _ part quotient.step_is in
+    let rest = first_part_succeeds (minus x taken.value) _ part taken.step_is in
     let q = over_value law x unit quotient.value a b c is c_is some_d some_c some_b quotient.first_is in
     let k = q.num / quotient.value.den in
     let floor_is : floor_of quotient.value ≡ whole (pos k) = floor_value quotient.value q.num q.num_is in
@@ -152,8 +152,8 @@ greatest_part : (y unit count : Fraction) (a b c k : ℕ) → HasValue y a b →
 greatest_part y unit count a b c k is some_b c_is some_d count_is low high =
     rw count_is (record {
       is_whole = refl;
-      leaves = rw (c_is, is.num_is) (natural_at_most _ _ (at_most is.num y.den is.same));
-      next = rw (c_is, is.num_is) (natural_less _ _ (less is.num y.den is.positive is.same));
+      is_at_most = rw (c_is, is.num_is) (natural_at_most _ _ (at_most is.num y.den is.same));
+      next_is_more = rw (c_is, is.num_is) (natural_less _ _ (less is.num y.den is.positive is.same));
     })
   where
     natural_at_most : (m n : ℕ) → m ≤ n → pos m ≤ℤ pos n
@@ -264,7 +264,7 @@ difference_value y unit count a b c k left is c_is some_d count_is left_is some_
 -- the counts of the value a / b
 pub record AreCounts (a b : ℕ) (units counts : List Fraction) : Type 0 where
   pub one_each : length counts ≡ length units
-  pub sum : HasValue (total counts units) a b
+  pub sum : HasValue (total_of_counts counts units) a b
   pub greatest : (y : Fraction) → HasValue y a b → AreGreatest y units counts
   pub plain : map magnitude counts ≡ counts
   pub lowest : All IsReduced counts
@@ -278,7 +278,7 @@ counts_are law multiples [] counts x a b is some_b units_are some h = absurd (om
 counts_are law multiples (unit ∷ []) counts x a b is some_b units_are some h =
     let unit_is : IsUnit unit = All-head IsUnit unit [] units_are in
     let natural = unit_natural unit unit_is in
-    let quotient = goes (fraction_quotient x unit) _ counts h in
+    let quotient = first_part_succeeds (fraction_quotient x unit) _ counts h in
     let q =
     over_value law x unit quotient.value a b natural.num is natural.num_is unit_is.denominator natural.some some_b
     quotient.first_is in
@@ -312,8 +312,8 @@ counts_are law multiples (unit ∷ []) counts x a b is some_b units_are some h =
 counts_are law multiples (unit ∷ next ∷ units) counts x a b is some_b units_are some h =
     let unit_is : IsUnit unit = All-head IsUnit unit (next ∷ units) units_are in
     let natural = unit_natural unit unit_is in
-    let part = goes (part_of x unit) _ counts h in
-    let others = goes (counts_of part.value.rest (next ∷ units)) _ counts part.step_is in
+    let part = first_part_succeeds (part_of x unit) _ counts h in
+    let others = first_part_succeeds (counts_of part.value.rest (next ∷ units)) _ counts part.step_is in
     let taken =
     part_is law multiples x unit a b natural.num part.value is some_b natural.num_is natural.some unit_is.denominator
     part.first_is in
@@ -325,9 +325,10 @@ counts_are law multiples (unit ∷ next ∷ units) counts x a b is some_b units_
     let low : taken.count * natural.num * b ≤ a * unit.den = smaller _ _ _ taken.left_is in
     subst (AreCounts a b (unit ∷ next ∷ units)) counts_is (record {
       one_each = ap suc rest.one_each;
-      sum = subst (λ z. HasValue (sum (product z unit) (total others.value (next ∷ units))) a b) (sym taken.count_is)
+      sum = subst (λ z. HasValue (sum (product z unit) (total_of_counts others.value (next ∷ units))) a b)
+          (sym taken.count_is)
           (sum_value taken.count natural.num taken.left b unit
-          (total others.value (next ∷ units)) a natural.num_is unit_is.denominator rest.sum taken.left_is);
+          (total_of_counts others.value (next ∷ units)) a natural.num_is unit_is.denominator rest.sum taken.left_is);
       greatest = λ y value. (
         greatest_part y unit part.value.count a b natural.num taken.count value some_b natural.num_is
             unit_is.denominator taken.count_is low taken.next,

@@ -12,10 +12,11 @@ use Rattle.frac128.specs.Divisors.{LcmLaw}
 use Rattle.frac128.specs.Fraction.{Fraction, IsReduced, SameValue, negative_of, whole}
 use Rattle.frac128.specs.Steps.{ReducedLaw, fraction_quotient, lowest_terms}
 use Rattle.frac128.specs.Exact.{product, sum}
-use Rattle.unit_list.specs.Counts.{AreGreatest, IsSplitOf, IsUnit, SplitLaw, magnitude_quotient, split_number, total}
+use Rattle.unit_list.specs.Counts.{AreGreatest, IsSplitOf, IsUnit, SplitLaw, magnitude_quotient, split_number}
+use Rattle.unit_list.specs.Counts.{total_of_counts}
 use Rattle.frac128.specs.Sign.{is_negative, magnitude, negated_if}
 use Rattle.unit_list.specs.Splits.{counts_of, last_of, nearest_to, rounded_if}
-use Rattle.unit_list.proofs.PlainCounts.{AreCounts, counts_are, goes, ok_same, unit_natural}
+use Rattle.unit_list.proofs.PlainCounts.{AreCounts, counts_are, first_part_succeeds, ok_same, unit_natural}
 use Rattle.unit_list.proofs.Values.{over_reduced, own_value, times_value}
 
 -- the negative of a product is the product with the negative
@@ -32,17 +33,19 @@ abs-neg (negsuc n) = refl
 
 -- the sum of negated counts is the negative of their sum
 pub total-negated : (counts units : List Fraction) → All IsUnit units
-    → total (map negative_of counts) units ≡ negative_of (total counts units)
+    → total_of_counts (map negative_of counts) units ≡ negative_of (total_of_counts counts units)
 total-negated [] units are = refl
 total-negated (count ∷ counts) [] are = refl
 total-negated (count ∷ counts) (unit ∷ units) are =
     let natural = unit_natural unit (All-head IsUnit unit units are) in
     ap (sum (product (negative_of count) unit)) (total-negated counts units (All-tail IsUnit unit units are))
-    ∙ ap (λ z. record { num = z; den = count.den * unit.den * (total counts units).den })
-    (ap (λ u. neg_ℤ count.num *ℤ u *ℤ pos (total counts units).den +ℤ neg_ℤ (total counts units).num
+    ∙ ap (λ z. record { num = z; den = count.den * unit.den * (total_of_counts counts units).den })
+    (ap (λ u. neg_ℤ count.num *ℤ u *ℤ pos (total_of_counts counts units).den +ℤ neg_ℤ (total_of_counts counts units).num
     *ℤ pos (count.den * unit.den)) natural.num_is
-    ∙ turned count.num (total counts units).num natural.num (total counts units).den (count.den * unit.den)
-    ∙ sym (ap (λ u. neg_ℤ (count.num *ℤ u *ℤ pos (total counts units).den +ℤ (total counts units).num
+    ∙ turned count.num (total_of_counts counts units).num natural.num (total_of_counts counts units).den
+    (count.den * unit.den)
+    ∙ sym (ap (λ u. neg_ℤ
+    (count.num *ℤ u *ℤ pos (total_of_counts counts units).den +ℤ (total_of_counts counts units).num
     *ℤ pos (count.den * unit.den))) natural.num_is))
   where
     turned : (z t : ℤ) (n d k : ℕ)
@@ -84,12 +87,12 @@ sign_back x = by_num x.num x.den
 -- negating a fraction preserves lowest terms
 negated_lowest : (x : Fraction) → IsReduced x → IsReduced (negative_of x)
 negated_lowest x is =
-    record { positive = is.positive; lowest = subst (λ n. IsGcd n x.den 1) (sym (abs-neg x.num)) is.lowest }
+    record { den_positive = is.den_positive; coprime = subst (λ n. IsGcd n x.den 1) (sym (abs-neg x.num)) is.coprime }
 
 -- the counts with a sign are those of a split of y
 record AreSigned (negative : Bool) (y : Fraction) (units counts : List Fraction) : Type 0 where
   one_each : length counts ≡ length units
-  sum : SameValue (total counts units) y
+  sum : SameValue (total_of_counts counts units) y
   greatest : AreGreatest (magnitude y) units (map magnitude counts)
   signs : counts ≡ map (negated_if negative) (map magnitude counts)
   lowest : All IsReduced counts
@@ -112,8 +115,8 @@ signed_split true a b units counts some units_are are = record {
   one_each = length-map counts (negated_if true) ∙ are.one_each;
   sum = subst (λ t. SameValue t (negative_of (record { num = pos a; den = b })))
       (sym (total-negated counts units units_are))
-      (sym (neg-times (total counts units).num b) ∙ ap (λ z. neg_ℤ (z *ℤ pos b)) are.sum.num_is
-      ∙ ap (λ n. neg_ℤ (pos n)) are.sum.same ∙ neg-times (pos a) (total counts units).den);
+      (sym (neg-times (total_of_counts counts units).num b) ∙ ap (λ z. neg_ℤ (z *ℤ pos b)) are.sum.num_is
+      ∙ ap (λ n. neg_ℤ (pos n)) are.sum.same ∙ neg-times (pos a) (total_of_counts counts units).den);
   greatest = subst (λ n. AreGreatest (record { num = pos n; den = b }) units
       (map magnitude (map (negated_if true) counts))) (sym (abs-neg (pos a)))
       (subst (AreGreatest (record { num = pos a; den = b }) units) (sym (magnitudes-negated counts ∙ are.plain))
@@ -129,7 +132,7 @@ split_of : (round : Bool) (x y : Fraction) (units counts : List Fraction) → y 
     → IsSplitOf round x units counts
 split_of round x y units counts same are = record {
   one_each = are.one_each;
-  sum = subst (SameValue (total counts units)) same are.sum;
+  sum = subst (SameValue (total_of_counts counts units)) same are.sum;
   greatest = subst (λ y. AreGreatest (magnitude y) units (map magnitude counts)) same are.greatest;
   signs = are.signs;
   lowest = are.lowest;
@@ -146,7 +149,7 @@ last_unit (unit ∷ next ∷ units) some are =
 -- the law that the counts are those of a split
 pub split_law : ReducedLaw → LcmLaw → SplitLaw
 split_law law multiples false x units counts some many units_are h =
-    let inner = goes (counts_of (magnitude x) units) _ counts h in
+    let inner = first_part_succeeds (counts_of (magnitude x) units) _ counts h in
     let are =
     counts_are law multiples units inner.value (magnitude x) (unsigned_abs x.num) x.den
     (own_value (magnitude x) (unsigned_abs x.num) refl some) some units_are many inner.first_is in
@@ -157,9 +160,9 @@ split_law law multiples true x units counts some many units_are h =
     let unit = last_of units in
     let unit_is = last_unit units many units_are in
     let natural = unit_natural unit unit_is in
-    let amount = goes (rounded_if true unit (magnitude x)) _ counts h in
-    let quotient = goes (fraction_quotient (magnitude x) unit) _ amount.value amount.first_is in
-    let inner = goes (counts_of amount.value units) _ counts amount.step_is in
+    let amount = first_part_succeeds (rounded_if true unit (magnitude x)) _ counts h in
+    let quotient = first_part_succeeds (fraction_quotient (magnitude x) unit) _ amount.value amount.first_is in
+    let inner = first_part_succeeds (counts_of amount.value units) _ counts amount.step_is in
     let n = nearest_to quotient.value in
     let value = times_value law n natural.num unit amount.value natural.num_is unit_is.denominator quotient.step_is in
     let are =

@@ -12,7 +12,8 @@ use Rattle.frac128.specs.Exact.{difference, product, sum}
 use Rattle.frac128.specs.Fraction.{Fraction, IsReduced, SameValue, whole}
 use Rattle.frac128.specs.Sign.{is_negative, magnitude, negated_if}
 use Rattle.frac128.specs.Steps.{ReducedLaw}
-use Rattle.unit_list.specs.Counts.{AreGreatest, IsGreatest, IsUnit, UniqueLaw, magnitude_quotient, split_number, total}
+use Rattle.unit_list.specs.Counts.{AreGreatest, IsGreatest, IsUnit, UniqueLaw, magnitude_quotient, split_number}
+use Rattle.unit_list.specs.Counts.{total_of_counts}
 use Rattle.unit_list.specs.Splits.{last_of, nearest_to}
 use Rattle.unit_list.proofs.SignedCounts.{abs-neg, last_unit, map-plain, total-negated}
 use Rattle.unit_list.proofs.PlainCounts.{difference_value, unit_natural}
@@ -32,7 +33,7 @@ plain_magnitudes (count ∷ counts) are = (
     num = unsigned_abs count.num;
     num_is = refl;
     reduced =
-        record { positive = are.0.positive; lowest = are.0.lowest };
+        record { den_positive = are.0.den_positive; coprime = are.0.coprime };
   },
   plain_magnitudes counts are.1,
 )
@@ -45,21 +46,22 @@ record IsNatural (x : Fraction) : Type 0 where
 
 -- the sum of such counts times units has a natural numerator
 total_natural : (counts units : List Fraction) → Each IsPlain counts → Each IsUnit units
-    → IsNatural (total counts units)
+    → IsNatural (total_of_counts counts units)
 total_natural [] units are units_are = record { num = 0; num_is = refl; positive = omega arith }
 total_natural (count ∷ counts) [] are units_are = record { num = 0; num_is = refl; positive = omega arith }
 total_natural (count ∷ counts) (unit ∷ units) are units_are =
     let rest = total_natural counts units are.1 units_are.1 in
     let natural = unit_natural unit units_are.0 in
     record {
-      num = are.0.num * natural.num * (total counts units).den + rest.num * (count.den * unit.den);
-      num_is = ap (λ z. z *ℤ unit.num *ℤ pos (total counts units).den +ℤ (total counts units).num
+      num = are.0.num * natural.num * (total_of_counts counts units).den + rest.num * (count.den * unit.den);
+      num_is = ap (λ z. z *ℤ unit.num *ℤ pos (total_of_counts counts units).den +ℤ (total_of_counts counts units).num
           *ℤ pos (count.den * unit.den)) are.0.num_is
-          ∙ ap (λ z. pos are.0.num *ℤ z *ℤ pos (total counts units).den +ℤ (total counts units).num
+          ∙ ap (λ z. pos are.0.num *ℤ z *ℤ pos (total_of_counts counts units).den +ℤ (total_of_counts counts units).num
           *ℤ pos (count.den * unit.den)) natural.num_is
-          ∙ ap (λ z. pos (are.0.num * natural.num * (total counts units).den) +ℤ z *ℤ pos (count.den * unit.den))
+          ∙ ap (λ z. pos (are.0.num * natural.num * (total_of_counts counts units).den) +ℤ z *ℤ pos
+          (count.den * unit.den))
           rest.num_is;
-      positive = mul-pos {m = count.den * unit.den} (mul-pos are.0.reduced.positive units_are.0.denominator)
+      positive = mul-pos {m = count.den * unit.den} (mul-pos are.0.reduced.den_positive units_are.0.denominator)
           rest.positive;
     }
 
@@ -85,8 +87,9 @@ greatest_bounds : (y unit count : Fraction) (a b c k : ℕ) → HasValue y a b �
     → AreBounds a b c unit.den k
 greatest_bounds y unit count a b c k is some_b c_is count_is greatest =
     let at : IsGreatest y unit (whole (pos k)) = subst (IsGreatest y unit) count_is greatest in
-    let leaves : k * c * y.den ≤ is.num * (1 * unit.den) = natural_low _ _ (rw (c_is, is.num_is) at at.leaves) in
-    let next : is.num * (1 * unit.den) < (k + 1) * c * y.den = natural_high _ _ (rw (c_is, is.num_is) at at.next) in
+    let leaves : k * c * y.den ≤ is.num * (1 * unit.den) = natural_low _ _ (rw (c_is, is.num_is) at at.is_at_most) in
+    let next : is.num * (1 * unit.den) < (k + 1) * c * y.den =
+    natural_high _ _ (rw (c_is, is.num_is) at at.next_is_more) in
     record {
       low = below is.num y.den unit.den is.positive is.same leaves;
       high =
@@ -174,7 +177,7 @@ rest_value count c a b left unit rest c_is natural left_is is = record {
 
 -- the last count times its unit has the value that is left
 last_value : (c a b : ℕ) (unit count : Fraction) → unit.num ≡ pos c → (is : IsPlain count)
-    → HasValue (total (count ∷ []) (unit ∷ [])) a b
+    → HasValue (total_of_counts (count ∷ []) (unit ∷ [])) a b
     → is.num * (c * b) ≡ a * unit.den * count.den
 last_value c a b unit count c_is is value = gather is.num ∙ ap (λ z. z * b) (sym whole_is) ∙ value.same
     ∙ turn count.den unit.den
@@ -198,7 +201,7 @@ one_last law k l count other is of some first second =
     cancelled _ _ k some (crossed is.num of.num count.den other.den first second) in
     let same : SameValue count other =
     ap (λ z. z *ℤ pos other.den) is.num_is ∙ ap pos cross ∙ ap (λ z. z *ℤ pos count.den) (sym of.num_is) in
-    let unique = (law other.num other.den of.reduced.positive).2 in
+    let unique = (law other.num other.den of.reduced.den_positive).2 in
     unique count is.reduced same ∙ sym (unique other of.reduced refl)
   where
     crossed : (m n d e : ℕ) → m * k ≡ l * d → n * k ≡ l * e → m * e * k ≡ n * d * k
@@ -224,7 +227,7 @@ same_counts : ReducedLaw → (units ms ns : List Fraction) (y : Fraction) (a b :
     → Each IsUnit units
     → Each IsPlain ms → Each IsPlain ns
     → length ms ≡ length units → length ns ≡ length units → AreGreatest y units ms → AreGreatest y units ns
-    → HasValue (total ms units) a b → HasValue (total ns units) a b → ms ≡ ns
+    → HasValue (total_of_counts ms units) a b → HasValue (total_of_counts ns units) a b → ms ≡ ns
 same_counts law [] [] [] y a b is some units_are plain others one_each others_each greatest others_greatest value
     others_value = refl
 same_counts law [] [] (n ∷ ns) y a b is some units_are plain others one_each others_each greatest others_greatest value
@@ -264,8 +267,8 @@ same_counts law (unit ∷ next ∷ units) (m ∷ ms) (n ∷ ns) y a b is some un
     let left_is : left + k * c * b ≡ a * d = together (a * d) (k * c * b) bounds.low in
     let rest = total_natural ms (next ∷ units) plain.1 units_are.1 in
     let others_rest = total_natural ns (next ∷ units) others.1 units_are.1 in
-    let first = subst (λ z. HasValue (sum (product z unit) (total ms (next ∷ units))) a b) m_is value in
-    let second = subst (λ z. HasValue (sum (product z unit) (total ns (next ∷ units))) a b)
+    let first = subst (λ z. HasValue (sum (product z unit) (total_of_counts ms (next ∷ units))) a b) m_is value in
+    let second = subst (λ z. HasValue (sum (product z unit) (total_of_counts ns (next ∷ units))) a b)
     (sym same ∙ m_is) others_value in
     ap₂ (λ z zs. z ∷ zs) same
     (same_counts law (next ∷ units) ms ns (difference y (product m unit)) left (b * d)
@@ -273,8 +276,8 @@ same_counts law (unit ∷ next ∷ units) (m ∷ ms) (n ∷ ns) y a b is some un
     (mul-pos some units_are.0.denominator)
     units_are.1 plain.1 others.1 (omega arith) (omega arith)
     greatest.1 (subst (λ z. AreGreatest (difference y (product z unit)) (next ∷ units) ns) (sym same) others_greatest.1)
-    (rest_value k c a b left unit (total ms (next ∷ units)) natural.num_is rest left_is first)
-    (rest_value k c a b left unit (total ns (next ∷ units)) natural.num_is others_rest left_is second))
+    (rest_value k c a b left unit (total_of_counts ms (next ∷ units)) natural.num_is rest left_is first)
+    (rest_value k c a b left unit (total_of_counts ns (next ∷ units)) natural.num_is others_rest left_is second))
   where
     together : (m n : ℕ) → n ≤ m → m - n + n ≡ m
     together m n h = omega arith
@@ -289,8 +292,8 @@ abs-times (negsuc n) k = abs-neg (pos (suc n * k))
 -- the magnitudes of counts add up to the magnitude of their sum
 magnitudes_value : (negative : Bool) (counts units : List Fraction) (y : Fraction) → Each IsPlain counts
     → All IsUnit units
-    → SameValue (total (map (negated_if negative) counts) units) y
-    → HasValue (total counts units) (unsigned_abs y.num) y.den
+    → SameValue (total_of_counts (map (negated_if negative) counts) units) y
+    → HasValue (total_of_counts counts units) (unsigned_abs y.num) y.den
 magnitudes_value negative counts units y plain units_are same =
     let natural = total_natural counts units plain (recursion_from_All IsUnit units units_are) in
     record {
@@ -305,13 +308,14 @@ magnitudes_value negative counts units y plain units_are same =
     magnitudes z e n n_is h = ap (λ m. m * y.den) (sym n_is) ∙ sym (abs-times z y.den) ∙ ap unsigned_abs h
         ∙ abs-times y.num e
 
-    by_sign : (negative : Bool) (n : ℕ) → (total counts units).num ≡ pos n
-        → SameValue (total (map (negated_if negative) counts) units) y
-        → n * y.den ≡ unsigned_abs y.num * (total counts units).den
+    by_sign : (negative : Bool) (n : ℕ) → (total_of_counts counts units).num ≡ pos n
+        → SameValue (total_of_counts (map (negated_if negative) counts) units) y
+        → n * y.den ≡ unsigned_abs y.num * (total_of_counts counts units).den
     by_sign false n n_is h =
-        magnitudes _ _ n (ap unsigned_abs n_is) (subst (λ cs. SameValue (total cs units) y) (map-plain counts) h)
+        magnitudes _ _ n (ap unsigned_abs n_is)
+        (subst (λ cs. SameValue (total_of_counts cs units) y) (map-plain counts) h)
     by_sign true n n_is h =
-        magnitudes _ _ n (abs-neg (total counts units).num ∙ ap unsigned_abs n_is)
+        magnitudes _ _ n (abs-neg (total_of_counts counts units).num ∙ ap unsigned_abs n_is)
         (subst (λ t. SameValue t y) (total-negated counts units units_are) h)
 
 -- the number to split has a denominator
@@ -345,7 +349,7 @@ unique_law law round x units counts others some many units_are first second =
     (length-map others magnitude ∙ second.one_each)
     first.greatest second.greatest
     (magnitudes_value negative ms units y plain units_are
-    (subst (λ cs. SameValue (total cs units) y) first.signs first.sum))
+    (subst (λ cs. SameValue (total_of_counts cs units) y) first.signs first.sum))
     (magnitudes_value negative ns units y others_plain units_are
-    (subst (λ cs. SameValue (total cs units) y) second.signs second.sum)) in
+    (subst (λ cs. SameValue (total_of_counts cs units) y) second.signs second.sum)) in
     first.signs ∙ ap (map (negated_if negative)) same ∙ sym second.signs

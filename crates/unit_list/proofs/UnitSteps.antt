@@ -300,5 +300,5 @@ fine_units q units fine denominators =
     (none_passes is_not_positive units (fine_positive q units fine)) in
     All-map IsUnit number_of units (λ k d within. record {
       denominator = denominators k d within;
-      positive = positive_is (get_or units k d).value.num (positive k d within);
+      unit_positive = positive_is (get_or units k d).value.num (positive k d within);
     })

@@ -53,7 +53,7 @@ reduced_value : ReducedLaw → (a d : ℕ) → 0 < d → HasValue (lowest_terms 
 unfolding lowest_terms
 reduced_value law a d some =
     let facts = law (pos a) d some in
-    record { num = a / gcd a d; num_is = refl; positive = facts.0.positive; same = pos_same _ _ facts.1 }
+    record { num = a / gcd a d; num_is = refl; positive = facts.0.den_positive; same = pos_same _ _ facts.1 }
 
 -- x has the value of its own numerator and denominator
 pub own_value : (x : Fraction) (n : ℕ) → x.num ≡ pos n → 0 < x.den → HasValue x n x.den
@@ -82,7 +82,7 @@ over_lowest law x unit q n c n_is c_is some_x some_c h =
 
 -- a whole number is in lowest terms
 pub whole_lowest : (n : ℤ) → IsReduced (whole n)
-whole_lowest n = record { positive = omega arith; lowest = (one-dvd (unsigned_abs n), dvd_refl 1, λ d p q. q) }
+whole_lowest n = record { den_positive = omega arith; coprime = (one-dvd (unsigned_abs n), dvd_refl 1, λ d p q. q) }
 
 -- the value of a quotient
 pub over_value : ReducedLaw → (x unit q : Fraction) (a b c : ℕ) → HasValue x a b → unit.num ≡ pos c → 0 < unit.den
@@ -143,9 +143,9 @@ lcm_multiple : LcmLaw → (b e : ℕ) → 0 < b → 0 < e → IsMultiple b e (lc
 lcm_multiple law b e some_b some_e =
     let is = law b e some_e in
     record {
-      first = mul-div_cancel' b is.first;
-      second = mul-div_cancel' e is.second;
-      some = above (lcm b e) (is.least (b * e) (dvd-mul_right b e) (dvd-mul_left e b));
+      first = mul-div_cancel' b is.first_divides;
+      second = mul-div_cancel' e is.second_divides;
+      some = above (lcm b e) (is.least_multiple (b * e) (dvd-mul_right b e) (dvd-mul_left e b));
     }
   where
     above : (m : ℕ) → m ∣ b * e → 0 < m

@@ -12,18 +12,18 @@ use Rattle.unit_list.specs.Splits.{last_of, nearest_to, number_counts}
 -- the number of a unit, which is above 0
 pub record IsUnit (unit : Fraction) : Type 0 where
   pub denominator : 0 < unit.den
-  pub positive : pos 0 <ℤ unit.num
+  pub unit_positive : pos 0 <ℤ unit.num
 
 -- the sum of the products of counts and units
-abbrev pub total : List Fraction → List Fraction → Fraction
-total (count ∷ counts) (unit ∷ units) = sum (product count unit) (total counts units)
-total _ _ = whole (pos 0)
+abbrev pub total_of_counts : List Fraction → List Fraction → Fraction
+total_of_counts (count ∷ counts) (unit ∷ units) = sum (product count unit) (total_of_counts counts units)
+total_of_counts _ _ = whole (pos 0)
 
 -- the count is the greatest whole number whose product with the unit leaves a remainder of x that is at least 0
 pub record IsGreatest (x unit count : Fraction) : Type 0 where
   pub is_whole : count ≡ whole count.num
-  pub leaves : IsAtMost (product count unit) x
-  pub next : IsLess x (product (whole (count.num +ℤ pos 1)) unit)
+  pub is_at_most : IsAtMost (product count unit) x
+  pub next_is_more : IsLess x (product (whole (count.num +ℤ pos 1)) unit)
 
 -- each count but the last is the greatest possible in what the earlier counts leave of x
 abbrev pub AreGreatest : Fraction → List Fraction → List Fraction → Type 0
@@ -44,7 +44,7 @@ split_number true unit x =
 -- the counts are those of a split of x, or of x rounded
 pub record IsSplitOf (round : Bool) (x : Fraction) (units counts : List Fraction) : Type 0 where
   pub one_each : length counts ≡ length units
-  pub sum : SameValue (total counts units) (split_number round (last_of units) x)
+  pub sum : SameValue (total_of_counts counts units) (split_number round (last_of units) x)
   pub greatest : AreGreatest (magnitude (split_number round (last_of units) x)) units (map magnitude counts)
   pub signs : counts ≡ map (negated_if (is_negative x)) (map magnitude counts)
   pub lowest : All IsReduced counts

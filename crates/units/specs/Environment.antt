@@ -29,12 +29,12 @@ with_entries vars (entry ∷ entries) = with_entries (with_entry vars entry) ent
 
 -- law: the variables of some entries
 pub record EntryVariablesLaw : Type 0 where
-  pub none : with_entries [] [] ≡ []
+  pub no_entries : with_entries [] [] ≡ []
   pub no_mark : with_entries [] (codes "no mark" ∷ [] ∷ []) ≡ []
   pub first_counts : with_entries [] (codes "A=1" ∷ codes "A=2" ∷ []) ≡ (codes "A", codes "1") ∷ []
   pub first_mark : with_entries [] (codes "B=x=y" ∷ []) ≡ (codes "B", codes "x=y") ∷ []
   pub not_utf8 : with_entries [] ((codes "C=" ++ 255 ∷ []) ∷ []) ≡ []
   pub no_name : with_entries [] (codes "=D" ∷ []) ≡ ([], codes "D") ∷ []
   pub empty_value : with_entries [] (codes "E=" ∷ []) ≡ (codes "E", []) ∷ []
-  pub in_order : with_entries [] (codes "A=1" ∷ codes "E=" ∷ codes "A=3" ∷ codes "=D" ∷ [])
+  pub entries_in_order : with_entries [] (codes "A=1" ∷ codes "E=" ∷ codes "A=3" ∷ codes "=D" ∷ [])
       ≡ (codes "A", codes "1") ∷ (codes "E", []) ∷ ([], codes "D") ∷ []

@@ -55,9 +55,9 @@ module _ (outcome : Result Contents DeckFault) (named : List ℕ) (old new : Edi
         deck =
             ap (λ (t : Shown). t.deck) table
             ∙ sym (ap (λ (o : Result Contents DeckFault). deck_after_edit o old.table.deck) same);
-        noted = λ done. absurd (omega arith);
+        change_noted = λ done. absurd (omega arith);
         no_note = λ _. history;
-        silent = λ done. absurd (omega arith);
+        without_text = λ done. absurd (omega arith);
         memory = λ m. omega arith;
       }
 
@@ -73,9 +73,9 @@ module _ (outcome : Result Contents DeckFault) (named : List ℕ) (old new : Edi
   edit_left (Ok u) (Ok answer) edit noted has_words is known refused =
       let done : code answer.status ≡ 0 = ap (λ (a : Answer). code a.status) is in record {
         deck = sym (ap (λ (o : Result Contents DeckFault). deck_after_edit o old.table.deck) edit.0);
-        noted = λ _. noted;
+        change_noted = λ _. noted;
         no_note = λ other. absurd (other done);
-        silent = λ _. ap (λ (a : Answer). a.text) is;
+        without_text = λ _. ap (λ (a : Answer). a.text) is;
         memory = λ m. omega arith;
       }
   edit_left (Err why) (Ok answer) edit noted has_words is known refused = elim edit.1 [

@@ -27,10 +27,11 @@ notes : (e e' : Edited) (deck : Contents) (answered : Result Answer AllocError) 
     → IfOk answered (λ answer. IsHandedOut answer room result written out)
     → IsAnsweredEdit deck answered e e' → NotesEdit result (Some e) (Some e')
 notes e e' deck (Ok answer) room result written out memory handed is = (
-  (λ done. is.noted (was_done (length answer.text) room result (code answer.status) handed.status_told handed.short
+  (λ done. is.change_noted
+      (was_done (length answer.text) room result (code answer.status) handed.status_told handed.no_room
       done)),
   (λ other. is.no_note (λ done. not_done (length answer.text) room result (code answer.status) handed.status_told
-      (λ d. ap length (is.silent d)) other done)),
+      (λ d. ap length (is.without_text d)) other done)),
 )
 notes e e' deck (Err x) room result written out memory handed is =
     ((λ done. absurd (omega arith)), (λ _. ap (λ (d : Contents × UndoStacks). d.1) is))
@@ -41,10 +42,10 @@ turns : (IsTurn : Edited → Edited → Type 0) (e e' : Edited) (answered : Resu
     → IfOk answered (λ answer. IsHandedOut answer room result written out)
     → IsAnsweredTurn IsTurn answered e e' → Turns IsTurn result (Some e) (Some e')
 turns IsTurn e e' (Ok answer) room result written out memory handed is = (
-  (λ done. is.turned (was_done (length answer.text) room result (code answer.status) handed.status_told
-      handed.short done)),
+  (λ done. is.turn_made (was_done (length answer.text) room result (code answer.status) handed.status_told
+      handed.no_room done)),
   (λ other. is.no_turn (λ done. not_done (length answer.text) room result (code answer.status)
-      handed.status_told (λ d. ap length (is.silent d)) other done)),
+      handed.status_told (λ d. ap length (is.without_text d)) other done)),
 )
 turns IsTurn e e' (Err x) room result written out memory handed is =
     ((λ done. absurd (omega arith)), (λ _. is))

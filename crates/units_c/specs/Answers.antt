@@ -57,4 +57,4 @@ pub record IsHandedOut (answer : Answer) (room result written : ℕ) (out : List
   pub length_told : written ≡ length answer.text
   pub status_told : length answer.text ≤ room → result ≡ code answer.status
   pub text_told : length answer.text ≤ room → take written out ≡ answer.text
-  pub short : room < length answer.text → result ≡ code status.NoRoom
+  pub no_room : room < length answer.text → result ≡ code status.NoRoom

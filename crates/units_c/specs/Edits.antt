@@ -42,9 +42,9 @@ abbrev pub edit_made_answer : Answer
 edit_made_answer = record { status = status.Done; text = [] }
 
 -- the answer to an edit with this outcome
-abbrev pub edit_answer : Result Contents DeckFault → (named : List ℕ) → Answer
-edit_answer (Ok deck) named = edit_made_answer
-edit_answer (Err why) named = refusal_answer why named
+abbrev pub table_edit_answer : Result Contents DeckFault → (named : List ℕ) → Answer
+table_edit_answer (Ok deck) named = edit_made_answer
+table_edit_answer (Err why) named = refusal_answer why named
 
 -- the deck after an edit with this outcome
 abbrev pub deck_after_edit : Result Contents DeckFault → Contents → Contents
@@ -58,7 +58,7 @@ drop_outcome (Some key) deck = Some (after_drop key deck)
 
 abbrev pub drop_answer : Option (Result Contents DeckFault) → (named : List ℕ) → Answer
 drop_answer None named = record { status = status.BadKey; text = codes "bad key: " ++ named }
-drop_answer (Some outcome) named = edit_answer outcome named
+drop_answer (Some outcome) named = table_edit_answer outcome named
 
 abbrev pub deck_after_drop : Option (Result Contents DeckFault) → Contents → Contents
 deck_after_drop None deck = deck
@@ -97,10 +97,10 @@ HasMessage (Err why) = has_own_message why ≡ true
 -- an edit with this answer leaves the deck `left`; it is recorded in the history exactly if the status is `Done`
 pub record IsEditAnswered (left : Contents) (answer : Answer) (before after : Edited) : Type 0 where
   pub deck : after.table.deck ≡ left
-  pub noted : code answer.status ≡ code status.Done
+  pub change_noted : code answer.status ≡ code status.Done
       → IsNoted before.history after.history before.table.deck after.table.deck (Ok tt)
   pub no_note : code answer.status ≢ code status.Done → after.history ≡ before.history
-  pub silent : code answer.status ≡ code status.Done → answer.text ≡ []
+  pub without_text : code answer.status ≡ code status.Done → answer.text ≡ []
   pub memory : code answer.status ≢ code status.NoMemory
 
 -- `IsEditAnswered` if there is an answer; if memory ran out, the definitions are unchanged

@@ -21,13 +21,15 @@ turn_answer nothing words (step ∷ steps) = edit_made_answer
 -- the last edit that was made is undone
 abbrev pub IsBack : (before after : Edited) → Type 0
 IsBack before after =
-    IsMoved before.history.done after.history.done before.history.undone after.history.undone before.table.deck
+    IsMoved before.history.done_steps after.history.done_steps before.history.undone after.history.undone
+    before.table.deck
     after.table.deck
 
 -- the last undone edit is redone
 abbrev pub IsAgain : (before after : Edited) → Type 0
 IsAgain before after =
-    IsMoved before.history.undone after.history.undone before.history.done after.history.done before.table.deck
+    IsMoved before.history.undone after.history.undone before.history.done_steps after.history.done_steps
+    before.table.deck
     after.table.deck
 
 -- the effect of an undo or a redo on a table; if there is no edit to undo or redo, nothing changes
@@ -49,9 +51,9 @@ turned_answer (Err history.OutOfMemory) = record { status = status.NoMemory; tex
 
 -- an undo or a redo with this answer: the edit is undone or redone exactly if the status is `Done`
 pub record IsTurnAnswered (IsTurn : Edited → Edited → Type 0) (answer : Answer) (before after : Edited) : Type 0 where
-  pub turned : code answer.status ≡ code status.Done → IsTurn before after
+  pub turn_made : code answer.status ≡ code status.Done → IsTurn before after
   pub no_turn : code answer.status ≢ code status.Done → definitions_of after ≡ definitions_of before
-  pub silent : code answer.status ≡ code status.Done → answer.text ≡ []
+  pub without_text : code answer.status ≡ code status.Done → answer.text ≡ []
 
 -- `IsTurnAnswered` if there is an answer; if memory ran out, the definitions are unchanged
 abbrev pub IsAnsweredTurn : (Edited → Edited → Type 0) → Result Answer AllocError → (before after : Edited) → Type 0

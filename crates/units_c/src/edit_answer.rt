@@ -81,7 +81,7 @@ pub(crate) fn answer_define(
     line: &[u8],
 ) -> Result<Answer, AllocError>
     ensures answer { IfOk result (λ answer. answer
-        ≡ spec.edit_answer (after_define (trim_of line.now) content.old.table.deck) []) }
+        ≡ spec.table_edit_answer (after_define (trim_of line.now) content.old.table.deck) []) }
     ensures edited { spec.IsAnsweredEdit
         (spec.deck_after_edit (after_define (trim_of line.now) content.old.table.deck) content.old.table.deck)
         result content.old content.new }
@@ -130,7 +130,7 @@ fn answer_drop_of(
     text: &[u8],
 ) -> Result<Answer, AllocError>
     ensures answer { IfOk result (λ answer. answer
-        ≡ spec.edit_answer (after_drop key.now content.old.table.deck) text.now) }
+        ≡ spec.table_edit_answer (after_drop key.now content.old.table.deck) text.now) }
     ensures edited { spec.IsAnsweredEdit
         (spec.deck_after_edit (after_drop key.now content.old.table.deck) content.old.table.deck)
         result content.old content.new }

@@ -27,7 +27,7 @@ pub extern "C" fn units_define(
     written: &mut usize,
 ) -> u32
     ensures answer { IsTableAnswered table.old.handle.held
-        (λ e. spec.edit_answer (after_define (trim_of line.now) e.table.deck) [])
+        (λ e. spec.table_edit_answer (after_define (trim_of line.now) e.table.deck) [])
         (length out.old) result written.new out.new }
     ensures edited { spec.LeavesDeck result (λ deck. spec.deck_after_edit (after_define (trim_of line.now) deck) deck)
         table.old.handle.held table.new.handle.held }
@@ -78,7 +78,7 @@ pub extern "C" fn units_undo(
     written: &mut usize,
 ) -> u32
     ensures answer { IsTableAnswered table.old.handle.held
-        (λ e. turns.turn_answer statuses.NothingToUndo (codes "nothing to undo") e.history.done)
+        (λ e. turns.turn_answer statuses.NothingToUndo (codes "nothing to undo") e.history.done_steps)
         (length out.old) result written.new out.new }
     ensures undone { turns.Turns turns.IsBack result table.old.handle.held table.new.handle.held }
 {

@@ -15,7 +15,7 @@ use std::alloc::{AllocError, Global};
 /// Undoes the last edit that is not undone, and returns the answer.
 pub(crate) fn answer_undo(alloc: Global, content: &mut EditedTable) -> Result<Answer, AllocError>
     ensures answer { IfOk result (λ answer. answer
-        ≡ spec.turn_answer statuses.NothingToUndo (codes "nothing to undo") content.old.history.done) }
+        ≡ spec.turn_answer statuses.NothingToUndo (codes "nothing to undo") content.old.history.done_steps) }
     ensures undone { spec.IsAnsweredTurn spec.IsBack result content.old content.new }
 {
     let turned = content.undo(alloc);

@@ -3,7 +3,7 @@ use Rattle.std.specs.Prelude.{ℕ}
 
 -- the number of bytes that a source gave, and the number of its failures
 pub record SourceCounts : Type 0 where
-  pub taken : ℕ
+  pub taken_count : ℕ
   pub faults : ℕ
 
 -- the number of failed fetches, and of failed stores

@@ -3,7 +3,7 @@ use Rattle.std.specs.Prelude.{◌≡◌, ◌≤◌, ℕ, List, length, nat_le, i
 use Rattle.std.specs.declared.option.Option.{Option}
 use Rattle.std.specs.FinMap as map
 pub use Rattle.units_io.specs.FileMap.{FileMap, longest_file}
-use Rattle.units_io.specs.Faults.{CountRose, next}
+use Rattle.units_io.specs.Faults.{CountRose, next_count}
 use Rattle.units_io.specs.declared.files.FetchFault.{FetchFault}
 use Rattle.units_io.specs.declared.files.FetchFault.TheVariants.{Absent, TooLong, Failed, OutOfMemory}
 
@@ -22,13 +22,13 @@ IsFetched files name (Ok bytes) = answer_of (map.get files name) ≡ Ok bytes
 
 -- the count never decreases, and it increases if the result is `Failed`
 pub record FailsWithCause (before now : ℕ) (result : Result (List ℕ) FetchFault) : Type 0 where
-  pub later : before ≤ now
-  pub failed : IsErrOf result Failed → CountRose before now
+  pub count_grows : before ≤ now
+  pub failure_counted : IsErrOf result Failed → CountRose before now
 
 -- the count after a fetch, if each failure is counted once
 abbrev pub faults_after_fetch : ℕ → Result (List ℕ) FetchFault → ℕ
 faults_after_fetch faults (Ok _) = faults
 faults_after_fetch faults (Err Absent) = faults
 faults_after_fetch faults (Err TooLong) = faults
-faults_after_fetch faults (Err Failed) = next faults
+faults_after_fetch faults (Err Failed) = next_count faults
 faults_after_fetch faults (Err OutOfMemory) = faults

@@ -2,21 +2,21 @@
 use Rattle.std.specs.Prelude.{◌≡◌, ℕ, List, refl}
 use Rattle.std.specs.Coded.{Coded, code_by, coded×, coded_list, coded_ℕ}
 use Rattle.units_io.specs.FileMap.{FileMap, file_map_code}
-pub use Rattle.units_io.specs.Faults.{next}
+pub use Rattle.units_io.specs.Faults.{next_count}
 
 -- a source in memory: the bytes left, the most bytes that a call gives, the calls that fail, and the counts
 pub record SourceState : Type 0 where
-  pub left : List ℕ
+  pub bytes_left : List ℕ
   pub piece : ℕ
   pub fails : List ℕ
   pub calls : ℕ
-  pub taken : ℕ
+  pub taken_count : ℕ
   pub faults : ℕ
 
 -- a sink in memory: the bytes written, its total room, the most bytes that a call takes, the calls that fail, and the
 -- counts
 pub record SinkState : Type 0 where
-  pub written : List ℕ
+  pub written_bytes : List ℕ
   pub room : ℕ
   pub piece : ℕ
   pub fails : List ℕ

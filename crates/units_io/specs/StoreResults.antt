@@ -2,7 +2,7 @@
 use Rattle.std.specs.Prelude.{◌≡◌, ◌≢◌, ◌≤◌, ℕ, List, Result, Ok, Err, Some, None, IsErrOf}
 use Rattle.std.specs.declared.option.Option.{Option}
 use Rattle.units_io.specs.FileMap.{FileMap, file_of, with_file}
-use Rattle.units_io.specs.Faults.{CountRose, next}
+use Rattle.units_io.specs.Faults.{CountRose, next_count}
 use Rattle.units_io.specs.declared.files.StoreFault.{StoreFault}
 use Rattle.units_io.specs.declared.files.StoreFault.TheVariants.{Failed, OutOfMemory}
 
@@ -19,11 +19,11 @@ IsStored (Some old) new name bytes (Err OutOfMemory) = new ≡ Some old
 
 -- the count of failed stores never decreases, and it increases if the result is `Failed`
 pub record StoreHasCause (before now : ℕ) (result : Result (Unit {0}) StoreFault) : Type 0 where
-  pub later : before ≤ now
-  pub failed : IsErrOf result Failed → CountRose before now
+  pub count_grows : before ≤ now
+  pub failure_counted : IsErrOf result Failed → CountRose before now
 
 -- the count after a store, if each failure is counted once
 abbrev pub faults_after_store : ℕ → Result (Unit {0}) StoreFault → ℕ
 faults_after_store faults (Ok _) = faults
-faults_after_store faults (Err Failed) = next faults
+faults_after_store faults (Err Failed) = next_count faults
 faults_after_store faults (Err OutOfMemory) = faults

@@ -10,7 +10,7 @@ use Rattle.session.specs.Input.{lines_of}
 use Rattle.session.specs.Outside.{Outside}
 use Rattle.session.specs.KnownContents.{when_told}
 use Rattle.session.specs.WrittenOutput.{IsAll, IsOutputFront, Output}
-use Rattle.units_run.specs.Checks.{IsReportWritten, report_of, steps_of}
+use Rattle.units_run.specs.Checks.{IsReportWritten, checked_report, steps_of}
 use Rattle.units_run.specs.Endings.{IsLeftOf, IsStated, IsWorked}
 use Rattle.units_run.specs.ProgramPlans.{IsCheck, IsPlan}
 use Rattle.units_run.specs.Plans as plans
@@ -48,14 +48,14 @@ module _ (run : plans.WholeRun) (files : FileMap) (input : List ℕ) (plan : Che
   abbrev output : Output
   output = record { out = run.out; err = run.err; steps = run.steps; files = files }
 
-  ends_by : (none : Bool) → is_empty (report_of plan) ≡ none → (if none then Done else Refused) ≡ run.status
+  ends_by : (none : Bool) → is_empty (checked_report plan) ≡ none → (if none then Done else Refused) ≡ run.status
   ends_by none is =
       sym
-      (planned.ends
+      (planned.status_is
       ∙ ap (λ (bytes : List ℕ). if is_empty bytes then Done else Refused) planned.out
       ∙ ap (λ (b : Bool). if b then Done else Refused) is)
 
-  all_written : after.out ≡ known_append before.out (report_of plan) → after.steps ≡ now + steps_of plan
+  all_written : after.out ≡ known_append before.out (checked_report plan) → after.steps ≡ now + steps_of plan
       → IsAll output before after
   all_written out counted = record {
     out = out ∙ ap (known_append before.out) (sym planned.out);
@@ -67,7 +67,7 @@ module _ (run : plans.WholeRun) (files : FileMap) (input : List ℕ) (plan : Che
         ∙ ap (λ (n : ℕ). before.steps + n) (sym planned.asks);
   }
 
-  front_written : GrowsByFront before.out after.out (report_of plan) → IsOutputFront output before after
+  front_written : GrowsByFront before.out after.out (checked_report plan) → IsOutputFront output before after
   front_written out = record {
     out = subst (GrowsByFront before.out after.out) (sym planned.out) out;
     err = front_same before.err after.err run.err err;
@@ -76,7 +76,7 @@ module _ (run : plans.WholeRun) (files : FileMap) (input : List ℕ) (plan : Che
 -- a planned check that is written in full or in part is the run
 pub check_run : (want : plans.Plan) (files : FileMap) (input : List ℕ) (plan : CheckPlan) (ending : Status) (now : ℕ)
     (before after : Outside) → IsPlan want files (Check plan) before.steps now
-    → IsReportWritten (report_of plan) ending before.out after.out
+    → IsReportWritten (checked_report plan) ending before.out after.out
     → (IsWorked ending → after.steps ≡ now + steps_of plan) → after.err ≡ before.err
     → after.files ≡ when_told before.files files
     → IsLeftOf want (plan_course want files input) (plan_end want files input) ending before after
@@ -89,17 +89,17 @@ check_run (plans.Whole run) files input plan Refused now before after planned w 
   all_written run files input plan now before after planned err kept w.1 (counted tt),
 )
 check_run (plans.Whole run) files input plan WriteFault now before after planned w counted err kept = record {
-  answered = [];
-  rest = heard (lines_of input);
-  split = refl;
-  front = front_written run files input plan now before after planned err kept w;
+  answered_lines = [];
+  lines_left = heard (lines_of input);
+  lines_split = refl;
+  output_front = front_written run files input plan now before after planned err kept w;
   files = (files, kept, inl refl);
 }
 check_run (plans.Whole run) files input plan NoMemory now before after planned w counted err kept = record {
-  answered = [];
-  rest = heard (lines_of input);
-  split = refl;
-  front = front_written run files input plan now before after planned err kept w;
+  answered_lines = [];
+  lines_left = heard (lines_of input);
+  lines_split = refl;
+  output_front = front_written run files input plan now before after planned err kept w;
   files = kept;
 }
 check_run (plans.Whole run) files input plan Usage now before after planned w counted err kept = absurd w

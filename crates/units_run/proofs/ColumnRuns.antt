@@ -8,7 +8,7 @@ use Rattle.reply.specs.declared.options.Options.{Options}
 use Rattle.units_io.specs.Bytes.{known_append}
 use Rattle.units_io.specs.FileMap.{FileMap}
 use Rattle.session.specs.Outside.{Outside, outside_of}
-use Rattle.session.specs.Queries.{LeavesLaw, fresh}
+use Rattle.session.specs.Queries.{LeavesLaw, fresh_table}
 use Rattle.session.specs.KnownContents.{when_told}
 use Rattle.column_convert.specs.Inputs.{input_of}
 use Rattle.column_convert.specs.Rows.{queries, rows}
@@ -117,14 +117,14 @@ module _ (work : ColumnWork) (plan : ColumnPlan) (n now : ℕ) (at : IsColumn wo
   -- a function of the parts of the plan is that function of the parts of the work
   pub by_work : {X : Type 0} (f : Shown → Options → (from to : List ℕ) → (column : ℕ) → (header : Bool) → X)
       → f plan.table plan.options from to plan.column plan.header
-      ≡ f (fresh work.deck) work.options work.from work.to work.column work.header
+      ≡ f (fresh_table work.deck) work.options work.from work.to work.column work.header
   by_work f =
       ap (λ (s : Shown). f s plan.options from to plan.column plan.header) at.table
-      ∙ ap (λ (o : Options). f (fresh work.deck) o from to plan.column plan.header) at.options
-      ∙ ap (λ (t : List ℕ). f (fresh work.deck) work.options t to plan.column plan.header) (is_from ∙ at.from)
-      ∙ ap (λ (t : List ℕ). f (fresh work.deck) work.options work.from t plan.column plan.header) (is_to ∙ at.to)
-      ∙ ap (λ (k : ℕ). f (fresh work.deck) work.options work.from work.to k plan.header) at.column
-      ∙ ap (λ (h : Bool). f (fresh work.deck) work.options work.from work.to work.column h) at.header
+      ∙ ap (λ (o : Options). f (fresh_table work.deck) o from to plan.column plan.header) at.options
+      ∙ ap (λ (t : List ℕ). f (fresh_table work.deck) work.options t to plan.column plan.header) (is_from ∙ at.from)
+      ∙ ap (λ (t : List ℕ). f (fresh_table work.deck) work.options work.from t plan.column plan.header) (is_to ∙ at.to)
+      ∙ ap (λ (k : ℕ). f (fresh_table work.deck) work.options work.from work.to k plan.header) at.column
+      ∙ ap (λ (h : Bool). f (fresh_table work.deck) work.options work.from work.to work.column h) at.header
 
   pub rows_same : (input : List ℕ)
       → rows (table plan.table.deck) plan.options from to (input_of input plan.column plan.header) ≡ column_rows work
@@ -138,7 +138,7 @@ module _ (work : ColumnWork) (plan : ColumnPlan) (n now : ℕ) (at : IsColumn wo
       → new ≡ n + steps_of work input
   steps_same law input after new follows =
       let made = queries (table work.deck) work.options work.from work.to (input_of input work.column work.header) in
-      (law made (fresh work.deck) after now new
+      (law made (fresh_table work.deck) after now new
       (subst (λ (s : Shown). IsAfterEvents made s after now new) at.table
       (subst (λ (es : List Event). IsAfterEvents es plan.table after now new)
       (by_work (λ s o f t k h. queries (table s.deck) o f t (input_of input k h))) follows))).steps

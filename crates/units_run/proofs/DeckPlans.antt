@@ -13,12 +13,12 @@ use Rattle.reply.specs.declared.options.Options.{Options}
 use Rattle.reply.specs.declared.reply.Reply.{Reply}
 use Rattle.reply.specs.Options.{style_of}
 use Rattle.session.specs.Lines.{lines_of_texts}
-use Rattle.session.specs.Queries.{LeavesLaw, fresh, newly}
+use Rattle.session.specs.Queries.{LeavesLaw, fresh_table, newly}
 use Rattle.session.specs.declared.session_output.Said.{Said}
 use Rattle.survey.specs.ConversionReplies.{Asked}
 use Rattle.survey.specs.Checks.{check_report, check_queries}
 use Rattle.units_run.specs.CommandReply.{asked_for}
-use Rattle.units_run.specs.Checks.{report_of}
+use Rattle.units_run.specs.Checks.{checked_report}
 use Rattle.units_run.specs.Options.{options_of}
 use Rattle.units_run.specs.ProgramPlans.{IsFor, IsPlan}
 use Rattle.units_run.specs.Work.{checked_lines, from_plan, plan_of_check, plan_of_reply, work_by}
@@ -55,12 +55,13 @@ from_stands line deck m from word column stands same is =
     ∙ ap (λ (f : List ℕ). work_by (Some f) line deck m) same
     ∙ ap (λ (f : Option (List ℕ)). work_by f line deck m) (sym stands)
 
-module _ (law : LeavesLaw) (deck : Contents) (before after : Shown) (old new : ℕ) (is : before ≡ fresh deck)
+module _ (law : LeavesLaw) (deck : Contents) (before after : Shown) (old new : ℕ) (is : before ≡ fresh_table deck)
     (m : FileMap) where
   -- the steps of queries of a table in which no name is settled
-  queries-counted : (es : List Event) → IsAfterEvents es before after old new → new ≡ old + newly es (fresh deck)
+  queries-counted : (es : List Event) → IsAfterEvents es before after old new → new ≡ old + newly es (fresh_table deck)
   queries-counted es follows =
-      (law es (fresh deck) after old new (subst (λ (s : Shown). IsAfterEvents es s after old new) is follows)).steps
+      (law es (fresh_table deck) after old new
+      (subst (λ (s : Shown). IsAfterEvents es s after old new) is follows)).steps
 
   -- the plan of a reply
   pub reply-planned : (asked : Asked) (reply : Reply) (said : Said) (status : Status)
@@ -70,23 +71,23 @@ module _ (law : LeavesLaw) (deck : Contents) (before after : Shown) (old new : �
   reply-planned asked reply said status answer out err ends = record {
     out = out ∙ ap (λ (r : Reply). r.text) answer.0;
     err = err;
-    ends = ends ∙ ap (λ (r : Reply). if r.refused then Refused else Done) answer.0;
+    status_is = ends ∙ ap (λ (r : Reply). if r.refused then Refused else Done) answer.0;
     steps = queries-counted asked.queries answer.1;
   }
 
 -- the plan of a check
 pub check_planned : (line : CommandLine) (plan : CheckPlan) (m : FileMap) (n : ℕ)
-    → plan.table ≡ fresh plan.table.deck → plan.notices.items ≡ lines_of_texts plan.table.deck.notices
+    → plan.table ≡ fresh_table plan.table.deck → plan.notices.items ≡ lines_of_texts plan.table.deck.notices
     → plan.options ≡ options_of line → IsPlan (plan_of_check line plan.table.deck) m (Check plan) n n
 check_planned line plan m n is noticed options =
     let deck = plan.table.deck in
-    let report : checked_lines line deck ≡ report_of plan =
+    let report : checked_lines line deck ≡ checked_report plan =
     ap (λ (ls : List ℕ). ls ++ check_report (table deck) (style_of (options_of line))) (sym noticed)
     ∙ ap (λ (o : Options). plan.notices.items ++ check_report (table deck) (style_of o)) (sym options) in
     record {
       out = report;
       err = refl;
-      ends = refl;
+      status_is = refl;
       asks = ap (newly (check_queries (table deck))) (sym is);
       steps = refl;
     }

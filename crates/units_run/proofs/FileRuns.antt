@@ -220,7 +220,8 @@ one_key : KeyListLaw → (name : List ℕ) (entry : Entry) (t : Table) → t ≡
     → table_keys t ≡ unit name ∷ []
 one_key law name entry t is =
     ap table_keys is
-    ∙ sym (law ((unit name, entry) ∷ []) (unit name ∷ []) (record { each = each; order = one_sorted (unit name) }))
+    ∙ sym (law ((unit name, entry) ∷ []) (unit name ∷ [])
+    (record { key_membership = each; sorted_keys = one_sorted (unit name) }))
   where
     each : (k : Key) → is_key_among (unit name ∷ []) k ≡ is_present ((unit name, entry) ∷ []) k
     each k = by (is_same k (unit name))

@@ -18,8 +18,8 @@ use Rattle.reply.specs.Grants.{GrantLaw}
 use Rattle.reply.specs.Replies.{conversion_reply}
 use Rattle.reply.specs.declared.options.Options.{Options}
 use Rattle.session.specs.Outside.{Outside}
-use Rattle.session.specs.Worlds.{World, outside}
-use Rattle.session.specs.WrittenOutput.{Course, IsAll, whole}
+use Rattle.session.specs.Worlds.{World, world_outside}
+use Rattle.session.specs.WrittenOutput.{Course, IsAll, course_output}
 use Rattle.survey.specs.ConversionReplies.{asked_conformable, asked_conversion, asked_definition}
 use Rattle.units_io.specs.FileMap.{FileMap}
 use Rattle.units_io.specs.NamedValues.{Pairs}
@@ -41,7 +41,7 @@ use Rattle.units_run.proofs.Statuses.{told_some}
 
 -- with a stated ending all output is there
 left_all : (course : Course) (wanted ending : Status) (before after : Outside) → IsStated ending
-    → IsRunOutput course wanted ending before after → (ending ≡ wanted) × IsAll (whole course) before after
+    → IsRunOutput course wanted ending before after → (ending ≡ wanted) × IsAll (course_output course) before after
 left_all course wanted Done before after stated left = left
 left_all course wanted Refused before after stated left = left
 left_all course wanted Usage before after stated left = left
@@ -117,33 +117,35 @@ conversion_plan : (words : List (List ℕ)) (vars : Pairs) (files : FileMap) (de
     ≡ plan_of_reply deck (asked_conversion (table deck) (options_of (command_line_of words)) from to)
 conversion_plan words vars files deck from to asks =
     let line = command_line_of words in
-    sym (plan_taken words vars files line asks.taken refl)
+    sym (plan_taken words vars files line asks.words_taken refl)
     ∙ ap (λ (t : Option ℕ). plan_by t line (settings_of line vars) files) asks.trial
     ∙ deck_known line.file line (settings_of line vars) files deck asks.definitions
-    ∙ work_converted line deck files from to asks.column asks.to_is asks.some asks.one line.from asks.from_is
+    ∙ work_converted line deck files from to asks.column asks.to_is asks.to_not_empty asks.to_no_question line.from
+    asks.from_is
 
 pub granted_by : GrantLaw → (words : List (List ℕ)) (vars : Pairs) (ending : Status) (before after : World)
     → IsRun words vars ending before after
-    → GrantsExactly words vars ending before.files.told before.out.written after.out.written
+    → GrantsExactly words vars ending before.files.known_files before.out.bytes_written after.out.bytes_written
 granted_by law words vars ending before after run files deck from to told asks stated =
     let line = command_line_of words in
     let none : needs_input words ≡ false =
     none_needed (are_taken words) (is_some line.trial) (is_some line.from) line.check (is_some line.column)
     (is_there line.from from asks.from_is) (ap is_some asks.column) in
-    let input = told_some (needs_input words) before.source.left [] none in
+    let input = told_some (needs_input words) before.source.input_left [] none in
     let plan = plan_of_reply deck (asked_conversion (table deck) (options_of line) from to) in
     let left =
-    left_all (plan_course plan files input.0) (plan_end plan files input.0) ending (outside before)
-    (outside after) stated
+    left_all (plan_course plan files input.0) (plan_end plan files input.0) ending (world_outside before)
+    (world_outside after) stated
     (subst
-    (λ (p : Plan). IsLeftOf p (plan_course p files input.0) (plan_end p files input.0) ending (outside before)
-    (outside after))
-    (conversion_plan words vars files deck from to asks) (run.leaves files input.0
-    (tells_less (needs_files words) (fetches_file words input.0) before.files.told files (fetches_none words input.0)
+    (λ (p : Plan). IsLeftOf p (plan_course p files input.0) (plan_end p files input.0) ending (world_outside before)
+    (world_outside after))
+    (conversion_plan words vars files deck from to asks) (run.files_after files input.0
+    (tells_less (needs_files words) (fetches_file words input.0) before.files.known_files files
+    (fetches_none words input.0)
     told) input.1)) in
     record {
       reply = conversion_reply (table deck) (options_of line) from to;
       grants = law deck (options_of line) from to;
       out = left.1.out;
-      ends = left.0;
+      ending_is = left.0;
     }

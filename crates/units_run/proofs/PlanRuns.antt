@@ -14,7 +14,7 @@ use Rattle.session.specs.Sessions.{SessionState}
 use Rattle.session.specs.Talks.{SessionTrace}
 use Rattle.session.specs.KnownContents.{TellsIf, when_told}
 use Rattle.session.specs.BetweenPieces.{Opens}
-use Rattle.session.specs.WrittenOutput.{Course, IsAll, IsEnded, IsPrefixRun, session_course, whole}
+use Rattle.session.specs.WrittenOutput.{Course, IsAll, IsEnded, IsPrefixRun, course_output, session_course}
 use Rattle.session.specs.declared.over_source.SessionEnd.{SessionEnd}
 use Rattle.session.specs.declared.over_source.SessionEnd.TheVariants as end
 use Rattle.session.specs.declared.session_output.Said.{Said}
@@ -54,7 +54,7 @@ taken_may_end taken file session opens status is_taken is may =
     (subst (λ (s : Bool). MayEnd true file s status) (sym is) may)
 
 pub whole_left : (course : Course) (wanted status : Status) (before after : Outside) → IsStated status → status ≡ wanted
-    → IsAll (whole course) before after → IsRunOutput course wanted status before after
+    → IsAll (course_output course) before after → IsRunOutput course wanted status before after
 whole_left course wanted Done before after stated is all = (is, all)
 whole_left course wanted Refused before after stated is all = (is, all)
 whole_left course wanted Usage before after stated is all = (is, all)
@@ -66,7 +66,7 @@ whole_left course wanted InputTooLong before after stated is all = absurd stated
 
 -- the course of a plan, and its ending
 abbrev pub plan_course : plans.Plan → FileMap → (input : List ℕ) → Course
-plan_course want files input = record { shown = λ lines. (run_over want files input lines).output; input = input }
+plan_course want files input = record { output_for = λ lines. (run_over want files input lines).output; input = input }
 
 abbrev pub plan_end : plans.Plan → FileMap → (input : List ℕ) → Status
 plan_end want files input = (run_over want files input (heard (lines_of input))).status
@@ -78,7 +78,7 @@ pub whole_run : (want : plans.Plan) (files : FileMap) (input : List ℕ) (said :
     → after.files ≡ when_told before.files files
     → IsLeftOf want (plan_course want files input) (plan_end want files input) status before after
 whole_run (plans.Whole run) files input said status before after stated planned out err kept =
-    whole_left (plan_course (plans.Whole run) files input) run.status status before after stated planned.ends
+    whole_left (plan_course (plans.Whole run) files input) run.status status before after stated planned.status_is
     (record {
       out = out ∙ ap (known_append before.out) planned.out;
       err = err ∙ ap (known_append before.err) planned.err;
@@ -110,7 +110,7 @@ opened_talk (plans.Opened first) files said session before now planned out err k
     files = kept;
     faults = faults;
     stores = stores;
-    at = record {
+    is_at = record {
       out = planned.out;
       err = planned.err;
       session = planned.session;
@@ -146,12 +146,12 @@ unbegun : (want : plans.Plan) (files : FileMap) (input : List ℕ) (before after
     → after.out ≡ before.out → after.err ≡ before.err → after.files ≡ when_told before.files files
     → IsPrefixRun (plan_course want files input) before after
 unbegun want files input before after sees o e kept = record {
-  answered = [];
-  rest = heard (lines_of input);
-  split = refl;
-  front = record {
-    out = front_same before.out after.out ((plan_course want files input).shown []).out o;
-    err = front_same before.err after.err ((plan_course want files input).shown []).err e;
+  answered_lines = [];
+  lines_left = heard (lines_of input);
+  lines_split = refl;
+  output_front = record {
+    out = front_same before.out after.out ((plan_course want files input).output_for []).out o;
+    err = front_same before.err after.err ((plan_course want files input).output_for []).err e;
   };
   files = kept ∙ ap (when_told before.files) (by want sees);
 }
@@ -191,10 +191,10 @@ pub cut_run : (want : plans.Plan) (files : FileMap) (input : List ℕ) (said : S
     → after.files ≡ when_told before.files files
     → IsLeftOf want (plan_course want files input) (plan_end want files input) WriteFault before after
 cut_run (plans.Whole run) files input said status before after planned out err kept = record {
-  answered = [];
-  rest = heard (lines_of input);
-  split = refl;
-  front = record {
+  answered_lines = [];
+  lines_left = heard (lines_of input);
+  lines_split = refl;
+  output_front = record {
     out = subst (GrowsByFront before.out after.out) planned.out out;
     err = subst (GrowsByFront before.err after.err) planned.err err;
   };

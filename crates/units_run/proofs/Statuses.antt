@@ -7,8 +7,8 @@ use Rattle.session.specs.HeardLines.{heard}
 use Rattle.session.specs.Input.{lines_of}
 use Rattle.session.specs.Outside.{Outside}
 use Rattle.session.specs.KnownContents.{TellsIf}
-use Rattle.session.specs.Worlds.{World, outside}
-use Rattle.session.specs.WrittenOutput.{Course, Output, whole}
+use Rattle.session.specs.Worlds.{World, world_outside}
+use Rattle.session.specs.WrittenOutput.{Course, Output, course_output}
 use Rattle.units_run.specs.Calls.{course_of, run_of, run_over}
 use Rattle.units_run.specs.Endings.{IsConverted, IsLeftOf, IsRunOutput, IsStated}
 use Rattle.units_run.specs.Headline.{IsRun}
@@ -51,7 +51,7 @@ plan_status (Whole run) course wanted ending before after stated left =
 plan_status (Opened talk) course wanted ending before after stated left =
     left_status course wanted ending before after stated left
 plan_status (Columns work) course wanted ending before after stated left =
-    converted_status (whole course) wanted ending before after stated left
+    converted_status (course_output course) wanted ending before after stated left
 
 -- a value that is not needed, and may be known
 pub told_some : {X : Type 0} (needed : Bool) (told : Option X) (x : X) → needed ≡ false
@@ -71,14 +71,16 @@ pub status_of_run : (words : List (List ℕ)) (vars : Pairs) (ending : Status) (
     → (files : FileMap) (input : List ℕ)
     → ending ≡ (run_of (record { words = words; vars = vars; files = files; input = input })).status
 status_of_run words vars ending before after run no_files none stated files input =
-    let told = told_some (needs_files words) before.files.told files no_files in
-    let left = told_some (needs_input words) before.source.left input none in
+    let told = told_some (needs_files words) before.files.known_files files no_files in
+    let left = told_some (needs_input words) before.source.input_left input none in
     let plan = plan_of words vars told.0 in
     plan_status plan
     (course_of (record { words = words; vars = vars; files = told.0; input = left.0 }))
-    (run_of (record { words = words; vars = vars; files = told.0; input = left.0 })).status ending (outside before)
-    (outside after) stated (run.leaves told.0 left.0
-    (tells_less (needs_files words) (fetches_file words left.0) before.files.told told.0 (fetches_none words left.0)
+    (run_of (record { words = words; vars = vars; files = told.0; input = left.0 })).status ending
+    (world_outside before)
+    (world_outside after) stated (run.files_after told.0 left.0
+    (tells_less (needs_files words) (fetches_file words left.0) before.files.known_files told.0
+    (fetches_none words left.0)
     told.1) left.1)
     ∙ whole_status plan told.0 files left.0 input (heard (lines_of left.0)) (heard (lines_of input))
     (no_input words vars told.0 none)

@@ -8,7 +8,7 @@ use Rattle.units_io.specs.FileMap.{FileMap}
 use Rattle.units_io.specs.NamedValues.{Pairs}
 use Rattle.session.specs.HeardLines.{heard}
 use Rattle.session.specs.Input.{lines_of}
-use Rattle.session.specs.Queries.{fresh, newly}
+use Rattle.session.specs.Queries.{fresh_table, newly}
 use Rattle.session.specs.Talks.{trace_over}
 use Rattle.session.specs.WrittenOutput.{Course, Output, output_of}
 use Rattle.units_run.specs.Plans.{Plan, Whole, Opened, Columns, ColumnWork}
@@ -28,7 +28,7 @@ column_rows work input = rows (table work.deck) work.options work.from work.to (
 abbrev pub steps_of : ColumnWork → (input : List ℕ) → ℕ
 steps_of work input =
     newly (queries (table work.deck) work.options work.from work.to (input_of input work.column work.header))
-    (fresh work.deck)
+    (fresh_table work.deck)
 
 -- the run of a column over its whole input; a refused row gives the status `Refused`
 abbrev pub column_run : ColumnWork → FileMap → (input : List ℕ) → Run
@@ -71,4 +71,4 @@ run_of call = shown_of call (heard (lines_of call.input))
 
 -- the course of a call
 abbrev pub course_of : RunArguments → Course
-course_of call = record { shown = λ lines. (shown_of call lines).output; input = call.input }
+course_of call = record { output_for = λ lines. (shown_of call lines).output; input = call.input }

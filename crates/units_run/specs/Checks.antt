@@ -12,8 +12,8 @@ use Rattle.units_run.specs.declared.status.Status.{Status}
 use Rattle.units_run.specs.declared.status.Status.TheVariants.{Done, Refused, WriteFault, NoMemory}
 
 -- the bytes of a planned report, and the number of names that it newly settles
-abbrev pub report_of : CheckPlan → List ℕ
-report_of plan = plan.notices.items ++ check_report (table plan.table.deck) (style_of plan.options)
+abbrev pub checked_report : CheckPlan → List ℕ
+checked_report plan = plan.notices.items ++ check_report (table plan.table.deck) (style_of plan.options)
 
 abbrev pub steps_of : CheckPlan → ℕ
 steps_of plan = newly (check_queries (table plan.table.deck)) plan.table

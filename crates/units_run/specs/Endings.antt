@@ -4,7 +4,7 @@ use Rattle.command_line.specs.AcceptedWords.{are_taken}
 use Rattle.command_line.specs.Fields.{command_line_of}
 use Rattle.session.specs.Outside.{CountUnchanged, Outside}
 use Rattle.session.specs.WrittenOutput.{Course, IsAll, IsCutShort, IsOutputFront, IsPrefixRun, IsPrefixRunExceptFile}
-use Rattle.session.specs.WrittenOutput.{Output, whole}
+use Rattle.session.specs.WrittenOutput.{Output, course_output}
 use Rattle.units_io.specs.Bytes.{GrowsByFront}
 use Rattle.session.specs.declared.over_source.SessionEnd.{SessionEnd}
 use Rattle.session.specs.declared.over_source.SessionEnd.TheVariants as end
@@ -87,7 +87,7 @@ IsRunOutput course wanted ReadFault before after =
 IsRunOutput course wanted InputTooLong before after = IsPrefixRun course before after × IsCutShort course before after
 IsRunOutput course wanted WriteFault before after = IsPrefixRunExceptFile course before after
 IsRunOutput course wanted NoMemory before after = IsPrefixRun course before after
-IsRunOutput course wanted ending before after = (ending ≡ wanted) × IsAll (whole course) before after
+IsRunOutput course wanted ending before after = (ending ≡ wanted) × IsAll (course_output course) before after
 
 -- the output of a run over column input: all of it; or no byte on `out`, if the input was not read in full; or a front
 abbrev pub IsConverted : Output → (wanted : Status) → Status → (before after : Outside) → Type 0
@@ -101,7 +101,8 @@ IsConverted output wanted ending before after = (ending ≡ wanted) × IsAll out
 
 -- the output of a run with any plan
 abbrev pub IsLeftOf : Plan → Course → (wanted : Status) → Status → (before after : Outside) → Type 0
-IsLeftOf (Columns work) course wanted ending before after = IsConverted (whole course) wanted ending before after
+IsLeftOf (Columns work) course wanted ending before after = IsConverted (course_output course) wanted ending before
+    after
 IsLeftOf plan course wanted ending before after = IsRunOutput course wanted ending before after
 
 -- what a run leaves, by its ending, for its words, variables, files and input

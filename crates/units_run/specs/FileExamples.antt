@@ -32,7 +32,7 @@ pub record FileExamples : Type 0 where
   -- a check that finds something and begins with a notice, and a check that finds nothing
   pub two_checks : RunGives (codes "-c" ∷ codes "-f" ∷ codes "first.units" ∷ []) (codes "feet\nft 12 in\n") []
       (codes "first.units:1: bad definition\nft: unknown unit: in in ft\n") [] Refused
-  pub sound : RunGives (codes "-c" ∷ codes "-f" ∷ codes "first.units" ∷ []) (codes "m !\n") [] [] [] Done
+  pub sound_check : RunGives (codes "-c" ∷ codes "-f" ∷ codes "first.units" ∷ []) (codes "m !\n") [] [] [] Done
   -- a session with an edit and an undo that reads to its end and ends with `Done`, although its replies are refusals
   pub session_run : RunGives (codes "-q" ∷ codes "-f" ∷ codes "first.units" ∷ []) (codes "feet\nm !\n")
       (codes ":define a b\na\n\n:undo\na\n\n") (codes "unknown unit: b in a\nunknown unit: a\n")

@@ -37,13 +37,13 @@ definitions_in line vars files = definitions_in_force line.file (settings_of lin
 -- the words give one conversion over these definitions, of FROM to a TO that is neither blank nor `?`
 pub record AsksForConversion (words : List (List ℕ)) (vars : Pairs) (files : FileMap) (deck : Contents)
     (from to : List ℕ) : Type 0 where
-  pub taken : are_taken words ≡ true
+  pub words_taken : are_taken words ≡ true
   pub trial : (command_line_of words).trial ≡ None
   pub column : (command_line_of words).column ≡ None
   pub from_is : option_map line_content (command_line_of words).from ≡ Some from
   pub to_is : option_map line_content (command_line_of words).to ≡ Some to
-  pub some : is_empty to ≡ false
-  pub one : bytes_eq to (codes "?") ≡ false
+  pub to_not_empty : is_empty to ≡ false
+  pub to_no_question : bytes_eq to (codes "?") ≡ false
   pub definitions : definitions_in (command_line_of words) vars files ≡ Ok deck
 
 -- the reply to FROM and TO is on `out`, and the status says whether it is a refusal
@@ -52,7 +52,7 @@ pub record IsReplyTo (words : List (List ℕ)) (deck : Contents) (from to : List
   pub reply : Reply
   pub grants : IsConversionReply (table deck) (options_of (command_line_of words)) from to reply
   pub out : after ≡ known_append before reply.text
-  pub ends : ending ≡ (if reply.refused then Refused else Done)
+  pub ending_is : ending ≡ (if reply.refused then Refused else Done)
 
 -- a conversion that the words give is granted exactly if full expansion is defined, conformable and within 127 bits,
 -- and its number is that exact fraction

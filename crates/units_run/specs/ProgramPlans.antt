@@ -15,11 +15,11 @@ use Rattle.session.specs.BetweenPieces.{at_first}
 use Rattle.session.specs.declared.session_output.Said.{Said}
 use Rattle.survey.specs.ConversionReplies.{Asked}
 use Rattle.units_run.specs.Calls.{column_run}
-use Rattle.units_run.specs.Checks.{report_of, steps_of}
+use Rattle.units_run.specs.Checks.{checked_report, steps_of}
 use Rattle.units_run.specs.Endings.{IsConverted, MayEnd}
 use Rattle.units_run.specs.Plans as plans
 use Rattle.units_run.specs.declared.plan.Plan.{Plan}
-use Rattle.session.specs.Queries.{fresh}
+use Rattle.session.specs.Queries.{fresh_table}
 use Rattle.units_run.specs.declared.check_plan.CheckPlan.{CheckPlan}
 use Rattle.units_run.specs.declared.column_plan.ColumnPlan.{ColumnPlan}
 use Rattle.units_run.specs.declared.plan.Plan.TheVariants.{Whole, Check, Opened, Columns}
@@ -31,20 +31,20 @@ pub record IsWholeOutput (want : plans.WholeRun) (said : Said) (status : Status)
   where
     pub out : said.out.items ≡ want.out
     pub err : said.err.items ≡ want.err
-    pub ends : status ≡ want.status
+    pub status_is : status ≡ want.status
     pub steps : steps_new ≡ steps_old + want.steps
 
 -- a check report to be written, with no step taken yet
 pub record IsCheck (want : plans.WholeRun) (plan : CheckPlan) (steps_old steps_new : ℕ) : Type 0 where
-  pub out : want.out ≡ report_of plan
+  pub out : want.out ≡ checked_report plan
   pub err : want.err ≡ []
-  pub ends : want.status ≡ (if is_empty want.out then Done else Refused)
+  pub status_is : want.status ≡ (if is_empty want.out then Done else Refused)
   pub asks : want.steps ≡ steps_of plan
   pub steps : steps_new ≡ steps_old
 
 -- a column to be converted, with no step taken yet
 pub record IsColumn (want : plans.ColumnWork) (plan : ColumnPlan) (steps_old steps_new : ℕ) : Type 0 where
-  pub table : plan.table ≡ fresh want.deck
+  pub table : plan.table ≡ fresh_table want.deck
   pub options : plan.options ≡ want.options
   pub from : plan.from ≡ want.from
   pub to : plan.to ≡ want.to
@@ -60,7 +60,7 @@ IsPlan (plans.Whole run) files (Whole said status) steps_old steps_new =
 IsPlan (plans.Whole run) files (Check plan) steps_old steps_new = IsCheck run plan steps_old steps_new
 IsPlan (plans.Opened talk) files (Opened said session) steps_old steps_new =
     IsAt (at_first (Some files) steps_old) talk
-    (record { said = said; session = session; files = Some files; steps = steps_new })
+    (record { said_output = said; session = session; files = Some files; steps = steps_new })
 IsPlan (plans.Columns work) files (Columns plan) steps_old steps_new = IsColumn work plan steps_old steps_new
 IsPlan want files plan steps_old steps_new = ⊥
 
@@ -82,23 +82,23 @@ IsFor taken file session column (Columns plan) =
 
 -- the part of the world that a column conversion touches
 pub record Ends : Type 0 where
-  pub left : Option (List ℕ)
+  pub source_left : Option (List ℕ)
   pub out : Option (List ℕ)
   pub err : Option (List ℕ)
   pub steps : ℕ
 
 abbrev pub ends_of : (left out err : Option (List ℕ)) → (steps : ℕ) → Ends
-ends_of left out err steps = record { left = left; out = out; err = err; steps = steps }
+ends_of left out err steps = record { source_left = left; out = out; err = err; steps = steps }
 
 -- a planned column is converted, whatever the files are
 abbrev pub IsColumnConverted : ColumnPlan → Status → (before after : Ends) → Type 0
 IsColumnConverted plan ending before after =
     (work : plans.ColumnWork) (m : FileMap) (input : List ℕ) (files : Option FileMap)
     (faults now stores later n : ℕ) →
-    before.left ≡ Some input → IsColumn work plan n before.steps → files ≡ when_told files m →
+    before.source_left ≡ Some input → IsColumn work plan n before.steps → files ≡ when_told files m →
     IsConverted (column_run work m input).output (column_run work m input).status ending
-    (outside_of before.left before.out before.err files faults stores n)
-    (outside_of after.left after.out after.err files now later after.steps)
+    (outside_of before.source_left before.out before.err files faults stores n)
+    (outside_of after.source_left after.out after.err files now later after.steps)
 
 -- a live table gave this reply, and made the queries for it
 abbrev pub IsReplyOf : Asked → Result Reply AllocError → Shown → Shown → (old new : ℕ) → Type 0

@@ -15,7 +15,7 @@ use Rattle.deck.specs.declared.settings.Settings.{Settings}
 use Rattle.reply.specs.Options.{style_of}
 use Rattle.def_lines.specs.Lines.{line_content}
 use Rattle.session.specs.Lines.{lines_of_texts}
-use Rattle.session.specs.Queries.{fresh, newly}
+use Rattle.session.specs.Queries.{fresh_table, newly}
 use Rattle.session.specs.Sessions.{session_of, state_of}
 use Rattle.session.specs.Talks.{opened_talk}
 use Rattle.session.specs.Trials.{Trial, trial_session}
@@ -34,7 +34,7 @@ abbrev pub plan_of_reply : Contents → Asked → Plan
 plan_of_reply deck asked = Whole (record {
   out = asked.reply.text;
   err = lines_of_texts deck.notices;
-  steps = newly asked.queries (fresh deck);
+  steps = newly asked.queries (fresh_table deck);
   status = if asked.reply.refused then Refused else Done;
 })
 
@@ -47,14 +47,14 @@ abbrev pub plan_of_check : CommandLine → Contents → Plan
 plan_of_check line deck = Whole (record {
   out = checked_lines line deck;
   err = [];
-  steps = newly (check_queries (table deck)) (fresh deck);
+  steps = newly (check_queries (table deck)) (fresh_table deck);
   status = if is_empty (checked_lines line deck) then Done else Refused;
 })
 
 -- a session over a deck
 abbrev pub opened_over : CommandLine → Contents → FileMap → Plan
 opened_over line deck files =
-    Opened (opened_talk (state_of (session_of (options_of line) (fresh deck) None no_versions []) files))
+    Opened (opened_talk (state_of (session_of (options_of line) (fresh_table deck) None no_versions []) files))
 
 -- the plan for FROM: its reply, or the conversion of the column with this number
 abbrev pub from_plan : (column : Option ℕ) → CommandLine → (from to : List ℕ) → Contents → Plan

@@ -32,7 +32,7 @@ pub(crate) fn write_check<O: Sink, L: Ledger>(
     steps: &mut Steps<L>,
 ) -> Status
     requires { IsPrintable plan.options }
-    ensures written { spec.IsReportWritten (spec.report_of plan) result (O.written out.old) (O.written out.new) }
+    ensures written { spec.IsReportWritten (spec.checked_report plan) result (O.written out.old) (O.written out.new) }
     ensures steps { IsWorked result → steps.new ≡ steps.old + spec.steps_of plan }
     ensures write { result ≡ Status.WriteFault → CountRose (O.faults out.old) (O.faults out.new) }
 {

@@ -70,7 +70,7 @@ fn reply_plan<L: Ledger>(
     steps: &mut Steps<L>,
 ) -> Result<Plan, AllocError>
     requires digits { HasValidDigits line.now }
-    requires fresh { table.old ≡ queries.fresh table.old.deck }
+    requires fresh { table.old ≡ queries.fresh_table table.old.deck }
     ensures told { (m : FileMap) → IsPlanned
         (spec.from_plan None line.now (line_content from.now) (line_content (unwrap_or line.now.to [])) table.old.deck)
         m result
@@ -106,7 +106,7 @@ fn column_plan(
 ) -> Result<Plan, AllocError>
     requires digits { HasValidDigits line.now }
     requires some { 1 ≤ column }
-    requires fresh { table ≡ queries.fresh table.deck }
+    requires fresh { table ≡ queries.fresh_table table.deck }
     ensures told { (m : FileMap) (n : ℕ) → IsPlanned
         (spec.from_plan (Some column) line.now (line_content from.now) (line_content (unwrap_or line.now.to []))
         table.deck) m result n n }
@@ -129,7 +129,7 @@ fn column_plan(
 // Returns the plan of the check report, which begins with the notices.
 fn check_plan(alloc: Global, line: &CommandLine, table: LiveTable) -> Result<Plan, AllocError>
     requires digits { HasValidDigits line.now }
-    requires fresh { table ≡ queries.fresh table.deck }
+    requires fresh { table ≡ queries.fresh_table table.deck }
     ensures told { (m : FileMap) (n : ℕ) → IsPlanned (spec.plan_of_check line.now table.deck) m result n n }
     ensures kind { IfOk result (IsFor true false false false) }
 {
@@ -144,7 +144,7 @@ fn check_plan(alloc: Global, line: &CommandLine, table: LiveTable) -> Result<Pla
 // Returns the plan of a session over a table in which no name is settled.
 fn session_plan(alloc: Global, line: &CommandLine, table: LiveTable) -> Result<Plan, AllocError>
     requires digits { HasValidDigits line.now }
-    requires fresh { table ≡ queries.fresh table.deck }
+    requires fresh { table ≡ queries.fresh_table table.deck }
     ensures told { (m : FileMap) (n : ℕ) → IsPlanned (spec.opened_over line.now table.deck m) m result n n }
     ensures kind { IfOk result (IsFor true false true false) }
 {

@@ -66,7 +66,7 @@ impl RowWalk {
         };
         self.path.leave(row.depth());
         let deck = evaluator.deck();
-        let standing = self.standing(deck, row);
+        let standing = self.relation_to_definition(deck, row);
         let alloc = evaluator.alloc;
         let call = self.calls.next_call(alloc, deck, rows, &self.path, row)?;
         let call = boxed_trace(evaluator, options, call)?;
@@ -75,7 +75,7 @@ impl RowWalk {
     }
 
     // Returns how a row relates to the definition of its key.
-    fn standing(&self, deck: &Deck, row: &Row) -> Standing {
+    fn relation_to_definition(&self, deck: &Deck, row: &Row) -> Standing {
         let Some(key) = row.key() else {
             return Standing::Unknown;
         };

@@ -18,31 +18,31 @@ pub(crate) fn value_at<L: Ledger>(
     let Ok(value) = parse_expr(alloc, text.as_bytes(), None) else {
         return Ok(None);
     };
-    let tree = substituted(alloc, body, &value)?;
+    let tree = substitute_tree(alloc, body, &value)?;
     evaluator.value_if_any(&tree)
 }
 
 // Copies a tree with the argument replaced by a value.
 #[cycle(substitute)]
-fn substituted(alloc: Global, tree: &Tree, value: &Tree) -> Result<Tree, AllocError> {
+fn substitute_tree(alloc: Global, tree: &Tree, value: &Tree) -> Result<Tree, AllocError> {
     view_law();
     match tree {
         Tree::Number(_) | Tree::Bar(_) | Tree::Word(_) => tree.copy(alloc),
         Tree::Argument => Ok(Tree::Group(Box::new(alloc, value.copy(alloc)?)?)),
         Tree::Call(word, operand) => {
             let word = Box::new(alloc, word.copy(alloc)?)?;
-            Ok(Tree::Call(word, boxed(alloc, operand, value)?))
+            Ok(Tree::Call(word, substitute_box(alloc, operand, value)?))
         }
         Tree::Inverse(word, operand) => {
             let word = Box::new(alloc, word.copy(alloc)?)?;
-            Ok(Tree::Inverse(word, boxed(alloc, operand, value)?))
+            Ok(Tree::Inverse(word, substitute_box(alloc, operand, value)?))
         }
-        Tree::Root(kind, operand) => Ok(Tree::Root(*kind, boxed(alloc, operand, value)?)),
-        Tree::Group(operand) => Ok(Tree::Group(boxed(alloc, operand, value)?)),
-        Tree::Negate(operand) => Ok(Tree::Negate(boxed(alloc, operand, value)?)),
+        Tree::Root(kind, operand) => Ok(Tree::Root(*kind, substitute_box(alloc, operand, value)?)),
+        Tree::Group(operand) => Ok(Tree::Group(substitute_box(alloc, operand, value)?)),
+        Tree::Negate(operand) => Ok(Tree::Negate(substitute_box(alloc, operand, value)?)),
         Tree::Power(base, exponent) => {
-            let base = boxed(alloc, base, value)?;
-            Ok(Tree::Power(base, boxed(alloc, exponent, value)?))
+            let base = substitute_box(alloc, base, value)?;
+            Ok(Tree::Power(base, substitute_box(alloc, exponent, value)?))
         }
         Tree::Juxtaposed(trees) => Ok(Tree::Juxtaposed(trees_with(alloc, trees, value)?)),
         Tree::Product(product) => Ok(Tree::Product(factors_with(alloc, product, value)?)),
@@ -51,8 +51,8 @@ fn substituted(alloc: Global, tree: &Tree, value: &Tree) -> Result<Tree, AllocEr
 }
 
 #[cycle(substitute)]
-fn boxed(alloc: Global, tree: &Tree, value: &Tree) -> Result<Box<Tree>, AllocError> {
-    let tree = substituted(alloc, tree, value)?;
+fn substitute_box(alloc: Global, tree: &Tree, value: &Tree) -> Result<Box<Tree>, AllocError> {
+    let tree = substitute_tree(alloc, tree, value)?;
     Ok(Box::new(alloc, tree)?)
 }
 
@@ -60,7 +60,7 @@ fn boxed(alloc: Global, tree: &Tree, value: &Tree) -> Result<Box<Tree>, AllocErr
 fn trees_with(alloc: Global, trees: &Trees, value: &Tree) -> Result<Trees, AllocError> {
     let mut copies = Trees::new(alloc);
     for tree in trees.as_slice() {
-        copies.push(alloc, substituted(alloc, tree, value)?)?;
+        copies.push(alloc, substitute_tree(alloc, tree, value)?)?;
     }
     Ok(copies)
 }
@@ -69,7 +69,7 @@ fn trees_with(alloc: Global, trees: &Trees, value: &Tree) -> Result<Trees, Alloc
 fn factors_with(alloc: Global, product: &Factors, value: &Tree) -> Result<Factors, AllocError> {
     let mut copies = Factors::new(alloc);
     for factor in product.as_slice() {
-        copies.push(alloc, (factor.0, substituted(alloc, &factor.1, value)?))?;
+        copies.push(alloc, (factor.0, substitute_tree(alloc, &factor.1, value)?))?;
     }
     Ok(copies)
 }
@@ -78,7 +78,7 @@ fn factors_with(alloc: Global, product: &Factors, value: &Tree) -> Result<Factor
 fn terms_with(alloc: Global, sum: &Terms, value: &Tree) -> Result<Terms, AllocError> {
     let mut copies = Terms::new(alloc);
     for term in sum.as_slice() {
-        copies.push(alloc, (term.0, substituted(alloc, &term.1, value)?))?;
+        copies.push(alloc, (term.0, substitute_tree(alloc, &term.1, value)?))?;
     }
     Ok(copies)
 }

@@ -16,7 +16,7 @@ use Rattle.def_entry.specs.Keys.{key}
 use Rattle.def_entry.specs.Tables.{Table, is_present}
 use Rattle.name_lookup.specs.Candidates.{candidates, first_present, part_candidates}
 use Rattle.tree_eval.specs.Expansions.{Callable, Callee, Meaning, One, Two}
-use Rattle.tree_eval.specs.Expansion.{called_word, inverted_word, plain, plain_word}
+use Rattle.tree_eval.specs.Expansion.{called_word, expanded_meaning, inverted_word, plain_word}
 use Rattle.tree_eval.specs.Steps.{Worth}
 use Rattle.tree_eval.specs.Value.{value}
 use Rattle.table_names.specs.declared.fault.NameFault.{NameFault}
@@ -143,8 +143,8 @@ module _ (closing : ClosedWordLaw) (kinds : KindLaw) (t : Table) (fits : FitsKin
   plain_leads : (w : List ℕ) → is_function_word t (called_word w) ≡ false → WordLeadsInto t (IsClosed t) (called_word w)
       → WordLeadsInto t (IsClosed t) (plain_word w)
   plain_leads w fails leads = record {
-    is_accepted = leads.is_accepted;
-    known = λ q. leads.known (sym (plain_targets t w fails) ∙ q);
+    not_refused = leads.not_refused;
+    has_targets = λ q. leads.has_targets (sym (plain_targets t w fails) ∙ q);
     into = λ n i. leads.into n (subst (λ (ks : List Key). Contains ks n) (plain_targets t w fails) i);
   }
 
@@ -160,8 +160,8 @@ module _ (closing : ClosedWordLaw) (kinds : KindLaw) (t : Table) (fits : FitsKin
 
   pub plain_value : (w : List ℕ) → is_function_word t (called_word w) ≡ false
       → WordLeadsInto t (IsClosed t) (called_word w)
-      → value_of_tree t (tree.Word w) ≡ worth_value (value (plain (word_meaning t (called_word w))) None)
+      → value_of_tree t (tree.Word w) ≡ worth_value (value (expanded_meaning (word_meaning t (called_word w))) None)
   plain_value w fails leads =
       closed_value t (tree.Word w) (plain_closed w fails leads)
-      ∙ ap (λ (ks : List Key). worth_value (value (plain (targets_meaning (map (key_meaning t) ks))) None))
+      ∙ ap (λ (ks : List Key). worth_value (value (expanded_meaning (targets_meaning (map (key_meaning t) ks))) None))
       (plain_targets t w fails)

@@ -18,7 +18,7 @@ use Rattle.name_lookup.specs.declared.targets.Targets.{Targets}
 use Rattle.name_lookup.specs.declared.targets.Targets.TheVariants as which
 use Rattle.name_lookup.specs.Order.{plan, try_key, try_parts}
 use Rattle.name_lookup.specs.Plans.{Found, Gives, LookupPlan, run}
-use Rattle.name_lookup.specs.Targets.{AreFound, count, last_keys}
+use Rattle.name_lookup.specs.Targets.{AreFound, last_keys, target_count}
 use Rattle.table_names.specs.Leads.{LookupLaw, targets, word_lookup}
 use Rattle.value_sources.specs.Leads.{first_kind, key_at_place}
 use Rattle.value_sources.proofs.Placing.{placed_among}
@@ -56,15 +56,15 @@ found_by t u law w before tried kind text b k x f =
 
 module _ (t : Table) (u : WordUse) (w : Targets) (tried : List Key) (found : AreFound w [] tried (word_lookup t u))
   where
-    targets_are : targets t u ≡ last_keys (count w) tried
-    targets_are = found.targets ∙ ap (last_keys (count w)) (sym found.looked)
+    targets_are : targets t u ≡ last_keys (target_count w) tried
+    targets_are = found.targets ∙ ap (last_keys (target_count w)) (sym found.looks_appended)
 
-    pub enough : count w ≤ length tried
+    pub enough : target_count w ≤ length tried
     enough =
-        let a : length (targets t u) ≡ count w = found.many in
-        let b : length (targets t u) ≡ length (last_keys (count w) tried) = ap length targets_are in
-        let c : length (last_keys (count w) tried) ≡ length tried - (length tried - count w) =
-        length-drop (length tried - count w) tried in
+        let a : length (targets t u) ≡ target_count w = found.many in
+        let b : length (targets t u) ≡ length (last_keys (target_count w) tried) = ap length targets_are in
+        let c : length (last_keys (target_count w) tried) ≡ length tried - (length tried - target_count w) =
+        length-drop (length tried - target_count w) tried in
         omega (arith, a, b, c)
 
 module _ (t : Table) (u : WordUse) (tried : List Key) where

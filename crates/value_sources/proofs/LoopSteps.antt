@@ -14,9 +14,9 @@ use Rattle.tree_eval.specs.Expansion.{scale_step, sign_step}
 use Rattle.value_sources.specs.declared.failure.FailedStep.{FailedStep}
 use Rattle.value_sources.specs.declared.joining.Progress.{Progress}
 use Rattle.value_sources.specs.declared.joining.Progress.TheVariants.{End, Value}
-use Rattle.value_sources.specs.FailedSteps.{after, failed_factors, failed_members, failed_step, failed_terms}
-use Rattle.value_sources.specs.FailedSteps.{is_function_word, joined, value_of_tree}
-use Rattle.value_sources.specs.Joinings.{IsJoined, IsReached, follow}
+use Rattle.value_sources.specs.FailedSteps.{failed_after, failed_factors, failed_members, failed_step, failed_terms}
+use Rattle.value_sources.specs.FailedSteps.{failed_join, is_function_word, value_of_tree}
+use Rattle.value_sources.specs.Joinings.{IsJoinProgress, IsJoined, follow}
 
 -- a list from the place of a member on begins with this member
 get_drop : {A : Type 0} (xs : List A) (i : ℕ) (x : A) → i < length xs → x ≡ get_or xs i x
@@ -31,28 +31,28 @@ get_drop (y ∷ xs) (suc i) x l h =
 module _ {X : Type 0} (step : X → Step) (expression : X → Syntax) (t : Table)
     (search_along : (running : Option Amount) → List X → Option FailedStep)
     (unfolds : (running : Option Amount) (x : X) (xs : List X) → search_along running (x ∷ xs)
-    ≡ after (value_of_tree t (expression x)) (failed_step t (expression x))
-    (λ v. joined (step x) running v (λ next. search_along (Some next) xs))) where
+    ≡ failed_after (value_of_tree t (expression x)) (failed_step t (expression x))
+    (λ v. failed_join (step x) running v (λ next. search_along (Some next) xs))) where
   -- the search from a member on joins this member and goes on
   goes_on : (u : Table) (xs : List X) (i : ℕ) (x : X) (s : Step) (running : Option Amount) (member result : Progress)
       → u ≡ t → i < length xs → x ≡ get_or xs i x → s ≡ step x
-      → IsReached (value_of_tree u (expression x)) (failed_step u (expression x)) member
+      → IsJoinProgress (value_of_tree u (expression x)) (failed_step u (expression x)) member
       → IsJoined s running member result
       → search_along running (drop i xs) ≡ follow result (λ next. search_along (Some next) (drop (i + 1) xs))
   goes_on u xs i x s running member result same l h by reached is =
       let rest : Amount → Option FailedStep = λ next. search_along (Some next) (drop (i + 1) xs) in
-      let here : IsReached (value_of_tree t (expression x)) (failed_step t (expression x)) member =
-      subst (λ (w : Table). IsReached (value_of_tree w (expression x)) (failed_step w (expression x)) member) same
+      let here : IsJoinProgress (value_of_tree t (expression x)) (failed_step t (expression x)) member =
+      subst (λ (w : Table). IsJoinProgress (value_of_tree w (expression x)) (failed_step w (expression x)) member) same
       reached in
       let fits : IsJoined (step x) running member result =
       subst (λ (k : Step). IsJoined k running member result) by is in
       ap (search_along running) (get_drop xs i x l h)
       ∙ (unfolds running x (drop (i + 1) xs)
-      ∙ (here (λ v. joined (step x) running v rest) ∙ fits rest))
+      ∙ (here (λ v. failed_join (step x) running v rest) ∙ fits rest))
 
   module _ (u : Table) (xs : List X) (i : ℕ) (x : X) (s : Step) (running : Option Amount) (member result : Progress)
       (same : u ≡ t) (l : i < length xs) (h : x ≡ get_or xs i x) (by : s ≡ step x)
-      (reached : IsReached (value_of_tree u (expression x)) (failed_step u (expression x)) member)
+      (reached : IsJoinProgress (value_of_tree u (expression x)) (failed_step u (expression x)) member)
       (is : IsJoined s running member result) where
     rest : Amount → Option FailedStep
     rest next = search_along (Some next) (drop (i + 1) xs)

@@ -10,7 +10,7 @@ use Rattle.def_entry.specs.SameKeys.{is_key_among, is_same}
 use Rattle.def_entry.proofs.SameKeys.{same_keys}
 use Rattle.deck.specs.Decks.{Contents}
 use Rattle.deck.specs.Tables.{last_place}
-use Rattle.value_sources.proofs.Placing.{one_key, within}
+use Rattle.value_sources.proofs.Placing.{one_key, place_in_deck}
 use Rattle.value_sources.specs.Visits.{MarksVisits, is_marked}
 
 or_cond : (b c : Bool) (x y : Bool) → x ≡ cond c true y → (b || x) ≡ cond c true (b || y)
@@ -38,7 +38,7 @@ pub marked_next : (d : Contents) (marks : List Bool) (before : List Key) (n : Ke
 marked_next d marks before n place room h e k = by (last_place d.settings d.lines k) refl (is_same k n) refl
   where
     inside : place < length marks
-    inside = let w = within d n place e in omega (arith, room, w)
+    inside = let w = place_in_deck d n place e in omega (arith, room, w)
 
     by : (o : Option ℕ) → last_place d.settings d.lines k ≡ o → (b : Bool) → is_same k n ≡ b
         → is_marked (set marks place true) o ≡ is_key_among (before ++ n ∷ []) k

@@ -18,14 +18,15 @@ use Rattle.tree_eval.specs.declared.fault.ValueFault.{ValueFault}
 use Rattle.tree_eval.specs.declared.step.Step.{Step}
 use Rattle.tree_eval.specs.declared.step.Step.TheVariants.{Divide, Multiply}
 use Rattle.tree_eval.specs.Expansions.{Callee, Chain, Expanded, Link, Meaning, NoLink, One, Two}
-use Rattle.tree_eval.specs.Expansion.{call_expansion, plain}
-use Rattle.tree_eval.specs.Steps.{Worth, amount, negative_amount, number, plain_number, step_of, step_worth}
+use Rattle.tree_eval.specs.Expansion.{call_expansion, expanded_meaning}
+use Rattle.tree_eval.specs.Steps.{Worth, amount, negative_amount, plain_number, step_of, step_worth, worth_of_number}
 use Rattle.tree_eval.specs.Value.{chain_value, value}
 use Rattle.table_names.specs.ClosedKeys.{AreClosed}
 use Rattle.table_names.specs.Meanings.{expansion}
 use Rattle.value_sources.specs.declared.failure.FailedStep.{FailedStep}
 use Rattle.value_sources.specs.declared.failure.FailedStep.TheVariants.{Joined}
-use Rattle.value_sources.specs.FailedSteps.{after, failed, is_function_word, multiplied, quotient_step, unless_joined}
+use Rattle.value_sources.specs.FailedSteps.{failed_after, failed_product, is_function_word, quotient_step}
+use Rattle.value_sources.specs.FailedSteps.{step_failed_in, unless_joined}
 use Rattle.value_sources.specs.FailedSteps.{value_of_tree}
 use Rattle.value_sources.specs.StepFaults.{step_result}
 use Rattle.value_sources.proofs.FunctionWords.{closed_value, worth_value}
@@ -36,11 +37,11 @@ module _ {G : Type 0} (found : FailedStep) (fault : ValueFault) where
       (next : Amount → Option FailedStep) → o ≡ worth_value r
       → (inside ≡ Some found → r ≡ Err fault → G)
       → ((v : Amount) → next v ≡ Some found → k v ≡ Err fault → G)
-      → after o inside next ≡ Some found → (r >>= k) ≡ Err fault → G
+      → failed_after o inside next ≡ Some found → (r >>= k) ≡ Err fault → G
   after_fault (Ok v) k o inside next e within further is fails =
-      further v (sym (ap (λ (q : Option Amount). after q inside next) e) ∙ is) fails
+      further v (sym (ap (λ (q : Option Amount). failed_after q inside next) e) ∙ is) fails
   after_fault (Err f) k o inside next e within further is fails =
-      within (sym (ap (λ (q : Option Amount). after q inside next) e) ∙ is) fails
+      within (sym (ap (λ (q : Option Amount). failed_after q inside next) e) ∙ is) fails
 
 pub opposite_fault : (r : Worth) (fault : ValueFault) → (r >>= (λ v. Ok (negative_amount v))) ≡ Err fault
     → r ≡ Err fault
@@ -59,7 +60,8 @@ module _ (t : Table) (found : FailedStep) (fault : ValueFault) where
   pub found_fault : (s : FailedStep) → Some s ≡ Some found → step_result t s ≡ Err fault → HasFault
   found_fault s is fails = subst (λ (p : FailedStep). step_result t p ≡ Err fault) (same_Some s found is) fails
 
-  quotient_fault : (x y : Fraction) (r : Result Fraction FracFault) → fraction_quotient x y ≡ r → number r ≡ Err fault
+  quotient_fault : (x y : Fraction) (r : Result Fraction FracFault) → fraction_quotient x y ≡ r
+      → worth_of_number r ≡ Err fault
       → amount (quotient_of (plain_number x) (plain_number y)) ≡ Err fault
   quotient_fault x y (Ok z) e fails = cc
   quotient_fault x y (Err f) e fails =
@@ -67,7 +69,7 @@ module _ (t : Table) (found : FailedStep) (fault : ValueFault) where
       ∙ fails
 
   pub bar_fault : (a b : Result Fraction FracFault) → quotient_step a b ≡ Some found
-      → number (a >>= (λ x. b >>= (λ y. fraction_quotient x y))) ≡ Err fault → HasFault
+      → worth_of_number (a >>= (λ x. b >>= (λ y. fraction_quotient x y))) ≡ Err fault → HasFault
   bar_fault (Ok x) (Ok y) is fails =
       found_fault (Joined Divide (plain_number x) (plain_number y)) is
       (quotient_fault x y (fraction_quotient x y) refl fails)
@@ -84,20 +86,21 @@ module _ (t : Table) (found : FailedStep) (fault : ValueFault) where
 
   -- an expression and the step after its value
   module _ (e : Syntax) (closed : AreClosed t (words_in e))
-      (within : failed (is_function_word t) (value_of_tree t) e ≡ Some found → value (expansion t e) None ≡ Err fault
+      (within : step_failed_in (is_function_word t) (value_of_tree t) e ≡ Some found
+      → value (expansion t e) None ≡ Err fault
       → HasFault) where
     pub operand_fault : (next : Amount → Option FailedStep) (k : Amount → Worth)
         → ((v : Amount) → next v ≡ Some found → k v ≡ Err fault → HasFault)
-        → after (value_of_tree t e) (failed (is_function_word t) (value_of_tree t) e) next ≡ Some found
+        → failed_after (value_of_tree t e) (step_failed_in (is_function_word t) (value_of_tree t) e) next ≡ Some found
         → (value (expansion t e) None >>= k) ≡ Err fault → HasFault
     operand_fault next k further is fails =
         after_fault found fault (value (expansion t e) None) k (value_of_tree t e)
-        (failed (is_function_word t) (value_of_tree t) e) next (closed_value t e closed) within further is fails
+        (step_failed_in (is_function_word t) (value_of_tree t) e) next (closed_value t e closed) within further is fails
 
     -- the same of one more member
     pub link_fault : (s : Step) (v : Amount) (rest : Amount → Option FailedStep) (k : Amount → Worth)
         → ((next : Amount) → rest next ≡ Some found → k next ≡ Err fault → HasFault)
-        → after (value_of_tree t e) (failed (is_function_word t) (value_of_tree t) e)
+        → failed_after (value_of_tree t e) (step_failed_in (is_function_word t) (value_of_tree t) e)
         (λ w. unless_joined s v w (step_of s v w) rest) ≡ Some found
         → (value (expansion t e) None >>= (λ w. step_worth s v w >>= k)) ≡ Err fault → HasFault
     link_fault s v rest k further is fails =
@@ -106,13 +109,13 @@ module _ (t : Table) (found : FailedStep) (fault : ValueFault) where
 
     -- a word that is no function and its operand
     chain_fault : (word : List ℕ) (x : Expanded) → value_of_tree t (tree.Word word) ≡ worth_value (value x None)
-        → multiplied (value_of_tree t (tree.Word word)) (value_of_tree t e)
-        (failed (is_function_word t) (value_of_tree t) e) ≡ Some found
+        → failed_product (value_of_tree t (tree.Word word)) (value_of_tree t e)
+        (step_failed_in (is_function_word t) (value_of_tree t) e) ≡ Some found
         → value (Chain x (Link Multiply (expansion t e) NoLink)) None ≡ Err fault → HasFault
     chain_fault word x h is fails =
         after_fault found fault (value x None) (λ v. chain_value v (Link Multiply (expansion t e) NoLink) None)
         (value_of_tree t (tree.Word word)) None
-        (λ left. after (value_of_tree t e) (failed (is_function_word t) (value_of_tree t) e)
+        (λ left. failed_after (value_of_tree t e) (step_failed_in (is_function_word t) (value_of_tree t) e)
         (λ right. Some (Joined Multiply left right))) h (λ none _. absurd (no_step none))
         (λ left i n. operand_fault (λ right. Some (Joined Multiply left right))
         (λ w. step_worth Multiply left w >>= (λ next. Ok next))
@@ -123,14 +126,14 @@ module _ (t : Table) (found : FailedStep) (fault : ValueFault) where
         no_step q = cc
 
     pub product_fault : (word : List ℕ) (m : Meaning)
-        → value_of_tree t (tree.Word word) ≡ worth_value (value (plain m) None)
-        → multiplied (value_of_tree t (tree.Word word)) (value_of_tree t e)
-        (failed (is_function_word t) (value_of_tree t) e) ≡ Some found
+        → value_of_tree t (tree.Word word) ≡ worth_value (value (expanded_meaning m) None)
+        → failed_product (value_of_tree t (tree.Word word)) (value_of_tree t e)
+        (step_failed_in (is_function_word t) (value_of_tree t) e) ≡ Some found
         → value (call_expansion m (expansion t e)) None ≡ Err fault → HasFault
-    product_fault word (One x) h is fails = chain_fault word (plain (One x)) h is fails
-    product_fault word (Two x y) h is fails = chain_fault word (plain (Two x y)) h is fails
+    product_fault word (One x) h is fails = chain_fault word (expanded_meaning (One x)) h is fails
+    product_fault word (Two x y) h is fails = chain_fault word (expanded_meaning (Two x y)) h is fails
     product_fault word (Callee f) h is fails =
         let none : None ≡ Some found =
-        sym (ap (λ (o : Option Amount). multiplied o (value_of_tree t e)
-        (failed (is_function_word t) (value_of_tree t) e)) h) ∙ is in
+        sym (ap (λ (o : Option Amount). failed_product o (value_of_tree t e)
+        (step_failed_in (is_function_word t) (value_of_tree t) e)) h) ∙ is in
         cc

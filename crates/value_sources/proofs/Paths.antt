@@ -25,7 +25,7 @@ use Rattle.value_sources.specs.Uses.{key_uses}
 use Rattle.value_sources.specs.PlacedMentions.{IsFound}
 use Rattle.value_sources.proofs.Lists.{member_first, member_later}
 use Rattle.value_sources.proofs.Members.{among_is, is_among_of}
-use Rattle.value_sources.proofs.Placing.{no_entry, one_key, within}
+use Rattle.value_sources.proofs.Placing.{no_entry, one_key, place_in_deck}
 use Rattle.value_sources.proofs.Walking.{entry_found, first_found}
 
 -- ---- items of lists
@@ -225,7 +225,7 @@ visited_visit r n e t = ap (λ (b : Bool). cond b r.mention.target None) e ∙ t
 pub line_inside : (d : Contents) (o : Option Key) (place : ℕ)
     → option_and_then (last_place d.settings d.lines) o ≡ Some place → place < length d.lines
 line_inside d None place e = cc
-line_inside d (Some n) place e = within d n place e
+line_inside d (Some n) place e = place_in_deck d n place e
 
 module _ (d : Contents) (depths places : List ℕ) (path : List Key) (r : Row) (now : List ℕ)
     (kept : now ≡ take r.mention.depth places) (is : IsPlacePath d depths places path) where
@@ -281,7 +281,7 @@ module _ (d : Contents) (depths places : List ℕ) (path : List Key) (r : Row) (
           → (false ≡ closes_cycle path r) × IsPlacePath d (set depths place len) after (path_after path r)
       by None t e = cc
       by (Some n) t e =
-          let inside : place < length depths = let w = within d n place e in omega (arith, w, room) in
+          let inside : place < length depths = let w = place_in_deck d n place e in omega (arith, w, room) in
           let f : (is_present (table d) n ≡ true) × (Contains (path_at path r) n → ⊥) =
           follow n (visited_visit r n v t) in
           let more : IsPlacePath d (set depths place (length now)) (now ++ place ∷ []) (path_at path r ++ n ∷ []) =

@@ -158,9 +158,9 @@ pub one_key : (d : Contents) (k n : Key) (place : ℕ) → last_place d.settings
 one_key d k n place e h = same_Some k n (sym (there d k place e) ∙ there d n place h)
 
 -- the last place of a key is the place of a line
-pub within : (d : Contents) (k : Key) (place : ℕ) → last_place d.settings d.lines k ≡ Some place
+pub place_in_deck : (d : Contents) (k : Key) (place : ℕ) → last_place d.settings d.lines k ≡ Some place
     → place < length d.lines
-within d k place e = by (slice_get d.lines place) refl (there d k place e)
+place_in_deck d k place e = by (slice_get d.lines place) refl (there d k place e)
   where
     by : (o : Option DeckLine) → slice_get d.lines place ≡ o
         → option_map (λ d. d.0) (option_and_then entry_in (slice_get d.lines place)) ≡ Some k → place < length d.lines
@@ -169,7 +169,8 @@ within d k place e = by (slice_get d.lines place) refl (there d k place e)
     by (Some line) q h = slice_get_within d.lines place line q
 
 -- the place of a key whose line is not marked is that of a key that was not visited
-pub unvisited : (d : Contents) (marks : List Bool) (visited : List Key) → MarksVisits d marks visited → (key : Option Key)
+pub unvisited : (d : Contents) (marks : List Bool) (visited : List Key) → MarksVisits d marks visited
+    → (key : Option Key)
     (place : Option ℕ) → ((n : Key) → key ≡ Some n → is_present (table d) n ≡ true) → place ≡ target_place d key
     → IsUnvisitedPlace d visited key (unmarked_place marks place)
 unvisited d marks visited marked None place there e =

@@ -122,9 +122,9 @@ module _ (table : Table) where
   reached_visited {rows = rows} all all_led (further {n = k} l r) =
       reached_visited all (λ n q. known_visited rows n (keys_known all k n (all_led k l) q)) r
 
-  pub exact : (words : List WordUse) (rows : List Row) → AreRowsOf table words rows → (n : Key)
+  pub visited_are_reached : (words : List WordUse) (rows : List Row) → AreRowsOf table words rows → (n : Key)
       → Contains (visited_keys rows) n ↔ WordsReach table words n
-  exact words rows all n = (
+  visited_are_reached words rows all n = (
     visited_hold (WordsReach table words) (λ k m r l. onward r (at_once l)) all
         (λ k l. at_once (first_cases table words k l)) n,
     reached_visited all (λ k l. known_visited rows k (pending_known all k (first_member table words k l))),

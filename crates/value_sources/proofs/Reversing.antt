@@ -37,7 +37,8 @@ module _ {A : Type 0} where
       ∙ ap (λ (xs : List A). xs ++ reverse pending) (reverse-reverse ms))
 
 -- the mentions of one more word are appended
-pub mentions_next : (t : Contents) (depth : ℕ) (s : Site) (words : List WordUse) (i : ℕ) (d : WordUse) → i < length words
+pub mentions_next : (t : Contents) (depth : ℕ) (s : Site) (words : List WordUse) (i : ℕ) (d : WordUse)
+    → i < length words
     → (before now all : List Placed)
     → now ≡ before ++ placed_to t depth (use_at s (get_or words i d)) (targets (table t) (get_or words i d))
     → before ++ placed_mentions t depth (uses_at s (drop i words)) ≡ all

@@ -15,7 +15,7 @@ use Rattle.tree_eval.specs.Expansions.{Meaning}
 use Rattle.tree_eval.specs.Expansion.{call_expansion, called_word, factor_links, inverse_expansion, inverted_word}
 use Rattle.tree_eval.specs.Expansion.{member_links, scale_step}
 use Rattle.tree_eval.specs.Expansion.{sign_step, term_links}
-use Rattle.tree_eval.specs.Steps.{Worth, amount, root}
+use Rattle.tree_eval.specs.Steps.{Worth, amount, root_worth}
 use Rattle.tree_eval.specs.Value.{chain_value, inverse_value_at, value, value_at}
 use Rattle.table_names.specs.declared.fault.NameFault.{NameFault}
 use Rattle.table_names.specs.ClosedKeys.{AreClosed, IsClosed, WordLeadsInto}
@@ -27,8 +27,8 @@ use Rattle.live_table.specs.Answers.{by_names, inverse_at}
 use Rattle.live_table.specs.declared.fault.QueryFault.TheVariants.{Value}
 use Rattle.value_sources.specs.declared.failure.FailedStep.{FailedStep}
 use Rattle.value_sources.specs.declared.failure.FailedStep.TheVariants.{Called, Inverted, Raised, Rooted}
-use Rattle.value_sources.specs.FailedSteps.{after, failed, failed_factors, failed_members, failed_terms}
-use Rattle.value_sources.specs.FailedSteps.{is_function_word, multiplied, value_of_tree}
+use Rattle.value_sources.specs.FailedSteps.{failed_after, failed_factors, failed_members, failed_terms, step_failed_in}
+use Rattle.value_sources.specs.FailedSteps.{failed_product, is_function_word, value_of_tree}
 use Rattle.value_sources.specs.StepFaults.{FailedStepLaw, call_at}
 use Rattle.value_sources.proofs.FunctionWords.{closed_left, closed_right, first_leads, function_meaning}
 use Rattle.value_sources.proofs.FunctionWords.{no_inverse_targets, plain_value}
@@ -38,13 +38,13 @@ use Rattle.value_sources.proofs.OperandFaults.{opposite_fault, product_fault}
 module _ (closing : ClosedWordLaw) (kinds : KindLaw) (t : Table) (fits : FitsKinds t) (found : FailedStep)
     (fault : ValueFault) where
   module _ (w : List ℕ) (e : Syntax) (closed : AreClosed t (words_in e))
-      (within : failed (is_function_word t) (value_of_tree t) e ≡ Some found
+      (within : step_failed_in (is_function_word t) (value_of_tree t) e ≡ Some found
       → value (expansion t e) None ≡ Err fault → HasFault t found fault) where
     call_fault : (b : Bool) → is_function_word t (called_word w) ≡ b → WordLeadsInto t (IsClosed t) (called_word w)
-        → (if b then after (value_of_tree t e) (failed (is_function_word t) (value_of_tree t) e)
+        → (if b then failed_after (value_of_tree t e) (step_failed_in (is_function_word t) (value_of_tree t) e)
         (λ v. Some (Called w v))
-        else multiplied (value_of_tree t (tree.Word w)) (value_of_tree t e)
-        (failed (is_function_word t) (value_of_tree t) e)) ≡ Some found
+        else failed_product (value_of_tree t (tree.Word w)) (value_of_tree t e)
+        (step_failed_in (is_function_word t) (value_of_tree t) e)) ≡ Some found
         → value (call_expansion (word_meaning t (called_word w)) (expansion t e)) None ≡ Err fault
         → HasFault t found fault
     call_fault true h leads is fails =
@@ -59,10 +59,10 @@ module _ (closing : ClosedWordLaw) (kinds : KindLaw) (t : Table) (fits : FitsKin
 
     inverse_fault : (b : Bool) → is_function_word t (inverted_word w) ≡ b
         → WordLeadsInto t (IsClosed t) (inverted_word w)
-        → (if b then after (value_of_tree t e) (failed (is_function_word t) (value_of_tree t) e)
+        → (if b then failed_after (value_of_tree t e) (step_failed_in (is_function_word t) (value_of_tree t) e)
         (λ v. Some (Inverted w v))
-        else multiplied (value_of_tree t (tree.Word w)) (value_of_tree t e)
-        (failed (is_function_word t) (value_of_tree t) e)) ≡ Some found
+        else failed_product (value_of_tree t (tree.Word w)) (value_of_tree t e)
+        (step_failed_in (is_function_word t) (value_of_tree t) e)) ≡ Some found
         → value (inverse_expansion (word_meaning t (inverted_word w)) (expansion t e)) None ≡ Err fault
         → HasFault t found fault
     inverse_fault true h leads is fails =
@@ -70,11 +70,11 @@ module _ (closing : ClosedWordLaw) (kinds : KindLaw) (t : Table) (fits : FitsKin
         operand_fault t found fault e closed within (λ v. Some (Inverted w v)) (λ v. inverse_value_at m.0 v)
         (λ v i n. found_fault t found fault (Inverted w v) i (ap (λ (k : Meaning). inverse_at k v) m.1 ∙ n)) is
         (sym (ap (λ (k : Meaning). value (inverse_expansion k (expansion t e)) None) m.1) ∙ fails)
-    inverse_fault false h leads is fails = absurd (leads.known (no_inverse_targets t w h))
+    inverse_fault false h leads is fails = absurd (leads.has_targets (no_inverse_targets t w h))
 
   mutual
     tree_fault : (e : Syntax) → AreClosed t (words_in e)
-        → failed (is_function_word t) (value_of_tree t) e ≡ Some found → value (expansion t e) None ≡ Err fault
+        → step_failed_in (is_function_word t) (value_of_tree t) e ≡ Some found → value (expansion t e) None ≡ Err fault
         → HasFault t found fault
     tree_fault (tree.Number x) c is fails = cc
     tree_fault (tree.Bar x y) c is fails = bar_fault t found fault (value_of_decimal x) (value_of_decimal y) is fails
@@ -89,7 +89,7 @@ module _ (closing : ClosedWordLaw) (kinds : KindLaw) (t : Table) (fits : FitsKin
         inverse_fault w e closed (tree_fault e closed) (is_function_word t (inverted_word w)) refl
         (first_leads closing kinds t fits (inverted_word w) (words_in e) c) is fails
     tree_fault (tree.Root kind e) c is fails =
-        operand_fault t found fault e c (tree_fault e c) (λ v. Some (Rooted kind v)) (λ v. root kind v)
+        operand_fault t found fault e c (tree_fault e c) (λ v. Some (Rooted kind v)) (λ v. root_worth kind v)
         (λ v i n. found_fault t found fault (Rooted kind v) i n) is fails
     tree_fault (tree.Group e) c is fails = tree_fault e c is fails
     tree_fault (tree.Negate e) c is fails =
@@ -98,7 +98,8 @@ module _ (closing : ClosedWordLaw) (kinds : KindLaw) (t : Table) (fits : FitsKin
         let left = closed_left closing kinds t fits (words_in e) (words_in f) c in
         let right = closed_right closing kinds t fits (words_in e) (words_in f) c in
         operand_fault t found fault e left (tree_fault e left)
-        (λ b. after (value_of_tree t f) (failed (is_function_word t) (value_of_tree t) f) (λ p. Some (Raised b p)))
+        (λ b. failed_after (value_of_tree t f) (step_failed_in (is_function_word t) (value_of_tree t) f)
+        (λ p. Some (Raised b p)))
         (λ b. value (expansion t f) None >>= (λ p. amount (power_of b p)))
         (λ b i n. operand_fault t found fault f right (tree_fault f right) (λ p. Some (Raised b p))
         (λ p. amount (power_of b p)) (λ p j m. found_fault t found fault (Raised b p) j m) i n) is fails

@@ -52,5 +52,5 @@ tried_push names more all ks now kind start end w a n s e =
     let k : TriedKey = record { kind = kind; start = start; end = end } in
     (λ i. keys_in (a i) (n i))
     ∙ (map-append (key_in (names ++ more)) ks (k ∷ [])
-    ∙ (λ i. same_keys names more ks w.starts w.ends i ++ last_key names more k s (e ∙ ap length a) i ∷
+    ∙ (λ i. same_keys names more ks w.range_starts w.range_ends i ++ last_key names more k s (e ∙ ap length a) i ∷
     []))

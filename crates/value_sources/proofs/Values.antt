@@ -16,7 +16,7 @@ use Rattle.def_entry.specs.Tables.{Table, entry_at, is_present}
 use Rattle.name_lookup.specs.Candidates.{first_present, part_candidates}
 use Rattle.tree_eval.specs.Entries.{meaning_of}
 use Rattle.tree_eval.specs.Expansions.{Dimensionless, Expanded, Meaning, One, Primitive}
-use Rattle.tree_eval.specs.Expansion.{plain, plain_word}
+use Rattle.tree_eval.specs.Expansion.{expanded_meaning, plain_word}
 use Rattle.tree_eval.specs.Outcomes.{outcome_of, stored_outcome, worth_in}
 use Rattle.tree_eval.specs.Steps.{Worth}
 use Rattle.tree_eval.specs.Value.{value}
@@ -27,7 +27,7 @@ use Rattle.table_names.specs.Meanings.{ClosedMeaningLaw, entry_meaning, expansio
 use Rattle.table_names.specs.Meanings.{targets_meaning}
 use Rattle.table_names.specs.Meanings.{word_meaning}
 use Rattle.table_names.specs.Words.{entry_words, what_words}
-use Rattle.live_table.specs.Answers.{answer, by_names}
+use Rattle.live_table.specs.Answers.{by_names, table_answer}
 use Rattle.value_sources.specs.Values.{ValueLaw, named_unit, syntax_by, syntax_in}
 use Rattle.value_sources.proofs.Lists.{member_first}
 
@@ -53,7 +53,7 @@ module _ (t : Table) (n : Key) (e : Syntax) (d : Entry) (there : entry_at t n �
       ∙ (ap (entry_meaning (word_meaning t) n.name) there
       ∙ ap (meaning_of (word_meaning t) n.name) is)
 
-  body_value : answer t e ≡ by_names None (worth_in (outcome t n))
+  body_value : table_answer t e ≡ by_names None (worth_in (outcome t n))
   body_value =
       ap (λ o. by_names o (value (expansion t e) None)) closed
       ∙ ap (by_names None) (one_value t n (expansion t e) body_meaning)
@@ -82,22 +82,22 @@ module _ (t : Table) (w : List ℕ) (d : Entry) (there : entry_at t (key kind.Un
       (member_first (key kind.Unit w) (key kind.Unit w) [] refl))
 
   unit_value : (x : Expanded) → meaning_of (word_meaning t) w d.what ≡ One x
-      → answer t (Word w) ≡ by_names None (worth_in (outcome t (key kind.Unit w)))
+      → table_answer t (Word w) ≡ by_names None (worth_in (outcome t (key kind.Unit w)))
   unit_value x is =
       let means : key_meaning t (key kind.Unit w) ≡ One x =
       meaning t (key kind.Unit w) unit_closed ∙ (ap (entry_meaning (word_meaning t) w) there ∙ is) in
-      ap (λ o. by_names o (value (plain (word_meaning t (plain_word w))) None)) closed
-      ∙ ap (by_names None) (ap (λ (m : Meaning). value (plain m) None) (word_means ∙ means)
+      ap (λ o. by_names o (value (expanded_meaning (word_meaning t (plain_word w))) None)) closed
+      ∙ ap (by_names None) (ap (λ (m : Meaning). value (expanded_meaning m) None) (word_means ∙ means)
       ∙ one_value t (key kind.Unit w) x means)
 
 -- ---- by the definition of the key
 module _ (closing : ClosedWordLaw) (meaning : ClosedMeaningLaw) (t : Table) where
   primitive_value : (k : Kind) (w : List ℕ) (d : Entry) (x : Expanded) (e : Syntax)
       → entry_at t (key k w) ≡ Some d → meaning_of (word_meaning t) w d.what ≡ One x → named_unit k w ≡ Some e
-      → AreClosed t (words_in e) → answer t e ≡ by_names None (worth_in (outcome t (key k w)))
+      → AreClosed t (words_in e) → table_answer t e ≡ by_names None (worth_in (outcome t (key k w)))
   primitive_value kind.Unit w d x e there is named closed =
       let same : Word w ≡ e = same_Some (Word w) e named in
-      subst (λ (s : Syntax). answer t s ≡ by_names None (worth_in (outcome t (key kind.Unit w)))) same
+      subst (λ (s : Syntax). table_answer t s ≡ by_names None (worth_in (outcome t (key kind.Unit w)))) same
       (unit_value t w d there closing meaning
       (subst (λ (s : Syntax). AreClosed t (words_in s)) (sym same) closed) x is)
   primitive_value kind.Prefix w d x e there is named closed = cc
@@ -106,7 +106,7 @@ module _ (closing : ClosedWordLaw) (meaning : ClosedMeaningLaw) (t : Table) wher
 
   entry_value : (n : Key) (text : List ℕ) (w : What) (e : Syntax)
       → entry_at t n ≡ Some (record { text = text; what = w }) → syntax_in n.kind n.name w ≡ Some e
-      → AreClosed t (words_in e) → answer t e ≡ by_names None (worth_in (outcome t n))
+      → AreClosed t (words_in e) → table_answer t e ≡ by_names None (worth_in (outcome t n))
   entry_value n text what.Primitive e there is closed =
       primitive_value n.kind n.name _ (Primitive n.name) e there refl is closed
   entry_value n text what.Dimensionless e there is closed =
@@ -119,7 +119,7 @@ module _ (closing : ClosedWordLaw) (meaning : ClosedMeaningLaw) (t : Table) wher
   entry_value n text (what.ListOf parts) e there is closed = cc
 
   given_value : (n : Key) (o : Option Entry) (e : Syntax) → entry_at t n ≡ o → syntax_by n.kind n.name o ≡ Some e
-      → AreClosed t (words_in e) → answer t e ≡ by_names None (worth_in (outcome t n))
+      → AreClosed t (words_in e) → table_answer t e ≡ by_names None (worth_in (outcome t n))
   given_value n None e there is closed = cc
   given_value n (Some d) e there is closed = entry_value n d.text d.what e there is closed
 

@@ -112,7 +112,7 @@ pub underway_start : TargetsLaw → (d : Contents) (words : List WordUse) (rows 
     → IsUnderway d (first_mentions (table d) words) rows pending
 underway_start law d words rows pending none e =
     subst (λ (rs : List Row). IsUnderway d (first_mentions (table d) words) rs pending) (sym none) (record {
-      all = λ rest h. subst (λ (ms : List Mention). AreRows (table d) [] ms rest)
+      rows_to_come = λ rest h. subst (λ (ms : List Mention). AreRows (table d) [] ms rest)
           (ap (map mention_of) e ∙ mentions_are d 0 (uses_at Expression words)) h;
       sound = λ p i. first_sound law d words p (subst (λ (ps : List Placed). Contains ps p) e i);
     })
@@ -136,14 +136,14 @@ module _ (d : Contents) (start : List Mention) (rows : List Row) (p : Placed) (l
       → AreRows (table d) (visited_keys rows) (p.mention ∷ map mention_of (reverse left)) rest
       → AreRows (table d) [] start (rows ++ rest)
   goes_on rest q =
-      h.all rest (subst (λ (ps : List Placed). AreRows (table d) (visited_keys rows) (map mention_of ps) rest)
+      h.rows_to_come rest (subst (λ (ps : List Placed). AreRows (table d) (visited_keys rows) (map mention_of ps) rest)
       (sym reversed) q)
 
   -- the state after a row that visits nothing
   pub underway_skipped : is_skipped (visited_keys rows) p.mention.target ≡ true
       → IsUnderway d start (rows ++ skipped_row p.mention ∷ []) left
   underway_skipped s = record {
-    all = λ rest q.
+    rows_to_come = λ rest q.
         subst (AreRows (table d) [] start) (sym (append_assoc rows (skipped_row p.mention ∷ []) rest))
         (goes_on (skipped_row p.mention ∷ rest) (Skipped s
         (subst (λ (ks : List Key). AreRows (table d) ks (map mention_of (reverse left)) rest)
@@ -164,7 +164,7 @@ module _ (d : Contents) (start : List Mention) (rows : List Row) (p : Placed) (l
       ∙ ap (λ (ms : List Mention). ms ++ map mention_of (reverse left))
       (mentions_are d (p.mention.depth + 1) (key_uses (table d) n))) in
       record {
-        all = λ rest q.
+        rows_to_come = λ rest q.
             subst (AreRows (table d) [] start) (sym (append_assoc rows (visited_row p.mention ∷ []) rest))
             (goes_on (visited_row p.mention ∷ rest) (Visited e new
             (subst (λ (ms : List Mention). AreRows (table d) (visited_keys rows ++ n ∷ []) ms rest) put_mentions
@@ -183,15 +183,16 @@ pub underway_end : (d : Contents) (start : List Mention) (rows : List Row) (pend
     → IsUnderway d start rows pending → AreRows (table d) [] start rows
 underway_end d start rows pending none h =
     subst (AreRows (table d) [] start) (append-nil rows)
-    (h.all [] (subst (λ (ps : List Placed). AreRows (table d) (visited_keys rows) (map mention_of (reverse ps)) [])
+    (h.rows_to_come [] (subst
+    (λ (ps : List Placed). AreRows (table d) (visited_keys rows) (map mention_of (reverse ps)) [])
     (sym none) Finished))
 
 -- the marks after a row that visits nothing
 pub marks_skipped : (d : Contents) (marks : List Bool) (rows : List Row) (m : Mention) → AreMarked d marks rows
     → AreMarked d marks (rows ++ skipped_row m ∷ [])
 marks_skipped d marks rows m h = record {
-  room = h.room;
-  marked = λ n. h.marked n ∙ ap (λ (ks : List Key). is_key_among ks n) (sym (keys_skipped rows m));
+  mark_per_line = h.mark_per_line;
+  visits_marked = λ n. h.visits_marked n ∙ ap (λ (ks : List Key). is_key_among ks n) (sym (keys_skipped rows m));
 }
 
 -- the marks after a row that visits a key, whose line was marked
@@ -199,8 +200,8 @@ pub marks_visited : (d : Contents) (marks : List Bool) (rows : List Row) (m : Me
     → AreMarked d marks rows → m.target ≡ Some n → last_place d.settings d.lines n ≡ Some place
     → AreMarked d (set marks place true) (rows ++ visited_row m ∷ [])
 marks_visited d marks rows m n place h e p = record {
-  room = length-set marks place true ∙ h.room;
-  marked = λ k. marked_next d marks (visited_keys rows) n place h.room h.marked p k
+  mark_per_line = length-set marks place true ∙ h.mark_per_line;
+  visits_marked = λ k. marked_next d marks (visited_keys rows) n place h.mark_per_line h.visits_marked p k
       ∙ ap (λ (ks : List Key). is_key_among ks k) (sym (keys_visited rows m n e));
 }
 
@@ -220,4 +221,4 @@ pub place_found : (d : Contents) (marks flags : List Bool) (rows : List Row) (p 
 place_found d marks flags rows p answer place h f sound found is =
     subst (λ (o : Option ℕ). IsUnvisitedPlace d (visited_keys rows) p.mention.target o)
     (ap (λ (ms : List Bool). unmarked_place ms p.place) (sym f) ∙ (sym found ∙ is))
-    (unvisited d marks (visited_keys rows) h.marked p.mention.target p.place sound.0 sound.1)
+    (unvisited d marks (visited_keys rows) h.visits_marked p.mention.target p.place sound.0 sound.1)

@@ -52,8 +52,8 @@ abbrev pub inner_mention : List ℕ → Resolution → Key → Mention
 inner_mention text resolution n =
     record { depth = 1; site = InBody; word = one_word_use text; resolution = resolution; target = Some n }
 
-abbrev pub unknown : List ℕ → Mention
-unknown text =
+abbrev pub unknown_mention : List ℕ → Mention
+unknown_mention text =
     record { depth = 0; site = Expression; word = one_word_use text; resolution = Unknown; target = None }
 
 abbrev pub second_key : Key
@@ -116,7 +116,8 @@ pub record SourceExamplesLaw : Type 0 where
       (inner_mention (codes "km") Prefix kilo_key)
       ∷ visited_row (inner_mention (codes "km") PrefixedUnit metre_key) ∷ [])
   pub word_twice : AreRowsOf source_table (one_word_use (codes "m") ∷ one_word_use (codes "m") ∷ []) repeated_rows
-  pub unknown_word : AreRowsOf source_table (one_word_use (codes "x") ∷ []) (skipped_row (unknown (codes "x")) ∷ [])
+  pub unknown_word : AreRowsOf source_table (one_word_use (codes "x") ∷ [])
+      (skipped_row (unknown_mention (codes "x")) ∷ [])
   pub cycle : AreRowsOf source_table (one_word_use (codes "loop") ∷ []) loop_rows
   pub function : AreRowsOf function_table (record { text = codes "g"; kind = word_kind.Inverse } ∷ [])
       (visited_row (mention_by_name 0 Expression word_kind.Inverse g_key) ∷ visited_row

@@ -19,13 +19,13 @@ use Rattle.tree_eval.specs.declared.step.Step.TheVariants.{Multiply, Divide}
 use Rattle.tree_eval.specs.Expansion.{called_word, inverted_word, scale_step, sign_step}
 use Rattle.tree_eval.specs.Steps.{plain_number, step_of}
 use Rattle.table_names.specs.Leads.{targets}
-use Rattle.live_table.specs.Answers.{answer, value_in}
+use Rattle.live_table.specs.Answers.{table_answer, value_in}
 use Rattle.value_sources.specs.declared.failure.FailedStep.{FailedStep}
 use Rattle.value_sources.specs.declared.failure.FailedStep.TheVariants.{Called, Inverted, Joined, Raised, Rooted}
 
 -- the value of an expression, if a query of it alone answers with one
 unfoldable pub value_of_tree : Table → Syntax → Option Amount
-value_of_tree table e = value_in (answer table e)
+value_of_tree table e = value_in (table_answer table e)
 
 abbrev pub is_function_kind : Kind → Bool
 is_function_kind kind.Func = true
@@ -41,9 +41,10 @@ unfoldable pub is_function_word : Table → WordUse → Bool
 is_function_word table u = are_function (targets table u)
 
 -- the failed step from a member on: the one inside the member if it has no value, or else the one after its value
-abbrev pub after : Option Amount → (inside : Option FailedStep) → (Amount → Option FailedStep) → Option FailedStep
-after None inside next = inside
-after (Some v) inside next = next v
+abbrev pub failed_after : Option Amount → (inside : Option FailedStep) → (Amount → Option FailedStep)
+    → Option FailedStep
+failed_after None inside next = inside
+failed_after (Some v) inside next = next v
 
 -- the step from a running value to one more member if it has no value, or else the failed step after it
 abbrev pub unless_joined : Step → (left right : Amount) → Result Amount QuantityFault → (Amount → Option FailedStep)
@@ -52,14 +53,14 @@ unless_joined step left right (Ok v) next = next v
 unless_joined step left right (Err fault) next = Some (Joined step left right)
 
 -- the failed step from one more member on: the first member is the running value, and each further one is joined to it
-abbrev pub joined : Step → (running : Option Amount) → Amount → (Amount → Option FailedStep) → Option FailedStep
-joined step None right next = next right
-joined step (Some left) right next = unless_joined step left right (step_of step left right) next
+abbrev pub failed_join : Step → (running : Option Amount) → Amount → (Amount → Option FailedStep) → Option FailedStep
+failed_join step None right next = next right
+failed_join step (Some left) right next = unless_joined step left right (step_of step left right) next
 
 -- the failed step of the product of a word that is no function and its operand, by their values
-abbrev pub multiplied : (word operand : Option Amount) → (inside : Option FailedStep) → Option FailedStep
-multiplied word operand inside =
-    after word None (λ left. after operand inside (λ right. Some (Joined Multiply left right)))
+abbrev pub failed_product : (word operand : Option Amount) → (inside : Option FailedStep) → Option FailedStep
+failed_product word operand inside =
+    failed_after word None (λ left. failed_after operand inside (λ right. Some (Joined Multiply left right)))
 
 -- the quotient of two numerals that each have a value
 abbrev pub quotient_step : Result Fraction FracFault → Result Fraction FracFault → Option FailedStep
@@ -71,42 +72,46 @@ module _ (is_function : WordUse → Bool) (value : Syntax → Option Amount) whe
   abbrev mutual
     -- the first step of an expression, from left to right, that has no value although its operands have values; None
     -- if there is no such step, because a word has no value or a numeral is out of range. The expression has no value
-    pub failed : Syntax → Option FailedStep
-    failed (Number x) = None
-    failed (Bar x y) = quotient_step (value_of_decimal x) (value_of_decimal y)
-    failed (Word w) = None
-    failed Argument = None
-    failed (Call w e) =
-        if is_function (called_word w) then after (value e) (failed e) (λ v. Some (Called w v))
-        else multiplied (value (Word w)) (value e) (failed e)
-    failed (Inverse w e) =
-        if is_function (inverted_word w) then after (value e) (failed e) (λ v. Some (Inverted w v))
-        else multiplied (value (Word w)) (value e) (failed e)
-    failed (Root kind e) = after (value e) (failed e) (λ v. Some (Rooted kind v))
-    failed (Group e) = failed e
-    failed (Negate e) = failed e
-    failed (Power e f) =
-        after (value e) (failed e) (λ base. after (value f) (failed f) (λ exponent. Some (Raised base exponent)))
-    failed (Juxtaposed es) = failed_members None es
-    failed (Product fs) = failed_factors None fs
-    failed (Sum ts) = failed_terms None ts
+    pub step_failed_in : Syntax → Option FailedStep
+    step_failed_in (Number x) = None
+    step_failed_in (Bar x y) = quotient_step (value_of_decimal x) (value_of_decimal y)
+    step_failed_in (Word w) = None
+    step_failed_in Argument = None
+    step_failed_in (Call w e) =
+        if is_function (called_word w) then failed_after (value e) (step_failed_in e) (λ v. Some (Called w v))
+        else failed_product (value (Word w)) (value e) (step_failed_in e)
+    step_failed_in (Inverse w e) =
+        if is_function (inverted_word w) then failed_after (value e) (step_failed_in e) (λ v. Some (Inverted w v))
+        else failed_product (value (Word w)) (value e) (step_failed_in e)
+    step_failed_in (Root kind e) = failed_after (value e) (step_failed_in e) (λ v. Some (Rooted kind v))
+    step_failed_in (Group e) = step_failed_in e
+    step_failed_in (Negate e) = step_failed_in e
+    step_failed_in (Power e f) =
+        failed_after (value e) (step_failed_in e)
+        (λ base. failed_after (value f) (step_failed_in f) (λ exponent. Some (Raised base exponent)))
+    step_failed_in (Juxtaposed es) = failed_members None es
+    step_failed_in (Product fs) = failed_factors None fs
+    step_failed_in (Sum ts) = failed_terms None ts
 
     -- the failed step of the members of a list after a running value
     pub failed_members : (running : Option Amount) → Members → Option FailedStep
     failed_members running NoMember = None
     failed_members running (Member e es) =
-        after (value e) (failed e) (λ v. joined Multiply running v (λ next. failed_members (Some next) es))
+        failed_after (value e) (step_failed_in e)
+        (λ v. failed_join Multiply running v (λ next. failed_members (Some next) es))
 
     pub failed_factors : (running : Option Amount) → Factors → Option FailedStep
     failed_factors running NoFactor = None
     failed_factors running (Factor scale e fs) =
-        after (value e) (failed e) (λ v. joined (scale_step scale) running v (λ next. failed_factors (Some next) fs))
+        failed_after (value e) (step_failed_in e)
+        (λ v. failed_join (scale_step scale) running v (λ next. failed_factors (Some next) fs))
 
     pub failed_terms : (running : Option Amount) → Terms → Option FailedStep
     failed_terms running NoTerm = None
     failed_terms running (Term sign e ts) =
-        after (value e) (failed e) (λ v. joined (sign_step sign) running v (λ next. failed_terms (Some next) ts))
+        failed_after (value e) (step_failed_in e)
+        (λ v. failed_join (sign_step sign) running v (λ next. failed_terms (Some next) ts))
 
 -- the step at which an expression has no value
 abbrev pub failed_step : Table → Syntax → Option FailedStep
-failed_step table e = failed (is_function_word table) (value_of_tree table) e
+failed_step table e = step_failed_in (is_function_word table) (value_of_tree table) e

@@ -5,7 +5,7 @@ use Rattle.tree_eval.specs.declared.step.Step.{Step}
 use Rattle.value_sources.specs.declared.failure.FailedStep.{FailedStep}
 use Rattle.value_sources.specs.declared.joining.Progress.{Progress}
 use Rattle.value_sources.specs.declared.joining.Progress.TheVariants.{End, Value}
-use Rattle.value_sources.specs.FailedSteps.{after, joined}
+use Rattle.value_sources.specs.FailedSteps.{failed_after, failed_join}
 
 -- the result of the search: its end, or the result of the rest after the value so far
 abbrev pub follow : Progress → (Amount → Option FailedStep) → Option FailedStep
@@ -13,10 +13,11 @@ follow (Value v) next = next v
 follow (End step) next = step
 
 -- a member with this value, or else with this failed step inside it, was reached, whatever follows
-abbrev pub IsReached : Option Amount → (inside : Option FailedStep) → Progress → Type 0
-IsReached value inside reached = (next : Amount → Option FailedStep) → after value inside next ≡ follow reached next
+abbrev pub IsJoinProgress : Option Amount → (inside : Option FailedStep) → Progress → Type 0
+IsJoinProgress value inside reached = (next : Amount → Option FailedStep)
+    → failed_after value inside next ≡ follow reached next
 
 -- the member was joined to the running value by the step, whatever follows
 abbrev pub IsJoined : Step → (running : Option Amount) → (member joined : Progress) → Type 0
 IsJoined step running member result =
-    (next : Amount → Option FailedStep) → follow member (λ v. joined step running v next) ≡ follow result next
+    (next : Amount → Option FailedStep) → follow member (λ v. failed_join step running v next) ≡ follow result next

@@ -11,9 +11,9 @@ use Rattle.value_sources.specs.Rows.{AreRowsOf, Row, visited_keys}
 -- law: the words of an expression have at most one list of rows. The keys that the rows visit are exactly those that
 -- the words reach, each once. The call `rows` shows that there is such a list by returning it.
 pub record SourceRowsLaw : Type 0 where
-  pub one : (table : Table) (words : List WordUse) (rows others : List Row) → AreRowsOf table words rows
+  pub one_list : (table : Table) (words : List WordUse) (rows others : List Row) → AreRowsOf table words rows
       → AreRowsOf table words others → rows ≡ others
-  pub exact : (table : Table) (words : List WordUse) (rows : List Row) → AreRowsOf table words rows
+  pub rows_exact : (table : Table) (words : List WordUse) (rows : List Row) → AreRowsOf table words rows
       → (n : Key) → Contains (visited_keys rows) n ↔ WordsReach table words n
-  pub once : (table : Table) (words : List WordUse) (rows : List Row) → AreRowsOf table words rows
+  pub each_key_once : (table : Table) (words : List WordUse) (rows : List Row) → AreRowsOf table words rows
       → IsDistinct is_same (visited_keys rows)

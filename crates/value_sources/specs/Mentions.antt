@@ -20,10 +20,10 @@ pub record Mention : Type 0 where
   pub target : Option Key
 
 -- the text of a word that is not stored if it is the name of its key
-abbrev pub written : (word : Option (List ℕ)) → Option Key → List ℕ
-written (Some word) key = word
-written None (Some n) = n.name
-written None None = []
+abbrev pub mention_text : (word : Option (List ℕ)) → Option Key → List ℕ
+mention_text (Some word) key = word
+mention_text None (Some n) = n.name
+mention_text None None = []
 
 abbrev pub unknown_mention : ℕ → Use → Mention
 unknown_mention depth u =

@@ -13,5 +13,5 @@ keys_in names tried = map (key_in names) tried
 
 -- each range is within the names
 pub record AreRangesWithin (names : List ℕ) (tried : List TriedKey) : Type 0 where
-  pub starts : (i : ℕ) (k : TriedKey) → slice_get tried i ≡ Some k → k.start ≤ k.end
-  pub ends : (i : ℕ) (k : TriedKey) → slice_get tried i ≡ Some k → k.end ≤ length names
+  pub range_starts : (i : ℕ) (k : TriedKey) → slice_get tried i ≡ Some k → k.start ≤ k.end
+  pub range_ends : (i : ℕ) (k : TriedKey) → slice_get tried i ≡ Some k → k.end ≤ length names

@@ -11,7 +11,7 @@ use Rattle.def_entry.specs.Tables.{Table, entry_at}
 use Rattle.tree_eval.specs.Outcomes.{worth_in}
 use Rattle.table_names.specs.ClosedKeys.{AreClosed}
 use Rattle.table_names.specs.Meanings.{outcome}
-use Rattle.live_table.specs.Answers.{answer, by_names}
+use Rattle.live_table.specs.Answers.{by_names, table_answer}
 
 -- the name of a unit as an expression
 abbrev pub named_unit : Kind → List ℕ → Option Syntax
@@ -42,4 +42,4 @@ value_syntax table n = syntax_by n.kind n.name (entry_at table n)
 -- law: if the expression of a key has no name fault, the result of a query of it is the outcome of the key
 abbrev pub ValueLaw : Type 0
 ValueLaw = (table : Table) (n : Key) (e : Syntax) → value_syntax table n ≡ Some e → AreClosed table (words_in e)
-    → answer table e ≡ by_names None (worth_in (outcome table n))
+    → table_answer table e ≡ by_names None (worth_in (outcome table n))

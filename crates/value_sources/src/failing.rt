@@ -5,7 +5,7 @@ ghost use Rattle.deck.specs.Tables.{table};
 ghost use Rattle.expr_tree.specs.Trees.{factors_of, factors_syntax, members, syntax, terms, terms_of, trees_of};
 ghost use Rattle.expr_tree.specs.Syntax as tree_of;
 ghost use Rattle.value_sources.specs.FailedSteps as spec;
-ghost use Rattle.value_sources.specs.Joinings.{IsReached};
+ghost use Rattle.value_sources.specs.Joinings.{IsJoinProgress};
 
 use crate::failure::FailedStep;
 use crate::joining::{Progress, join, quotient_step, step_of_scale, step_of_sign};
@@ -68,7 +68,8 @@ fn reach<L: Ledger>(
     steps: &mut Steps<L>,
 ) -> Result<Progress, AllocError>
     ensures deck { live.new.deck ≡ live.old.deck }
-    ensures reached { IfOk result (λ reached. IsReached (spec.value_of_tree (table live.old.deck) (syntax tree.now))
+    ensures reached { IfOk result (λ reached. IsJoinProgress
+        (spec.value_of_tree (table live.old.deck) (syntax tree.now))
         (spec.failed_step (table live.old.deck) (syntax tree.now)) reached) }
 {
     match value(alloc, live, tree, steps)? {
@@ -87,7 +88,7 @@ fn called_step<L: Ledger>(
     steps: &mut Steps<L>,
 ) -> Result<Option<FailedStep>, AllocError>
     ensures deck { live.new.deck ≡ live.old.deck }
-    ensures step { IfOk result (λ step. step ≡ spec.after
+    ensures step { IfOk result (λ step. step ≡ spec.failed_after
         (spec.value_of_tree (table live.old.deck) (syntax operand.now))
         (spec.failed_step (table live.old.deck) (syntax operand.now)) (λ v. Some (FailedStep.Called word.now v))) }
 {
@@ -107,7 +108,7 @@ fn inverted_step<L: Ledger>(
     steps: &mut Steps<L>,
 ) -> Result<Option<FailedStep>, AllocError>
     ensures deck { live.new.deck ≡ live.old.deck }
-    ensures step { IfOk result (λ step. step ≡ spec.after
+    ensures step { IfOk result (λ step. step ≡ spec.failed_after
         (spec.value_of_tree (table live.old.deck) (syntax operand.now))
         (spec.failed_step (table live.old.deck) (syntax operand.now)) (λ v. Some (FailedStep.Inverted word.now v))) }
 {
@@ -127,7 +128,7 @@ fn product_step<L: Ledger>(
     steps: &mut Steps<L>,
 ) -> Result<Option<FailedStep>, AllocError>
     ensures deck { live.new.deck ≡ live.old.deck }
-    ensures step { IfOk result (λ step. step ≡ spec.multiplied
+    ensures step { IfOk result (λ step. step ≡ spec.failed_product
         (spec.value_of_tree (table live.old.deck) (tree_of.Word word.now))
         (spec.value_of_tree (table live.old.deck) (syntax operand.now))
         (spec.failed_step (table live.old.deck) (syntax operand.now))) }

@@ -43,7 +43,7 @@ impl Model for Mention {
     ghost view = { λ m. record {
       depth = m.location.depth;
       site = m.location.site;
-      word = record { text = spec.written m.word m.key; kind = m.word_kind };
+      word = record { text = spec.mention_text m.word m.key; kind = m.word_kind };
       resolution = m.resolution;
       target = m.key;
     } };
@@ -76,7 +76,7 @@ impl Mention {
     }
 
     /// Creates a mention of a key by its name.
-    pub(crate) fn named(
+    pub(crate) fn mention_of_key(
         location: Location,
         word_kind: WordKind,
         resolution: Resolution,

@@ -126,7 +126,7 @@ fn named_mention(
 {
     let name = Text::from_bytes(alloc, word.text())?;
     let key = Key { kind, name };
-    Ok(Mention::named(location, word.kind(), Resolution::Name, key))
+    Ok(Mention::mention_of_key(location, word.kind(), Resolution::Name, key))
 }
 
 // Returns the mention of the only key that a word leads to.
@@ -145,7 +145,7 @@ fn sole_mention(
     }) }
 {
     if word.text() == key.name.as_bytes() {
-        return Ok(Mention::named(location, word.kind(), Resolution::Name, key));
+        return Ok(Mention::mention_of_key(location, word.kind(), Resolution::Name, key));
     }
     mention(alloc, location, word, Resolution::Plural, Some(key))
 }

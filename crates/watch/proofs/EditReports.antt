@@ -18,7 +18,7 @@ module _ (before behind : Table) (options : Options) where
       → map (change_of behind options) watches ≡ map (change_by_edit before behind options) (map subject_of watches)
   same [] h = refl
   same (w ∷ watches) h =
-      λ i. record { before = All-head IsCurrent w watches h i; behind = reply_to behind options (subject_of w) }
+      λ i. record { old_reply = All-head IsCurrent w watches h i; new_reply = reply_to behind options (subject_of w) }
       ∷ same watches (All-tail IsCurrent w watches h) i
 
 queries : (table : Table) (options : Options) (watches : List Watch)

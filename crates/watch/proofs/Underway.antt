@@ -4,7 +4,7 @@ use Rattle.std.proofs.Common.{sym, ap, append_assoc, arith}
 use Rattle.std.proofs.Math.Seq.{drop-cons}
 use Rattle.def_entry.specs.Tables.{Table}
 use Rattle.reply.specs.declared.options.Options.{Options}
-use Rattle.watch.specs.Changes.{Change, report_from, report_of}
+use Rattle.watch.specs.Changes.{Change, change_report, report_from}
 use Rattle.watch.specs.WatchViews.{change_of, with_current_reply}
 use Rattle.watch.specs.declared.watch.Watch.{Watch}
 use Rattle.watch.proofs.RenewedFirst.{renewed_at, renewed_first, renewed_next, renewed_same}
@@ -43,7 +43,7 @@ module _ (table : Table) (options : Options) (watches : List Watch) where
 
     -- the next watch is renewed, and the report on it is appended
     pub underway-next : (later : Watch) (further : List ℕ) → later ≡ anew w
-        → further ≡ bytes ++ report_of (i + 1) (change w)
+        → further ≡ bytes ++ change_report (i + 1) (change w)
         → IsUnderway table options watches (set now i later) (i + 1) start further
     underway-next later further e put = record {
       renewed =
@@ -52,7 +52,7 @@ module _ (table : Table) (options : Options) (watches : List Watch) where
           u.told
           ∙ (ap (λ ws. bytes ++ report_from (i + 1) (map change ws)) next
           ∙ (ap (λ bs. bytes ++ bs) (told_next (i + 1) (change w) rest)
-          ∙ (sym (append_assoc bytes (report_of (i + 1) (change w)) (report_from ((i + 1) + 1) rest))
+          ∙ (sym (append_assoc bytes (change_report (i + 1) (change w)) (report_from ((i + 1) + 1) rest))
           ∙ ap (λ bs. bs ++ report_from ((i + 1) + 1) rest) (sym put))));
     }
       where

@@ -6,12 +6,12 @@ use Rattle.std.specs.Str.{bytes_eq}
 
 -- the bytes of a reply before and after an edit
 pub record Change : Type 0 where
-  pub before : List ℕ
-  pub behind : List ℕ
+  pub old_reply : List ℕ
+  pub new_reply : List ℕ
 
 -- whether the two replies differ
 abbrev pub is_news : Change → Bool
-is_news c = not (bytes_eq c.before c.behind)
+is_news c = not (bytes_eq c.old_reply c.new_reply)
 
 -- the line of the watch with a number, counted from 1, and its reply
 abbrev pub watch_notice : (place : ℕ) → (reply : List ℕ) → List ℕ
@@ -25,7 +25,7 @@ placed_from place (c ∷ changes) = (place, c) ∷ placed_from (place + 1) chang
 -- the report on changes numbered from `place` on: for those that are news, in order, the line of the watch and the
 -- reply after the edit
 abbrev pub report_from : (place : ℕ) → List Change → List ℕ
-report_from place changes = flat_map (λ p. watch_notice p.0 p.1.behind)
+report_from place changes = flat_map (λ p. watch_notice p.0 p.1.new_reply)
     (filter (λ p. is_news p.1) (placed_from place changes))
 
 -- the report on all watches
@@ -33,14 +33,15 @@ abbrev pub watch_report : List Change → List ℕ
 watch_report changes = report_from 1 changes
 
 -- the report on a single change
-abbrev pub report_of : (place : ℕ) → Change → List ℕ
-report_of place c = if is_news c then watch_notice place c.behind else []
+abbrev pub change_report : (place : ℕ) → Change → List ℕ
+change_report place c = if is_news c then watch_notice place c.new_reply else []
 
 -- law: a reply is news exactly if its bytes differ; each is reported under its own number, between the reports on those
 -- before it and those after it; the report is empty exactly if no reply is news
 pub record ReportLaw : Type 0 where
-  pub news : (c : Change) → is_news c ≡ true ↔ (c.before ≢ c.behind)
-  pub each : (front : List Change) (c : Change) (back : List Change)
+  pub news : (c : Change) → is_news c ≡ true ↔ (c.old_reply ≢ c.new_reply)
+  pub report_of_change : (front : List Change) (c : Change) (back : List Change)
       → watch_report (front ++ c ∷ back)
-      ≡ (watch_report front ++ report_of (length front + 1) c) ++ report_from (length front + 2) back
-  pub none : (changes : List Change) → (watch_report changes ≡ []) ↔ All (λ c. c.before ≡ c.behind) changes
+      ≡ (watch_report front ++ change_report (length front + 1) c) ++ report_from (length front + 2) back
+  pub empty_report : (changes : List Change) → (watch_report changes ≡ []) ↔ All (λ c. c.old_reply ≡ c.new_reply)
+      changes

@@ -14,7 +14,7 @@ AsksSettled s (Becomes later) = ⊥
 -- the table, the cached outcomes and the count of steps are as before
 pub record Stays (before now : TableState) : Type 0 where
   pub table : now.table ≡ before.table
-  pub kept : now.kept ≡ before.kept
+  pub same_cache : now.kept_outcomes ≡ before.kept_outcomes
   pub steps : now.steps ≡ before.steps
 
 -- law: queries of settled names settle nothing and take no step

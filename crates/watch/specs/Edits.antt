@@ -9,7 +9,7 @@ use Rattle.watch.specs.declared.watch.Watch.{Watch}
 module _ (before behind : Table) (options : Options) where
   -- the replies in the tables before and after an edit
   abbrev pub change_by_edit : Subject → Change
-  change_by_edit s = record { before = reply_to before options s; behind = reply_to behind options s }
+  change_by_edit s = record { old_reply = reply_to before options s; new_reply = reply_to behind options s }
 
   -- the report on the watches whose replies in the two tables differ in bytes, each after its line
   abbrev pub report_by_edit : List Subject → List ℕ
@@ -19,6 +19,7 @@ module _ (before behind : Table) (options : Options) where
 -- for watches are the queries for their conversions, in order
 pub record EditLaw : Type 0 where
   pub report : (before behind : Table) (options : Options) (watches : List Watch) → AreCurrent before options watches
-      → watch_report (map (change_of behind options) watches) ≡ report_by_edit before behind options (map subject_of watches)
+      → watch_report (map (change_of behind options) watches) ≡ report_by_edit before behind options
+      (map subject_of watches)
   pub queries : (table : Table) (options : Options) (watches : List Watch)
       → all_queries table options watches ≡ flat_map (queries_of table options) (map subject_of watches)

@@ -3,7 +3,7 @@ use Rattle.std.specs.Prelude.{◌≡◌, ℕ, List, [], ◌∷◌, codes}
 use Rattle.watch.specs.Changes.{Change, watch_report}
 
 abbrev pub change : (before behind : List ℕ) → Change
-change before behind = record { before = before; behind = behind }
+change before behind = record { old_reply = before; new_reply = behind }
 
 -- a reply that stays the same, and two that change
 abbrev pub same_reply : Change
@@ -17,9 +17,9 @@ lost_reply = change (codes "\t* 1\n\t/ 1\n") (codes "unknown unit: m\n")
 
 -- law: replies that stay the same are not reported; each reply that changes follows its line
 pub record WatchExamplesLaw : Type 0 where
-  pub none : watch_report [] ≡ []
+  pub no_changes : watch_report [] ≡ []
   pub no_news : watch_report (same_reply ∷ (same_reply ∷ [])) ≡ []
-  pub first : watch_report (raised_change ∷ (same_reply ∷ [])) ≡ codes "watch 1\n\t* 21\n\t/ 0.047619048\n"
-  pub second : watch_report (same_reply ∷ (lost_reply ∷ [])) ≡ codes "watch 2\nunknown unit: m\n"
-  pub both : watch_report (raised_change ∷ (same_reply ∷ (lost_reply ∷ [])))
+  pub first_changed : watch_report (raised_change ∷ (same_reply ∷ [])) ≡ codes "watch 1\n\t* 21\n\t/ 0.047619048\n"
+  pub second_changed : watch_report (same_reply ∷ (lost_reply ∷ [])) ≡ codes "watch 2\nunknown unit: m\n"
+  pub both_changed : watch_report (raised_change ∷ (same_reply ∷ (lost_reply ∷ [])))
       ≡ codes "watch 1\n\t* 21\n\t/ 0.047619048\nwatch 3\nunknown unit: m\n"

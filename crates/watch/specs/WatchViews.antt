@@ -46,7 +46,7 @@ module _ (table : Table) (options : Options) where
 
   -- the stored reply, and the one in this table
   abbrev pub change_of : Watch → Change
-  change_of w = record { before = w.reply; behind = reply_to (subject_of w) }
+  change_of w = record { old_reply = w.reply; new_reply = reply_to (subject_of w) }
 
   -- the queries of all watches, in order
   abbrev pub all_queries : List Watch → List Event

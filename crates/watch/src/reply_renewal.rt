@@ -6,7 +6,7 @@ ghost use Rattle.live_table.specs.Calls.{AreQueries};
 ghost use Rattle.live_table.specs.TableView.{IsRightTable};
 ghost use Rattle.reply.specs.Options.{IsPrintable};
 ghost use Rattle.watch.specs.Calls.{IsPartlyRenewed};
-ghost use Rattle.watch.specs.Changes.{report_from, report_of};
+ghost use Rattle.watch.specs.Changes.{change_report, report_from};
 ghost use Rattle.watch.specs.WatchViews as spec;
 
 use crate::notices::put_notice;
@@ -66,7 +66,7 @@ fn renew<L: Ledger>(
 ) -> Result<(), AllocError>
     requires { IsPrintable options.now }
     ensures told { OnOk result (told.new.items ≡ told.old.items
-        ++ report_of number (spec.change_of (tables.table table.old.deck) options.now watch.old)) }
+        ++ change_report number (spec.change_of (tables.table table.old.deck) options.now watch.old)) }
     ensures renewed { OnOk result (watch.new
         ≡ spec.with_current_reply (tables.table table.old.deck) options.now watch.old) }
     ensures same { OnErr result (watch.new ≡ watch.old) }

@@ -19,17 +19,18 @@ present_table [] = []
 present_table (k ∷ keys) = (k, record { text = codes "!"; what = Primitive }) ∷ present_table keys
 
 -- the keys of candelas, days, ares and arcseconds, and of the prefixes c, d and da
-abbrev pub some : Table
-some = present_table (reading_unit (codes "cd") ∷ reading_unit (codes "d") ∷ reading_unit (codes "da") ∷ reading_unit
+abbrev pub some_table : Table
+some_table = present_table
+    (reading_unit (codes "cd") ∷ reading_unit (codes "d") ∷ reading_unit (codes "da") ∷ reading_unit
     (codes "as") ∷ reading_prefix (codes "c")
     ∷ reading_prefix (codes "d") ∷ reading_prefix (codes "da") ∷ [])
 
 pub record ReadingExamplesLaw : Type 0 where
   -- the candela hides the centiday
-  pub hidden : readings some (codes "cd") ≡ (reading_prefix (codes "c") ∷ reading_unit (codes "d") ∷ []) ∷ []
+  pub hidden : readings some_table (codes "cd") ≡ (reading_prefix (codes "c") ∷ reading_unit (codes "d") ∷ []) ∷ []
   -- a word with readings as a plural, of a unit or of a prefix, and as a prefix with a unit
-  pub two : readings some (codes "das")
+  pub two : readings some_table (codes "das")
       ≡ (reading_unit (codes "da") ∷ []) ∷ (reading_prefix (codes "da") ∷ []) ∷
       (reading_prefix (codes "d") ∷ reading_unit (codes "as") ∷ []) ∷ []
   -- a name without readings, which hides nothing
-  pub none : readings some (codes "as") ≡ []
+  pub no_readings : readings some_table (codes "as") ≡ []

@@ -9,12 +9,12 @@ use Rattle.name_lookup.specs.Candidates.{candidates, first_present}
 use Rattle.word_readings.specs.Readings.{readings}
 
 -- the keys of the first of some readings, or no key if there is none
-abbrev pub first : List (List Key) → List Key
-first [] = []
-first (keys ∷ others) = keys
+abbrev pub first_reading : List (List Key) → List Key
+first_reading [] = []
+first_reading (keys ∷ others) = keys
 
 -- law: lookup of a word that names no unit and no function finds its first reading
 abbrev pub FirstReadingLaw : Type 0
 FirstReadingLaw = (table : Table) (word : List ℕ) → is_present table (key kind.Unit word) ≡ false
     → is_present table (key kind.Func word) ≡ false
-    → first_present (is_present table) (candidates Plain word) ≡ first (readings table word)
+    → first_present (is_present table) (candidates Plain word) ≡ first_reading (readings table word)

@@ -10,13 +10,13 @@ use Rattle.word_readings.specs.declared.reading.Reading.{Reading}
 use Rattle.word_readings.specs.declared.reading.Reading.TheVariants.{Unit, Prefix, PrefixedUnit}
 
 -- the candidates whose keys all have an entry
-abbrev pub present : Table → List (List Key) → List (List Key)
-present table candidates = filter (list_all (is_present table)) candidates
+abbrev pub readings_present : Table → List (List Key) → List (List Key)
+readings_present table candidates = filter (list_all (is_present table)) candidates
 
 -- the candidates of a word whose keys all have an entry, apart from the unit and the function with the word's own name;
 -- if the word names a unit, that unit hides them
 abbrev pub readings : Table → List ℕ → List (List Key)
-readings table word = present table (part_candidates word)
+readings table word = readings_present table (part_candidates word)
 
 -- the keys of one reading
 abbrev pub reading_keys : Reading → List Key

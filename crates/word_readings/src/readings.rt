@@ -42,7 +42,7 @@ fn put_without(
     ending: &[u8],
 ) -> Result<(), AllocError>
     ensures { OnOk result (spec.readings_keys readings.new.items ≡ spec.readings_keys readings.old.items
-        ++ spec.present (table deck.now) (flat_map lookup.singular_candidates
+        ++ spec.readings_present (table deck.now) (flat_map lookup.singular_candidates
         (if has_ending more ending.now word.now then without_end (length ending.now) word.now ∷ [] else []))) }
 {
     match without_ending(word, more, ending) {
@@ -60,7 +60,7 @@ fn put_with_y(
     word: &[u8],
 ) -> Result<(), AllocError>
     ensures { OnOk result (spec.readings_keys readings.new.items ≡ spec.readings_keys readings.old.items
-        ++ spec.present (table deck.now) (flat_map lookup.singular_candidates
+        ++ spec.readings_present (table deck.now) (flat_map lookup.singular_candidates
         (if has_ending 4 (codes "ies") word.now then (without_end 3 word.now ++ codes "y") ∷ [] else []))) }
 {
     let Some(front) = without_ending(word, 4, b"ies") else {
@@ -80,7 +80,7 @@ fn put_singular(
     word: &[u8],
 ) -> Result<(), AllocError>
     ensures { OnOk result (spec.readings_keys readings.new.items ≡ spec.readings_keys readings.old.items
-        ++ spec.present (table deck.now) (lookup.singular_candidates word.now)) }
+        ++ spec.readings_present (table deck.now) (lookup.singular_candidates word.now)) }
 {
     put_unit(alloc, deck, readings, word)?;
     put_with_prefixes(alloc, deck, readings, word)
@@ -94,7 +94,7 @@ fn put_unit(
     word: &[u8],
 ) -> Result<(), AllocError>
     ensures { OnOk result (spec.readings_keys readings.new.items ≡ spec.readings_keys readings.old.items
-        ++ spec.present (table deck.now) ((key kinds.Unit word.now ∷ []) ∷ [])) }
+        ++ spec.readings_present (table deck.now) ((key kinds.Unit word.now ∷ []) ∷ [])) }
 {
     if !has_key(deck, Kind::Unit, word) {
         return Ok(());
@@ -111,7 +111,7 @@ fn put_with_prefixes(
     word: &[u8],
 ) -> Result<(), AllocError>
     ensures { OnOk result (spec.readings_keys readings.new.items ≡ spec.readings_keys readings.old.items
-        ++ spec.present (table deck.now) (lookup.prefix_candidates word.now)) }
+        ++ spec.readings_present (table deck.now) (lookup.prefix_candidates word.now)) }
 {
     let mut len = word.len();
     while len > 0 {
@@ -131,7 +131,7 @@ fn put_with_prefix(
     rest: &[u8],
 ) -> Result<(), AllocError>
     ensures { OnOk result (spec.readings_keys readings.new.items ≡ spec.readings_keys readings.old.items
-        ++ spec.present (table deck.now) (lookup.prefix_candidate front.now rest.now ∷ [])) }
+        ++ spec.readings_present (table deck.now) (lookup.prefix_candidate front.now rest.now ∷ [])) }
 {
     if !has_key(deck, Kind::Prefix, front) {
         return Ok(());

@@ -201,7 +201,8 @@ fn put_in_room(
 // Returns the definition of a line, or the reason why an edit with this line is refused.
 fn read_definition(alloc: Global, line: &[u8]) -> Result<(Key, What), DeckFault>
     ensures entry { IfOk result (λ found. entry_in (plain_line 0 line.now) ≡ Some (seen_entry line.now found)) }
-    ensures ok { OnOk result ((d : Contents) → edit.after_define line.now d ≡ edit.within (edit.with_line line.now d)) }
+    ensures ok { OnOk result ((d : Contents) → edit.after_define line.now d
+        ≡ edit.deck_within_limit (edit.with_line line.now d)) }
     ensures err { IfErr result (λ fault. (fault ≡ OutOfMemory)
         ⊎ ((d : Contents) → edit.after_define line.now d ≡ Err fault)) }
 {

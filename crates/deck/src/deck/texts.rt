@@ -36,16 +36,16 @@ fn push_message(
     ensures { OnOk result (texts.new ≡ texts.old ++ (if active then spec.message_of (kind_of line.now) else [])) }
 {
     match classify(line) {
-        LineKind::Message(text) => push_where(alloc, texts, active, text),
+        LineKind::Message(text) => push_if(alloc, texts, active, text),
         _ => Ok(()),
     }
 }
 
-// Appends a text to others if `stands` is true.
-fn push_where(alloc: Global, texts: &mut Texts, stands: bool, text: &[u8]) -> Result<(), AllocError>
-    ensures { OnOk result (texts.new ≡ texts.old ++ (if stands then text.now ∷ [] else [])) }
+// Appends a text to others if `active` is true.
+fn push_if(alloc: Global, texts: &mut Texts, active: bool, text: &[u8]) -> Result<(), AllocError>
+    ensures { OnOk result (texts.new ≡ texts.old ++ (if active then text.now ∷ [] else [])) }
 {
-    if !stands {
+    if !active {
         return Ok(());
     }
     texts.push(alloc, Text::from_bytes(alloc, text)?)

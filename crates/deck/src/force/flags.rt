@@ -26,7 +26,7 @@ pub(crate) fn edited_flags(
     edited: &EditedLines<'_>,
     settings: &Settings,
 ) -> Result<Vec<bool>, AllocError>
-    ensures { IfOk result (λ flags. flags.items ≡ active_lines settings.now edited.now.after) }
+    ensures { IfOk result (λ flags. flags.items ≡ active_lines settings.now edited.now.new_lines) }
 {
     flags_in_force(alloc, edited, &InForce::of(settings))
 }
@@ -37,7 +37,7 @@ pub(crate) fn flags_in_force(
     edited: &EditedLines<'_>,
     settings: &InForce<'_>,
 ) -> Result<Vec<bool>, AllocError>
-    ensures { IfOk result (λ flags. flags.items ≡ active_lines settings.now edited.now.after) }
+    ensures { IfOk result (λ flags. flags.items ≡ active_lines settings.now edited.now.new_lines) }
 {
     let locale = settings.locale();
     let mut flags = Vec::new(alloc);

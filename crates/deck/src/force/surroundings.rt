@@ -29,7 +29,11 @@ impl<'a> Model for Surroundings<'a> {
 
     ghost Value = { Surroundings };
 
-    ghost view = { λ around. record { holds = reverse around.holds.items; vars = around.base.now.vars ++ around.set } };
+    ghost view = { λ around. record {
+      conditions = reverse around.holds.items;
+      vars = around.base.now.vars
+          ++ around.set;
+    } };
 
     ghost invariant = { λ around. around.failing ≡ failing_count (reverse around.holds.items) };
 }
@@ -37,7 +41,7 @@ impl<'a> Model for Surroundings<'a> {
 impl<'a> Surroundings<'a> {
     /// Returns the state at the start of a deck, where the variables of these settings are set.
     pub(crate) fn start(alloc: Global, settings: &'a InForce<'a>) -> Surroundings<'a>
-        ensures { result ≡ record { holds = []; vars = settings.now.vars } }
+        ensures { result ≡ record { conditions = []; vars = settings.now.vars } }
     {
         Surroundings {
             holds: Vec::new(alloc),

@@ -39,7 +39,7 @@ pub(crate) fn keys_between(
     after: &LastPlaces,
 ) -> Result<Keys, AllocError>
     ensures { IfOk result (λ keys. (ds es : Definitions)
-        → AreInPlace edited.now.before ds → AreInPlace edited.now.after es
+        → AreInPlace edited.now.old_lines ds → AreInPlace edited.now.new_lines es
         → AreLast edited.now.names ds before.now → AreLast edited.now.names es after.now
         → IsTableChange (table_of ds) (table_of es) keys) }
 {
@@ -123,7 +123,7 @@ fn push_between(
     after: Option<usize>,
 ) -> Result<(), AllocError>
     ensures { OnOk result (keys.new ≡ keys.old ++ key_if
-        (not (is_same_entry (entry_there edited.now.before before) (entry_there edited.now.after after)))
+        (not (is_same_entry (entry_there edited.now.old_lines before) (entry_there edited.now.new_lines after)))
         (key_numbered edited.now.names n)) }
 {
     if !is_changed(edited, before, after) {
@@ -140,7 +140,8 @@ fn push_between(
 // Reports whether the entries at a place before the edit and at a place after it have different texts, or only one of
 // them exists.
 fn is_changed(edited: &EditedLines<'_>, before: Option<usize>, after: Option<usize>) -> bool
-    ensures { result ≡ not (is_same_entry (entry_there edited.now.before before) (entry_there edited.now.after after)) }
+    ensures { result ≡ not (is_same_entry (entry_there edited.now.old_lines before)
+        (entry_there edited.now.new_lines after)) }
 {
     if is_one_line(edited, before, after) {
         return false;
@@ -155,7 +156,7 @@ fn is_changed(edited: &EditedLines<'_>, before: Option<usize>, after: Option<usi
 
 // Returns true only if the same line is at both places, so that no text has to be compared.
 fn is_one_line(edited: &EditedLines<'_>, before: Option<usize>, after: Option<usize>) -> bool
-    ensures { OnTrue result (entry_there edited.now.after after ≡ entry_there edited.now.before before) }
+    ensures { OnTrue result (entry_there edited.now.new_lines after ≡ entry_there edited.now.old_lines before) }
 {
     match (before, after) {
         (Some(before), Some(after)) => edited.is_left(before, after),
@@ -165,7 +166,7 @@ fn is_one_line(edited: &EditedLines<'_>, before: Option<usize>, after: Option<us
 
 // Returns the entry at a place, if there is one.
 fn entry_at<'a>(edited: &'a EditedLines<'_>, place: Option<usize>) -> Option<Entry<'a>>
-    ensures { option_map entry_view result ≡ entry_there edited.now.after place }
+    ensures { option_map entry_view result ≡ entry_there edited.now.new_lines place }
 {
     match place {
         Some(place) => edited.entry(place),

@@ -46,7 +46,8 @@ impl LastPlaces {
         settings: &Settings,
         edited: &EditedLines<'_>,
     ) -> Result<LastPlaces, AllocError>
-        ensures { IfOk result (λ last. AreLast edited.now.names (active_definitions settings.now edited.now.after) last) }
+        ensures { IfOk result (λ last. AreLast edited.now.names (active_definitions settings.now edited.now.new_lines)
+            last) }
     {
         let flags = edited_flags(alloc, edited, settings)?;
         LastPlaces::of_edited(alloc, flags.as_slice(), edited)
@@ -58,8 +59,8 @@ impl LastPlaces {
         flags: &[bool],
         edited: &EditedLines<'_>,
     ) -> Result<LastPlaces, AllocError>
-        requires { length flags.now ≡ length edited.now.after }
-        ensures { IfOk result (λ last. AreLast edited.now.names (definitions_among flags.now edited.now.after) last) }
+        requires { length flags.now ≡ length edited.now.new_lines }
+        ensures { IfOk result (λ last. AreLast edited.now.names (definitions_among flags.now edited.now.new_lines) last) }
     {
         let mut last = with_room(alloc, edited)?;
         last.note_lines(edited, flags);
@@ -69,10 +70,10 @@ impl LastPlaces {
     /// Sets the place of each key to that of its last line after an edit, among the lines whose flag is true. No key
     /// may have a place before. Allocates no memory.
     pub(crate) fn note_lines(&mut self, edited: &EditedLines<'_>, flags: &[bool])
-        requires flags { length flags.now ≡ length edited.now.after }
+        requires flags { length flags.now ≡ length edited.now.new_lines }
         requires room { HasPlaceRoom edited.now.names self.old }
         requires none { AreLast edited.now.names [] self.old }
-        ensures { AreLast edited.now.names (definitions_among flags.now edited.now.after) self.new }
+        ensures { AreLast edited.now.names (definitions_among flags.now edited.now.new_lines) self.new }
     {
         for place in 0..flags.len() {
             note_line(edited, self, flags[place], place);
@@ -98,7 +99,8 @@ fn note_line(edited: &EditedLines<'_>, last: &mut LastPlaces, active: bool, plac
     requires { HasPlaceRoom edited.now.names last.old }
     ensures room { HasPlaceRoom edited.now.names last.new }
     ensures last { (ds : Definitions) → AreLast edited.now.names ds last.old
-        → AreLast edited.now.names (definition_by place active (definition_at edited.now.after place) ++ ds) last.new }
+        → AreLast edited.now.names (definition_by place active (definition_at edited.now.new_lines place) ++ ds)
+        last.new }
 {
     if !active {
         return;

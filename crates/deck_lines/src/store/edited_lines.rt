@@ -38,8 +38,8 @@ impl<'a> Model for EditedLines<'a> {
     ghost Value = { StoreEdit };
 
     ghost view = { λ e. record {
-      before = e.store.now.lines;
-      after = exchanged_lines e.at e.cut e.put.now e.store.now.lines;
+      old_lines = e.store.now.lines;
+      new_lines = exchanged_lines e.at e.cut e.put.now e.store.now.lines;
       names = e.store.now.names;
     } };
 
@@ -72,8 +72,8 @@ impl<'a> EditedLines<'a> {
         requires places { at + cut ≤ length store.now.lines }
         requires defined { IsDefined store.now.names definitions.now.of_lines.items (map entry_in put.now) }
         ensures { result ≡ record {
-          before = store.now.lines;
-          after = exchanged_lines at cut put.now store.now.lines;
+          old_lines = store.now.lines;
+          new_lines = exchanged_lines at cut put.now store.now.lines;
           names = store.now.names;
         } }
     {
@@ -95,15 +95,15 @@ impl<'a> EditedLines<'a> {
 
     /// Returns the number of lines after the edit.
     pub fn len(&self) -> usize
-        ensures { result ≡ length self.now.after }
+        ensures { result ≡ length self.now.new_lines }
     {
         self.store.marked().lines.len() - self.cut + self.put.len()
     }
 
     /// Returns the line at `place` after the edit.
     pub fn line(&self, place: usize) -> BorrowedLine<'_>
-        requires { place < length self.now.after }
-        ensures { slice_get self.now.after place
+        requires { place < length self.now.new_lines }
+        ensures { slice_get self.now.new_lines place
             ≡ Some (record { number = result.number; text = result.text.now; mark = result.mark }) }
     {
         line_at(self.store, self.at, self.cut, self.put, place)
@@ -111,7 +111,7 @@ impl<'a> EditedLines<'a> {
 
     /// Reports whether the edit keeps the line at place `before` and moves it to place `after`. No text is read.
     pub fn is_left(&self, before: usize, after: usize) -> bool
-        ensures { OnTrue result (slice_get self.now.after after ≡ slice_get self.now.before before) }
+        ensures { OnTrue result (slice_get self.now.new_lines after ≡ slice_get self.now.old_lines before) }
     {
         match origin_of(self.store.len(), self.at, self.cut, self.put.len(), after) {
             Origin::Stored(place) => place == before,
@@ -122,7 +122,7 @@ impl<'a> EditedLines<'a> {
 
     /// Returns the entry that the line at `place` defines, or `None` if it defines nothing or there is no such line.
     pub fn entry(&self, place: usize) -> Option<Entry<'_>>
-        ensures { option_map entry_view result ≡ option_map (λ d. d.1) (definition_at self.now.after place) }
+        ensures { option_map entry_view result ≡ option_map (λ d. d.1) (definition_at self.now.new_lines place) }
     {
         match self.definition(place) {
             Some(definition) => Some(Entry {
@@ -137,7 +137,7 @@ impl<'a> EditedLines<'a> {
     /// such line.
     pub fn key_number(&self, place: usize) -> Option<KeyNumber>
         ensures number { option_map (key_numbered self.now.names) result
-            ≡ option_map (λ d. Some d.0) (definition_at self.now.after place) }
+            ≡ option_map (λ d. Some d.0) (definition_at self.now.new_lines place) }
         ensures numbering { IsNumbering (store_after self.now) }
     {
         match self.definition(place) {
@@ -165,7 +165,7 @@ impl<'a> EditedLines<'a> {
     // Returns the definition of the line at `place`, or `None` if it defines nothing or there is no such line.
     fn definition(&self, place: usize) -> Option<&Definition>
         ensures is { option_map (seen_definition self.now.names) (option_copied result)
-            ≡ option_map keyed_definition (definition_at self.now.after place) }
+            ≡ option_map keyed_definition (definition_at self.now.new_lines place) }
         ensures numbering { IsNumbering (store_after self.now) }
     {
         match origin_of(self.store.len(), self.at, self.cut, self.put.len(), place) {

@@ -27,7 +27,7 @@ impl Model for NameSet {
 
     ghost Value = { NumberedNames };
 
-    ghost view = { λ s. record { names = map (λ name. name.items) s.names.keys; spare = spare s.names } };
+    ghost view = { λ s. record { names = map (λ name. name.items) s.names.keys; spare_names = spare s.names } };
 
     ghost invariant = { λ s. AreUpTo s.longest (map (λ name. name.items) s.names.keys) };
 }
@@ -80,14 +80,14 @@ impl NameSet {
     /// Makes room for one more name.
     pub fn reserve_one(&mut self) -> Result<(), AllocError>
         ensures names { self.new.names ≡ self.old.names }
-        ensures ok { OnOk result (0 < self.new.spare) }
+        ensures ok { OnOk result (0 < self.new.spare_names) }
     {
         self.names.reserve(1)
     }
 
     /// Gives a name the next number, unless it has a number, and returns its number. Allocates no memory.
     pub fn put(&mut self, name: Vec<u8>) -> usize
-        requires { 0 < self.old.spare }
+        requires { 0 < self.old.spare_names }
         ensures names { self.new.names ≡ with_name name.items self.old.names }
         ensures number { slice_get self.new.names result ≡ Some name.items }
     {

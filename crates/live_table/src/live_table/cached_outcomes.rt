@@ -18,7 +18,7 @@ impl LiveTable {
     /// in the table of the present deck, or `None` for any other key. It evaluates nothing. The only error is lack of
     /// memory.
     pub fn cached_outcome(&self, alloc: Global, key: &Key) -> Result<Option<&Outcome>, AllocError>
-        ensures cached { IfOk result (λ cached. option_copied cached ≡ map_of.get self.now.kept key.now) }
+        ensures cached { IfOk result (λ cached. option_copied cached ≡ map_of.get self.now.kept_outcomes key.now) }
         ensures right { IfOk result (λ cached. (o : AnyOutcome) → option_copied cached ≡ Some o
             → o ≡ outcome (table self.now.deck) key.now) }
     {

@@ -8,7 +8,7 @@ use Rattle.tree_eval.specs.declared.direction.Direction.TheVariants.{Forward, In
 use Rattle.tree_eval.proofs.Alone.{alone_gives, alone_within, member_gives}
 use Rattle.tree_eval.proofs.Arms.{base_lighter, base_stands, chain_ends, chain_gives, chain_lighter, chain_stands}
 use Rattle.tree_eval.proofs.Arms.{exponent_lighter, exponent_stands, group_part, negate_part, power_pair, root_part}
-use Rattle.tree_eval.proofs.Chains.{begins, end_place, end_worth, first_fault, first_lighter, first_stand, goes}
+use Rattle.tree_eval.proofs.Chains.{begins, end_place, end_worth, first_fault, first_lighter, first_stand, run_goes_on}
 use Rattle.tree_eval.proofs.Chains.{member_fault, member_lighter, member_stand}
 use Rattle.tree_eval.proofs.MemberChains.{juxtaposed_is, product_is, sum_is}
 use Rattle.tree_eval.proofs.Multiples.{multiple_gives, multiple_place, multiple_usable, multiple_within}
@@ -124,21 +124,21 @@ scope::Scope::power-evaluate-requires-2 g t c κs within =
 pub scope::Scope::evaluate-evaluate_juxtaposition-requires : goal.scope::Scope::evaluate-evaluate_juxtaposition-requires
 scope::Scope::evaluate-evaluate_juxtaposition-requires g t c κs within =
     let is = juxtaposed_is (g.E.Env.means c.args.self.now.env.now) _
-    (ap syntax c.in-Juxtaposed.is ∙ c.view_law.ensures.juxtaposed c.in-Juxtaposed.trees) in
+    (ap syntax c.in-Juxtaposed.is ∙ c.view_law.ensures.juxtaposition c.in-Juxtaposed.trees) in
     search (rules, arith, chain_lighter is, chain_stands is _ _ c.requires)
 
 pub scope::Scope::evaluate-returns-in-Juxtaposed-clause-worth
     : goal.scope::Scope::evaluate-returns-in-Juxtaposed-clause-worth
 scope::Scope::evaluate-returns-in-Juxtaposed-clause-worth g t c =
     let is = juxtaposed_is (g.E.Env.means c.args.self.now.env.now) _
-    (ap syntax c.in-Juxtaposed.is ∙ c.view_law.ensures.juxtaposed c.in-Juxtaposed.trees) in
+    (ap syntax c.in-Juxtaposed.is ∙ c.view_law.ensures.juxtaposition c.in-Juxtaposed.trees) in
     chain_gives is _ _ _ c.evaluate_juxtaposition.ensures.worth
 
 pub scope::Scope::evaluate-returns-in-Juxtaposed-clause-place
     : goal.scope::Scope::evaluate-returns-in-Juxtaposed-clause-place
 scope::Scope::evaluate-returns-in-Juxtaposed-clause-place g t c =
     let is = juxtaposed_is (g.E.Env.means c.args.self.now.env.now) _
-    (ap syntax c.in-Juxtaposed.is ∙ c.view_law.ensures.juxtaposed c.in-Juxtaposed.trees) in
+    (ap syntax c.in-Juxtaposed.is ∙ c.view_law.ensures.juxtaposition c.in-Juxtaposed.trees) in
     chain_ends is _ _ _ c.evaluate_juxtaposition.ensures.place
 
 pub scope::Scope::evaluate-chain-requires : goal.scope::Scope::evaluate-chain-requires
@@ -260,7 +260,8 @@ scope::Scope::chain-returns-in_err-with_member-clause-worth g t c =
 
 pub scope::Scope::chain-loop-i-preserved : goal.scope::Scope::chain-loop-i-preserved
 scope::Scope::chain-loop-i-preserved g t c =
-    goes c.loop-i.invariant c.get-in-loop-i.ensures c.in_ok-with_member.ensures.worth c.in_ok-with_member.ensures.place
+    run_goes_on c.loop-i.invariant c.get-in-loop-i.ensures c.in_ok-with_member.ensures.worth
+    c.in_ok-with_member.ensures.place
 
 pub scope::Scope::chain-returns-clause-worth : goal.scope::Scope::chain-returns-clause-worth
 scope::Scope::chain-returns-clause-worth g t c =

@@ -18,7 +18,8 @@ abbrev pub decreases-scope::Scope::root : goal.decreases-scope::Scope::root
 decreases-scope::Scope::root g l = 8 * weight (expand (g.E.Env.means l.self.now.env.now) (syntax l.operand.now)) + 3
 
 abbrev pub decreases-scope::Scope::evaluate_negative : goal.decreases-scope::Scope::evaluate_negative
-decreases-scope::Scope::evaluate_negative g l = 8 * weight (expand (g.E.Env.means l.self.now.env.now) (syntax l.operand.now)) + 3
+decreases-scope::Scope::evaluate_negative g l =
+    8 * weight (expand (g.E.Env.means l.self.now.env.now) (syntax l.operand.now)) + 3
 
 abbrev pub decreases-scope::Scope::power : goal.decreases-scope::Scope::power
 decreases-scope::Scope::power g l =

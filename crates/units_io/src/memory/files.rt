@@ -1,6 +1,6 @@
 //! Files in memory.
 ghost use Rattle.std.specs.Prelude.{◌≡◌, ◌≤◌, ◌↔◌, [], length, IfOk, OnOk, OnErr, Some, Contains, IsErrOf};
-ghost use Rattle.units_io.specs.Faults.{next};
+ghost use Rattle.units_io.specs.Faults.{next_count};
 ghost use Rattle.units_io.specs.Memory.{KeepsFetches, KeepsStores};
 ghost use Rattle.units_io.specs.FileMap.{with_file, no_files, longest_file};
 ghost use Rattle.units_io.specs.FetchResults.{IsFetched, FailsWithCause, faults_after_fetch};
@@ -102,9 +102,9 @@ impl Files for MemFiles {
         ensures cause { FailsWithCause self.old.faults self.new.faults result }
         ensures stores { self.new.store_faults ≡ self.old.store_faults }
         ensures listed { IsErrOf result FetchFault.Failed
-            ↔ Contains self.old.fails (next self.old.calls) }
+            ↔ Contains self.old.fails (next_count self.old.calls) }
         ensures counted { self.new.faults ≡ faults_after_fetch self.old.faults result }
-        ensures calls { self.new.calls ≡ next self.old.calls }
+        ensures calls { self.new.calls ≡ next_count self.old.calls }
         ensures rest { KeepsStores self.old self.new }
     {
         self.calls = self.calls.saturating_add(1);
@@ -127,9 +127,9 @@ impl Files for MemFiles {
         ensures cause { StoreHasCause self.old.store_faults self.new.store_faults result }
         ensures fetches { self.new.faults ≡ self.old.faults }
         ensures listed { IsErrOf result StoreFault.Failed
-            ↔ Contains self.old.store_fails (next self.old.store_calls) }
+            ↔ Contains self.old.store_fails (next_count self.old.store_calls) }
         ensures counted { self.new.store_faults ≡ faults_after_store self.old.store_faults result }
-        ensures calls { self.new.store_calls ≡ next self.old.store_calls }
+        ensures calls { self.new.store_calls ≡ next_count self.old.store_calls }
         ensures rest { KeepsFetches self.old self.new }
     {
         self.store_calls = self.store_calls.saturating_add(1);

@@ -1,7 +1,7 @@
 //! A sink in memory.
 ghost use Rattle.std.specs.Prelude.{◌≡◌, ◌≤◌, ◌<◌, ◌-◌, ◌++◌, ◌↔◌, ◌⊎◌, [], length, take, min, IfOk, OnErr, IsErr};
 ghost use Rattle.std.specs.Prelude.{MatchResult, Some, Contains};
-ghost use Rattle.units_io.specs.Faults.{HasCause, next};
+ghost use Rattle.units_io.specs.Faults.{HasCause, next_count};
 
 use crate::sink::Sink;
 use crate::source::Failed;
@@ -27,7 +27,7 @@ impl Model for MemSink {
     ghost Value = { SinkState };
 
     ghost view = { λ s. record {
-      written = s.bytes.items;
+      written_bytes = s.bytes.items;
       room = s.room;
       piece = s.piece;
       fails = s.fails.items;
@@ -50,7 +50,7 @@ impl MemSink {
     ) -> Result<MemSink, AllocError>
         requires { 0 < piece }
         ensures { IfOk result (λ s. s ≡ record {
-          written = [];
+          written_bytes = [];
           room = room;
           piece = piece;
           fails = fails.now;
@@ -72,14 +72,14 @@ impl MemSink {
 
     /// Returns the bytes written so far.
     pub fn written(&self) -> &[u8]
-        ensures { result.now ≡ self.now.written }
+        ensures { result.now ≡ self.now.written_bytes }
     {
         self.bytes.as_slice()
     }
 }
 
 impl Sink for MemSink {
-    ghost written = { λ s. Some s.written };
+    ghost written = { λ s. Some s.written_bytes };
 
     ghost faults = { λ s. s.faults };
 
@@ -87,16 +87,16 @@ impl Sink for MemSink {
         requires { 0 < length bytes.now }
         ensures some { IfOk result (λ n. 0 < n) }
         ensures within { IfOk result (λ n. n ≤ length bytes.now) }
-        ensures bytes { IfOk result (λ n. self.new.written ≡ self.old.written ++ take n bytes.now) }
+        ensures bytes { IfOk result (λ n. self.new.written_bytes ≡ self.old.written_bytes ++ take n bytes.now) }
         ensures most { IfOk result (λ n. n ≡ min self.old.piece
-            (min (length bytes.now) (self.old.room - length self.old.written))) }
-        ensures kept { OnErr result (self.new.written ≡ self.old.written) }
+            (min (length bytes.now) (self.old.room - length self.old.written_bytes))) }
+        ensures kept { OnErr result (self.new.written_bytes ≡ self.old.written_bytes) }
         ensures cause { HasCause self.old.faults self.new.faults result }
-        ensures listed { IsErr result ↔ (Contains self.old.fails (next self.old.calls)
-            ⊎ (self.old.room ≤ length self.old.written)) }
+        ensures listed { IsErr result ↔ (Contains self.old.fails (next_count self.old.calls)
+            ⊎ (self.old.room ≤ length self.old.written_bytes)) }
         ensures counted { MatchResult result (λ _. self.new.faults ≡ self.old.faults)
-            (λ _. self.new.faults ≡ next self.old.faults) }
-        ensures calls { self.new.calls ≡ next self.old.calls }
+            (λ _. self.new.faults ≡ next_count self.old.faults) }
+        ensures calls { self.new.calls ≡ next_count self.old.calls }
         ensures rest { (self.new.room ≡ self.old.room) × (self.new.piece ≡ self.old.piece)
             × (self.new.fails ≡ self.old.fails) }
     {

@@ -1,7 +1,7 @@
 //! A source in memory.
 ghost use Rattle.std.specs.Prelude.{◌≡◌, ◌≤◌, ◌<◌, ◌+◌, ◌-◌, ◌^◌, ◌++◌, ◌↔◌, [], length, take, min, IfOk, OnErr, IsErr};
 ghost use Rattle.std.specs.Prelude.{MatchResult, Some, Contains};
-ghost use Rattle.units_io.specs.Faults.{HasCause, next};
+ghost use Rattle.units_io.specs.Faults.{HasCause, next_count};
 
 use crate::source::{Failed, Source};
 use std::alloc::{AllocError, Global};
@@ -26,11 +26,11 @@ impl Model for MemSource {
     ghost Value = { SourceState };
 
     ghost view = { λ s. record {
-      left = drop s.at s.bytes.items;
+      bytes_left = drop s.at s.bytes.items;
       piece = s.piece;
       fails = s.fails.items;
       calls = s.calls;
-      taken = s.taken;
+      taken_count = s.taken;
       faults = s.faults;
     } };
 
@@ -48,11 +48,11 @@ impl MemSource {
     ) -> Result<MemSource, AllocError>
         requires { 0 < piece }
         ensures { IfOk result (λ s. s ≡ record {
-          left = content.now;
+          bytes_left = content.now;
           piece = piece;
           fails = fails.now;
           calls = 0;
-          taken = 0;
+          taken_count = 0;
           faults = 0;
         }) }
     {
@@ -71,28 +71,28 @@ impl MemSource {
 }
 
 impl Source for MemSource {
-    ghost left = { λ s. Some s.left };
+    ghost left = { λ s. Some s.bytes_left };
 
-    ghost taken = { λ s. s.taken };
+    ghost taken = { λ s. s.taken_count };
 
     ghost faults = { λ s. s.faults };
 
     fn take(&mut self, buf: &mut [u8]) -> Result<usize, Failed>
         requires { 0 < length buf.old }
         ensures within { IfOk result (λ n. n ≤ length buf.new) }
-        ensures bytes { IfOk result (λ n. self.old.left ≡ take n buf.new ++ self.new.left) }
+        ensures bytes { IfOk result (λ n. self.old.bytes_left ≡ take n buf.new ++ self.new.bytes_left) }
         ensures most { IfOk result (λ n.
-            n ≡ min self.old.piece (min (length buf.old) (length self.old.left))) }
-        ensures end { IfOk result (λ n. n ≡ 0 → self.old.left ≡ []) }
-        ensures kept { OnErr result (self.new.left ≡ self.old.left) }
+            n ≡ min self.old.piece (min (length buf.old) (length self.old.bytes_left))) }
+        ensures end { IfOk result (λ n. n ≡ 0 → self.old.bytes_left ≡ []) }
+        ensures kept { OnErr result (self.new.bytes_left ≡ self.old.bytes_left) }
         ensures count { MatchResult result
-            (λ n. self.new.taken ≡ min (self.old.taken + n) (2 ^ 64 - 1))
-            (λ _. self.new.taken ≡ self.old.taken) }
+            (λ n. self.new.taken_count ≡ min (self.old.taken_count + n) (2 ^ 64 - 1))
+            (λ _. self.new.taken_count ≡ self.old.taken_count) }
         ensures cause { HasCause self.old.faults self.new.faults result }
-        ensures listed { IsErr result ↔ Contains self.old.fails (next self.old.calls) }
+        ensures listed { IsErr result ↔ Contains self.old.fails (next_count self.old.calls) }
         ensures counted { MatchResult result (λ _. self.new.faults ≡ self.old.faults)
-            (λ _. self.new.faults ≡ next self.old.faults) }
-        ensures calls { self.new.calls ≡ next self.old.calls }
+            (λ _. self.new.faults ≡ next_count self.old.faults) }
+        ensures calls { self.new.calls ≡ next_count self.old.calls }
         ensures rest { (self.new.piece ≡ self.old.piece) × (self.new.fails ≡ self.old.fails) }
     {
         self.calls = self.calls.saturating_add(1);

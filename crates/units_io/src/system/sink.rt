@@ -1,6 +1,6 @@
 //! A std writer as a sink.
 ghost use Rattle.std.specs.Prelude.{◌≡◌, ◌≤◌, ◌<◌, ℕ, length, IfOk, MatchResult, None};
-ghost use Rattle.units_io.specs.Faults.{HasCause, next};
+ghost use Rattle.units_io.specs.Faults.{HasCause, next_count};
 
 use crate::sink::Sink;
 use crate::source::Failed;
@@ -41,7 +41,7 @@ impl<W: Write + Drop> Sink for StdSink<W> {
         ensures within { IfOk result (λ n. n ≤ length bytes.now) }
         ensures cause { HasCause self.old self.new result }
         ensures counted { MatchResult result (λ _. self.new ≡ self.old)
-            (λ _. self.new ≡ next self.old) }
+            (λ _. self.new ≡ next_count self.old) }
     {
         match write_some(&mut self.writer, bytes) {
             Ok(n) if n > 0 => Ok(n),

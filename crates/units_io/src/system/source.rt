@@ -1,6 +1,6 @@
 //! A std reader as a source.
 ghost use Rattle.std.specs.Prelude.{◌≡◌, ◌≤◌, ◌<◌, ◌+◌, ◌-◌, ◌^◌, length, min, IfOk, MatchResult, None};
-ghost use Rattle.units_io.specs.Faults.{HasCause, next};
+ghost use Rattle.units_io.specs.Faults.{HasCause, next_count};
 
 use crate::source::{Failed, Source};
 use std::io;
@@ -20,13 +20,13 @@ impl<R> Model for StdSource<R> {
 
     ghost Value = { SourceCounts };
 
-    ghost view = { λ s. record { taken = s.taken; faults = s.faults } };
+    ghost view = { λ s. record { taken_count = s.taken; faults = s.faults } };
 }
 
 impl<R: Read + Drop> StdSource<R> {
     /// Wraps this reader, with no byte taken and no failure counted.
     pub fn new(reader: R) -> StdSource<R>
-        ensures { result ≡ record { taken = 0; faults = 0 } }
+        ensures { result ≡ record { taken_count = 0; faults = 0 } }
     {
         StdSource {
             reader,
@@ -39,7 +39,7 @@ impl<R: Read + Drop> StdSource<R> {
 impl<R: Read + Drop> Source for StdSource<R> {
     ghost left = { λ _. None };
 
-    ghost taken = { λ s. s.taken };
+    ghost taken = { λ s. s.taken_count };
 
     ghost faults = { λ s. s.faults };
 
@@ -47,11 +47,11 @@ impl<R: Read + Drop> Source for StdSource<R> {
         requires { 0 < length buf.old }
         ensures within { IfOk result (λ n. n ≤ length buf.new) }
         ensures count { MatchResult result
-            (λ n. self.new.taken ≡ min (self.old.taken + n) (2 ^ 64 - 1))
-            (λ _. self.new.taken ≡ self.old.taken) }
+            (λ n. self.new.taken_count ≡ min (self.old.taken_count + n) (2 ^ 64 - 1))
+            (λ _. self.new.taken_count ≡ self.old.taken_count) }
         ensures cause { HasCause self.old.faults self.new.faults result }
         ensures counted { MatchResult result (λ _. self.new.faults ≡ self.old.faults)
-            (λ _. self.new.faults ≡ next self.old.faults) }
+            (λ _. self.new.faults ≡ next_count self.old.faults) }
     {
         match read_some(&mut self.reader, buf) {
             Ok(n) => {

@@ -5,7 +5,7 @@ use Rattle.live_table.specs.Calls.{AreQueries}
 use Rattle.live_table.specs.States.{Event}
 use Rattle.reply.specs.Replies.{conversion_queries}
 use Rattle.reply.specs.declared.reply.Reply.{Reply}
-use Rattle.reply.proofs.Runs.{made}
+use Rattle.reply.proofs.Runs.{queries_made}
 use Rattle.column_convert.specs.Cells as spec
 use Rattle.column_convert.proofs.CutQueries.{not_yet}
 use Rattle.column_convert.proofs.CellReplies.{asked_queries, asked_reply}
@@ -33,7 +33,7 @@ returns-clause-queries g c =
     (asked_queries (table_of c.args.table.now.deck) c.args.options.now c.args.from.now c.args.to.now c.args.number.now
     (table_of c.deck.result.now) c.cell_options.result c.in_ok-asked.asked c.as_bytes.result.now
     (ap table_of c.deck.ensures.deck) c.cell_options.ensures.is c.in_ok-asked.ensures c.as_bytes.ensures)
-    (made c.cell_of.result
+    (queries_made c.cell_of.result
     (conversion_queries (table_of c.args.table.now.deck) c.cell_options.result c.as_bytes.result.now c.args.to.now)
     c.args.table.now c.convert_reply.new.table c.args.steps.now c.convert_reply.new.steps c.convert_reply.ensures.deck
     c.in_ok-reply.ensures.queries)

@@ -9,7 +9,7 @@ pub returns-clause-text : goal.returns-clause-text
 returns-clause-text c =
     when_ok c.write_byte_record.result (sym c.is_err.ensures.value ∙ c.if-is_err.false)
     c.write_byte_record.ensures.bytes
-    c.requires.fields c.requires.clean (not_by_number c.args.writer.now.cfg c.requires.setup)
+    c.requires.fields c.requires.nothing_written (not_by_number c.args.writer.now.cfg c.requires.setup)
     ∙ ap (λ (more : List ℕ). (c.args.writer.now.wtr.inner.items ++ c.args.writer.now.wtr.buf) ++ more)
     (ap (λ (setup : WriterBuilder). row_text setup (fields_of c.args.fields.now)) c.requires.setup
     ∙ same_row (fields_of c.args.fields.now))

@@ -3,7 +3,7 @@ use Rattle.csv.specs.Records.{fields_of}
 use Rattle.deck.specs.Tables.{table as table_of}
 use Rattle.live_table.specs.Calls.{AreQueries}
 use Rattle.live_table.specs.States.{Event}
-use Rattle.reply.proofs.Runs.{made}
+use Rattle.reply.proofs.Runs.{queries_made}
 use Rattle.column_convert.specs.Cells.{cell_queries}
 use Rattle.column_convert.proofs.ItemChanges.{place_within}
 use Rattle.column_convert.proofs.CellReplies.{field_queries}
@@ -21,7 +21,7 @@ returns-in_ok-cell-in-Some-clause-queries g c =
     (field_queries (table_of c.args.table.now.deck) c.args.conversion.now.options.now c.args.conversion.now.from.now
     c.args.conversion.now.to.now (fields_of c.args.fields.now) c.args.place c.args.headed c.in-Some.field.now
     c.if-headed.false c.in-Some.ensures.value)
-    (made c.write_cell.result
+    (queries_made c.write_cell.result
     (cell_queries (table_of c.args.table.now.deck) c.args.conversion.now.options.now c.args.conversion.now.from.now
     c.args.conversion.now.to.now c.in-Some.field.now)
     c.args.table.now c.convert_cell.new.table c.args.steps.now c.convert_cell.new.steps c.convert_cell.ensures.deck

@@ -1,5 +1,5 @@
 use Rattle.std.proofs.Common.{◌++◌, ◌∙◌, List, ℕ, Some, inl, length, take, sym, ap, arith}
-use Rattle.session.proofs.Blocks.{loses, no_rest, none_left, rose_since, took_enough, went}
+use Rattle.session.proofs.Blocks.{bytes_rejoined, loses_from_known, no_rest, none_left, rose_since, took_enough}
 use Rattle.column_run.proofs.Taking.{ended_input, took_bytes}
 use Rattle.column_run.proofs.input.take_all.Goals as goal
 
@@ -12,12 +12,13 @@ loop-src-init g c = record {
 }
 
 pub returns-in-Err-clause-read : goal.returns-in-Err-clause-read
-returns-in-Err-clause-read g c = λ is. rose_since _ _ _ c.loop-src.invariant.earlier c.in-Err.ensures.cause.failed
+returns-in-Err-clause-read g c = λ is. rose_since _ _ _ c.loop-src.invariant.earlier
+    c.in-Err.ensures.cause.failure_counted
 
 pub returns-then-n-eq0-clause-told : goal.returns-then-n-eq0-clause-told
 returns-then-n-eq0-clause-told g c = λ input q.
     let p = c.loop-src.invariant.stands input q in
-    let lost = loses _ _ p.0 (take c.in-Ok.n c.take.new.buf) p.2 c.in-Ok.ensures.bytes in
+    let lost = loses_from_known _ _ p.0 (take c.in-Ok.n c.take.new.buf) p.2 c.in-Ok.ensures.bytes in
     let none = none_left _ p.0 p.2 (c.in-Ok.ensures.end c.if-n-eq0.true) in
     (ended_input input c.loop-src.text.items p.0 p.1 none, lost.1 ∙ ap Some (no_rest _ _ _ lost.2 none))
 
@@ -26,14 +27,14 @@ loop-src-preserved g c =
     let put = c.in_ok-extend_from_slice.ensures {u = tt} in
     record {
       room = (omega (arith, c.loop-src.invariant.room.0), omega (arith, c.loop-src.invariant.room.1));
-      earlier = omega (arith, c.in-Ok.ensures.cause.later, c.loop-src.invariant.earlier);
+      earlier = omega (arith, c.in-Ok.ensures.cause.count_grows, c.loop-src.invariant.earlier);
       counted = took_bytes c.loop-src.text.items c.take.new.buf _ c.in-Ok.n put.items c.in-Ok.ensures.within _ _ _
           c.loop-src.invariant.counted c.in-Ok.ensures.count;
       stands = λ input q.
           let p = c.loop-src.invariant.stands input q in
-          let lost = loses _ _ p.0 (take c.in-Ok.n c.take.new.buf) p.2 c.in-Ok.ensures.bytes in (
+          let lost = loses_from_known _ _ p.0 (take c.in-Ok.n c.take.new.buf) p.2 c.in-Ok.ensures.bytes in (
             lost.0,
-            sym (went input c.loop-src.text.items p.0 (take c.in-Ok.n c.take.new.buf) lost.0 p.1 lost.2)
+            sym (bytes_rejoined input c.loop-src.text.items p.0 (take c.in-Ok.n c.take.new.buf) lost.0 p.1 lost.2)
                 ∙ ap (λ (t : List ℕ). t ++ lost.0) (sym put.items),
             lost.1,
           );

@@ -57,13 +57,13 @@ returns-in-Err-clause-front g c =
 
 pub loop-block-smaller : goal.loop-block-smaller
 loop-block-smaller g c =
-    subst (λ (i : Input). length i.left < length c.loop-block.columns.left) (sym c.in_ok-block.ensures.left)
+    subst (λ (i : Input). length i.records < length c.loop-block.columns.records) (sym c.in_ok-block.ensures.left)
     (fewer (table c.loop-block.table.deck) c.args.options.now c.args.from.now c.args.to.now 1023 c.loop-block.columns
     c.in_ok-block.block.rows (ap (λ (b : Block). b.rows) c.in_ok-block.ensures.block) c.if-block-eq0.false)
 
 pub loop-block-preserved : goal.loop-block-preserved
 loop-block-preserved g c = record {
-  later = omega (arith, c.loop-block.invariant.later, c.put_all.ensures.cause.later);
+  later = omega (arith, c.loop-block.invariant.later, c.put_all.ensures.cause.count_grows);
   at = subst
       (λ (i : Input). IsUnderway c.args.options.now c.args.from.now c.args.to.now c.args.columns.now
       (g.O.Sink.written c.args.out.now) c.args.table.now c.args.steps.now i c.either-refused.result

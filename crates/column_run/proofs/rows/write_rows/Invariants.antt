@@ -10,4 +10,4 @@ invariant-loop-block g l = record {
 }
 
 abbrev pub decreases-loop-block : goal.decreases-loop-block
-decreases-loop-block g l = length l.columns.left
+decreases-loop-block g l = length l.columns.records

@@ -15,7 +15,7 @@ examples = record {
   set_first = refl;
   set_outside = refl;
   utf8 = refl;
-  marked = refl;
+  active_marked_line = refl;
 }
 
 pub returns : goal.returns

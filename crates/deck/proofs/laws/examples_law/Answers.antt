@@ -20,20 +20,20 @@ unfolding active_definitions entry_in reading_of behind_line pass_limit kind_of 
     tree_of
     fault_from lexemes_from tokens_in greatest_passing
 examples = record {
-  both = refl;
-  elsewhere = refl;
+  active_in_us = refl;
+  active_in_gb = refl;
   neither = refl;
-  last = refl;
-  first = refl;
-  nowhere = refl;
+  last_place_us = refl;
+  last_place_of_small = refl;
+  no_last_place = refl;
   untold = refl;
-  defined = refl;
+  defined_line = refl;
   unread = refl;
   directive = refl;
   g_after_drop = refl;
   no_such_definition = refl;
   after_switch = refl;
-  stays = refl;
+  unchanged_keys = refl;
 }
 
 pub returns : goal.returns

@@ -3,9 +3,9 @@ use Rattle.deck.proofs.laws.settings_are_undone.Goals as goal
 
 pub returns : goal.returns
 returns c = record {
-  same = same_variable;
+  same_value = same_variable;
   changes_value = known_variable;
   new_variable = new_variable;
-  last =
+  last_variable =
       last_variable;
 }

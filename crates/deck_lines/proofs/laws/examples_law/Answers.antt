@@ -42,8 +42,8 @@ unfolding deck_of_file rest_excerpt included_below reading_of kind_of head_of_li
     lexemes_from
     tokens_in greatest_passing digits
 examples = record {
-  plain = refl;
-  faulty = refl;
+  deck_without_faults = refl;
+  deck_with_faults = refl;
   open_block = refl;
   absent = ap (λ found. in_turn (included_as no_files 1 found) nothing)
       (get-empty (slice_cmp nat_cmp) (codes "sub/b.units"));

@@ -2,7 +2,7 @@ use Rattle.std.proofs.Common.{rules, sym, ap, ◌∙◌, length, option_map, ari
 use Rattle.def_lines.specs.Words.{words_of}
 use Rattle.def_entry.specs.declared.fault.EntryFault.TheVariants.{BadTable}
 use Rattle.def_entry.specs.Outcomes.{or_fault}
-use Rattle.def_entry.specs.PointLists.{few, points_of, points_of_words, some_pairs}
+use Rattle.def_entry.specs.PointLists.{points_of, points_of_words, some_pairs, within_point_limit}
 use Rattle.def_entry.specs.LineViews.{seen_pair}
 use Rattle.def_entry.proofs.CutParts.{shorter}
 use Rattle.def_entry.proofs.Parts.{fault_of}
@@ -43,9 +43,9 @@ loop-part-preserved c =
 pub returns-in_err-push_some_pairs : goal.returns-in_err-push_some_pairs
 returns-in_err-push_some_pairs c =
     let fault = fault_of c.in_err-push_some_pairs.field-0.0
-    (or_fault BadTable (few (onto c.loop-part.points.items (some_pairs (words_of c.in-Some.part.now)))))
-    (or_fault BadTable (few (points_of c.args.text.now)))
-    (λ said. ap (λ found. or_fault BadTable (few found)) (sym c.loop-part.invariant.same)
+    (or_fault BadTable (within_point_limit (onto c.loop-part.points.items (some_pairs (words_of c.in-Some.part.now)))))
+    (or_fault BadTable (within_point_limit (points_of c.args.text.now)))
+    (λ said. ap (λ found. or_fault BadTable (within_point_limit found)) (sym c.loop-part.invariant.same)
     ∙ points-fault c.loop-part.points.items c.loop-part.rest.now c.in-Some.part.now c.in-Some.behind.now
     c.in_err-push_some_pairs.field-0.0
     (sym c.cut_at.ensures ∙ ap (option_map seen_pair) c.in-Some.is) said)
@@ -55,9 +55,10 @@ returns-in_err-push_some_pairs c =
 pub returns-in_err-push_pairs : goal.returns-in_err-push_pairs
 returns-in_err-push_pairs c =
     let fault = fault_of c.in_err-push_pairs.field-0.0
-    (or_fault BadTable (few (onto c.loop-part.points.items (points_of_words (words_of c.loop-part.rest.now)))))
-    (or_fault BadTable (few (points_of c.args.text.now)))
-    (λ said. ap (λ found. or_fault BadTable (few found)) (sym c.loop-part.invariant.same)
+    (or_fault BadTable (within_point_limit
+    (onto c.loop-part.points.items (points_of_words (words_of c.loop-part.rest.now)))))
+    (or_fault BadTable (within_point_limit (points_of c.args.text.now)))
+    (λ said. ap (λ found. or_fault BadTable (within_point_limit found)) (sym c.loop-part.invariant.same)
     ∙ points-last c.loop-part.points.items c.loop-part.rest.now
     (sym c.cut_at.ensures ∙ ap (option_map seen_pair) c.in_default.is) ∙ said)
     (c.in_err-push_pairs.ensures {u = tt}) in
@@ -65,7 +66,7 @@ returns-in_err-push_pairs c =
 
 pub returns : goal.returns
 returns c =
-    ap (λ found. or_fault BadTable (few found)) (sym c.loop-part.invariant.same)
+    ap (λ found. or_fault BadTable (within_point_limit found)) (sym c.loop-part.invariant.same)
     ∙ points-last c.loop-part.points.items c.loop-part.rest.now
     (sym c.cut_at.ensures ∙ ap (option_map seen_pair) c.in_default.is)
     ∙ c.in_ok-push_pairs.ensures {u = tt}

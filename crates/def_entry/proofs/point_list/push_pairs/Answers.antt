@@ -6,7 +6,7 @@ use Rattle.def_lines.proofs.WordLists.{is_begun-after_word, words_of-after_blank
 use Rattle.def_lines.proofs.TrimmedTexts.{is_begun-after_blanks}
 use Rattle.def_entry.specs.declared.fault.EntryFault.TheVariants.{BadTable}
 use Rattle.def_entry.specs.Outcomes.{or_fault}
-use Rattle.def_entry.specs.PointLists.{few, most_points, points_of_words}
+use Rattle.def_entry.specs.PointLists.{most_points, points_of_words, within_point_limit}
 use Rattle.def_entry.proofs.PointWords.{few-at, onto, pairs-many, pairs-more, pairs-no_first, pairs-no_second}
 use Rattle.def_entry.proofs.PointWords.{shorter-pair, pairs-nil}
 use Rattle.def_entry.proofs.point_list.push_pairs.Goals as goal
@@ -25,16 +25,17 @@ returns-then-len-ge-MOST_POINTS c =
     let full : most_points ≤ length c.loop-rest.points.items =
     omega (arith, c.if-len-ge-MOST_POINTS.true, c.len.ensures) in
     inr
-    (ap (λ found. or_fault BadTable (few found)) (sym c.loop-rest.invariant.same)
+    (ap (λ found. or_fault BadTable (within_point_limit found)) (sym c.loop-rest.invariant.same)
     ∙ ap (or_fault BadTable)
     (pairs-many c.loop-rest.points.items c.loop-rest.rest.now c.loop-rest.invariant.begun some full))
 
 pub returns-in_err-x : goal.returns-in_err-x
 returns-in_err-x c =
     let some : (length c.loop-rest.rest.now == 0) ≡ false = sym c.is_empty.ensures ∙ c.loop-rest-test.true in
-    let none : or_fault BadTable (few (onto c.args.points.now.items (points_of_words (words_of c.args.text.now))))
+    let none : or_fault BadTable
+    (within_point_limit (onto c.args.points.now.items (points_of_words (words_of c.args.text.now))))
     ≡ Err BadTable =
-    ap (λ found. or_fault BadTable (few found))
+    ap (λ found. or_fault BadTable (within_point_limit found))
     (sym c.loop-rest.invariant.same
     ∙ pairs-no_first c.loop-rest.points.items c.loop-rest.rest.now c.cut_word.result.0.now c.loop-rest.invariant.begun
     some c.cut_word.ensures.word
@@ -44,9 +45,10 @@ returns-in_err-x c =
 pub returns-in_err-y : goal.returns-in_err-y
 returns-in_err-y c =
     let some : (length c.loop-rest.rest.now == 0) ≡ false = sym c.is_empty.ensures ∙ c.loop-rest-test.true in
-    let none : or_fault BadTable (few (onto c.args.points.now.items (points_of_words (words_of c.args.text.now))))
+    let none : or_fault BadTable
+    (within_point_limit (onto c.args.points.now.items (points_of_words (words_of c.args.text.now))))
     ≡ Err BadTable =
-    ap (λ found. or_fault BadTable (few found))
+    ap (λ found. or_fault BadTable (within_point_limit found))
     (sym c.loop-rest.invariant.same
     ∙ pairs-no_second c.loop-rest.points.items c.loop-rest.rest.now c.cut_word.result.1.now
     c.cut_word-in-loop-rest.result.0.now c.loop-rest.invariant.begun some
@@ -88,7 +90,7 @@ loop-rest-preserved c =
 
 pub returns : goal.returns
 returns c =
-    ap (λ found. or_fault BadTable (few found))
+    ap (λ found. or_fault BadTable (within_point_limit found))
     (sym c.loop-rest.invariant.same
     ∙ pairs-nil c.loop-rest.points.items c.loop-rest.rest.now (sym c.is_empty.ensures ∙ c.loop-rest-test.false))
     ∙ ap (or_fault BadTable) (few-at c.loop-rest.points.items c.loop-rest.invariant.few)

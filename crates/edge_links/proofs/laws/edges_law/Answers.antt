@@ -39,9 +39,9 @@ after_forgetting : (key : ℕ) (old new : List Edge) → Forgets key old new →
     → HasEdge new x y ↔ (HasEdge old x y × (IsAffectedNode old key x → ⊥))
 after_forgetting key old new f x y = (
   λ h.
-      let off : IsAffectedNode old key x → ⊥ = λ a. let z = f.gone x y a in omega arith in
-      (subst (λ k. 0 < k) (f.kept x y off) h, off),
-  λ w. subst (λ k. 0 < k) (sym (f.kept x y w.1)) w.0,
+      let off : IsAffectedNode old key x → ⊥ = λ a. let z = f.affected_cleared x y a in omega arith in
+      (subst (λ k. 0 < k) (f.others_unchanged x y off) h, off),
+  λ w. subst (λ k. 0 < k) (sym (f.others_unchanged x y w.1)) w.0,
 )
 
 pub returns : goal.returns

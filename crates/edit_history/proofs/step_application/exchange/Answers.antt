@@ -13,7 +13,7 @@ returns-in-Ok-splice c =
     (c.replace.ensures.after ∙ c.exchange_in.ensures)
     c.in-Ok-splice.ensures.0 c.in-Ok-splice.ensures.1
     (c.in-Ok.ensures ∙ c.settings.ensures ∙ ap (λ (d : Contents). d.settings) c.deck-2.ensures.deck)
-    c.requires.splice.places
+    c.requires.splice.range_within
     (subst (λ (d : Contents). AreBlocksClosed d.lines) c.deck.ensures.deck c.lines_closed.ensures.closed)
     (subst (λ (d : Contents). pass_limit d.lines ≡ false) c.deck.ensures.deck c.lines_closed.ensures.within) in
     (made.made, made.can, made.again, c.in-Ok-splice.ensures.2)

@@ -15,7 +15,7 @@ pub changed_settings-requires : goal.changed_settings-requires
 changed_settings-requires c =
     subst (λ (e : SettingsChange). HasDistinctNames (after_change e c.settings.result.now).vars) (sym c.get.ensures)
     (subst (λ (s : Settings). HasDistinctNames (after_change c.args.change s).vars)
-    (sym (c.settings.ensures ∙ ap (λ (d : Contents). d.settings) c.deck-2.ensures.deck)) c.requires.right)
+    (sym (c.settings.ensures ∙ ap (λ (d : Contents). d.settings) c.deck-2.ensures.deck)) c.requires.step_right)
 
 pub returns-in-Ok-switch_settings : goal.returns-in-Ok-switch_settings
 returns-in-Ok-switch_settings c =

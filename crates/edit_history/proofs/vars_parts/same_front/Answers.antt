@@ -6,5 +6,5 @@ pub loop-i-preserved : goal.loop-i-preserved
 loop-i-preserved c = record {
   same = front_step c.args.vars.now c.args.others.now c.loop-i.i c.if-not-is_same_pair.ensures
       c.loop-i.invariant.same;
-  inside = omega (arith, c.if-not-is_same_pair.ensures.there);
+  inside = omega (arith, c.if-not-is_same_pair.ensures.index_within);
 }

@@ -14,7 +14,8 @@ use Rattle.expr_tree.specs.declared.tree.Tree.{Tree}
 use Rattle.expr_tree.proofs.Fronts.{word_front, word_power_front, bar_front, numeral_front, call_front, inverse_front}
 use Rattle.expr_tree.proofs.Fronts.{root_front, group_front, bare_front, raised_front, exponent_front}
 use Rattle.expr_tree.proofs.Fronts.{signed_exponent_front, signed_front, sign_wants, caret_wants, closed_front}
-use Rattle.expr_tree.proofs.Stands.{stands_as, begun, rooted, barred, head_wanted, close_stands, sign_stands}
+use Rattle.expr_tree.proofs.Stands.{stands_as, operand_has_token, rooted, barred, head_wanted, close_stands}
+use Rattle.expr_tree.proofs.Stands.{sign_stands}
 use Rattle.expr_tree.proofs.Stands.{scale_stands, caret_stands}
 use Rattle.expr_tree.proofs.Steps.{one_member, members_begun, next_member, all_members}
 use Rattle.expr_tree.proofs.Steps.{one_factor, factors_begun, next_factor, all_factors, factor_wants}
@@ -41,12 +42,12 @@ not_none (Some x) h e = cc
 pub atom_at-closed_sum_at-requires-in-Root : goal.atom_at-closed_sum_at-requires-in-Root
 atom_at-closed_sum_at-requires-in-Root t c =
     let r = rooted c.args.tokens.now c.args.at c.args.opened c.in-Root.kind _
-    (begun c.args.tokens.now c.args.at c.requires.begun) c.in-Root.is c.requires.fit in
+    (operand_has_token c.args.tokens.now c.args.at c.requires.begun) c.in-Root.is c.requires.fit in
     (omega (arith, r.within), (omega (arith, c.requires.deep), r.fit))
 
 pub atom_at-returns-in_ok-bar_tree-in-Some : goal.atom_at-returns-in_ok-bar_tree-in-Some
 atom_at-returns-in_ok-bar_tree-in-Some t c =
-    let l = begun c.args.tokens.now c.args.at c.requires.begun in
+    let l = operand_has_token c.args.tokens.now c.args.at c.requires.begun in
     let r = barred c.args.tokens.now c.args.at c.in-Numeral.n c.in-Some.denominator l
     (stands_as c.args.tokens.now c.args.at _ _ l c.in-Numeral.is) c.in-Some.ensures in (
       bar_front (option_copied c.args.binder) c.args.opened c.in-Numeral.n c.in-Some.denominator _ _ _ r.is
@@ -57,7 +58,7 @@ atom_at-returns-in_ok-bar_tree-in-Some t c =
 
 pub atom_at-returns-in-None : goal.atom_at-returns-in-None
 atom_at-returns-in-None t c =
-    let l = begun c.args.tokens.now c.args.at c.requires.begun in (
+    let l = operand_has_token c.args.tokens.now c.args.at c.requires.begun in (
       numeral_front (option_copied c.args.binder) c.args.opened c.in-Numeral.n _ _ _
           (stands_as c.args.tokens.now c.args.at _ _ l c.in-Numeral.is) (sym c.in-None.ensures) c.requires.fit
           (of_number c.in-Numeral.n),
@@ -67,7 +68,7 @@ atom_at-returns-in-None t c =
 
 pub atom_at-returns-in_ok-word_tree-in-Word : goal.atom_at-returns-in_ok-word_tree-in-Word
 atom_at-returns-in_ok-word_tree-in-Word t c =
-    let l = begun c.args.tokens.now c.args.at c.requires.begun in (
+    let l = operand_has_token c.args.tokens.now c.args.at c.requires.begun in (
       word_front (option_copied c.args.binder) c.args.opened c.in-Word.word.now _ _ _
           (stands_as c.args.tokens.now c.args.at _ _ l c.in-Word.is) c.requires.fit c.in_ok-word_tree-in-Word.ensures,
       omega arith,
@@ -76,7 +77,7 @@ atom_at-returns-in_ok-word_tree-in-Word t c =
 
 pub atom_at-returns-in_ok-power_tree-in-WordWithPower : goal.atom_at-returns-in_ok-power_tree-in-WordWithPower
 atom_at-returns-in_ok-power_tree-in-WordWithPower t c =
-    let l = begun c.args.tokens.now c.args.at c.requires.begun in (
+    let l = operand_has_token c.args.tokens.now c.args.at c.requires.begun in (
       word_power_front (option_copied c.args.binder) c.args.opened c.in-WordWithPower.word.now
           (power_numeral c.in-WordWithPower.digit) _ _ _ _
           (stands_as c.args.tokens.now c.args.at _ _ l c.in-WordWithPower.is) c.requires.fit
@@ -91,7 +92,8 @@ atom_at-returns-in_ok-power_tree-in-WordWithPower t c =
 pub atom_at-returns-in_ok-call_tree-in-Head : goal.atom_at-returns-in_ok-call_tree-in-Head
 atom_at-returns-in_ok-call_tree-in-Head t c = (
   call_front (option_copied c.args.binder) c.args.opened c.in-Head.word.now _ _ _ _ _
-      (stands_as c.args.tokens.now c.args.at _ _ (begun c.args.tokens.now c.args.at c.requires.begun) c.in-Head.is)
+      (stands_as c.args.tokens.now c.args.at _ _ (operand_has_token c.args.tokens.now c.args.at c.requires.begun)
+      c.in-Head.is)
       c.in_ok-operand-in-Head.ensures.0 c.in_ok-call_tree-in-Head.ensures,
   omega (arith, c.in_ok-operand-in-Head.ensures.1),
   c.in_ok-operand-in-Head.ensures.2,
@@ -100,7 +102,7 @@ atom_at-returns-in_ok-call_tree-in-Head t c = (
 pub atom_at-returns-in_ok-new-in-Root : goal.atom_at-returns-in_ok-new-in-Root
 atom_at-returns-in_ok-new-in-Root t c =
     let r = rooted c.args.tokens.now c.args.at c.args.opened c.in-Root.kind _
-    (begun c.args.tokens.now c.args.at c.requires.begun) c.in-Root.is c.requires.fit in (
+    (operand_has_token c.args.tokens.now c.args.at c.requires.begun) c.in-Root.is c.requires.fit in (
       root_front (option_copied c.args.binder) c.args.opened c.in-Root.kind _ _ _ _ _ r.is
           c.in_ok-radicand-in-Root.ensures.0
           (of_root c.in-Root.kind c.in_ok-new-in-Root.field-0
@@ -112,7 +114,8 @@ atom_at-returns-in_ok-new-in-Root t c =
 pub atom_at-returns-in_ok-new-in-Open : goal.atom_at-returns-in_ok-new-in-Open
 atom_at-returns-in_ok-new-in-Open t c = (
   group_front (option_copied c.args.binder) c.args.opened _ _ _ _ _
-      (stands_as c.args.tokens.now c.args.at _ _ (begun c.args.tokens.now c.args.at c.requires.begun) c.in-Open.is)
+      (stands_as c.args.tokens.now c.args.at _ _ (operand_has_token c.args.tokens.now c.args.at c.requires.begun)
+      c.in-Open.is)
       c.in_ok-sum-in-Open.ensures.0
       (of_group c.in_ok-new-in-Open.field-0 ∙ ap (λ x. tree.Group (syntax x)) c.in_ok-new-in-Open.ensures.ok),
   omega (arith, c.in_ok-sum-in-Open.ensures.1),

@@ -1,5 +1,5 @@
-use Rattle.expr_tree.proofs.ParseFaults.{told}
+use Rattle.expr_tree.proofs.ParseFaults.{parse_fault_not_of_memory}
 use Rattle.expr_tree.proofs.laws.parse_memory_law.Goals as goal
 
 pub returns : goal.returns
-returns c = told
+returns c = parse_fault_not_of_memory

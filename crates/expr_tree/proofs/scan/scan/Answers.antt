@@ -1,6 +1,7 @@
 use Rattle.std.proofs.Common.{ap, sym, ◌∙◌, map, inr}
 use Rattle.expr_tree.specs.TokenViews.{seen_lexeme, seen_piece, token_view}
-use Rattle.expr_tree.proofs.LexemeCuts.{blank-read-as, fault-at-end, fault-met, kept, pushed-token, stood-same}
+use Rattle.expr_tree.proofs.LexemeCuts.{blank-read-as, fault-at-end, fault-met, pushed-token, stood-same}
+use Rattle.expr_tree.proofs.LexemeCuts.{value_after_push}
 use Rattle.expr_tree.proofs.LexemeCuts.{rest-front}
 use Rattle.expr_tree.proofs.LexemeCuts.{rest-within, token-read-as, whole-read}
 use Rattle.expr_tree.proofs.scan.scan.Goals as goal
@@ -27,7 +28,8 @@ loop-at-preserved-else-is_err c =
     (ap seen_lexeme c.in-Whole.is) c.first-piece.ensures.some
     (rest-within c.args.text.now c.loop-at.at _ c.first-piece.ensures.within)
     (sym c.fault.ensures ∙ c.in_default.is)
-    (pushed-token _ _ _ _ (kept _ _ _ _ c.push.ensures.items (sym c.is_err.ensures.value ∙ c.if-is_err.false))
+    (pushed-token _ _ _ _
+    (value_after_push _ _ _ _ c.push.ensures.items (sym c.is_err.ensures.value ∙ c.if-is_err.false))
     c.in-Whole.token-is)
     (stood-same _ c.loop-at.standing.last c.loop-at.standing.opened c.loop-at.standing.depth _ _ c.then-standing.ensures
     c.in-Whole.token-is) c.is_numeral-after_numeral.ensures

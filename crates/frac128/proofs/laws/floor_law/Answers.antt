@@ -22,13 +22,17 @@ floor_law x some = by_sign x.num x.den some
     by_sign (pos a) d some =
         let low = at_most a d some in
         let high = next_above a d some in
-        record { below = omega (arith, ints); above = omega (arith, ints) }
+        record { floor_below = omega (arith, ints); floor_above = omega (arith, ints) }
     by_sign (negsuc a) d some =
         let low = at_most a d some in
         let high = next_above a d some in
         let next : (negsuc (a / d) +ℤ pos 1) *ℤ pos d ≡ neg_ℤ (pos (a / d * d)) =
         ap (λ z. z *ℤ pos d) (one_more (a / d)) ∙ mul-signed true false (a / d) d in
-        record { below = omega (arith, ints); above = subst (λ z. negsuc a <ℤ z) (sym next) (omega (arith, ints)) }
+        record {
+          floor_below = omega (arith, ints);
+          floor_above = subst (λ z. negsuc a <ℤ z) (sym next)
+              (omega (arith, ints));
+        }
       where
         one_more : (q : ℕ) → negsuc q +ℤ pos 1 ≡ neg_ℤ (pos q)
         one_more q = omega (arith, ints)

@@ -61,7 +61,7 @@ link-requires-clause-looked c k i =
     let d = c.requires.sound.1.numbers.look_count in
     let same = c.deref.ensures.value ∙ looks_at (node_lists c.args.nodes.now).looks c.args.n c.index.result.now
     (omega (arith, n, d)) c.index.ensures in
-    let w = (c.requires.sound.1.numbers.looked c.args.n c.requires.settled).looks.within k
+    let w = (c.requires.sound.1.numbers.settled_looks c.args.n c.requires.settled).looks.seen_in_table k
     (member_in k _ (subst (λ (ns : List ℕ). Contains ns k) same i)) in
     let e = c.len-count.ensures in
     let a = c.in_ok-cover.ensures.covered in

@@ -5,7 +5,8 @@ use Rattle.live_table.proofs.evaluation.evaluate_tree.Goals as goal
 pub invariant_of-surroundings : goal.invariant_of-surroundings
 invariant_of-surroundings c = record {
   numbers = c.requires.sound.1.numbers;
-  right = right_anyhow c.args.deck.now (node_lists c.args.nodes.now) c.requires.sound.0 0 c.requires.sound.1.right;
+  is_right = right_anyhow c.args.deck.now (node_lists c.args.nodes.now) c.requires.sound.0 0
+      c.requires.sound.1.is_right;
   subject = c.requires.settled;
 }
 

@@ -54,12 +54,13 @@ returns-in_err-make_room-clause-before c =
 pub entry-requires-clause-within : goal.entry-requires-clause-within
 entry-requires-clause-within c =
     let now = (goal.at.entry-requires-clause-within c).After-make_room in
-    (with_room now).grown.listed.within c.in-Some.n (get_In c.loop-n.worklist c.loop-n.place c.in-Some.n (at_place now))
+    (with_room now).grown.list_right.listed_in_table c.in-Some.n
+    (get_In c.loop-n.worklist c.loop-n.place c.in-Some.n (at_place now))
 
 pub entry-requires-clause-present : goal.entry-requires-clause-present
 entry-requires-clause-present c =
     let now = (goal.at.entry-requires-clause-present c).After-make_room in
-    (with_room now).grown.listed.present c.in-Some.n
+    (with_room now).grown.list_right.listed_have_entries c.in-Some.n
     (get_In c.loop-n.worklist c.loop-n.place c.in-Some.n (at_place now))
 
 pub returns-in_err-push-clause-grown : goal.returns-in_err-push-clause-grown
@@ -83,7 +84,7 @@ explore_name-requires-clause-nodes c =
 
 pub explore_name-requires-clause-listed : goal.explore_name-requires-clause-listed
 explore_name-requires-clause-listed c =
-    (with_room (goal.at.explore_name-requires-clause-listed c).After-make_room).grown.listed
+    (with_room (goal.at.explore_name-requires-clause-listed c).After-make_room).grown.list_right
 
 pub explore_name-requires-clause-name : goal.explore_name-requires-clause-name
 explore_name-requires-clause-name c = get_In c.loop-n.worklist c.loop-n.place c.in-Some.n
@@ -123,7 +124,8 @@ loop-n-preserved c =
           (finding_next (table c.args.deck.now) (node_lists c.make_room.new.nodes) (node_lists c.explore_name.new.nodes)
           c.args.explored.now c.loop-n.worklist c.explore_name.new.worklist c.loop-n.dead_ends.items
           c.explore_name.new.dead_ends.items c.loop-n.found.items c.loop-n.place c.in-Some.n c.entry.result.what
-          (with_room now).grown.listed (at_place now) (says (goal.at.loop-n-preserved c).After-entry) (found_still now)
+          (with_room now).grown.list_right (at_place now) (says (goal.at.loop-n-preserved c).After-entry)
+          (found_still now)
           c.explore_name.ensures.grown),
     )
 

@@ -18,28 +18,28 @@ use Rattle.live_table.proofs.exploration.explore_name.Goals.{After-put_words, In
 within : (c : After-put_words) → c.args.n < length c.put_words.new.nodes.keys
 within c =
     let longer : length c.args.nodes.now.keys ≤ length c.put_words.new.nodes.keys =
-    more_length c.args.nodes.now.keys c.put_words.new.nodes.keys c.put_words.ensures.added.grown.keys_more in
-    let before = c.requires.listed.within c.args.n c.requires.name in
+    more_length c.args.nodes.now.keys c.put_words.new.nodes.keys c.put_words.ensures.added.growth.keys_more in
+    let before = c.requires.listed.listed_in_table c.args.n c.requires.name in
     omega arith
 
 pub index_mut-requires : goal.index_mut-requires
 index_mut-requires c =
     let size = c.put_words.new.nodes.callees.ok.0 in
-    let count = c.put_words.ensures.added.grown.nodes.callee_count in
+    let count = c.put_words.ensures.added.growth.nodes.callee_count in
     let inside = within (goal.at.index_mut-requires c).After-put_words in
     omega arith
 
 pub index_mut-requires-2 : goal.index_mut-requires-2
 index_mut-requires-2 c =
     let size = c.put_words.new.nodes.steps.ok.0 in
-    let count = c.put_words.ensures.added.grown.nodes.step_count in
+    let count = c.put_words.ensures.added.growth.nodes.step_count in
     let inside = within (goal.at.index_mut-requires-2 c).After-put_words in
     omega arith
 
 pub index_mut-requires-3 : goal.index_mut-requires-3
 index_mut-requires-3 c =
     let size = c.put_words.new.nodes.looks.ok.0 in
-    let count = c.put_words.ensures.added.grown.nodes.look_count in
+    let count = c.put_words.ensures.added.growth.nodes.look_count in
     let inside = within (goal.at.index_mut-requires-3 c).After-put_words in
     omega arith
 
@@ -87,7 +87,7 @@ returns-clause-written c =
     c.args.n (record { rank = c.index_mut.result.now.rank; starts = c.in_ok-starts.starts }) c.in_ok-steps.steps
     c.in_ok-looks.looks c.put_words.ensures.added c.requires.listed c.requires.name
     (written (goal.at.returns-clause-written c).In_ok-steps)
-    (words (goal.at.returns-clause-written c).In_ok-steps).starts
+    (words (goal.at.returns-clause-written c).In_ok-steps).part_starts
     (subst (λ (p : List WordUse × List ℕ). AllLead c.in_ok-steps.steps.items
     → AreLooks (table c.args.deck.now) c.put_words.new.nodes.keys p.0 c.in_ok-steps.steps.items p.1)
     (λ i. ((words (goal.at.returns-clause-written c).In_ok-steps).words i, sym c.in_ok-looks.ensures.copy i))

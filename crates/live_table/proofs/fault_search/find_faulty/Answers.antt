@@ -12,7 +12,7 @@ use Rattle.live_table.proofs.fault_search.find_faulty.Goals as goal
 
 pub put_all-requires : goal.put_all-requires
 put_all-requires c m i =
-    let h : m < length c.args.nodes.now.keys = c.requires.all.listed.within m i in
+    let h : m < length c.args.nodes.now.keys = c.requires.all.list_right.listed_in_table m i in
     let e = c.len.ensures in
     omega (arith, h, e)
 
@@ -32,14 +32,15 @@ pub find-requires-clause-query : goal.find-requires-clause-query
 find-requires-clause-query c =
     subst (λ (h : Graph). StayInGraph h c.args.query.now) (sym c.deref.ensures.value)
     (λ m i. (explored_all (table c.args.deck.now) (node_lists c.args.nodes.now) c.args.explored.now.names
-    c.args.worklist.now c.args.explored.now.dead_ends.items c.requires.nodes c.requires.all).numbers_are.within m
+    c.args.worklist.now c.args.explored.now.dead_ends.items c.requires.nodes c.requires.all).numbers_are.known_in_range
+    m
     (c.requires.known m i))
 
 pub find-requires-clause-right : goal.find-requires-clause-right
 find-requires-clause-right c =
     subst (λ (p : (Graph × List Bool) × WalkFindings). AreRight p.0.0 p.0.1 p.1)
     (λ i. ((sym c.deref.ensures.value i, sym c.deref-2.ensures.value i), sym c.in_ok-put_all.ensures.kept i))
-    c.requires.faults.right
+    c.requires.faults.is_right
 
 pub returns-clause-explored : goal.returns-clause-explored
 returns-clause-explored c =
@@ -50,13 +51,13 @@ returns-clause-explored c =
 
 pub returns-clause-faults : goal.returns-clause-faults
 returns-clause-faults c = record {
-  right = subst (λ (p : Graph × List Bool). AreRight p.0 p.1 c.find.new.self)
+  is_right = subst (λ (p : Graph × List Bool). AreRight p.0 p.1 c.find.new.self)
       (λ i. (c.deref.ensures.value i, c.deref-2.ensures.value i)) c.find.ensures.right;
-  among = found_among (table c.args.deck.now) (node_lists c.args.nodes.now) c.args.explored.now.names
+  names_explored = found_among (table c.args.deck.now) (node_lists c.args.nodes.now) c.args.explored.now.names
       c.args.worklist.now
       c.args.explored.now.dead_ends.items c.requires.nodes c.requires.all c.args.query.now
       c.args.explored.now.findings.names c.find.new.self.names c.put_all.new.self.names c.requires.known
-      c.requires.faults.among
+      c.requires.faults.names_explored
       (subst (λ (p : (Graph × List Bool) × WalkFindings). AreFromQuery p.0.0 p.0.1 c.args.query.now p.1.names
       c.find.new.self.names)
       (λ i. ((c.deref.ensures.value i, c.deref-2.ensures.value i), c.in_ok-put_all.ensures.kept i))

@@ -14,7 +14,8 @@ pub walk-requires-clause-query : goal.walk-requires-clause-query
 walk-requires-clause-query c =
     subst (λ (h : Graph). StayInGraph h c.args.query.now) (sym c.deref.ensures.value)
     (λ m i. (explored_all (table c.args.deck.now) (node_lists c.args.nodes.now) c.args.explored.now.names
-    c.args.worklist.now c.args.explored.now.dead_ends.items c.requires.nodes c.requires.all).numbers_are.within m
+    c.args.worklist.now c.args.explored.now.dead_ends.items c.requires.nodes c.requires.all).numbers_are.known_in_range
+    m
     (c.requires.known m i))
 
 pub returns-in-None-clause-found : goal.returns-in-None-clause-found
@@ -37,7 +38,8 @@ pub walk-requires-2-clause-query : goal.walk-requires-2-clause-query
 walk-requires-2-clause-query c =
     subst (λ (h : Graph). StayInGraph h c.args.query.now) (sym c.deref.ensures.value)
     (λ m i. (explored_all (table c.args.deck.now) (node_lists c.args.nodes.now) c.args.explored.now.names
-    c.args.worklist.now c.args.explored.now.dead_ends.items c.requires.nodes c.requires.all).numbers_are.within m
+    c.args.worklist.now c.args.explored.now.dead_ends.items c.requires.nodes c.requires.all).numbers_are.known_in_range
+    m
     (c.requires.known m i))
 
 pub returns-clause-found : goal.returns-clause-found

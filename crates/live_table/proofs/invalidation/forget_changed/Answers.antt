@@ -25,7 +25,7 @@ returns-clause-live c before r live change =
     c.args.edges.now.made c.forget.new.edges r c.args.keys.now
     (linked_of before (node_lists c.args.nodes.now) c.args.edges.now r c.requires.all live) change
     (forgotten (goal.at.returns-clause-live c).After-forget) c.changes_are_computed.ensures in
-    record { sound = after.sound; edges = none_waits _ _ _ _ c.requires.all after.edges }
+    record { is_sound = after.is_sound; edges = none_waits _ _ _ _ c.requires.all after.edges }
 
 pub returns-clause-edit : goal.returns-clause-edit
 returns-clause-edit c before r live change =

@@ -29,7 +29,7 @@ returns-in_default c =
 pub note-requires : goal.note-requires
 note-requires c =
     let h = get_lt c.args.nodes.now.keys c.in-Some.n _ c.in-Some.ensures.number in
-    let e = c.requires.flags in
+    let e = c.requires.flag_per_key in
     omega (arith, h, e)
 
 -- the key is found in the deck exactly if it has an entry
@@ -46,9 +46,9 @@ returns-then-n-names c =
     let rest = c.forget_number.ensures.rest in
     one_forgotten (table c.args.deck.now) c.args.key.now (node_lists c.args.nodes.now) c.in-Some.n
     (c.in-Some.ensures.number ∙ ap (λ (w : List ℕ). Some (key_named c.args.key.now.kind w)) c.as_bytes.ensures)
-    c.requires.apart c.requires.flags (is_some c.find.result)
+    c.requires.numbers_apart c.requires.flag_per_key (is_some c.find.result)
     (flag (goal.at.returns-then-n-names c).After-note)
-    (node_lists c.forget_number.new.nodes) (ap (λ (x : Listed). x.present) rest ∙ c.note.ensures.present)
+    (node_lists c.forget_number.new.nodes) (ap (λ (x : Listed). x.entry_flags) rest ∙ c.note.ensures.present)
     (record {
       keys = ap (λ (x : Listed). x.keys) rest ∙ (ap (λ (x : Listed). x.keys) noted ∙ c.in-Some.ensures.kept);
       callees = ap (λ (x : Listed). x.callees) rest ∙ ap (λ (x : Listed). x.callees) noted;
@@ -58,9 +58,9 @@ returns-then-n-names c =
     c.args.edges.now c.forget_number.new.edges
     (let a = c.if-n-names.true in let e = c.names.ensures in omega (arith, a, e)) c.requires.names
     c.forget_number.ensures.edges
-    (subst (λ (x : Listed). AreMarksCleared (IsAffectedName c.args.edges.now c.in-Some.n) (is_flagged x.settled)
+    (subst (λ (x : Listed). AreMarksCleared (IsAffectedName c.args.edges.now c.in-Some.n) (is_flagged x.settled_flags)
     (is_flagged c.forget_number.new.nodes.settled.items)) noted c.forget_number.ensures.marks)
-    (subst (λ (x : Listed). AreNumbersLeft x.settled c.forget_number.new.nodes.settled.items x.count
+    (subst (λ (x : Listed). AreNumbersLeft x.settled_flags c.forget_number.new.nodes.settled.items x.count
     c.forget_number.new.nodes.settled_count x.outcomes c.forget_number.new.nodes.outcomes.items) noted
     c.forget_number.ensures.left)
 
@@ -69,7 +69,7 @@ returns-else-n-names c =
     let noted = c.note.ensures.rest in
     flag_forgotten (table c.args.deck.now) c.args.key.now (node_lists c.args.nodes.now) c.in-Some.n
     (c.in-Some.ensures.number ∙ ap (λ (w : List ℕ). Some (key_named c.args.key.now.kind w)) c.as_bytes.ensures)
-    c.requires.apart c.requires.flags (is_some c.find.result)
+    c.requires.numbers_apart c.requires.flag_per_key (is_some c.find.result)
     (flag (goal.at.returns-else-n-names c).After-note)
     (node_lists c.note.new.self) c.note.ensures.present
     (record {
@@ -78,6 +78,6 @@ returns-else-n-names c =
       graph = ap (λ (x : Listed). x.graph) noted;
       looks = ap (λ (x : Listed). x.looks) noted;
     })
-    c.args.edges.now (ap (λ (x : Listed). x.settled) noted) (ap (λ (x : Listed). x.count) noted)
+    c.args.edges.now (ap (λ (x : Listed). x.settled_flags) noted) (ap (λ (x : Listed). x.count) noted)
     (ap (λ (x : Listed). x.outcomes) noted)
     (λ a. let b = c.if-n-names.false in let e = c.names.ensures in omega (arith, a, b, e)) c.requires.names

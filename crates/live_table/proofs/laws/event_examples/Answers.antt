@@ -5,7 +5,7 @@ pub returns : goal.returns
 returns c = record {
   after_query_alone = refl;
   came = refl;
-  again = refl;
+  kept_after_shadowing = refl;
   after_undo = refl;
   after_cycle = refl;
   broken = refl;

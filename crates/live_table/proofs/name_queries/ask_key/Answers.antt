@@ -27,7 +27,7 @@ use Rattle.live_table.proofs.name_queries.ask_key.Goals.{In_ok-found}
 pub put_key-requires-clause-listed : goal.put_key-requires-clause-listed
 put_key-requires-clause-listed g c =
     none_listed (table c.args.deck.now) (node_lists c.args.nodes.now) c.args.explored.now.names c.clear.new.self
-    c.requires.explored.within c.clear.ensures
+    c.requires.explored.explored_in_table c.clear.ensures
 
 -- ---- the key has a number
 -- names are added
@@ -35,7 +35,7 @@ grown : (g : _) (c : After-put_key g)
     → AreGrown (table c.args.deck.now) (node_lists c.args.nodes.now) (node_lists c.put_key.new.nodes)
     c.args.explored.now.names c.clear.new.self c.put_key.new.worklist c.args.explored.now.dead_ends.items
     c.args.explored.now.dead_ends.items
-grown g c = (c.put_key.ensures.added c.args.explored.now.dead_ends.items).grown
+grown g c = (c.put_key.ensures.added c.args.explored.now.dead_ends.items).growth
 
 -- explored names stay explored
 still : (g : _) (c : After-put_key g)
@@ -44,7 +44,7 @@ still : (g : _) (c : After-put_key g)
 still g c =
     added_explored (table c.args.deck.now) (node_lists c.args.nodes.now) (node_lists c.put_key.new.nodes)
     c.args.explored.now.names c.clear.new.self c.put_key.new.worklist c.args.explored.now.dead_ends.items
-    c.args.explored.now.dead_ends.items c.requires.live.sound.numbers
+    c.args.explored.now.dead_ends.items c.requires.live.is_sound.numbers
     (c.put_key.ensures.added c.args.explored.now.dead_ends.items) c.requires.explored
 
 -- the facts known about faults stay right
@@ -54,7 +54,7 @@ known_led g c =
     known_grown c.findings_law.ensures (table c.args.deck.now) (node_lists c.args.nodes.now)
     (node_lists c.put_key.new.nodes) c.args.explored.now.names c.clear.new.self c.put_key.new.worklist
     c.args.explored.now.dead_ends.items c.args.explored.now.dead_ends.items c.args.explored.now.findings
-    c.requires.live.sound.numbers (grown g c)
+    c.requires.live.is_sound.numbers (grown g c)
     (added_same (table c.args.deck.now) (node_lists c.args.nodes.now) (node_lists c.put_key.new.nodes)
     c.args.explored.now.names c.clear.new.self c.put_key.new.worklist c.args.explored.now.dead_ends.items
     c.args.explored.now.dead_ends.items (c.put_key.ensures.added c.args.explored.now.dead_ends.items)
@@ -84,14 +84,14 @@ returns-in_err-n-clause-asked g c =
     c.args.deck.now (node_lists c.args.nodes.now) (node_lists c.put_key.new.nodes) c.args.explored.now.names
     c.clear.new.self c.put_key.new.worklist c.args.explored.now.dead_ends.items c.args.explored.now.dead_ends.items
     c.args.reductions.now c.args.steps.now
-    (grown g (goal.at.returns-in_err-n-clause-asked g c).After-put_key) c.requires.live.sound (key_query t k)
+    (grown g (goal.at.returns-in_err-n-clause-asked g c).After-put_key) c.requires.live.is_sound (key_query t k)
     (Err fault.OutOfMemory) refl)
 
 pub explore-requires-clause-nodes : goal.explore-requires-clause-nodes
 explore-requires-clause-nodes g c = (grown g (goal.at.explore-requires-clause-nodes g c).After-put_key).nodes
 
 pub explore-requires-clause-listed : goal.explore-requires-clause-listed
-explore-requires-clause-listed g c = (grown g (goal.at.explore-requires-clause-listed g c).After-put_key).listed
+explore-requires-clause-listed g c = (grown g (goal.at.explore-requires-clause-listed g c).After-put_key).list_right
 
 pub explore-requires-clause-before : goal.explore-requires-clause-before
 explore-requires-clause-before g c = still g (goal.at.explore-requires-clause-before g c).After-put_key
@@ -105,8 +105,8 @@ stages g c =
 -- each stage adds to the one before it
 are_stages : (g : _) (c : After-explore g) → AreStages (stages g c)
 are_stages g c = record {
-  sound = c.requires.live.sound;
-  first = (c.put_key.ensures.added c.args.explored.now.dead_ends.items).grown;
+  sound = c.requires.live.is_sound;
+  first = (c.put_key.ensures.added c.args.explored.now.dead_ends.items).growth;
   second = c.explore.ensures.grown;
 }
 
@@ -123,7 +123,7 @@ known_there g c led =
     known_grown c.findings_law.ensures (table c.args.deck.now) (node_lists c.put_key.new.nodes)
     (node_lists c.explore.new.nodes) c.args.explored.now.names c.put_key.new.worklist c.explore.new.worklist
     c.args.explored.now.dead_ends.items c.explore.new.dead_ends.items c.args.explored.now.findings
-    (c.put_key.ensures.added c.args.explored.now.dead_ends.items).grown.nodes c.explore.ensures.grown
+    (c.put_key.ensures.added c.args.explored.now.dead_ends.items).growth.nodes c.explore.ensures.grown
     c.explore.ensures.stay led
 
 pub returns-in_err-found-clause-faults : goal.returns-in_err-found-clause-faults
@@ -154,8 +154,8 @@ all_stages g c =
 are_all : (g : _) (c : In_ok-found g) → AreAllStages (all_stages g c)
 are_all g c = record {
   stages = record {
-    sound = c.requires.live.sound;
-    first = (c.put_key.ensures.added c.args.explored.now.dead_ends.items).grown;
+    sound = c.requires.live.is_sound;
+    first = (c.put_key.ensures.added c.args.explored.now.dead_ends.items).growth;
     second = c.explore.ensures.grown;
   };
   all = c.in_ok-found.ensures.all;
@@ -203,7 +203,7 @@ returns-in_err-settle_query-clause-asked g c =
     (λ q answered. key_explored_fault (all_stages g at.In_ok-found) (are_all g at.In_ok-found) k c.in_ok-n.n
     (number g at.In_ok-found) (IsSettledKey (node_lists c.settle_query.new.nodes) k)
     (shown_table c.args.deck.now (node_lists c.settle_query.new.nodes) c.settle_query.new.reductions) c.args.steps.now
-    c.settle_query.new.steps c.settle_query.ensures.live.sound.right q answered (Err q) refl)
+    c.settle_query.new.steps c.settle_query.ensures.live.is_sound.is_right q answered (Err q) refl)
     c.from_residual-in_err-settle_query.result (p.1 ∙ ap Err p.2)
 
 pub returns-clause-asked : goal.returns-clause-asked
@@ -213,13 +213,13 @@ returns-clause-asked g c =
     c.settle_query.new.explored.dead_ends.items c.settle_query.new.explored.findings.faults
     (of_number g at.After-settle_query) tt c.in_ok-settle_query.ensures.answered in
     record {
-      answer = Ok c.in_ok-n.n;
-      named = refl;
-      holds = key_explored_settled (all_stages g at.In_ok-found) (are_all g at.In_ok-found)
+      named_answer = Ok c.in_ok-n.n;
+      result_named = refl;
+      answer_holds = key_explored_settled (all_stages g at.In_ok-found) (are_all g at.In_ok-found)
           (key_named c.args.kind c.args.name.now) c.in_ok-n.n (number g at.In_ok-found)
           (node_lists c.settle_query.new.nodes) c.settle_query.new.reductions c.args.steps.now c.settle_query.new.steps
           (record {
-            sound = c.settle_query.ensures.live.sound;
+            sound = c.settle_query.ensures.live.is_sound;
             keys = c.in_ok-settle_query.ensures.keys;
             order = a.0;
             closing = a.1;

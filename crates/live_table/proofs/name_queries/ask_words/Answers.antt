@@ -33,7 +33,7 @@ use Rattle.live_table.proofs.name_queries.ask_words.Goals.{In_ok-found}
 pub query_steps-requires-clause-listed : goal.query_steps-requires-clause-listed
 query_steps-requires-clause-listed g c =
     none_listed (table c.args.deck.now) (node_lists c.args.nodes.now) c.args.explored.now.names c.clear.new.self
-    c.requires.explored.within c.clear.ensures
+    c.requires.explored.explored_in_table c.clear.ensures
 
 -- ---- the targets of the words have numbers
 -- names are added
@@ -41,7 +41,7 @@ grown : (g : _) (c : After-query_steps g)
     → AreGrown (table c.args.deck.now) (node_lists c.args.nodes.now) (node_lists c.query_steps.new.nodes)
     c.args.explored.now.names c.clear.new.self c.query_steps.new.worklist c.args.explored.now.dead_ends.items
     c.args.explored.now.dead_ends.items
-grown g c = (c.query_steps.ensures.added c.args.explored.now.dead_ends.items).grown
+grown g c = (c.query_steps.ensures.added c.args.explored.now.dead_ends.items).growth
 
 -- explored names stay explored
 still : (g : _) (c : After-query_steps g)
@@ -50,7 +50,7 @@ still : (g : _) (c : After-query_steps g)
 still g c =
     added_explored (table c.args.deck.now) (node_lists c.args.nodes.now) (node_lists c.query_steps.new.nodes)
     c.args.explored.now.names c.clear.new.self c.query_steps.new.worklist c.args.explored.now.dead_ends.items
-    c.args.explored.now.dead_ends.items c.requires.live.sound.numbers
+    c.args.explored.now.dead_ends.items c.requires.live.is_sound.numbers
     (c.query_steps.ensures.added c.args.explored.now.dead_ends.items) c.requires.explored
 
 -- the facts known about faults stay right
@@ -60,7 +60,7 @@ known_led g c =
     known_grown c.findings_law.ensures (table c.args.deck.now) (node_lists c.args.nodes.now)
     (node_lists c.query_steps.new.nodes) c.args.explored.now.names c.clear.new.self c.query_steps.new.worklist
     c.args.explored.now.dead_ends.items c.args.explored.now.dead_ends.items c.args.explored.now.findings
-    c.requires.live.sound.numbers (grown g c)
+    c.requires.live.is_sound.numbers (grown g c)
     (added_same (table c.args.deck.now) (node_lists c.args.nodes.now) (node_lists c.query_steps.new.nodes)
     c.args.explored.now.names c.clear.new.self c.query_steps.new.worklist c.args.explored.now.dead_ends.items
     c.args.explored.now.dead_ends.items (c.query_steps.ensures.added c.args.explored.now.dead_ends.items)
@@ -93,14 +93,14 @@ returns-in_err-query-clause-asked g c =
     c.args.deck.now (node_lists c.args.nodes.now) (node_lists c.query_steps.new.nodes) c.args.explored.now.names
     c.clear.new.self c.query_steps.new.worklist c.args.explored.now.dead_ends.items
     c.args.explored.now.dead_ends.items c.args.reductions.now c.args.steps.now
-    (grown g (goal.at.returns-in_err-query-clause-asked g c).After-query_steps) c.requires.live.sound
+    (grown g (goal.at.returns-in_err-query-clause-asked g c).After-query_steps) c.requires.live.is_sound
     (words_query t c.args.words.now) (Err fault.OutOfMemory) refl)
 
 pub explore-requires-clause-nodes : goal.explore-requires-clause-nodes
 explore-requires-clause-nodes g c = (grown g (goal.at.explore-requires-clause-nodes g c).After-query_steps).nodes
 
 pub explore-requires-clause-listed : goal.explore-requires-clause-listed
-explore-requires-clause-listed g c = (grown g (goal.at.explore-requires-clause-listed g c).After-query_steps).listed
+explore-requires-clause-listed g c = (grown g (goal.at.explore-requires-clause-listed g c).After-query_steps).list_right
 
 pub explore-requires-clause-before : goal.explore-requires-clause-before
 explore-requires-clause-before g c = still g (goal.at.explore-requires-clause-before g c).After-query_steps
@@ -114,8 +114,8 @@ stages g c =
 -- each stage adds to the one before it
 are_stages : (g : _) (c : After-explore g) → AreStages (stages g c)
 are_stages g c = record {
-  sound = c.requires.live.sound;
-  first = (c.query_steps.ensures.added c.args.explored.now.dead_ends.items).grown;
+  sound = c.requires.live.is_sound;
+  first = (c.query_steps.ensures.added c.args.explored.now.dead_ends.items).growth;
   second = c.explore.ensures.grown;
 }
 
@@ -132,7 +132,7 @@ known_there g c led =
     known_grown c.findings_law.ensures (table c.args.deck.now) (node_lists c.query_steps.new.nodes)
     (node_lists c.explore.new.nodes) c.args.explored.now.names c.query_steps.new.worklist c.explore.new.worklist
     c.args.explored.now.dead_ends.items c.explore.new.dead_ends.items c.args.explored.now.findings
-    (c.query_steps.ensures.added c.args.explored.now.dead_ends.items).grown.nodes c.explore.ensures.grown
+    (c.query_steps.ensures.added c.args.explored.now.dead_ends.items).growth.nodes c.explore.ensures.grown
     c.explore.ensures.stay led
 
 pub returns-in_err-found-clause-faults : goal.returns-in_err-found-clause-faults
@@ -164,8 +164,8 @@ all_stages g c =
 are_all : (g : _) (c : In_ok-found g) → AreAllStages (all_stages g c)
 are_all g c = record {
   stages = record {
-    sound = c.requires.live.sound;
-    first = (c.query_steps.ensures.added c.args.explored.now.dead_ends.items).grown;
+    sound = c.requires.live.is_sound;
+    first = (c.query_steps.ensures.added c.args.explored.now.dead_ends.items).growth;
     second = c.explore.ensures.grown;
   };
   all = c.in_ok-found.ensures.all;
@@ -194,8 +194,9 @@ cut g c =
 pub cut_stop-requires-clause-known : goal.cut_stop-requires-clause-known
 cut_stop-requires-clause-known g c =
     let at = goal.at.cut_stop-requires-clause-known g c in
-    known g at.After-explore (cut g at.In-Some).front c.in_ok-query.query.steps.items c.as_slice-targets.result.now
-    c.as_slice-targets.ensures (cut g at.In-Some).written
+    known g at.After-explore (cut g at.In-Some).words_before c.in_ok-query.query.steps.items
+    c.as_slice-targets.result.now
+    c.as_slice-targets.ensures (cut g at.In-Some).front_steps
 
 pub cut_stop-requires-clause-faults : goal.cut_stop-requires-clause-faults
 cut_stop-requires-clause-faults g c =
@@ -226,21 +227,21 @@ returns-in-Some-clause-asked g c =
     let at = goal.at.returns-in-Some-clause-asked g c in
     let stopped = c.in_ok-stop.ensures.stop in
     record {
-      answer = Err (fault.Name stopped.name);
-      named = (
+      named_answer = Err (fault.Name stopped.name);
+      result_named = (
         fault.Name stopped.name,
         subst (λ (ends : List DeadEnd). IsStopFault t (node_lists c.explore.new.nodes) ends
             c.cut_stop.new.explored.findings.faults c.in_ok-stop.stop (fault.Name stopped.name))
-            (sym c.cut_stop.ensures.dead_ends) stopped.named,
+            (sym c.cut_stop.ensures.dead_ends) stopped.stop_named,
         refl,
       );
-      holds = explored_cut (λ (query : SmallVec Step). AreSettledWords t (node_lists c.explore.new.nodes)
+      answer_holds = explored_cut (λ (query : SmallVec Step). AreSettledWords t (node_lists c.explore.new.nodes)
           c.args.words.now
           query.items) (all_stages g at.In_ok-found) (are_all g at.In_ok-found) c.args.words.now
           c.in_ok-query.query.steps.items c.in-Some.end c.args.steps.now (cut g at.In-Some) stopped.name
           (subst (λ (ys : List Step). fault_before (fault_in t (node_lists c.explore.new.nodes)
           c.explore.new.dead_ends.items ys) c.in-Some.end ≡ Some stopped.name)
-          c.as_slice-targets.ensures stopped.first);
+          c.as_slice-targets.ensures stopped.fault_first);
     }
 
 -- ---- all words lead somewhere
@@ -283,7 +284,7 @@ returns-in_err-settle_query-clause-asked g c =
     (λ q answered. explored_fault (all_stages g at.In_ok-found) (are_all g at.In_ok-found) c.args.words.now
     c.in_ok-query.query.steps.items (written g at.In_default)
     (λ (query : SmallVec Step). AreSettledWords t (node_lists c.settle_query.new.nodes) c.args.words.now query.items)
-    now c.args.steps.now c.settle_query.new.steps c.settle_query.ensures.live.sound.right q
+    now c.args.steps.now c.settle_query.new.steps c.settle_query.ensures.live.is_sound.is_right q
     (subst (λ (ys : List Step). IsQueryAnswered t (node_lists c.explore.new.nodes) c.explore.new.dead_ends.items ys
     (Err q) (shown_table c.args.deck.now (node_lists c.explore.new.nodes) c.args.reductions.now)
     now c.args.steps.now c.settle_query.new.steps) c.as_slice-targets.ensures answered) (Err q) refl)
@@ -301,13 +302,13 @@ returns-clause-asked g c =
     (shown_table c.args.deck.now (node_lists c.settle_query.new.nodes) c.settle_query.new.reductions) c.args.steps.now
     c.settle_query.new.steps) tt c.in_ok-settle_query.ensures.answered in
     record {
-      answer = Ok c.in_ok-query.query.steps;
-      named = refl;
-      holds = explored_settled (all_stages g at.In_ok-found) (are_all g at.In_ok-found) c.args.words.now
+      named_answer = Ok c.in_ok-query.query.steps;
+      result_named = refl;
+      answer_holds = explored_settled (all_stages g at.In_ok-found) (are_all g at.In_ok-found) c.args.words.now
           c.in_ok-query.query.steps.items (written g at.In_default) (node_lists c.settle_query.new.nodes)
           c.settle_query.new.reductions c.args.steps.now c.settle_query.new.steps
           (record {
-            sound = c.settle_query.ensures.live.sound;
+            sound = c.settle_query.ensures.live.is_sound;
             keys = c.in_ok-settle_query.ensures.keys;
             order = a.0;
             closing = subst (λ (ys : List Step). IsClosing (node_lists c.explore.new.nodes) ys a.0)

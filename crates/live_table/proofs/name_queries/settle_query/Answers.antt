@@ -22,7 +22,7 @@ returns-in_err-step-clause-answered g c =
     let p = err_from_is_err_and c.from_residual.result c.from_residual.ensures.1 in
     no_memory (table c.args.deck.now) (node_lists c.args.nodes.now) c.first_faulty.new.explored.dead_ends.items
     c.first_faulty.new.explored.findings.faults _ c.from_residual.result (p.1 ∙ ap Err p.2)
-    (inl (record { shown = refl; steps = refl }))
+    (inl (record { table_after = refl; steps = refl }))
 
 -- ---- a step has a fault
 pub returns-in-Some-clause-answered : goal.returns-in-Some-clause-answered
@@ -50,12 +50,12 @@ closing g c =
 pub settle-requires-clause-order : goal.settle-requires-clause-order
 settle-requires-clause-order g c =
     let explored = explored_all (table c.args.deck.now) (node_lists c.args.nodes.now) c.args.explored.now.names
-    c.args.scratch.now.worklist c.args.explored.now.dead_ends.items c.requires.live.sound.numbers c.requires.all in
+    c.args.scratch.now.worklist c.args.explored.now.dead_ends.items c.requires.live.is_sound.numbers c.requires.all in
     subst (AreDue (table c.args.deck.now) (node_lists c.args.nodes.now)) (sym c.order-order.ensures)
     (are_due c.numbered_fault_law.ensures (table c.args.deck.now) (node_lists c.args.nodes.now)
     c.args.explored.now.dead_ends.items
     (is_known c.args.nodes.now.settled.items c.args.explored.now.names c.args.scratch.now.worklist) c.args.query.now
-    c.first_faulty.new.walker c.requires.live.sound.numbers explored c.requires.known
+    c.first_faulty.new.walker c.requires.live.is_sound.numbers explored c.requires.known
     (closing g (goal.at.settle-requires-clause-order g c).In_default).closes)
 
 pub returns-in_err-settle-clause-explored : goal.returns-in_err-settle-clause-explored
@@ -96,9 +96,9 @@ returns-clause-faults g c =
 
 pub returns-clause-answered : goal.returns-clause-answered
 returns-clause-answered g c = record {
-  answer = Ok tt;
-  named = refl;
-  holds = (
+  named_answer = Ok tt;
+  result_named = refl;
+  answer_holds = (
     c.order-order.result.now,
     subst (IsClosing (node_lists c.args.nodes.now) c.args.query.now) (sym c.order-order.ensures)
         (closing g (goal.at.returns-clause-answered g c).In_default),

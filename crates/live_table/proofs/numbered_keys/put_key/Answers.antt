@@ -8,38 +8,39 @@ use Rattle.live_table.proofs.KeyNumbers.{flagged_by}
 use Rattle.live_table.proofs.numbered_keys.put_key.Goals as goal
 
 pub number-requires : goal.number-requires
-number-requires c = flagged_by (table c.args.deck.now) c.args.nodes.now c.requires.nodes.flagged
+number-requires c = flagged_by (table c.args.deck.now) c.args.nodes.now c.requires.nodes.flags_right
 
 pub returns-in_err-n-clause-added : goal.returns-in_err-n-clause-added
 returns-in_err-n-clause-added c ends =
-    c.number.ensures.kept.added (table c.args.deck.now) refl c.requires.nodes c.args.explored.now c.args.worklist.now
+    c.number.ensures.kept.numbered_names (table c.args.deck.now) refl c.requires.nodes c.args.explored.now
+    c.args.worklist.now
     ends
     c.requires.listed
 
 pub put_target-requires-clause-nodes : goal.put_target-requires-clause-nodes
 put_target-requires-clause-nodes c = (
   table c.args.deck.now,
-  (c.number.ensures.kept.added (table c.args.deck.now) refl c.requires.nodes c.args.explored.now
+  (c.number.ensures.kept.numbered_names (table c.args.deck.now) refl c.requires.nodes c.args.explored.now
       c.args.worklist.now []
-      c.requires.listed).grown.nodes,
+      c.requires.listed).growth.nodes,
 )
 
 pub returns-in_err-put_target-clause-added : goal.returns-in_err-put_target-clause-added
 returns-in_err-put_target-clause-added c ends =
     let t = table c.args.deck.now in
-    let a = c.number.ensures.kept.added t refl c.requires.nodes c.args.explored.now c.args.worklist.now ends
+    let a = c.number.ensures.kept.numbered_names t refl c.requires.nodes c.args.explored.now c.args.worklist.now ends
     c.requires.listed in
     added_both t (node_lists c.args.nodes.now) (node_lists c.number.new.nodes) (node_lists c.number.new.nodes)
     c.args.explored.now c.args.worklist.now c.args.worklist.now c.put_target.new.worklist ends ends ends a
-    (c.put_target.ensures.added t ends a.grown.nodes a.grown.listed
+    (c.put_target.ensures.added t ends a.growth.nodes a.growth.list_right
     (subst (λ (k : Key). is_present t k ≡ true) c.in_ok-n.ensures.number.1 c.requires.present))
 
 pub returns-clause-added : goal.returns-clause-added
 returns-clause-added c ends =
     let t = table c.args.deck.now in
-    let a = c.number.ensures.kept.added t refl c.requires.nodes c.args.explored.now c.args.worklist.now ends
+    let a = c.number.ensures.kept.numbered_names t refl c.requires.nodes c.args.explored.now c.args.worklist.now ends
     c.requires.listed in
     added_both t (node_lists c.args.nodes.now) (node_lists c.number.new.nodes) (node_lists c.number.new.nodes)
     c.args.explored.now c.args.worklist.now c.args.worklist.now c.put_target.new.worklist ends ends ends a
-    (c.put_target.ensures.added t ends a.grown.nodes a.grown.listed
+    (c.put_target.ensures.added t ends a.growth.nodes a.growth.list_right
     (subst (λ (k : Key). is_present t k ≡ true) c.in_ok-n.ensures.number.1 c.requires.present))

@@ -18,10 +18,11 @@ led : (c : After-query_lead) (ends : List DeadEnd)
     c.args.explored.now
     c.loop-u.worklist c.loop-u.worklist ends ends
 led c ends =
-    c.query_lead.ensures.added c.args.explored.now c.loop-u.worklist ends (c.loop-u.invariant.added ends).grown.listed
+    c.query_lead.ensures.added c.args.explored.now c.loop-u.worklist ends
+    (c.loop-u.invariant.added ends).growth.list_right
 
 pub query_lead-requires : goal.query_lead-requires
-query_lead-requires c = (c.loop-u.invariant.added []).grown.nodes
+query_lead-requires c = (c.loop-u.invariant.added []).growth.nodes
 
 pub returns-in_err-lead-clause-added : goal.returns-in_err-lead-clause-added
 returns-in_err-lead-clause-added c ends =
@@ -32,7 +33,7 @@ returns-in_err-lead-clause-added c ends =
 
 pub target_steps-requires-clause-nodes : goal.target_steps-requires-clause-nodes
 target_steps-requires-clause-nodes c =
-    (table c.args.deck.now, (led (goal.at.target_steps-requires-clause-nodes c).After-query_lead []).grown.nodes)
+    (table c.args.deck.now, (led (goal.at.target_steps-requires-clause-nodes c).After-query_lead []).growth.nodes)
 
 pub target_steps-requires-clause-within : goal.target_steps-requires-clause-within
 target_steps-requires-clause-within c =
@@ -52,11 +53,11 @@ turn c = record {
   start = c.loop-u.invariant;
   led = λ ends.
       c.query_lead.ensures.added c.args.explored.now c.loop-u.worklist ends
-      (c.loop-u.invariant.added ends).grown.listed;
+      (c.loop-u.invariant.added ends).growth.list_right;
   put = λ ends.
       let added = c.query_lead.ensures.added c.args.explored.now c.loop-u.worklist ends
-      (c.loop-u.invariant.added ends).grown.listed in
-      c.target_steps.ensures.added (table c.args.deck.now) ends added.grown.nodes added.grown.listed
+      (c.loop-u.invariant.added ends).growth.list_right in
+      c.target_steps.ensures.added (table c.args.deck.now) ends added.growth.nodes added.growth.list_right
       (lead_present (table c.args.deck.now) c.query_lead.new.nodes.keys c.u-item.result c.in_ok-lead.lead
       c.in_ok-lead.ensures.lead);
 }

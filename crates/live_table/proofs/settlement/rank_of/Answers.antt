@@ -10,7 +10,7 @@ use Rattle.live_table.proofs.settlement.rank_of.Goals as goal
 
 pub steps_of-requires : goal.steps_of-requires
 steps_of-requires c =
-    let a : c.args.n < length (node_lists c.args.nodes.now).keys = c.requires.due.within in
+    let a : c.args.n < length (node_lists c.args.nodes.now).keys = c.requires.due.in_table in
     let b : length (node_lists c.args.nodes.now).graph ≡ length (node_lists c.args.nodes.now).keys =
     c.requires.sound.1.numbers.step_count in
     omega (arith, a, b)
@@ -18,7 +18,7 @@ steps_of-requires c =
 pub greatest_rank-requires : goal.greatest_rank-requires
 greatest_rank-requires c = λ m h.
     let a : m < length (node_lists c.args.nodes.now).graph =
-    c.requires.sound.1.numbers.net.range c.args.n m (subst (λ (xs : List Step). In (To m) xs)
+    c.requires.sound.1.numbers.net.steps_in_range c.args.n m (subst (λ (xs : List Step). In (To m) xs)
     c.steps_of.ensures.is h) in
     let b : length (node_lists c.args.nodes.now).graph ≡ length (node_lists c.args.nodes.now).keys =
     c.requires.sound.1.numbers.step_count in

@@ -28,14 +28,14 @@ what_of-what-requires-clause-within g c =
     (is_due c.args.deck.now (node_lists c.args.nodes.now) (node_lists c.loop-n.nodes) c.args.reductions.now
     c.loop-n.reductions c.args.order.now c.loop-n.n-index c.args.steps.now c.loop-n.steps
     (get_or c.args.order.now c.loop-n.n-index 0) (slice_get-get_or c.args.order.now c.loop-n.n-index 0 (omega arith))
-    c.loop-n.invariant.0).within
+    c.loop-n.invariant.0).in_table
 
 pub what_of-what-requires-clause-present : goal.what_of-what-requires-clause-present
 what_of-what-requires-clause-present g c =
     (is_due c.args.deck.now (node_lists c.args.nodes.now) (node_lists c.loop-n.nodes) c.args.reductions.now
     c.loop-n.reductions c.args.order.now c.loop-n.n-index c.args.steps.now c.loop-n.steps
     (get_or c.args.order.now c.loop-n.n-index 0) (slice_get-get_or c.args.order.now c.loop-n.n-index 0 (omega arith))
-    c.loop-n.invariant.0).present
+    c.loop-n.invariant.0).key_has_entry
 
 -- ---- the name is settled
 pub settle_one-requires-clause-due : goal.settle_one-requires-clause-due

@@ -13,29 +13,29 @@ use Rattle.live_table.proofs.settlement.settle_one.Goals.{After-saturating_add}
 
 pub store_outcome-requires-clause-callees : goal.store_outcome-requires-clause-callees
 store_outcome-requires-clause-callees g c =
-    let a : c.args.n < length (node_lists c.args.nodes.now).keys = c.requires.due.within in
+    let a : c.args.n < length (node_lists c.args.nodes.now).keys = c.requires.due.in_table in
     let b : length (node_lists c.args.nodes.now).callees ≡ length (node_lists c.args.nodes.now).keys =
     c.requires.sound.numbers.callee_count in
     omega (arith, a, b)
 
 pub store_outcome-requires-clause-outcomes : goal.store_outcome-requires-clause-outcomes
 store_outcome-requires-clause-outcomes g c =
-    let a : c.args.n < length (node_lists c.args.nodes.now).keys = c.requires.due.within in
+    let a : c.args.n < length (node_lists c.args.nodes.now).keys = c.requires.due.in_table in
     let b : length (node_lists c.args.nodes.now).outcomes ≡ length (node_lists c.args.nodes.now).keys =
     c.requires.sound.numbers.outcome_count in
     omega (arith, a, b)
 
 pub store_outcome-requires-clause-settled : goal.store_outcome-requires-clause-settled
 store_outcome-requires-clause-settled g c =
-    let a : c.args.n < length (node_lists c.args.nodes.now).keys = c.requires.due.within in
-    let b : length (node_lists c.args.nodes.now).settled ≡ length (node_lists c.args.nodes.now).keys =
+    let a : c.args.n < length (node_lists c.args.nodes.now).keys = c.requires.due.in_table in
+    let b : length (node_lists c.args.nodes.now).settled_flags ≡ length (node_lists c.args.nodes.now).keys =
     settled_count c.args.deck.now (node_lists c.args.nodes.now) c.args.reductions.now c.requires.sound.numbers in
     omega (arith, a, b)
 
 pub store_outcome-requires-clause-room : goal.store_outcome-requires-clause-room
 store_outcome-requires-clause-room g c =
-    let a = count_room (node_lists c.args.nodes.now).settled c.args.n c.requires.due.fresh in
-    let b = c.requires.sound.numbers.counted in
+    let a = count_room (node_lists c.args.nodes.now).settled_flags c.args.n c.requires.due.still_unsettled in
+    let b = c.requires.sound.numbers.count_right in
     let s = c.args.nodes.now.settled.ok.0 in
     omega (arith, a, b)
 
@@ -87,7 +87,7 @@ returns-clause-explored g c =
     settled_explored (table c.args.deck.now) (node_lists c.args.nodes.now) (node_lists c.store_outcome.new.nodes)
     c.args.n
     c.in_ok-outcome.outcome c.rank_of-rank.result
-    (let a : c.args.n < length (node_lists c.args.nodes.now).keys = c.requires.due.within in
+    (let a : c.args.n < length (node_lists c.args.nodes.now).keys = c.requires.due.in_table in
     let b : length (node_lists c.args.nodes.now).callees ≡ length (node_lists c.args.nodes.now).keys =
     c.requires.sound.numbers.callee_count in omega (arith, a, b))
     c.store_outcome.ensures
@@ -96,7 +96,7 @@ pub returns-clause-later : goal.returns-clause-later
 returns-clause-later g c =
     settled_later (node_lists c.args.nodes.now) (node_lists c.store_outcome.new.nodes) c.args.n c.in_ok-outcome.outcome
     c.rank_of-rank.result
-    (let a : c.args.n < length (node_lists c.args.nodes.now).keys = c.requires.due.within in
+    (let a : c.args.n < length (node_lists c.args.nodes.now).keys = c.requires.due.in_table in
     let b : length (node_lists c.args.nodes.now).callees ≡ length (node_lists c.args.nodes.now).keys =
     c.requires.sound.numbers.callee_count in omega (arith, a, b))
     c.store_outcome.ensures

@@ -14,9 +14,9 @@ pub returns : goal.returns
 returns c =
     by_number (table c.args.deck.now) (node_lists c.args.nodes.now) c.args.explored.now.dead_ends.items c.args.step
     (fault_view c.in_ok-fault.fault)
-    (c.in_ok-fault.ensures (node_lists c.args.nodes.now).graph (node_lists c.args.nodes.now).settled
+    (c.in_ok-fault.ensures (node_lists c.args.nodes.now).graph (node_lists c.args.nodes.now).settled_flags
     c.requires.nodes.net
-    c.requires.faults.right) c.named_fault.result
+    c.requires.faults.is_right) c.named_fault.result
     (subst (λ (ends : List DeadEnd). IfOk c.named_fault.result (λ f. (t : Table)
     → f ≡ fault_by_name t (key_at c.args.nodes.now.keys) (fault_at ends) (fault_view c.in_ok-fault.fault)))
     c.as_slice-dead_ends.ensures.value c.named_fault.ensures)

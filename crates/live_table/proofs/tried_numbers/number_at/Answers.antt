@@ -4,8 +4,8 @@ use Rattle.live_table.proofs.KeyNumbers.{flagged_by}
 use Rattle.live_table.proofs.tried_numbers.number_at.Goals as goal
 
 pub number-requires : goal.number-requires
-number-requires c = flagged_by (table c.args.deck.now) c.args.nodes.now c.requires.nodes.flagged
+number-requires c = flagged_by (table c.args.deck.now) c.args.nodes.now c.requires.nodes.flags_right
 
 pub returns-clause-added : goal.returns-clause-added
 returns-clause-added c before list ends right =
-    c.number.ensures.kept.added (table c.args.deck.now) refl c.requires.nodes before list ends right
+    c.number.ensures.kept.numbered_names (table c.args.deck.now) refl c.requires.nodes before list ends right

@@ -1,7 +1,7 @@
 use Rattle.std.proofs.Common.{◌≤◌, ◌-◌, ℕ, length, ap, subst, sym}
 use Rattle.deck.specs.Tables.{table}
 use Rattle.name_lookup.specs.declared.targets.Targets.{Targets}
-use Rattle.name_lookup.specs.Targets.{count, last_keys}
+use Rattle.name_lookup.specs.Targets.{last_keys, target_count}
 use Rattle.live_table.specs.declared.word_targets.Lead.TheVariants.{Two}
 use Rattle.live_table.specs.WordTargets.{LeadsToKeys}
 use Rattle.live_table.specs.TableContents.{node_lists}
@@ -28,11 +28,11 @@ returns-in_ok-m-in-LastTwo-clause-added c =
 pub returns-in_ok-m-in-LastTwo-clause-lead : goal.returns-in_ok-m-in-LastTwo-clause-lead
 returns-in_ok-m-in-LastTwo-clause-lead c =
     let keys = c.number_at-in-LastTwo-2.new.nodes.keys in
-    subst (λ (which : Targets). LeadsToKeys keys (last_keys (count which) c.args.tried.now)
+    subst (λ (which : Targets). LeadsToKeys keys (last_keys (target_count which) c.args.tried.now)
     (Two c.in_ok-n-in-LastTwo.n c.in_ok-m-in-LastTwo.m)) (sym c.in-LastTwo.is)
     (leads_to_two c.number_at-in-LastTwo.new.nodes.keys keys c.args.tried.now (c.len-in-LastTwo.result - 2)
     (c.len-in-LastTwo-2.result - 1) c.in_ok-n-in-LastTwo.n c.in_ok-m-in-LastTwo.m
-    (subst (λ (which : Targets). count which ≤ length c.args.tried.now) c.in-LastTwo.is c.requires.enough)
+    (subst (λ (which : Targets). target_count which ≤ length c.args.tried.now) c.in-LastTwo.is c.requires.enough)
     (ap (λ (x : ℕ). x - 2) c.len-in-LastTwo.ensures) (ap (λ (x : ℕ). x - 1) c.len-in-LastTwo-2.ensures)
     (added_keys (table c.args.deck.now) (node_lists c.number_at-in-LastTwo.new.nodes)
     (node_lists c.number_at-in-LastTwo-2.new.nodes) c.number_at-in-LastTwo-2.ensures.added)

@@ -9,10 +9,10 @@ use Rattle.live_table.proofs.WrittenSteps.{putting_next}
 use Rattle.live_table.proofs.word_steps.put_words.Goals as goal
 
 pub put_word-requires-clause-nodes : goal.put_word-requires-clause-nodes
-put_word-requires-clause-nodes c = c.loop-u.invariant.added.grown.nodes
+put_word-requires-clause-nodes c = c.loop-u.invariant.added.growth.nodes
 
 pub put_word-requires-clause-listed : goal.put_word-requires-clause-listed
-put_word-requires-clause-listed c = c.loop-u.invariant.added.grown.listed
+put_word-requires-clause-listed c = c.loop-u.invariant.added.growth.list_right
 
 pub returns-in_err-put_word-clause-added : goal.returns-in_err-put_word-clause-added
 returns-in_err-put_word-clause-added c =

@@ -36,7 +36,7 @@ returns-in_err-put_target-in-Two-2-clause-added c t ends nodes right present =
     (present c.in-Two.n (first_in c.args.lead c.in-Two.n c.in-Two.m c.in-Two.is)) in
     added_both t l l l c.args.explored.now c.args.worklist.now c.put_target-in-Two.new.worklist
     c.put_target-in-Two-2.new.worklist ends ends ends a
-    (c.put_target-in-Two-2.ensures.added t ends nodes a.grown.listed
+    (c.put_target-in-Two-2.ensures.added t ends nodes a.growth.list_right
     (present c.in-Two.m (second_in c.args.lead c.in-Two.n c.in-Two.m c.in-Two.is)))
 
 pub returns-in_ok-put_target-in-Two-2-clause-added : goal.returns-in_ok-put_target-in-Two-2-clause-added
@@ -46,7 +46,7 @@ returns-in_ok-put_target-in-Two-2-clause-added c t ends nodes right present =
     (present c.in-Two.n (first_in c.args.lead c.in-Two.n c.in-Two.m c.in-Two.is)) in
     added_both t l l l c.args.explored.now c.args.worklist.now c.put_target-in-Two.new.worklist
     c.put_target-in-Two-2.new.worklist ends ends ends a
-    (c.put_target-in-Two-2.ensures.added t ends nodes a.grown.listed
+    (c.put_target-in-Two-2.ensures.added t ends nodes a.growth.list_right
     (present c.in-Two.m (second_in c.args.lead c.in-Two.n c.in-Two.m c.in-Two.is)))
 
 pub returns-in_ok-put_target-in-Two-2-clause-known : goal.returns-in_ok-put_target-in-Two-2-clause-known

@@ -16,7 +16,7 @@ pub target_steps-requires-clause-nodes : goal.target_steps-requires-clause-nodes
 target_steps-requires-clause-nodes c = (
   table c.args.deck.now,
   (c.lead_of.ensures.added c.args.explored.now c.args.worklist.now c.args.dead_ends.now.items
-      c.requires.listed).grown.nodes,
+      c.requires.listed).growth.nodes,
 )
 
 pub target_steps-requires-clause-within : goal.target_steps-requires-clause-within
@@ -35,7 +35,7 @@ returns-in_err-steps-clause-added c =
     let a = c.lead_of.ensures.added c.args.explored.now c.args.worklist.now ends c.requires.listed in
     added_both t (node_lists c.args.nodes.now) l l c.args.explored.now c.args.worklist.now c.args.worklist.now
     c.target_steps.new.worklist ends ends ends a
-    (c.target_steps.ensures.added t ends a.grown.nodes a.grown.listed
+    (c.target_steps.ensures.added t ends a.growth.nodes a.growth.list_right
     (lead_present t l.keys c.args.u.now c.in_ok-lead.lead
     (query_lead t l.keys c.args.u.now c.args.nodes.now.gathered c.lead_of.new.nodes.gathered c.in_ok-lead.lead
     c.in_ok-lead.ensures.lead)))
@@ -49,7 +49,7 @@ returns-in-Some-clause-added c =
     let a = c.lead_of.ensures.added c.args.explored.now c.args.worklist.now ends c.requires.listed in
     added_both t (node_lists c.args.nodes.now) l l c.args.explored.now c.args.worklist.now c.args.worklist.now
     c.target_steps.new.worklist ends ends ends a
-    (c.target_steps.ensures.added t ends a.grown.nodes a.grown.listed
+    (c.target_steps.ensures.added t ends a.growth.nodes a.growth.list_right
     (lead_present t l.keys c.args.u.now c.in_ok-lead.lead
     (query_lead t l.keys c.args.u.now c.args.nodes.now.gathered c.lead_of.new.nodes.gathered c.in_ok-lead.lead
     c.in_ok-lead.ensures.lead)))
@@ -79,7 +79,7 @@ returns-in-None-clause-added c =
     let more = c.put_dead_end.new.dead_ends.items in
     let list = c.target_steps.new.worklist in
     let a = c.lead_of.ensures.added c.args.explored.now c.args.worklist.now ends c.requires.listed in
-    let b = c.target_steps.ensures.added t ends a.grown.nodes a.grown.listed
+    let b = c.target_steps.ensures.added t ends a.growth.nodes a.growth.list_right
     (lead_present t l.keys c.args.u.now c.in_ok-lead.lead
     (query_lead t l.keys c.args.u.now c.args.nodes.now.gathered c.lead_of.new.nodes.gathered c.in_ok-lead.lead
     c.in_ok-lead.ensures.lead)) in
@@ -87,7 +87,7 @@ returns-in-None-clause-added c =
     ends
     more a
     (added_both t l l l c.args.explored.now c.args.worklist.now list list ends ends more b
-    (added_none t l c.args.explored.now list ends more b.grown.nodes b.grown.listed c.put_dead_end.ensures.more))
+    (added_none t l c.args.explored.now list ends more b.growth.nodes b.growth.list_right c.put_dead_end.ensures.more))
 
 pub returns-in-None-clause-written : goal.returns-in-None-clause-written
 returns-in-None-clause-written c =

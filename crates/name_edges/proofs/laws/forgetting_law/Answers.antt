@@ -1,7 +1,7 @@
 use Rattle.std.proofs.Common.{ℕ, [], refl, arith, ◌∙◌}
 use Rattle.name_edges.specs.AffectedNames.{AreAffected}
 use Rattle.name_edges.specs.NameGraphs.{NameGraph}
-use Rattle.name_edges.proofs.Cutting.{alone, both, cleared_on, cut_on, in_alone}
+use Rattle.name_edges.proofs.Cutting.{affected_by_both, affected_by_one, cleared_on, cut_on, in_alone}
 use Rattle.name_edges.proofs.laws.forgetting_law.Goals as goal
 
 no_key : (g : NameGraph) (n : ℕ) → AreAffected g [] n → ⊥
@@ -9,17 +9,22 @@ no_key g n (k, (i, l, e), a) = omega (arith, l)
 
 pub returns : goal.returns
 returns c = record {
-  none = λ g. record {
+  no_key_given = λ g. record {
     names = refl;
-    uses = record { gone = λ x y i. absurd (no_key g x i); kept = λ x y free. refl };
-    looks = record { gone = λ x y i. absurd (no_key g x i); kept = λ x y free. refl };
+    uses = record { affected_cleared = λ x y i. absurd (no_key g x i); others_unchanged = λ x y free. refl };
+    looks = record { affected_cleared = λ x y i. absurd (no_key g x i); others_unchanged = λ x y free. refl };
   };
-  none_cleared = λ g marks. record { gone = λ x i. absurd (no_key g x i); kept = λ x free. refl };
-  one = λ g key n. (alone g key n, in_alone g key n);
+  none_cleared = λ g marks. record {
+    affected_cleared = λ x i. absurd (no_key g x i);
+    others_unchanged = λ x free.
+        refl;
+  };
+  one_key = λ g key n. (affected_by_one g key n, in_alone g key n);
   more_keys = λ keys key old mid new a b. record {
     names = b.names ∙ a.names;
-    uses = cut_on _ _ _ (both keys key old mid a) old.uses mid.uses new.uses a.uses b.uses;
-    looks = cut_on _ _ _ (both keys key old mid a) old.looks mid.looks new.looks a.looks b.looks;
+    uses = cut_on _ _ _ (affected_by_both keys key old mid a) old.uses mid.uses new.uses a.uses b.uses;
+    looks = cut_on _ _ _ (affected_by_both keys key old mid a) old.looks mid.looks new.looks a.looks b.looks;
   };
-  more_cleared = λ keys key old mid marks then now a b d. cleared_on _ _ _ (both keys key old mid a) marks then now b d;
+  more_cleared = λ keys key old mid marks then now a b d. cleared_on _ _ _ (affected_by_both keys key old mid a) marks
+      then now b d;
 }

@@ -32,6 +32,6 @@ returns c = record {
     two_prefixes = refl;
     list = refl;
   };
-  at_places = record { plain = refl; call = refl; inverse = refl; inverse_of_a_unit = refl };
-  in_order = record { all_candidates = refl; none_present = refl; shorter_prefix = refl };
+  at_places = record { plain_place = refl; call_place = refl; inverse = refl; inverse_of_a_unit = refl };
+  candidate_order = record { all_candidates = refl; none_present = refl; shorter_prefix = refl };
 }

@@ -10,7 +10,7 @@ index_mut-requires c =
     let i = c.loop-name.name-index in
     let es : List ℕ = c.entered_names-name-items.result.now in
     let within : get_or es i 0 < length c.args.faults.now.items =
-    c.requires.within (get_or es i 0)
+    c.requires.names_within (get_or es i 0)
     (subst (λ (ns : List ℕ). In (get_or es i 0) ns) c.entered_names-name-items.ensures
     (get_In es i (get_or es i 0) (slice_get-get_or es i 0 c.loop-name-test.true))) in
     subst (λ (k : ℕ). get_or es i 0 < k) (sym (c.loop-name.faults.ok.0 ∙ c.loop-name.invariant.size)) within
@@ -18,17 +18,18 @@ index_mut-requires c =
 pub loop-name-preserved : goal.loop-name-preserved
 loop-name-preserved c =
     let test : c.loop-name.name-index < length c.entered_names-name-items.result.now = c.loop-name-test.true in
-    subst (λ (es : List ℕ). IsClearing c.args.traces.now.entered c.args.faults.now.items
+    subst (λ (es : List ℕ). IsClearing c.args.traces.now.entered_names c.args.faults.now.items
     (set c.loop-name.faults.items (get_or es c.loop-name.name-index 0) None) (c.loop-name.name-index + 1))
     (sym c.entered_names-name-items.ensures)
-    (clearing_next c.args.traces.now.entered c.args.faults.now.items c.loop-name.faults.items c.loop-name.name-index
+    (clearing_next c.args.traces.now.entered_names c.args.faults.now.items c.loop-name.faults.items
+    c.loop-name.name-index
     c.loop-name.invariant
     (subst (λ (es : List ℕ). c.loop-name.name-index < length es) c.entered_names-name-items.ensures test))
 
 pub returns-clause-faults : goal.returns-clause-faults
 returns-clause-faults c =
     let test = c.loop-name-test.false in
-    clearing_end c.args.traces.now.entered c.args.faults.now.items c.loop-name.faults.items c.loop-name.name-index
+    clearing_end c.args.traces.now.entered_names c.args.faults.now.items c.loop-name.faults.items c.loop-name.name-index
     c.loop-name.invariant
     (subst (λ (es : List ℕ). length es ≤ c.loop-name.name-index) c.entered_names-name-items.ensures
     (omega (arith, test)))

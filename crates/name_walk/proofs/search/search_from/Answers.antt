@@ -59,12 +59,12 @@ pub returns-clause-consistent : goal.returns-clause-consistent
 returns-clause-consistent c = IfOk-weaker c.search_query.result _ _ (λ _ b. b.consistent) c.search_query.ensures.between
 
 pub returns-clause-right : goal.returns-clause-right
-returns-clause-right c = IfOk-weaker c.search_query.result _ _ (λ _ b. b.are) c.search_query.ensures.between
+returns-clause-right c = IfOk-weaker c.search_query.result _ _ (λ _ b. b.findings_right) c.search_query.ensures.between
 
 pub returns-clause-names : goal.returns-clause-names
 returns-clause-names c =
     subst (λ (es : List ℕ). IfOk c.search_query.result (λ _. AreFromQuery c.args.net.now.steps.now
-    c.args.net.now.settled.now c.args.query.now es c.search_query.new.traces.entered))
+    c.args.net.now.settled.now c.args.query.now es c.search_query.new.traces.entered_names))
     c.in_ok-cover_marks.ensures.covered.names c.search_query.ensures.names
 
 pub returns-clause-found : goal.returns-clause-found

@@ -31,7 +31,7 @@ enter-requires c = slice_get_within _ _ _ c.requires.fresh.mark
 
 pub returns-in_err-enter-clause-can_clear : goal.returns-in_err-enter-clause-can_clear
 returns-in_err-enter-clause-can_clear c =
-    subst (λ (t : Trace). CanClear t.marks t.entered c.args.faults.now.items) (sym c.in_err-enter.ensures.err)
+    subst (λ (t : Trace). CanClear t.marks t.entered_names c.args.faults.now.items) (sym c.in_err-enter.ensures.err)
     c.requires.between.consistent.can_clear
 
 pub returns-in_err-enter-clause-found : goal.returns-in_err-enter-clause-found
@@ -55,7 +55,8 @@ close-requires c =
 
 pub returns-in_err-close-clause-can_clear : goal.returns-in_err-close-clause-can_clear
 returns-in_err-close-clause-can_clear c =
-    subst (λ (v : Vec (Option FaultyStep) Global). CanClear c.close.new.self.marks c.close.new.self.entered v.items)
+    subst (λ (v : Vec (Option FaultyStep) Global). CanClear c.close.new.self.marks c.close.new.self.entered_names
+    v.items)
     (sym c.loop-step.invariant.same)
     (clear_seek c.requires.net c.loop-step.invariant.go c.close.new.self c.in_err-close.ensures.err)
 
@@ -64,7 +65,7 @@ returns-in_err-close-clause-found c = search rules
 
 pub returns-in_default-pop-clause-can_clear : goal.returns-in_default-pop-clause-can_clear
 returns-in_default-pop-clause-can_clear c =
-    subst (λ (v : Vec (Option FaultyStep) Global). CanClear c.pop.new.self.marks c.pop.new.self.entered v.items)
+    subst (λ (v : Vec (Option FaultyStep) Global). CanClear c.pop.new.self.marks c.pop.new.self.entered_names v.items)
     (sym c.loop-step.invariant.same)
     (clear_closed c.requires.net c.loop-step.invariant.go (none_full _ _ c.step.ensures.step c.in_default.is)
     c.in_ok-close.ensures.ok c.pop.new.self c.in_default-pop.ensures.0)
@@ -136,7 +137,7 @@ loop-step-smaller-in-Sound c =
 
 pub returns-in_err-push-in-Open-clause-can_clear : goal.returns-in_err-push-in-Open-clause-can_clear
 returns-in_err-push-in-Open-clause-can_clear c =
-    subst (λ (v : Vec (Option FaultyStep) Global). CanClear c.push.new.self.marks c.push.new.self.entered v.items)
+    subst (λ (v : Vec (Option FaultyStep) Global). CanClear c.push.new.self.marks c.push.new.self.entered_names v.items)
     (sym c.loop-step.invariant.same)
     (clear_seek c.requires.net c.loop-step.invariant.go c.push.new.self c.in_err-push-in-Open.ensures.err)
 
@@ -144,7 +145,7 @@ pub returns-in_err-push-in-Open-clause-found : goal.returns-in_err-push-in-Open-
 returns-in_err-push-in-Open-clause-found c = search rules
 
 pub note_path-requires-clause-once : goal.note_path-requires-clause-once
-note_path-requires-clause-once c = c.loop-step.invariant.go.way.is_path.once
+note_path-requires-clause-once c = c.loop-step.invariant.go.way.is_path.names_differ
 
 pub note_path-requires-clause-there : goal.note_path-requires-clause-there
 note_path-requires-clause-there c n i =
@@ -167,8 +168,8 @@ enter-requires-in-Open c =
 pub returns-in_err-enter-in-Open-clause-can_clear : goal.returns-in_err-enter-in-Open-clause-can_clear
 returns-in_err-enter-in-Open-clause-can_clear c =
     subst (λ (v : Vec (Option FaultyStep) Global). CanClear c.enter-in-Open.new.self.marks
-    c.enter-in-Open.new.self.entered v.items) (sym c.loop-step.invariant.same)
-    (subst (λ (t : Trace). CanClear t.marks t.entered c.args.faults.now.items)
+    c.enter-in-Open.new.self.entered_names v.items) (sym c.loop-step.invariant.same)
+    (subst (λ (t : Trace). CanClear t.marks t.entered_names c.args.faults.now.items)
     (sym (c.in_err-enter-in-Open.ensures.err ∙ c.in_ok-push-in-Open.ensures.ok))
     (clear_seek c.requires.net c.loop-step.invariant.go c.loop-step.traces refl))
 

@@ -74,7 +74,7 @@ pub returns-then-branch-clause-can_clear : goal.returns-then-branch-clause-can_c
 returns-then-branch-clause-can_clear c = c.in_ok-is_faulty.ensures.can_clear
 
 pub returns-then-branch-clause-between : goal.returns-then-branch-clause-between
-returns-then-branch-clause-between c = c.in_ok-is_faulty.ensures.found.between
+returns-then-branch-clause-between c = c.in_ok-is_faulty.ensures.found.state_between
 
 pub returns-then-branch-clause-names : goal.returns-then-branch-clause-names
 returns-then-branch-clause-names c =

@@ -36,12 +36,12 @@ returns-in-Nowhere-clause-visited c =
 
 pub mark_of-requires-clause-settled : goal.mark_of-requires-clause-settled
 mark_of-requires-clause-settled c =
-    subst (λ (k : ℕ). c.in-To.start < k) (sym c.requires.net.size)
+    subst (λ (k : ℕ). c.in-To.start < k) (sym c.requires.net.mark_per_name)
     (known _ _ _ _ c.requires.query c.loop-step-test.true c.in-To.is)
 
 pub mark_of-requires-clause-marked : goal.mark_of-requires-clause-marked
 mark_of-requires-clause-marked c =
-    subst (λ (k : ℕ). c.in-To.start < k) (sym c.loop-step.invariant.passed.between.in_target_order.size)
+    subst (λ (k : ℕ). c.in-To.start < k) (sym c.loop-step.invariant.passed.between.in_target_order.mark_per_name)
     (known _ _ _ _ c.requires.query c.loop-step-test.true c.in-To.is)
 
 pub loop-step-preserved-in_default : goal.loop-step-preserved-in_default

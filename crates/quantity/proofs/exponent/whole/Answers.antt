@@ -8,7 +8,7 @@ use Rattle.quantity.proofs.exponent.whole.Goals as goal
 
 -- a whole number in range is an exponent
 exponent_whole : (n : ℤ) → unsigned_abs n ≤ 32767 → IsExponent (whole n)
-exponent_whole n fits = record { reduced = whole_reduced n; num_fits = fits; den_fits = omega arith }
+exponent_whole n fits = record { exponent_reduced = whole_reduced n; num_fits = fits; den_fits = omega arith }
 
 pub invariant_of-result : goal.invariant_of-result
 invariant_of-result c =

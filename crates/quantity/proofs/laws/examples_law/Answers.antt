@@ -10,18 +10,18 @@ powers : PowersLaw
 unfolding gcd gcd_within lowest_terms root_of
 powers = record {
   root = refl;
-  turned_round = refl;
+  negative_power = refl;
   odd_root = refl;
   no_power = refl;
   no_root = refl;
   below_zero = refl;
-  by_zero = refl;
+  zero_to_negative = refl;
   out_of_range = refl;
 }
 
 texts : TextsLaw
 unfolding digits
-texts = record { none = refl; plain = refl; under = refl; only_under = refl; root = refl }
+texts = record { no_units = refl; whole_powers = refl; under = refl; only_under = refl; root = refl }
 
 pub returns : goal.returns
 returns c = record { powers = powers; text_examples = texts }

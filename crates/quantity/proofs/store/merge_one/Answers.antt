@@ -20,11 +20,11 @@ returns-then-eq c =
     let name : left.0 ≡ right.0 =
     (bytes_decides left.0 right.0).0 (sym (c.if-eq.ensures ∙ ap₂ (pointwise eqb) c.name.ensures c.name-in-One.ensures))
     in
-    let own = All-head IsPower left [] c.requires.left.kept in
-    let last = All-head IsPower right [] (subst (All IsPower) others c.requires.right.kept) in
+    let own = All-head IsPower left [] c.requires.left.powers_right in
+    let last = All-head IsPower right [] (subst (All IsPower) others c.requires.right.powers_right) in
     let reduced = sum_reduced c.reduced_law.ensures left.1 (exponent_in c.args.factor right.1)
-    own.exponent.reduced.positive
-    ((factor_step c.args.factor).reduced right.1 last.exponent.reduced).positive in
+    own.exponent.exponent_reduced.den_positive
+    ((factor_step c.args.factor).reduced right.1 last.exponent.exponent_reduced).den_positive in
     let taken = c.exponent-then-eq-2.ensures ∙ ap (exponent_in c.args.factor) c.exponent-then-eq.ensures in
     let answer = c.add-sum.ensures ∙ ap₂ (λ a b. as_exponent (exponent_sum a b)) c.exponent.ensures taken in
     subst (ArePowers powers_of c.of.result)

@@ -6,10 +6,10 @@ use Rattle.def_entry.specs.Keys.{key}
 use Rattle.live_table.specs.Answers.{inverse_answer}
 use Rattle.live_table.specs.States.{AsksKey}
 use Rattle.reply.specs.declared.conversion.Conversion.TheVariants.{Inverse}
-use Rattle.reply.specs.Calls.{IsInquired, failure_of, same}
+use Rattle.reply.specs.Calls.{IsInquired, failure_of, itself}
 use Rattle.reply.specs.Conversions.{inverse_conversion}
 use Rattle.reply.specs.Inquiries.{single_query, without_queries}
-use Rattle.reply.proofs.InquirySequence.{asked, read-behind, then-failed}
+use Rattle.reply.proofs.InquirySequence.{query_inquired, read-behind, then-failed}
 use Rattle.reply.proofs.conversion.apply_inverse.Goals as goal
 use Rattle.std.specs.Prelude.{refl}
 
@@ -18,19 +18,19 @@ returns-in_err-y-clause-inquired g c =
     let p = err_from_is_err_and c.from_residual.result c.from_residual.ensures.1 in
     let event = AsksKey (key kinds.Func c.args.name.now) in
     let said = inverse_answer (table c.args.table.now.deck) c.args.name.now c.args.x in
-    subst (λ r. IsInquired same (inverse_conversion (table c.args.table.now.deck) c.args.name.now c.args.x) r
+    subst (λ r. IsInquired itself (inverse_conversion (table c.args.table.now.deck) c.args.name.now c.args.x) r
     c.args.table.now c.unapply.new.self c.args.steps.now c.unapply.new.steps) (sym (p.1 ∙ ap Err p.2))
-    (then-failed same (single_query event said) (λ y. without_queries (Ok (Inverse y))) same
+    (then-failed itself (single_query event said) (λ y. without_queries (Ok (Inverse y))) itself
     (failure_of c.in_err-y.field-0.0)
     c.args.table.now c.unapply.new.self c.args.steps.now c.unapply.new.steps
-    (asked event said c.args.table.now c.unapply.new.self c.args.steps.now c.unapply.new.steps
+    (query_inquired event said c.args.table.now c.unapply.new.self c.args.steps.now c.unapply.new.steps
     (Err c.in_err-y.field-0.0) c.in_err-y.ensures.answer c.in_err-y.ensures.after))
 
 pub returns-clause-inquired : goal.returns-clause-inquired
 returns-clause-inquired g c =
     let event = AsksKey (key kinds.Func c.args.name.now) in
     let said = inverse_answer (table c.args.table.now.deck) c.args.name.now c.args.x in
-    read-behind same (single_query event said) same (λ y. Ok (Inverse y)) c.in_ok-y.y (Ok (Inverse c.in_ok-y.y))
+    read-behind itself (single_query event said) itself (λ y. Ok (Inverse y)) c.in_ok-y.y (Ok (Inverse c.in_ok-y.y))
     c.args.table.now c.unapply.new.self c.args.steps.now c.unapply.new.steps c.unapply.ensures.deck
-    (asked event said c.args.table.now c.unapply.new.self c.args.steps.now c.unapply.new.steps (Ok c.in_ok-y.y)
+    (query_inquired event said c.args.table.now c.unapply.new.self c.args.steps.now c.unapply.new.steps (Ok c.in_ok-y.y)
     c.in_ok-y.ensures.answer c.in_ok-y.ensures.after) refl

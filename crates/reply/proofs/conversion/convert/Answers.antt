@@ -2,7 +2,7 @@ use Rattle.std.proofs.Common.{Err, ap, subst, sym, ◌∙◌}
 use Rattle.std.proofs.lemmas.Result.{err_from_is_err_and}
 use Rattle.deck.specs.Decks.{Contents}
 use Rattle.deck.specs.Tables.{table}
-use Rattle.reply.specs.Calls.{IsInquired, same}
+use Rattle.reply.specs.Calls.{IsInquired, itself}
 use Rattle.reply.specs.Conversions.{conversion}
 use Rattle.reply.specs.Targets.{conversion_target}
 use Rattle.reply.proofs.ConversionCalls.{convert-done, convert-stopped, convert-unvalued}
@@ -11,7 +11,7 @@ use Rattle.reply.proofs.conversion.convert.Goals as goal
 pub returns-in_err-x-clause-inquired : goal.returns-in_err-x-clause-inquired
 returns-in_err-x-clause-inquired g c =
     let p = err_from_is_err_and c.from_residual.result c.from_residual.ensures.1 in
-    subst (λ r. IsInquired same
+    subst (λ r. IsInquired itself
     (conversion (table c.args.table.now.deck) c.args.options.now c.args.from.now c.args.to.now) r
     c.args.table.now c.evaluate_text.new.table c.args.steps.now c.evaluate_text.new.steps) (sym (p.1 ∙ ap Err p.2))
     (convert-unvalued c.args.options.now c.args.from.now c.args.to.now c.args.table.now c.evaluate_text.new.table
@@ -20,7 +20,7 @@ returns-in_err-x-clause-inquired g c =
 pub returns-in_err-target-clause-inquired : goal.returns-in_err-target-clause-inquired
 returns-in_err-target-clause-inquired g c =
     let p = err_from_is_err_and c.from_residual-in_err-target.result c.from_residual-in_err-target.ensures.1 in
-    subst (λ r. IsInquired same
+    subst (λ r. IsInquired itself
     (conversion (table c.args.table.now.deck) c.args.options.now c.args.from.now c.args.to.now) r
     c.args.table.now c.evaluate_text.new.table c.args.steps.now c.evaluate_text.new.steps) (sym (p.1 ∙ ap Err p.2))
     (convert-stopped c.args.options.now c.args.from.now c.args.to.now c.args.table.now c.evaluate_text.new.table

@@ -5,7 +5,7 @@ use Rattle.std.specs.declared.alloc.Global.{Global}
 use Rattle.deck.specs.Tables.{table}
 use Rattle.expr_tree.specs.declared.tree.Tree.{Tree}
 use Rattle.quantity.specs.Amount.{Amount}
-use Rattle.reply.specs.Calls.{IsInquired, IsRead, failure_of, same, syntaxes_of}
+use Rattle.reply.specs.Calls.{IsInquired, IsRead, failure_of, itself, syntaxes_of}
 use Rattle.reply.specs.Conversions.{conversion_to_list}
 use Rattle.reply.specs.Targets.{parts_of}
 use Rattle.reply.specs.Trees.{trees_in}
@@ -16,7 +16,7 @@ use Rattle.reply.proofs.conversion.convert_to_list.Goals as goal
 pub returns-in_err-trees-clause-inquired : goal.returns-in_err-trees-clause-inquired
 returns-in_err-trees-clause-inquired g c =
     let p = err_from_is_err_and c.from_residual.result c.from_residual.ensures.1 in
-    subst (λ r. IsInquired same
+    subst (λ r. IsInquired itself
     (conversion_to_list (table c.args.table.now.deck) c.args.options.now c.args.list c.args.x) r
     c.args.table.now c.args.table.now c.args.steps.now c.args.steps.now) (sym (p.1 ∙ ap Err p.2))
     (split-unparsed (table c.args.table.now.deck) c.args.options.now c.args.list c.args.x c.args.table.now
@@ -34,7 +34,7 @@ count_units-requires g c =
 pub returns-in_err-units-clause-inquired : goal.returns-in_err-units-clause-inquired
 returns-in_err-units-clause-inquired g c =
     let p = err_from_is_err_and c.from_residual-in_err-units.result c.from_residual-in_err-units.ensures.1 in
-    subst (λ r. IsInquired same
+    subst (λ r. IsInquired itself
     (conversion_to_list (table c.args.table.now.deck) c.args.options.now c.args.list c.args.x) r
     c.args.table.now c.evaluate_texts.new.table c.args.steps.now c.evaluate_texts.new.steps) (sym (p.1 ∙ ap Err p.2))
     (split-unvalued (table c.args.table.now.deck) c.args.options.now c.args.list c.args.x c.args.table.now

@@ -1,5 +1,5 @@
 use Rattle.std.proofs.Common.{◌≡◌, ◌∙◌, Err, IfOk, ap, subst, sym}
-use Rattle.reply.specs.Calls.{IsRead, same}
+use Rattle.reply.specs.Calls.{IsRead, itself}
 use Rattle.reply.specs.Conversions.{conversion_between}
 use Rattle.reply.specs.Faults.{is_reportable}
 use Rattle.reply.specs.Options.{reply_form}
@@ -14,7 +14,7 @@ pub refusal-requires-clause-told : goal.refusal-requires-clause-told
 refusal-requires-clause-told c =
     ap is_reportable c.in-Err-Fault.fault-is
     ∙ subst IsTold
-    (subst (λ (x : Failure). IsRead same (conversion_between c.args.options.now.strict c.args.x c.args.y.now) (Err x))
+    (subst (λ (x : Failure). IsRead itself (conversion_between c.args.options.now.strict c.args.x c.args.y.now) (Err x))
     c.in-Err-Fault.field-0-is c.in-Err-Fault.ensures)
     (compared-told c.args.options.now.strict c.args.x c.args.y.now)
 
@@ -31,7 +31,7 @@ returns-in-Err-Fault c =
     (ap (refusal c.of-form.result) c.in-Err-Fault.fault-is
     ∙ ap (λ (f : Form). refusal f c.in-Err-Fault.fault) c.of-form.ensures.is
     ∙ ap (as_conversion (reply_form c.args.options.now) c.args.from.now c.args.to.now)
-    (sym (subst (λ (x : Failure). IsRead same (conversion_between c.args.options.now.strict c.args.x c.args.y.now)
+    (sym (subst (λ (x : Failure). IsRead itself (conversion_between c.args.options.now.strict c.args.x c.args.y.now)
     (Err x))
     c.in-Err-Fault.field-0-is c.in-Err-Fault.ensures)))
     c.refusal.ensures

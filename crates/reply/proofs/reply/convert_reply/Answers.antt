@@ -2,7 +2,7 @@ use Rattle.std.proofs.Common.{Err, IfOk, ap, subst, ◌∙◌, ◌≡◌}
 use Rattle.deck.specs.Tables.{table}
 use Rattle.reply.specs.declared.failure.Failure.{Failure}
 use Rattle.reply.specs.declared.reply.Reply.{Reply}
-use Rattle.reply.specs.Calls.{IsInquired, same}
+use Rattle.reply.specs.Calls.{IsInquired, itself}
 use Rattle.reply.specs.Conversions.{conversion}
 use Rattle.reply.specs.Faults.{is_reportable}
 use Rattle.reply.specs.Grants.{IsConversionReply}
@@ -20,7 +20,7 @@ refusal-requires-clause-told g c =
     c.parse_memory_law.ensures
     c.in-Err-Fault.fault
     (subst (λ (x : Failure).
-    IsInquired same (conversion (table c.args.table.now.deck) c.args.options.now c.trim-from.result.now
+    IsInquired itself (conversion (table c.args.table.now.deck) c.args.options.now c.trim-from.result.now
     c.trim-to.result.now) (Err x) c.args.table.now c.convert.new.table c.args.steps.now c.convert.new.steps)
     c.in-Err-Fault.field-0-is c.in-Err-Fault.ensures.inquired)
 
@@ -58,7 +58,7 @@ returns-in-Err-Fault-clause-reply g c =
     c.trim-to.ensures c.args.table.now c.convert.new.table c.args.steps.now c.convert.new.steps c.of-form.result
     c.of-form.ensures.is c.in-Err-Fault.fault
     (subst (λ (x : Failure).
-    IsInquired same (conversion (table c.args.table.now.deck) c.args.options.now c.trim-from.result.now
+    IsInquired itself (conversion (table c.args.table.now.deck) c.args.options.now c.trim-from.result.now
     c.trim-to.result.now) (Err x) c.args.table.now c.convert.new.table c.args.steps.now c.convert.new.steps)
     c.in-Err-Fault.field-0-is c.in-Err-Fault.ensures.inquired))
     c.refusal.ensures
@@ -78,7 +78,7 @@ returns-in-Err-Fault-clause-queries g c =
     c.trim-to.ensures c.args.table.now c.convert.new.table c.args.steps.now c.convert.new.steps c.refusal.result
     c.convert.ensures.deck
     (subst (λ (x : Failure).
-    IsInquired same (conversion (table c.args.table.now.deck) c.args.options.now c.trim-from.result.now
+    IsInquired itself (conversion (table c.args.table.now.deck) c.args.options.now c.trim-from.result.now
     c.trim-to.result.now) (Err x) c.args.table.now c.convert.new.table c.args.steps.now c.convert.new.steps)
     c.in-Err-Fault.field-0-is c.in-Err-Fault.ensures.inquired).1
 
@@ -88,6 +88,6 @@ returns-in-Err-OutOfMemory-clause-queries g c =
     c.trim-from.ensures
     c.trim-to.ensures c.args.table.now c.convert.new.table c.args.steps.now c.convert.new.steps
     (subst (λ (x : Failure).
-    IsInquired same (conversion (table c.args.table.now.deck) c.args.options.now c.trim-from.result.now
+    IsInquired itself (conversion (table c.args.table.now.deck) c.args.options.now c.trim-from.result.now
     c.trim-to.result.now) (Err x) c.args.table.now c.convert.new.table c.args.steps.now c.convert.new.steps)
     c.in-Err-OutOfMemory.field-0-is c.in-Err-OutOfMemory.ensures.inquired)

@@ -2,7 +2,7 @@ use Rattle.std.proofs.Common.{Err, IfOk, ap, subst, ◌∙◌, ◌≡◌}
 use Rattle.deck.specs.Tables.{table}
 use Rattle.reply.specs.declared.failure.Failure.{Failure}
 use Rattle.reply.specs.declared.reply.Reply.{Reply}
-use Rattle.reply.specs.Calls.{IsInquired, same}
+use Rattle.reply.specs.Calls.{IsInquired, itself}
 use Rattle.reply.specs.Inquiries.{text_worth}
 use Rattle.reply.specs.Faults.{is_reportable}
 use Rattle.reply.specs.Replies.{refusal}
@@ -15,7 +15,7 @@ refusal-requires-clause-told g c =
     ∙ value-fault-told c.args.options.now c.args.from.now c.trim-from.result.now c.trim-from.ensures c.args.table.now
     c.evaluate_text.new.table
     c.args.steps.now c.evaluate_text.new.steps c.parse_memory_law.ensures c.in-Err-Fault.fault
-    (subst (λ (x : Failure). IsInquired same (text_worth (table c.args.table.now.deck) c.trim-from.result.now) (Err x)
+    (subst (λ (x : Failure). IsInquired itself (text_worth (table c.args.table.now.deck) c.trim-from.result.now) (Err x)
     c.args.table.now c.evaluate_text.new.table c.args.steps.now c.evaluate_text.new.steps) c.in-Err-Fault.field-0-is
     c.in-Err-Fault.ensures.inquired)
 
@@ -24,7 +24,8 @@ returns-in-Ok-clause-reply g c =
     subst (λ (w : Reply). IfOk c.reply_to_value.result (λ reply. reply ≡ w))
     (definition-granted c.args.options.now c.args.from.now c.trim-from.result.now c.trim-from.ensures c.args.table.now
     c.evaluate_text.new.table
-    c.args.steps.now c.evaluate_text.new.steps c.of-form.result c.of-form.ensures.is c.deck.result.now c.deck.ensures.deck
+    c.args.steps.now c.evaluate_text.new.steps c.of-form.result c.of-form.ensures.is c.deck.result.now
+    c.deck.ensures.deck
     c.evaluate_text.ensures.deck c.in-Ok.x c.in-Ok.ensures.inquired)
     c.reply_to_value.ensures
 
@@ -42,7 +43,7 @@ returns-in-Err-Fault-clause-reply g c =
     ∙ definition-refused c.args.options.now c.args.from.now c.trim-from.result.now c.trim-from.ensures c.args.table.now
     c.evaluate_text.new.table
     c.args.steps.now c.evaluate_text.new.steps c.of-form.result c.of-form.ensures.is c.in-Err-Fault.fault
-    (subst (λ (x : Failure). IsInquired same (text_worth (table c.args.table.now.deck) c.trim-from.result.now) (Err x)
+    (subst (λ (x : Failure). IsInquired itself (text_worth (table c.args.table.now.deck) c.trim-from.result.now) (Err x)
     c.args.table.now c.evaluate_text.new.table c.args.steps.now c.evaluate_text.new.steps) c.in-Err-Fault.field-0-is
     c.in-Err-Fault.ensures.inquired))
     c.refusal.ensures
@@ -52,7 +53,7 @@ returns-in-Err-Fault-clause-queries g c =
     value-made c.args.options.now c.args.from.now c.trim-from.result.now c.trim-from.ensures c.args.table.now
     c.evaluate_text.new.table
     c.args.steps.now c.evaluate_text.new.steps c.refusal.result c.evaluate_text.ensures.deck
-    (subst (λ (x : Failure). IsInquired same (text_worth (table c.args.table.now.deck) c.trim-from.result.now) (Err x)
+    (subst (λ (x : Failure). IsInquired itself (text_worth (table c.args.table.now.deck) c.trim-from.result.now) (Err x)
     c.args.table.now c.evaluate_text.new.table c.args.steps.now c.evaluate_text.new.steps) c.in-Err-Fault.field-0-is
     c.in-Err-Fault.ensures.inquired).1
 
@@ -61,6 +62,7 @@ returns-in-Err-OutOfMemory-clause-queries g c =
     value-cut c.args.options.now c.args.from.now c.trim-from.result.now c.trim-from.ensures c.args.table.now
     c.evaluate_text.new.table
     c.args.steps.now c.evaluate_text.new.steps
-    (subst (λ (x : Failure). IsInquired same (text_worth (table c.args.table.now.deck) c.trim-from.result.now) (Err x)
-    c.args.table.now c.evaluate_text.new.table c.args.steps.now c.evaluate_text.new.steps) c.in-Err-OutOfMemory.field-0-is
+    (subst (λ (x : Failure). IsInquired itself (text_worth (table c.args.table.now.deck) c.trim-from.result.now) (Err x)
+    c.args.table.now c.evaluate_text.new.table c.args.steps.now c.evaluate_text.new.steps)
+    c.in-Err-OutOfMemory.field-0-is
     c.in-Err-OutOfMemory.ensures.inquired)

@@ -4,7 +4,7 @@ use Rattle.reply.specs.declared.failure.Failure.{Failure}
 use Rattle.reply.specs.declared.fault.ReplyFault.{ReplyFault}
 use Rattle.reply.specs.declared.reply.FromValue.{FromValue}
 use Rattle.reply.specs.declared.reply.FromValue.TheVariants.{Bad, Good}
-use Rattle.reply.specs.Calls.{IsInquired, same}
+use Rattle.reply.specs.Calls.{IsInquired, itself}
 use Rattle.reply.specs.Faults.{fault_text, is_reportable}
 use Rattle.reply.specs.Inquiries.{text_worth}
 use Rattle.reply.specs.Options.{style_of}
@@ -17,7 +17,7 @@ bad-requires-clause-told g c =
     ∙ value-fault-told c.args.options.now c.args.from.now c.trim-from.result.now c.trim-from.ensures c.args.table.now
     c.evaluate_text.new.table
     c.args.steps.now c.evaluate_text.new.steps c.parse_memory_law.ensures c.in-Err-Fault.fault
-    (subst (λ (x : Failure). IsInquired same (text_worth (table c.args.table.now.deck) c.trim-from.result.now) (Err x)
+    (subst (λ (x : Failure). IsInquired itself (text_worth (table c.args.table.now.deck) c.trim-from.result.now) (Err x)
     c.args.table.now c.evaluate_text.new.table c.args.steps.now c.evaluate_text.new.steps) c.in-Err-Fault.field-0-is
     c.in-Err-Fault.ensures.inquired)
 
@@ -30,7 +30,8 @@ pub returns-in-Ok-clause-queries : goal.returns-in-Ok-clause-queries
 returns-in-Ok-clause-queries g c =
     value-made c.args.options.now c.args.from.now c.trim-from.result.now c.trim-from.ensures c.args.table.now
     c.evaluate_text.new.table
-    c.args.steps.now c.evaluate_text.new.steps (Ok (Good c.in-Ok.x)) c.evaluate_text.ensures.deck (c.in-Ok.ensures.inquired).1
+    c.args.steps.now c.evaluate_text.new.steps (Ok (Good c.in-Ok.x)) c.evaluate_text.ensures.deck
+    (c.in-Ok.ensures.inquired).1
 
 pub returns-in-Err-Fault-clause-value : goal.returns-in-Err-Fault-clause-value
 returns-in-Err-Fault-clause-value g c =
@@ -39,7 +40,7 @@ returns-in-Err-Fault-clause-value g c =
     ∙ value-bad c.args.options.now c.args.from.now c.trim-from.result.now c.trim-from.ensures c.args.table.now
     c.evaluate_text.new.table
     c.args.steps.now c.evaluate_text.new.steps c.in-Err-Fault.fault
-    (subst (λ (x : Failure). IsInquired same (text_worth (table c.args.table.now.deck) c.trim-from.result.now) (Err x)
+    (subst (λ (x : Failure). IsInquired itself (text_worth (table c.args.table.now.deck) c.trim-from.result.now) (Err x)
     c.args.table.now c.evaluate_text.new.table c.args.steps.now c.evaluate_text.new.steps) c.in-Err-Fault.field-0-is
     c.in-Err-Fault.ensures.inquired))
     c.bad.ensures
@@ -49,7 +50,7 @@ returns-in-Err-Fault-clause-queries g c =
     value-made c.args.options.now c.args.from.now c.trim-from.result.now c.trim-from.ensures c.args.table.now
     c.evaluate_text.new.table
     c.args.steps.now c.evaluate_text.new.steps c.bad.result c.evaluate_text.ensures.deck
-    (subst (λ (x : Failure). IsInquired same (text_worth (table c.args.table.now.deck) c.trim-from.result.now) (Err x)
+    (subst (λ (x : Failure). IsInquired itself (text_worth (table c.args.table.now.deck) c.trim-from.result.now) (Err x)
     c.args.table.now c.evaluate_text.new.table c.args.steps.now c.evaluate_text.new.steps) c.in-Err-Fault.field-0-is
     c.in-Err-Fault.ensures.inquired).1
 
@@ -58,6 +59,7 @@ returns-in-Err-OutOfMemory-clause-queries g c =
     value-cut c.args.options.now c.args.from.now c.trim-from.result.now c.trim-from.ensures c.args.table.now
     c.evaluate_text.new.table
     c.args.steps.now c.evaluate_text.new.steps
-    (subst (λ (x : Failure). IsInquired same (text_worth (table c.args.table.now.deck) c.trim-from.result.now) (Err x)
-    c.args.table.now c.evaluate_text.new.table c.args.steps.now c.evaluate_text.new.steps) c.in-Err-OutOfMemory.field-0-is
+    (subst (λ (x : Failure). IsInquired itself (text_worth (table c.args.table.now.deck) c.trim-from.result.now) (Err x)
+    c.args.table.now c.evaluate_text.new.table c.args.steps.now c.evaluate_text.new.steps)
+    c.in-Err-OutOfMemory.field-0-is
     c.in-Err-OutOfMemory.ensures.inquired)

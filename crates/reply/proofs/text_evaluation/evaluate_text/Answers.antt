@@ -3,7 +3,7 @@ use Rattle.std.proofs.lemmas.Result.{err_from_is_err_and}
 use Rattle.deck.specs.Tables.{table}
 use Rattle.expr_tree.specs.Trees.{syntax}
 use Rattle.live_table.proofs.QuerySequence.{follows_none}
-use Rattle.reply.specs.Calls.{IsInquired, failure_of, same}
+use Rattle.reply.specs.Calls.{IsInquired, failure_of, itself}
 use Rattle.reply.specs.Inquiries.{text_worth, tree_value, without_queries}
 use Rattle.reply.specs.Trees.{tree_in}
 use Rattle.reply.proofs.InquirySequence.{read-given, then-answered, then-failed}
@@ -12,9 +12,9 @@ use Rattle.reply.proofs.text_evaluation.evaluate_text.Goals as goal
 pub returns-in_err-tree-clause-inquired : goal.returns-in_err-tree-clause-inquired
 returns-in_err-tree-clause-inquired g c =
     let p = err_from_is_err_and c.from_residual.result c.from_residual.ensures.1 in
-    subst (λ r. IsInquired same (text_worth (table c.args.table.now.deck) c.args.text.now) r
+    subst (λ r. IsInquired itself (text_worth (table c.args.table.now.deck) c.args.text.now) r
     c.args.table.now c.args.table.now c.args.steps.now c.args.steps.now) (sym (p.1 ∙ ap Err p.2))
-    (then-failed same (without_queries (tree_in c.args.text.now)) (tree_value (table c.args.table.now.deck)) syntax
+    (then-failed itself (without_queries (tree_in c.args.text.now)) (tree_value (table c.args.table.now.deck)) syntax
     c.in_err-tree.field-0.0 c.args.table.now c.args.table.now c.args.steps.now c.args.steps.now
     (read-given syntax (tree_in c.args.text.now) c.args.table.now c.args.steps.now (Err c.in_err-tree.field-0.0)
     c.outcomes_are_right.ensures c.in_err-tree.ensures))
@@ -22,18 +22,20 @@ returns-in_err-tree-clause-inquired g c =
 pub returns-in_err-value-clause-inquired : goal.returns-in_err-value-clause-inquired
 returns-in_err-value-clause-inquired g c =
     let p = err_from_is_err_and c.from_residual-in_err-value.result c.from_residual-in_err-value.ensures.1 in
-    subst (λ r. IsInquired same (text_worth (table c.args.table.now.deck) c.args.text.now) r
+    subst (λ r. IsInquired itself (text_worth (table c.args.table.now.deck) c.args.text.now) r
     c.args.table.now c.evaluate_tree.new.table c.args.steps.now c.evaluate_tree.new.steps) (sym (p.1 ∙ ap Err p.2))
-    (then-answered same (without_queries (tree_in c.args.text.now)) (tree_value (table c.args.table.now.deck))
+    (then-answered itself (without_queries (tree_in c.args.text.now)) (tree_value (table c.args.table.now.deck))
     (syntax c.in_ok-tree.tree) (Err (failure_of c.in_err-value.field-0.0))
-    c.args.table.now c.args.table.now c.evaluate_tree.new.table c.args.steps.now c.args.steps.now c.evaluate_tree.new.steps
+    c.args.table.now c.args.table.now c.evaluate_tree.new.table c.args.steps.now c.args.steps.now
+    c.evaluate_tree.new.steps
     refl c.in_ok-tree.ensures (follows_none c.args.table.now c.args.steps.now c.outcomes_are_right.ensures)
     c.in_err-value.ensures.inquired)
 
 pub returns-clause-inquired : goal.returns-clause-inquired
 returns-clause-inquired g c =
-    then-answered same (without_queries (tree_in c.args.text.now)) (tree_value (table c.args.table.now.deck))
+    then-answered itself (without_queries (tree_in c.args.text.now)) (tree_value (table c.args.table.now.deck))
     (syntax c.in_ok-tree.tree) (Ok c.in_ok-value.value)
-    c.args.table.now c.args.table.now c.evaluate_tree.new.table c.args.steps.now c.args.steps.now c.evaluate_tree.new.steps
+    c.args.table.now c.args.table.now c.evaluate_tree.new.table c.args.steps.now c.args.steps.now
+    c.evaluate_tree.new.steps
     refl c.in_ok-tree.ensures (follows_none c.args.table.now c.args.steps.now c.outcomes_are_right.ensures)
     c.in_ok-value.ensures.inquired

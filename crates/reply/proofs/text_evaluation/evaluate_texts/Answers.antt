@@ -8,7 +8,7 @@ use Rattle.deck.specs.Tables.{table}
 use Rattle.expr_tree.specs.declared.tree.Tree.{Tree}
 use Rattle.expr_tree.specs.Trees.{syntax}
 use Rattle.quantity.specs.Amount.{Amount}
-use Rattle.reply.specs.Calls.{IsInquired, as_inquired, failure_of, same, syntaxes_of}
+use Rattle.reply.specs.Calls.{IsInquired, as_inquired, failure_of, itself, syntaxes_of}
 use Rattle.reply.specs.Inquiries.{tree_value, worths}
 use Rattle.reply.proofs.TreeWorths.{IsUnderway, underway-failed, underway-next, underway-start, underway-stopped}
 use Rattle.reply.proofs.text_evaluation.evaluate_texts.Goals as goal
@@ -37,11 +37,13 @@ returns-in_err-value-clause-inquired g c =
     (syntaxes_of rest)
     c.loop-tree.values.items c.args.table.now c.loop-tree.table c.args.steps.now c.loop-tree.steps)
     next c.loop-tree.invariant)
-    c.evaluate_tree.new.table c.evaluate_tree.new.steps c.evaluate_tree.ensures.deck (λ (values : Vec Amount Global). values.items)
+    c.evaluate_tree.new.table c.evaluate_tree.new.steps c.evaluate_tree.ensures.deck
+    (λ (values : Vec Amount Global). values.items)
     (failure_of c.in_err-value.field-0.0)
-    (subst (λ (d : Contents). IsInquired same (tree_value (table d) (syntax c.tree-item.result))
+    (subst (λ (d : Contents). IsInquired itself (tree_value (table d) (syntax c.tree-item.result))
     (Err (failure_of c.in_err-value.field-0.0)) c.loop-tree.table
-    c.evaluate_tree.new.table c.loop-tree.steps c.evaluate_tree.new.steps) c.loop-tree.invariant.deck c.in_err-value.ensures.inquired))
+    c.evaluate_tree.new.table c.loop-tree.steps c.evaluate_tree.new.steps) c.loop-tree.invariant.deck
+    c.in_err-value.ensures.inquired))
 
 pub returns-in_err-put_value-clause-inquired : goal.returns-in_err-put_value-clause-inquired
 returns-in_err-put_value-clause-inquired g c =
@@ -64,10 +66,11 @@ returns-in_err-put_value-clause-inquired g c =
     c.loop-tree.values.items c.args.table.now c.loop-tree.table c.args.steps.now c.loop-tree.steps)
     next c.loop-tree.invariant)
     c.evaluate_tree.new.table c.evaluate_tree.new.steps c.evaluate_tree.ensures.deck c.in_ok-value.value
-    (subst (λ (d : Contents). IsInquired same (tree_value (table d) (syntax c.tree-item.result))
+    (subst (λ (d : Contents). IsInquired itself (tree_value (table d) (syntax c.tree-item.result))
     (Ok c.in_ok-value.value)
     c.loop-tree.table
-    c.evaluate_tree.new.table c.loop-tree.steps c.evaluate_tree.new.steps) c.loop-tree.invariant.deck c.in_ok-value.ensures.inquired)))
+    c.evaluate_tree.new.table c.loop-tree.steps c.evaluate_tree.new.steps) c.loop-tree.invariant.deck
+    c.in_ok-value.ensures.inquired)))
 
 pub loop-tree-preserved : goal.loop-tree-preserved
 loop-tree-preserved g c =
@@ -87,7 +90,8 @@ loop-tree-preserved g c =
     c.loop-tree.values.items c.args.table.now c.loop-tree.table c.args.steps.now c.loop-tree.steps)
     next c.loop-tree.invariant)
     c.evaluate_tree.new.table c.evaluate_tree.new.steps c.evaluate_tree.ensures.deck c.in_ok-value.value
-    (subst (λ (d : Contents). IsInquired same (tree_value (table d) (syntax c.tree-item.result))
+    (subst (λ (d : Contents). IsInquired itself (tree_value (table d) (syntax c.tree-item.result))
     (Ok c.in_ok-value.value)
     c.loop-tree.table
-    c.evaluate_tree.new.table c.loop-tree.steps c.evaluate_tree.new.steps) c.loop-tree.invariant.deck c.in_ok-value.ensures.inquired))
+    c.evaluate_tree.new.table c.loop-tree.steps c.evaluate_tree.new.steps) c.loop-tree.invariant.deck
+    c.in_ok-value.ensures.inquired))

@@ -37,6 +37,6 @@ returns c = record {
   blank_from = refl;
   list_as_to = refl;
   unwatch_one = refl;
-  unknown = refl;
+  unknown_command = refl;
   prefix = refl;
 }

@@ -1,7 +1,7 @@
 use Rattle.std.proofs.Common.{◌++◌, refl, sym, ◌∙◌, arith}
 use Rattle.session.proofs.Blocks.{either_rose, later_than, rose_from, rose_since, same_input, stands}
 use Rattle.session.proofs.SourceEnding.{done_by, fed_cause, goes_on, write_cause}
-use Rattle.session.proofs.FetchFaultCounts.{still}
+use Rattle.session.proofs.FetchFaultCounts.{same_fault_count}
 use Rattle.session.proofs.HeardLines.{told_input}
 use Rattle.session.proofs.SinkGrowth.{front_grows, grows_again, same_grows}
 use Rattle.session.proofs.TakingUp.{block_last, holds_behind, holds_first, holds_on, names_none_at}
@@ -24,15 +24,15 @@ loop-rest-init g c = record {
 
 pub returns-in_default-clause-run : goal.returns-in_default-clause-run
 returns-in_default-clause-run g c = λ was is. record {
-  told = λ first taken more start t fetches stores w.
-      let p = c.loop-rest.invariant.waits first taken more start was.left is.left t w in
+  run_if_known = λ first taken more start t fetches stores w.
+      let p = c.loop-rest.invariant.waits first taken more start was.input_left is.input_left t w in
       let s = stands first (taken ++ p.0) _ _ _ _ p.2 c.clear.new.self c.clear.ensures.out c.clear.ensures.err in
       part_written first taken c.args.block.now p.0 c.loop-rest.rest.now c.feed-fed.new.rest.now more p.1 _ _ _ _ p.2
       c.feed-fed.result _ c.feed-fed.new.said _ _ (c.feed-fed.ensures.told _ first (taken ++ p.0) more
       (told_input _ _ start.files (same_input taken c.args.block.now p.0 c.loop-rest.rest.now more p.1) t) s)
       c.write.ensures.out c.write.ensures.err
       (λ failed. rose_from _ _ _ _ stores c.loop-rest.invariant.stores_later
-      (c.feed-fed.ensures.faults.written failed));
+      (c.feed-fed.ensures.faults.failed_write_counted failed));
   has_cause = write_cause _ _ (either_rose _ _ _ _ _ _ c.loop-rest.invariant.out_later c.loop-rest.invariant.err_later
       c.in_default.ensures.cause);
   grows = record {
@@ -43,8 +43,8 @@ returns-in_default-clause-run g c = λ was is. record {
 
 pub returns-in-Some-clause-run : goal.returns-in-Some-clause-run
 returns-in-Some-clause-run g c = λ was is. record {
-  told = λ first taken more start t fetches stores w.
-      let p = c.loop-rest.invariant.waits first taken more start was.left is.left t w in
+  run_if_known = λ first taken more start t fetches stores w.
+      let p = c.loop-rest.invariant.waits first taken more start was.input_left is.input_left t w in
       let s = stands first (taken ++ p.0) _ _ _ _ p.2 c.clear.new.self c.clear.ensures.out c.clear.ensures.err in
       ended_written first taken c.args.block.now p.0 c.loop-rest.rest.now c.feed-fed.new.rest.now more p.1 _ _ _ _ p.2
       c.feed-fed.result _ c.feed-fed.new.said _ _ (c.feed-fed.ensures.told _ first (taken ++ p.0) more
@@ -54,10 +54,11 @@ returns-in-Some-clause-run g c = λ was is. record {
       (λ failed. rose_from _ _ _ _ fetches c.loop-rest.invariant.fetches_later
       (c.feed-fed.ensures.faults.cause failed))
       (λ failed. rose_from _ _ _ _ stores c.loop-rest.invariant.stores_later
-      (c.feed-fed.ensures.faults.written failed));
+      (c.feed-fed.ensures.faults.failed_write_counted failed));
   has_cause = fed_cause _ _ c.feed-fed.result c.in-Some.end c.in-Some.ensures
       (λ failed. rose_since _ _ _ c.loop-rest.invariant.fetches_later (c.feed-fed.ensures.faults.cause failed))
-      (λ failed. rose_since _ _ _ c.loop-rest.invariant.stores_later (c.feed-fed.ensures.faults.written failed));
+      (λ failed. rose_since _ _ _ c.loop-rest.invariant.stores_later
+      (c.feed-fed.ensures.faults.failed_write_counted failed));
   grows = record {
     out = grows_again _ _ _ c.loop-rest.invariant.out_grows (front_grows _ _ _ c.write.ensures.out);
     err = grows_again _ _ _ c.loop-rest.invariant.err_grows (front_grows _ _ _ c.write.ensures.err);
@@ -68,10 +69,11 @@ pub loop-rest-preserved : goal.loop-rest-preserved
 loop-rest-preserved g c = record {
   fetches_later = omega (
     arith,
-    still _ _ c.feed-fed.result (goes_on _ c.in_default-end_of.ensures) c.feed-fed.ensures.faults.counted,
+    same_fault_count _ _ c.feed-fed.result (goes_on _ c.in_default-end_of.ensures)
+        c.feed-fed.ensures.faults.fetches_counted,
     c.loop-rest.invariant.fetches_later,
   );
-  stores_later = later_than _ _ _ c.loop-rest.invariant.stores_later c.feed-fed.ensures.faults.later;
+  stores_later = later_than _ _ _ c.loop-rest.invariant.stores_later c.feed-fed.ensures.faults.stores_grow;
   out_later = later_than _ _ _ c.loop-rest.invariant.out_later c.write.ensures.out_later;
   err_later = later_than _ _ _ c.loop-rest.invariant.err_later c.write.ensures.err_later;
   out_grows = grows_again _ _ _ c.loop-rest.invariant.out_grows (front_grows _ _ _ c.write.ensures.out);
@@ -96,11 +98,11 @@ loop-rest-preserved g c = record {
 
 pub returns-clause-run : goal.returns-clause-run
 returns-clause-run g c = λ was is. record {
-  waits = λ first taken more start t w.
-      let p = c.loop-rest.invariant.waits first taken more start was.left is.left t w in
+  waits_on = λ first taken more start t w.
+      let p = c.loop-rest.invariant.waits first taken more start was.input_left is.input_left t w in
       waits_behind first taken c.args.block.now p.0 c.loop-rest.rest.now _ _ start _ p.1
       (sym c.is_empty.ensures ∙ c.loop-rest-test.false) p.2;
-  later = record {
+  counts_later = record {
     fetches = c.loop-rest.invariant.fetches_later;
     stores = c.loop-rest.invariant.stores_later;
     out = c.loop-rest.invariant.out_later;

@@ -1,7 +1,8 @@
 use Rattle.std.proofs.Common.{◌++◌, inl, take, refl, sym, ap, arith, Some, ◌∙◌}
 use Rattle.session.specs.Worlds.{source_of}
-use Rattle.session.proofs.Blocks.{all_heard, cut, cut_part, heard_by, later_than, loses, no_rest, none_left}
-use Rattle.session.proofs.Blocks.{rose_since, took_enough, took_more, went}
+use Rattle.session.proofs.Blocks.{all_heard, cut_part, heard_by, later_than, loses_from_known, no_rest, none_left}
+use Rattle.session.proofs.Blocks.{output_cut_short}
+use Rattle.session.proofs.Blocks.{bytes_rejoined, rose_since, took_enough, took_more}
 use Rattle.session.proofs.SourceEnding.{cause_since, ended_at, length_cause, read_cause}
 use Rattle.session.proofs.SinkGrowth.{grows_again}
 use Rattle.session.proofs.HeardLines.{told_input}
@@ -10,13 +11,14 @@ use Rattle.session.proofs.over_source.answer_blocks.Goals as goal
 
 pub returns-in-Err-clause-run : goal.returns-in-Err-clause-run
 returns-in-Err-clause-run g c = record {
-  told = λ first input start q t ff fs at.
+  run_if_known = λ first input start q t ff fs at.
       let p = c.loop-total.invariant.stands first input start q t at in (
         cut_part first p.0 _ _ _ _ p.4 input p.1 _ p.2 refl refl refl,
-        λ calm. cut first p.0 _ _ _ _ p.4 input p.1 _ p.2 (c.in-Err.ensures.kept ∙ p.3) refl refl refl refl,
+        λ calm. output_cut_short first p.0 _ _ _ _ p.4 input p.1 _ p.2 (c.in-Err.ensures.kept ∙ p.3) refl refl refl
+            refl,
       );
-  heard = λ input q h d. cc;
-  has_cause = read_cause _ _ (rose_since _ _ _ c.loop-total.invariant.earlier c.in-Err.ensures.cause.failed);
+  whole_run = λ input q h d. cc;
+  has_cause = read_cause _ _ (rose_since _ _ _ c.loop-total.invariant.earlier c.in-Err.ensures.cause.failure_counted);
   grows = record { out = c.loop-total.invariant.out_grows; err = c.loop-total.invariant.err_grows };
 }
 
@@ -29,18 +31,18 @@ returns-then-n-eq0-clause-run g c =
     let first_seen = source_of (g.S.Source.left c.args.src.now) (g.S.Source.taken c.args.src.now)
     (g.S.Source.faults c.args.src.now) in
     record {
-      told = λ first input start q t ff fs at.
+      run_if_known = λ first input start q t ff fs at.
           let p = c.loop-total.invariant.stands first input start q t at in
           ended_at first p.0 input c.answer_end.result start _
           (all_heard input p.0 p.1 p.2 (none_left _ p.1 p.3 (c.in-Ok.ensures.end c.if-n-eq0.true)))
-          ((c.answer_end.ensures.run old new).told first p.0 start
+          ((c.answer_end.ensures.run old new).run_if_known first p.0 start
           (told_input _ _ start.files
           (all_heard input p.0 p.1 p.2 (none_left _ p.1 p.3 (c.in-Ok.ensures.end c.if-n-eq0.true))) t)
           (later_than _ _ _ ff c.loop-total.invariant.later) (later_than _ _ _ fs c.loop-total.invariant.stores_later)
           p.4);
-      heard = λ input q h d.
+      whole_run = λ input q h d.
           let p = c.loop-total.invariant.holds input q h in
-          let lost = loses _ _ p.1 (take c.in-Ok.n c.take.new.buf) p.3 c.in-Ok.ensures.bytes in
+          let lost = loses_from_known _ _ p.1 (take c.in-Ok.n c.take.new.buf) p.3 c.in-Ok.ensures.bytes in
           inl (lost.1
           ∙ ap Some (no_rest _ _ _ lost.2 (none_left _ p.1 p.3 (c.in-Ok.ensures.end c.if-n-eq0.true))));
       has_cause = cause_since c.answer_end.result first_seen _ _ _ _ _ _ _ _ _ c.loop-total.invariant.out_later
@@ -61,18 +63,19 @@ returns-in-Some-clause-run g c =
     let first_seen = source_of (g.S.Source.left c.args.src.now) (g.S.Source.taken c.args.src.now)
     (g.S.Source.faults c.args.src.now) in
     record {
-      told = λ first input start q t ff fs at.
+      run_if_known = λ first input start q t ff fs at.
           let p = c.loop-total.invariant.stands first input start q t at in
-          let lost = loses _ _ p.1 (take c.in-Ok.n c.take.new.buf) p.3 c.in-Ok.ensures.bytes in
-          ended_at first _ input c.in-Some.end start _ (went input p.0 p.1 _ lost.0 p.2 lost.2)
-          ((c.in-Some.ensures.run old new).told first p.0 lost.0 start
-          (told_input _ _ start.files (went input p.0 p.1 _ lost.0 p.2 lost.2) t)
+          let lost = loses_from_known _ _ p.1 (take c.in-Ok.n c.take.new.buf) p.3 c.in-Ok.ensures.bytes in
+          ended_at first _ input c.in-Some.end start _ (bytes_rejoined input p.0 p.1 _ lost.0 p.2 lost.2)
+          ((c.in-Some.ensures.run old new).run_if_known first p.0 lost.0 start
+          (told_input _ _ start.files (bytes_rejoined input p.0 p.1 _ lost.0 p.2 lost.2) t)
           (later_than _ _ _ ff c.loop-total.invariant.later) (later_than _ _ _ fs c.loop-total.invariant.stores_later)
           p.4);
-      heard = λ input q h d.
+      whole_run = λ input q h d.
           let p = c.loop-total.invariant.holds input q h in
-          let lost = loses _ _ p.1 (take c.in-Ok.n c.take.new.buf) p.3 c.in-Ok.ensures.bytes in
-          heard_by input p.0 (take c.in-Ok.n c.take.new.buf) lost.0 _ (went input p.0 p.1 _ lost.0 p.2 lost.2) lost.1
+          let lost = loses_from_known _ _ p.1 (take c.in-Ok.n c.take.new.buf) p.3 c.in-Ok.ensures.bytes in
+          heard_by input p.0 (take c.in-Ok.n c.take.new.buf) lost.0 _ (bytes_rejoined input p.0 p.1 _ lost.0 p.2 lost.2)
+          lost.1
           (c.in-Some.ensures.cut p.0 p.4 d);
       has_cause = cause_since c.in-Some.end first_seen _ _ _ _ _ _ _ _ _ c.loop-total.invariant.out_later
           c.loop-total.invariant.err_later c.loop-total.invariant.later c.loop-total.invariant.stores_later
@@ -85,12 +88,12 @@ returns-in-Some-clause-run g c =
 
 pub returns-clause-run : goal.returns-clause-run
 returns-clause-run g c = record {
-  told = λ first input start q t ff fs at.
+  run_if_known = λ first input start q t ff fs at.
       let p = c.loop-total.invariant.stands first input start q t at in (
         cut_part first p.0 _ _ _ _ p.4 input p.1 _ p.2 refl refl refl,
-        cut first p.0 _ _ _ _ p.4 input p.1 _ p.2 p.3 refl refl refl refl,
+        output_cut_short first p.0 _ _ _ _ p.4 input p.1 _ p.2 p.3 refl refl refl refl,
       );
-  heard = λ input q h d. cc;
+  whole_run = λ input q h d. cc;
   has_cause = length_cause _ _ (took_enough c.loop-total.total 4294967296 _ _ c.loop-total.invariant.counted
       (omega (arith, c.loop-total-test.false)));
   grows = record { out = c.loop-total.invariant.out_grows; err = c.loop-total.invariant.err_grows };
@@ -104,39 +107,39 @@ loop-total-preserved g c =
     (g.S.Source.faults c.take.new.self) in
     let behind = c.in_default.ensures.run old new in
     record {
-      later = later_than _ _ _ c.loop-total.invariant.later behind.later.fetches;
-      stores_later = later_than _ _ _ c.loop-total.invariant.stores_later behind.later.stores;
-      earlier = omega (arith, c.in-Ok.ensures.cause.later, c.loop-total.invariant.earlier);
-      out_later = later_than _ _ _ c.loop-total.invariant.out_later behind.later.out;
-      err_later = later_than _ _ _ c.loop-total.invariant.err_later behind.later.err;
+      later = later_than _ _ _ c.loop-total.invariant.later behind.counts_later.fetches;
+      stores_later = later_than _ _ _ c.loop-total.invariant.stores_later behind.counts_later.stores;
+      earlier = omega (arith, c.in-Ok.ensures.cause.count_grows, c.loop-total.invariant.earlier);
+      out_later = later_than _ _ _ c.loop-total.invariant.out_later behind.counts_later.out;
+      err_later = later_than _ _ _ c.loop-total.invariant.err_later behind.counts_later.err;
       out_grows = grows_again _ _ _ c.loop-total.invariant.out_grows behind.grows.out;
       err_grows = grows_again _ _ _ c.loop-total.invariant.err_grows behind.grows.err;
       holds = λ input q h.
           let p = c.loop-total.invariant.holds input q h in
-          let lost = loses _ _ p.1 (take c.in-Ok.n c.take.new.buf) p.3 c.in-Ok.ensures.bytes in (
+          let lost = loses_from_known _ _ p.1 (take c.in-Ok.n c.take.new.buf) p.3 c.in-Ok.ensures.bytes in (
             p.0 ++ take c.in-Ok.n c.take.new.buf,
             lost.0,
-            sym (went input p.0 p.1 _ lost.0 p.2 lost.2),
+            sym (bytes_rejoined input p.0 p.1 _ lost.0 p.2 lost.2),
             lost.1,
             c.in_default.ensures.cut p.0 p.4,
           );
       unasked = λ input q h none.
           let p = c.loop-total.invariant.holds input q h in
-          let lost = loses _ _ p.1 (take c.in-Ok.n c.take.new.buf) p.3 c.in-Ok.ensures.bytes in
+          let lost = loses_from_known _ _ p.1 (take c.in-Ok.n c.take.new.buf) p.3 c.in-Ok.ensures.bytes in
           c.answer_block.ensures.unasked p.0 lost.0 p.4
-          (names_none_at _ _ (went input p.0 p.1 _ lost.0 p.2 lost.2) none)
+          (names_none_at _ _ (bytes_rejoined input p.0 p.1 _ lost.0 p.2 lost.2) none)
           ∙ c.loop-total.invariant.unasked input q h none;
       room = (omega (arith, c.loop-total.invariant.room.0), omega (arith, c.loop-total.invariant.room.1));
       counted = took_more c.loop-total.total c.in-Ok.n _ _ _ c.loop-total.invariant.counted c.in-Ok.ensures.count;
       stands = λ first input start q t at.
           let p = c.loop-total.invariant.stands first input start q t at in
-          let lost = loses _ _ p.1 (take c.in-Ok.n c.take.new.buf) p.3 c.in-Ok.ensures.bytes in (
+          let lost = loses_from_known _ _ p.1 (take c.in-Ok.n c.take.new.buf) p.3 c.in-Ok.ensures.bytes in (
             p.0 ++ take c.in-Ok.n c.take.new.buf,
             lost.0,
-            sym (went input p.0 p.1 _ lost.0 p.2 lost.2),
+            sym (bytes_rejoined input p.0 p.1 _ lost.0 p.2 lost.2),
             lost.1,
-            behind.waits first p.0 lost.0 start
-                (told_input _ _ start.files (went input p.0 p.1 _ lost.0 p.2 lost.2) t) p.4,
+            behind.waits_on first p.0 lost.0 start
+                (told_input _ _ start.files (bytes_rejoined input p.0 p.1 _ lost.0 p.2 lost.2) t) p.4,
           );
     }
 
@@ -153,8 +156,9 @@ returns-then-n-eq0-clause-unasked g c = λ input q h none.
 pub returns-in-Some-clause-unasked : goal.returns-in-Some-clause-unasked
 returns-in-Some-clause-unasked g c = λ input q h none.
     let p = c.loop-total.invariant.holds input q h in
-    let lost = loses _ _ p.1 (take c.in-Ok.n c.take.new.buf) p.3 c.in-Ok.ensures.bytes in
-    c.answer_block.ensures.unasked p.0 lost.0 p.4 (names_none_at _ _ (went input p.0 p.1 _ lost.0 p.2 lost.2) none)
+    let lost = loses_from_known _ _ p.1 (take c.in-Ok.n c.take.new.buf) p.3 c.in-Ok.ensures.bytes in
+    c.answer_block.ensures.unasked p.0 lost.0 p.4
+    (names_none_at _ _ (bytes_rejoined input p.0 p.1 _ lost.0 p.2 lost.2) none)
     ∙ c.loop-total.invariant.unasked input q h none
 
 pub returns-clause-unasked : goal.returns-clause-unasked

@@ -6,11 +6,11 @@ use Rattle.session.proofs.over_source.answer_end.Goals as goal
 
 pub returns-in_default-clause-run : goal.returns-in_default-clause-run
 returns-in_default-clause-run g c = λ was is. record {
-  told = λ first input start t fetches stores w.
+  run_if_known = λ first input start t fetches stores w.
       let s = stands first input _ _ _ _ w c.clear.new.self c.clear.ensures.out c.clear.ensures.err in
       last_part first input _ _ _ _ w _ c.feed_end-fed.result c.feed_end-fed.new.said _ _
       (c.feed_end-fed.ensures.told _ first input t s) c.write.ensures.out c.write.ensures.err
-      (λ failed. rose_since _ _ _ stores (c.feed_end-fed.ensures.faults.written failed));
+      (λ failed. rose_since _ _ _ stores (c.feed_end-fed.ensures.faults.failed_write_counted failed));
   has_cause = write_cause _ _ c.in_default.ensures.cause;
   grows = record {
     out = front_grows _ _ _ c.write.ensures.out;
@@ -20,16 +20,16 @@ returns-in_default-clause-run g c = λ was is. record {
 
 pub returns-clause-run : goal.returns-clause-run
 returns-clause-run g c = λ was is. record {
-  told = λ first input start t fetches stores w.
+  run_if_known = λ first input start t fetches stores w.
       let s = stands first input _ _ _ _ w c.clear.new.self c.clear.ensures.out c.clear.ensures.err in
       last_written first input _ _ _ _ w _ c.feed_end-fed.result c.feed_end-fed.new.said _ _
       (c.feed_end-fed.ensures.told _ first input t s) c.last_end.result c.last_end.ensures
       c.in-Ok.ensures.whole.0 c.in-Ok.ensures.whole.1
       (λ failed. rose_since _ _ _ fetches (c.feed_end-fed.ensures.faults.cause failed))
-      (λ failed. rose_since _ _ _ stores (c.feed_end-fed.ensures.faults.written failed));
+      (λ failed. rose_since _ _ _ stores (c.feed_end-fed.ensures.faults.failed_write_counted failed));
   has_cause = end_cause _ _ c.feed_end-fed.result c.last_end.result c.last_end.ensures
       (λ failed. c.feed_end-fed.ensures.faults.cause failed)
-      (λ failed. c.feed_end-fed.ensures.faults.written failed);
+      (λ failed. c.feed_end-fed.ensures.faults.failed_write_counted failed);
   grows = record {
     out = front_grows _ _ _ c.write.ensures.out;
     err = front_grows _ _ _ c.write.ensures.err;

@@ -1,7 +1,7 @@
 use Rattle.std.proofs.Common.{[], inl, inr, refl, arith, subst, sym, ◌∙◌}
 use Rattle.session.specs.HeardLines.{any_loads_file}
 use Rattle.session.specs.KnownContents.{IsToldIf}
-use Rattle.session.proofs.Blocks.{any_rose, open_part, opens}
+use Rattle.session.proofs.Blocks.{any_rose, open_part, waits_after_opening}
 use Rattle.session.proofs.SourceEnding.{memory_cause, unwritten, write_cause}
 use Rattle.session.proofs.SinkGrowth.{all_grows, grows_more, order_grows}
 use Rattle.session.proofs.HeardLines.{holds_none}
@@ -10,8 +10,8 @@ use Rattle.session.proofs.over_source.run_session.Goals as goal
 
 pub returns-in_default-clause-run : goal.returns-in_default-clause-run
 returns-in_default-clause-run g c = record {
-  told = λ first input start q t at. unwritten first input _ _ start _ at;
-  heard = λ input q d. cc;
+  run_if_known = λ first input start q t at. unwritten first input _ _ start _ at;
+  whole_run = λ input q d. cc;
   has_cause = memory_cause _ _;
 }
 
@@ -23,9 +23,9 @@ returns-in_default-clause-order g c = inl refl
 
 pub returns-in-Err-clause-run : goal.returns-in-Err-clause-run
 returns-in-Err-clause-run g c = record {
-  told = λ first input start q t at.
+  run_if_known = λ first input start q t at.
       open_part first input _ _ start _ _ at c.write.ensures.out c.write.ensures.err refl;
-  heard = λ input q d. cc;
+  whole_run = λ input q d. cc;
   has_cause = write_cause _ _ c.in-Err.ensures.cause;
 }
 
@@ -37,19 +37,20 @@ returns-in-Err-clause-order g c = order_grows _ _ _ c.args.said.now.err.items c.
 
 pub returns-clause-run : goal.returns-clause-run
 returns-clause-run g c = record {
-  told = λ first input start q t at.
-      c.answer_blocks.ensures.run.told first input start q (subst (IsToldIf (any_loads_file input)) at.files t)
+  run_if_known = λ first input start q t at.
+      c.answer_blocks.ensures.run.run_if_known first input start q (subst (IsToldIf (any_loads_file input)) at.files t)
       at.faults at.stores
-      (opens first _ _ _ start _ _ at c.in-Ok-write.ensures.whole.0 c.in-Ok-write.ensures.whole.1 refl refl
+      (waits_after_opening first _ _ _ start _ _ at c.in-Ok-write.ensures.whole.0 c.in-Ok-write.ensures.whole.1 refl
+      refl
       (c.new-held.ensures ∙ sym (readable_short [] (omega arith))));
-  heard = λ input q d.
-      c.answer_blocks.ensures.run.heard input q
+  whole_run = λ input q d.
+      c.answer_blocks.ensures.run.whole_run input q
       (holds_none _ (c.new-held.ensures ∙ sym (readable_short [] (omega arith)))) d;
   has_cause = record {
-    read = c.answer_blocks.ensures.run.has_cause.read;
-    write = λ r.
+    read_cause = c.answer_blocks.ensures.run.has_cause.read_cause;
+    write_cause = λ r.
         any_rose _ _ _ _ _ _ _ _ c.write.ensures.out_later c.write.ensures.err_later
-        (c.answer_blocks.ensures.run.has_cause.write r);
+        (c.answer_blocks.ensures.run.has_cause.write_cause r);
     too_long = c.answer_blocks.ensures.run.has_cause.too_long;
   };
 }

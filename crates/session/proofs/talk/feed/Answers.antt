@@ -14,10 +14,10 @@ pub returns-in-Ok-true-clause-told : goal.returns-in-Ok-true-clause-told
 returns-in-Ok-true-clause-told g c = λ base first taken more t s.
     let p = c.loop-piece.invariant.fed base first taken more t s in
     let told = c.in-Ok-true.ensures.told base (trace_over first (whole_lines (taken ++ p.0)))
-    (unfinished_line (taken ++ p.0)) p.2.part
+    (unfinished_line (taken ++ p.0)) p.2.held_part
     (line_told taken c.args.rest.now.now p.0 c.loop-piece.rest.now c.loop-piece.held p.1
     (stands_holds base first _ _ _ p.2)
-    c.in-Some.piece.now c.in-Some.behind.now (sym c.in-Some.ensures) more base.files t) p.2.at in
+    c.in-Some.piece.now c.in-Some.behind.now (sym c.in-Some.ensures) more base.files t) p.2.is_at in
     line_over base first taken c.args.rest.now.now p.0 c.loop-piece.rest.now c.loop-piece.held
     (now_of c.loop-piece.said c.loop-piece.session (g.F.Files.files c.loop-piece.files) c.loop-piece.steps) p.1 p.2
     c.in-Some.piece.now
@@ -34,19 +34,19 @@ returns-in-Err-clause-told g c = λ base first taken more t s.
     c.in-Some.behind.now (sym c.in-Some.ensures) c.in-Err.fault more
     (now_of c.end_line.new.said c.end_line.new.session (g.F.Files.files c.end_line.new.files) c.end_line.new.steps)
     (c.in-Err.ensures.told base (trace_over first (whole_lines (taken ++ p.0))) (unfinished_line (taken ++ p.0))
-    p.2.part
+    p.2.held_part
     (line_told taken c.args.rest.now.now p.0 c.loop-piece.rest.now c.loop-piece.held p.1
     (stands_holds base first _ _ _ p.2)
-    c.in-Some.piece.now c.in-Some.behind.now (sym c.in-Some.ensures) more base.files t) p.2.at)
+    c.in-Some.piece.now c.in-Some.behind.now (sym c.in-Some.ensures) more base.files t) p.2.is_at)
 
 pub returns-then-is_long-clause-told : goal.returns-then-is_long-clause-told
 returns-then-is_long-clause-told g c = λ base first taken more t s.
     let p = c.loop-piece.invariant.fed base first taken more t s in
     let told = c.in-Ok-false.ensures.told base (trace_over first (whole_lines (taken ++ p.0)))
-    (unfinished_line (taken ++ p.0)) p.2.part
+    (unfinished_line (taken ++ p.0)) p.2.held_part
     (line_told taken c.args.rest.now.now p.0 c.loop-piece.rest.now c.loop-piece.held p.1
     (stands_holds base first _ _ _ p.2)
-    c.in-Some.piece.now c.in-Some.behind.now (sym c.in-Some.ensures) more base.files t) p.2.at in
+    c.in-Some.piece.now c.in-Some.behind.now (sym c.in-Some.ensures) more base.files t) p.2.is_at in
     line_fed base first taken c.args.rest.now.now p.0 c.loop-piece.rest.now c.loop-piece.held
     (now_of c.loop-piece.said c.loop-piece.session (g.F.Files.files c.loop-piece.files) c.loop-piece.steps) p.1 p.2
     c.in-Some.piece.now
@@ -56,8 +56,8 @@ returns-then-is_long-clause-told g c = λ base first taken more t s.
 
 pub loop-piece-preserved : goal.loop-piece-preserved
 loop-piece-preserved g c = record {
-  counted = c.in-Ok-false.ensures.faults.counted ∙ c.loop-piece.invariant.counted;
-  later = omega (arith, c.in-Ok-false.ensures.faults.later, c.loop-piece.invariant.later);
+  counted = c.in-Ok-false.ensures.faults.fetches_counted ∙ c.loop-piece.invariant.counted;
+  later = omega (arith, c.in-Ok-false.ensures.faults.stores_grow, c.loop-piece.invariant.later);
   within = omega (
     arith,
     shorter 10 c.loop-piece.rest.now c.in-Some.piece.now c.in-Some.behind.now (sym c.in-Some.ensures),
@@ -65,22 +65,22 @@ loop-piece-preserved g c = record {
   );
   holds = λ taken h.
       let p = c.loop-piece.invariant.holds taken h in
-      let last = c.in-Ok-false.ensures.last (unfinished_line (taken ++ p.0)) p.2.part in
+      let last = c.in-Ok-false.ensures.last (unfinished_line (taken ++ p.0)) p.2.held_part in
       line_holds taken c.args.rest.now.now p.0 c.loop-piece.rest.now c.loop-piece.held p.1 p.2 c.in-Some.piece.now
       c.in-Some.behind.now (sym c.in-Some.ensures) c.end_line.new.held (sym c.in-Ok-false.field-0-test ∙ last.0) last.1;
   unasked = λ taken more h none.
       let p = c.loop-piece.invariant.holds taken h in
-      c.end_line.ensures.unasked (unfinished_line (taken ++ p.0)) p.2.part
+      c.end_line.ensures.unasked (unfinished_line (taken ++ p.0)) p.2.held_part
       (line_names_none taken c.args.rest.now.now p.0 c.loop-piece.rest.now c.loop-piece.held p.1 p.2
       c.in-Some.piece.now c.in-Some.behind.now (sym c.in-Some.ensures) more none)
       ∙ c.loop-piece.invariant.unasked taken more h none;
   fed = λ base first taken more t s.
       let p = c.loop-piece.invariant.fed base first taken more t s in
       let told = c.in-Ok-false.ensures.told base (trace_over first (whole_lines (taken ++ p.0)))
-      (unfinished_line (taken ++ p.0)) p.2.part
+      (unfinished_line (taken ++ p.0)) p.2.held_part
       (line_told taken c.args.rest.now.now p.0 c.loop-piece.rest.now c.loop-piece.held p.1
       (stands_holds base first _ _ _ p.2)
-      c.in-Some.piece.now c.in-Some.behind.now (sym c.in-Some.ensures) more base.files t) p.2.at in
+      c.in-Some.piece.now c.in-Some.behind.now (sym c.in-Some.ensures) more base.files t) p.2.is_at in
       line_fed base first taken c.args.rest.now.now p.0 c.loop-piece.rest.now c.loop-piece.held
       (now_of c.loop-piece.said c.loop-piece.session (g.F.Files.files c.loop-piece.files) c.loop-piece.steps) p.1 p.2
       c.in-Some.piece.now
@@ -98,7 +98,7 @@ returns-in-Ok-clause-told g c = λ base first taken more t s.
           (now_of c.loop-piece.said c.loop-piece.session (g.F.Files.files c.loop-piece.files) c.loop-piece.steps) p.1
           p.2
           (sym c.cut_at.ensures ∙ ap (option_map seen_pair) c.in_default.is) c.add.new.self
-          (c.in-Ok.ensures (unfinished_line (taken ++ p.0)) p.2.part),
+          (c.in-Ok.ensures (unfinished_line (taken ++ p.0)) p.2.held_part),
     )
 
 pub returns-in-Err-add-clause-told : goal.returns-in-Err-add-clause-told
@@ -111,14 +111,14 @@ returns-in-Err-add-clause-told g c = λ base first taken more t s.
 pub returns-in-Ok-true-clause-cut : goal.returns-in-Ok-true-clause-cut
 returns-in-Ok-true-clause-cut g c = λ taken h.
     let p = c.loop-piece.invariant.holds taken h in
-    let last = c.in-Ok-true.ensures.last (unfinished_line (taken ++ p.0)) p.2.part in
+    let last = c.in-Ok-true.ensures.last (unfinished_line (taken ++ p.0)) p.2.held_part in
     line_last taken c.args.rest.now.now p.0 c.loop-piece.rest.now c.loop-piece.held p.1 p.2 c.in-Some.piece.now
     c.in-Some.behind.now (sym c.in-Some.ensures) (sym c.in-Ok-true.field-0-test ∙ last.0)
 
 pub returns-then-is_long-clause-cut : goal.returns-then-is_long-clause-cut
 returns-then-is_long-clause-cut g c = λ taken h.
     let p = c.loop-piece.invariant.holds taken h in
-    let last = c.in-Ok-false.ensures.last (unfinished_line (taken ++ p.0)) p.2.part in
+    let last = c.in-Ok-false.ensures.last (unfinished_line (taken ++ p.0)) p.2.held_part in
     line_holds taken c.args.rest.now.now p.0 c.loop-piece.rest.now c.loop-piece.held p.1 p.2 c.in-Some.piece.now
     c.in-Some.behind.now (sym c.in-Some.ensures) c.end_line.new.held (sym c.in-Ok-false.field-0-test ∙ last.0) last.1
 
@@ -129,13 +129,13 @@ returns-in-Ok-clause-cut g c = λ taken h.
       sym (append-nil c.args.rest.now.now),
       rest_holds taken c.args.rest.now.now p.0 c.loop-piece.rest.now c.loop-piece.held p.1 p.2
           (sym c.cut_at.ensures ∙ ap (option_map seen_pair) c.in_default.is) c.add.new.self
-          (c.in-Ok.ensures (unfinished_line (taken ++ p.0)) p.2.part),
+          (c.in-Ok.ensures (unfinished_line (taken ++ p.0)) p.2.held_part),
     )
 
 pub returns-in-Ok-true-clause-unasked : goal.returns-in-Ok-true-clause-unasked
 returns-in-Ok-true-clause-unasked g c = λ taken more h none.
     let p = c.loop-piece.invariant.holds taken h in
-    c.end_line.ensures.unasked (unfinished_line (taken ++ p.0)) p.2.part
+    c.end_line.ensures.unasked (unfinished_line (taken ++ p.0)) p.2.held_part
     (line_names_none taken c.args.rest.now.now p.0 c.loop-piece.rest.now c.loop-piece.held p.1 p.2
     c.in-Some.piece.now c.in-Some.behind.now (sym c.in-Some.ensures) more none)
     ∙ c.loop-piece.invariant.unasked taken more h none
@@ -143,7 +143,7 @@ returns-in-Ok-true-clause-unasked g c = λ taken more h none.
 pub returns-in-Err-clause-unasked : goal.returns-in-Err-clause-unasked
 returns-in-Err-clause-unasked g c = λ taken more h none.
     let p = c.loop-piece.invariant.holds taken h in
-    c.end_line.ensures.unasked (unfinished_line (taken ++ p.0)) p.2.part
+    c.end_line.ensures.unasked (unfinished_line (taken ++ p.0)) p.2.held_part
     (line_names_none taken c.args.rest.now.now p.0 c.loop-piece.rest.now c.loop-piece.held p.1 p.2
     c.in-Some.piece.now c.in-Some.behind.now (sym c.in-Some.ensures) more none)
     ∙ c.loop-piece.invariant.unasked taken more h none
@@ -151,7 +151,7 @@ returns-in-Err-clause-unasked g c = λ taken more h none.
 pub returns-then-is_long-clause-unasked : goal.returns-then-is_long-clause-unasked
 returns-then-is_long-clause-unasked g c = λ taken more h none.
     let p = c.loop-piece.invariant.holds taken h in
-    c.end_line.ensures.unasked (unfinished_line (taken ++ p.0)) p.2.part
+    c.end_line.ensures.unasked (unfinished_line (taken ++ p.0)) p.2.held_part
     (line_names_none taken c.args.rest.now.now p.0 c.loop-piece.rest.now c.loop-piece.held p.1 p.2
     c.in-Some.piece.now c.in-Some.behind.now (sym c.in-Some.ensures) more none)
     ∙ c.loop-piece.invariant.unasked taken more h none

@@ -11,42 +11,49 @@ use Rattle.session.proofs.talk.feed_end.Goals as goal
 pub returns-then-is_empty-clause-told : goal.returns-then-is_empty-clause-told
 returns-then-is_empty-clause-told g c = λ base first input t s.
     end_open base first input _ _ s
-    (empty_part (unfinished_line input) (sym (c.is_empty.ensures (unfinished_line input) s.part) ∙ c.if-is_empty.true))
+    (empty_part (unfinished_line input) (sym (c.is_empty.ensures (unfinished_line input) s.held_part)
+    ∙ c.if-is_empty.true))
 
 pub returns-in-Ok-clause-told : goal.returns-in-Ok-clause-told
 returns-in-Ok-clause-told g c = λ base first input t s.
     end_line base first input _ _ s _
-    (some_part (unfinished_line input) (sym (c.is_empty.ensures (unfinished_line input) s.part) ∙ c.if-is_empty.false))
+    (some_part (unfinished_line input) (sym (c.is_empty.ensures (unfinished_line input) s.held_part)
+    ∙ c.if-is_empty.false))
     (c.in-Ok.ensures.told base (trace_over first (whole_lines input)) (unfinished_line input)
-    (c.line.ensures.is ∙ s.part)
+    (c.line.ensures.is ∙ s.held_part)
     (end_told input c.args.held.now (stands_holds base first _ _ _ s)
-    (some_part (unfinished_line input) (sym (c.is_empty.ensures (unfinished_line input) s.part) ∙ c.if-is_empty.false))
+    (some_part (unfinished_line input) (sym (c.is_empty.ensures (unfinished_line input) s.held_part)
+    ∙ c.if-is_empty.false))
     base.files
-    t) s.at).1
+    t) s.is_at).1
 
 pub returns-in-Err-clause-told : goal.returns-in-Err-clause-told
 returns-in-Err-clause-told g c = λ base first input t s.
     broken_end c.in-Err.fault base first input _ _ s _
-    (some_part (unfinished_line input) (sym (c.is_empty.ensures (unfinished_line input) s.part) ∙ c.if-is_empty.false))
+    (some_part (unfinished_line input) (sym (c.is_empty.ensures (unfinished_line input) s.held_part)
+    ∙ c.if-is_empty.false))
     (c.in-Err.ensures.told base (trace_over first (whole_lines input)) (unfinished_line input)
-    (c.line.ensures.is ∙ s.part)
+    (c.line.ensures.is ∙ s.held_part)
     (end_told input c.args.held.now (stands_holds base first _ _ _ s)
-    (some_part (unfinished_line input) (sym (c.is_empty.ensures (unfinished_line input) s.part) ∙ c.if-is_empty.false))
+    (some_part (unfinished_line input) (sym (c.is_empty.ensures (unfinished_line input) s.held_part)
+    ∙ c.if-is_empty.false))
     base.files
-    t) s.at)
+    t) s.is_at)
 
 pub returns-in-Ok-clause-unasked : goal.returns-in-Ok-clause-unasked
 returns-in-Ok-clause-unasked g c = λ input h none.
     c.reply.ensures.unasked
-    (ap names_file_read (c.line.ensures.is ∙ h.part)
+    (ap names_file_read (c.line.ensures.is ∙ h.held_part)
     ∙ end_names_none input c.args.held.now h
-    (some_part (unfinished_line input) (sym (c.is_empty.ensures (unfinished_line input) h.part) ∙ c.if-is_empty.false))
+    (some_part (unfinished_line input) (sym (c.is_empty.ensures (unfinished_line input) h.held_part)
+    ∙ c.if-is_empty.false))
     none)
 
 pub returns-in-Err-clause-unasked : goal.returns-in-Err-clause-unasked
 returns-in-Err-clause-unasked g c = λ input h none.
     c.reply.ensures.unasked
-    (ap names_file_read (c.line.ensures.is ∙ h.part)
+    (ap names_file_read (c.line.ensures.is ∙ h.held_part)
     ∙ end_names_none input c.args.held.now h
-    (some_part (unfinished_line input) (sym (c.is_empty.ensures (unfinished_line input) h.part) ∙ c.if-is_empty.false))
+    (some_part (unfinished_line input) (sym (c.is_empty.ensures (unfinished_line input) h.held_part)
+    ∙ c.if-is_empty.false))
     none)

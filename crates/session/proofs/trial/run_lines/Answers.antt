@@ -1,6 +1,6 @@
 use Rattle.std.proofs.Common.{[], refl, sym, ◌∙◌, Some}
 use Rattle.units_io.specs.FileMap.{no_files}
-use Rattle.session.specs.Trials.{silent}
+use Rattle.session.specs.Trials.{silent_trace}
 use Rattle.session.specs.BetweenPieces.{at_first}
 use Rattle.session.proofs.TalkedThrough.{lines_done, lines_on, lines_over, stands_first, talked_at, talked_over}
 use Rattle.session.proofs.trial.run_lines.Goals as goal
@@ -16,7 +16,7 @@ pub loop-rest-preserved : goal.loop-rest-preserved
 loop-rest-preserved g c =
     let p = c.loop-rest.invariant in
     let base = at_first (Some no_files) c.args.steps.now in
-    let first = silent c.args.session.now in
+    let first = silent_trace c.args.session.now in
     lines_on base first c.args.lines.now p.0 c.loop-rest.rest.now p.1 c.in-Ok-false.field-0 _ _ _
     c.in-Ok-false.field-0-test (c.in-Ok-false.ensures.told base first p.0 [] tt p.2)
 
@@ -24,7 +24,7 @@ pub returns-in-Ok-true : goal.returns-in-Ok-true
 returns-in-Ok-true g c =
     let p = c.loop-rest.invariant in
     let base = at_first (Some no_files) c.args.steps.now in
-    let first = silent c.args.session.now in
+    let first = silent_trace c.args.session.now in
     talked_over first c.args.lines.now _ c.args.steps.now
     (lines_over base first c.args.lines.now p.0 c.loop-rest.rest.now p.1 c.in-Ok-true.field-0 _ _ _
     c.in-Ok-true.field-0-test (c.in-Ok-true.ensures.told base first p.0 [] tt p.2))
@@ -33,7 +33,7 @@ pub returns-in-Ok : goal.returns-in-Ok
 returns-in-Ok g c =
     let p = c.loop-rest.invariant in
     let base = at_first (Some no_files) c.args.steps.now in
-    let first = silent c.args.session.now in
+    let first = silent_trace c.args.session.now in
     talked_at _ _ c.args.steps.now
     (c.in-Ok.ensures.told base first c.args.lines.now tt
     (lines_done base first c.args.lines.now p.0 c.loop-rest.rest.now p.1 _ _

@@ -9,7 +9,7 @@ use Rattle.deck.specs.PlacedKeys.{keys_there}
 use Rattle.deck.specs.Tables.{table}
 use Rattle.live_table.specs.Calls.{AreQueries}
 use Rattle.live_table.proofs.NameQueries.{cut_at_once}
-use Rattle.reply.proofs.Runs.{made}
+use Rattle.reply.proofs.Runs.{queries_made}
 use Rattle.survey.specs.Conformable.{conformable_queries, unit_queries}
 use Rattle.survey.proofs.conformable_units.conformable_report.Goals as goal
 
@@ -29,7 +29,7 @@ returns-clause-queries g c =
     c.deck.ensures.deck (c.in_ok-places.ensures {u = tt}) in
     subst (λ (ks : List Key). AreQueries (unit_queries (table c.args.table.now.deck) ks) c.rows_or_none.result
     c.args.table.now c.put_conforming_rows.new.table c.args.steps.now c.put_conforming_rows.new.steps) keys
-    (made c.rows_or_none.result
+    (queries_made c.rows_or_none.result
     (unit_queries (table c.args.table.now.deck) (keys_there c.args.table.now.deck.lines c.as_slice.result.now))
     c.args.table.now c.put_conforming_rows.new.table c.args.steps.now c.put_conforming_rows.new.steps
     c.put_conforming_rows.ensures.deck c.in_ok-put_conforming_rows.ensures.queries)

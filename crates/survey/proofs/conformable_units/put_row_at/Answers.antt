@@ -7,7 +7,7 @@ use Rattle.deck.specs.Tables.{table}
 use Rattle.expr_tree.specs.Syntax.{Word}
 use Rattle.expr_tree.specs.Trees.{syntax}
 use Rattle.expr_tree.specs.Words.{words_in}
-use Rattle.live_table.specs.Answers.{answer}
+use Rattle.live_table.specs.Answers.{table_answer}
 use Rattle.live_table.specs.Calls.{AreQueries}
 use Rattle.live_table.specs.States.{AsksWords}
 use Rattle.live_table.proofs.NameQueries.{cut_at_once}
@@ -50,7 +50,7 @@ pub returns-clause-rows : goal.returns-clause-rows
 returns-clause-rows g c =
     let tree = syntax c.in-Some.word in
     let t = table c.args.table.now.deck in
-    let said = answer t tree in
+    let said = table_answer t tree in
     let found = answer_of said c.value_if_any-found.result in
     word-told c.args.from.now c.args.table.now.deck c.args.place tree
     (subst (λ (d : Contents). Some tree ≡ option_map (λ k. Word k.name) (unit_there d c.args.place)) c.deck.ensures.deck
@@ -72,7 +72,7 @@ pub returns-clause-queries : goal.returns-clause-queries
 returns-clause-queries g c =
     let tree = syntax c.in-Some.word in
     let t = table c.args.table.now.deck in
-    let said = answer t tree in
+    let said = table_answer t tree in
     word-asked c.args.table.now.deck c.args.place c.args.table.now c.value_if_any-found.new.self c.args.steps.now
     c.value_if_any-found.new.steps (answer_of said c.value_if_any-found.result) c.put_if_conforming.result
     (value_memory (name_fault t (words_in tree)) (value (expansion t tree) None) c.value_if_any-found.result

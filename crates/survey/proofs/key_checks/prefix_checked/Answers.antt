@@ -5,9 +5,9 @@ use Rattle.std.proofs.lemmas.Result.{err_from_is_err_and}
 use Rattle.deck.specs.Tables.{table}
 use Rattle.quantity.specs.Amount.{Amount}
 use Rattle.live_table.specs.declared.fault.QueryFault.{QueryFault}
-use Rattle.reply.specs.Calls.{IsInquired, as_inquired, failure_of, same, syntaxes_of}
+use Rattle.reply.specs.Calls.{IsInquired, as_inquired, failure_of, itself, syntaxes_of}
 use Rattle.reply.specs.Inquiries.{worths}
-use Rattle.survey.specs.Checks.{of_prefix, sound}
+use Rattle.survey.specs.Checks.{of_prefix, sound_finding}
 use Rattle.survey.proofs.PrefixAnswers.{prefix-untold}
 use Rattle.survey.proofs.key_checks.prefix_checked.Goals as goal
 
@@ -15,13 +15,14 @@ pub returns-in_err-prefix_fault-in-Err-Name-clause-inquired :
     goal.returns-in_err-prefix_fault-in-Err-Name-clause-inquired
 returns-in_err-prefix_fault-in-Err-Name-clause-inquired g c =
     let p = err_from_is_err_and c.from_residual.result c.from_residual.ensures.1 in
-    subst (λ r. IsInquired same
-    (sound (of_prefix c.args.key.now (worths (table c.args.table.now.deck) (syntaxes_of c.args.trees.now))))
+    subst (λ r. IsInquired itself
+    (sound_finding (of_prefix c.args.key.now (worths (table c.args.table.now.deck) (syntaxes_of c.args.trees.now))))
     (as_inquired r)
     c.args.table.now c.evaluate_texts.new.table c.args.steps.now c.evaluate_texts.new.steps) (sym (p.1 ∙ ap Err p.2))
     (prefix-untold (λ (values : Vec Amount Global). values.items) c.args.key.now
     (worths (table c.args.table.now.deck) (syntaxes_of c.args.trees.now))
-    c.args.table.now c.evaluate_texts.new.table c.args.steps.now c.evaluate_texts.new.steps c.in-Err-Name.fault c.evaluate_texts.ensures.deck
+    c.args.table.now c.evaluate_texts.new.table c.args.steps.now c.evaluate_texts.new.steps c.in-Err-Name.fault
+    c.evaluate_texts.ensures.deck
     (subst (λ (fault : QueryFault). IsInquired (λ (values : Vec Amount Global). values.items)
     (worths (table c.args.table.now.deck) (syntaxes_of c.args.trees.now))
     (Err (failure_of fault))

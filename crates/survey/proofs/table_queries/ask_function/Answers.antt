@@ -8,7 +8,7 @@ use Rattle.table_names.specs.Meanings.{expansion}
 use Rattle.tree_eval.specs.Expansion.{called_word}
 use Rattle.tree_eval.specs.Value.{value}
 use Rattle.live_table.specs.States.{AsksWords}
-use Rattle.reply.specs.Calls.{IsInquired, as_inquired, same}
+use Rattle.reply.specs.Calls.{IsInquired, as_inquired, itself}
 use Rattle.survey.specs.Calls.{names_alone}
 use Rattle.survey.specs.Checks.{names_finding}
 use Rattle.survey.proofs.Questions.{names-asked, names-inquired}
@@ -18,9 +18,9 @@ pub returns-clause-inquired : goal.returns-clause-inquired
 returns-clause-inquired g c =
     let called : words_in (syntax c.in_ok-call.call) ≡ called_word c.args.key.now.name ∷ [] =
     c.in_ok-call.ensures {u = tt} ∙ ap (λ (name : List ℕ). called_word name ∷ []) c.as_bytes.ensures in
-    subst (λ r. IsInquired same (names_finding (table c.args.table.now.deck) c.args.key.now) (as_inquired r)
+    subst (λ r. IsInquired itself (names_finding (table c.args.table.now.deck) c.args.key.now) (as_inquired r)
     c.args.table.now c.value.new.self c.args.steps.now c.value.new.steps) (sym c.names_alone.ensures)
-    (subst (λ (words : List WordUse). IsInquired same
+    (subst (λ (words : List WordUse). IsInquired itself
     (names-asked (AsksWords words) (name_fault (table c.args.table.now.deck) words))
     (as_inquired (names_alone c.value.result))
     c.args.table.now c.value.new.self c.args.steps.now c.value.new.steps) called

@@ -8,7 +8,7 @@ use Rattle.live_table.proofs.Runs.{run_law}
 use Rattle.reply.specs.Replies.{from_value, value_queries}
 use Rattle.reply.specs.declared.reply.Reply.{Reply}
 use Rattle.survey.specs.ConversionReplies.{Asked, asked_conformable, conformable_to}
-use Rattle.survey.proofs.QueriesAfter.{asked_same, joined}
+use Rattle.survey.proofs.QueriesAfter.{asked_same, queries_appended}
 use Rattle.survey.proofs.units_reply.conformable_reply.Goals as goal
 
 pub returns-in_err-value-clause-queries : goal.returns-in_err-value-clause-queries
@@ -34,7 +34,8 @@ pub returns-clause-queries : goal.returns-clause-queries
 returns-clause-queries g c =
     let t = table c.args.table.now.deck in
     let value = from_value t c.args.options.now c.args.from.now in
-    joined (value_queries t c.args.from.now) (conformable_to t value).queries c.conformable_to.result c.args.table.now
+    queries_appended (value_queries t c.args.from.now) (conformable_to t value).queries c.conformable_to.result
+    c.args.table.now
     c.from_value.new.table c.conformable_to.new.table c.args.steps.now c.from_value.new.steps c.conformable_to.new.steps
     c.from_value.ensures.deck c.in_ok-value.ensures.queries
     (subst (λ (asked : Asked). AreQueries asked.queries c.conformable_to.result c.from_value.new.table

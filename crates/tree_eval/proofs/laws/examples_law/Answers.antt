@@ -9,12 +9,12 @@ unfolding gcd gcd_within lowest_terms
 values = record {
   decimals = refl;
   quotients = refl;
-  negative = refl;
+  negated_value = refl;
   no_argument = refl;
   by_zero = refl;
   from_the_left = refl;
   no_call = refl;
-  called = refl;
+  called_value = refl;
   too_deep = refl;
   other_name = refl;
   no_inverse = refl;
@@ -24,11 +24,11 @@ tests : TestsLaw
 tests = record {
   closed_end = refl;
   open_end = refl;
-  between = refl;
-  below = refl;
+  within_span = refl;
+  below_span = refl;
   open_low_end = refl;
   no_high_end = refl;
-  outside = refl;
+  outside_span = refl;
   any = refl;
 }
 

@@ -66,8 +66,8 @@ unfolding gcd gcd_within lcm lowest_terms on_line x_at y_at
 tables = record {
   forward = rw (len_none, number_times_m);
   backward = rw m_and_m;
-  above = rw len_none;
-  below = rw len_none;
+  above_table = rw len_none;
+  below_table = rw len_none;
   wrong_argument = rw (len_single m one);
   wrong_value = rw s_and_m;
   number_for_a_unit = rw number_and_m;

@@ -22,7 +22,7 @@ loop-i-preserved c = record {
       (ap (part_of c.loop-i.rest) (sym c.value.ensures.value) ∙ sym c.part_of.ensures ∙ c.in_ok-part.was));
   denominators = All-more HasDenominator c.args.units.now c.loop-i.i c.index-units-i.result
       (omega arith) c.loop-i.invariant.denominators
-      (subst HasDenominator c.index-units-i.is c.value.ensures.kept.reduced.positive);
+      (subst HasDenominator c.index-units-i.is c.value.ensures.kept.lowest_terms.den_positive);
 }
 
 pub returns-in_err-count-clause-counts : goal.returns-in_err-count-clause-counts
@@ -46,6 +46,6 @@ returns-clause-denominators c =
     (omega arith) c.loop-i.invariant.denominators
     (subst HasDenominator
     (c.index-units-last.is ∙ ap (λ k. get_or c.args.units.now k c.index-units-last.result) (omega arith))
-    c.value-2.ensures.kept.reduced.positive) in
+    c.value-2.ensures.kept.lowest_terms.den_positive) in
     All-same HasDenominator c.args.units.now (take (c.loop-i.i + 1) c.args.units.now)
     (sym (take_all (c.loop-i.i + 1) c.args.units.now (omega arith))) all

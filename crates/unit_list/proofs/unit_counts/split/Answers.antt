@@ -35,7 +35,7 @@ returns-clause-counted c =
     let begun = begun_by _ _ _ _ _ _ _ _ _ c.in_default.ensures c.requires c.value-number.ensures.value
     c.is_negative.ensures
     c.index-units-units.is c.value-last.ensures.value c.magnitude.ensures c.rounded_if.ensures in
-    c.split_law.ensures c.args.round c.args.q.now.value _ _ c.value-number.ensures.kept.reduced.positive
+    c.split_law.ensures c.args.round c.args.q.now.value _ _ c.value-number.ensures.kept.lowest_terms.den_positive
     (rw length-map c.requires)
     (fine_units c.args.q.now c.args.units.now c.in_default.ensures c.in_ok-counts.ensures.denominators)
     (begun_counts _ _ _ _ _ _ begun c.in_ok-amount.was ∙ numbered_ok _ _ c.in_ok-counts.ensures.counts)

@@ -6,12 +6,12 @@ use Rattle.units.proofs.environment.entries_law.Goals as goal
 pub returns : goal.returns
 unfolding is_utf8 chars encode_utf8
 returns c = record {
-  none = refl;
+  no_entries = refl;
   no_mark = refl;
   first_counts = refl;
   first_mark = refl;
   not_utf8 = refl;
   no_name = refl;
   empty_value = refl;
-  in_order = refl;
+  entries_in_order = refl;
 }

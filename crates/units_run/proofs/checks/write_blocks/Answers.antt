@@ -70,8 +70,8 @@ returns-then-is_empty-clause-queries g c = λ worked.
 
 pub loop-done-preserved : goal.loop-done-preserved
 loop-done-preserved g c = record {
-  later = omega (arith, c.loop-done.invariant.later, c.put_all.ensures.cause.later);
-  right = c.in-Ok.ensures.queries.right;
+  later = omega (arith, c.loop-done.invariant.later, c.put_all.ensures.cause.count_grows);
+  right = c.in-Ok.ensures.queries.is_right;
   at = underway_next c.args.options.now c.args.places.now c.args.lines.now.items (g.O.Sink.written c.args.out.now)
       c.args.table.now c.args.steps.now c.loop-done.rest.now c.loop-done.lines.items c.loop-done.any
       (g.O.Sink.written c.loop-done.out) c.loop-done.table c.loop-done.steps c.loop-done.invariant.at c.in-Ok.done

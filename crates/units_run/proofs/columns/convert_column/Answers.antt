@@ -20,7 +20,7 @@ returns-in_default-clause-told g c = λ work m input files faults now stores lat
 pub returns-clause-told : goal.returns-clause-told
 returns-clause-told g c = λ work m input files faults now stores later n q at fs.
     let before : Outside = record {
-      left = g.S.Source.left c.args.src.now;
+      input_left = g.S.Source.left c.args.src.now;
       out = g.O.Sink.written c.args.out.now;
       err = g.E.Sink.written c.args.err.now;
       files = files;
@@ -29,7 +29,7 @@ returns-clause-told g c = λ work m input files faults now stores later n q at f
       steps = n;
     } in
     let after : Outside = record {
-      left = g.S.Source.left c.run_columns-end.new.src;
+      input_left = g.S.Source.left c.run_columns-end.new.src;
       out = g.O.Sink.written c.run_columns-end.new.out;
       err = g.E.Sink.written c.put_all.new.sink;
       files = files;

@@ -12,6 +12,6 @@ returns c =
       unlike = run_by_file _ _ _ [] _ _ _ taken.letters_by_file refl refl (refuses law);
       two_definitions = run_by_file _ _ _ [] _ _ _ taken.definition_by_file refl refl defines;
       two_checks = run_by_file _ _ _ [] _ _ _ taken.check_of_file refl refl (finds keys);
-      sound = run_by_file _ _ _ [] _ _ _ taken.check_of_file refl refl (finds_none keys);
+      sound_check = run_by_file _ _ _ [] _ _ _ taken.check_of_file refl refl (finds_none keys);
       session_run = run_by_file _ _ _ _ _ _ _ taken.session_by_file refl refl talks;
     }

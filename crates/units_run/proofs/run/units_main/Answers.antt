@@ -20,7 +20,7 @@ use Rattle.units_run.proofs.PlanRuns.{done_end, long_end, may_end_stated, neithe
 use Rattle.units_run.proofs.PlanRuns.{no_session_done, no_write, none_converted, not_long, opened_run, opened_talk}
 use Rattle.units_run.proofs.PlanRuns.{plan_course, plan_end, read_end, same_le, session_may_end, session_opens}
 use Rattle.units_run.proofs.PlanRuns.{taken_may_end, takes_opens, tells_stay, unread_run, whole_run, write_end}
-use Rattle.units_run.specs.Checks.{report_of}
+use Rattle.units_run.specs.Checks.{checked_report}
 use Rattle.units_run.proofs.GrantedRuns.{granted_by}
 use Rattle.units_run.proofs.FirstOutput.{check_order, column_opening, column_order, session_opening, session_order}
 use Rattle.units_run.proofs.FirstOutput.{whole_order}
@@ -34,22 +34,22 @@ returns-in-Ok-clause-run g c =
     let kind = rw planned.field-0-is at planned.ensures.kind in
     let stated = may_end_stated _ _ _ planned.status kind.1 in
     record {
-      leaves = λ m input s q.
+      files_after = λ m input s q.
           whole_run (plan_of c.args.words.now c.args.vars.now m) m input planned.said planned.status _ _ stated
           (rw planned.field-0-is at (planned.ensures.told m (definitions_told c.args.words.now input _ m s)))
           c.in-Ok.ensures.whole.0 c.in-Ok.ensures.whole.1
           (planned.ensures.kept ∙ tells_stay _ _ m s);
-      ends = λ ends. kind.1;
-      heard = λ input q opens done.
+      stated_ending = λ ends. kind.1;
+      session_input_read = λ input q opens done.
           absurd (no_session_done _ (converts_column c.args.words.now) planned.status kind.0 opens done);
-      whole = λ input q column over.
+      column_input_read = λ input q column over.
           absurd (no_column_worked (opens_session c.args.words.now) _ planned.status kind.0 column over);
-      read = λ is. absurd (subst IsStated is stated);
-      write = λ is. absurd (subst IsStated is stated);
+      read_fault = λ is. absurd (subst IsStated is stated);
+      write_fault = λ is. absurd (subst IsStated is stated);
       too_long = λ is. absurd (subst IsStated is stated);
       complete = λ s f o e w.
           no_fault planned.status (λ is. subst IsStated is stated) (λ is. subst IsStated is stated);
-      kept = λ none. planned.ensures.kept;
+      files_unopened = λ none. planned.ensures.kept;
       stores = λ none. planned.ensures.stores;
     }
 
@@ -58,32 +58,32 @@ returns-in-Ok-Check-clause-run g c =
     let planned = c.in-Ok-Check in
     let kind = rw planned.field-0-is at planned.ensures.kind in
     let ended = c.write_check.ensures in
-    let report = report_of planned.plan in
+    let report = checked_report planned.plan in
     let unread = check_unread report c.write_check.result _ _ ended.written in
     record {
-      leaves = λ m input s q.
+      files_after = λ m input s q.
           check_run (plan_of c.args.words.now c.args.vars.now m) m input planned.plan c.write_check.result _ _ _
           (rw planned.field-0-is at (planned.ensures.told m (definitions_told c.args.words.now input _ m s)))
           ended.written ended.steps refl
           (planned.ensures.kept ∙ tells_stay _ _ m s);
-      ends = λ stated.
+      stated_ending = λ stated.
           taken_may_end _ (loads_file (command_line_of c.args.words.now)) _ false c.write_check.result kind.0
           (left_false (opens_session c.args.words.now) (converts_column c.args.words.now) kind.1)
           (worked_may_end _ c.write_check.result
           (check_worked report c.write_check.result _ _ ended.written stated));
-      heard = λ input q opens done.
+      session_input_read = λ input q opens done.
           absurd
           (not_both _ opens
           (left_false (opens_session c.args.words.now) (converts_column c.args.words.now) kind.1));
-      whole = λ input q column over.
+      column_input_read = λ input q column over.
           absurd
           (not_both _ column
           (right_false (opens_session c.args.words.now) (converts_column c.args.words.now) kind.1));
-      read = λ is. absurd (unread is);
-      write = λ is. inl (ended.write is);
+      read_fault = λ is. absurd (unread is);
+      write_fault = λ is. inl (ended.write is);
       too_long = λ is. absurd (check_short report c.write_check.result _ _ ended.written is);
       complete = λ s f o e w. no_fault c.write_check.result unread (λ is. o (ended.write is));
-      kept = λ none. planned.ensures.kept;
+      files_unopened = λ none. planned.ensures.kept;
       stores = λ none. planned.ensures.stores;
     }
 
@@ -108,7 +108,7 @@ returns-in-Ok-Opened-clause-run g c =
     subst
     (λ (n : ℕ). CountRose (g.S.Source.faults c.args.src.now) (g.S.Source.faults c.run_session-end.new.src)
     ⊎ CountRose n (g.F.Files.faults c.run_session-end.new.files))
-    opened.ensures.calm (ended.has_cause.read (read_end c.run_session-end.result (is ∙ so))) in
+    opened.ensures.calm (ended.has_cause.read_cause (read_end c.run_session-end.result (is ∙ so))) in
     let write : (c.status_of.result ≡ WriteFault → CountRose (g.O.Sink.faults c.args.out.now)
     (g.O.Sink.faults c.run_session-end.new.out)
     ⊎ CountRose (g.E.Sink.faults c.args.err.now) (g.E.Sink.faults c.run_session-end.new.err)
@@ -117,9 +117,9 @@ returns-in-Ok-Opened-clause-run g c =
     (λ (n : ℕ). CountRose (g.O.Sink.faults c.args.out.now) (g.O.Sink.faults c.run_session-end.new.out)
     ⊎ CountRose (g.E.Sink.faults c.args.err.now) (g.E.Sink.faults c.run_session-end.new.err)
     ⊎ CountRose n (g.F.Files.store_faults c.run_session-end.new.files))
-    opened.ensures.stores (ended.has_cause.write (write_end c.run_session-end.result (is ∙ so))) in
+    opened.ensures.stores (ended.has_cause.write_cause (write_end c.run_session-end.result (is ∙ so))) in
     record {
-      leaves = λ m input s q.
+      files_after = λ m input s q.
           let want = plan_of c.args.words.now c.args.vars.now m in
           let session : opens_session c.args.words.now ≡ true = kind.1 in
           let need : needs_input c.args.words.now ≡ true =
@@ -132,17 +132,17 @@ returns-in-Ok-Opened-clause-run g c =
           subst
           (λ (st : Status). IsLeftOf want (plan_course want m input) (plan_end want m input) st before after) is
           (opened_run want talk.0 m input c.run_session-end.result before after talk.1
-          (ended.told talk.0 input before (tells_needed _ _ input need q)
+          (ended.run_if_known talk.0 input before (tells_needed _ _ input need q)
           (subst (IsToldIf (any_loads_file input)) (sym opened.ensures.kept)
           (session_told c.args.words.now input _ m session s)) talk.2));
-      ends = λ stated.
+      stated_ending = λ stated.
           taken_may_end _ (loads_file (command_line_of c.args.words.now)) _ true c.status_of.result kind.0 kind.1
           (subst (MayEnd true _ true) is
           (session_may_end _ c.run_session-end.result (subst IsStated c.status_of.ensures stated)));
-      heard = λ input q need done. ended.heard input q (done_end c.run_session-end.result (is ∙ done));
-      whole = λ input q column over. absurd (no_column c.args.words.now kind.1 column);
-      read = read;
-      write = write;
+      session_input_read = λ input q need done. ended.whole_run input q (done_end c.run_session-end.result (is ∙ done));
+      column_input_read = λ input q column over. absurd (no_column c.args.words.now kind.1 column);
+      read_fault = read;
+      write_fault = write;
       too_long = λ so.
           subst
           (λ (n : ℕ). TookMoreThan n (g.S.Source.taken c.args.src.now) (g.S.Source.taken c.run_session-end.new.src))
@@ -150,7 +150,7 @@ returns-in-Ok-Opened-clause-run g c =
           (ended.has_cause.too_long (long_end c.run_session-end.result (is ∙ so)));
       complete = λ s f o e w.
           no_fault c.status_of.result (λ so. neither s f (read so)) (λ so. neither o (neither e w) (write so));
-      kept = λ none. absurd (opens none);
+      files_unopened = λ none. absurd (opens none);
       stores = λ none. absurd (opens none);
     }
 
@@ -160,7 +160,7 @@ returns-in-Ok-Columns-clause-run g c =
     let is_for = rw columns.field-0-is at columns.ensures.kind in
     let ended = c.convert_column.ensures in
     record {
-      leaves = λ m input s q.
+      files_after = λ m input s q.
           let want = plan_of c.args.words.now c.args.vars.now m in
           let need : needs_input c.args.words.now ≡ true =
           ap (λ (b : Bool). opens_session c.args.words.now || b) is_for.1
@@ -174,21 +174,21 @@ returns-in-Ok-Columns-clause-run g c =
           (g.F.Files.faults c.args.files.now) (g.F.Files.faults c.make_plan.new.files)
           (g.F.Files.store_faults c.args.files.now) (g.F.Files.store_faults c.make_plan.new.files) c.args.steps.now
           (tells_needed _ _ input need q) column.2 (tells_stay _ _ m s));
-      ends = λ stated.
+      stated_ending = λ stated.
           taken_may_end _ (loads_file (command_line_of c.args.words.now)) _ false c.convert_column.result is_for.0
           (false_by _ (λ opens. no_column c.args.words.now opens is_for.1))
           (worked_may_end _ c.convert_column.result (ended.ends stated));
-      heard = λ input q opens done. absurd (no_column c.args.words.now opens is_for.1);
-      whole = λ input q column over. ended.whole input q over;
-      read = λ so. inl (ended.read so);
-      write = λ so. of_two (ended.write so);
+      session_input_read = λ input q opens done. absurd (no_column c.args.words.now opens is_for.1);
+      column_input_read = λ input q column over. ended.whole input q over;
+      read_fault = λ so. inl (ended.read so);
+      write_fault = λ so. of_two (ended.write so);
       too_long = λ so.
           subst
           (λ (n : ℕ). TookMoreThan n (g.S.Source.taken c.args.src.now) (g.S.Source.taken c.convert_column.new.src))
           (column_most c.args.words.now is_for.1) (ended.too_long so);
       complete = λ s f o e w.
           no_fault c.convert_column.result (λ so. s (ended.read so)) (λ so. neither o e (ended.write so));
-      kept = λ none. columns.ensures.kept;
+      files_unopened = λ none. columns.ensures.kept;
       stores = λ none. columns.ensures.stores;
     }
 
@@ -234,52 +234,52 @@ pub returns-in-Err-ReadFault-clause-run : goal.returns-in-Err-ReadFault-clause-r
 returns-in-Err-ReadFault-clause-run g c =
     let rose = c.make_plan.ensures.cause (c.in-Err-ReadFault.is ∙ ap Err c.in-Err-ReadFault.field-0-is) in
     record {
-      leaves = λ m input s q.
+      files_after = λ m input s q.
           unread_run (plan_of c.args.words.now c.args.vars.now m) m input _ _
           (plan_sees c.args.words.now c.args.vars.now m) refl refl (c.make_plan.ensures.kept ∙ tells_stay _ _ m s) rose;
-      ends = λ stated. absurd stated;
-      heard = λ input q opens done. cc;
-      whole = λ input q column over. absurd over;
-      read = λ is. inr rose;
-      write = λ is. absurd (no_write is);
+      stated_ending = λ stated. absurd stated;
+      session_input_read = λ input q opens done. cc;
+      column_input_read = λ input q column over. absurd over;
+      read_fault = λ is. inr rose;
+      write_fault = λ is. absurd (no_write is);
       too_long = λ is. absurd (not_long is);
       complete = λ s f o e w. absurd (f rose);
-      kept = λ none. c.make_plan.ensures.kept;
+      files_unopened = λ none. c.make_plan.ensures.kept;
       stores = λ none. c.make_plan.ensures.stores;
     }
 
 pub returns-clause-run : goal.returns-clause-run
 returns-clause-run g c = record {
-  leaves = λ m input s q.
+  files_after = λ m input s q.
       unmade_run (plan_of c.args.words.now c.args.vars.now m) m input _ _
       (plan_sees c.args.words.now c.args.vars.now m) refl refl (c.make_plan.ensures.kept ∙ tells_stay _ _ m s);
-  ends = λ stated. absurd stated;
-  heard = λ input q opens done. absurd (memory_done done);
-  whole = λ input q column over. absurd over;
-  read = λ is. absurd (memory_read is);
-  write = λ is. absurd (memory_write is);
+  stated_ending = λ stated. absurd stated;
+  session_input_read = λ input q opens done. absurd (memory_done done);
+  column_input_read = λ input q column over. absurd over;
+  read_fault = λ is. absurd (memory_read is);
+  write_fault = λ is. absurd (memory_write is);
   too_long = λ is. absurd (memory_long is);
   complete = λ s f o e w. tt;
-  kept = λ none. c.make_plan.ensures.kept;
+  files_unopened = λ none. c.make_plan.ensures.kept;
   stores = λ none. c.make_plan.ensures.stores;
 }
 
 pub returns-in-Ok-Whole-clause-run : goal.returns-in-Ok-Whole-clause-run
 returns-in-Ok-Whole-clause-run g c =
     let planned = c.in-Ok-Whole in record {
-      leaves = λ m input s q.
+      files_after = λ m input s q.
           cut_run (plan_of c.args.words.now c.args.vars.now m) m input planned.said planned.status _ _
           (rw planned.field-0-is at (planned.ensures.told m (definitions_told c.args.words.now input _ m s)))
           c.write.ensures.out c.write.ensures.err
           (planned.ensures.kept ∙ tells_stay _ _ m s);
-      ends = λ stated. absurd stated;
-      heard = λ input q opens done. cc;
-      whole = λ input q column over. absurd over;
-      read = λ is. cc;
-      write = λ is. of_two c.in-Err.ensures.cause;
+      stated_ending = λ stated. absurd stated;
+      session_input_read = λ input q opens done. cc;
+      column_input_read = λ input q column over. absurd over;
+      read_fault = λ is. cc;
+      write_fault = λ is. of_two c.in-Err.ensures.cause;
       too_long = λ is. cc;
       complete = λ s f o e w. absurd (neither o e c.in-Err.ensures.cause);
-      kept = λ none. planned.ensures.kept;
+      files_unopened = λ none. planned.ensures.kept;
       stores = λ none. planned.ensures.stores;
     }
 

@@ -3,11 +3,11 @@ use Rattle.expr_tree.specs.Trees.{factors_of, factors_syntax, members, syntax, t
 use Rattle.value_sources.proofs.Weights.{weight, weight_factors, weight_members, weight_terms}
 use Rattle.units_why.proofs.substitution.+substitute.Given as goal
 
-abbrev pub decreases-substituted : goal.decreases-substituted
-decreases-substituted l = 2 * weight (syntax l.tree.now)
+abbrev pub decreases-substitute_tree : goal.decreases-substitute_tree
+decreases-substitute_tree l = 2 * weight (syntax l.tree.now)
 
-abbrev pub decreases-boxed : goal.decreases-boxed
-decreases-boxed l = 2 * weight (syntax l.tree.now) + 1
+abbrev pub decreases-substitute_box : goal.decreases-substitute_box
+decreases-substitute_box l = 2 * weight (syntax l.tree.now) + 1
 
 abbrev pub decreases-trees_with : goal.decreases-trees_with
 decreases-trees_with l = 2 * weight_members (members (trees_of l.trees.now)) + 1

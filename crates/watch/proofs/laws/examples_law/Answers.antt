@@ -4,4 +4,11 @@ use Rattle.watch.proofs.laws.examples_law.Goals as goal
 
 pub returns : goal.returns
 unfolding digits
-returns c = record { none = refl; no_news = refl; first = refl; second = refl; both = refl }
+returns c = record {
+  no_changes = refl;
+  no_news = refl;
+  first_changed = refl;
+  second_changed = refl;
+  both_changed =
+      refl;
+}

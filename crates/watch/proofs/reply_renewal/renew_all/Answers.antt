@@ -7,7 +7,7 @@ use Rattle.deck.specs.Tables.{table}
 use Rattle.live_table.specs.Calls.{AreQueries}
 use Rattle.live_table.specs.TableView.{IsAfterEvents, IsCutOff}
 use Rattle.watch.specs.Calls.{IsPartlyRenewed}
-use Rattle.watch.specs.Changes.{report_of}
+use Rattle.watch.specs.Changes.{change_report}
 use Rattle.watch.specs.WatchViews.{all_queries, change_of, queries_of, subject_of, with_current_reply}
 use Rattle.watch.specs.declared.watch.Watch.{Watch}
 use Rattle.watch.proofs.QuerySequences.{asked-cut, asked-next}
@@ -31,7 +31,7 @@ loop-place-preserved g c =
           (subst (λ (d : Contents). c.renew.new.watch ≡ with_current_reply (table d) options w) asked.deck
           c.in_ok-renew.ensures.renewed)
           (subst (λ (d : Contents). c.renew.new.told.items
-          ≡ c.loop-place.told.items ++ report_of (place + 1) (change_of (table d) options w)) asked.deck
+          ≡ c.loop-place.told.items ++ change_report (place + 1) (change_of (table d) options w)) asked.deck
           c.in_ok-renew.ensures.told),
       asked-next (λ (v : Watch). queries_of (table start) options (subject_of v)) watches place c.args.table.now
           c.loop-place.table c.args.steps.now c.loop-place.steps asked w w (omega arith)

@@ -1,18 +1,18 @@
 use Rattle.deck.specs.Tables.{table}
-use Rattle.reply.proofs.Runs.{made}
+use Rattle.reply.proofs.Runs.{queries_made}
 use Rattle.watch.specs.WatchViews.{queries_of, watch_subject}
 use Rattle.watch.proofs.watch.watch_on.Goals as goal
 
 pub returns-in_err-from-clause-queries : goal.returns-in_err-from-clause-queries
 returns-in_err-from-clause-queries g c =
-    made c.from_residual-in_err-from.result
+    queries_made c.from_residual-in_err-from.result
     (queries_of (table c.args.table.now.deck) c.args.options.now (watch_subject c.args.from.now c.args.to.now))
     c.args.table.now c.reply_bytes.new.table c.args.steps.now c.reply_bytes.new.steps
     c.in_ok-reply.ensures.deck c.in_ok-reply.ensures.queries
 
 pub returns-in_err-to-clause-queries : goal.returns-in_err-to-clause-queries
 returns-in_err-to-clause-queries g c =
-    made c.from_residual-in_err-to.result
+    queries_made c.from_residual-in_err-to.result
     (queries_of (table c.args.table.now.deck) c.args.options.now (watch_subject c.args.from.now c.args.to.now))
     c.args.table.now c.reply_bytes.new.table c.args.steps.now c.reply_bytes.new.steps
     c.in_ok-reply.ensures.deck c.in_ok-reply.ensures.queries

@@ -1,7 +1,7 @@
 use Rattle.std.proofs.Common.{◌≡◌, ◌++◌, ◌≤◌, length}
 use Rattle.deck.specs.Tables.{table}
 use Rattle.name_lookup.specs.Candidates.{prefix_candidates, prefix_candidates_within}
-use Rattle.word_readings.specs.Readings.{present, readings_keys}
+use Rattle.word_readings.specs.Readings.{readings_keys, readings_present}
 use Rattle.word_readings.proofs.readings.put_with_prefixes.Given as goal
 
 -- the readings so far, followed by those of the prefixes that are left, are the readings of all prefixes
@@ -9,8 +9,8 @@ abbrev pub invariant-loop-len : goal.invariant-loop-len
 invariant-loop-len l = record {
   within : l.len ≤ length l.word;
   readings : readings_keys l.readings.items
-      ++ present (table l.deck) (prefix_candidates_within l.len l.word)
-      ≡ readings_keys l.initial.readings.items ++ present (table l.deck) (prefix_candidates l.word);
+      ++ readings_present (table l.deck) (prefix_candidates_within l.len l.word)
+      ≡ readings_keys l.initial.readings.items ++ readings_present (table l.deck) (prefix_candidates l.word);
 }
 
 abbrev pub decreases-loop-len : goal.decreases-loop-len

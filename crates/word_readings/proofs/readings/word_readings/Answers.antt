@@ -3,7 +3,7 @@ use Rattle.std.specs.List.{flat_map}
 use Rattle.deck.specs.Tables.{table}
 use Rattle.name_lookup.specs.Candidates.{singular_candidates}
 use Rattle.name_lookup.specs.Plurals.{has_ending, without_end}
-use Rattle.word_readings.specs.Readings.{present, readings_keys}
+use Rattle.word_readings.specs.Readings.{readings_keys, readings_present}
 use Rattle.word_readings.proofs.Present.{all_of}
 use Rattle.word_readings.proofs.readings.word_readings.Goals as goal
 
@@ -18,5 +18,5 @@ returns c =
     (readings_keys c.put_without-2.new.readings.items) (readings_keys c.put_with_y.new.readings.items)
     (readings_keys c.put_with_prefixes.new.readings.items)
     (c.in_ok-put_without.ensures
-    ∙ ap (λ xs. readings_keys xs ++ present t (flat_map singular_candidates s)) c.new-readings.ensures.items)
+    ∙ ap (λ xs. readings_keys xs ++ readings_present t (flat_map singular_candidates s)) c.new-readings.ensures.items)
     c.in_ok-put_without-2.ensures c.in_ok-put_with_y.ensures c.in_ok-put_with_prefixes.ensures

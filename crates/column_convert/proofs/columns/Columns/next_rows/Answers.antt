@@ -5,14 +5,15 @@ use Rattle.def_lines.specs.Blanks.{trim_of}
 use Rattle.deck.specs.Tables.{table}
 use Rattle.live_table.specs.States.{Event}
 use Rattle.live_table.specs.TableView.{IsAfterEvents}
-use Rattle.reply.proofs.Runs.{made}
+use Rattle.reply.proofs.Runs.{queries_made}
 use Rattle.column_convert.specs.Inputs.{Input}
 use Rattle.column_convert.specs.Blocks.{block_of}
 use Rattle.column_convert.specs.Rows.{ColumnRow, next_row}
 use Rattle.column_convert.specs.RecordWriter.{IsNextWritten, text_in}
 use Rattle.column_convert.proofs.AnyLength.{appended}
 use Rattle.column_convert.proofs.CutQueries.{not_all}
-use Rattle.column_convert.proofs.Blocks.{IsUnderway, block_is, ended, failed, follows_ended, full, none_there}
+use Rattle.column_convert.proofs.Blocks.{IsUnderway, block_is, failed, follows_ended, none_there, rows_at_end}
+use Rattle.column_convert.proofs.Blocks.{rows_when_full}
 use Rattle.column_convert.proofs.Blocks.{row_there}
 use Rattle.column_convert.proofs.Blocks.{underway_next, underway_start, whatever}
 use Rattle.column_convert.proofs.KnownCells.{nothing_known}
@@ -21,8 +22,8 @@ use Rattle.column_convert.proofs.columns.Columns.next_rows.Goals as goal
 pub loop-count-init : goal.loop-count-init
 loop-count-init g c = record {
   ready = record {
-    idle = c.new_writer.ensures.idle;
-    known = nothing_known c.args.table.now (trim_of c.args.from.now) c.args.to.now c.new.result c.new.ensures;
+    writer_idle = c.new_writer.ensures.idle;
+    memory_right = nothing_known c.args.table.now (trim_of c.args.from.now) c.args.to.now c.new.result c.new.ensures;
   };
   at = underway_start c.args.options.now c.args.from.now c.args.to.now c.args.self.now c.args.most c.args.table.now
       c.args.steps.now
@@ -49,7 +50,7 @@ returns-in_default-clause-left g c =
     c.in_default.is c.in_ok-refused.ensures.row) in
     whatever c.close_draft.result
     (c.in_ok-refused.ensures.left
-    ∙ sym (ended c.args.options.now c.args.from.now c.args.to.now c.args.self.now c.args.most c.args.table.now
+    ∙ sym (rows_at_end c.args.options.now c.args.from.now c.args.to.now c.args.self.now c.args.most c.args.table.now
     c.args.steps.now
     c.loop-count.self c.loop-count.count c.loop-count.any (text_in c.loop-count.draft.writer) c.loop-count.table
     c.loop-count.steps u none.0).1)
@@ -61,7 +62,7 @@ returns-in_default-clause-queries g c =
     (λ (r : Option Bool). IsNextWritten c.loop-count.draft.writer c.write_next.new.draft.writer r
     (next_row (table c.loop-count.table.deck) c.args.options.now c.args.from.now c.args.to.now c.loop-count.self))
     c.in_default.is c.in_ok-refused.ensures.row) in
-    made c.close_draft.result _ c.args.table.now c.write_next.new.table c.args.steps.now c.write_next.new.steps
+    queries_made c.close_draft.result _ c.args.table.now c.write_next.new.table c.args.steps.now c.write_next.new.steps
     (c.write_next.ensures.deck ∙ u.deck)
     (follows_ended c.args.options.now c.args.from.now c.args.to.now c.args.self.now c.args.most c.args.table.now
     c.args.steps.now
@@ -91,14 +92,14 @@ loop-count-preserved g c =
           (c.either-any.ensures ∙ ap (λ (b : Bool). c.loop-count.any || b) one.2.refused_is)
           (text_in c.write_next.new.draft.writer)
           (appended (text_in c.loop-count.draft.writer) (text_in c.write_next.new.draft.writer) _ one.0.text u.text_is
-          one.2.text));
+          one.2.appends_text));
     }
 
 pub returns-clause-left : goal.returns-clause-left
 returns-clause-left g c =
     let u = c.loop-count.invariant.at in
     whatever c.close_draft-2.result
-    (sym (full c.args.options.now c.args.from.now c.args.to.now c.args.self.now c.args.most c.args.table.now
+    (sym (rows_when_full c.args.options.now c.args.from.now c.args.to.now c.args.self.now c.args.most c.args.table.now
     c.args.steps.now
     c.loop-count.self c.loop-count.count c.loop-count.any (text_in c.loop-count.draft.writer) c.loop-count.table
     c.loop-count.steps u (omega (arith, c.loop-count-test.false))).2)
@@ -106,10 +107,10 @@ returns-clause-left g c =
 pub returns-clause-queries : goal.returns-clause-queries
 returns-clause-queries g c =
     let u = c.loop-count.invariant.at in
-    made c.close_draft-2.result _ c.args.table.now c.loop-count.table c.args.steps.now c.loop-count.steps u.deck
+    queries_made c.close_draft-2.result _ c.args.table.now c.loop-count.table c.args.steps.now c.loop-count.steps u.deck
     (subst (λ (es : List Event). IsAfterEvents es c.args.table.now c.loop-count.table c.args.steps.now
     c.loop-count.steps)
-    (sym (full c.args.options.now c.args.from.now c.args.to.now c.args.self.now c.args.most c.args.table.now
+    (sym (rows_when_full c.args.options.now c.args.from.now c.args.to.now c.args.self.now c.args.most c.args.table.now
     c.args.steps.now
     c.loop-count.self c.loop-count.count c.loop-count.any (text_in c.loop-count.draft.writer) c.loop-count.table
     c.loop-count.steps u (omega (arith, c.loop-count-test.false))).1)
@@ -123,7 +124,7 @@ returns-in_default-clause-block g c =
     (next_row (table c.loop-count.table.deck) c.args.options.now c.args.from.now c.args.to.now c.loop-count.self))
     c.in_default.is c.in_ok-refused.ensures.row) in
     subst (λ (rs : List ColumnRow). IfOk c.close_draft.result (λ block. block ≡ block_of rs))
-    (sym (ended c.args.options.now c.args.from.now c.args.to.now c.args.self.now c.args.most c.args.table.now
+    (sym (rows_at_end c.args.options.now c.args.from.now c.args.to.now c.args.self.now c.args.most c.args.table.now
     c.args.steps.now
     c.loop-count.self c.loop-count.count c.loop-count.any (text_in c.loop-count.draft.writer) c.loop-count.table
     c.loop-count.steps u none.0).0)
@@ -134,7 +135,7 @@ pub returns-clause-block : goal.returns-clause-block
 returns-clause-block g c =
     let u = c.loop-count.invariant.at in
     subst (λ (rs : List ColumnRow). IfOk c.close_draft-2.result (λ block. block ≡ block_of rs))
-    (sym (full c.args.options.now c.args.from.now c.args.to.now c.args.self.now c.args.most c.args.table.now
+    (sym (rows_when_full c.args.options.now c.args.from.now c.args.to.now c.args.self.now c.args.most c.args.table.now
     c.args.steps.now
     c.loop-count.self c.loop-count.count c.loop-count.any (text_in c.loop-count.draft.writer) c.loop-count.table
     c.loop-count.steps u

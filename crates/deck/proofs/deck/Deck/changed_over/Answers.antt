@@ -6,7 +6,7 @@ use Rattle.def_entry.specs.Entries.{Entry}
 use Rattle.def_entry.specs.Keys.{key}
 use Rattle.def_entry.specs.Views.{entry_view}
 use Rattle.deck_lines.specs.Marks.{plain_line}
-use Rattle.deck_lines.proofs.Entries.{reads}
+use Rattle.deck_lines.proofs.Entries.{entry_of_text}
 use Rattle.deck.specs.Changes.{IsChange}
 use Rattle.deck.specs.Edits.{with_line}
 use Rattle.deck.specs.Tables.{active_definitions, entry_at, last_place, table}
@@ -50,7 +50,8 @@ returns-then-eq-clause-changed c = λ closed defines.
     ∙ c.text-2.ensures in
     let line = from_line d.lines (active_definitions d.settings d.lines) (in_place d.settings d.lines) k f had in
     let same : f ≡ e =
-    same_text c.same_text_law.ensures k f e line.0 text line.1 (reads (plain_line 0 text) (k, e) defines) texts in
+    same_text c.same_text_law.ensures k f e line.0 text line.1 (entry_of_text (plain_line 0 text) (k, e) defines) texts
+    in
     subst (IsChange d (with_line text d)) (sym c.new.ensures)
     (changed_none d closed text k e defines (had ∙ ap Some same))
 

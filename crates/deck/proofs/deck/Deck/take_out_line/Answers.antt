@@ -9,9 +9,10 @@ use Rattle.deck.proofs.deck.Deck.take_out_line.Goals as goal
 
 pub line-requires-clause-inside : goal.line-requires-clause-inside
 line-requires-clause-inside c =
-    let lines : c.self.inside.store.lines ≡ c.requires.front ++ c.requires.line ∷ [] =
+    let lines : c.self.inside.store.lines ≡ c.requires.lines_before ++ c.requires.line ∷ [] =
     ap (λ (d : Contents). d.lines) c.self.view_is ∙ c.requires.lines in
-    let last : c.len-place.result - 1 ≡ length c.requires.front = last_at c.self.inside.store.lines c.requires.front
+    let last : c.len-place.result - 1 ≡ length c.requires.lines_before =
+    last_at c.self.inside.store.lines c.requires.lines_before
     c.requires.line c.len-place.result lines c.len-place.ensures.count in
     omega (
       arith,
@@ -20,7 +21,7 @@ line-requires-clause-inside c =
       ap length c.marked.ensures.lines,
       last,
       marks_len c.marked.result.lines.now c.marked.result.marks.now c.marked.ensures.each,
-      length-append c.requires.front (c.requires.line ∷ []),
+      length-append c.requires.lines_before (c.requires.line ∷ []),
     )
 
 pub restore-requires : goal.restore-requires

@@ -26,4 +26,4 @@ returns-clause-indexed c =
     indexed_again c.args.store.now c.renumber.new.self (names_after c.in_ok-numbers.numbers) c.without_change.result
     c.in_ok-numbers.ensures.names c.renumber.ensures c.without_change.ensures.is c.args.settings.now
     c.as_slice.result.now (c.as_slice.ensures.value ∙ c.in_ok-flags.ensures) c.note_lines.new.self
-    c.requires.closed c.note_lines.ensures
+    c.requires.blocks_closed c.note_lines.ensures

@@ -8,6 +8,6 @@ use Rattle.deck.proofs.deck.placed_keys.in_order.Goals as goal
 pub returns-clause-sorted : goal.returns-clause-sorted
 returns-clause-sorted c = λ law.
     c.sort_unstable_by.ensures.sorted (λ x y. is_lt (key_cmp (placed_key x) (placed_key y)))
-    (ranks_by law.total placed_key)
+    (ranks_by law.total_order placed_key)
     (answers_always _ (λ a r. is_lt r ≡ is_lt (key_cmp (placed_key a.0.now) (placed_key a.1.0.now))) _
     (λ f a r q k. search rules))

@@ -51,9 +51,9 @@ returns-clause-last c =
     let edit : c.with_exchange-edited.result ≡ as_edited s c.args.store.now.lines store.names =
     c.with_exchange-edited.ensures
     ∙ ap (λ (ls : List DeckLine). record (as_edited s store.lines store.names)
-    { after = exchanged_lines s.at s.cut ls store.lines }) c.as_slice-put.ensures
+    { new_lines = exchanged_lines s.at s.cut ls store.lines }) c.as_slice-put.ensures
     ∙ ap (λ (ls : List DeckLine). as_edited s ls store.names) c.read.ensures.lines in
-    subst (λ (e : StoreEdit). AreLast e.names (active_definitions s.settings e.after) c.in_ok-now.now) edit
+    subst (λ (e : StoreEdit). AreLast e.names (active_definitions s.settings e.new_lines) c.in_ok-now.now) edit
     c.in_ok-now.ensures
 
 pub returns-clause-keys : goal.returns-clause-keys
@@ -64,16 +64,16 @@ returns-clause-keys c =
     let edit : c.with_exchange-edited.result ≡ as_edited s old.lines store.names =
     c.with_exchange-edited.ensures
     ∙ ap (λ (ls : List DeckLine). record (as_edited s store.lines store.names)
-    { after = exchanged_lines s.at s.cut ls store.lines }) c.as_slice-put.ensures
+    { new_lines = exchanged_lines s.at s.cut ls store.lines }) c.as_slice-put.ensures
     ∙ ap (λ (ls : List DeckLine). as_edited s ls store.names) c.read.ensures.lines in
     let indexed = indexed_read old store c.args.settings.now c.args.last.now c.read.ensures.before c.read.ensures.after
     c.read.ensures.lines c.read.ensures.extended c.requires.indexed in
-    subst (λ (e : StoreEdit). (ds es : Definitions) → AreInPlace e.before ds → AreInPlace e.after es
+    subst (λ (e : StoreEdit). (ds es : Definitions) → AreInPlace e.old_lines ds → AreInPlace e.new_lines es
     → AreLast e.names ds c.args.last.now → AreLast e.names es c.in_ok-now.now
     → IsTableChange (table_of ds) (table_of es) c.in_ok-keys.keys) edit c.in_ok-keys.ensures
     (active_definitions c.args.settings.now old.lines) (active_definitions s.settings (spliced_lines s old.lines))
     (in_place c.args.settings.now old.lines) (in_place s.settings (spliced_lines s old.lines))
     (subst (λ (ls : List DeckLine). AreLast store.names (active_definitions c.args.settings.now ls) c.args.last.now)
     c.read.ensures.lines indexed.places)
-    (subst (λ (e : StoreEdit). AreLast e.names (active_definitions s.settings e.after) c.in_ok-now.now) edit
+    (subst (λ (e : StoreEdit). AreLast e.names (active_definitions s.settings e.new_lines) c.in_ok-now.now) edit
     c.in_ok-now.ensures)

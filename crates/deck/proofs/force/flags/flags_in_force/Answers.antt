@@ -12,7 +12,7 @@ line-line-requires c = omega (arith, c.loop-place-test.true, c.len-place-end.ens
 pub loop-place-preserved : goal.loop-place-preserved
 loop-place-preserved c =
     let locale = c.locale-locale.result.now in
-    let lines : List DeckLine = c.args.edited.now.after in
+    let lines : List DeckLine = c.args.edited.now.new_lines in
     let line : DeckLine =
     record {
       number = c.line-line.result.number;
@@ -31,7 +31,7 @@ loop-place-preserved c =
 
 pub returns : goal.returns
 returns c =
-    let lines : List DeckLine = c.args.edited.now.after in
+    let lines : List DeckLine = c.args.edited.now.new_lines in
     sym (append-nil c.loop-place.flags.items)
     ∙ ap (λ ls. c.loop-place.flags.items ++ activity c.locale-locale.result.now c.loop-place.around ls)
     (sym (drop_all c.loop-place.place lines (omega (arith, c.loop-place-test.false, c.len-place-end.ensures))))

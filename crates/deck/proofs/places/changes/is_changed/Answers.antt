@@ -11,7 +11,7 @@ on_true false e h = cc
 
 pub returns-then-is_one_line : goal.returns-then-is_one_line
 returns-then-is_one_line c =
-    let before = entry_there c.args.edited.now.before c.args.before in
+    let before = entry_there c.args.edited.now.old_lines c.args.before in
     sym (ap (λ e. not (is_same_entry before e))
     (on_true c.is_one_line.result c.if-is_one_line.true c.is_one_line.ensures)
     ∙ ap not (entry_itself before))

@@ -5,5 +5,5 @@ use Rattle.deck.proofs.places.pass.note_line.Goals as goal
 pub returns-in-Some-clause-last : goal.returns-in-Some-clause-last
 returns-in-Some-clause-last c = λ ds before.
     last_noted c.args.edited.now.names c.in-Some.ensures.numbering.unique ds c.in-Some.n c.args.place c.args.active
-    (definition_at c.args.edited.now.after c.args.place)
+    (definition_at c.args.edited.now.new_lines c.args.place)
     c.args.last.now c.put.new.self c.if-not-active.false c.requires before c.in-Some.ensures.number c.put.ensures

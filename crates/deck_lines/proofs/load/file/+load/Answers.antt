@@ -27,8 +27,8 @@ load_file-loop-blocks-init g t c = record {
   counted = refl;
   leads = record {
     lines = [];
-    put = sym (with_lines-nil c.args.draft.now.store);
-    leads = ap (λ blocks. Some (endings (reverse blocks))) (sym c.new-blocks.ensures.items);
+    lines_put = sym (with_lines-nil c.args.draft.now.store);
+    blocks_lead = ap (λ blocks. Some (endings (reverse blocks))) (sym c.new-blocks.ensures.items);
   };
   read = λ m h.
       ap (λ blocks. draft_with_excerpt c.args.draft.now

@@ -3,7 +3,7 @@ use Rattle.edge_links.specs.Edges.{EdgeGraph}
 use Rattle.edge_links.specs.Once.{ClearsEachOnce}
 use Rattle.edge_links.specs.Reach.{IsAffectedNode, AreMarksCleared, Forgets}
 use Rattle.edge_links.specs.PlaceView.{edges_below}
-use Rattle.edge_links.proofs.Forgotten.{links_after, forgets, spare_after, cleared, once}
+use Rattle.edge_links.proofs.Forgotten.{links_after, forgets, spare_after, cleared, clears_each_node}
 use Rattle.edge_links.proofs.links.Links.unsettle.Goals as goal
 
 pub invariant_of-self : goal.invariant_of-self
@@ -48,7 +48,8 @@ returns-clause-once g c =
     let there = subst (λ (x : EdgeGraph). c.args.key < x.nodes) (sym c.self.view_is) c.requires in
     subst (λ (x : EdgeGraph). ClearsEachOnce g.K.Marks.is_call (IsAffectedNode x.edges c.args.key) c.args.marks.now
     c.unsettle.new.marks) c.self.view_is
-    (once c.self.inside.places c.unsettle.ensures.edges c.self.inside.nodes.items c.self.invariant c.args.key there
+    (clears_each_node c.self.inside.places c.unsettle.ensures.edges c.self.inside.nodes.items c.self.invariant
+    c.args.key there
     c.index-place.result.now c.index-place.ensures
     c.unsettle.new.self c.unsettle.ensures.size c.unsettle.ensures.names c.unsettle.ensures.cut
     c.unsettle.ensures.idle

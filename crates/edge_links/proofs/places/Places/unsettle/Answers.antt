@@ -6,7 +6,8 @@ use Rattle.edge_links.specs.Owners.{Owners, Waits, owned_count}
 use Rattle.edge_links.specs.PlaceReach.{IsEdgeOfAffected}
 use Rattle.edge_links.proofs.OwnedCounts.{owned_le}
 use Rattle.edge_links.proofs.WaitingPlaces.{waiting_set}
-use Rattle.edge_links.proofs.Unsettle.{IsUnsettling, step, begin, all_cut, all_cleared, all_kept, all_once}
+use Rattle.edge_links.proofs.Unsettle.{IsUnsettling, unsettling_goes_on, unsettling_starts, all_cut, all_cleared}
+use Rattle.edge_links.proofs.Unsettle.{all_kept, all_once}
 use Rattle.edge_links.proofs.places.Places.unsettle.Goals as goal
 use Rattle.edge_links.specs.WaitingStack.{waiting_count}
 
@@ -15,7 +16,7 @@ loop-place-init g c =
     let users : c.wait.new.self.users ≡ c.args.self.now.users = ap (λ (s : Owners). s.users) c.wait.ensures.rest in
     let keys : c.wait.new.self.keys ≡ c.args.self.now.keys = ap (λ (s : Owners). s.keys) c.wait.ensures.rest in
     record {
-      unsettling = begin c.args.self.now c.wait.ensures.was c.args.key
+      unsettling = unsettling_starts c.args.self.now c.wait.ensures.was c.args.key
           (λ x. get_or c.args.self.now.names x 0) c.wait.new.self
           (g.K.Marks.is_marked c.args.marks.now)
           (λ nodes. Clears g.K.Marks.is_call nodes c.args.marks.now c.args.marks.now) no_call c.requires.idle
@@ -40,7 +41,7 @@ loop-place-preserved g c =
     let names : c.take.new.self.names ≡ c.args.self.now.names = ap (λ (s : Owners). s.names) t.2
     ∙ c.loop-place.invariant.names in
     record {
-      unsettling = step c.args.self.now c.wait.ensures.was c.args.key
+      unsettling = unsettling_goes_on c.args.self.now c.wait.ensures.was c.args.key
           (λ x. get_or c.args.self.now.names x 0) c.loop-place.self
           c.take.new.self c.cut_users.new.self c.cut_keys.new.self c.in-Some.place
           (g.K.Marks.is_marked c.args.marks.now) (g.K.Marks.is_marked c.loop-place.marks)
@@ -145,4 +146,4 @@ returns-clause-once g c =
     (g.K.Marks.is_marked c.args.marks.now) (g.K.Marks.is_marked c.loop-place.marks)
     (λ nodes. Clears g.K.Marks.is_call nodes c.args.marks.now c.loop-place.marks)
     c.loop-place.invariant.unsettling c.in_default.ensures.taken.0 in
-    record { places = r.0; apart = r.1; marks_affected = r.2; calls = r.3 }
+    record { places = r.0; apart = r.1; marks_affected = r.2; clears_by_calls = r.3 }

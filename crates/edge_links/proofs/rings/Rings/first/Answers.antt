@@ -3,7 +3,7 @@ use Rattle.edge_links.specs.declared.slots.Side.{Side}
 use Rattle.edge_links.specs.Columns.{Columns, ring_of}
 use Rattle.edge_links.specs.RingInvariants.{AreLinked}
 use Rattle.edge_links.specs.Owners.{Owners, owners, owners_of}
-use Rattle.edge_links.proofs.RingLeaves.{alone}
+use Rattle.edge_links.proofs.RingLeaves.{lone_member}
 use Rattle.edge_links.proofs.ColumnChanges.{rings_at}
 use Rattle.edge_links.proofs.Moves.{same_owners}
 use Rattle.edge_links.proofs.rings.Rings.first.Goals as goal
@@ -14,7 +14,7 @@ none : (side : Side) (c : Columns) (top : Option ℕ) (now : Owners) (h p : ℕ)
 none side c top now h p linked v l r e q m o =
     let same = same_owners side c now v in
     let are = rings_at side c top linked in
-    alone (length (ring_of side c).owner) (λ k. get_or (ring_of side c).next k 0)
+    lone_member (length (ring_of side c).owner) (λ k. get_or (ring_of side c).next k 0)
     (λ k. get_or (ring_of side c).prev k 0)
     (λ k. get_or (ring_of side c).owner k 0) are.ring h q
     (subst (λ xs. h < length xs) same l) (sym r ∙ e) (subst (λ xs. q < length xs) same m)

@@ -12,14 +12,14 @@ pub behind-self-inside-requires : goal.behind-self-inside-requires
 behind-self-inside-requires c =
     let p =
     top_there c.self.inside.slots.waits c.self.inside.slots.behind c.self.inside.last_waiting c.in-Some.place
-    c.self.invariant.waiting c.in-Some.is in
+    c.self.invariant.waiting_stack c.in-Some.is in
     subst (λ n. c.in-Some.place < n) c.self.invariant.waits_size p.1
 
 pub set_waits-requires : goal.set_waits-requires
 set_waits-requires c =
     let p =
     top_there c.self.inside.slots.waits c.self.inside.slots.behind c.self.inside.last_waiting c.in-Some.place
-    c.self.invariant.waiting c.in-Some.is in
+    c.self.invariant.waiting_stack c.in-Some.is in
     subst (λ n. c.in-Some.place < n) c.self.invariant.waits_size p.1
 
 pub invariant_of-self : goal.invariant_of-self
@@ -27,7 +27,7 @@ invariant_of-self c =
     let slots : Columns = c.self.inside.slots in
     let p =
     popped slots.waits slots.behind c.self.inside.last_waiting c.in-Some.place c.behind-self-inside.result
-    c.self.invariant.waiting
+    c.self.invariant.waiting_stack
     c.in-Some.is c.behind-self-inside.ensures in
     subst (λ (x : Columns). AreLinked x c.behind-self-inside.result) (sym c.set_waits.ensures)
     (rewaiting slots c.self.inside.last_waiting c.behind-self-inside.result
@@ -39,7 +39,7 @@ returns-in-None c = (
   λ x. subst (λ (s : Owners). get_or s.waits x false ≡ false) c.self.view_is
       (nothing c.self.inside.slots.waits c.self.inside.slots.behind x
       (subst (λ t. AreWaiting c.self.inside.slots.waits c.self.inside.slots.behind t) c.in-None.is
-      c.self.invariant.waiting)),
+      c.self.invariant.waiting_stack)),
   refl,
 )
 
@@ -47,7 +47,7 @@ pub returns-in-Some : goal.returns-in-Some
 returns-in-Some c =
     let slots : Columns = c.self.inside.slots in
     let p = popped slots.waits slots.behind c.self.inside.last_waiting c.in-Some.place c.behind-self-inside.result
-    c.self.invariant.waiting
+    c.self.invariant.waiting_stack
     c.in-Some.is c.behind-self-inside.ensures in (
       subst (λ (s : Owners). c.in-Some.place < length s.users) c.self.view_is
           (subst (λ n. c.in-Some.place < n) (c.self.invariant.waits_size ∙ sym c.self.invariant.users_size) p.1),

@@ -17,4 +17,4 @@ invariant_of-self c =
     (rewaiting slots c.self.inside.last_waiting (Some c.args.place) (set slots.waits c.args.place true)
     (set slots.behind c.args.place c.self.inside.last_waiting) c.self.invariant
     (length-set slots.waits c.args.place true) (pushed slots.waits slots.behind c.self.inside.last_waiting c.args.place
-    c.self.invariant.waiting within new))
+    c.self.invariant.waiting_stack within new))

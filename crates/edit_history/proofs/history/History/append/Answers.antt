@@ -44,9 +44,9 @@ returns-clause-follows g c =
     c.append.ensures.settings before cut c.new-put.ensures
     (subst (λ (d : Contents). AreBlocksClosed d.lines) c.deck.ensures.deck c.lines.ensures.closed)
     (subst (λ (d : Contents). pass_limit d.lines ≡ false) c.deck.ensures.deck c.lines.ensures.within)) in
-    let is = course_is s (reverse c.put.new.steps.items) c.clear.new.self.items c.args.self.now.done
+    let is = course_is s (reverse c.put.new.steps.items) c.clear.new.self.items c.args.self.now.done_steps
     (c.put.ensures ∙ ap (λ xs. s ∷ reverse xs) c.make_room.ensures.items
-    ∙ ap (λ (h : UndoStacks). s ∷ h.done) c.self.view_is)
+    ∙ ap (λ (h : UndoStacks). s ∷ h.done_steps) c.self.view_is)
     c.clear.ensures.items in
     follows_noted s c.args.self.now _ old new is back.can back.again c.requires
 
@@ -70,8 +70,8 @@ returns-clause-noted g c =
     c.append.ensures.settings before cut c.new-put.ensures
     (subst (λ (d : Contents). AreBlocksClosed d.lines) c.deck.ensures.deck c.lines.ensures.closed)
     (subst (λ (d : Contents). pass_limit d.lines ≡ false) c.deck.ensures.deck c.lines.ensures.within)) in
-    let is = course_is s (reverse c.put.new.steps.items) c.clear.new.self.items c.args.self.now.done
+    let is = course_is s (reverse c.put.new.steps.items) c.clear.new.self.items c.args.self.now.done_steps
     (c.put.ensures ∙ ap (λ xs. s ∷ reverse xs) c.make_room.ensures.items
-    ∙ ap (λ (h : UndoStacks). s ∷ h.done) c.self.view_is)
+    ∙ ap (λ (h : UndoStacks). s ∷ h.done_steps) c.self.view_is)
     c.clear.ensures.items in
     (s, is, back.again)

@@ -20,9 +20,9 @@ returns-clause-follows c =
     let closed = subst (λ (d : Contents). AreBlocksClosed d.lines) c.deck.ensures.deck c.lines_closed.ensures.closed in
     let within = subst (λ (d : Contents). pass_limit d.lines ≡ false) c.deck.ensures.deck c.lines_closed.ensures.within
     in
-    let is = course_is s (reverse c.put.new.steps.items) c.clear.new.self.items c.args.self.now.done
+    let is = course_is s (reverse c.put.new.steps.items) c.clear.new.self.items c.args.self.now.done_steps
     (c.put.ensures ∙ ap (λ xs. s ∷ reverse xs) c.make_room.ensures.items
-    ∙ ap (λ (h : UndoStacks). s ∷ h.done) c.self.view_is)
+    ∙ ap (λ (h : UndoStacks). s ∷ h.done_steps) c.self.view_is)
     c.clear.ensures.items in
     follows_noted s c.args.self.now _ old new is
     (can_undefine text (trimmed_twice c.args.line.now) c.in_ok-uncovered.uncovered old new c.in_ok-uncovered.ensures.0
@@ -40,9 +40,9 @@ returns-clause-noted c =
     let closed = subst (λ (d : Contents). AreBlocksClosed d.lines) c.deck.ensures.deck c.lines_closed.ensures.closed in
     let within = subst (λ (d : Contents). pass_limit d.lines ≡ false) c.deck.ensures.deck c.lines_closed.ensures.within
     in
-    let is = course_is s (reverse c.put.new.steps.items) c.clear.new.self.items c.args.self.now.done
+    let is = course_is s (reverse c.put.new.steps.items) c.clear.new.self.items c.args.self.now.done_steps
     (c.put.ensures ∙ ap (λ xs. s ∷ reverse xs) c.make_room.ensures.items
-    ∙ ap (λ (h : UndoStacks). s ∷ h.done) c.self.view_is)
+    ∙ ap (λ (h : UndoStacks). s ∷ h.done_steps) c.self.view_is)
     c.clear.ensures.items in (
       s,
       is,

@@ -35,9 +35,9 @@ returns-clause-follows c =
     (c.in_ok-put.ensures ∙ ap (λ (d : Contents). lines_from c.in-Some.at 1 d.lines) c.deck-3.ensures.deck)
     (subst (λ (d : Contents). AreBlocksClosed d.lines) c.deck.ensures.deck c.lines_closed.ensures.closed)
     (subst (λ (d : Contents). pass_limit d.lines ≡ false) c.deck.ensures.deck c.lines_closed.ensures.within)) in
-    let is = course_is s (reverse c.put.new.steps.items) c.clear.new.self.items c.args.self.now.done
+    let is = course_is s (reverse c.put.new.steps.items) c.clear.new.self.items c.args.self.now.done_steps
     (c.put.ensures ∙ ap (λ xs. s ∷ reverse xs) c.make_room.ensures.items
-    ∙ ap (λ (h : UndoStacks). s ∷ h.done) c.self.view_is) c.clear.ensures.items in
+    ∙ ap (λ (h : UndoStacks). s ∷ h.done_steps) c.self.view_is) c.clear.ensures.items in
     follows_noted s c.args.self.now _ c.args.table.now.deck c.drop_last.new.self.deck is back.can back.again c.requires
 
 pub returns-clause-noted : goal.returns-clause-noted
@@ -55,7 +55,7 @@ returns-clause-noted c =
     (c.in_ok-put.ensures ∙ ap (λ (d : Contents). lines_from c.in-Some.at 1 d.lines) c.deck-3.ensures.deck)
     (subst (λ (d : Contents). AreBlocksClosed d.lines) c.deck.ensures.deck c.lines_closed.ensures.closed)
     (subst (λ (d : Contents). pass_limit d.lines ≡ false) c.deck.ensures.deck c.lines_closed.ensures.within)) in
-    let is = course_is s (reverse c.put.new.steps.items) c.clear.new.self.items c.args.self.now.done
+    let is = course_is s (reverse c.put.new.steps.items) c.clear.new.self.items c.args.self.now.done_steps
     (c.put.ensures ∙ ap (λ xs. s ∷ reverse xs) c.make_room.ensures.items
-    ∙ ap (λ (h : UndoStacks). s ∷ h.done) c.self.view_is) c.clear.ensures.items in
+    ∙ ap (λ (h : UndoStacks). s ∷ h.done_steps) c.self.view_is) c.clear.ensures.items in
     (s, is, back.again)

@@ -24,9 +24,9 @@ returns-clause-follows c =
     let leads = leads_back s settings old new c.in_ok-set_locale.ensures.0 puts
     (subst (λ (d : Contents). AreBlocksClosed d.lines) c.deck.ensures.deck c.lines_closed.ensures.closed)
     (subst (λ (d : Contents). pass_limit d.lines ≡ false) c.deck.ensures.deck c.lines_closed.ensures.within) in
-    let is = course_is s (reverse c.put.new.steps.items) c.clear.new.self.items c.args.self.now.done
+    let is = course_is s (reverse c.put.new.steps.items) c.clear.new.self.items c.args.self.now.done_steps
     (c.put.ensures ∙ ap (λ xs. s ∷ reverse xs) c.make_room.ensures.items
-    ∙ ap (λ (h : UndoStacks). s ∷ h.done) c.self.view_is) c.clear.ensures.items in
+    ∙ ap (λ (h : UndoStacks). s ∷ h.done_steps) c.self.view_is) c.clear.ensures.items in
     follows_noted s c.args.self.now _ old new is leads.can leads.again c.requires
 
 pub returns-clause-noted : goal.returns-clause-noted
@@ -42,7 +42,7 @@ returns-clause-noted c =
     let leads = leads_back s settings old new c.in_ok-set_locale.ensures.0 puts
     (subst (λ (d : Contents). AreBlocksClosed d.lines) c.deck.ensures.deck c.lines_closed.ensures.closed)
     (subst (λ (d : Contents). pass_limit d.lines ≡ false) c.deck.ensures.deck c.lines_closed.ensures.within) in
-    let is = course_is s (reverse c.put.new.steps.items) c.clear.new.self.items c.args.self.now.done
+    let is = course_is s (reverse c.put.new.steps.items) c.clear.new.self.items c.args.self.now.done_steps
     (c.put.ensures ∙ ap (λ xs. s ∷ reverse xs) c.make_room.ensures.items
-    ∙ ap (λ (h : UndoStacks). s ∷ h.done) c.self.view_is) c.clear.ensures.items in
+    ∙ ap (λ (h : UndoStacks). s ∷ h.done_steps) c.self.view_is) c.clear.ensures.items in
     (s, is, leads.again)

@@ -18,9 +18,9 @@ returns-clause-follows c =
     c.in-Ok.ensures.0 c.in-Ok.ensures.1 c.in-Ok.ensures.2
     (subst (λ (d : Contents). AreBlocksClosed d.lines) c.deck.ensures.deck c.lines_closed.ensures.closed)
     (subst (λ (d : Contents). pass_limit d.lines ≡ false) c.deck.ensures.deck c.lines_closed.ensures.within)) in
-    let is = course_is s (reverse c.put.new.steps.items) c.clear.new.self.items c.args.self.now.done
+    let is = course_is s (reverse c.put.new.steps.items) c.clear.new.self.items c.args.self.now.done_steps
     (c.put.ensures ∙ ap (λ xs. s ∷ reverse xs) c.make_room.ensures.items
-    ∙ ap (λ (h : UndoStacks). s ∷ h.done) c.self.view_is)
+    ∙ ap (λ (h : UndoStacks). s ∷ h.done_steps) c.self.view_is)
     c.clear.ensures.items in
     follows_noted s c.args.self.now _ c.args.table.now.deck c.switch_settings.new.table.deck is back.can back.again
     c.requires
@@ -34,8 +34,8 @@ returns-clause-noted c =
     c.in-Ok.ensures.0 c.in-Ok.ensures.1 c.in-Ok.ensures.2
     (subst (λ (d : Contents). AreBlocksClosed d.lines) c.deck.ensures.deck c.lines_closed.ensures.closed)
     (subst (λ (d : Contents). pass_limit d.lines ≡ false) c.deck.ensures.deck c.lines_closed.ensures.within)) in
-    let is = course_is s (reverse c.put.new.steps.items) c.clear.new.self.items c.args.self.now.done
+    let is = course_is s (reverse c.put.new.steps.items) c.clear.new.self.items c.args.self.now.done_steps
     (c.put.ensures ∙ ap (λ xs. s ∷ reverse xs) c.make_room.ensures.items
-    ∙ ap (λ (h : UndoStacks). s ∷ h.done) c.self.view_is)
+    ∙ ap (λ (h : UndoStacks). s ∷ h.done_steps) c.self.view_is)
     c.clear.ensures.items in
     (s, is, back.again)

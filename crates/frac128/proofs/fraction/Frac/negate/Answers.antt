@@ -15,7 +15,11 @@ abs-minus z = ap unsigned_abs (minus_is z) ∙ abs-neg z
 -- subtracting the numerator from 0 keeps a fraction valid
 kept_minus : (z : ℤ) (d : ℕ) → IsFrac (record { num = z; den = d }) → IsFrac (record { num = pos 0 -ℤ z; den = d })
 kept_minus z d kept = record {
-  reduced = record { positive = kept.reduced.positive; lowest = rw (abs-minus z) kept.reduced.lowest };
+  lowest_terms = record {
+    den_positive = kept.lowest_terms.den_positive;
+    coprime =
+        rw (abs-minus z) kept.lowest_terms.coprime;
+  };
   num_fits = rw (abs-minus z) kept.num_fits;
   den_fits = kept.den_fits;
 }

@@ -14,7 +14,12 @@ kept : (num : ℤ) (s : Bool) (top bottom : ℕ) → num ≡ number_with_sign s 
     → IsFrac (record { num = num; den = bottom })
 kept num s top bottom is some lowest low high =
     let abs : unsigned_abs num ≡ top = ap unsigned_abs is ∙ abs-signed s top in
-    record { reduced = record { positive = some; lowest = rw abs lowest }; num_fits = rw abs low; den_fits = high }
+    record {
+      lowest_terms = record { den_positive = some; coprime = rw abs lowest };
+      num_fits = rw abs low;
+      den_fits =
+          high;
+    }
 
 pub invariant_of-result : goal.invariant_of-result
 invariant_of-result c =

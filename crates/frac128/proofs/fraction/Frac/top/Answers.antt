@@ -7,4 +7,4 @@ pub returns-clause-lowest : goal.returns-clause-lowest
 returns-clause-lowest c =
     let fits : SFits w128 c.self.inside.num = search rules in
     let top = simp to_z-of_z at c.unsigned_abs.ensures.value in
-    rw (top, ← c.self.view_is) c.self.invariant.reduced.lowest
+    rw (top, ← c.self.view_is) c.self.invariant.lowest_terms.coprime

@@ -8,7 +8,7 @@ use Rattle.frac128.proofs.fraction.Frac.whole.Goals as goal
 -- a whole number in range is a valid fraction
 kept_whole : (n : ℤ) → unsigned_abs n ≤ most → IsFrac (record { num = n; den = 1 })
 kept_whole n fits = record {
-  reduced = record { positive = omega arith; lowest = (one-dvd (unsigned_abs n), one-dvd 1, λ d p q. q) };
+  lowest_terms = record { den_positive = omega arith; coprime = (one-dvd (unsigned_abs n), one-dvd 1, λ d p q. q) };
   num_fits = fits;
   den_fits = omega arith;
 }

@@ -8,7 +8,7 @@ use Rattle.deck.specs.Tables.{table}
 use Rattle.table_names.specs.Meanings.{outcome}
 use Rattle.live_table.specs.TableView.{Shown}
 use Rattle.live_table.specs.TableContents.{node_lists}
-use Rattle.live_table.proofs.CachedKeys.{found, missing, right_kept}
+use Rattle.live_table.proofs.CachedKeys.{missing, right_kept, stored_for_key}
 use Rattle.live_table.proofs.live_table.LiveTable.cached_outcome.Goals as goal
 
 pub returns-in-Some-clause-cached : goal.returns-in-Some-clause-cached
@@ -20,8 +20,9 @@ returns-in-Some-clause-cached c =
     (λ n. slice_get keys n ≡ Some (key k.kind c.as_bytes.result.now))) c.in-Some.is c.in_ok-n.ensures in
     let at : slice_get keys c.in-Some.n ≡ Some k =
     subst (λ (name : List ℕ). slice_get keys c.in-Some.n ≡ Some (key k.kind name)) c.as_bytes.ensures named in
-    subst (λ (s : Shown). option_copied c.outcome_at.result ≡ map_of.get s.kept k) c.self.view_is
-    (found (table c.self.inside.deck) (node_lists c.self.inside.nodes) c.self.invariant.0.sound.numbers k c.in-Some.n
+    subst (λ (s : Shown). option_copied c.outcome_at.result ≡ map_of.get s.kept_outcomes k) c.self.view_is
+    (stored_for_key (table c.self.inside.deck) (node_lists c.self.inside.nodes) c.self.invariant.0.is_sound.numbers k
+    c.in-Some.n
     (option_copied c.outcome_at.result) at c.outcome_at.ensures)
 
 pub returns-in-Some-clause-right : goal.returns-in-Some-clause-right
@@ -35,8 +36,9 @@ returns-in-Some-clause-right c o e =
     subst (λ (name : List ℕ). slice_get keys c.in-Some.n ≡ Some (key k.kind name)) c.as_bytes.ensures named in
     subst (λ (s : Shown). o ≡ outcome (table s.deck) k) c.self.view_is
     (right_kept c.self.inside.deck (node_lists c.self.inside.nodes) c.self.inside.reductions
-    c.self.invariant.0.sound.right k (option_copied c.outcome_at.result)
-    (found (table c.self.inside.deck) (node_lists c.self.inside.nodes) c.self.invariant.0.sound.numbers k c.in-Some.n
+    c.self.invariant.0.is_sound.is_right k (option_copied c.outcome_at.result)
+    (stored_for_key (table c.self.inside.deck) (node_lists c.self.inside.nodes) c.self.invariant.0.is_sound.numbers k
+    c.in-Some.n
     (option_copied c.outcome_at.result) at c.outcome_at.ensures) o e)
 
 pub returns-in-None-clause-cached : goal.returns-in-None-clause-cached
@@ -48,5 +50,5 @@ returns-in-None-clause-cached c =
     (λ n. slice_get keys n ≡ Some (key k.kind c.as_bytes.result.now))) c.in-None.is c.in_ok-n.ensures in
     let absent : is_key_among keys k ≡ false =
     subst (λ (name : List ℕ). is_key_among keys (key k.kind name) ≡ false) c.as_bytes.ensures named in
-    subst (λ (s : Shown). None ≡ map_of.get s.kept k) c.self.view_is
-    (missing (table c.self.inside.deck) (node_lists c.self.inside.nodes) c.self.invariant.0.sound.numbers k absent)
+    subst (λ (s : Shown). None ≡ map_of.get s.kept_outcomes k) c.self.view_is
+    (missing (table c.self.inside.deck) (node_lists c.self.inside.nodes) c.self.invariant.0.is_sound.numbers k absent)

@@ -35,9 +35,9 @@ overflow_add-result-2 c =
 
 pub returns-clause-settled : goal.returns-clause-settled
 returns-clause-settled c =
-    c.self.invariant.0.sound.numbers.counted
-    ∙ (kept_counted (table c.self.inside.deck) (node_lists c.self.inside.nodes) c.self.invariant.0.sound.numbers
-    ∙ ap (λ (s : Shown). map_of.len s.kept) c.self.view_is)
+    c.self.invariant.0.is_sound.numbers.count_right
+    ∙ (kept_counted (table c.self.inside.deck) (node_lists c.self.inside.nodes) c.self.invariant.0.is_sound.numbers
+    ∙ ap (λ (s : Shown). map_of.len s.kept_outcomes) c.self.view_is)
 
 pub returns-clause-names : goal.returns-clause-names
 returns-clause-names c =

@@ -9,7 +9,7 @@ use Rattle.live_table.proofs.live_table.LiveTable.new.Goals as goal
 pub invariant_of-result : goal.invariant_of-result
 invariant_of-result c = (
   record {
-    sound = start_sound c.args.deck (node_lists c.new.result) c.new.ensures;
+    is_sound = start_sound c.args.deck (node_lists c.new.result) c.new.ensures;
     edges = start_edges c.args.deck (node_lists c.new.result) c.new-2.result.waiting.items c.new-2.result.made
         c.new.ensures
         c.new-2.ensures.waiting c.new-2.ensures.made;

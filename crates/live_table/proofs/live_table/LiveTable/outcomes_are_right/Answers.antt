@@ -3,4 +3,4 @@ use Rattle.live_table.specs.TableView.{IsRightTable}
 use Rattle.live_table.proofs.live_table.LiveTable.outcomes_are_right.Goals as goal
 
 pub returns : goal.returns
-returns c = subst IsRightTable c.self.view_is c.self.invariant.0.sound.right
+returns c = subst IsRightTable c.self.view_is c.self.invariant.0.is_sound.is_right

@@ -16,10 +16,10 @@ returns-in_err-keys-clause-after g c =
     subst (λ (r : Result (Unit {0}) AllocError). AreQueries (all_names (table c.args.self.now.deck)) r c.args.self.now
     c.args.self.now c.args.steps.now c.args.steps.now) (sym p.1)
     (cut_at_once (all_names (table c.args.self.now.deck)) c.args.self.now c.args.steps.now
-    (subst IsRightTable c.self.view_is c.self.invariant.0.sound.right))
+    (subst IsRightTable c.self.view_is c.self.invariant.0.is_sound.is_right))
 
 pub settle_keys-requires-clause-present : goal.settle_keys-requires-clause-present
 settle_keys-requires-clause-present g c =
     subst (λ (s : Shown). ArePresent (table s.deck) c.as_slice.result.now) c.self.view_is
-    (λ k among. sym ((c.table_keys_law.ensures (table c.self.inside.deck)).each k)
+    (λ k among. sym ((c.table_keys_law.ensures (table c.self.inside.deck)).key_membership k)
     ∙ ap (λ (keys : List Key). is_key_among keys k) (sym (c.as_slice.ensures ∙ c.in_ok-keys.ensures {u = tt})) ∙ among)

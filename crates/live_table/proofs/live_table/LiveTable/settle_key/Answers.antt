@@ -34,11 +34,11 @@ returns-clause-after g c =
     c.args.steps.now
     c.ask_key-answer.new.steps c.args.key.now
     (ap (λ (name : List ℕ). AsksKey (key_named c.args.key.now.kind name)) c.as_bytes.ensures) c.in_default.not-List
-    named.answer c.only_memory.result
+    named.named_answer c.only_memory.result
     (ok_by_name (table c.self.inside.deck) (node_lists c.ask_key-answer.new.nodes)
     c.ask_key-answer.new.explored.dead_ends.items c.ask_key-answer.new.explored.findings.faults
-    c.ask_key-answer.result named.answer c.only_memory.result named.named c.only_memory.ensures.ok)
+    c.ask_key-answer.result named.named_answer c.only_memory.result named.result_named c.only_memory.ensures.ok)
     (err_by_name (table c.self.inside.deck) (node_lists c.ask_key-answer.new.nodes)
     c.ask_key-answer.new.explored.dead_ends.items c.ask_key-answer.new.explored.findings.faults
-    c.ask_key-answer.result named.answer c.only_memory.result named.named c.only_memory.ensures.err)
-    named.holds)
+    c.ask_key-answer.result named.named_answer c.only_memory.result named.result_named c.only_memory.ensures.err)
+    named.answer_holds)

@@ -24,7 +24,8 @@ pub returns : goal.returns
 returns c = (
   subst (λ (s : Shown). c.splice.new.self ≡ splices.after_splice c.args.change s.deck) c.self.view_is
       c.in_ok-keys.ensures.0,
-  subst (λ (s : Shown). c.in_ok-keys.undo ≡ splices.inverse c.args.change s.deck) c.self.view_is c.in_ok-keys.ensures.2,
+  subst (λ (s : Shown). c.in_ok-keys.undo ≡ splices.inverse_splice c.args.change s.deck) c.self.view_is
+      c.in_ok-keys.ensures.2,
   same_edit c.args.self.now
       (shown_table c.splice.new.self (node_lists c.forget_changed.new.nodes) c.self.inside.reductions)
       c.self.inside.deck (node_lists c.self.inside.nodes) c.self.inside.reductions c.self.view_is

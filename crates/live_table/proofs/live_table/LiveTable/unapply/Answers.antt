@@ -51,7 +51,7 @@ stopped g c stop is =
     (Holds g c) c.ask_key-answer.result stop is c.ask_key-answer.ensures.asked
 
 pub fault_of_stop-requires-clause-nodes : goal.fault_of_stop-requires-clause-nodes
-fault_of_stop-requires-clause-nodes g c = c.ask_key-answer.ensures.live.sound.numbers
+fault_of_stop-requires-clause-nodes g c = c.ask_key-answer.ensures.live.is_sound.numbers
 
 pub fault_of_stop-requires-clause-named : goal.fault_of_stop-requires-clause-named
 fault_of_stop-requires-clause-named g c =
@@ -92,7 +92,7 @@ asked g c n is =
     (Holds g c) c.ask_key-answer.result n is c.ask_key-answer.ensures.asked
 
 pub evaluate_inverse-requires-clause-sound : goal.evaluate_inverse-requires-clause-sound
-evaluate_inverse-requires-clause-sound g c = (c.ask_key-answer.new.reductions, c.ask_key-answer.ensures.live.sound)
+evaluate_inverse-requires-clause-sound g c = (c.ask_key-answer.new.reductions, c.ask_key-answer.ensures.live.is_sound)
 
 pub evaluate_inverse-requires-clause-settled : goal.evaluate_inverse-requires-clause-settled
 evaluate_inverse-requires-clause-settled g c =

@@ -37,7 +37,7 @@ returns-in_err-words-clause-after g c =
     subst (λ r. IsQuery (AsksWords us) r c.args.self.now c.args.self.now c.args.steps.now c.args.steps.now)
     (sym (p.1 ∙ ap Err p.2))
     (cut_off (AsksWords us) (name_fault t us) (reach t us) c.args.self.now c.args.steps.now
-    (subst IsRightTable c.self.view_is c.self.invariant.0.sound.right) (words_query t us))
+    (subst IsRightTable c.self.view_is c.self.invariant.0.is_sound.is_right) (words_query t us))
 
 -- ---- the names were queried
 abbrev us : (g : _) → After-ask_words-query g → List WordUse
@@ -69,7 +69,7 @@ stopped g c stop is =
     (Holds g c) c.ask_words-query.result stop is c.ask_words-query.ensures.asked
 
 pub fault_of_stop-requires-clause-nodes : goal.fault_of_stop-requires-clause-nodes
-fault_of_stop-requires-clause-nodes g c = c.ask_words-query.ensures.live.sound.numbers
+fault_of_stop-requires-clause-nodes g c = c.ask_words-query.ensures.live.is_sound.numbers
 
 pub fault_of_stop-requires-clause-named : goal.fault_of_stop-requires-clause-named
 fault_of_stop-requires-clause-named g c =
@@ -111,7 +111,7 @@ asked g c query is =
 
 pub evaluate_tree-requires-clause-sound : goal.evaluate_tree-requires-clause-sound
 evaluate_tree-requires-clause-sound g c =
-    (c.ask_words-query.new.reductions, c.ask_words-query.ensures.live.sound)
+    (c.ask_words-query.new.reductions, c.ask_words-query.ensures.live.is_sound)
 
 pub evaluate_tree-requires-clause-settled : goal.evaluate_tree-requires-clause-settled
 evaluate_tree-requires-clause-settled g c =

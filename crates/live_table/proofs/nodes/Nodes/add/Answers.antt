@@ -23,15 +23,16 @@ returns-clause-ok g c =
           looks = c.new-2.result;
           no_steps = c.new.ensures.items;
           no_looks = c.new-2.ensures.items;
-          named = λ i. record {
+          name_added = λ i. record {
             keys = keys.1 i;
-            present = behind old.present.items _ _ _ _ c.in_ok-push.ensures.items c.reserve.ensures.items
+            entry_flags = behind old.present.items _ _ _ _ c.in_ok-push.ensures.items c.reserve.ensures.items
                 (c.is_some.ensures ∙ c.find-place.ensures.present) i;
             callees = behind old.callees.items _ _ _ _ c.in_ok-push-2.ensures.items c.reserve-2.ensures.items refl i;
             outcomes = behind old.outcomes.items _ _ _ _ c.in_ok-push-3.ensures.items c.reserve-3.ensures.items refl i;
             graph = behind old.steps.items _ _ _ _ c.in_ok-push-4.ensures.items c.reserve-4.ensures.items refl i;
             looks = behind old.looks.items _ _ _ _ c.in_ok-push-5.ensures.items c.reserve-5.ensures.items refl i;
-            settled = behind old.settled.items _ _ _ _ c.in_ok-push-6.ensures.items c.reserve-6.ensures.items refl i;
+            settled_flags = behind old.settled.items _ _ _ _ c.in_ok-push-6.ensures.items c.reserve-6.ensures.items refl
+                i;
             count = old.settled_count;
           };
         },

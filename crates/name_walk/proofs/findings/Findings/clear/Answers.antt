@@ -11,7 +11,7 @@ invariant_of-self c =
 
 pub returns : goal.returns
 returns c = record {
-  sound = c.clear.ensures.order;
-  faultless = c.clear.ensures.faults;
-  names = c.clear.ensures.marks.entered;
+  no_sound_names = c.clear.ensures.order;
+  no_faults = c.clear.ensures.faults;
+  names = c.clear.ensures.marks.none_entered;
 }

@@ -10,10 +10,10 @@ use Rattle.name_walk.proofs.findings.Findings.fault.Goals as goal
 
 -- if the view of the findings is right, then so are the fields of the struct
 inside_are : (g : Graph) (s : List Bool) (inside seen : WalkFindings) (fs : Faults) → inside ≡ seen → fs ≡ inside.faults
-    → AreRight g s seen → AreFindings g s inside.sound fs
+    → AreRight g s seen → AreFindings g s inside.sound_names fs
 inside_are g s inside seen fs view same right =
-    subst (λ (hs : Faults). AreFindings g s inside.sound hs) (sym same)
-    ((subst (λ (f : WalkFindings). AreRight g s f) (sym view) right).are)
+    subst (λ (hs : Faults). AreFindings g s inside.sound_names hs) (sym same)
+    ((subst (λ (f : WalkFindings). AreRight g s f) (sym view) right).findings_right)
 
 inside_faulty : (inside seen : WalkFindings) (fs : Faults) (x y : Step) → inside ≡ seen → fs ≡ inside.faults → x ≡ y
     → IsFaultyStep seen.faults x → IsFaultyStep fs y

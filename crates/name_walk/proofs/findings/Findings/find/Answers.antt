@@ -16,7 +16,7 @@ search_from-requires-clause-consistent c = c.self.invariant
 pub search_from-requires-clause-right : goal.search_from-requires-clause-right
 search_from-requires-clause-right c =
     (subst (λ (f : WalkFindings). AreRight c.args.net.now.steps.now c.args.net.now.settled.now f) (sym c.self.view_is)
-    c.requires.right).are
+    c.requires.right).findings_right
 
 pub invariant_of-self : goal.invariant_of-self
 invariant_of-self c = c.in-Ok.ensures.consistent
@@ -31,16 +31,16 @@ invariant_of-self-in-Err c =
 
 pub returns-in-Ok-clause-right : goal.returns-in-Ok-clause-right
 returns-in-Ok-clause-right c = record {
-  are = c.in-Ok.ensures.right;
-  sound_named = c.in-Ok.ensures.consistent.sound;
-  faulty_named = c.in-Ok.ensures.consistent.can_clear.noted;
+  findings_right = c.in-Ok.ensures.right;
+  sound_named = c.in-Ok.ensures.consistent.order_entered;
+  faulty_named = c.in-Ok.ensures.consistent.can_clear.faulty_entered;
 }
 
 pub returns-in-Ok-clause-names : goal.returns-in-Ok-clause-names
 returns-in-Ok-clause-names c =
     subst (λ (f : WalkFindings). AreFromQuery c.args.net.now.steps.now c.args.net.now.settled.now c.args.query.now
     f.names
-    c.search_from.new.traces.entered) c.self.view_is c.in-Ok.ensures.names
+    c.search_from.new.traces.entered_names) c.self.view_is c.in-Ok.ensures.names
 
 pub returns-in-Ok-clause-found : goal.returns-in-Ok-clause-found
 returns-in-Ok-clause-found c = c.in-Ok.ensures.found
@@ -51,20 +51,20 @@ returns-in-Ok-clause-err c = tt
 pub returns-in-Err-clause-right : goal.returns-in-Err-clause-right
 returns-in-Err-clause-right c =
     nothing_right _ _ _ (record {
-      sound = c.clear.ensures.order;
-      faultless = c.clear.ensures.faults;
-      names = c.clear.ensures.marks.entered;
+      no_sound_names = c.clear.ensures.order;
+      no_faults = c.clear.ensures.faults;
+      names = c.clear.ensures.marks.none_entered;
     })
 
 pub returns-in-Err-clause-names : goal.returns-in-Err-clause-names
-returns-in-Err-clause-names c n i = absurd (subst (λ (ns : List ℕ). In n ns) c.clear.ensures.marks.entered i)
+returns-in-Err-clause-names c n i = absurd (subst (λ (ns : List ℕ). In n ns) c.clear.ensures.marks.none_entered i)
 
 pub returns-in-Err-clause-found : goal.returns-in-Err-clause-found
 returns-in-Err-clause-found c = tt
 
 pub returns-in-Err-clause-err : goal.returns-in-Err-clause-err
 returns-in-Err-clause-err c = record {
-  sound = c.clear.ensures.order;
-  faultless = c.clear.ensures.faults;
-  names = c.clear.ensures.marks.entered;
+  no_sound_names = c.clear.ensures.order;
+  no_faults = c.clear.ensures.faults;
+  names = c.clear.ensures.marks.none_entered;
 }

@@ -15,7 +15,8 @@ last_entered {marks} rest n h e = subst (λ (xs : List ℕ). AreEntered marks xs
 pub index_mut-requires : goal.index_mut-requires
 index_mut-requires c =
     subst (λ (k : ℕ). c.in-Some.name < k) (sym c.loop-name.self-inside.marks.ok.0)
-    ((last_entered c.pop.new.self.items c.in-Some.name c.loop-name.invariant.entered c.in-Some.ensures.items).within
+    ((last_entered c.pop.new.self.items c.in-Some.name c.loop-name.invariant.entered
+    c.in-Some.ensures.items).names_within
     c.in-Some.name
     (In-last c.pop.new.self.items c.in-Some.name))
 
@@ -24,7 +25,7 @@ loop-name-preserved c =
     let h = last_entered c.pop.new.self.items c.in-Some.name c.loop-name.invariant.entered c.in-Some.ensures.items in
     record {
       entered = entered_pop c.loop-name.self-inside.marks.items c.in-Some.name
-          (h.within c.in-Some.name (In-last c.pop.new.self.items c.in-Some.name)) c.pop.new.self.items h;
+          (h.names_within c.in-Some.name (In-last c.pop.new.self.items c.in-Some.name)) c.pop.new.self.items h;
       size = length-set c.loop-name.self-inside.marks.items c.in-Some.name Open ∙ c.loop-name.invariant.size;
       order = c.loop-name.invariant.order;
     }

@@ -16,7 +16,11 @@ abs-minus z = ap unsigned_abs (minus_is z) ∙ abs-neg z
 exponent_minus : (z : ℤ) (d : ℕ) → IsExponent (record { num = z; den = d })
     → IsExponent (record { num = pos 0 -ℤ z; den = d })
 exponent_minus z d is = record {
-  reduced = record { positive = is.reduced.positive; lowest = rw (abs-minus z) is.reduced.lowest };
+  exponent_reduced = record {
+    den_positive = is.exponent_reduced.den_positive;
+    coprime =
+        rw (abs-minus z) is.exponent_reduced.coprime;
+  };
   num_fits = rw (abs-minus z) is.num_fits;
   den_fits = is.den_fits;
 }

@@ -31,7 +31,7 @@ returns-in-One c =
     let by = c.args.degree.now in
     let all : powers_of c.args.self ≡ power ∷ [] = ap powers_of c.in-One.is in
     let own = All-head IsPower power [] (subst (All IsPower) all c.requires) in
-    let reduced = product_reduced c.reduced_law.ensures power.1 by own.exponent.reduced.positive
+    let reduced = product_reduced c.reduced_law.ensures power.1 by own.exponent.exponent_reduced.den_positive
     c.denominator_facts.ensures in
     let answer = c.times-product.ensures ∙ ap (λ e. as_exponent (exponent_product e by)) c.exponent.ensures in
     subst (ArePowers powers_of c.of.result) (sym (ap (scaled_powers by) all))

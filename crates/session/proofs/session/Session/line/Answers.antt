@@ -79,26 +79,26 @@ returns-in_default-clause-done g c =
 
 pub returns-in_default-clause-faults : goal.returns-in_default-clause-faults
 returns-in_default-clause-faults g c = record {
-  counted = unread _ c.perform.result c.perform.ensures.calm.0;
+  fetches_counted = unread _ c.perform.result c.perform.ensures.calm.0;
   cause = λ e. absurd (c.perform.ensures.calm.0 e);
-  written = λ e. absurd (c.perform.ensures.calm.1 e);
-  later = omega arith;
+  failed_write_counted = λ e. absurd (c.perform.ensures.calm.1 e);
+  stores_grow = omega arith;
 }
 
 pub returns-in-Save-clause-faults : goal.returns-in-Save-clause-faults
 returns-in-Save-clause-faults g c = record {
-  counted = c.save.ensures.fetches ∙ unread _ c.save.result c.save.ensures.unread;
+  fetches_counted = c.save.ensures.fetches ∙ unread _ c.save.result c.save.ensures.unread;
   cause = λ e. absurd (c.save.ensures.unread e);
-  written = c.save.ensures.cause;
-  later = c.save.ensures.later;
+  failed_write_counted = c.save.ensures.cause;
+  stores_grow = c.save.ensures.later;
 }
 
 pub returns-in-Load-clause-faults : goal.returns-in-Load-clause-faults
 returns-in-Load-clause-faults g c = record {
-  counted = c.load.ensures.counted;
+  fetches_counted = c.load.ensures.counted;
   cause = c.load.ensures.cause;
-  written = λ e. absurd (c.load.ensures.unwritten e);
-  later = omega (arith, c.load.ensures.stores);
+  failed_write_counted = λ e. absurd (c.load.ensures.unwritten e);
+  stores_grow = omega (arith, c.load.ensures.stores);
 }
 
 pub returns-in-Load-clause-kept : goal.returns-in-Load-clause-kept

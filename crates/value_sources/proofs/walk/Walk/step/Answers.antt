@@ -4,7 +4,7 @@ use Rattle.std.specs.Vec.{vec_len}
 use Rattle.value_sources.specs.declared.mention.Placed.{Placed}
 use Rattle.value_sources.specs.Rows.{Row}
 use Rattle.value_sources.specs.Walks.{AreMarked, IsUnderway}
-use Rattle.value_sources.proofs.Placing.{within}
+use Rattle.value_sources.proofs.Placing.{place_in_deck}
 use Rattle.value_sources.proofs.Reversing.{pushed_all}
 use Rattle.value_sources.proofs.Walking.{marks_skipped, marks_visited, on_ok, place_found, underway_skipped}
 use Rattle.value_sources.proofs.Walking.{underway_visited}
@@ -37,8 +37,8 @@ index_mut-requires c =
     let found = place_found d c.args.self.now.marks.items c.deref.result.now c.args.self.now.rows.items c.args.next
     c.unvisited_place.result (Some c.in-Some.place) c.requires.marked c.deref.ensures.value c.requires.sound
     c.unvisited_place.ensures c.in-Some.is in
-    let inside : c.in-Some.place < length d.lines = within d found.0 c.in-Some.place found.3 in
-    let room : length c.args.self.now.marks.items ≡ length d.lines = c.requires.marked.room in
+    let inside : c.in-Some.place < length d.lines = place_in_deck d found.0 c.in-Some.place found.3 in
+    let room : length c.args.self.now.marks.items ≡ length d.lines = c.requires.marked.mark_per_line in
     let size : vec_len c.args.self.now.marks ≡ length c.args.self.now.marks.items = c.args.self.now.marks.ok.0 in
     omega (arith, inside, room, size)
 

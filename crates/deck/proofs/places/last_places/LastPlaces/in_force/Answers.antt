@@ -8,15 +8,16 @@ use Rattle.deck.proofs.places.last_places.LastPlaces.in_force.Goals as goal
 
 pub of_edited-requires : goal.of_edited-requires
 of_edited-requires c = ap length (c.as_slice.ensures.value ∙ c.in_ok-flags.ensures)
-    ∙ length-activity _ _ c.without_change-edited.result.after
+    ∙ length-activity _ _ c.without_change-edited.result.new_lines
 
 pub returns : goal.returns
 unfolding active_definitions
 returns c =
     subst (λ (e : StoreEdit). IfOk c.of_edited.result
-    (λ last. AreLast e.names (active_definitions c.args.settings.now e.after) last)) c.without_change-edited.ensures.is
+    (λ last. AreLast e.names (active_definitions c.args.settings.now e.new_lines) last))
+    c.without_change-edited.ensures.is
     (subst (λ (ds : Definitions). IfOk c.of_edited.result
     (λ last. AreLast c.without_change-edited.result.names ds last))
-    (ap (λ fs. definitions_among fs c.without_change-edited.result.after)
+    (ap (λ fs. definitions_among fs c.without_change-edited.result.new_lines)
     (c.as_slice.ensures.value ∙ c.in_ok-flags.ensures))
     c.of_edited.ensures)

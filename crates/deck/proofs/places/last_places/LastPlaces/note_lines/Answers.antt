@@ -13,7 +13,7 @@ use Rattle.deck.proofs.places.last_places.LastPlaces.note_lines.Goals as goal
 
 pub loop-place-preserved : goal.loop-place-preserved
 loop-place-preserved c =
-    let lines = c.args.edited.now.after in
+    let lines = c.args.edited.now.new_lines in
     let i = c.loop-place.place in
     let x : DeckLine = get_or lines i (plain_line 0 []) in
     let f : Bool = get_or c.args.flags.now i false in

@@ -6,4 +6,4 @@ use Rattle.deck.proofs.places.last_places.LastPlaces.note_lines.Given as goal
 abbrev pub invariant-loop-place : goal.invariant-loop-place
 invariant-loop-place l =
     HasPlaceRoom l.edited.names l.self
-    × AreLast l.edited.names (definitions_among (take l.place l.flags) (take l.place l.edited.after)) l.self
+    × AreLast l.edited.names (definitions_among (take l.place l.flags) (take l.place l.edited.new_lines)) l.self

@@ -8,5 +8,5 @@ use Rattle.deck.proofs.places.last_places.LastPlaces.under.Goals as goal
 pub returns-clause-last : goal.returns-clause-last
 returns-clause-last c =
     subst (λ (e : StoreEdit). IfOk c.under_edited.result
-    (λ last. AreLast e.names (active_definitions c.args.settings.now e.after) last)) c.without_change.ensures.is
+    (λ last. AreLast e.names (active_definitions c.args.settings.now e.new_lines) last)) c.without_change.ensures.is
     c.under_edited.ensures

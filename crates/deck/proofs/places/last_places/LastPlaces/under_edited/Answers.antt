@@ -7,11 +7,11 @@ use Rattle.deck.proofs.places.last_places.LastPlaces.under_edited.Goals as goal
 
 pub of_edited-requires : goal.of_edited-requires
 of_edited-requires c = ap length (c.as_slice.ensures.value ∙ c.in_ok-flags.ensures)
-    ∙ length-activity _ _ c.args.edited.now.after
+    ∙ length-activity _ _ c.args.edited.now.new_lines
 
 pub returns : goal.returns
 unfolding active_definitions
 returns c =
     subst (λ (ds : Definitions). IfOk c.of_edited.result (λ last. AreLast c.args.edited.now.names ds last))
-    (ap (λ fs. definitions_among fs c.args.edited.now.after) (c.as_slice.ensures.value ∙ c.in_ok-flags.ensures))
+    (ap (λ fs. definitions_among fs c.args.edited.now.new_lines) (c.as_slice.ensures.value ∙ c.in_ok-flags.ensures))
     c.of_edited.ensures

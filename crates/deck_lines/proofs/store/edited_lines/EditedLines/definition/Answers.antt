@@ -16,7 +16,7 @@ returns-in-Put-clause-is c =
     let e = c.self.inside in
     seen_edited _ e.put.now c.in-Put.place c.args.place _ _ c.self.view_is
     (c.in-Put.ensures e.store.now.lines e.put.now (sym c.len.ensures.count) refl)
-    (c.definition_in.ensures e.store.now.names e.put.now c.self.invariant.defined)
+    (c.definition_in.ensures e.store.now.names e.put.now c.self.invariant.definitions_put)
 
 pub returns-in-Past-clause-is : goal.returns-in-Past-clause-is
 returns-in-Past-clause-is c =
@@ -29,18 +29,18 @@ returns-in-Stored-clause-numbering c =
     let e = c.self.inside in
     subst (λ (v : StoreEdit). IsNumbering (store_after v)) c.self.view_is
     (numbering_edited e.store.now e.put.now e.definitions.now e.at e.cut c.len.ensures.numbering
-    c.self.invariant.defined)
+    c.self.invariant.definitions_put)
 
 pub returns-in-Put-clause-numbering : goal.returns-in-Put-clause-numbering
 returns-in-Put-clause-numbering c =
     let e = c.self.inside in
     subst (λ (v : StoreEdit). IsNumbering (store_after v)) c.self.view_is
     (numbering_edited e.store.now e.put.now e.definitions.now e.at e.cut c.len.ensures.numbering
-    c.self.invariant.defined)
+    c.self.invariant.definitions_put)
 
 pub returns-in-Past-clause-numbering : goal.returns-in-Past-clause-numbering
 returns-in-Past-clause-numbering c =
     let e = c.self.inside in
     subst (λ (v : StoreEdit). IsNumbering (store_after v)) c.self.view_is
     (numbering_edited e.store.now e.put.now e.definitions.now e.at e.cut c.len.ensures.numbering
-    c.self.invariant.defined)
+    c.self.invariant.definitions_put)

@@ -14,7 +14,7 @@ pub returns-in-Stored : goal.returns-in-Stored
 returns-in-Stored c =
     let e = c.self.inside in
     let same = eqb c.in-Stored.place c.args.before in
-    subst (λ (v : StoreEdit). OnTrue same (slice_get v.after c.args.after ≡ slice_get v.before c.args.before))
+    subst (λ (v : StoreEdit). OnTrue same (slice_get v.new_lines c.args.after ≡ slice_get v.old_lines c.args.before))
     c.self.view_is
     (left same c.in-Stored.place c.args.before _ e.store.now.lines refl
     (c.in-Stored.ensures e.store.now.lines e.put.now (sym c.len.ensures.count) refl))

@@ -8,9 +8,9 @@ use Rattle.deck_lines.proofs.store.edited_lines.EditedLines.key_number.Goals as 
 pub returns-in-Some-clause-number : goal.returns-in-Some-clause-number
 returns-in-Some-clause-number c =
     ap (option_map (λ (p : Option Key × What). p.0)) c.in-Some.ensures.is
-    ∙ keyed_key (definition_at c.args.self.now.after c.args.place)
+    ∙ keyed_key (definition_at c.args.self.now.new_lines c.args.place)
 
 pub returns-in-None-clause-number : goal.returns-in-None-clause-number
 returns-in-None-clause-number c =
     ap (option_map (λ (p : Option Key × What). p.0)) c.in-None.ensures.is
-    ∙ keyed_key (definition_at c.args.self.now.after c.args.place)
+    ∙ keyed_key (definition_at c.args.self.now.new_lines c.args.place)

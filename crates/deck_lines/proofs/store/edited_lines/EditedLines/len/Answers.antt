@@ -8,7 +8,7 @@ pub overflow_sub-result : goal.overflow_sub-result
 overflow_sub-result c =
     omega (
       arith,
-      c.self.invariant.places,
+      c.self.invariant.range_within,
       ap length c.marked.ensures.lines,
       marks_len c.marked.result.lines.now c.marked.result.marks.now c.marked.ensures.each,
     )
@@ -18,9 +18,9 @@ returns c =
     let e = c.self.inside in
     omega (
       arith,
-      c.self.invariant.places,
+      c.self.invariant.range_within,
       ap length c.marked.ensures.lines,
       marks_len c.marked.result.lines.now c.marked.result.marks.now c.marked.ensures.each,
-      exchanged_len e.store.now.lines e.put.now e.at e.cut c.self.invariant.places,
-      ap (λ (v : StoreEdit). length v.after) c.self.view_is,
+      exchanged_len e.store.now.lines e.put.now e.at e.cut c.self.invariant.range_within,
+      ap (λ (v : StoreEdit). length v.new_lines) c.self.view_is,
     )

@@ -13,4 +13,4 @@ returns-clause-after c =
     let e = c.self.inside in
     subst (λ (v : StoreEdit). IsNumbering (store_after v)) c.self.view_is
     (numbering_edited e.store.now e.put.now e.definitions.now e.at e.cut c.name_count.ensures.numbering
-    c.self.invariant.defined)
+    c.self.invariant.definitions_put)

@@ -9,6 +9,6 @@ use Rattle.deck_lines.proofs.store.edited_lines.EditedLines.without_change.Goals
 pub returns-clause-is : goal.returns-clause-is
 returns-clause-is c =
     let e : StoreEdit = store_unedited c.args.store.now in
-    let count : c.len.result ≡ length e.before = c.len.ensures ∙ ap length c.lines.ensures.lines
-    ∙ length-map e.before line_without_mark in
-    ap (λ (ls : List DeckLine). record e { after = ls }) (exchanged_nothing e.before c.len.result count)
+    let count : c.len.result ≡ length e.old_lines = c.len.ensures ∙ ap length c.lines.ensures.lines
+    ∙ length-map e.old_lines line_without_mark in
+    ap (λ (ls : List DeckLine). record e { new_lines = ls }) (exchanged_nothing e.old_lines c.len.result count)

@@ -18,7 +18,7 @@ exchange_in_list-requires-clause-places c =
       arith,
       c.requires.places,
       ap length c.self.view_is,
-      marks_len c.self.inside.lines c.self.inside.marks.items c.self.invariant.marked,
+      marks_len c.self.inside.lines c.self.inside.marks.items c.self.invariant.mark_count,
     )
 
 pub overflow_add-self : goal.overflow_add-self

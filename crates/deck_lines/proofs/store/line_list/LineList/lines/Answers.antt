@@ -6,7 +6,7 @@ use Rattle.deck_lines.proofs.store.line_list.LineList.lines.Goals as goal
 
 pub returns-clause-lines : goal.returns-clause-lines
 returns-clause-lines c =
-    sym (marks_off c.self.inside.lines c.self.inside.marks.items c.self.invariant.marked)
+    sym (marks_off c.self.inside.lines c.self.inside.marks.items c.self.invariant.mark_count)
     ∙ ap (map line_without_mark) c.self.view_is
 
 pub returns-clause-within : goal.returns-clause-within

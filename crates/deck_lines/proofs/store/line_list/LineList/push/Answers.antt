@@ -20,5 +20,5 @@ returns-clause-ok c =
     ap (λ (lines : List Line). with_marks lines c.put_last.new.items.items) c.in_ok-push.ensures.ok
     ∙ ap (with_marks (c.self.inside.lines ++ c.args.line ∷ []))
     (c.put_last.ensures.items ∙ ap (λ (marks : List Bool). marks ++ c.args.mark ∷ []) c.in_ok-reserve.ensures.items)
-    ∙ marks_push c.self.inside.lines c.self.inside.marks.items c.args.line c.args.mark c.self.invariant.marked
+    ∙ marks_push c.self.inside.lines c.self.inside.marks.items c.args.line c.args.mark c.self.invariant.mark_count
     ∙ ap (λ (lines : List DeckLine). lines ++ with_mark c.args.mark c.args.line ∷ []) c.self.view_is

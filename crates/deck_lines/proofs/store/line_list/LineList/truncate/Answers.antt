@@ -9,7 +9,8 @@ use Rattle.deck_lines.proofs.store.line_list.LineList.truncate.Goals as goal
 pub returns-then-len : goal.returns-then-len
 returns-then-len c =
     let long : length c.args.self.now ≡ length c.self.inside.lines =
-    ap length (sym c.self.view_is) ∙ marks_len c.self.inside.lines c.self.inside.marks.items c.self.invariant.marked in
+    ap length (sym c.self.view_is) ∙ marks_len c.self.inside.lines c.self.inside.marks.items c.self.invariant.mark_count
+    in
     sym (all_of c.args.len c.args.self.now (omega (arith, long, c.len.ensures, c.if-len.true)))
 
 pub texts_len-requires : goal.texts_len-requires

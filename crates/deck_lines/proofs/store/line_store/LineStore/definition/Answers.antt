@@ -8,4 +8,4 @@ pub returns : goal.returns
 returns c =
     subst (λ (s : Store). option_map (seen_definition s.names) (option_copied c.at.result)
     ≡ option_map keyed_definition (definition_at s.lines c.args.place)) c.self.view_is
-    (c.at.ensures c.self.inside.lines c.self.invariant.defined)
+    (c.at.ensures c.self.inside.lines c.self.invariant.definitions_right)

@@ -13,7 +13,7 @@ line-requires-clause-inside c =
     omega (
       arith,
       is_there c.self.inside.lines c.args.place (names_in c.self.inside.definitions.keys) c.in-Some.definition.now
-          (c.in-Some.ensures c.self.inside.lines c.self.invariant.defined),
+          (c.in-Some.ensures c.self.inside.lines c.self.invariant.definitions_right),
       ap length c.marked.ensures.lines,
       marks_len c.marked.result.lines.now c.marked.result.marks.now c.marked.ensures.each,
     )
@@ -27,12 +27,12 @@ returns-in-Some c =
           c.line.result.mark;
     } in
     said_there c.self.inside.lines c.args.place (names_in c.self.inside.definitions.keys) c.in-Some.definition.now
-    (c.in-Some.ensures c.self.inside.lines c.self.invariant.defined) x
+    (c.in-Some.ensures c.self.inside.lines c.self.invariant.definitions_right) x
     (ap (λ (ls : List DeckLine). slice_get ls c.args.place) (sym c.marked.ensures.lines) ∙ c.line.ensures)
     ∙ ap (λ (s : Store). option_map (λ (p : Key × Entry). p.1) (definition_at s.lines c.args.place)) c.self.view_is
 
 pub returns-in-None : goal.returns-in-None
 returns-in-None c =
     none_there (definition_at c.self.inside.lines c.args.place)
-    (c.in-None.ensures c.self.inside.lines c.self.invariant.defined)
+    (c.in-None.ensures c.self.inside.lines c.self.invariant.definitions_right)
     ∙ ap (λ (s : Store). option_map (λ (p : Key × Entry). p.1) (definition_at s.lines c.args.place)) c.self.view_is

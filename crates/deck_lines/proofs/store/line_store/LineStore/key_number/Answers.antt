@@ -10,7 +10,8 @@ use Rattle.deck_lines.proofs.store.line_store.LineStore.key_number.Goals as goal
 pub returns-in-Some-clause-number : goal.returns-in-Some-clause-number
 returns-in-Some-clause-number c =
     ap (λ (s : Store). Some (key_numbered s.names c.in-Some.definition.now.key)) (sym c.self.view_is)
-    ∙ ap (option_map (λ (p : Option Key × What). p.0)) (c.in-Some.ensures c.self.inside.lines c.self.invariant.defined)
+    ∙ ap (option_map (λ (p : Option Key × What). p.0))
+    (c.in-Some.ensures c.self.inside.lines c.self.invariant.definitions_right)
     ∙ keyed_key (definition_at c.self.inside.lines c.args.place)
     ∙ ap (λ (s : Store). option_map (λ (p : Key × Entry). Some p.0) (definition_at s.lines c.args.place)) c.self.view_is
 
@@ -20,7 +21,8 @@ returns-in-Some-clause-numbering c =
 
 pub returns-in-None-clause-number : goal.returns-in-None-clause-number
 returns-in-None-clause-number c =
-    ap (option_map (λ (p : Option Key × What). p.0)) (c.in-None.ensures c.self.inside.lines c.self.invariant.defined)
+    ap (option_map (λ (p : Option Key × What). p.0))
+    (c.in-None.ensures c.self.inside.lines c.self.invariant.definitions_right)
     ∙ keyed_key (definition_at c.self.inside.lines c.args.place)
     ∙ ap (λ (s : Store). option_map (λ (p : Key × Entry). Some p.0) (definition_at s.lines c.args.place)) c.self.view_is
 

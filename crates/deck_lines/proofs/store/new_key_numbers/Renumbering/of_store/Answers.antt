@@ -31,7 +31,7 @@ returns c =
     (omega (arith, c.loop-place-test.false, c.len-place-end.ensures.count)) in
     record {
       names = c.loop-place.invariant.names ∙ ap (with_definitions no_names) all;
-      each =
+      definition_numbers =
           subst (λ ls. AreNumbers (names_in c.loop-place.keys) c.loop-place.of_lines.items (map entry_in ls)) all
           c.loop-place.invariant.each;
       unique = c.loop-place.invariant.unique;

@@ -1,6 +1,6 @@
 use Rattle.std.proofs.Common.{◌==◌, length, ap, sym, ◌∙◌}
 use Rattle.def_lines.proofs.TrimmedTexts.{put-first, is_begun-put-first}
-use Rattle.def_lines.proofs.part.Part.put.Goals as goal
+use Rattle.def_lines.proofs.part.Part.put_bytes.Goals as goal
 
 pub invariant_of-self : goal.invariant_of-self
 invariant_of-self c = record {
