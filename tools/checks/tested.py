@@ -22,17 +22,19 @@ RECORDS = ROOT / "docs/tested.tsv"
 PAGE = ROOT / "docs/TESTED.md"
 HEAD = """# What is tested
 
-Written by `tools/checks/tested.py` from `docs/tested.tsv`; do not edit. What is proved is in [PROVED.md](PROVED.md). Expected values come from rules worked out by hand, from printed tables or from another program, never from the program itself.
+Written by `tools/checks/tested.py` from `docs/tested.tsv`; do not edit. [PROVED.md](PROVED.md) has what is proved. Expected values come from rules worked out by hand, printed tables or another program, never from the program itself. A blank result is: no difference.
 
 ## By `bin/check` and `bin/test`
 
-A check whose Debian package is not installed is skipped and named.
+The commands are in `tools/checks`. A check whose Debian package is not installed is skipped and named.
 
-| check | command | cases | what it shows |
+| check | command | cases | result |
 |---|---|---|---|
 """
 BY_HAND = """
 ## By hand
+
+The comparisons are in `tools/comparisons`.
 
 | check | command | last run | cases | result |
 |---|---|---|---|---|
