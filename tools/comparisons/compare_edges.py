@@ -110,11 +110,11 @@ def main():
     calls = list(random_calls(count))
     spelled_calls = "".join(call + "\n" for call, _ in calls)
     run = subprocess.run([program(PROGRAM), KIND], input=spelled_calls, capture_output=True, text=True, check=True)
-    told = run.stdout.splitlines()
-    if len(told) != len(calls):
-        sys.exit(f"{len(told)} answers to {len(calls)} calls")
+    replies = run.stdout.splitlines()
+    if len(replies) != len(calls):
+        sys.exit(f"{len(replies)} replies to {len(calls)} calls")
     differences = 0
-    for (call, expected), answer in zip(calls, told):
+    for (call, expected), answer in zip(calls, replies):
         if call.startswith("users") and answer != "none":
             answer = numbers_text(sorted(map(int, answer.split())))
         if answer != expected:
