@@ -2,17 +2,17 @@
 
 use crate::built_in::{BUILT_IN_NAME, built_in};
 use crate::evaluator::Evaluator;
-use crate::line_names::{LineNames, line_names};
+use crate::line_names::{LineNames, line_names, line_names_to_read};
 use crate::stop::Stop;
 use deck::{Deck, Settings};
 use live_table::LiveTable;
 use std::alloc::{AllocError, Global};
 use std::sync::ledger::Ledger;
 use units_io::{Files, Steps, Text, Vars};
-use why_words::Request;
+use why_words::{Inquiry, Request};
 
-/// The definitions of a run, and the files of their lines. The files are unknown if one of them changed between the two
-/// times it was read.
+/// The definitions of a run, and the files of their lines. The files are unknown if one of them was read twice and had
+/// changed.
 #[derive(Drop)]
 pub(crate) struct Definitions<L: Ledger> {
     pub(crate) evaluator: Evaluator<L>,
@@ -30,7 +30,7 @@ pub(crate) fn load<F: Files, L: Ledger>(
 ) -> Result<Definitions<L>, Stop> {
     let settings = settings_of(alloc, request, vars)?;
     let (deck, names) = match &request.file {
-        Some(name) => load_file(alloc, files, name.as_bytes(), settings)?,
+        Some(name) => load_file(alloc, files, name.as_bytes(), &request.inquiry, settings)?,
         None => load_built_in(alloc, settings)?,
     };
     Ok(Definitions {
@@ -64,9 +64,13 @@ fn load_file<F: Files>(
     alloc: Global,
     files: &mut F,
     name: &[u8],
+    inquiry: &Inquiry,
     settings: Settings,
 ) -> Result<(Deck, Option<LineNames>), Stop> {
     let deck = Deck::load(alloc, files, name, settings)?;
-    let names = line_names(alloc, files, name, &deck)?;
+    let names = match inquiry {
+        Inquiry::Value(_, _) => line_names(alloc, files, name, &deck)?,
+        Inquiry::Lint(_) => line_names_to_read(alloc, files, name, &deck)?,
+    };
     Ok((deck, names))
 }

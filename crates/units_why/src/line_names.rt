@@ -1,5 +1,6 @@
 //! The names of the files that contain the lines of a deck.
 
+use crate::shadows::has_one_line_per_key;
 use deck::Deck;
 use def_lines::{LineKind, classify};
 use line_files::{LineFiles, LineFilesFault, find_line_files};
@@ -35,22 +36,19 @@ impl LineNames {
 }
 
 /// Returns the files of the lines of a deck that was loaded from the file `name`, or `None` if the files changed. All
-/// lines of a deck that includes no file are in that file: then it is read again only to test that it still has that
-/// many lines.
+/// lines of a deck that includes no file are in that file, which is not read again.
 pub(crate) fn line_names<F: Files>(
     alloc: Global,
     files: &mut F,
     name: &[u8],
     deck: &Deck,
 ) -> Result<Option<LineNames>, AllocError> {
-    let text = match files.fetch(alloc, name) {
-        Ok(text) => text,
-        Err(FetchFault::OutOfMemory) => return Err(AllocError),
-        Err(_) => return Ok(None),
-    };
     if !has_includes(deck) {
-        return sole_name(alloc, name, text.as_bytes(), deck);
+        return Ok(Some(LineNames::One(Text::from_bytes(alloc, name)?)));
     }
+    let Some(text) = text_of(alloc, files, name)? else {
+        return Ok(None);
+    };
     let lines = deck.lines().as_slice();
     match find_line_files(alloc, files, name, text.as_bytes(), lines) {
         Ok(found) => Ok(Some(LineNames::Many(found))),
@@ -59,8 +57,42 @@ pub(crate) fn line_names<F: Files>(
     }
 }
 
+/// Does the same for a caller that reads the lines in their files again: returns `None` also if the only file has fewer
+/// lines now.
+pub(crate) fn line_names_to_read<F: Files>(
+    alloc: Global,
+    files: &mut F,
+    name: &[u8],
+    deck: &Deck,
+) -> Result<Option<LineNames>, AllocError> {
+    let names = line_names(alloc, files, name, deck)?;
+    let Some(LineNames::One(_)) = &names else {
+        return Ok(names);
+    };
+    match text_of(alloc, files, name)? {
+        Some(text) if last_number(deck) <= line_count(text.as_bytes()) => Ok(names),
+        _ => Ok(None),
+    }
+}
+
+// Returns the text of a file, or `None` if it cannot be read.
+fn text_of<F: Files>(
+    alloc: Global,
+    files: &mut F,
+    name: &[u8],
+) -> Result<Option<Text>, AllocError> {
+    match files.fetch(alloc, name) {
+        Ok(text) => Ok(Some(text)),
+        Err(FetchFault::OutOfMemory) => Err(AllocError),
+        Err(_) => Ok(None),
+    }
+}
+
 // Returns whether a line of a deck includes a file.
 fn has_includes(deck: &Deck) -> bool {
+    if has_one_line_per_key(deck) {
+        return false;
+    }
     for line in deck.lines().as_slice() {
         if is_include(line.text.as_bytes()) {
             return true;
@@ -75,19 +107,6 @@ fn is_include(line: &[u8]) -> bool {
         Some(b'!') => matches!(classify(line), LineKind::Include(_)),
         _ => false,
     }
-}
-
-// Returns the name of the only file of a deck, or `None` if the file has fewer lines now.
-fn sole_name(
-    alloc: Global,
-    name: &[u8],
-    text: &[u8],
-    deck: &Deck,
-) -> Result<Option<LineNames>, AllocError> {
-    if line_count(text) < last_number(deck) {
-        return Ok(None);
-    }
-    Ok(Some(LineNames::One(Text::from_bytes(alloc, name)?)))
 }
 
 // Counts the lines of a text. A last line without a line feed counts too.

@@ -17,6 +17,7 @@ mod fault_step;
 mod finding;
 mod interval;
 mod json;
+mod key_copy;
 mod line_names;
 mod lint;
 mod mark;

@@ -1,11 +1,12 @@
 //! The calls in the expressions above a row.
 
+use crate::entries::what_at;
 use crate::path::Path;
-use deck::Deck;
-use def_entry::{Key, Kind, What};
+use deck::{BorrowedKey, Deck};
+use def_entry::{Kind, What};
 use expr_tree::{Tree, WordKind};
 use std::alloc::{AllocError, Global};
-use value_sources::{Resolution, Row, Site, calls};
+use value_sources::{Resolution, Site, StoredMention, calls};
 
 /// The calls, not yet shown, of the expression and of the definitions above the next row, outermost first. A definition
 /// without calls has no level.
@@ -39,29 +40,30 @@ impl OpenCalls {
         Ok(OpenCalls { levels })
     }
 
-    /// Returns the call that the word of a row begins, if that word is a function. Rows must be passed in order, each
-    /// with the path above it.
+    /// Returns the call that the word of a row begins, if that word is a function. The words of the rows must be passed
+    /// in order, each with the path above it.
     pub(crate) fn next_call(
         &mut self,
         alloc: Global,
         deck: &Deck,
-        rows: &[Row],
         path: &Path,
-        row: &Row,
+        mention: &StoredMention,
     ) -> Result<Option<Tree>, AllocError> {
-        self.leave(row.depth());
-        if !begins_call(row) {
+        let depth = mention.depth();
+        self.leave(depth);
+        if !begins_call(mention) {
             return Ok(None);
         }
-        if !self.is_open(row.depth()) {
-            let calls = calls_above(alloc, deck, rows, path)?;
-            self.levels.push(Level {
-                depth: row.depth(),
-                calls,
-            })?;
+        if !self.is_open(depth) {
+            let calls = calls_above(alloc, deck, path)?;
+            self.levels.push(Level { depth, calls })?;
         }
         let call = self.pop();
-        Ok(if is_function(row.key()) { call } else { None })
+        Ok(if is_function(mention.key(deck)) {
+            call
+        } else {
+            None
+        })
     }
 
     // Removes the levels whose words are deeper.
@@ -89,10 +91,10 @@ impl OpenCalls {
     }
 }
 
-// Returns whether the word of a row comes before an operand in parentheses. If the word is a prefix and a unit, only
-// the row of the prefix begins the call.
-fn begins_call(row: &Row) -> bool {
-    match (row.site(), row.word_kind(), row.resolution()) {
+// Returns whether a word comes before an operand in parentheses. If it is a prefix and a unit, only the mention of the
+// prefix begins the call.
+fn begins_call(mention: &StoredMention) -> bool {
+    match (mention.site(), mention.word_kind(), mention.resolution()) {
         (Site::Expression | Site::Body, WordKind::Call | WordKind::Inverse, resolution) => {
             !matches!(resolution, Resolution::PrefixedUnit)
         }
@@ -100,7 +102,7 @@ fn begins_call(row: &Row) -> bool {
     }
 }
 
-fn is_function(key: Option<&Key>) -> bool {
+fn is_function(key: Option<BorrowedKey<'_>>) -> bool {
     match key {
         Some(key) => matches!(key.kind, Kind::Func),
         None => false,
@@ -108,22 +110,16 @@ fn is_function(key: Option<&Key>) -> bool {
 }
 
 // Returns the calls of the definition of the row above, the last one first.
-fn calls_above(
-    alloc: Global,
-    deck: &Deck,
-    rows: &[Row],
-    path: &Path,
-) -> Result<Vec<Tree>, AllocError> {
-    match tree_above(deck, rows, path) {
+fn calls_above(alloc: Global, deck: &Deck, path: &Path) -> Result<Vec<Tree>, AllocError> {
+    match tree_above(deck, path) {
         Some(tree) => reversed_calls(alloc, tree),
         None => Ok(Vec::new(alloc)),
     }
 }
 
 // Returns the expression of the definition of the row above.
-fn tree_above<'a>(deck: &'a Deck, rows: &[Row], path: &Path) -> Option<&'a Tree> {
-    let key = rows.get(path.parent()?)?.key()?;
-    match deck.entry(key.kind, key.name.as_bytes())?.what {
+fn tree_above<'a>(deck: &'a Deck, path: &Path) -> Option<&'a Tree> {
+    match what_at(deck, path.parent()?)? {
         What::Body(tree) => Some(tree),
         _ => None,
     }

@@ -2,6 +2,7 @@
 
 ghost use Rattle.reply.specs.Options.{IsPrintable};
 
+use crate::entries::key_at;
 use crate::evaluator::Evaluator;
 use crate::fault_step::FaultStep;
 use def_entry::Key;
@@ -13,7 +14,7 @@ use std::alloc::{AllocError, Global};
 use std::sync::ledger::Ledger;
 use tree_eval::{Outcome as CachedOutcome, ValueFault};
 use units_io::Text;
-use value_sources::{FailedStep, Row, value_tree};
+use value_sources::{FailedStep, StoredMention, Walk, value_tree};
 
 /// The outcome of a row.
 #[derive(Drop)]
@@ -68,13 +69,13 @@ pub(crate) fn cached_value<'a>(
     }
 }
 
-/// Returns the outcome of the key of a row at this depth. The rows `below` follow that row.
+/// Returns the outcome of the key of a row at this depth, which the walk gave last.
 pub(crate) fn outcome_of<L: Ledger>(
     evaluator: &mut Evaluator<L>,
     options: &Options,
     key: &Key,
     depth: usize,
-    below: &[Row],
+    walk: &Walk,
 ) -> Result<Outcome, AllocError>
     requires { IsPrintable options.now }
 {
@@ -89,7 +90,7 @@ pub(crate) fn outcome_of<L: Ledger>(
         Queried::Fault(fault) => fault,
         Queried::Known(outcome) => return Ok(outcome),
     };
-    if is_fault_below(evaluator, depth, below)? {
+    if is_fault_below(evaluator, depth, walk)? {
         return Ok(Outcome::FaultBelow);
     }
     own_fault(evaluator, options, key, fault)
@@ -134,38 +135,43 @@ fn own_fault<L: Ledger>(
     Ok(Outcome::Fault(Box::new(alloc, own)?))
 }
 
-// Returns whether a row directly below a row at this depth has a fault. The rows `below` follow that row.
+// Returns whether a row directly below a row at this depth, which the walk gave last, has a fault.
 fn is_fault_below<L: Ledger>(
     evaluator: &mut Evaluator<L>,
     depth: usize,
-    below: &[Row],
+    walk: &Walk,
 ) -> Result<bool, AllocError> {
-    for row in below {
-        if row.depth() <= depth {
+    for mention in walk.pending().iter().rev() {
+        if mention.depth() <= depth {
             return Ok(false);
         }
-        if row.depth() == depth.saturating_add(1) && has_fault(evaluator, row)? {
+        if has_fault(evaluator, mention)? {
             return Ok(true);
         }
     }
     Ok(false)
 }
 
-/// Returns whether the word of a row is unknown or refused, or its key has a fault.
+/// Returns whether a word is unknown or refused, or its key has a fault.
 pub(crate) fn has_fault<L: Ledger>(
     evaluator: &mut Evaluator<L>,
-    row: &Row,
+    mention: &StoredMention,
 ) -> Result<bool, AllocError> {
-    if row.is_refused() {
-        return Ok(true);
-    }
-    let Some(key) = row.key() else {
+    let alloc = evaluator.alloc;
+    let deck = evaluator.deck();
+    let Some(place) = mention.place() else {
         return Ok(true);
     };
-    match evaluator.table.cached_outcome(evaluator.alloc, key)? {
+    if mention.is_refused(deck) {
+        return Ok(true);
+    }
+    let Some(key) = key_at(alloc, deck, place)? else {
+        return Ok(true);
+    };
+    match evaluator.table.cached_outcome(alloc, &key)? {
         Some(CachedOutcome::Fault(_)) => Ok(true),
         Some(CachedOutcome::Value(_)) | Some(CachedOutcome::Callable) => Ok(false),
-        None => has_queried_fault(evaluator, key),
+        None => has_queried_fault(evaluator, &key),
     }
 }
 

@@ -2,18 +2,12 @@
 
 use std::alloc::{AllocError, Global};
 
-/// The rows above the next row. Each line of the deck has a mark: whether one of these rows has its definition.
+/// The rows above the next row, each by the place of its definition in the deck. Each line of the deck has a mark:
+/// whether one of these rows has its definition.
 #[derive(Drop)]
 pub(crate) struct Path {
-    rows: Vec<PathRow>,
+    rows: Vec<Option<usize>>,
     open: Vec<bool>,
-}
-
-// A row of the path, and the place of its definition in the deck.
-#[derive(Clone, Copy, Drop)]
-struct PathRow {
-    row: usize,
-    place: Option<usize>,
 }
 
 impl Path {
@@ -31,22 +25,22 @@ impl Path {
     pub(crate) fn leave(&mut self, depth: usize) {
         for _ in depth..self.rows.len() {
             if let Some(left) = self.rows.pop() {
-                self.set_open(left.place, false);
+                self.set_open(left, false);
             }
         }
     }
 
     /// Appends a row whose definition is at `place`.
-    pub(crate) fn enter(&mut self, row: usize, place: Option<usize>) -> Result<(), AllocError> {
-        self.rows.push(PathRow { row, place })?;
+    pub(crate) fn enter(&mut self, place: Option<usize>) -> Result<(), AllocError> {
+        self.rows.push(place)?;
         self.set_open(place, true);
         Ok(())
     }
 
-    /// Returns the row directly above the next row.
+    /// Returns the place of the definition directly above the next row.
     pub(crate) fn parent(&self) -> Option<usize> {
         match self.rows.last() {
-            Some(last) => Some(last.row),
+            Some(place) => *place,
             None => None,
         }
     }

@@ -15,10 +15,10 @@ use crate::row_words::{definition_text, fault_word, resolution_word, site_word};
 use crate::segment::{Point, Segment};
 use crate::shadows::Shadows;
 use crate::values::value_text;
-use def_entry::put_key;
+use deck::Deck;
+use def_entry::{Key, put_key};
 use reply::Options;
 use std::alloc::{AllocError, Global};
-use value_sources::Row;
 
 /// Appends the object of a row.
 pub(crate) fn put_row_json(
@@ -30,17 +30,17 @@ pub(crate) fn put_row_json(
 ) -> Result<(), AllocError>
     requires { IsPrintable style.options.now }
 {
-    let row = view.row;
+    let mention = view.mention;
     out.extend_from_slice(b"{\"word\":".as_slice())?;
-    put_string(out, row.word())?;
-    put_number_member(out, b"depth", row.depth())?;
-    put_key_members(alloc, out, row)?;
+    put_string(out, mention.word(places.deck))?;
+    put_number_member(out, b"depth", mention.depth())?;
+    put_key_members(alloc, out, view)?;
     match view.note.standing {
-        Standing::Unknown => put_text_member(out, b"fault", fault_word(row))?,
+        Standing::Unknown => put_text_member(out, b"fault", fault_word(places.deck, mention))?,
         Standing::Above => put_flag_member(out, b"above", true)?,
         Standing::Cycle => put_text_member(out, b"fault", b"cycle")?,
         Standing::Defined(place) => {
-            put_definition(out, places, row, place)?;
+            put_definition(out, places.deck, view.key, place)?;
             put_outcome(alloc, out, style.options, view.outcome)?;
             put_place_members(out, places, place)?;
             put_replaced(out, places, style.shadows, place)?;
@@ -54,15 +54,19 @@ pub(crate) fn put_row_json(
 }
 
 // Appends the key of a row, and how the word leads to it.
-fn put_key_members(alloc: Global, out: &mut Vec<u8>, row: &Row) -> Result<(), AllocError> {
-    let Some(key) = row.key() else {
+fn put_key_members(
+    alloc: Global,
+    out: &mut Vec<u8>,
+    view: RowView<'_, '_>,
+) -> Result<(), AllocError> {
+    let Some(key) = view.key else {
         return Ok(());
     };
     let mut text = Vec::new(alloc);
     put_key(&mut text, key)?;
     put_text_member(out, b"key", &text)?;
-    put_text_member(out, b"how", resolution_word(row, key))?;
-    match site_word(row.site()) {
+    put_text_member(out, b"how", resolution_word(view.mention, key))?;
+    match site_word(view.mention.site()) {
         Some(site) => put_text_member(out, b"part", site),
         None => Ok(()),
     }
@@ -70,14 +74,14 @@ fn put_key_members(alloc: Global, out: &mut Vec<u8>, row: &Row) -> Result<(), Al
 
 fn put_definition(
     out: &mut Vec<u8>,
-    places: Places<'_>,
-    row: &Row,
+    deck: &Deck,
+    key: Option<&Key>,
     place: usize,
 ) -> Result<(), AllocError> {
-    let Some(key) = row.key() else {
+    let Some(key) = key else {
         return Ok(());
     };
-    match definition_text(places.deck, key, place) {
+    match definition_text(deck, key, place) {
         Some(text) => put_text_member(out, b"text", text),
         None => Ok(()),
     }

@@ -34,62 +34,60 @@ pub(crate) enum Standing {
     Defined(usize),
 }
 
-/// A walk over the rows of a tree, in order.
+/// What must be known of the rows so far to note the next one: those above it, and the calls of their definitions.
 #[derive(Drop)]
-pub(crate) struct RowWalk {
+pub(crate) struct RowNotes {
     path: Path,
     calls: OpenCalls,
 }
 
-impl RowWalk {
-    /// Starts a walk over the rows of an expression with these calls.
-    pub(crate) fn new(alloc: Global, deck: &Deck, calls: OpenCalls) -> Result<RowWalk, AllocError> {
+impl RowNotes {
+    /// Returns the state before the first row of an expression with these calls.
+    pub(crate) fn new(
+        alloc: Global,
+        deck: &Deck,
+        calls: OpenCalls,
+    ) -> Result<RowNotes, AllocError> {
         let path = Path::new(alloc, deck.lines().len())?;
-        Ok(RowWalk { path, calls })
+        Ok(RowNotes { path, calls })
     }
 
-    /// Returns what is known about the row at index `at`, which must be the next one.
+    /// Returns what is known about the next row.
     pub(crate) fn note<L: Ledger>(
         &mut self,
         evaluator: &mut Evaluator<L>,
         options: &Options,
-        rows: &[Row],
-        at: usize,
+        row: &Row,
     ) -> Result<RowNote, AllocError>
         requires { IsPrintable options.now }
     {
-        let Some(row) = rows.get(at) else {
-            return Ok(RowNote {
-                standing: Standing::Unknown,
-                call: None,
-            });
-        };
-        self.path.leave(row.depth());
+        self.path.leave(row.mention.depth());
         let deck = evaluator.deck();
         let standing = self.relation_to_definition(deck, row);
         let alloc = evaluator.alloc;
-        let call = self.calls.next_call(alloc, deck, rows, &self.path, row)?;
+        let call = self
+            .calls
+            .next_call(alloc, deck, &self.path, &row.mention)?;
         let call = boxed_trace(evaluator, options, call)?;
-        self.path.enter(at, defined_at(standing))?;
+        self.path.enter(defined_at(standing))?;
         Ok(RowNote { standing, call })
     }
 
     // Returns how a row relates to the definition of its key.
     fn relation_to_definition(&self, deck: &Deck, row: &Row) -> Standing {
-        let Some(key) = row.key() else {
+        let Some(place) = row.mention.place() else {
             return Standing::Unknown;
         };
-        if row.is_refused() {
+        if row.mention.is_refused(deck) {
             return Standing::Unknown;
         }
-        if let Some(place) = row.place() {
+        if row.is_visit {
             return Standing::Defined(place);
         }
-        match deck.last_place(key) {
-            Some(place) if self.path.is_open(place) => Standing::Cycle,
-            Some(_) => Standing::Above,
-            None => Standing::Unknown,
+        if self.path.is_open(place) {
+            return Standing::Cycle;
         }
+        Standing::Above
     }
 }
 

@@ -11,15 +11,16 @@ use crate::row_note::Standing;
 use crate::row_style::RowStyle;
 use crate::row_view::RowView;
 use crate::row_words::{
-    definition_text, fault_word, is_rewritten, put_name, resolution_word, site_word,
+    definition_text, fault_word, put_name, resolution_word, rewritten_word, site_word,
 };
 use crate::segment::{Point, Segment};
 use crate::shadows::Shadows;
 use crate::values::put_value;
+use deck::Deck;
 use def_entry::{Key, Kind};
 use reply::Options;
 use std::alloc::{AllocError, Global};
-use value_sources::{Resolution, Row};
+use value_sources::{Resolution, StoredMention};
 
 // A row is indented by two blanks for each row above it, up to this many rows. Deeper rows begin with their depth, so
 // that the output for a long chain does not grow with the square of its length.
@@ -37,25 +38,26 @@ pub(crate) fn put_row_text(
 ) -> Result<(), AllocError>
     requires { IsPrintable style.options.now }
 {
-    let row = view.row;
-    put_indent(out, row.depth())?;
-    put_name(out, row)?;
+    let deck = places.deck;
+    let depth = view.mention.depth();
+    put_indent(out, depth)?;
+    put_name(out, deck, view)?;
     match view.note.standing {
         Standing::Unknown => {
             out.extend_from_slice(b": ".as_slice())?;
-            out.extend_from_slice(fault_word(row))?;
+            out.extend_from_slice(fault_word(deck, view.mention))?;
             out.push(b'\n')?;
         }
-        Standing::Above => put_mention(out, row, b"see above\n")?,
-        Standing::Cycle => put_mention(out, row, b"a cycle: this definition is above\n")?,
+        Standing::Above => put_mention(out, deck, view, b"see above\n")?,
+        Standing::Cycle => put_mention(out, deck, view, b"a cycle: this definition is above\n")?,
         Standing::Defined(place) => {
-            put_definition(out, places, row, place)?;
+            put_definition(out, deck, view, place)?;
             put_outcome(alloc, out, style.options, view.outcome)?;
             put_places(out, places, style.shadows, place)?;
         }
     }
     match &view.note.call {
-        Some(call) => put_call(out, row.depth(), call),
+        Some(call) => put_call(out, depth, call),
         None => Ok(()),
     }
 }
@@ -123,24 +125,29 @@ fn put_indent(out: &mut Vec<u8>, depth: usize) -> Result<(), AllocError> {
 // Appends how the word leads to its key, and the text of the definition.
 fn put_definition(
     out: &mut Vec<u8>,
-    places: Places<'_>,
-    row: &Row,
+    deck: &Deck,
+    view: RowView<'_, '_>,
     place: usize,
 ) -> Result<(), AllocError> {
-    let Some(key) = row.key() else {
+    let Some(key) = view.key else {
         return Ok(());
     };
-    put_lead(out, row, key)?;
-    match definition_text(places.deck, key, place) {
+    put_lead(out, deck, view.mention, key)?;
+    match definition_text(deck, key, place) {
         Some(text) => Ok(out.extend_from_slice(text)?),
         None => Ok(()),
     }
 }
 
 // Appends how the word leads to its key, followed by `words`.
-fn put_mention(out: &mut Vec<u8>, row: &Row, words: &[u8]) -> Result<(), AllocError> {
-    match row.key() {
-        Some(key) => put_lead(out, row, key)?,
+fn put_mention(
+    out: &mut Vec<u8>,
+    deck: &Deck,
+    view: RowView<'_, '_>,
+    words: &[u8],
+) -> Result<(), AllocError> {
+    match view.key {
+        Some(key) => put_lead(out, deck, view.mention, key)?,
         None => out.extend_from_slice(b": ".as_slice())?,
     }
     out.extend_from_slice(words)?;
@@ -149,29 +156,28 @@ fn put_mention(out: &mut Vec<u8>, row: &Row, words: &[u8]) -> Result<(), AllocEr
 
 // Appends how the word leads to its key: the kind of the key, the word if it differs from the name, and the part of the
 // definition above that contains the word.
-fn put_lead(out: &mut Vec<u8>, row: &Row, key: &Key) -> Result<(), AllocError> {
-    let site = site_word(row.site());
-    if let (Kind::Unit, Resolution::Name, None) = (key.kind, row.resolution(), site) {
+fn put_lead(
+    out: &mut Vec<u8>,
+    deck: &Deck,
+    mention: &StoredMention,
+    key: &Key,
+) -> Result<(), AllocError> {
+    let site = site_word(mention.site());
+    if let (Kind::Unit, Resolution::Name, None) = (key.kind, mention.resolution(), site) {
         return Ok(out.extend_from_slice(b": unit, ".as_slice())?);
     }
     out.extend_from_slice(b": ".as_slice())?;
-    out.extend_from_slice(resolution_word(row, key))?;
-    put_word(out, row, key)?;
+    out.extend_from_slice(resolution_word(mention, key))?;
+    if let Some(word) = rewritten_word(deck, mention, key) {
+        out.extend_from_slice(b" in ".as_slice())?;
+        out.extend_from_slice(word)?;
+    }
     if let Some(site) = site {
         out.extend_from_slice(b" (".as_slice())?;
         out.extend_from_slice(site)?;
         out.push(b')')?;
     }
     Ok(out.extend_from_slice(b", ".as_slice())?)
-}
-
-// Appends the word as it is written, if it differs from the name.
-fn put_word(out: &mut Vec<u8>, row: &Row, key: &Key) -> Result<(), AllocError> {
-    if is_rewritten(row, key) {
-        out.extend_from_slice(b" in ".as_slice())?;
-        out.extend_from_slice(row.word())?;
-    }
-    Ok(())
 }
 
 fn put_outcome(

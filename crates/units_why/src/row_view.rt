@@ -2,24 +2,28 @@
 
 use crate::outcome::LentOutcome;
 use crate::row_note::RowNote;
-use value_sources::Row;
+use def_entry::Key;
+use value_sources::StoredMention;
 
 /// A row with what a tree shows about it.
 #[derive(Clone, Copy)]
 pub(crate) struct RowView<'r, 'o> {
-    pub(crate) row: &'r Row,
+    pub(crate) mention: &'r StoredMention,
+    /// The key that its word leads to.
+    pub(crate) key: Option<&'r Key>,
     pub(crate) note: &'r RowNote,
     /// The outcome of its key. It is used only if the row shows the definition of its key.
     pub(crate) outcome: LentOutcome<'o>,
 }
 
-impl<'r, 'o> RowView<'r, 'o> {
-    /// Joins a row with its note and its outcome.
-    pub(crate) fn new(
-        row: &'r Row,
-        note: &'r RowNote,
-        outcome: LentOutcome<'o>,
-    ) -> RowView<'r, 'o> {
-        RowView { row, note, outcome }
+impl<'r> RowView<'r, '_> {
+    /// Returns the row with another outcome.
+    pub(crate) fn with_outcome<'o>(self, outcome: LentOutcome<'o>) -> RowView<'r, 'o> {
+        RowView {
+            mention: self.mention,
+            key: self.key,
+            note: self.note,
+            outcome,
+        }
     }
 }

@@ -1,17 +1,18 @@
 //! The words that describe rows.
 
+use crate::row_view::RowView;
 use deck::Deck;
 use def_entry::{Key, Kind, put_key};
 use def_lines::trim;
 use expr_tree::WordKind;
 use std::alloc::AllocError;
-use value_sources::{Resolution, Row, Site};
+use value_sources::{Resolution, Site, StoredMention};
 
-/// Returns how the word of a row leads to its key.
-pub(crate) fn resolution_word(row: &Row, key: &Key) -> &'static [u8] {
-    match (key.kind, row.resolution(), row.word_kind()) {
+/// Returns how a word leads to its key.
+pub(crate) fn resolution_word(mention: &StoredMention, key: &Key) -> &'static [u8] {
+    match (key.kind, mention.resolution(), mention.word_kind()) {
         (Kind::Prefix, _, _) => b"prefix",
-        (Kind::Func, _, WordKind::Inverse) if !is_alias_target(row) => b"inverse function",
+        (Kind::Func, _, WordKind::Inverse) if !is_alias_target(mention) => b"inverse function",
         (Kind::Func, _, _) => b"function",
         (_, Resolution::Plural, _) => b"plural",
         _ => b"unit",
@@ -19,8 +20,8 @@ pub(crate) fn resolution_word(row: &Row, key: &Key) -> &'static [u8] {
 }
 
 // Returns whether the word is the function that an alias names. That function is called in the direction of the alias.
-fn is_alias_target(row: &Row) -> bool {
-    match row.site() {
+fn is_alias_target(mention: &StoredMention) -> bool {
+    match mention.site() {
         Site::AliasTarget => true,
         _ => false,
     }
@@ -39,19 +40,30 @@ pub(crate) fn site_word(site: Site) -> Option<&'static [u8]> {
     }
 }
 
-/// Returns whether the word of a row differs from the name of its key.
-pub(crate) fn is_rewritten(row: &Row, key: &Key) -> bool {
-    match row.resolution() {
-        Resolution::Name => false,
-        _ => row.word() != key.name.as_bytes(),
+/// Returns a word if it differs from the name of its key.
+pub(crate) fn rewritten_word<'a>(
+    deck: &'a Deck,
+    mention: &'a StoredMention,
+    key: &Key,
+) -> Option<&'a [u8]> {
+    match mention.resolution() {
+        Resolution::Name => None,
+        _ => {
+            let word = mention.word(deck);
+            if word == key.name.as_bytes() { None } else { Some(word) }
+        }
     }
 }
 
 /// Appends the name of a row: its key, or its word if the word is unknown.
-pub(crate) fn put_name(out: &mut Vec<u8>, row: &Row) -> Result<(), AllocError> {
-    match row.key() {
+pub(crate) fn put_name(
+    out: &mut Vec<u8>,
+    deck: &Deck,
+    view: RowView<'_, '_>,
+) -> Result<(), AllocError> {
+    match view.key {
         Some(key) => put_key(out, key),
-        None => Ok(out.extend_from_slice(row.word())?),
+        None => Ok(out.extend_from_slice(view.mention.word(deck))?),
     }
 }
 
@@ -80,9 +92,9 @@ fn text_after_name<'a>(line: &'a [u8], key: &Key) -> Option<&'a [u8]> {
     }
 }
 
-/// Returns the words for a row that leads to no definition.
-pub(crate) fn fault_word(row: &Row) -> &'static [u8] {
-    if row.is_refused() {
+/// Returns the words for a word that leads to no definition.
+pub(crate) fn fault_word(deck: &Deck, mention: &StoredMention) -> &'static [u8] {
+    if mention.is_refused(deck) {
         b"refused function"
     } else {
         b"unknown unit"

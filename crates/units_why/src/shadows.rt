@@ -16,7 +16,7 @@ pub(crate) struct Shadows {
 impl Shadows {
     /// Finds the replaced lines of a deck. There are none if it has no more lines than keys.
     pub(crate) fn of(alloc: Global, deck: &Deck) -> Result<Shadows, AllocError> {
-        if deck.lines().len() <= key_count(deck) {
+        if has_one_line_per_key(deck) {
             return Ok(Shadows {
                 next: Vec::new(alloc),
                 active: Vec::new(alloc),
@@ -80,6 +80,11 @@ impl Shadows {
             self.next[place] = next;
         }
     }
+}
+
+/// Returns true only if each line of a deck defines a key that no other line defines. Costs no pass over the lines.
+pub(crate) fn has_one_line_per_key(deck: &Deck) -> bool {
+    deck.lines().len() <= key_count(deck)
 }
 
 // Counts the keys that have an entry.

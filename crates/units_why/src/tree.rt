@@ -10,12 +10,13 @@ use expr_tree::{Tree, parse_expr};
 use reply::Options;
 use std::alloc::AllocError;
 use std::sync::ledger::Ledger;
-use value_sources::{Row, rows};
+use value_sources::Walk;
 
 /// The tree of an expression.
 #[derive(Drop)]
 pub(crate) struct RowTree {
-    pub(crate) rows: Vec<Row>,
+    /// The walk before its first row, if the text is an expression.
+    pub(crate) walk: Option<Walk>,
     /// The calls of the expression.
     pub(crate) calls: OpenCalls,
     /// The step of the expression itself that has no value, if there is one.
@@ -33,28 +34,33 @@ pub(crate) fn tree_of<L: Ledger>(
     let alloc = evaluator.alloc;
     let Ok(tree) = parse_expr(alloc, text, None) else {
         return Ok(RowTree {
-            rows: Vec::new(alloc),
+            walk: None,
             calls: OpenCalls::none(alloc),
             step: None,
         });
     };
-    let rows = rows(alloc, &evaluator.table, &tree)?;
-    let step = own_step(evaluator, options, &tree, rows.as_slice())?;
+    let walk = Walk::new(alloc, evaluator.deck(), &tree)?;
+    let step = own_step(evaluator, options, &tree, &walk)?;
     let calls = OpenCalls::new(alloc, &tree)?;
-    Ok(RowTree { rows, calls, step })
+    Ok(RowTree {
+        walk: Some(walk),
+        calls,
+        step,
+    })
 }
 
-// Returns the step of an expression itself that has no value, if no row of its words has a fault.
+// Returns the step of an expression itself that has no value, if none of its words has a fault. These words are pending
+// before the first row.
 fn own_step<L: Ledger>(
     evaluator: &mut Evaluator<L>,
     options: &Options,
     tree: &Tree,
-    rows: &[Row],
+    walk: &Walk,
 ) -> Result<Option<FaultStep>, AllocError>
     requires { IsPrintable options.now }
 {
-    for row in rows {
-        if is_own(row) && has_fault(evaluator, row)? {
+    for mention in walk.pending() {
+        if has_fault(evaluator, mention)? {
             return Ok(None);
         }
     }
@@ -62,9 +68,4 @@ fn own_step<L: Ledger>(
         Some(step) => Ok(Some(FaultStep::of(evaluator.alloc, options, &step)?)),
         None => Ok(None),
     }
-}
-
-// Returns whether a row is the first row of a word of the expression itself.
-fn is_own(row: &Row) -> bool {
-    row.depth() == 0 && (row.is_visit() || row.is_refused() || row.key().is_none())
 }

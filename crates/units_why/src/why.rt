@@ -5,11 +5,12 @@ ghost use Rattle.reply.specs.Options.{IsPrintable};
 use crate::definitions::Definitions;
 use crate::evaluator::Evaluator;
 use crate::json::{put_flag_member, put_string, put_text_member};
+use crate::key_copy::KeyCopy;
 use crate::outcome::{LentOutcome, cached_value, outcome_of};
 use crate::output::{OutputFault, put_block};
 use crate::places::Places;
 use crate::row_json::put_row_json;
-use crate::row_note::{RowNote, RowWalk, Standing};
+use crate::row_note::{RowNotes, Standing};
 use crate::row_style::RowStyle;
 use crate::row_text::put_row_text;
 use crate::row_view::RowView;
@@ -18,10 +19,9 @@ use crate::tree::{RowTree, tree_of};
 use def_lines::line_content;
 use reply::{Options, Reply, convert_reply, definition_reply};
 use std::alloc::{AllocError, Global};
-use std::mem;
 use std::sync::ledger::Ledger;
 use units_io::{Sink, put_all};
-use value_sources::Row;
+use value_sources::Walk;
 
 /// A query: an expression, the unit to convert it to, which may be blank, and whether the answer is JSON.
 #[derive(Clone, Copy)]
@@ -119,7 +119,7 @@ fn put_step_line(out: &mut Vec<u8>, tree: &RowTree) -> Result<(), AllocError> {
     }
 }
 
-// Appends the rows of a tree to `out`, and writes `out` block by block.
+// Appends the rows of a tree to `out`, and writes `out` block by block. No row is stored.
 fn put_rows<O: Sink, L: Ledger>(
     sink: &mut O,
     out: &mut Vec<u8>,
@@ -129,48 +129,60 @@ fn put_rows<O: Sink, L: Ledger>(
 ) -> Result<(), OutputFault>
     requires { IsPrintable style.options.now }
 {
-    let RowTree { rows, calls, .. } = tree;
-    if rows.is_empty() {
-        return Ok(());
-    }
-    let evaluator = &definitions.evaluator;
-    let mut walk = RowWalk::new(evaluator.alloc, evaluator.deck(), calls)?;
-    for at in 0..rows.len() {
-        let note = walk.note(&mut definitions.evaluator, style.options, &rows, at)?;
-        let (_, rest) = rows.split_at(at);
-        put_next(out, definitions, style, rest, &note)?;
-        put_block(sink, out)?;
-    }
-    // The process ends soon, and freeing the rows of a long chain takes time.
-    mem::forget(rows);
-    Ok(())
-}
-
-// Appends the first of the remaining rows.
-fn put_next<'r, L: Ledger>(
-    out: &mut Vec<u8>,
-    definitions: &mut Definitions<L>,
-    style: RowStyle<'_>,
-    rest: &'r [Row],
-    note: &'r RowNote,
-) -> Result<(), AllocError>
-    requires { IsPrintable style.options.now }
-{
-    let Some((row, below)) = rest.split_first() else {
+    let RowTree {
+        walk: Some(mut walk),
+        calls,
+        ..
+    } = tree
+    else {
         return Ok(());
     };
     let alloc = definitions.evaluator.alloc;
-    let (Standing::Defined(_), Some(key)) = (note.standing, row.key()) else {
-        let view = RowView::new(row, note, LentOutcome::Function);
+    let mut notes = RowNotes::new(alloc, definitions.evaluator.deck(), calls)?;
+    let mut copy = KeyCopy::new(alloc);
+    // No walk has so many rows.
+    for _ in 0..usize::MAX {
+        let Some(row) = walk.next(alloc, definitions.evaluator.deck())? else {
+            break;
+        };
+        let note = notes.note(&mut definitions.evaluator, style.options, &row)?;
+        let key = match row.mention.key(definitions.evaluator.deck()) {
+            Some(borrowed) => Some(copy.replace(alloc, borrowed)?),
+            None => None,
+        };
+        let view = RowView {
+            mention: &row.mention,
+            key,
+            note: &note,
+            outcome: LentOutcome::Function,
+        };
+        put_next(out, definitions, style, &walk, view)?;
+        put_block(sink, out)?;
+    }
+    Ok(())
+}
+
+// Appends the row that the walk gave last, with the outcome of its key.
+fn put_next<L: Ledger>(
+    out: &mut Vec<u8>,
+    definitions: &mut Definitions<L>,
+    style: RowStyle<'_>,
+    walk: &Walk,
+    view: RowView<'_, '_>,
+) -> Result<(), AllocError>
+    requires { IsPrintable style.options.now }
+{
+    let alloc = definitions.evaluator.alloc;
+    let (Standing::Defined(_), Some(key)) = (view.note.standing, view.key) else {
         return put_row(alloc, out, Places::of(definitions), style, view);
     };
     if let Some(value) = cached_value(alloc, &definitions.evaluator.table, key)? {
-        let view = RowView::new(row, note, LentOutcome::Value(value));
+        let view = view.with_outcome(LentOutcome::Value(value));
         return put_row(alloc, out, Places::of(definitions), style, view);
     }
     let evaluator = &mut definitions.evaluator;
-    let outcome = outcome_of(evaluator, style.options, key, row.depth(), below)?;
-    let view = RowView::new(row, note, outcome.lent());
+    let outcome = outcome_of(evaluator, style.options, key, view.mention.depth(), walk)?;
+    let view = view.with_outcome(outcome.lent());
     put_row(alloc, out, Places::of(definitions), style, view)
 }
 

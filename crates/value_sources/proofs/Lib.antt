@@ -12,8 +12,10 @@ pub mod Placing
 pub mod Reached
 pub mod Reversing
 pub mod StepFaults
+pub mod Stored
 pub mod Trying
 pub mod Values
+pub mod WalkSteps
 pub mod Walking
 pub mod Weights
 pub mod Words

@@ -1,23 +1,13 @@
 -- Mentions on a stack, the next one last.
-use Rattle.std.proofs.Common.{◌≡◌, ◌++◌, ◌∷◌, ◌+◌, ◌<◌, [], ℕ, List, drop, length, get_or, reverse, sym, ap, ◌∙◌, refl}
-use Rattle.std.proofs.Common.{Bool, true, Option, Some, append_assoc}
-use Rattle.std.specs.Prelude.{if◌then◌else◌}
-use Rattle.std.specs.Str.{bytes_eq}
+use Rattle.std.proofs.Common.{◌≡◌, ◌++◌, ◌∷◌, ◌+◌, ◌<◌, [], ℕ, List, drop, length, get_or, reverse, sym, ap, ◌∙◌}
+use Rattle.std.proofs.Common.{append_assoc}
 use Rattle.std.proofs.lemmas.List.{at_drop_more, reverse-append, reverse-reverse}
-use Rattle.std.proofs.lemmas.Slice.Eq.{bytes_eq-Decides}
 use Rattle.expr_tree.specs.declared.word_list.WordUse.{WordUse}
-use Rattle.def_entry.specs.declared.key.Key.{Key}
-use Rattle.def_entry.specs.declared.key.Kind.{Kind}
-use Rattle.def_entry.specs.Keys.{key}
 use Rattle.deck.specs.Decks.{Contents}
-use Rattle.deck.specs.Tables.{last_place, table}
+use Rattle.deck.specs.Tables.{table}
 use Rattle.table_names.specs.Leads.{targets}
-use Rattle.value_sources.specs.declared.mention.Placed.{Placed}
-use Rattle.value_sources.specs.declared.resolution.Resolution.TheVariants.{Name, Plural}
 use Rattle.value_sources.specs.declared.site.Site.{Site}
-use Rattle.value_sources.specs.Examples.{mention_by_name}
-use Rattle.value_sources.specs.Mentions.{Mention, mention_by, sole_resolution}
-use Rattle.value_sources.specs.PlacedMentions.{placed_mentions, placed_to}
+use Rattle.value_sources.specs.PlacedMentions.{Placed, placed_mentions, placed_to}
 use Rattle.value_sources.specs.Uses.{Use, use_at, uses_at}
 
 module _ {A : Type 0} where
@@ -74,18 +64,3 @@ mentions_four t depth a b c e zero one two three four p q r s =
         g ∙ (ap (λ (ms : List Placed). ms ++ placed_mentions t depth y) f
         ∙ (append_assoc zero (placed_mentions t depth x) (placed_mentions t depth y)
         ∙ ap (λ (ms : List Placed). zero ++ ms) (sym (mentions_both t depth x y))))
-
-abbrev placed_at : Mention → Option ℕ → Placed
-placed_at m o = record { mention = m; place = o }
-
--- the mention of a key by its name is the only mention of a word that leads to this key alone
-pub named_placed : (d : Contents) (depth : ℕ) (s : Site) (u : WordUse) (k : Kind) (m : Mention) (place : ℕ)
-    (ns : List Key) → m ≡ mention_by_name depth s u.kind (key k u.text)
-    → last_place d.settings d.lines (key k u.text) ≡ Some place → ns ≡ key k u.text ∷ []
-    → placed_at m (Some place) ∷ [] ≡ placed_to d depth (use_at s u) ns
-named_placed d depth s u k m place ns is found led =
-    let same : bytes_eq u.text u.text ≡ true = (bytes_eq-Decides u.text u.text).1 refl in
-    let names : mention_by_name depth s u.kind (key k u.text)
-    ≡ mention_by (sole_resolution u (key k u.text)) depth (use_at s u) (key k u.text) =
-    ap (λ (b : Bool). mention_by (if b then Name else Plural) depth (use_at s u) (key k u.text)) (sym same) in
-    (λ i. placed_at ((is ∙ names) i) (sym found i) ∷ []) ∙ ap (placed_to d depth (use_at s u)) (sym led)

@@ -12,10 +12,10 @@ use Rattle.deck.specs.Decks.{Contents}
 use Rattle.deck.specs.Tables.{is_present, last_place, table}
 use Rattle.name_lookup.specs.Laws.{TargetsLaw}
 use Rattle.table_names.specs.Leads.{WordsLeadTo, targets}
-use Rattle.value_sources.specs.declared.mention.Placed.{Placed}
+use Rattle.value_sources.specs.PlacedMentions.{Placed}
 use Rattle.value_sources.specs.declared.site.Site.TheVariants.{Expression}
 use Rattle.value_sources.specs.Mentions.{Mention, mentions, mentions_to}
-use Rattle.value_sources.specs.PlacedMentions.{IsFound, IsSound, placed_mentions, placed_to, target_place}
+use Rattle.value_sources.specs.PlacedMentions.{IsFound, IsPlacedRight, placed_mentions, placed_to, target_place}
 use Rattle.value_sources.specs.PlacedMentions.{with_place}
 use Rattle.value_sources.specs.Rows.{AreRows, Finished, Row, Skipped, Visited, first_mentions, is_skipped, skipped_row}
 use Rattle.value_sources.specs.Rows.{visited_key, visited_keys, visited_row}
@@ -92,14 +92,14 @@ right_place d depth uses p i =
     subst (λ (q : Placed). q.place ≡ target_place d q.mention.target) (sym of_mention.2) refl
 
 entry_sound : TargetsLaw → (d : Contents) (depth : ℕ) (k : Key) (p : Placed)
-    → Contains (placed_mentions d depth (key_uses (table d) k)) p → IsSound d p
+    → Contains (placed_mentions d depth (key_uses (table d) k)) p → IsPlacedRight d p
 entry_sound law d depth k p i = (
   entry_found law d depth k p.mention (among_mentions d depth (key_uses (table d) k) p i),
   right_place d depth (key_uses (table d) k) p i,
 )
 
 first_sound : TargetsLaw → (d : Contents) (words : List WordUse) (p : Placed)
-    → Contains (placed_mentions d 0 (uses_at Expression words)) p → IsSound d p
+    → Contains (placed_mentions d 0 (uses_at Expression words)) p → IsPlacedRight d p
 first_sound law d words p i = (
   first_found law d words p.mention (among_mentions d 0 (uses_at Expression words) p i),
   right_place d 0 (uses_at Expression words) p i,
@@ -123,11 +123,11 @@ module _ (d : Contents) (start : List Mention) (rows : List Row) (p : Placed) (l
   reversed : reverse (left ++ p ∷ []) ≡ p ∷ reverse left
   reversed = reverse-append left (p ∷ [])
 
-  pub next_sound : IsSound d p
+  pub next_sound : IsPlacedRight d p
   next_sound = h.sound p (subst (λ (ps : List Placed). Contains ps p) (sym reversed)
       (member_first p p (reverse left) refl))
 
-  left_sound : (x : Placed) → Contains (reverse left) x → IsSound d x
+  left_sound : (x : Placed) → Contains (reverse left) x → IsPlacedRight d x
   left_sound x i = h.sound x (subst (λ (ps : List Placed). Contains ps x) (sym reversed)
       (member_later x p (reverse left) i))
 
@@ -210,13 +210,13 @@ pub on_ok : {A E P Q : Type 0} (r : Result A E) → (P → Q) → OnOk r P → O
 on_ok (Ok x) f p = f p
 on_ok (Err e) f p = p
 
-pub none_left : (ps : List Placed) → length ps ≡ 0 → ps ≡ []
+pub none_left : {A : Type 0} (xs : List A) → length xs ≡ 0 → xs ≡ []
 none_left [] e = refl
-none_left (p ∷ ps) e = absurd (omega (arith, e))
+none_left (x ∷ xs) e = absurd (omega (arith, e))
 
 -- the place that is found for the key of a mention, given values equal to the marks and the place
 pub place_found : (d : Contents) (marks flags : List Bool) (rows : List Row) (p : Placed) (answer place : Option ℕ)
-    → AreMarked d marks rows → flags ≡ marks → IsSound d p → answer ≡ unmarked_place flags p.place → answer ≡ place
+    → AreMarked d marks rows → flags ≡ marks → IsPlacedRight d p → answer ≡ unmarked_place flags p.place → answer ≡ place
     → IsUnvisitedPlace d (visited_keys rows) p.mention.target place
 place_found d marks flags rows p answer place h f sound found is =
     subst (λ (o : Option ℕ). IsUnvisitedPlace d (visited_keys rows) p.mention.target o)

@@ -10,6 +10,7 @@ pub mod PlacedMentions
 pub mod Rows
 pub mod StepExamples
 pub mod StepFaults
+pub mod StoredMentions
 pub mod TriedKeys
 pub mod Uses
 pub mod Values

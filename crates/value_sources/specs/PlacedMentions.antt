@@ -1,13 +1,17 @@
--- Mentions with the places of their keys, as the code stores them.
+-- Mentions with the places of their keys.
 use Rattle.std.specs.Prelude.{◌≡◌, ℕ, true, List, map, flat_map, Option, Some, None}
 use Rattle.def_entry.specs.declared.key.Key.{Key}
 use Rattle.def_entry.specs.Tables.{Table, is_present}
 use Rattle.deck.specs.Decks.{Contents}
 use Rattle.deck.specs.Tables.{last_place, table}
 use Rattle.table_names.specs.Leads.{targets}
-use Rattle.value_sources.specs.declared.mention.Placed.{Placed}
 use Rattle.value_sources.specs.Mentions.{Mention, mentions_to}
 use Rattle.value_sources.specs.Uses.{Use}
+
+-- a mention with a place
+pub record Placed : Type 0 where
+  pub mention : Mention
+  pub place : Option ℕ
 
 -- the place of the line in force for the key of a mention, if it has a key
 abbrev pub target_place : Contents → Option Key → Option ℕ
@@ -31,5 +35,5 @@ abbrev pub IsFound : Table → Mention → Type 0
 IsFound table m = (n : Key) → m.target ≡ Some n → is_present table n ≡ true
 
 -- the same, and the place is that of the line in force for the key
-abbrev pub IsSound : Contents → Placed → Type 0
-IsSound d p = IsFound (table d) p.mention × (p.place ≡ target_place d p.mention.target)
+abbrev pub IsPlacedRight : Contents → Placed → Type 0
+IsPlacedRight d p = IsFound (table d) p.mention × (p.place ≡ target_place d p.mention.target)

@@ -1,24 +1,25 @@
 //! Rows that close a cycle.
 
-ghost use Rattle.std.specs.Prelude.{◌≡◌, ◌<◌, [], IfOk, List, length};
-ghost use Rattle.std.specs.Option.{option_and_then, option_copied};
+ghost use Rattle.std.specs.Prelude.{◌≡◌, ◌<◌, [], IfOk, List, length, option_map};
+ghost use Rattle.std.specs.Option.{option_and_then};
 ghost use Rattle.def_entry.specs.declared.key.Key.{Key as AnyKey};
+ghost use Rattle.deck.specs.PlacedKeys.{lent_key};
 ghost use Rattle.deck.specs.Tables as tables;
 ghost use Rattle.expr_tree.specs.declared.word_list.WordUse.{WordUse};
 ghost use Rattle.value_sources.specs.Cycles as spec;
 ghost use Rattle.value_sources.specs.Rows.{AreRowsOf};
+ghost use Rattle.value_sources.specs.StoredMentions.{row_in, rows_in};
 
 use crate::row::Row;
-use deck::Deck;
-use def_entry::Key;
+use deck::{BorrowedKey, Deck};
 use name_lookup::targets_are_present;
 use std::alloc::{AllocError, Global};
 
 /// Returns for each row of an expression whether it closes a cycle. Such a row visits nothing, because its key is that
 /// of an entry that contains the row. Each row costs one lookup. The only error is lack of memory.
 pub fn cycle_flags(alloc: Global, deck: &Deck, rows: &[Row]) -> Result<Vec<bool>, AllocError>
-    requires { (words : List WordUse) × AreRowsOf (tables.table deck.now) words rows.now }
-    ensures { IfOk result (λ flags. flags.items ≡ spec.cycle_flags [] rows.now) }
+    requires { (words : List WordUse) × AreRowsOf (tables.table deck.now) words (rows_in deck.now rows.now) }
+    ensures { IfOk result (λ flags. flags.items ≡ spec.cycle_flags [] (rows_in deck.now rows.now)) }
 {
     targets_are_present();
     let mut path = KeyPath::new(alloc, deck)?;
@@ -58,15 +59,16 @@ impl KeyPath {
         ensures room { length self.new.depths.items ≡ length deck.now.lines }
         ensures path { IfOk result (λ flag. (path : List AnyKey)
             → spec.IsPlacePath deck.now self.old.depths.items self.old.places.items path
-            → spec.CanFollow deck.now path row.now
-            → (flag ≡ spec.closes_cycle path row.now)
-            × spec.IsPlacePath deck.now self.new.depths.items self.new.places.items (spec.path_after path row.now)) }
+            → spec.CanFollow deck.now path (row_in deck.now row.now)
+            → (flag ≡ spec.closes_cycle path (row_in deck.now row.now))
+            × spec.IsPlacePath deck.now self.new.depths.items self.new.places.items
+            (spec.path_after path (row_in deck.now row.now))) }
     {
-        self.places.truncate(row.depth());
-        let Some(place) = line_of(deck, row.key()) else {
+        self.places.truncate(row.mention.depth());
+        let Some(place) = line_of(deck, row.mention.key(deck)) else {
             return Ok(false);
         };
-        if !row.is_visit() {
+        if !row.is_visit {
             return Ok(is_open(&self.depths, &self.places, place));
         }
         self.depths[place] = self.places.len();
@@ -76,11 +78,11 @@ impl KeyPath {
 }
 
 // Returns the place of the line in force for a key, if there is one.
-fn line_of(deck: &Deck, key: Option<&Key>) -> Option<usize>
-    ensures { result ≡ option_and_then (tables.last_place deck.now.settings deck.now.lines) (option_copied key.entry) }
+fn line_of(deck: &Deck, key: Option<BorrowedKey<'_>>) -> Option<usize>
+    ensures { result ≡ option_and_then (tables.last_place deck.now.settings deck.now.lines) (option_map lent_key key.entry) }
 {
     match key {
-        Some(key) => deck.last_place(key),
+        Some(key) => deck.place_of(key.kind, key.name),
         None => None,
     }
 }

@@ -8,36 +8,38 @@ ghost use Rattle.expr_tree.specs.Trees.{syntax};
 ghost use Rattle.expr_tree.specs.Words.{words_in};
 ghost use Rattle.tree_eval.specs.Entries.{words_if};
 ghost use Rattle.value_sources.specs.PlacedMentions.{placed_mentions};
+ghost use Rattle.value_sources.specs.StoredMentions.{placed_list};
 ghost use Rattle.value_sources.specs.Uses as uses;
 
 use crate::lookup::Lookup;
-use crate::mention::{Location, Placed};
-use crate::scratch::Scratch;
+use crate::mention::{Location, StoredMention};
 use crate::site::Site;
+use crate::tried_keys::TriedKeys;
 use def_entry::{FunctionDef, What};
-use expr_tree::{Tree, WordKind, WordUse, put_words};
+use expr_tree::{Tree, WordKind, WordUse, words};
 use std::alloc::AllocError;
 use units_io::Text;
 
-impl<'a> Lookup<'a> {
+impl Lookup<'_> {
     /// Appends the mentions of the words of an entry, tree after tree. The only error is lack of memory.
     pub(crate) fn put_entry_mentions(
         &self,
-        scratch: &mut Scratch<'a>,
-        mentions: &mut Vec<Placed>,
+        tried: &mut TriedKeys,
+        mentions: &mut Vec<StoredMention>,
         depth: usize,
-        what: &'a What,
+        what: &What,
     ) -> Result<(), AllocError>
-        ensures { OnOk result (mentions.new.items ≡ mentions.old.items
+        ensures { OnOk result (placed_list self.now.deck.now mentions.new.items
+            ≡ placed_list self.now.deck.now mentions.old.items
             ++ placed_mentions self.now.deck.now depth (uses.what_uses (what_view what.now))) }
     {
         match what {
             What::Primitive | What::Dimensionless | What::ListOf(_) => Ok(()),
-            What::Body(tree) => self.put_tree(scratch, mentions, at(depth, Site::Body), tree),
-            What::Function(function) => self.put_function(scratch, mentions, depth, function),
-            What::Alias(target) => self.put_alias(scratch, mentions, depth, target),
+            What::Body(tree) => self.put_tree(tried, mentions, at(depth, Site::Body), tree),
+            What::Function(function) => self.put_function(tried, mentions, depth, function),
+            What::Alias(target) => self.put_alias(tried, mentions, depth, target),
             What::Table(table) => {
-                self.put_tree(scratch, mentions, at(depth, Site::TableUnit), &table.unit)
+                self.put_tree(tried, mentions, at(depth, Site::TableUnit), &table.unit)
             }
         }
     }
@@ -45,38 +47,40 @@ impl<'a> Lookup<'a> {
     // Appends the mentions of the words of the trees of a function.
     fn put_function(
         &self,
-        scratch: &mut Scratch<'a>,
-        mentions: &mut Vec<Placed>,
+        tried: &mut TriedKeys,
+        mentions: &mut Vec<StoredMention>,
         depth: usize,
-        function: &'a FunctionDef,
+        function: &FunctionDef,
     ) -> Result<(), AllocError>
-        ensures { OnOk result (mentions.new.items ≡ mentions.old.items
+        ensures { OnOk result (placed_list self.now.deck.now mentions.new.items
+            ≡ placed_list self.now.deck.now mentions.old.items
             ++ placed_mentions self.now.deck.now depth (uses.function_uses (function_view function.now))) }
     {
         let in_unit = function.in_unit.as_ref();
-        self.put_tree_if(scratch, mentions, at(depth, Site::InUnit), in_unit)?;
+        self.put_tree_if(tried, mentions, at(depth, Site::InUnit), in_unit)?;
         let out_unit = function.out_unit.as_ref();
-        self.put_tree_if(scratch, mentions, at(depth, Site::OutUnit), out_unit)?;
+        self.put_tree_if(tried, mentions, at(depth, Site::OutUnit), out_unit)?;
         let forward = &function.forward;
-        self.put_tree(scratch, mentions, at(depth, Site::Forward), forward)?;
+        self.put_tree(tried, mentions, at(depth, Site::Forward), forward)?;
         let inverse = function.inverse.as_ref();
-        self.put_tree_if(scratch, mentions, at(depth, Site::Inverse), inverse)
+        self.put_tree_if(tried, mentions, at(depth, Site::Inverse), inverse)
     }
 
     // Appends the mention of the function that an alias names.
     fn put_alias(
         &self,
-        scratch: &mut Scratch<'a>,
-        mentions: &mut Vec<Placed>,
+        tried: &mut TriedKeys,
+        mentions: &mut Vec<StoredMention>,
         depth: usize,
         target: &Text,
     ) -> Result<(), AllocError>
-        ensures { OnOk result (mentions.new.items ≡ mentions.old.items
+        ensures { OnOk result (placed_list self.now.deck.now mentions.new.items
+            ≡ placed_list self.now.deck.now mentions.old.items
             ++ placed_mentions self.now.deck.now depth (uses.alias_uses target.now)) }
     {
         let word = WordUse::new(target.as_bytes(), WordKind::Inverse);
         self.put_word(
-            &mut scratch.tried,
+            tried,
             mentions,
             at(depth, Site::AliasTarget),
             &word,
@@ -86,17 +90,18 @@ impl<'a> Lookup<'a> {
     // Appends the mentions of the words of a tree, if there is one.
     fn put_tree_if(
         &self,
-        scratch: &mut Scratch<'a>,
-        mentions: &mut Vec<Placed>,
+        tried: &mut TriedKeys,
+        mentions: &mut Vec<StoredMention>,
         location: Location,
-        tree: Option<&'a Tree>,
+        tree: Option<&Tree>,
     ) -> Result<(), AllocError>
-        ensures { OnOk result (mentions.new.items ≡ mentions.old.items
+        ensures { OnOk result (placed_list self.now.deck.now mentions.new.items
+            ≡ placed_list self.now.deck.now mentions.old.items
             ++ placed_mentions self.now.deck.now location.depth
             (uses.uses_at location.site (words_if (option_map syntax (option_copied tree.entry))))) }
     {
         match tree {
-            Some(tree) => self.put_tree(scratch, mentions, location, tree),
+            Some(tree) => self.put_tree(tried, mentions, location, tree),
             None => Ok(()),
         }
     }
@@ -104,18 +109,18 @@ impl<'a> Lookup<'a> {
     /// Appends the mentions of the words of a tree. The only error is lack of memory.
     pub(crate) fn put_tree(
         &self,
-        scratch: &mut Scratch<'a>,
-        mentions: &mut Vec<Placed>,
+        tried: &mut TriedKeys,
+        mentions: &mut Vec<StoredMention>,
         location: Location,
-        tree: &'a Tree,
+        tree: &Tree,
     ) -> Result<(), AllocError>
-        ensures { OnOk result (mentions.new.items ≡ mentions.old.items
+        ensures { OnOk result (placed_list self.now.deck.now mentions.new.items
+            ≡ placed_list self.now.deck.now mentions.old.items
             ++ placed_mentions self.now.deck.now location.depth
             (uses.uses_at location.site (words_in (syntax tree.now)))) }
     {
-        scratch.words.clear();
-        put_words(self.alloc, &mut scratch.words, tree)?;
-        self.put_mentions(&mut scratch.tried, mentions, location, &scratch.words)
+        let words = words(self.alloc, tree)?;
+        self.put_mentions(tried, mentions, location, &words)
     }
 }
 

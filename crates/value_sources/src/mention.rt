@@ -1,13 +1,15 @@
 //! Words together with the keys that they lead to.
 
-ghost use Rattle.std.specs.Prelude.{◌≡◌, Some};
-ghost use Rattle.std.specs.Option.{option_copied};
+ghost use Rattle.std.specs.Prelude.{◌≡◌, option_map};
+ghost use Rattle.deck.specs.Decks.{Contents};
+ghost use Rattle.deck.specs.PlacedKeys.{lent_key};
+ghost use Rattle.expr_tree.specs.Names as names;
+ghost use Rattle.value_sources.specs.StoredMentions.{mention_in};
 
 use crate::resolution::Resolution;
 use crate::site::Site;
-use def_entry::Key;
-use expr_tree::WordKind;
-use std::marker::Model;
+use deck::{BorrowedKey, Deck};
+use expr_tree::{WordKind, is_refused};
 use units_io::Text;
 
 /// The depth and the tree of a word.
@@ -17,131 +19,81 @@ pub(crate) struct Location {
     pub(crate) site: Site,
 }
 
-/// A word of an expression or of an entry, with one of the keys that it leads to, if it leads to any.
+/// A word of an expression or of an entry of a deck, with one of the keys that it leads to, if it leads to any. The key
+/// is stored as the place of its line in force, and the word only if it is not the name of the key. So most mentions
+/// own no memory, and the word and the key are read from the deck.
 #[derive(Drop)]
-pub(crate) struct Mention {
-    location: Location,
-    // The word, or `None` if it is the name of the key.
-    word: Option<Text>,
-    word_kind: WordKind,
-    resolution: Resolution,
-    key: Option<Key>,
-}
-
-/// A mention with the place of the line in force for its key, if it has a key.
-#[derive(Drop)]
-pub(crate) struct Placed {
-    pub(crate) mention: Mention,
+pub struct StoredMention {
+    pub(crate) location: Location,
+    pub(crate) word: Option<Text>,
+    pub(crate) word_kind: WordKind,
+    pub(crate) resolution: Resolution,
     pub(crate) place: Option<usize>,
 }
 
-impl Model for Mention {
-    ghost use Rattle.value_sources.specs.Mentions as spec;
-
-    ghost Value = { spec.Mention };
-
-    ghost view = { λ m. record {
-      depth = m.location.depth;
-      site = m.location.site;
-      word = record { text = spec.mention_text m.word m.key; kind = m.word_kind };
-      resolution = m.resolution;
-      target = m.key;
-    } };
-}
-
-impl Mention {
-    /// Creates a mention of a key, or of none.
-    pub(crate) fn new(
-        location: Location,
-        word: Text,
-        word_kind: WordKind,
-        resolution: Resolution,
-        key: Option<Key>,
-    ) -> Mention
-        ensures { result ≡ record {
-          depth = location.depth;
-          site = location.site;
-          word = record { text = word; kind = word_kind };
-          resolution = resolution;
-          target = key;
-        } }
-    {
-        Mention {
-            location,
-            word: Some(word),
-            word_kind,
-            resolution,
-            key,
-        }
-    }
-
-    /// Creates a mention of a key by its name.
-    pub(crate) fn mention_of_key(
-        location: Location,
-        word_kind: WordKind,
-        resolution: Resolution,
-        key: Key,
-    ) -> Mention
-        ensures { result ≡ record {
-          depth = location.depth;
-          site = location.site;
-          word = record { text = key.name; kind = word_kind };
-          resolution = resolution;
-          target = Some key;
-        } }
-    {
-        Mention {
-            location,
-            word: None,
-            word_kind,
-            resolution,
-            key: Some(key),
-        }
-    }
-
-    /// The number of entries that contain the word.
-    pub(crate) fn depth(&self) -> usize
-        ensures { result ≡ self.now.depth }
+impl StoredMention {
+    /// The number of entries that contain the word: 0 in the expression itself, 1 in the entry of a key of the
+    /// expression.
+    pub fn depth(&self) -> usize
+        ensures { (d : Contents) → result ≡ (mention_in d self.now).depth }
     {
         self.location.depth
     }
 
-    /// The tree that contains the word.
-    pub(crate) fn site(&self) -> Site
-        ensures { result ≡ self.now.site }
+    /// The tree that contains the word. It belongs to the entry of the last preceding visited key whose depth is one
+    /// less.
+    pub fn site(&self) -> Site
+        ensures { (d : Contents) → result ≡ (mention_in d self.now).site }
     {
         self.location.site
     }
 
-    /// The word.
-    pub(crate) fn word(&self) -> &[u8]
-        ensures { result.now ≡ self.now.word.text }
+    /// The word as it is written.
+    pub fn word<'a>(&'a self, deck: &'a Deck) -> &'a [u8]
+        ensures { result.now ≡ (mention_in deck.now self.now).word.text }
     {
-        match (&self.word, &self.key) {
+        match (&self.word, self.key(deck)) {
             (Some(word), _) => word.as_bytes(),
-            (None, Some(key)) => key.name.as_bytes(),
+            (None, Some(key)) => key.name,
             (None, None) => b"".as_slice(),
         }
     }
 
-    /// How the word is used.
-    pub(crate) fn word_kind(&self) -> WordKind
-        ensures { result ≡ self.now.word.kind }
+    /// Whether the word is alone, before an operand in parentheses, or after a `~`.
+    pub fn word_kind(&self) -> WordKind
+        ensures { (d : Contents) → result ≡ (mention_in d self.now).word.kind }
     {
         self.word_kind
     }
 
+    /// Whether the word is the name of a refused function, which is a fault whatever the word leads to.
+    pub fn is_refused(&self, deck: &Deck) -> bool
+        ensures { result ≡ names.is_refused (mention_in deck.now self.now).word.text }
+    {
+        is_refused(self.word(deck))
+    }
+
     /// How the word leads to the key.
-    pub(crate) fn resolution(&self) -> Resolution
-        ensures { result ≡ self.now.resolution }
+    pub fn resolution(&self) -> Resolution
+        ensures { (d : Contents) → result ≡ (mention_in d self.now).resolution }
     {
         self.resolution
     }
 
-    /// The key.
-    pub(crate) fn key(&self) -> Option<&Key>
-        ensures { option_copied result ≡ self.now.target }
+    /// The key that the word leads to, or `None` if the word is unknown.
+    pub fn key<'a>(&self, deck: &'a Deck) -> Option<BorrowedKey<'a>>
+        ensures { option_map lent_key result ≡ (mention_in deck.now self.now).target }
     {
-        self.key.as_ref()
+        match self.place {
+            Some(place) => deck.key_at(place),
+            None => None,
+        }
+    }
+
+    /// The place in the deck of the line of the key, if the word leads to a key.
+    pub fn place(&self) -> Option<usize>
+        ensures { result ≡ self.now.place }
+    {
+        self.place
     }
 }

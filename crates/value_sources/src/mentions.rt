@@ -1,22 +1,25 @@
 //! The mentions of words.
 
-ghost use Rattle.std.specs.Prelude.{◌≡◌, ◌++◌, ◌∷◌, [], IfOk, OnOk, Some, reverse};
-ghost use Rattle.deck.specs.Tables.{table};
-ghost use Rattle.def_entry.specs.Keys.{key};
+ghost use Rattle.std.specs.Prelude.{◌≡◌, ◌++◌, ◌∷◌, [], Contains, IfOk, None, OnOk, Some, reverse, true};
+ghost use Rattle.def_entry.specs.declared.key.Key.{Key as AnyKey};
+ghost use Rattle.deck.specs.Decks.{Contents};
+ghost use Rattle.deck.specs.Tables.{is_present, table};
 ghost use Rattle.table_names.specs.Leads.{targets};
-ghost use Rattle.value_sources.specs.Examples.{mention_by_name};
 ghost use Rattle.value_sources.specs.Leads.{lead_keys};
 ghost use Rattle.value_sources.specs.Mentions as spec;
-ghost use Rattle.value_sources.specs.PlacedMentions.{placed_mentions, placed_to};
+ghost use Rattle.value_sources.specs.PlacedMentions.{placed_mentions, placed_to, with_place};
+ghost use Rattle.value_sources.specs.StoredMentions.{placed_in, placed_list};
+ghost use Rattle.value_sources.specs.declared.resolution.Resolution.TheVariants.{Name};
 ghost use Rattle.value_sources.specs.Uses.{use_at, uses_at};
 
 use crate::lookup::{Lookup, first_kind};
-use crate::mention::{Location, Mention, Placed};
+use crate::mention::{Location, StoredMention};
 use crate::resolution::Resolution;
 use crate::tried_keys::TriedKeys;
 use crate::word_keys::Lead;
-use def_entry::{Key, Kind};
+use def_entry::Key;
 use expr_tree::{WordUse, Words};
+use name_lookup::targets_are_present;
 use std::alloc::{AllocError, Global};
 use table_names::lookup_law;
 use units_io::Text;
@@ -26,11 +29,12 @@ impl<'a> Lookup<'a> {
     pub(crate) fn put_mentions(
         &self,
         tried: &mut TriedKeys,
-        mentions: &mut Vec<Placed>,
+        mentions: &mut Vec<StoredMention>,
         location: Location,
         words: &Words,
     ) -> Result<(), AllocError>
-        ensures { OnOk result (mentions.new.items ≡ mentions.old.items
+        ensures { OnOk result (placed_list self.now.deck.now mentions.new.items
+            ≡ placed_list self.now.deck.now mentions.old.items
             ++ placed_mentions self.now.deck.now location.depth (uses_at location.site words.now)) }
     {
         for word in words.as_slice() {
@@ -39,24 +43,24 @@ impl<'a> Lookup<'a> {
         Ok(())
     }
 
-    /// Appends the mentions of a word. Most words are the names of their keys, and then one lookup is enough. The only
-    /// error is lack of memory.
+    /// Appends the mentions of a word. Most words are the names of their keys, and then one lookup is enough and no
+    /// memory is allocated. The only error is lack of memory.
     pub(crate) fn put_word(
         &self,
         tried: &mut TriedKeys,
-        mentions: &mut Vec<Placed>,
+        mentions: &mut Vec<StoredMention>,
         location: Location,
         word: &WordUse,
     ) -> Result<(), AllocError>
-        ensures { OnOk result (mentions.new.items ≡ mentions.old.items
+        ensures { OnOk result (placed_list self.now.deck.now mentions.new.items
+            ≡ placed_list self.now.deck.now mentions.old.items
             ++ placed_to self.now.deck.now location.depth (use_at location.site word.now)
             (targets (table self.now.deck.now) word.now)) }
     {
         lookup_law();
-        let kind = first_kind(word.kind());
-        if let Some(place) = self.deck.place_of(kind, word.text()) {
-            let mention = named_mention(self.alloc, location, word, kind)?;
-            return put_placed(mentions, mention, Some(place));
+        targets_are_present();
+        if let Some(place) = self.deck.place_of(first_kind(word.kind()), word.text()) {
+            return put_mention(mentions, named_mention(location, word, Some(place)));
         }
         let lead = self.keys_of_word(tried, word)?;
         self.put_lead(mentions, location, word, lead)
@@ -65,46 +69,58 @@ impl<'a> Lookup<'a> {
     // Appends the mentions of a word with this lead.
     fn put_lead(
         &self,
-        mentions: &mut Vec<Placed>,
+        mentions: &mut Vec<StoredMention>,
         location: Location,
         word: &WordUse,
         lead: Lead,
     ) -> Result<(), AllocError>
-        ensures { OnOk result (mentions.new.items ≡ mentions.old.items
+        ensures { OnOk result (((n : AnyKey) → Contains (lead_keys lead) n
+            → is_present (table self.now.deck.now) n ≡ true)
+            → placed_list self.now.deck.now mentions.new.items
+            ≡ placed_list self.now.deck.now mentions.old.items
             ++ placed_to self.now.deck.now location.depth (use_at location.site word.now) (lead_keys lead)) }
     {
         match lead {
             Lead::Nowhere => {
                 let mention = mention(self.alloc, location, word, Resolution::Unknown, None)?;
-                put_placed(mentions, mention, None)
+                put_mention(mentions, mention)
             }
-            Lead::One(key) => {
-                let place = self.deck.last_place(&key);
-                let mention = sole_mention(self.alloc, location, word, key)?;
-                put_placed(mentions, mention, place)
-            }
+            Lead::One(key) => put_mention(mentions, self.sole_mention(location, word, &key)?),
             Lead::Two(prefix, unit) => {
                 let place = self.deck.last_place(&prefix);
-                let first = mention(self.alloc, location, word, Resolution::Prefix, Some(prefix))?;
-                put_placed(mentions, first, place)?;
+                let first = mention(self.alloc, location, word, Resolution::Prefix, place)?;
+                put_mention(mentions, first)?;
                 let place = self.deck.last_place(&unit);
-                let second = mention(
-                    self.alloc,
-                    location,
-                    word,
-                    Resolution::PrefixedUnit,
-                    Some(unit),
-                )?;
-                put_placed(mentions, second, place)
+                let resolution = Resolution::PrefixedUnit;
+                put_mention(mentions, mention(self.alloc, location, word, resolution, place)?)
             }
         }
+    }
+
+    // Returns the mention of the only key that a word leads to.
+    fn sole_mention(
+        &self,
+        location: Location,
+        word: &WordUse,
+        key: &Key,
+    ) -> Result<StoredMention, AllocError>
+        ensures { IfOk result (λ mention. is_present (table self.now.deck.now) key.now ≡ true
+            → placed_in self.now.deck.now mention ≡ with_place self.now.deck.now
+            (spec.mention_by (spec.sole_resolution word.now key.now) location.depth (use_at location.site word.now)
+            key.now)) }
+    {
+        let place = self.deck.last_place(key);
+        if word.text() == key.name.as_bytes() {
+            return Ok(named_mention(location, word, place));
+        }
+        mention(self.alloc, location, word, Resolution::Plural, place)
     }
 }
 
 /// Moves mentions to the end of `pending`, the last one first.
 pub(crate) fn push_reversed(
-    pending: &mut Vec<Placed>,
-    mentions: &mut Vec<Placed>,
+    pending: &mut Vec<StoredMention>,
+    mentions: &mut Vec<StoredMention>,
 ) -> Result<(), AllocError>
     ensures { OnOk result (pending.new.items ≡ pending.old.items ++ reverse mentions.old.items) }
 {
@@ -114,71 +130,58 @@ pub(crate) fn push_reversed(
     Ok(())
 }
 
-// Returns the mention of a word that is the name of its key, which has this kind.
-fn named_mention(
-    alloc: Global,
-    location: Location,
-    word: &WordUse,
-    kind: Kind,
-) -> Result<Mention, AllocError>
-    ensures { IfOk result (λ mention. mention
-        ≡ mention_by_name location.depth location.site word.now.kind (key kind word.now.text)) }
+// Creates the mention of a word that is the name of the key at a place.
+fn named_mention(location: Location, word: &WordUse, place: Option<usize>) -> StoredMention
+    ensures { result ≡ record {
+      location = location;
+      word = None;
+      word_kind = word.now.kind;
+      resolution = Name;
+      place = place;
+    } }
 {
-    let name = Text::from_bytes(alloc, word.text())?;
-    let key = Key { kind, name };
-    Ok(Mention::mention_of_key(location, word.kind(), Resolution::Name, key))
-}
-
-// Returns the mention of the only key that a word leads to.
-fn sole_mention(
-    alloc: Global,
-    location: Location,
-    word: &WordUse,
-    key: Key,
-) -> Result<Mention, AllocError>
-    ensures { IfOk result (λ mention. mention ≡ record {
-      depth = location.depth;
-      site = location.site;
-      word = word.now;
-      resolution = spec.sole_resolution word.now key;
-      target = Some key;
-    }) }
-{
-    if word.text() == key.name.as_bytes() {
-        return Ok(Mention::mention_of_key(location, word.kind(), Resolution::Name, key));
+    StoredMention {
+        location,
+        word: None,
+        word_kind: word.kind(),
+        resolution: Resolution::Name,
+        place,
     }
-    mention(alloc, location, word, Resolution::Plural, Some(key))
 }
 
-// Creates a mention of a key, or of none.
+// Creates a mention with a copy of its word, of the key at a place or of none.
 fn mention(
     alloc: Global,
     location: Location,
     word: &WordUse,
     resolution: Resolution,
-    key: Option<Key>,
-) -> Result<Mention, AllocError>
+    place: Option<usize>,
+) -> Result<StoredMention, AllocError>
     ensures { IfOk result (λ mention. mention ≡ record {
-      depth = location.depth;
-      site = location.site;
-      word = word.now;
+      location = location;
+      word = Some word.now.text;
+      word_kind = word.now.kind;
       resolution = resolution;
-      target = key;
+      place = place;
     }) }
 {
-    let text = Text::from_bytes(alloc, word.text())?;
-    Ok(Mention::new(location, text, word.kind(), resolution, key))
+    Ok(StoredMention {
+        location,
+        word: Some(Text::from_bytes(alloc, word.text())?),
+        word_kind: word.kind(),
+        resolution,
+        place,
+    })
 }
 
-// Appends a mention with its place.
-fn put_placed(
-    mentions: &mut Vec<Placed>,
-    mention: Mention,
-    place: Option<usize>,
+// Appends a mention.
+fn put_mention(
+    mentions: &mut Vec<StoredMention>,
+    mention: StoredMention,
 ) -> Result<(), AllocError>
-    ensures { OnOk result (mentions.new.items ≡ mentions.old.items
-        ++ record { mention = mention; place = place } ∷ []) }
+    ensures { OnOk result ((d : Contents) → placed_list d mentions.new.items
+        ≡ placed_list d mentions.old.items ++ placed_in d mention ∷ []) }
 {
-    mentions.push(Placed { mention, place })?;
+    mentions.push(mention)?;
     Ok(())
 }

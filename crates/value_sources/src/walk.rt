@@ -1,111 +1,117 @@
 //! The walk over all names that an expression reaches.
 
-ghost use Rattle.std.specs.Prelude.{◌≡◌, ◌++◌, ◌+◌, ◌∷◌, [], IfOk, List, OnOk, Some, length, reverse};
+ghost use Rattle.std.specs.Prelude.{◌≡◌, ◌+◌, [], IfOk, List, OnOk, Some, reverse, set, true};
 ghost use Rattle.def_entry.specs.declared.key.Key.{Key as AnyKey};
 ghost use Rattle.deck.specs.Tables as tables;
 ghost use Rattle.expr_tree.specs.Trees.{syntax};
 ghost use Rattle.expr_tree.specs.Words.{words_in};
-ghost use Rattle.value_sources.specs.Mentions as mentions_spec;
-ghost use Rattle.value_sources.specs.Rows as spec;
-ghost use Rattle.value_sources.specs.PlacedMentions.{IsSound, placed_mentions};
+ghost use Rattle.expr_tree.specs.declared.word_list.WordUse.{WordUse as AnyWord};
+ghost use Rattle.value_sources.specs.Rows as rows_spec;
+ghost use Rattle.value_sources.specs.PlacedMentions.{placed_mentions};
+ghost use Rattle.value_sources.specs.StoredMentions.{mention_in, placed_list, rows_in};
 ghost use Rattle.value_sources.specs.declared.site.Site.TheVariants as site;
 ghost use Rattle.value_sources.specs.Uses.{key_uses, uses_at};
 ghost use Rattle.value_sources.specs.Visits.{unmarked_place};
-ghost use Rattle.value_sources.specs.Walks.{AreMarked, IsUnderway};
+ghost use Rattle.value_sources.specs.Walks as spec;
 
 use crate::lookup::Lookup;
-use crate::mention::{Location, Mention, Placed};
+use crate::mention::{Location, StoredMention};
 use crate::mentions::push_reversed;
 use crate::row::Row;
-use crate::scratch::Scratch;
 use crate::site::Site;
+use crate::tried_keys::TriedKeys;
+use deck::Deck;
 use expr_tree::Tree;
-use live_table::LiveTable;
 use name_lookup::targets_are_present;
 use std::alloc::{AllocError, Global};
 
-/// Returns the rows of an expression: each word that evaluation encounters, in its order, with each of the keys that it
-/// leads to. The rows of the words of an entry follow the first row of its key. The cost is proportional to the words
-/// of these entries: no entry is read twice, the table is not queried, and nothing recurses. The only error is lack of
-/// memory.
-pub fn rows<'a>(alloc: Global, table: &'a LiveTable, tree: &'a Tree) -> Result<Vec<Row>, AllocError>
-    ensures { IfOk result (λ rows.
-        spec.AreRowsOf (tables.table table.now.deck) (words_in (syntax tree.now)) rows.items) }
-{
-    targets_are_present();
-    let lookup = Lookup {
-        alloc,
-        deck: table.deck(),
-    };
-    let mut walk = Walk::begin(&lookup, tree)?;
-    while let Some(next) = walk.pending.pop() {
-        walk.step(&lookup, next)?;
-    }
-    let Walk { rows, .. } = walk;
-    Ok(rows)
-}
-
-// The rows so far, and the pending mentions, the next one last. A line of the deck is marked if the key for which it is
-// in force was visited.
+/// A walk over the words that evaluation of an expression encounters. It gives their rows one after another: each word
+/// in its order, with each of the keys that it leads to. The rows of the words of an entry follow the first row of its
+/// key. No entry is read twice, and the walk borrows nothing from the deck.
+// A line of the deck is marked if the key for which it is in force was visited.
 #[derive(Drop)]
-struct Walk<'a> {
-    scratch: Scratch<'a>,
+pub struct Walk {
+    tried: TriedKeys,
     // The mentions of the last visited entry. Their memory is reused for the next entry.
-    found: Vec<Placed>,
+    found: Vec<StoredMention>,
     marks: Vec<bool>,
-    pending: Vec<Placed>,
-    rows: Vec<Row>,
+    // The next one last.
+    pending: Vec<StoredMention>,
 }
 
-impl<'a> Walk<'a> {
-    // Returns the walk over an expression before its first row.
-    fn begin(lookup: &Lookup<'a>, tree: &'a Tree) -> Result<Walk<'a>, AllocError>
-        ensures marked { IfOk result (λ walk. AreMarked lookup.now.deck.now walk.marks.items []) }
-        ensures rows { IfOk result (λ walk. walk.rows.items ≡ []) }
-        ensures pending { IfOk result (λ walk. reverse walk.pending.items
-            ≡ placed_mentions lookup.now.deck.now 0 (uses_at site.Expression (words_in (syntax tree.now)))) }
+impl Walk {
+    /// Returns the walk over an expression before its first row. The only error is lack of memory.
+    pub fn new(alloc: Global, deck: &Deck, tree: &Tree) -> Result<Walk, AllocError>
+        ensures { IfOk result (λ walk. spec.IsWalk deck.now (words_in (syntax tree.now)) [] walk) }
     {
-        let mut scratch = Scratch::new(lookup.alloc);
-        let pending = first_mentions(lookup, &mut scratch, tree)?;
-        let marks = no_marks(lookup)?;
+        targets_are_present();
+        let lookup = Lookup { alloc, deck };
+        let mut tried = TriedKeys::new(alloc);
+        let pending = first_mentions(&lookup, &mut tried, tree)?;
+        let marks = no_marks(&lookup)?;
         Ok(Walk {
-            scratch,
-            found: Vec::new(lookup.alloc),
+            tried,
+            found: Vec::new(alloc),
             marks,
             pending,
-            rows: Vec::new(lookup.alloc),
         })
     }
 
-    // Appends the row of the next mention and, if the row visits its key, pushes the mentions of the entry of the key.
-    fn step(&mut self, lookup: &Lookup<'a>, next: Placed) -> Result<(), AllocError>
-        requires sound { IsSound lookup.now.deck.now next }
-        requires marked { AreMarked lookup.now.deck.now self.old.marks.items self.old.rows.items }
-        ensures marked { OnOk result (AreMarked lookup.now.deck.now self.new.marks.items self.new.rows.items) }
-        ensures underway { OnOk result ((start : List mentions_spec.Mention)
-            → IsUnderway lookup.now.deck.now start self.old.rows.items (self.old.pending.items ++ next ∷ [])
-            → IsUnderway lookup.now.deck.now start self.new.rows.items self.new.pending.items) }
-        ensures longer { OnOk result (length self.new.rows.items ≡ length self.old.rows.items + 1) }
+    /// Returns the next row, or `None` after the last one. The deck must be that of the whole walk. The cost is
+    /// proportional to the words of the entry, if the row visits its key. The only error is lack of memory.
+    pub fn next(&mut self, alloc: Global, deck: &Deck) -> Result<Option<Row>, AllocError>
+        ensures { IfOk result (λ next. (words : List AnyWord) (rows : List rows_spec.Row)
+            → spec.IsWalk deck.now words rows self.old → spec.IsNext deck.now words rows self.new next) }
     {
         targets_are_present();
-        let Placed { mention, place } = next;
-        let Some(place) = unvisited_place(&self.marks, place) else {
-            return put_row(&mut self.rows, Row::new(mention, None));
+        let Some(mention) = self.pending.pop() else {
+            return Ok(None);
         };
-        self.marks[place] = true;
-        put_found(lookup, &mut self.scratch, &mut self.found, &mention, place)?;
+        let Some(place) = unvisited_place(&self.marks, mention.place) else {
+            return Ok(Some(Row {
+                mention,
+                is_visit: false,
+            }));
+        };
+        set_mark(&mut self.marks, place);
+        let lookup = Lookup { alloc, deck };
+        put_found(&lookup, &mut self.tried, &mut self.found, &mention, place)?;
         push_reversed(&mut self.pending, &mut self.found)?;
-        put_row(&mut self.rows, Row::new(mention, Some(place)))
+        Ok(Some(Row {
+            mention,
+            is_visit: true,
+        }))
+    }
+
+    /// Returns the mentions of the next rows, the next one last. After a row that visits a key, the words of its entry
+    /// are the last ones whose depth is greater.
+    pub fn pending(&self) -> &[StoredMention]
+        ensures { result.now ≡ self.now.pending.items }
+    {
+        self.pending.as_slice()
     }
 }
 
+/// Returns all rows of an expression. The only error is lack of memory.
+pub fn rows(alloc: Global, deck: &Deck, tree: &Tree) -> Result<Vec<Row>, AllocError>
+    ensures { IfOk result (λ rows. rows_spec.AreRowsOf (tables.table deck.now) (words_in (syntax tree.now))
+        (rows_in deck.now rows.items)) }
+{
+    let mut walk = Walk::new(alloc, deck, tree)?;
+    let mut rows = Vec::new(alloc);
+    while let Some(row) = walk.next(alloc, deck)? {
+        rows.push(row)?;
+    }
+    Ok(rows)
+}
+
 // Returns the mentions of the words of an expression, the first one last.
-fn first_mentions<'a>(
-    lookup: &Lookup<'a>,
-    scratch: &mut Scratch<'a>,
-    tree: &'a Tree,
-) -> Result<Vec<Placed>, AllocError>
-    ensures { IfOk result (λ pending. reverse pending.items
+fn first_mentions(
+    lookup: &Lookup<'_>,
+    tried: &mut TriedKeys,
+    tree: &Tree,
+) -> Result<Vec<StoredMention>, AllocError>
+    ensures { IfOk result (λ pending. reverse (placed_list lookup.now.deck.now pending.items)
         ≡ placed_mentions lookup.now.deck.now 0 (uses_at site.Expression (words_in (syntax tree.now)))) }
 {
     let location = Location {
@@ -113,15 +119,15 @@ fn first_mentions<'a>(
         site: Site::Expression,
     };
     let mut mentions = Vec::new(lookup.alloc);
-    lookup.put_tree(scratch, &mut mentions, location, tree)?;
+    lookup.put_tree(tried, &mut mentions, location, tree)?;
     let mut pending = Vec::new(lookup.alloc);
     push_reversed(&mut pending, &mut mentions)?;
     Ok(pending)
 }
 
 // Returns a mark for each line, none of which is set.
-fn no_marks(lookup: &Lookup) -> Result<Vec<bool>, AllocError>
-    ensures { IfOk result (λ marks. AreMarked lookup.now.deck.now marks.items []) }
+fn no_marks(lookup: &Lookup<'_>) -> Result<Vec<bool>, AllocError>
+    ensures { IfOk result (λ marks. spec.AreMarked lookup.now.deck.now marks.items []) }
 {
     let mut marks = Vec::new(lookup.alloc);
     marks.resize(lookup.deck.lines().len(), false)?;
@@ -141,40 +147,39 @@ fn unvisited_place(marks: &[bool], place: Option<usize>) -> Option<usize>
     }
 }
 
+// Marks a line.
+fn set_mark(marks: &mut Vec<bool>, place: usize)
+    ensures { marks.new.items ≡ set marks.old.items place true }
+{
+    if place < marks.len() {
+        marks[place] = true;
+    }
+}
+
 // Finds the mentions of the words of the entry of a key, in order. The entry is found faster if its line is at this
 // place.
-fn put_found<'a>(
-    lookup: &Lookup<'a>,
-    scratch: &mut Scratch<'a>,
-    found: &mut Vec<Placed>,
-    mention: &Mention,
+fn put_found(
+    lookup: &Lookup<'_>,
+    tried: &mut TriedKeys,
+    found: &mut Vec<StoredMention>,
+    mention: &StoredMention,
     place: usize,
 ) -> Result<(), AllocError>
-    ensures { OnOk result ((n : AnyKey) → mention.now.target ≡ Some n → found.new.items
-        ≡ placed_mentions lookup.now.deck.now (mention.now.depth + 1)
+    ensures { OnOk result ((n : AnyKey) → (mention_in lookup.now.deck.now mention.now).target ≡ Some n
+        → placed_list lookup.now.deck.now found.new.items
+        ≡ placed_mentions lookup.now.deck.now (mention.now.location.depth + 1)
         (key_uses (tables.table lookup.now.deck.now) n)) }
 {
     // No memory holds so many entries that the depth of a word would not fit.
-    let Some(depth) = mention.depth().checked_add(1) else {
+    let Some(depth) = mention.location.depth.checked_add(1) else {
         return Err(AllocError);
     };
     found.clear();
-    let Some(key) = mention.key() else {
+    let Some(key) = mention.key(lookup.deck) else {
         return Ok(());
     };
-    let Some(entry) = lookup
-        .deck
-        .entry_with_hint(place, key.kind, key.name.as_bytes())
-    else {
+    let Some(entry) = lookup.deck.entry_with_hint(place, key.kind, key.name) else {
         return Ok(());
     };
-    lookup.put_entry_mentions(scratch, found, depth, entry.what)
-}
-
-// Appends a row.
-fn put_row(rows: &mut Vec<Row>, row: Row) -> Result<(), AllocError>
-    ensures { OnOk result (rows.new.items ≡ rows.old.items ++ row ∷ []) }
-{
-    rows.push(row)?;
-    Ok(())
+    lookup.put_entry_mentions(tried, found, depth, entry.what)
 }

@@ -2,10 +2,11 @@ use Rattle.std.proofs.Common.{◌≡◌, ◌++◌, ℕ, List, Some, ap, sym, ◌
 use Rattle.def_entry.specs.Keys.{key}
 use Rattle.deck.specs.Tables.{last_place, table}
 use Rattle.table_names.specs.Leads.{targets}
-use Rattle.value_sources.specs.declared.mention.Placed.{Placed}
 use Rattle.value_sources.specs.Leads.{first_kind}
+use Rattle.value_sources.specs.PlacedMentions.{Placed}
+use Rattle.value_sources.specs.StoredMentions.{placed_list}
 use Rattle.value_sources.proofs.Leads.{named_by}
-use Rattle.value_sources.proofs.Reversing.{named_placed}
+use Rattle.value_sources.proofs.Stored.{named_placed}
 use Rattle.value_sources.proofs.Walking.{on_ok}
 use Rattle.value_sources.proofs.lookup.Lookup.put_word.Goals as goal
 
@@ -13,15 +14,15 @@ pub returns-in-Some : goal.returns-in-Some
 returns-in-Some c =
     let d = c.args.self.now.deck.now in
     let u = c.args.word.now in
-    let k = c.first_kind-kind.result in
+    let k = c.first_kind.result in
     let found : last_place d.settings d.lines (key k c.text.result.now) ≡ Some c.in-Some.place =
     sym c.place_of.ensures ∙ c.in-Some.is in
     let placed : last_place d.settings d.lines (key k u.text) ≡ Some c.in-Some.place =
     ap (λ (w : List ℕ). last_place d.settings d.lines (key k w)) (sym c.text.ensures) ∙ found in
     let led = named_by d u c.lookup_law.ensures k c.text.result.now c.in-Some.place
-    (c.first_kind-kind.ensures ∙ ap first_kind c.kind.ensures) c.text.ensures found in
-    on_ok c.put_placed.result
-    (λ e. e ∙ ap (λ (ps : List Placed). c.args.mentions.now.items ++ ps)
-    (named_placed d c.args.location.depth c.args.location.site u k c.in_ok-mention.mention c.in-Some.place
-    (targets (table d) u) c.in_ok-mention.ensures placed led))
-    c.put_placed.ensures
+    (c.first_kind.ensures ∙ ap first_kind c.kind.ensures) c.text.ensures found in
+    on_ok c.put_mention.result
+    (λ e. e d ∙ ap (λ (ps : List Placed). placed_list d c.args.mentions.now.items ++ ps)
+    (named_placed d c.args.location u c.named_mention.result k c.in-Some.place (targets (table d) u)
+    c.named_mention.ensures placed led))
+    c.put_mention.ensures

@@ -1,0 +1,131 @@
+-- What stored mentions say about a deck.
+use Rattle.std.proofs.Common.{◌≡◌, ◌++◌, ◌∷◌, [], ℕ, Bool, true, List, map, reverse, Option, Some, None, refl, sym, ap, ◌∙◌}
+use Rattle.std.proofs.Common.{append_assoc}
+use Rattle.std.specs.Prelude.{if◌then◌else◌}
+use Rattle.std.specs.Str.{bytes_eq}
+use Rattle.std.proofs.lemmas.List.{map-append, reverse-append}
+use Rattle.std.proofs.lemmas.Slice.Eq.{bytes_eq-Decides}
+use Rattle.expr_tree.specs.declared.word_list.WordKind.{WordKind}
+use Rattle.expr_tree.specs.declared.word_list.WordUse.{WordUse}
+use Rattle.def_entry.specs.declared.key.Key.{Key}
+use Rattle.def_entry.specs.declared.key.Kind.{Kind}
+use Rattle.def_entry.specs.Keys.{key}
+use Rattle.deck.specs.Decks.{Contents}
+use Rattle.deck.specs.Tables.{is_present, last_place, table}
+use Rattle.value_sources.specs.declared.mention.Location.{Location}
+use Rattle.value_sources.specs.declared.mention.StoredMention.{StoredMention}
+use Rattle.value_sources.specs.declared.resolution.Resolution.{Resolution}
+use Rattle.value_sources.specs.declared.resolution.Resolution.TheVariants.{Name, Plural, Prefix, PrefixedUnit, Unknown}
+use Rattle.value_sources.specs.declared.row.Row.{Row as StoredRow}
+use Rattle.value_sources.specs.declared.site.Site.{Site}
+use Rattle.value_sources.specs.Mentions.{Mention, mention_by, mention_text, sole_resolution}
+use Rattle.value_sources.specs.PlacedMentions.{Placed, placed_to, with_place}
+use Rattle.value_sources.specs.StoredMentions.{key_of_place, mention_in, placed_in, placed_list, row_in, rows_in}
+use Rattle.value_sources.specs.Uses.{use_at}
+use Rattle.value_sources.proofs.Placing.{no_entry, there}
+
+-- the line in force for a key defines that key
+pub key_in_force : (d : Contents) (n : Key) (o : Option ℕ) → o ≡ last_place d.settings d.lines n
+    → is_present (table d) n ≡ true → key_of_place d o ≡ Some n
+key_in_force d n None e p = absurd (no_entry d n (sym e) p)
+key_in_force d n (Some place) e p = there d n place (sym e)
+
+abbrev placed_parts : ℕ → Site → (text : List ℕ) → WordKind → Resolution → Option Key → (place : Option ℕ) → Placed
+placed_parts depth s text kind r target place = record {
+  mention = record {
+    depth = depth;
+    site = s;
+    word = record { text = text; kind = kind };
+    resolution = r;
+    target = target;
+  };
+  place = place;
+}
+
+module _ (d : Contents) (l : Location) (u : WordUse) (n : Key) (o : Option ℕ) (found : key_of_place d o ≡ Some n)
+    (is : o ≡ last_place d.settings d.lines n) where
+  -- a mention whose word is stored
+  pub written_in : (r : Resolution)
+      → placed_in d (record { location = l; word = Some u.text; word_kind = u.kind; resolution = r; place = o })
+      ≡ with_place d (mention_by r l.depth (use_at l.site u) n)
+  written_in r = λ i. placed_parts l.depth l.site u.text u.kind r (found i) (is i)
+
+  -- a mention whose word is the name of its key
+  pub named_in : bytes_eq u.text n.name ≡ true
+      → placed_in d (record { location = l; word = None; word_kind = u.kind; resolution = Name; place = o })
+      ≡ with_place d (mention_by (sole_resolution u n) l.depth (use_at l.site u) n)
+  named_in same =
+      let text : mention_text None (key_of_place d o) ≡ u.text =
+      ap (mention_text None) found ∙ sym ((bytes_eq-Decides u.text n.name).0 same) in
+      let how : Name ≡ sole_resolution u n = ap (λ (b : Bool). if b then Name else Plural) (sym same) in
+      λ i. placed_parts l.depth l.site (text i) u.kind (how i) (found i) (is i)
+
+-- the mention of a key by its name is the only mention of a word that leads to this key alone
+pub named_placed : (d : Contents) (l : Location) (u : WordUse) (m : StoredMention) (k : Kind) (place : ℕ)
+    (ns : List Key)
+    → m ≡ record { location = l; word = None; word_kind = u.kind; resolution = Name; place = Some place }
+    → last_place d.settings d.lines (key k u.text) ≡ Some place → ns ≡ key k u.text ∷ []
+    → placed_in d m ∷ [] ≡ placed_to d l.depth (use_at l.site u) ns
+named_placed d l u m k place ns is found led =
+    ap (λ (x : StoredMention). placed_in d x ∷ []) is
+    ∙ (ap (λ (p : Placed). p ∷ [])
+    (named_in d l u (key k u.text) (Some place) (there d (key k u.text) place found) (sym found)
+    ((bytes_eq-Decides u.text u.text).1 refl))
+    ∙ ap (placed_to d l.depth (use_at l.site u)) (sym led))
+
+-- ---- lists of stored mentions and rows
+map_reversed : {A B : Type 0} (f : A → B) (xs : List A) → map f (reverse xs) ≡ reverse (map f xs)
+map_reversed f [] = refl
+map_reversed {B = B} f (x ∷ xs) =
+    ap (map f) (reverse-append (x ∷ []) xs)
+    ∙ (map-append f (reverse xs) (x ∷ [])
+    ∙ (ap (λ (ys : List B). ys ++ f x ∷ []) (map_reversed f xs) ∙ sym (reverse-append (f x ∷ []) (map f xs))))
+
+pub mention_pushed : (d : Contents) (before now : List StoredMention) (m : StoredMention) → now ≡ before ++ m ∷ []
+    → placed_list d now ≡ placed_list d before ++ placed_in d m ∷ []
+mention_pushed d before now m e = ap (placed_list d) e ∙ map-append (placed_in d) before (m ∷ [])
+
+pub reversed_pushed : (d : Contents) (before now found : List StoredMention) → now ≡ before ++ reverse found
+    → placed_list d now ≡ placed_list d before ++ reverse (placed_list d found)
+reversed_pushed d before now found e =
+    ap (placed_list d) e
+    ∙ (map-append (placed_in d) before (reverse found)
+    ∙ ap (λ (ps : List Placed). placed_list d before ++ ps) (map_reversed (placed_in d) found))
+
+pub row_pushed : (d : Contents) (before now : List StoredRow) (r : StoredRow) → now ≡ before ++ r ∷ []
+    → rows_in d now ≡ rows_in d before ++ row_in d r ∷ []
+row_pushed d before now r e = ap (rows_in d) e ∙ map-append (row_in d) before (r ∷ [])
+
+-- ---- the mentions of a word that leads nowhere, to one key, or to a prefix and a unit
+pub unknown_pushed : (d : Contents) (l : Location) (u : WordUse) (m : StoredMention) (before now : List Placed)
+    → m ≡ record { location = l; word = Some u.text; word_kind = u.kind; resolution = Unknown; place = None }
+    → now ≡ before ++ placed_in d m ∷ []
+    → now ≡ before ++ placed_to d l.depth (use_at l.site u) []
+unknown_pushed d l u m before now is pushed =
+    pushed ∙ ap (λ (x : StoredMention). before ++ placed_in d x ∷ []) is
+
+pub sole_pushed : (d : Contents) (l : Location) (u : WordUse) (n : Key) (m : StoredMention) (before now : List Placed)
+    → placed_in d m ≡ with_place d (mention_by (sole_resolution u n) l.depth (use_at l.site u) n)
+    → now ≡ before ++ placed_in d m ∷ []
+    → now ≡ before ++ placed_to d l.depth (use_at l.site u) (n ∷ [])
+sole_pushed d l u n m before now is pushed = pushed ∙ ap (λ (p : Placed). before ++ p ∷ []) is
+
+pub both_pushed : (d : Contents) (l : Location) (u : WordUse) (n k : Key) (a b : StoredMention)
+    (place other : Option ℕ) (before mid now : List Placed)
+    → a ≡ record { location = l; word = Some u.text; word_kind = u.kind; resolution = Prefix; place = place }
+    → b ≡ record { location = l; word = Some u.text; word_kind = u.kind; resolution = PrefixedUnit; place = other }
+    → place ≡ last_place d.settings d.lines n → other ≡ last_place d.settings d.lines k
+    → is_present (table d) n ≡ true → is_present (table d) k ≡ true
+    → mid ≡ before ++ placed_in d a ∷ [] → now ≡ mid ++ placed_in d b ∷ []
+    → now ≡ before ++ placed_to d l.depth (use_at l.site u) (n ∷ k ∷ [])
+both_pushed d l u n k a b place other before mid now is_a is_b first second has_n has_k one two =
+    let at_n = key_in_force d n place first has_n in
+    let at_k = key_in_force d k other second has_k in
+    let prefix : placed_in d a ≡ with_place d (mention_by Prefix l.depth (use_at l.site u) n) =
+    ap (placed_in d) is_a ∙ written_in d l u n place at_n first Prefix in
+    let unit : placed_in d b ≡ with_place d (mention_by PrefixedUnit l.depth (use_at l.site u) k) =
+    ap (placed_in d) is_b ∙ written_in d l u k other at_k second PrefixedUnit in
+    two
+    ∙ (ap (λ (ps : List Placed). ps ++ placed_in d b ∷ []) one
+    ∙ (append_assoc before (placed_in d a ∷ []) (placed_in d b ∷ [])
+    ∙ (λ i. before ++ prefix i ∷ unit i ∷ [])))
