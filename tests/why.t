@@ -621,9 +621,14 @@ The depth of a deep row is written before it.
                                           (24) aa: unit, a = 1 a [deep.units:2]
                                           (25) a: unit, ! = 1 a [deep.units:1]
 
-A file that cannot be read twice: its lines have no places.
+A file that cannot be read twice. If it includes no file, its lines have places; otherwise they have none.
 
   $ printf 'm !\nyd 0.9144 m\n' | units_why -f /dev/stdin yd
+  \tDefinition: 0.9144 m = 0.9144 m (esc)
+  yd: unit, 0.9144 m = 0.9144 m [/dev/stdin:2]
+    m: unit, ! = 1 m [/dev/stdin:1]
+  $ printf '# one metre\nm !\n' > metre.units
+  $ printf '!include %s/metre.units\nyd 0.9144 m\n' "$PWD" | units_why -f /dev/stdin yd
   units-why: a file changed while it was read, so no line has a place
   \tDefinition: 0.9144 m = 0.9144 m (esc)
   yd: unit, 0.9144 m = 0.9144 m [?]

@@ -1,5 +1,8 @@
 //! The names of the files that contain the lines of a deck.
 
+ghost use Rattle.std.specs.Prelude.{◌≤◌, length, IfOk, IfSome};
+ghost use Rattle.units_io.specs.FileMap.{longest_file};
+
 use crate::shadows::has_one_line_per_key;
 use deck::Deck;
 use def_lines::{LineKind, classify};
@@ -76,11 +79,9 @@ pub(crate) fn line_names_to_read<F: Files>(
 }
 
 // Returns the text of a file, or `None` if it cannot be read.
-fn text_of<F: Files>(
-    alloc: Global,
-    files: &mut F,
-    name: &[u8],
-) -> Result<Option<Text>, AllocError> {
+fn text_of<F: Files>(alloc: Global, files: &mut F, name: &[u8]) -> Result<Option<Text>, AllocError>
+    ensures { IfOk result (λ found. IfSome found (λ text. length text ≤ longest_file)) }
+{
     match files.fetch(alloc, name) {
         Ok(text) => Ok(Some(text)),
         Err(FetchFault::OutOfMemory) => Err(AllocError),
