@@ -65,9 +65,7 @@ impl RowNotes {
         let deck = evaluator.deck();
         let standing = self.relation_to_definition(deck, row);
         let alloc = evaluator.alloc;
-        let call = self
-            .calls
-            .next_call(alloc, deck, &self.path, &row.mention)?;
+        let call = self.calls.next_call(alloc, deck, &self.path, &row.mention)?;
         let call = boxed_trace(evaluator, options, call)?;
         self.path.enter(defined_at(standing))?;
         Ok(RowNote { standing, call })

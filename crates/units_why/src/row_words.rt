@@ -50,7 +50,11 @@ pub(crate) fn rewritten_word<'a>(
         Resolution::Name => None,
         _ => {
             let word = mention.word(deck);
-            if word == key.name.as_bytes() { None } else { Some(word) }
+            if word == key.name.as_bytes() {
+                None
+            } else {
+                Some(word)
+            }
         }
     }
 }

@@ -1,6 +1,6 @@
 -- Mentions on a stack, the next one last.
 use Rattle.std.proofs.Common.{◌≡◌, ◌++◌, ◌∷◌, ◌+◌, ◌<◌, [], ℕ, List, drop, length, get_or, reverse, sym, ap, ◌∙◌}
-use Rattle.std.proofs.Common.{append_assoc}
+use Rattle.std.proofs.Common.{append_assoc, refl}
 use Rattle.std.proofs.lemmas.List.{at_drop_more, reverse-append, reverse-reverse}
 use Rattle.expr_tree.specs.declared.word_list.WordUse.{WordUse}
 use Rattle.deck.specs.Decks.{Contents}

@@ -1,9 +1,10 @@
 -- What stored mentions say about a deck.
-use Rattle.std.proofs.Common.{◌≡◌, ◌++◌, ◌∷◌, [], ℕ, Bool, true, List, map, reverse, Option, Some, None, refl, sym, ap, ◌∙◌}
+use Rattle.std.proofs.Common.{◌≡◌, ◌++◌, ◌∷◌, [], ℕ, Bool, true, List, map, reverse, Option, Some, None, refl, sym, ap}
+use Rattle.std.proofs.Common.{◌∙◌}
 use Rattle.std.proofs.Common.{append_assoc}
 use Rattle.std.specs.Prelude.{if◌then◌else◌}
 use Rattle.std.specs.Str.{bytes_eq}
-use Rattle.std.proofs.lemmas.List.{map-append, reverse-append}
+use Rattle.std.proofs.lemmas.List.{map-append, reverse-append, reverse-reverse}
 use Rattle.std.proofs.lemmas.Slice.Eq.{bytes_eq-Decides}
 use Rattle.expr_tree.specs.declared.word_list.WordKind.{WordKind}
 use Rattle.expr_tree.specs.declared.word_list.WordUse.{WordUse}
@@ -18,9 +19,9 @@ use Rattle.value_sources.specs.declared.resolution.Resolution.{Resolution}
 use Rattle.value_sources.specs.declared.resolution.Resolution.TheVariants.{Name, Plural, Prefix, PrefixedUnit, Unknown}
 use Rattle.value_sources.specs.declared.row.Row.{Row as StoredRow}
 use Rattle.value_sources.specs.declared.site.Site.{Site}
-use Rattle.value_sources.specs.Mentions.{Mention, mention_by, mention_text, sole_resolution}
+use Rattle.value_sources.specs.Mentions.{mention_by, mention_text, sole_resolution}
 use Rattle.value_sources.specs.PlacedMentions.{Placed, placed_to, with_place}
-use Rattle.value_sources.specs.StoredMentions.{key_of_place, mention_in, placed_in, placed_list, row_in, rows_in}
+use Rattle.value_sources.specs.StoredMentions.{key_of_place, placed_in, placed_list, row_in, rows_in}
 use Rattle.value_sources.specs.Uses.{use_at}
 use Rattle.value_sources.proofs.Placing.{no_entry, there}
 
@@ -91,6 +92,17 @@ reversed_pushed d before now found e =
     ap (placed_list d) e
     ∙ (map-append (placed_in d) before (reverse found)
     ∙ ap (λ (ps : List Placed). placed_list d before ++ ps) (map_reversed (placed_in d) found))
+
+-- the mentions of an expression are pushed to an empty stack
+pub first_pushed : (d : Contents) (empty found fresh now : List StoredMention) (all : List Placed) → empty ≡ []
+    → fresh ≡ [] → placed_list d found ≡ placed_list d empty ++ all → now ≡ fresh ++ reverse found
+    → reverse (placed_list d now) ≡ all
+first_pushed d empty found fresh now all e f put pushed =
+    ap (λ (ms : List StoredMention). reverse (placed_list d ms))
+    (pushed ∙ ap (λ (ms : List StoredMention). ms ++ reverse found) f)
+    ∙ (ap reverse (map_reversed (placed_in d) found)
+    ∙ (reverse-reverse (placed_list d found)
+    ∙ (put ∙ ap (λ (ms : List StoredMention). placed_list d ms ++ all) e)))
 
 pub row_pushed : (d : Contents) (before now : List StoredRow) (r : StoredRow) → now ≡ before ++ r ∷ []
     → rows_in d now ≡ rows_in d before ++ row_in d r ∷ []

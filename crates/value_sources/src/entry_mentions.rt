@@ -79,12 +79,7 @@ impl Lookup<'_> {
             ++ placed_mentions self.now.deck.now depth (uses.alias_uses target.now)) }
     {
         let word = WordUse::new(target.as_bytes(), WordKind::Inverse);
-        self.put_word(
-            tried,
-            mentions,
-            at(depth, Site::AliasTarget),
-            &word,
-        )
+        self.put_word(tried, mentions, at(depth, Site::AliasTarget), &word)
     }
 
     // Appends the mentions of the words of a tree, if there is one.

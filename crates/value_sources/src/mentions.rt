@@ -92,7 +92,10 @@ impl<'a> Lookup<'a> {
                 put_mention(mentions, first)?;
                 let place = self.deck.last_place(&unit);
                 let resolution = Resolution::PrefixedUnit;
-                put_mention(mentions, mention(self.alloc, location, word, resolution, place)?)
+                put_mention(
+                    mentions,
+                    mention(self.alloc, location, word, resolution, place)?,
+                )
             }
         }
     }
@@ -175,10 +178,7 @@ fn mention(
 }
 
 // Appends a mention.
-fn put_mention(
-    mentions: &mut Vec<StoredMention>,
-    mention: StoredMention,
-) -> Result<(), AllocError>
+fn put_mention(mentions: &mut Vec<StoredMention>, mention: StoredMention) -> Result<(), AllocError>
     ensures { OnOk result ((d : Contents) → placed_list d mentions.new.items
         ≡ placed_list d mentions.old.items ++ placed_in d mention ∷ []) }
 {

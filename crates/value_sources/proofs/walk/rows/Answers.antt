@@ -1,19 +1,32 @@
-use Rattle.std.proofs.Common.{◌≡◌, ap, List, subst, sym}
+use Rattle.std.proofs.Common.{ap, List, Option, subst, sym}
 use Rattle.expr_tree.specs.Trees.{syntax}
 use Rattle.expr_tree.specs.Words.{words_in}
+use Rattle.value_sources.specs.declared.row.Row.{Row as StoredRow}
 use Rattle.value_sources.specs.Rows.{Row}
 use Rattle.value_sources.specs.StoredMentions.{rows_in}
-use Rattle.value_sources.specs.Walks.{IsWalk}
+use Rattle.value_sources.specs.Walks.{IsNext, IsWalk}
 use Rattle.value_sources.proofs.Stored.{row_pushed}
 use Rattle.value_sources.proofs.walk.rows.Goals as goal
 
-pub loop-row-init : goal.loop-row-init
-loop-row-init c =
+pub loop-rows-init : goal.loop-rows-init
+loop-rows-init c =
     subst (λ (rs : List Row). IsWalk c.args.deck.now (words_in (syntax c.args.tree.now)) rs c.in_ok-walk.walk)
     (sym (ap (rows_in c.args.deck.now) c.new-rows.ensures.items)) c.in_ok-walk.ensures
 
-pub loop-row-preserved : goal.loop-row-preserved
-loop-row-preserved c =
-    subst (λ (rs : List Row). IsWalk c.args.deck.now (words_in (syntax c.args.tree.now)) rs c.next.new.self)
-    (sym (row_pushed c.args.deck.now c.loop-row.rows.items c.push.new.self.items c.in-Some.row
-    c.in_ok-push.ensures.items)) (c.in_ok-next.ensures _ _ c.loop-row.invariant)
+pub loop-rows-preserved : goal.loop-rows-preserved
+loop-rows-preserved c =
+    let d = c.args.deck.now in
+    let words = words_in (syntax c.args.tree.now) in
+    let rows = rows_in d c.loop-rows.rows.items in
+    subst (λ (rs : List Row). IsWalk d words rs c.next.new.self)
+    (sym (row_pushed d c.loop-rows.rows.items c.push.new.self.items c.in-Some.row c.in_ok-push.ensures.items))
+    (subst (λ (o : Option StoredRow). IsNext d words rows c.next.new.self o) c.in-Some.is
+    (c.in_ok-row.ensures words rows c.loop-rows.invariant))
+
+pub returns : goal.returns
+returns c =
+    let d = c.args.deck.now in
+    let words = words_in (syntax c.args.tree.now) in
+    let rows = rows_in d c.loop-rows.rows.items in
+    subst (λ (o : Option StoredRow). IsNext d words rows c.next.new.self o) c.in_default.is
+    (c.in_ok-row.ensures words rows c.loop-rows.invariant)

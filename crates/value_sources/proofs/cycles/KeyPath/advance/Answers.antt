@@ -25,17 +25,17 @@ is_open-requires c =
     let same : length c.deref.result.now ≡ length c.args.self.now.depths.items = ap length c.deref.ensures.value in
     omega (arith, inside, room, same)
 
-pub returns-then-not-is_visit-clause-path : goal.returns-then-not-is_visit-clause-path
-returns-then-not-is_visit-clause-path c path is follow =
+pub returns-then-not-row-clause-path : goal.returns-then-not-row-clause-path
+returns-then-not-row-clause-path c path is follow =
     let d = c.args.deck.now in
     let depths = c.args.self.now.depths.items in
     let both = row_skipped d depths c.args.self.now.places.items path (row_in d c.args.row.now) c.truncate.new.self.items
     (c.truncate.ensures.items ∙ ap (λ (k : ℕ). take k c.args.self.now.places.items) (c.depth.ensures d)) is
     c.in-Some.place
     (sym (c.line_of.ensures ∙ ap (option_and_then (last_place d.settings d.lines)) c.key.ensures) ∙ c.in-Some.is)
-    c.if-not-is_visit.true in (
+    c.if-not-row.true in (
       c.is_open.ensures
-          ∙ ((λ i. is_open (c.deref.ensures.value i) (c.deref-then-not-is_visit.ensures.value i) c.in-Some.place)
+          ∙ ((λ i. is_open (c.deref.ensures.value i) (c.deref-then-not-row.ensures.value i) c.in-Some.place)
           ∙ both.0),
       both.1,
     )
@@ -58,4 +58,4 @@ returns-clause-path c path is follow =
     c.in-Some.place c.len.result c.push.new.self.items (c.len.ensures ∙ c.truncate.new.self.ok.0)
     c.in_ok-push.ensures.items
     (sym (c.line_of.ensures ∙ ap (option_and_then (last_place d.settings d.lines)) c.key.ensures) ∙ c.in-Some.is)
-    c.if-not-is_visit.false c.requires follow
+    c.if-not-row.false c.requires follow

@@ -1,10 +1,12 @@
-use Rattle.std.proofs.Common.{◌≡◌, ◌++◌, ℕ, List, Some, ap, sym, ◌∙◌}
+use Rattle.std.proofs.Common.{◌≡◌, ◌++◌, ℕ, Contains, List, Some, ap, subst, sym, ◌∙◌}
+use Rattle.def_entry.specs.declared.key.Key.{Key}
 use Rattle.def_entry.specs.Keys.{key}
-use Rattle.deck.specs.Tables.{last_place, table}
+use Rattle.deck.specs.Tables.{is_present, last_place, table}
 use Rattle.table_names.specs.Leads.{targets}
-use Rattle.value_sources.specs.Leads.{first_kind}
-use Rattle.value_sources.specs.PlacedMentions.{Placed}
+use Rattle.value_sources.specs.Leads.{first_kind, lead_keys}
+use Rattle.value_sources.specs.PlacedMentions.{Placed, placed_to}
 use Rattle.value_sources.specs.StoredMentions.{placed_list}
+use Rattle.value_sources.specs.Uses.{use_at}
 use Rattle.value_sources.proofs.Leads.{named_by}
 use Rattle.value_sources.proofs.Stored.{named_placed}
 use Rattle.value_sources.proofs.Walking.{on_ok}
@@ -26,3 +28,16 @@ returns-in-Some c =
     (named_placed d c.args.location u c.named_mention.result k c.in-Some.place (targets (table d) u)
     c.named_mention.ensures placed led))
     c.put_mention.ensures
+
+pub returns : goal.returns
+returns c =
+    let d = c.args.self.now.deck.now in
+    let u = c.args.word.now in
+    let led : targets (table d) u ≡ lead_keys c.in_ok-lead.lead = c.in_ok-lead.ensures in
+    on_ok c.put_lead.result
+    (λ f. f (λ n i. (c.targets_are_present.ensures (is_present (table d)) u.kind u.text n
+    (subst (λ (ks : List Key). Contains ks n) (sym led) i)).1)
+    ∙ ap (λ (ks : List Key). placed_list d c.args.mentions.now.items ++ placed_to d c.args.location.depth
+    (use_at c.args.location.site u) ks)
+    (sym led))
+    c.put_lead.ensures

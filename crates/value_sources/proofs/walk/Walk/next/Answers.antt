@@ -13,18 +13,18 @@ returns-in_default c words rows h =
     underway_end d (first_mentions (table d) words) rows (placed_list d pending.items)
     (ap (placed_list d) (none_left pending.items (sym pending.ok.0 ∙ c.in_default.ensures.cases.0))) h.underway
 
-pub returns-in_default-2 : goal.returns-in_default-2
-returns-in_default-2 c words rows h =
+pub returns-in_default-unvisited_place : goal.returns-in_default-unvisited_place
+returns-in_default-unvisited_place c words rows h =
     let walk = walk_skipped c.args.deck.now words rows c.args.self.now.marks.items c.args.self.now.pending.items
     c.pop.new.self.items c.in-Some.mention c.in-Some.ensures.items h.marked h.underway c.deref.result.now
-    c.unvisited_place.result c.deref.ensures.value c.unvisited_place.ensures c.in_default-2.is in
+    c.unvisited_place.result c.deref.ensures.value c.unvisited_place.ensures c.in_default-unvisited_place.is in
     record { marked = walk.0; underway = walk.1 }
 
 pub returns : goal.returns
 returns c words rows h =
     let walk = walk_visited c.args.deck.now words rows c.args.self.now.marks.items c.args.self.now.pending.items
     c.pop.new.self.items c.in-Some.mention c.in-Some.ensures.items h.marked h.underway c.targets_are_present.ensures
-    c.deref.result.now c.unvisited_place.result c.in-Some-2.place c.deref.ensures.value c.unvisited_place.ensures
-    c.in-Some-2.is c.set_mark.new.marks.items c.set_mark.ensures c.put_found.new.found.items
+    c.deref.result.now c.unvisited_place.result c.in-Some-unvisited_place.place c.deref.ensures.value c.unvisited_place.ensures
+    c.in-Some-unvisited_place.is c.set_mark.new.marks.items c.set_mark.ensures c.put_found.new.found.items
     c.push_reversed.new.pending.items c.in_ok-put_found.ensures c.in_ok-push_reversed.ensures in
     record { marked = walk.0; underway = walk.1 }
