@@ -129,12 +129,8 @@ fn put_rows<O: Sink, L: Ledger>(
 ) -> Result<(), OutputFault>
     requires { IsPrintable style.options.now }
 {
-    let RowTree {
-        walk: Some(mut walk),
-        calls,
-        ..
-    } = tree
-    else {
+    let RowTree { walk, calls, .. } = tree;
+    let Some(mut walk) = walk else {
         return Ok(());
     };
     let alloc = definitions.evaluator.alloc;
