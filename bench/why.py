@@ -8,6 +8,7 @@ import subprocess
 import sys
 import tempfile
 from pathlib import Path
+from statistics import median
 
 LENGTH = 60000
 LETTERS = str.maketrans("0123456789", "abcdefghij")
@@ -27,10 +28,11 @@ def seconds(command: list[str]) -> float:
 
 
 def compare(title: str, one: list[str], other: list[str], rounds: int) -> None:
-    """Prints the lowest times of two commands that run in turns, and their ratio."""
+    """Prints the medians of the times of two commands that run in turns, and the median of the ratios of the turns."""
     times = [(seconds(one), seconds(other)) for _ in range(rounds)]
-    first, second = min(pair[0] for pair in times), min(pair[1] for pair in times)
-    print(f"{title}: {first:.3f} s and {second:.3f} s, ratio {first / second:.2f}")
+    first, second = median(pair[0] for pair in times), median(pair[1] for pair in times)
+    ratio = median(pair[0] / pair[1] for pair in times)
+    print(f"{title}: {first:.3f} s and {second:.3f} s, ratio {ratio:.2f}")
 
 
 def main() -> int:
