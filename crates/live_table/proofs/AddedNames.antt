@@ -1,8 +1,9 @@
 -- The written steps of words stay right when names, listed numbers and dead ends are added.
 use Rattle.std.proofs.Common.{◌≡◌, ◌<◌, ◌≤◌, ℕ, zero, suc, true, List, [], ◌∷◌, ◌++◌, take, length, Option, Some}
-use Rattle.std.proofs.Common.{None, refl, sym, ◌∙◌, ap, subst, inl, inr, arith}
+use Rattle.std.proofs.Common.{None, refl, sym, ◌∙◌, ap, subst, inl, inr, arith, Contains}
 use Rattle.std.specs.List.{slice_get}
 use Rattle.std.proofs.lemmas.List.{length-map}
+use Rattle.std.proofs.lemmas.List.Elements.{Contains-append_left, Contains-append_right}
 use Rattle.std.proofs.lemmas.Option.{slice_get-get_or}
 use Rattle.expr_tree.specs.declared.word_list.WordUse.{WordUse}
 use Rattle.def_entry.specs.declared.key.Key.{Key}
@@ -10,9 +11,9 @@ use Rattle.def_entry.specs.Tables.{Table}
 use Rattle.name_walk.specs.declared.step.Step.{Step}
 use Rattle.name_walk.specs.declared.step.Step.TheVariants.{Nowhere, To}
 use Rattle.name_walk.specs.ClosedNames.{IsSettled}
-use Rattle.name_walk.specs.Lists.{In}
 use Rattle.name_walk.proofs.Lists.{nothing_twice}
 use Rattle.table_names.specs.declared.fault.NameFault.{NameFault}
+use Rattle.table_names.proofs.Members.{member_at, member_first, member_later, no_member}
 use Rattle.name_numbers.specs.NumberedNames.{AreWords, ForOne, ForRefused, ForTwo, ForUnknown, IsWord}
 use Rattle.live_table.specs.declared.dead_end.DeadEnd.{DeadEnd}
 use Rattle.live_table.specs.ExploredNames.{dead_end_fault, fault_at}
@@ -39,11 +40,8 @@ take_more (x ∷ xs) (y ∷ ys) (suc k) m h =
     λ i. e i ∷ t i
 
 -- a member of a list is a member of a longer one
-pub in_more : (xs ys : List ℕ) (x : ℕ) → IsMore xs ys → In x xs → In x ys
-in_more [] ys x m i = absurd i
-in_more (y ∷ xs) [] x m i = let e : None ≡ Some y = m 0 y refl in cc
-in_more (y ∷ xs) (z ∷ ys) x m (inl e) = let q : z ≡ y = some_same z y (m 0 y refl) in inl (e ∙ sym q)
-in_more (y ∷ xs) (z ∷ ys) x m (inr i) = inr (in_more xs ys x (λ j w q. m (suc j) w q) i)
+pub in_more : (xs ys : List ℕ) (x : ℕ) → IsMore xs ys → Contains xs x → Contains ys x
+in_more xs ys x m i = member_at ys i.0 x (m i.0 x (slice_get-get_or xs i.0 x i.1 ∙ ap Some i.2))
 
 -- appending items makes a longer list
 pub push_more : {A : Type 0} (xs ys : List A) → IsMore xs (xs ++ ys)
@@ -72,22 +70,25 @@ fault_same ends more t m h holder =
 
 -- ---- steps mean the same if the keys and dead ends do
 module _ (t : Table) (key later : ℕ → Key) (ends other : ℕ → Option Key → NameFault) where
-  same_word : (u : WordUse) (x y : Step) → ((r : ℕ) → In (To r) (x ∷ y ∷ []) → later r ≡ key r)
-      → ((b : ℕ) → In (Nowhere b) (x ∷ y ∷ []) → (holder : Option Key) → other b holder ≡ ends b holder)
+  same_word : (u : WordUse) (x y : Step) → ((r : ℕ) → Contains (x ∷ y ∷ []) (To r) → later r ≡ key r)
+      → ((b : ℕ) → Contains (x ∷ y ∷ []) (Nowhere b) → (holder : Option Key) → other b holder ≡ ends b holder)
       → IsWord t key ends u x y → IsWord t later other u x y
-  same_word u x y h k (ForRefused b is e) = ForRefused b is (λ holder. k b (inl refl) holder ∙ e holder)
-  same_word u x y h k (ForUnknown b fine none e) = ForUnknown b fine none (λ holder. k b (inl refl) holder ∙ e holder)
-  same_word u x y h k (ForOne n fine e) = ForOne n fine (e ∙ ap (λ (q : Key). q ∷ []) (sym (h n (inl refl))))
+  same_word u x y h k (ForRefused b is e) =
+      ForRefused b is (λ holder. k b (member_first x x (y ∷ []) refl) holder ∙ e holder)
+  same_word u x y h k (ForUnknown b fine none e) =
+      ForUnknown b fine none (λ holder. k b (member_first x x (y ∷ []) refl) holder ∙ e holder)
+  same_word u x y h k (ForOne n fine e) =
+      ForOne n fine (e ∙ ap (λ (q : Key). q ∷ []) (sym (h n (member_first x x (y ∷ []) refl))))
   same_word u x y h k (ForTwo n m fine e) =
-      ForTwo n m fine (e ∙ (λ i. sym (h n (inl refl)) i ∷ sym (h m (inr (inl refl))) i ∷ []))
+      ForTwo n m fine
+      (e ∙ (λ i. sym (h n (member_first x x (y ∷ []) refl)) i
+      ∷ sym (h m (member_later y x (y ∷ []) (member_first y y [] refl))) i ∷ []))
 
-  front_in : (x y : Step) (xs : List Step) (s : Step) → In s (x ∷ y ∷ []) → In s (x ∷ y ∷ xs)
-  front_in x y xs s (inl e) = inl e
-  front_in x y xs s (inr (inl e)) = inr (inl e)
-  front_in x y xs s (inr (inr i)) = absurd i
+  front_in : (x y : Step) (xs : List Step) (s : Step) → Contains (x ∷ y ∷ []) s → Contains (x ∷ y ∷ xs) s
+  front_in x y xs s i = Contains-append_left (x ∷ y ∷ []) xs s i
 
-  pub same_words : (us : List WordUse) (xs : List Step) → ((r : ℕ) → In (To r) xs → later r ≡ key r)
-      → ((b : ℕ) → In (Nowhere b) xs → (holder : Option Key) → other b holder ≡ ends b holder)
+  pub same_words : (us : List WordUse) (xs : List Step) → ((r : ℕ) → Contains xs (To r) → later r ≡ key r)
+      → ((b : ℕ) → Contains xs (Nowhere b) → (holder : Option Key) → other b holder ≡ ends b holder)
       → AreWords t key ends us xs → AreWords t later other us xs
   same_words [] [] h k w = w
   same_words [] (x ∷ xs) h k w = absurd w
@@ -95,7 +96,8 @@ module _ (t : Table) (key later : ℕ → Key) (ends other : ℕ → Option Key 
   same_words (u ∷ us) (x ∷ []) h k w = absurd w
   same_words (u ∷ us) (x ∷ y ∷ xs) h k w = (
     same_word u x y (λ r i. h r (front_in x y xs (To r) i)) (λ b i. k b (front_in x y xs (Nowhere b) i)) w.0,
-    same_words us xs (λ r i. h r (inr (inr i))) (λ b i. k b (inr (inr i))) w.1,
+    same_words us xs (λ r i. h r (Contains-append_right (x ∷ y ∷ []) xs (To r) i))
+        (λ b i. k b (Contains-append_right (x ∷ y ∷ []) xs (Nowhere b) i)) w.1,
   )
 
 -- a settled number is within the keys
@@ -141,14 +143,14 @@ module _ (t : Table) (l m : Listed) (before here there : List ℕ) (ends more : 
 
 -- ---- additions in turn
 -- no numbers are listed
-pub none_listed : (t : Table) (l : Listed) (before list : List ℕ) → ((n : ℕ) → In n before → n < length l.keys)
+pub none_listed : (t : Table) (l : Listed) (before list : List ℕ) → ((n : ℕ) → Contains before n → n < length l.keys)
     → list ≡ [] → AreListed t l before list
 none_listed t l before list gone e = subst (AreListed t l before) (sym e) (record {
   explored_in_table = gone;
-  listed_in_table = λ n i. absurd i;
-  listed_not_settled = λ n i. absurd i;
-  new = λ n i. absurd i;
-  listed_have_entries = λ n i. absurd i;
+  listed_in_table = λ n i. absurd (no_member n i);
+  listed_not_settled = λ n i. absurd (no_member n i);
+  new = λ n i. absurd (no_member n i);
+  listed_have_entries = λ n i. absurd (no_member n i);
   numbers_distinct = nothing_twice;
 })
 

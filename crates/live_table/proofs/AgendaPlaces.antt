@@ -2,7 +2,7 @@
 use Rattle.std.proofs.Common.{◌≡◌, ◌+◌, ◌-◌, ◌<◌, ◌≤◌, ℕ, zero, suc, Bool, true, false, cond, List, [], ◌∷◌, ◌++◌}
 use Rattle.std.proofs.Common.{Bor, Option, Some, None, get_or, set, take, length, replicate, is_some, option_copied}
 use Rattle.std.proofs.Common.{sym, ◌∙◌, ap}
-use Rattle.std.proofs.Common.{subst, inl, inr, arith}
+use Rattle.std.proofs.Common.{subst, inl, inr, arith, Contains}
 use Rattle.std.specs.List.{slice_get}
 use Rattle.std.specs.Option.{option_map, unwrap_or}
 use Rattle.std.specs.Prelude.{MatchOption, SomeIff}
@@ -12,12 +12,13 @@ use Rattle.std.proofs.lemmas.Option.{get_or_from_slice_get}
 use Rattle.std.proofs.lemmas.Cmp.{nat_eq_equiv}
 use Rattle.std.proofs.lemmas.Map.Keys.{IsDistinct-push}
 use Rattle.name_walk.specs.Faults.{is_on_path}
-use Rattle.name_walk.specs.Lists.{In}
-use Rattle.name_walk.proofs.Lists.{In-on, distinct_front, distinct_last, get_In, nothing_twice, on-In}
+use Rattle.name_walk.proofs.Lists.{distinct_front, distinct_last, nothing_twice}
 use Rattle.name_walk.proofs.Marks.{get_set_other, get_set_same}
+use Rattle.name_walk.proofs.Members.{member_on_path, on_path_member}
 use Rattle.live_table.specs.Agendas.{AreSamePlaces, IsPlaced}
 use Rattle.live_table.proofs.AddedNames.{push_more}
 use Rattle.live_table.proofs.Places.{get_last, get_lt, get_pushed, place_in, some_same}
+use Rattle.table_names.proofs.Members.{member_at}
 
 -- a place in a longer table was there before
 in_front : (places : List ℕ) (k m i : ℕ) → slice_get (places ++ replicate k 0) m ≡ Some (i + 1)
@@ -74,7 +75,7 @@ pub place_told : (places numbers : List ℕ) (n kept : ℕ) (r : Option ℕ) →
     → SomeIff r (1 ≤ kept) (kept - 1) → IsPlaced places numbers
     → MatchOption r (is_on_path numbers n ≡ false) (λ i. slice_get numbers i ≡ Some n)
 place_told places numbers n kept None e s m =
-    false_from_ne_true (is_on_path numbers n) (λ t. let at = place_in numbers n (on-In numbers n t) in
+    false_from_ne_true (is_on_path numbers n) (λ t. let at = place_in numbers n (on_path_member numbers n t) in
     let k : kept ≡ at.0 + 1 = e ∙ get_or_from_slice_get places n (at.0 + 1) 0 ((m.places_match n at.0).1 at.1) in
     s (omega (arith, k)))
 place_told places numbers n kept (Some i) e s m =
@@ -86,7 +87,7 @@ pub number_with_place : (numbers : List ℕ) (n : ℕ) (r : Option ℕ)
     → MatchOption r (is_on_path numbers n ≡ false) (λ i. slice_get numbers i ≡ Some n)
     → is_some r ≡ is_on_path numbers n
 number_with_place numbers n None h = sym h
-number_with_place numbers n (Some i) h = sym (In-on numbers n (get_In numbers i n h))
+number_with_place numbers n (Some i) h = sym (member_on_path numbers n (member_at numbers i n h))
 
 -- one more number is appended
 pub placed_put : (places numbers : List ℕ) (n kept : ℕ) → kept ≡ length numbers + 1 → n < length places
@@ -111,7 +112,7 @@ placed_put places numbers n kept k h new m = record {
     from q i e = elim (get_pushed numbers n i q e) [
       | inl at ↦
           get_set_other places n q kept
-          (λ s. let z : true ≡ false = sym (In-on numbers q (get_In numbers i q at))
+          (λ s. let z : true ≡ false = sym (member_on_path numbers q (member_at numbers i q at))
           ∙ (ap (is_on_path numbers) s ∙ new) in cc)
           ∙ (m.places_match q i).1 at
       | inr last ↦
@@ -142,7 +143,8 @@ placed_popped places numbers n h m = record {
     from : (q i : ℕ) → slice_get numbers i ≡ Some q → slice_get (set places n 0) q ≡ Some (i + 1)
     from q i e =
         get_set_other places n q 0
-        (λ s. distinct_last numbers n m.numbers_distinct (subst (λ (x : ℕ). In x numbers) s (get_In numbers i q e)))
+        (λ s. distinct_last numbers n m.numbers_distinct
+        (subst (λ (x : ℕ). Contains numbers x) s (member_at numbers i q e)))
         ∙ (m.places_match q i).1 (push_more numbers (n ∷ []) i q e)
 
 -- a number that is there has room for its place

@@ -1,15 +1,15 @@
 -- A number is put on the agenda.
 use Rattle.std.proofs.Common.{◌≡◌, ◌<◌, ◌++◌, ◌∷◌, [], ℕ, Bool, true, false, cond, List, Some, length}
-use Rattle.std.proofs.Common.{get_or, sym, ◌∙◌, ap, subst, inl, inr, arith}
+use Rattle.std.proofs.Common.{get_or, sym, ◌∙◌, ap, subst, inl, inr, arith, Contains}
 use Rattle.std.proofs.lemmas.Bool.{cases_Bool, cond-false, cond-true, true≢false}
 use Rattle.std.proofs.lemmas.Cmp.{nat_eq_equiv}
 use Rattle.std.proofs.lemmas.Map.Keys.{IsDistinct-push}
 use Rattle.std.proofs.lemmas.Option.{slice_get-get_or}
+use Rattle.std.proofs.lemmas.List.Elements.{Contains-push, Contains-push_cases}
 use Rattle.def_entry.specs.Tables.{Table, is_present}
 use Rattle.name_walk.specs.ClosedNames.{IsSettled}
 use Rattle.name_walk.specs.Faults.{is_on_path}
-use Rattle.name_walk.specs.Lists.{In}
-use Rattle.name_walk.proofs.Lists.{In-last, In-on, In-push, on-In}
+use Rattle.name_walk.proofs.Members.{member_on_path, on_path_member}
 use Rattle.live_table.specs.declared.dead_end.DeadEnd.{DeadEnd}
 use Rattle.live_table.specs.Exploration.{AreAdded, AreListed}
 use Rattle.live_table.specs.Sound.{AreNumberedNames}
@@ -29,41 +29,39 @@ unsettled t l nodes n b h e f s =
     in cc
 
 -- a number that is not found in a list is not there
-pub not_on : (ns : List ℕ) (n : ℕ) → is_on_path ns n ≡ false → In n ns → ⊥
-not_on ns n e i = true≢false (sym (In-on ns n i) ∙ e)
+pub not_on : (ns : List ℕ) (n : ℕ) → is_on_path ns n ≡ false → Contains ns n → ⊥
+not_on ns n e i = true≢false (sym (member_on_path ns n i) ∙ e)
 
 -- a number that is put on a list is in it
-pub put_there : (list there : List ℕ) (n : ℕ) → there ≡ cond (is_on_path list n) list (list ++ n ∷ []) → In n there
+pub put_there : (list there : List ℕ) (n : ℕ) → there ≡ cond (is_on_path list n) list (list ++ n ∷ [])
+    → Contains there n
 put_there list there n e = elim (cases_Bool (is_on_path list n)) [
-  | inl q ↦ subst (λ (ns : List ℕ). In n ns) (sym (e ∙ cond-true (is_on_path list n) list (list ++ n ∷ []) q))
-      (on-In list n q)
-  | inr q ↦ subst (λ (ns : List ℕ). In n ns) (sym (e ∙ cond-false (is_on_path list n) list (list ++ n ∷ []) q))
-      (In-last list n)
+  | inl q ↦ subst (λ (ns : List ℕ). Contains ns n) (sym (e ∙ cond-true (is_on_path list n) list (list ++ n ∷ []) q))
+      (on_path_member list n q)
+  | inr q ↦ subst (λ (ns : List ℕ). Contains ns n) (sym (e ∙ cond-false (is_on_path list n) list (list ++ n ∷ []) q))
+      (Contains-push list n)
 ]
 
 -- a list of numbers to be explored stays one with an additional number
 pub listed_push : (t : Table) (l : Listed) (before list : List ℕ) (n : ℕ) → AreListed t l before list
     → n < length l.keys → is_present t (key_at l.keys n) ≡ true
-    → (IsSettled l.settled_flags n → ⊥) → (In n before → ⊥) → is_on_path list n ≡ false
+    → (IsSettled l.settled_flags n → ⊥) → (Contains before n → ⊥) → is_on_path list n ≡ false
     → AreListed t l before (list ++ n ∷ [])
 listed_push t l before list n right h present fresh new other = record {
   explored_in_table = right.explored_in_table;
-  listed_in_table = λ m i. elim (In-push list n m i) [
+  listed_in_table = λ m i. elim (Contains-push_cases list n m i) [
     | inl j ↦ right.listed_in_table m j
-    | inr e ↦ subst (λ (x : ℕ). x < length l.keys)
-        (sym e) h
+    | inr e ↦ subst (λ (x : ℕ). x < length l.keys) e h
   ];
-  listed_not_settled = λ m i. elim (In-push list n m i) [
+  listed_not_settled = λ m i. elim (Contains-push_cases list n m i) [
     | inl j ↦ right.listed_not_settled m j
-    | inr e ↦ subst (λ (x : ℕ). IsSettled l.settled_flags x → ⊥)
-        (sym e) fresh
+    | inr e ↦ subst (λ (x : ℕ). IsSettled l.settled_flags x → ⊥) e fresh
   ];
-  new = λ m i. elim (In-push list n m i)
-      [ inl j ↦ right.new m j | inr e ↦ subst (λ (x : ℕ). In x before → ⊥) (sym e) new ];
-  listed_have_entries = λ m i. elim (In-push list n m i) [
+  new = λ m i. elim (Contains-push_cases list n m i)
+      [ inl j ↦ right.new m j | inr e ↦ subst (λ (x : ℕ). Contains before x → ⊥) e new ];
+  listed_have_entries = λ m i. elim (Contains-push_cases list n m i) [
     | inl j ↦ right.listed_have_entries m j
-    | inr e ↦ subst (λ (x : ℕ). is_present t (key_at l.keys x) ≡ true)
-        (sym e) present
+    | inr e ↦ subst (λ (x : ℕ). is_present t (key_at l.keys x) ≡ true) e present
   ];
   numbers_distinct = IsDistinct-push nat_eq_equiv list n right.numbers_distinct other;
 }
@@ -71,7 +69,7 @@ listed_push t l before list n right h present fresh new other = record {
 -- putting a number on the agenda is an addition
 pub put_added : (t : Table) (l m : Listed) (before list there : List ℕ) (ends : List DeadEnd) (n : ℕ)
     → AreAdded t l m before list list ends ends → n < length m.keys
-    → is_present t (key_at m.keys n) ≡ true → (IsSettled m.settled_flags n → ⊥) → (In n before → ⊥)
+    → is_present t (key_at m.keys n) ≡ true → (IsSettled m.settled_flags n → ⊥) → (Contains before n → ⊥)
     → there ≡ cond (is_on_path list n) list (list ++ n ∷ []) → AreAdded t l m before list there ends ends
 put_added t l m before list there ends n a h present fresh new e = elim (cases_Bool (is_on_path list n)) [
   | inl q ↦ subst (λ (ns : List ℕ). AreAdded t l m before list ns ends ends)

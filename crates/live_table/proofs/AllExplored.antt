@@ -1,15 +1,15 @@
 -- All names below a query are explored: each known name has a number, its steps and its looks.
 use Rattle.std.proofs.Common.{◌≡◌, ◌<◌, ◌||◌, ℕ, Bool, true, false, List, [], length, Option, Some, None, refl, ap}
-use Rattle.std.proofs.Common.{inl, inr, arith}
+use Rattle.std.proofs.Common.{inl, inr, arith, Contains}
 use Rattle.std.specs.List.{slice_get}
 use Rattle.std.proofs.lemmas.Bool.{or_cases}
 use Rattle.def_entry.specs.Tables.{Table, is_present}
 use Rattle.name_walk.specs.declared.step.Step.TheVariants.{To}
 use Rattle.name_walk.specs.Faults.{is_on_path}
-use Rattle.name_walk.specs.Lists.{In}
 use Rattle.name_walk.specs.Steps.{steps}
-use Rattle.name_walk.proofs.Lists.{In-on, on-In}
+use Rattle.name_walk.proofs.Members.{member_on_path, on_path_member}
 use Rattle.table_names.specs.Words.{key_words}
+use Rattle.table_names.proofs.Members.{no_member}
 use Rattle.name_numbers.specs.NumberedNames.{AreWords}
 use Rattle.live_table.specs.declared.dead_end.DeadEnd.{DeadEnd}
 use Rattle.live_table.specs.ExploredNames.{AreExplored, fault_at}
@@ -40,7 +40,7 @@ from_known l before list n k =
     elim (or_cases (is_some_true (slice_get l.settled_flags n)) (is_on_path before n || is_on_path list n) k) [
       | inl e ↦ inl (is_flag (slice_get l.settled_flags n) e)
       | inr f ↦ elim (or_cases (is_on_path before n) (is_on_path list n) f)
-          [ inl e ↦ inr (inl (on-In before n e)) | inr e ↦ inr (inr (on-In list n e)) ]
+          [ inl e ↦ inr (inl (on_path_member before n e)) | inr e ↦ inr (inr (on_path_member list n e)) ]
     ]
 
 -- a known number is found to be known
@@ -50,10 +50,10 @@ to_known l before list n (inl e) =
     or_left (is_some_true (slice_get l.settled_flags n)) (is_on_path before n || is_on_path list n) (ap is_some_true e)
 to_known l before list n (inr (inl i)) =
     or_right (is_some_true (slice_get l.settled_flags n)) (is_on_path before n || is_on_path list n)
-    (or_left (is_on_path before n) (is_on_path list n) (In-on before n i))
+    (or_left (is_on_path before n) (is_on_path list n) (member_on_path before n i))
 to_known l before list n (inr (inr i)) =
     or_right (is_some_true (slice_get l.settled_flags n)) (is_on_path before n || is_on_path list n)
-    (or_right (is_on_path before n) (is_on_path list n) (In-on list n i))
+    (or_right (is_on_path before n) (is_on_path list n) (member_on_path list n i))
 
 module _ (t : Table) (l : Listed) (before list : List ℕ) (ends : List DeadEnd) (nodes : AreNumberedNames t l)
     (s : AreAllExplored t l before list ends) where
@@ -67,9 +67,9 @@ module _ (t : Table) (l : Listed) (before list : List ℕ) (ends : List DeadEnd)
   without_list : (n : ℕ) → IsKnown l before [] n → IsKnown l before list n
   without_list n (inl e) = inl e
   without_list n (inr (inl i)) = inr (inl i)
-  without_list n (inr (inr i)) = absurd i
+  without_list n (inr (inr i)) = absurd (no_member n i)
 
-  all_below : (n q : ℕ) → IsKnown l before list n → In (To q) (steps l.graph n) → IsKnown l before list q
+  all_below : (n q : ℕ) → IsKnown l before list n → Contains (steps l.graph n) (To q) → IsKnown l before list q
   all_below n q (inl e) i = inl ((nodes.net.settled_right n e).1 q i)
   all_below n q (inr (inl j)) i = without_list q ((s.earlier_explored.explored_have_steps n j).steps.targets q i)
   all_below n q (inr (inr j)) i = (s.listed_have_steps n j).steps.targets q i

@@ -1,13 +1,12 @@
 -- The result of a query of words.
 use Rattle.smallvec.specs.SmallVec.{SmallVec}
 use Rattle.std.proofs.Common.{◌≡◌, ◌<◌, ℕ, List, [], ◌∷◌, map, length, Option, Some, None, option_map, refl, sym, ◌∙◌}
-use Rattle.std.proofs.Common.{ap, subst, inl, arith}
+use Rattle.std.proofs.Common.{ap, subst, inl, arith, Contains}
 use Rattle.std.specs.Prelude.{Result, Ok, Err}
 use Rattle.expr_tree.specs.declared.word_list.WordUse.{WordUse}
 use Rattle.def_entry.specs.declared.key.Key.{Key}
 use Rattle.name_walk.specs.declared.step.Step.{Step}
 use Rattle.name_walk.specs.declared.step.Step.TheVariants.{To}
-use Rattle.name_walk.specs.Lists.{In}
 use Rattle.name_walk.specs.NewlyClosed.{AreNewlyClosed}
 use Rattle.table_names.specs.declared.fault.NameFault.{NameFault}
 use Rattle.table_names.specs.Faults.{name_fault}
@@ -116,7 +115,7 @@ module _ (s : Stages) (are : AreAllStages s) (us : List WordUse) (xs : List Step
       after.sound.is_right v after.order after.closing after.all
       (subst (λ (ys : List Step). AreSettledWords (table s.deck) now us ys) (sym is) settled_words))
     where
-      within : (m : ℕ) → In (To m) xs → m < length s.explored.keys
+      within : (m : ℕ) → Contains xs (To m) → m < length s.explored.keys
       within m i =
           let a : m < length s.explored.graph = explored.numbers_are.known_in_range m (targets m i) in
           let b : length s.explored.graph ≡ length s.explored.keys = sound.numbers.step_count in omega arith

@@ -13,7 +13,7 @@ use Rattle.table_names.specs.Leads.{Reaches}
 use Rattle.table_names.specs.Reach.{key_reach}
 use Rattle.table_names.specs.Words.{key_words}
 use Rattle.table_names.proofs.ClosedLaws.{closed_law}
-use Rattle.table_names.proofs.Members.{member_cases, member_first, member_later}
+use Rattle.table_names.proofs.Members.{member_cases, member_first, member_later, no_member}
 use Rattle.table_names.proofs.ReachedKeys.{reach_law}
 use Rattle.deck.specs.Tables.{table}
 use Rattle.name_numbers.specs.NumberedNames.{LeadToKnown}
@@ -71,8 +71,10 @@ module _ (s : Stages) (are : AreStages s) (key : Key) (n : ℕ) (number : IsNumb
 
   -- a query of the number leads to known names
   pub one_known : LeadToKnown (known_there s) (To n ∷ [])
-  one_known p (inl e) = subst (λ (x : ℕ). known_there s x ≡ true) (sym (ap number_of e)) number_known
-  one_known p (inr i) = absurd i
+  one_known p i = elim (member_cases (To p) (To n) [] i) [
+    | inl e ↦ subst (λ (x : ℕ). known_there s x ≡ true) (sym (ap number_of e)) number_known
+    | inr j ↦ absurd (no_member (To p) j)
+  ]
 
 -- ---- the key of a known number, if all names below it were explored
 module _ (s : Stages) (are : AreAllStages s) (n : ℕ) (known : known_there s n ≡ true) where
@@ -127,7 +129,8 @@ module _ (s : Stages) (are : AreAllStages s) (n : ℕ) (known : known_there s n 
       after.all (
         ap (λ (ks : List Key). key_at ks n) (sym after.keys),
         reached_settled s.deck s.explored now s.reductions count old later query after.order sound after.sound.numbers
-            after.keys after.closing.closes after.all n within (n, inl refl, inl refl),
+            after.keys after.closing.closes after.all n within
+            (n, member_first (To n) (To n) [] refl, inl refl),
       )
     where
       within : n < length s.explored.keys

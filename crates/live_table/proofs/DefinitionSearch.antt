@@ -9,8 +9,8 @@ use Rattle.def_entry.specs.declared.key.Key.{Key}
 use Rattle.def_entry.specs.Entries.{Entry, What}
 use Rattle.def_entry.specs.Tables.{Table}
 use Rattle.def_entry.specs.Views.{what_view}
-use Rattle.name_walk.proofs.Lists.{get_In}
 use Rattle.table_names.specs.Words.{entry_words, what_words}
+use Rattle.table_names.proofs.Members.{member_at}
 use Rattle.live_table.specs.declared.callee.PartStarts.{PartStarts}
 use Rattle.live_table.specs.declared.dead_end.DeadEnd.{DeadEnd}
 use Rattle.live_table.specs.Callees.{AreEntryWords, AreKeyWords, start_of}
@@ -76,7 +76,7 @@ module _ (t : Table) (l m : Listed) (before list there : List ℕ) (ends more : 
     are = λ i k w at got.
         let here : slice_get list i ≡ Some k = same_place list there i k grown.list_more (enough i w got) at in
         subst (λ (q : Key). HasEntry t q (what_view w.now))
-        (sym (key_same l.keys m.keys k grown.keys_more (listed.listed_in_table k (get_In list i k here))))
+        (sym (key_same l.keys m.keys k grown.keys_more (listed.listed_in_table k (member_at list i k here))))
         (said_still i k w here got);
     count = length-append found (what ∷ []) ∙ ap (λ (x : ℕ). x + 1) s.count;
   }

@@ -1,9 +1,10 @@
 -- In the order of a walk each name is due once those before it are settled.
 use Rattle.std.proofs.Common.{◌≡◌, ◌<◌, ℕ, zero, suc, Bool, true, false, List, [], ◌∷◌, ◌++◌, set, length, Option}
-use Rattle.std.proofs.Common.{Some, nat_eq, option_map, refl, sym, ◌∙◌, ap, subst, inl, inr, arith}
+use Rattle.std.proofs.Common.{Some, nat_eq, option_map, refl, sym, ◌∙◌, ap, subst, inl, inr, arith, Contains}
 use Rattle.std.specs.List.{IsDistinct, slice_get}
 use Rattle.std.proofs.lemmas.Bool.{cases_eq, eq-eqb}
 use Rattle.std.proofs.lemmas.List.{length-set}
+use Rattle.std.proofs.lemmas.List.Elements.{Contains-append_right, Contains-push_cases}
 use Rattle.expr_tree.specs.declared.word_list.WordUse.{WordUse}
 use Rattle.def_entry.specs.declared.key.Key.{Key}
 use Rattle.def_entry.specs.Tables.{Table, entry_at, is_present}
@@ -11,16 +12,16 @@ use Rattle.name_walk.specs.declared.step.Step.{Step}
 use Rattle.name_walk.specs.declared.step.Step.TheVariants.{Nowhere}
 use Rattle.name_walk.specs.ClosedNames as walk
 use Rattle.name_walk.specs.ClosedNames.{EndsWithin, IsDone, IsSettled}
-use Rattle.name_walk.specs.Lists.{In}
 use Rattle.name_walk.specs.NewlyClosed.{AreNewlyClosed, AreOrdered, IsReached}
 use Rattle.name_walk.specs.Steps.{Graph, LeadsTo, NameReaches, at_once, further, steps}
 use Rattle.name_walk.proofs.ClosedPaths.{closed_law_holds}
-use Rattle.name_walk.proofs.Lists.{In-push, all_at}
+use Rattle.name_walk.proofs.Lists.{all_at}
 use Rattle.name_walk.proofs.Marks.{get_set_other, get_set_same}
 use Rattle.tree_eval.specs.declared.outcome.Outcome.{Outcome}
 use Rattle.table_names.specs.declared.fault.NameFault.{NameFault}
 use Rattle.table_names.specs.ClosedKeys.{IsClosed}
 use Rattle.table_names.specs.Words.{key_words}
+use Rattle.table_names.proofs.Members.{member_first, member_later, no_member}
 use Rattle.name_numbers.specs.FaultLaws.{NumberedFaultLaw}
 use Rattle.name_numbers.specs.NumberedNames.{AreWords, ForOne, ForRefused, ForTwo, ForUnknown, IsWord, LeadToKnown}
 use Rattle.name_numbers.specs.NumberedNames.{fault_by_name}
@@ -41,17 +42,20 @@ module _ (t : Table) (key : ℕ → Key) (one other : ℕ → Option Key → Nam
   any_word u x y h (ForOne n fine e) = ForOne n fine e
   any_word u x y h (ForTwo n m fine e) = ForTwo n m fine e
 
-  pub any_words : (us : List WordUse) (xs : List Step) → ((b : ℕ) → In (Nowhere b) xs → ⊥) → AreWords t key one us xs
+  pub any_words : (us : List WordUse) (xs : List Step) → ((b : ℕ) → Contains xs (Nowhere b) → ⊥)
+      → AreWords t key one us xs
       → AreWords t key other us xs
   any_words [] [] h w = w
   any_words [] (x ∷ xs) h w = absurd w
   any_words (u ∷ us) [] h w = absurd w
   any_words (u ∷ us) (x ∷ []) h w = absurd w
-  any_words (u ∷ us) (x ∷ y ∷ xs) h w =
-      (any_word u x y (λ b e. h b (inl (sym e))) w.0, any_words us xs (λ b i. h b (inr (inr i))) w.1)
+  any_words (u ∷ us) (x ∷ y ∷ xs) h w = (
+    any_word u x y (λ b e. h b (member_first (Nowhere b) x (y ∷ xs) (sym e))) w.0,
+    any_words us xs (λ b i. h b (Contains-append_right (x ∷ y ∷ []) xs (Nowhere b) i)) w.1,
+  )
 
 -- a closed name has no step that leads nowhere
-no_end : (g : Graph) (k n b : ℕ) → EndsWithin g k n → In (Nowhere b) (steps g n) → ⊥
+no_end : (g : Graph) (k n b : ℕ) → EndsWithin g k n → Contains (steps g n) (Nowhere b) → ⊥
 no_end g zero n b e i = e
 no_end g (suc k) n b e i = all_at (walk.StepLeadsInto (EndsWithin g k)) (steps g n) (Nowhere b) e i
 
@@ -72,8 +76,8 @@ record AreSettledFirst (l now : Listed) (before later : List ℕ) : Type 0 where
   pub looks : now.looks ≡ l.looks
   pub size : length now.settled_flags ≡ length l.keys
   pub done : (m : ℕ) → IsDone l.settled_flags before m → IsSettled now.settled_flags m
-  pub fresh : (m : ℕ) → In m later → IsSettled now.settled_flags m → ⊥
-  pub callees : (m : ℕ) → In m later → slice_get now.callees m ≡ slice_get l.callees m
+  pub fresh : (m : ℕ) → Contains later m → IsSettled now.settled_flags m → ⊥
+  pub callees : (m : ℕ) → Contains later m → slice_get now.callees m ≡ slice_get l.callees m
 
 -- a number that is not settled has a mark that is not set
 unsettled : (bs : List Bool) (m : ℕ) → m < length bs → (slice_get bs m ≡ Some true → ⊥) → slice_get bs m ≡ Some false
@@ -88,7 +92,7 @@ module _ (t : Table) (l : Listed) where
   one_due now before ns n r s below = record {
     in_table = inside;
     still_unsettled = unsettled now.settled_flags n (let a : length now.settled_flags ≡ length l.keys = s.size in
-        let b : n < length l.keys = r.within in omega arith) (s.fresh n (inl refl));
+        let b : n < length l.keys = r.within in omega arith) (s.fresh n (member_first n n ns refl));
     key_has_entry = subst (λ (ks : List Key). is_present t (key_at ks n) ≡ true) (sym s.keys) r.present;
     key_closed = subst (λ (ks : List Key). IsClosed t (key_at ks n)) (sym s.keys) r.closed;
     name_closed = subst (λ (g : Graph). walk.IsClosedName g n) (sym s.graph) r.ends;
@@ -97,7 +101,7 @@ module _ (t : Table) (l : Listed) where
         subst (λ (p : List Key × Graph). AreWords t (key_at p.0) ends (key_words t (key_at p.0 n)) (steps p.1 n))
         (λ j. (sym s.keys j, sym s.graph j)) (r.faithful ends);
     part_starts = λ e c at is. r.starts e c (ap (λ (ks : List Key). entry_at t (key_at ks n)) (sym s.keys) ∙ at)
-        (sym (s.callees n (inl refl)) ∙ is);
+        (sym (s.callees n (member_first n n ns refl)) ∙ is);
     looks = record {
       looks = subst (λ (p : List Key × (Graph × Looks)). AreLooks t p.0 (key_words t (key_at p.0 n)) (steps p.1.0 n)
           (looks_of p.1.1 n))
@@ -113,15 +117,15 @@ module _ (t : Table) (l : Listed) where
   -- one more name is settled
   next : (now : Listed) (before ns : List ℕ) (n : ℕ) (o : Outcome) (c : Callee) → n < length l.keys
       → AreSettledFirst l now before (n ∷ ns)
-      → ((m : ℕ) → In m ns → m ≡ n → ⊥) → AreSettledFirst l (with_outcome n o c now) (before ++ n ∷ []) ns
+      → ((m : ℕ) → Contains ns m → m ≡ n → ⊥) → AreSettledFirst l (with_outcome n o c now) (before ++ n ∷ []) ns
   next now before ns n o c h s apart = record {
     keys = s.keys;
     graph = s.graph;
     looks = s.looks;
     size = length-set now.settled_flags n true ∙ s.size;
     done = done;
-    fresh = λ m i e. s.fresh m (inr i) (sym (get_set_other now.settled_flags n m true (apart m i)) ∙ e);
-    callees = λ m i. get_set_other now.callees n m c (apart m i) ∙ s.callees m (inr i);
+    fresh = λ m i e. s.fresh m (member_later m n ns i) (sym (get_set_other now.settled_flags n m true (apart m i)) ∙ e);
+    callees = λ m i. get_set_other now.callees n m c (apart m i) ∙ s.callees m (member_later m n ns i);
   }
     where
       own : IsSettled (set now.settled_flags n true) n
@@ -136,12 +140,12 @@ module _ (t : Table) (l : Listed) where
 
       done : (m : ℕ) → IsDone l.settled_flags (before ++ n ∷ []) m → IsSettled (set now.settled_flags n true) m
       done m (inl e) = still m (s.done m (inl e))
-      done m (inr i) = elim (In-push before n m i) [
+      done m (inr i) = elim (Contains-push_cases before n m i) [
         | inl j ↦ still m (s.done m (inr j))
-        | inr q ↦ subst (λ (x : ℕ). IsSettled (set now.settled_flags n true) x) (sym q) own
+        | inr q ↦ subst (λ (x : ℕ). IsSettled (set now.settled_flags n true) x) q own
       ]
 
-  apart_from : (n : ℕ) (ns : List ℕ) → IsDistinct nat_eq (n ∷ ns) → (m : ℕ) → In m ns → m ≡ n → ⊥
+  apart_from : (n : ℕ) (ns : List ℕ) → IsDistinct nat_eq (n ∷ ns) → (m : ℕ) → Contains ns m → m ≡ n → ⊥
   unfolding IsDistinct
   apart_from n ns d m i q =
       let f : nat_eq n m ≡ false = all_at (λ y. nat_eq n y ≡ false) ns m d.0 i in
@@ -152,14 +156,15 @@ module _ (t : Table) (l : Listed) where
   unfolding IsDistinct
   later_once n ns d = d.1
 
-  due_from : (ns before : List ℕ) (now : Listed) → ((n : ℕ) → In n ns → IsReady t l n)
+  due_from : (ns before : List ℕ) (now : Listed) → ((n : ℕ) → Contains ns n → IsReady t l n)
       → AreOrdered l.graph l.settled_flags before ns
       → IsDistinct nat_eq ns → AreSettledFirst l now before ns → AreDue t now ns
   due_from [] before now r o d s = tt
   due_from (n ∷ ns) before now r o d s = (
-    one_due now before ns n (r n (inl refl)) s o.0,
-    λ out c. due_from ns (before ++ n ∷ []) (with_outcome n out c now) (λ m i. r m (inr i)) o.1 (later_once n ns d)
-        (next now before ns n out c (r n (inl refl)).within s (apart_from n ns d)),
+    one_due now before ns n (r n (member_first n n ns refl)) s o.0,
+    λ out c. due_from ns (before ++ n ∷ []) (with_outcome n out c now) (λ m i. r m (member_later m n ns i)) o.1
+        (later_once n ns d)
+        (next now before ns n out c (r n (member_first n n ns refl)).within s (apart_from n ns d)),
   )
 
 module _ (law : NumberedFaultLaw) (t : Table) (l : Listed) (ends : List DeadEnd) (known : ℕ → Bool) (query : List Step)
@@ -174,10 +179,10 @@ module _ (law : NumberedFaultLaw) (t : Table) (l : Listed) (ends : List DeadEnd)
   known_reached n (r, i, inl e) = subst (λ (x : ℕ). known x ≡ true) (sym e) (targets r i)
   known_reached n (r, i, inr way) = known_below (targets r i) way
 
-  pub known_in_order : (n : ℕ) → In n order → known n ≡ true
+  pub known_in_order : (n : ℕ) → Contains order n → known n ≡ true
   known_in_order n i = known_reached n ((closing.names_reached n).0 i).0
 
-  ready : (n : ℕ) → In n order → IsReady t l n
+  ready : (n : ℕ) → Contains order n → IsReady t l n
   ready n i = record {
     within = inside;
     present = explored.numbers_are.known_have_entries n is_known;
@@ -211,7 +216,7 @@ module _ (law : NumberedFaultLaw) (t : Table) (l : Listed) (ends : List DeadEnd)
     graph = refl;
     looks = refl;
     size = nodes.net.mark_per_name ∙ nodes.step_count;
-    done = λ m e. elim e [ inl q ↦ q | inr i ↦ absurd i ];
+    done = λ m e. elim e [ inl q ↦ q | inr i ↦ absurd (no_member m i) ];
     fresh = λ m i. ((closing.names_reached m).0 i).1;
     callees = λ m i. refl;
   })

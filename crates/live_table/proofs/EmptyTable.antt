@@ -1,9 +1,11 @@
 -- A live table with no settled name.
 use Rattle.std.proofs.Common.{◌≡◌, false, true, None, is_some, refl, sym, ◌∙◌, ap, subst, arith}
 use Rattle.std.specs.FinMap as map_of
+use Rattle.name_walk.specs.declared.step.Step.TheVariants.{To}
 use Rattle.def_entry.specs.declared.key.Key.{Key}
 use Rattle.def_entry.specs.KeyOrder.{key_cmp}
 use Rattle.deck.specs.Decks.{Contents}
+use Rattle.table_names.proofs.Members.{no_member}
 use Rattle.live_table.specs.Right.{IsKeySettled}
 use Rattle.live_table.specs.TableView.{state_with_steps}
 use Rattle.live_table.specs.Sound.{IsSound}
@@ -26,7 +28,11 @@ module _ (deck : Contents) where
       count_right = refl;
       marks_right = refl;
       numbers_apart = λ n m h k e. absurd (omega arith);
-      net = record { steps_in_range = λ n m i. absurd i; mark_per_name = refl; settled_right = λ n e. cc };
+      net = record {
+        steps_in_range = λ n m i. absurd (no_member (To m) i);
+        mark_per_name = refl;
+        settled_right = λ n e. cc;
+      };
       settled_have_entries = λ n e. cc;
       faithful = λ n e. cc;
       part_starts = λ n e. cc;

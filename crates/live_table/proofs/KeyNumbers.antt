@@ -1,14 +1,13 @@
 -- The numbers of keys.
 use Rattle.std.proofs.Common.{◌≡◌, ◌<◌, ◌++◌, ◌∷◌, [], ℕ, Bool, false, List, length, map}
-use Rattle.std.proofs.Common.{refl, sym, ◌∙◌, ap, subst, inl, inr, arith}
+use Rattle.std.proofs.Common.{refl, sym, ◌∙◌, ap, subst, inl, inr, arith, Contains}
 use Rattle.std.proofs.lemmas.List.{map-append}
+use Rattle.std.proofs.lemmas.List.Elements.{Contains-push_cases}
 use Rattle.std.proofs.lemmas.Map.Made.{is_some-lookup}
 use Rattle.def_entry.specs.declared.key.Key.{Key}
 use Rattle.def_entry.specs.SameKeys.{is_key_among, is_same}
 use Rattle.def_entry.specs.Tables.{Table, is_present, keys_of}
-use Rattle.name_walk.specs.Lists.{In}
-use Rattle.name_walk.proofs.Lists.{In-push}
-use Rattle.table_names.proofs.Members.{map_same}
+use Rattle.table_names.proofs.Members.{map_same, member_first, member_later}
 use Rattle.live_table.specs.declared.nodes.Nodes.{Nodes}
 use Rattle.live_table.specs.Exploration.{AreAdded, IsMore, IsNameAdded}
 use Rattle.live_table.specs.KeyNumbers.{AreFlagged, IsExtension, IsNumbered}
@@ -95,21 +94,21 @@ more_numbered a b k flag n numbered = elim numbered.names [
 
 -- ---- one additional number
 pub numbered_push : (ks ls : List Key) (ns : List ℕ) (n : ℕ) (k : Key) → IsMore ks ls
-    → ((m : ℕ) → In m ns → m < length ks) → k ≡ key_at ls n
+    → ((m : ℕ) → Contains ns m → m < length ks) → k ≡ key_at ls n
     → map (key_at ls) (ns ++ n ∷ []) ≡ map (key_at ks) ns ++ k ∷ []
 numbered_push ks ls [] n k more within is = λ i. sym is i ∷ []
 numbered_push ks ls (m ∷ ns) n k more within is =
     let rest : map (key_at ls) (ns ++ n ∷ []) ≡ map (key_at ks) ns ++ k ∷ [] =
-    numbered_push ks ls ns n k more (λ q i. within q (inr i)) is in
-    λ i. key_same ks ls m more (within m (inl refl)) i ∷ rest i
+    numbered_push ks ls ns n k more (λ q i. within q (member_later q m ns i)) is in
+    λ i. key_same ks ls m more (within m (member_first m m ns refl)) i ∷ rest i
 
 -- numbers within the keys stay so when keys are added, and so does one additional number
-pub within_push : (ks ls : List Key) (ns : List ℕ) (n : ℕ) → IsMore ks ls → ((m : ℕ) → In m ns → m < length ks)
+pub within_push : (ks ls : List Key) (ns : List ℕ) (n : ℕ) → IsMore ks ls → ((m : ℕ) → Contains ns m → m < length ks)
     → n < length ls
-    → (m : ℕ) → In m (ns ++ n ∷ []) → m < length ls
-within_push ks ls ns n more within h m i = elim (In-push ns n m i) [
+    → (m : ℕ) → Contains (ns ++ n ∷ []) m → m < length ls
+within_push ks ls ns n more within h m i = elim (Contains-push_cases ns n m i) [
   | inl j ↦ let a : m < length ks = within m j in let b = more_length ks ls more in omega arith
-  | inr e ↦ subst (λ (x : ℕ). x < length ls) (sym e) h
+  | inr e ↦ subst (λ (x : ℕ). x < length ls) e h
 ]
 
 -- ---- the flags of a table say whether keys are present

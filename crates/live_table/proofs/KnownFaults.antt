@@ -1,7 +1,7 @@
 -- The facts known about faults stay right until an edit.
 use Rattle.std.proofs.Common.{◌≡◌, ◌⊎◌, ◌↔◌, ◌≤◌, ◌<◌, ℕ, Bool, true, List, [], length, set, Some, refl, sym, ◌∙◌, ap}
 use Rattle.std.proofs.Common.{subst}
-use Rattle.std.proofs.Common.{inl, inr, arith}
+use Rattle.std.proofs.Common.{inl, inr, arith, Contains}
 use Rattle.std.specs.Prelude.{Result, Ok, Err, IfOk, Option, None}
 use Rattle.std.specs.declared.alloc.AllocError.{AllocError}
 use Rattle.std.specs.List.{slice_get}
@@ -13,7 +13,6 @@ use Rattle.name_walk.specs.declared.fault.Fault.{Fault}
 use Rattle.name_walk.specs.Faults.{steps_fault}
 use Rattle.name_walk.specs.Findings.{AreFromQuery, IsFirstFaulty, IsNothing, WalkFindings}
 use Rattle.name_walk.specs.FindingsLaws.{FindingsLaw}
-use Rattle.name_walk.specs.Lists.{In}
 use Rattle.name_walk.specs.NewlyClosed.{IsReached}
 use Rattle.name_walk.specs.Steps.{Graph, LeadsTo, NameReaches, at_once, further, steps}
 use Rattle.name_walk.specs.Trails.{Faults}
@@ -33,13 +32,14 @@ use Rattle.live_table.specs.TableContents.{Listed}
 use Rattle.live_table.proofs.AllExplored.{from_known}
 use Rattle.live_table.proofs.AddedNames.{more_length}
 use Rattle.live_table.proofs.Places.{element, get_lt}
+use Rattle.table_names.proofs.Members.{no_member}
 
 -- without findings nothing is claimed
 pub known_nothing : FindingsLaw → (l : Listed) (names : List ℕ) (f : WalkFindings) → IsNothing f
     → AreFaultsKnown l names f
 known_nothing law l names f none = record {
   is_right = law.nothing l.graph l.settled_flags f none;
-  names_explored = λ n i. absurd (subst (λ (ns : List ℕ). In n ns) none.names i);
+  names_explored = λ n i. absurd (no_member n (subst (λ (ns : List ℕ). Contains ns n) none.names i));
 }
 
 -- the facts known about faults stay right when names are added and the explored ones have the same steps
@@ -127,7 +127,7 @@ module _ (t : Table) (l : Listed) (before list : List ℕ) (ends : List DeadEnd)
   wider : (m : ℕ) → IsKnown l before [] m → IsKnown l before list m
   wider m (inl e) = inl e
   wider m (inr (inl i)) = inr (inl i)
-  wider m (inr (inr i)) = absurd i
+  wider m (inr (inr i)) = absurd (no_member m i)
 
   step_known : (n m : ℕ) → IsKnown l before list n → LeadsTo l.graph n m → IsKnown l before list m
   step_known n m (inl e) lead = inl ((nodes.net.settled_right n e).1 m lead)
@@ -147,8 +147,9 @@ module _ (t : Table) (l : Listed) (before list : List ℕ) (ends : List DeadEnd)
   -- each name for which a search has a finding was explored
   pub found_among : (query : List Step) (old new names : List ℕ)
       → LeadToKnown (is_known l.settled_flags before list) query
-      → ((n : ℕ) → In n old → In n before) → AreFromQuery l.graph l.settled_flags query old new
-      → ((m : ℕ) → In m names ↔ (In m before ⊎ In m list)) → (n : ℕ) → In n new → In n names
+      → ((n : ℕ) → Contains old n → Contains before n) → AreFromQuery l.graph l.settled_flags query old new
+      → ((m : ℕ) → Contains names m ↔ (Contains before m ⊎ Contains list m)) → (n : ℕ) → Contains new n
+      → Contains names n
   found_among query old new names leads among from put n i = elim (from n i) [
     | inl j ↦ (put n).1 (inl (among n j))
     | inr below ↦ elim (reached_known query leads n below.0) [

@@ -2,7 +2,7 @@
 use Rattle.smallvec.specs.SmallVec.{SmallVec}
 use Rattle.std.proofs.Common.{◌≡◌, ◌+◌, ◌<◌, ℕ, zero, suc, Bool, true, false, List, [], ◌∷◌, ◌++◌}
 use Rattle.std.proofs.Common.{length, Vec, Option, Some, None, nat_eq, refl, sym, ◌∙◌, ap, subst, inl, inr, arith}
-use Rattle.std.proofs.Common.{length-append}
+use Rattle.std.proofs.Common.{length-append, Contains}
 use Rattle.std.specs.declared.alloc.Global.{Global}
 use Rattle.std.specs.List.{IsDistinct, slice_get}
 use Rattle.std.specs.Option.{is_some}
@@ -14,7 +14,6 @@ use Rattle.def_entry.specs.Tables.{Table, entry_at, is_present}
 use Rattle.name_walk.specs.declared.step.Step.{Step}
 use Rattle.name_walk.specs.declared.step.Step.TheVariants.{To}
 use Rattle.name_walk.specs.ClosedNames.{IsSettled}
-use Rattle.name_walk.specs.Lists.{In}
 use Rattle.name_walk.specs.Steps.{Graph, steps}
 use Rattle.name_walk.proofs.DoneNames.{settled_law_holds}
 use Rattle.tree_eval.specs.declared.outcome.Outcome.{Outcome}
@@ -180,7 +179,7 @@ module _ (t : Table) (l : Listed) (k : Key) (b : Bool) (c : Callee) (v : SmallVe
     net = record {
       steps_in_range = λ a b i.
           let h : b < length l.graph = nodes.net.steps_in_range a b
-          (subst (λ (xs : List Step). In (To b) xs) (same_graph a) i)
+          (subst (λ (xs : List Step). Contains xs (To b)) (same_graph a) i)
           in
           let s : length m.graph ≡ suc (length l.graph) = graph_size in omega arith;
       mark_per_name = one_more l.settled_flags false ∙ (ap suc nodes.net.mark_per_name ∙ sym graph_size);

@@ -1,11 +1,11 @@
 -- The steps of a word, by its lead.
 use Rattle.std.proofs.Common.{◌≡◌, ◌<◌, ◌++◌, ℕ, true, List, [], ◌∷◌, length, Some, None, refl, sym, subst, inl, inr}
+use Rattle.std.proofs.Common.{Contains}
 use Rattle.expr_tree.specs.declared.word_list.WordUse.{WordUse}
 use Rattle.def_entry.specs.declared.key.Key.{Key}
 use Rattle.def_entry.specs.Tables.{Table, is_present}
 use Rattle.name_walk.specs.declared.step.Step.{Step}
 use Rattle.name_walk.specs.declared.step.Step.TheVariants as step
-use Rattle.name_walk.specs.Lists.{In}
 use Rattle.name_numbers.specs.NumberedNames.{ForOne, ForTwo}
 use Rattle.live_table.specs.declared.dead_end.DeadEnd.{DeadEnd}
 use Rattle.live_table.specs.declared.word_targets.Lead.{Lead}
@@ -19,21 +19,22 @@ use Rattle.live_table.proofs.LookedKeys.{looks_put, one_step, two_steps}
 use Rattle.live_table.proofs.Places.{some_same}
 use Rattle.live_table.proofs.WrittenSteps.{first_present, one_present, refused_written, second_present, two_written}
 use Rattle.live_table.proofs.WrittenSteps.{unknown_written}
+use Rattle.table_names.proofs.Members.{member_cases, member_first, member_later, no_member}
 
 -- ---- targets
 -- the lead of a word of an entry is that of a word of a query
 pub query_lead : (t : Table) (keys : List Key) (u : WordUse) (old new : List ℕ) (lead : Lead)
     → IsLead t keys u old new lead → IsQueryLead t keys u lead
 query_lead t keys u old new Refused h = h
-query_lead t keys u old new Nowhere h = (h.0, h.1, λ m i. absurd i)
+query_lead t keys u old new Nowhere h = (h.0, h.1, λ m i. absurd (no_member m i))
 query_lead t keys u old new (One n) h = (h.0, h.1.targets, h.1.targets_in_table)
 query_lead t keys u old new (Two n m) h = (h.0, h.1.targets, h.1.targets_in_table)
 
 module _ (t : Table) (keys : List Key) (u : WordUse) where
   -- targets have numbers
-  pub lead_within : (lead : Lead) → IsQueryLead t keys u lead → (m : ℕ) → In m (numbers lead) → m < length keys
-  lead_within Refused h m i = absurd i
-  lead_within Nowhere h m i = absurd i
+  pub lead_within : (lead : Lead) → IsQueryLead t keys u lead → (m : ℕ) → Contains (numbers lead) m → m < length keys
+  lead_within Refused h m i = absurd (no_member m i)
+  lead_within Nowhere h m i = absurd (no_member m i)
   lead_within (One n) h m i = h.2 m i
   lead_within (Two n p) h m i = h.2 m i
 
@@ -41,16 +42,21 @@ module _ (t : Table) (keys : List Key) (u : WordUse) where
   is_there m n e p = subst (λ (x : ℕ). is_present t (key_at keys x) ≡ true) (sym e) p
 
   -- targets have entries
-  pub lead_present : (lead : Lead) → IsQueryLead t keys u lead → (m : ℕ) → In m (numbers lead)
+  pub lead_present : (lead : Lead) → IsQueryLead t keys u lead → (m : ℕ) → Contains (numbers lead) m
       → is_present t (key_at keys m) ≡ true
-  lead_present Refused h m i = absurd i
-  lead_present Nowhere h m i = absurd i
-  lead_present (One n) h m (inl e) = is_there m n e (one_present t u (key_at keys n) h.1)
-  lead_present (One n) h m (inr i) = absurd i
-  lead_present (Two n p) h m (inl e) = is_there m n e (first_present t u (key_at keys n) (key_at keys p) h.1)
-  lead_present (Two n p) h m (inr (inl e)) =
-      is_there m p e (second_present t u (key_at keys n) (key_at keys p) h.1)
-  lead_present (Two n p) h m (inr (inr i)) = absurd i
+  lead_present Refused h m i = absurd (no_member m i)
+  lead_present Nowhere h m i = absurd (no_member m i)
+  lead_present (One n) h m i = elim (member_cases m n [] i) [
+    | inl e ↦ is_there m n e (one_present t u (key_at keys n) h.1)
+    | inr j ↦ absurd (no_member m j)
+  ]
+  lead_present (Two n p) h m i = elim (member_cases m n (p ∷ []) i) [
+    | inl e ↦ is_there m n e (first_present t u (key_at keys n) (key_at keys p) h.1)
+    | inr j ↦ elim (member_cases m p [] j) [
+      | inl e ↦ is_there m p e (second_present t u (key_at keys n) (key_at keys p) h.1)
+      | inr k ↦ absurd (no_member m k)
+    ]
+  ]
 
   -- ---- the keys at which a word with targets looks
   abbrev Put : (old new : List ℕ) → WordSteps → Type 0
@@ -74,18 +80,20 @@ module _ (t : Table) (l : Listed) (before list : List ℕ) (ends : List DeadEnd)
   Written s = AreWritten t l before list ends (u ∷ []) (s.first ∷ s.second ∷ [])
 
   pub steps_written : (lead : Lead) (s : WordSteps) → IsQueryLead t l.keys u lead
-      → ((m : ℕ) → In m (numbers lead) → IsKnown l before list m) → Some s ≡ steps_to lead
+      → ((m : ℕ) → Contains (numbers lead) m → IsKnown l before list m) → Some s ≡ steps_to lead
       → AreWritten t l before list ends (u ∷ []) (s.first ∷ s.second ∷ [])
   steps_written Refused s h known e = cc
   steps_written Nowhere s h known e = cc
   steps_written (One n) s h known e =
       let w : WordSteps = record { first = step.To n; second = step.To n } in
       subst Written (sym (some_same s w e))
-      (two_written t l before list u ends n n (ForOne n h.0 h.1) (known n (inl refl)) (known n (inl refl)))
+      (two_written t l before list u ends n n (ForOne n h.0 h.1) (known n (member_first n n [] refl))
+      (known n (member_first n n [] refl)))
   steps_written (Two n m) s h known e =
       let w : WordSteps = record { first = step.To n; second = step.To m } in
       subst Written (sym (some_same s w e))
-      (two_written t l before list u ends n m (ForTwo n m h.0 h.1) (known n (inl refl)) (known m (inr (inl refl))))
+      (two_written t l before list u ends n m (ForTwo n m h.0 h.1) (known n (member_first n n (m ∷ []) refl))
+      (known m (member_later m n (m ∷ []) (member_first m m [] refl))))
 
   -- the steps of a word that leads nowhere
   pub nowhere_written : (more : List DeadEnd) (lead : Lead) (x y : Step) → IsQueryLead t l.keys u lead

@@ -1,14 +1,14 @@
 -- The targets of a word are put on the agenda in turn.
-use Rattle.std.proofs.Common.{◌≡◌, ◌++◌, ◌∷◌, [], ℕ, List, cond, refl, sym, ◌∙◌, subst, inl, inr}
+use Rattle.std.proofs.Common.{◌≡◌, ◌++◌, ◌∷◌, [], ℕ, List, cond, refl, sym, ◌∙◌, subst, inl, inr, Contains}
 use Rattle.std.proofs.lemmas.Bool.{cases_Bool, cond-false, cond-true}
 use Rattle.name_walk.specs.Faults.{is_on_path}
-use Rattle.name_walk.specs.Lists.{In}
 use Rattle.live_table.specs.declared.word_targets.Lead.{Lead}
 use Rattle.live_table.specs.declared.word_targets.Lead.TheVariants.{One, Two}
 use Rattle.live_table.specs.Exploration.{IsKnown, IsMore}
 use Rattle.live_table.specs.WordTargets.{numbers}
 use Rattle.live_table.specs.TableContents.{Listed}
 use Rattle.live_table.proofs.AddedNames.{in_more, push_more}
+use Rattle.table_names.proofs.Members.{member_cases, member_first, member_later, no_member}
 
 -- the numbers on the agenda stay there
 pub put_more : (list there : List ℕ) (n : ℕ) → there ≡ cond (is_on_path list n) list (list ++ n ∷ [])
@@ -20,16 +20,17 @@ put_more list there n e = elim (cases_Bool (is_on_path list n)) [
 ]
 
 -- the number of the only target of a word
-pub one_in : (lead : Lead) (n : ℕ) → lead ≡ One n → In n (numbers lead)
-one_in lead n e = subst (λ (x : Lead). In n (numbers x)) (sym e) (inl refl)
+pub one_in : (lead : Lead) (n : ℕ) → lead ≡ One n → Contains (numbers lead) n
+one_in lead n e = subst (λ (x : Lead). Contains (numbers x) n) (sym e) (member_first n n [] refl)
 
 -- the number of the first of two targets
-pub first_in : (lead : Lead) (n m : ℕ) → lead ≡ Two n m → In n (numbers lead)
-first_in lead n m e = subst (λ (x : Lead). In n (numbers x)) (sym e) (inl refl)
+pub first_in : (lead : Lead) (n m : ℕ) → lead ≡ Two n m → Contains (numbers lead) n
+first_in lead n m e = subst (λ (x : Lead). Contains (numbers x) n) (sym e) (member_first n n (m ∷ []) refl)
 
 -- the number of the second of two targets
-pub second_in : (lead : Lead) (n m : ℕ) → lead ≡ Two n m → In m (numbers lead)
-second_in lead n m e = subst (λ (x : Lead). In m (numbers x)) (sym e) (inr (inl refl))
+pub second_in : (lead : Lead) (n m : ℕ) → lead ≡ Two n m → Contains (numbers lead) m
+second_in lead n m e =
+    subst (λ (x : Lead). Contains (numbers x) m) (sym e) (member_later m n (m ∷ []) (member_first m m [] refl))
 
 -- known numbers stay known when numbers are added to the agenda
 pub known_more : (l : Listed) (before list there : List ℕ) (n : ℕ) → IsMore list there → IsKnown l before list n
@@ -41,10 +42,12 @@ known_more l before list there n more (inr (inr i)) = inr (inr (in_more list the
 -- both of two targets are known once both are on the agenda
 pub two_known : (l : Listed) (before list there : List ℕ) (lead : Lead) (n p : ℕ) → lead ≡ Two n p → IsMore list there
     → IsKnown l before list n → IsKnown l before there p
-    → (m : ℕ) → In m (numbers lead) → IsKnown l before there m
-two_known l before list there lead n p e more a b m i = both (subst (λ (x : Lead). In m (numbers x)) e i)
+    → (m : ℕ) → Contains (numbers lead) m → IsKnown l before there m
+two_known l before list there lead n p e more a b m i = both (subst (λ (x : Lead). Contains (numbers x) m) e i)
   where
-    both : In m (n ∷ p ∷ []) → IsKnown l before there m
-    both (inl q) = subst (IsKnown l before there) (sym q) (known_more l before list there n more a)
-    both (inr (inl q)) = subst (IsKnown l before there) (sym q) b
-    both (inr (inr z)) = absurd z
+    both : Contains (n ∷ p ∷ []) m → IsKnown l before there m
+    both j = elim (member_cases m n (p ∷ []) j) [
+      | inl q ↦ subst (IsKnown l before there) (sym q) (known_more l before list there n more a)
+      | inr k ↦ elim (member_cases m p [] k)
+          [ inl q ↦ subst (IsKnown l before there) (sym q) b | inr z ↦ absurd (no_member m z) ]
+    ]

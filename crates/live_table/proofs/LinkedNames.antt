@@ -20,12 +20,11 @@ use Rattle.name_numbers.proofs.Reached.{lead_of_step}
 use Rattle.name_walk.specs.declared.step.Step.{Step}
 use Rattle.name_walk.specs.declared.step.Step.TheVariants.{To}
 use Rattle.name_walk.specs.ClosedNames.{IsSettled}
-use Rattle.name_walk.specs.Lists.{In}
 use Rattle.name_walk.specs.Steps.{LeadsTo, steps}
 use Rattle.table_names.specs.ClosedKeys.{IsClosed}
 use Rattle.table_names.specs.Leads.{LooksAt, WordsLeadTo}
 use Rattle.table_names.specs.Words.{key_words}
-use Rattle.table_names.proofs.Members.{member_cases, member_first, member_later, no_member}
+use Rattle.table_names.proofs.Members.{member_cases, member_first, member_later}
 use Rattle.live_table.specs.TableEdges.{HasLateEdges, is_linked}
 use Rattle.live_table.specs.Sound.{HasLooksOf, IsSound}
 use Rattle.live_table.specs.TableContents.{Listed, Looks, key_at, looks_of, numbers_in}
@@ -33,28 +32,13 @@ use Rattle.live_table.proofs.AfterForgetting.{settled_flag}
 use Rattle.live_table.proofs.OutcomesByKey.{key_settled, settled_within}
 use Rattle.live_table.proofs.WaitingNames.{dead_end, linked_facts, linked_where, not_waiting, number_of_lead}
 
--- ---- members
-pub in_member : (m : ℕ) (ns : List ℕ) → In m ns → Contains ns m
-in_member m [] i = absurd i
-in_member m (n ∷ ns) (inl e) = member_first m n ns e
-in_member m (n ∷ ns) (inr i) = member_later m n ns (in_member m ns i)
-
--- a number that a list contains is in it
-pub member_in : (m : ℕ) (ns : List ℕ) → Contains ns m → In m ns
-member_in m [] c = absurd (no_member m c)
-member_in m (n ∷ ns) c = elim (member_cases m n ns c) [ inl e ↦ inl e | inr j ↦ inr (member_in m ns j) ]
-
 -- the names to which the steps of a settled name lead
 pub target_within : (deck : Contents) (l : Listed) (r : ℕ) (sound : IsSound deck l r) (n : ℕ)
-    → IsSettled l.settled_flags n → (xs : List Step) → xs ≡ steps l.graph n → (k : ℕ) → In (To k) xs → k < length l.keys
+    → IsSettled l.settled_flags n → (xs : List Step) → xs ≡ steps l.graph n → (k : ℕ) → Contains xs (To k)
+    → k < length l.keys
 target_within deck l r sound n settled xs is k i =
     settled_within deck l r sound.numbers k ((sound.numbers.net.settled_right n settled).1 k
-    (subst (λ (ys : List Step). In (To k) ys) is i))
-
--- gathered targets are those of the steps
-pub gathered : (targets : List ℕ) (xs : List Step) → ((m : ℕ) → In m targets ↔ In (To m) xs) → (m : ℕ)
-    → Contains targets m ↔ In (To m) xs
-gathered targets xs are m = (λ c. (are m).0 (member_in m targets c), λ i. in_member m targets ((are m).1 i))
+    (subst (λ (ys : List Step). Contains ys (To k)) is i))
 
 -- ---- names are covered by the edges
 module _ (deck : Contents) (l : Listed) (g h : NameGraph) (rest : h ≡ record g { names = h.names })
@@ -97,7 +81,7 @@ module _ (law : LinkingLaw) (deck : Contents) (l : Listed) (r n : ℕ) (g h : Na
     (room : n < g.names)
     (names : h.names ≡ g.names) (uses : SameEdges h.uses (map (edge n) used ++ g.uses))
     (looks : SameEdges h.looks (map (edge n) looked ++ g.looks))
-    (used_is : (m : ℕ) → Contains used m ↔ In (To m) (steps l.graph n)) (looked_is : looked ≡ looks_of l.looks n)
+    (used_is : (m : ℕ) → Contains used m ↔ Contains (steps l.graph n) (To m)) (looked_is : looked ≡ looks_of l.looks n)
     (all_named : length l.keys ≤ g.names) where
   abbrev the_words : List WordUse
   the_words = key_words (table deck) (key_at l.keys n)
@@ -130,11 +114,11 @@ module _ (law : LinkingLaw) (deck : Contents) (l : Listed) (r n : ℕ) (g h : Na
         ((used_is u.0).0 u.1)),
   )
 
-  look_in : (m : ℕ) → Contains looked m → In m (looks_of l.looks n)
-  look_in m c = member_in m (looks_of l.looks n) (subst (λ (ns : List ℕ). Contains ns m) looked_is c)
+  look_in : (m : ℕ) → Contains looked m → Contains (looks_of l.looks n) m
+  look_in m c = subst (λ (ns : List ℕ). Contains ns m) looked_is c
 
-  in_look : (m : ℕ) → In m (looks_of l.looks n) → Contains looked m
-  in_look m i = subst (λ (ns : List ℕ). Contains ns m) (sym looked_is) (in_member m (looks_of l.looks n) i)
+  in_look : (m : ℕ) → Contains (looks_of l.looks n) m → Contains looked m
+  in_look m i = subst (λ (ns : List ℕ). Contains ns m) (sym looked_is) i
 
   its_looked : (k : Key) → LooksAt (table deck) (key_at l.keys n) k
       ↔ ((m : ℕ) × (Contains used m ⊎ Contains looked m) × (k ≡ key_at l.keys m))
@@ -154,7 +138,7 @@ module _ (law : LinkingLaw) (deck : Contents) (l : Listed) (r n : ℕ) (g h : Na
       from (inr ne) f =
           let p = linked_facts l.settled_flags rest m f in
           inr (linked_where l.settled_flags (n ∷ rest) m p.0
-          (λ i. elim i [ inl e ↦ ne e | inr j ↦ not_waiting rest m p.1 j ]))
+          (λ i. elim (member_cases m n rest i) [ inl e ↦ ne e | inr j ↦ not_waiting rest m p.1 j ]))
 
       own : now n ≡ true
       own = linked_where l.settled_flags rest n (settled_flag l.settled_flags n settled) edges.targets_first.1
@@ -163,10 +147,10 @@ module _ (law : LinkingLaw) (deck : Contents) (l : Listed) (r n : ℕ) (g h : Na
       to (inl e) = subst (λ x. now x ≡ true) (sym e) own
       to (inr f) =
           let p = linked_facts l.settled_flags (n ∷ rest) m f in
-          linked_where l.settled_flags rest m p.0 (λ i. not_waiting (n ∷ rest) m p.1 (inr i))
+          linked_where l.settled_flags rest m p.0 (λ i. not_waiting (n ∷ rest) m p.1 (member_later m n rest i))
 
   not_before : was n ≡ true → ⊥
-  not_before e = not_waiting (n ∷ rest) n (linked_facts l.settled_flags (n ∷ rest) n e).1 (inl refl)
+  not_before e = not_waiting (n ∷ rest) n (linked_facts l.settled_flags (n ∷ rest) n e).1 (member_first n n rest refl)
 
   -- the names to which the words of the first waiting name lead are not waiting
   target_linked : (m : ℕ) → Contains used m → was m ≡ true
@@ -187,7 +171,7 @@ module _ (law : LinkingLaw) (deck : Contents) (l : Listed) (r n : ℕ) (g h : Na
         target_linked
         (λ m i. let s = its_looks.looks.seen_in_table m (look_in m i) in omega (arith, s, all_named))
         its_used its_looked);
-    waiting_settled = λ m i. edges.waiting_settled m (inr i);
+    waiting_settled = λ m i. edges.waiting_settled m (member_later m n rest i);
     targets_first = edges.targets_first.2;
   }
 

@@ -7,35 +7,30 @@ use Rattle.def_entry.specs.declared.key.Key.{Key}
 use Rattle.def_entry.specs.Tables.{Table}
 use Rattle.name_walk.specs.declared.step.Step.{Step}
 use Rattle.name_walk.specs.declared.step.Step.TheVariants.{Nowhere, To}
-use Rattle.name_walk.specs.Lists.{In}
-use Rattle.name_walk.proofs.Lists.{In-left, In-right}
 use Rattle.table_names.specs.Leads.{looked_keys}
-use Rattle.table_names.proofs.Members.{member_cases, member_first, no_member}
+use Rattle.table_names.proofs.Members.{member_cases, member_first, no_member, member_later}
 use Rattle.live_table.specs.Exploration.{IsMore}
 use Rattle.live_table.specs.WordTargets.{AreTargets}
 use Rattle.live_table.specs.Looks.{AllLead, AreLooks, AreLooksPut, IsSeen, WordsLookAt}
 use Rattle.live_table.specs.TableContents.{key_at}
 use Rattle.live_table.proofs.AddedNames.{key_same, more_length}
 
--- a member of the concatenation of two lists is in one of them
-pub in_both : {A : Type 0} (xs ys : List A) (s : A) → In s (xs ++ ys) → In s xs ⊎ In s ys
-in_both [] ys s i = inr i
-in_both (x ∷ xs) ys s (inl e) = inl (inl e)
-in_both (x ∷ xs) ys s (inr i) = elim (in_both xs ys s i) [ inl j ↦ inl (inr j) | inr j ↦ inr j ]
-
 -- without words there are no keys at which they look
 pub looks_none : (t : Table) (keys : List Key) (xs : List Step) (ns : List ℕ) → xs ≡ [] → ns ≡ []
     → AreLooks t keys [] xs ns
 looks_none t keys xs ns e f =
     subst (λ (p : List Step × List ℕ). AreLooks t keys [] p.0 p.1) (λ i. (sym e i, sym f i)) (record {
-      seen_in_table = λ m i. absurd i;
-      words_look = λ k. (λ (u, i, j). absurd (no_member u i), λ (m, i, e). absurd (elim i [ inl j ↦ j | inr j ↦ j ]));
+      seen_in_table = λ m i. absurd (no_member m i);
+      words_look = λ k. (
+        λ (u, i, j). absurd (no_member u i),
+        λ (m, i, e). absurd (elim i [ inl j ↦ no_member (To m) j | inr j ↦ no_member m j ]),
+      );
     })
 
 -- the keys of numbers do not change when keys are added
 module _ (ks ls : List Key) (more : IsMore ks ls) (xs : List Step) (ns : List ℕ)
-    (inside : (m : ℕ) → In (To m) xs → m < length ks) (within : (m : ℕ) → In m ns → m < length ks) where
-  here : (m : ℕ) → In (To m) xs ⊎ In m ns → key_at ls m ≡ key_at ks m
+    (inside : (m : ℕ) → Contains xs (To m) → m < length ks) (within : (m : ℕ) → Contains ns m → m < length ks) where
+  here : (m : ℕ) → Contains xs (To m) ⊎ Contains ns m → key_at ls m ≡ key_at ks m
   here m (inl i) = key_same ks ls m more (inside m i)
   here m (inr i) = key_same ks ls m more (within m i)
 
@@ -47,7 +42,7 @@ module _ (ks ls : List Key) (more : IsMore ks ls) (xs : List Step) (ns : List �
 
 -- the keys at which words look do not change when keys are added
 pub looks_more : (t : Table) (ks ls : List Key) (us : List WordUse) (xs : List Step) (ns : List ℕ) → IsMore ks ls
-    → ((m : ℕ) → In (To m) xs → m < length ks) → AreLooks t ks us xs ns → AreLooks t ls us xs ns
+    → ((m : ℕ) → Contains xs (To m) → m < length ks) → AreLooks t ks us xs ns → AreLooks t ls us xs ns
 looks_more t ks ls us xs ns more inside l = record {
   seen_in_table = λ m i. let a : m < length ks = l.seen_in_table m i in
       let b : length ks ≤ length ls = more_length ks ls more in
@@ -60,21 +55,21 @@ looks_more t ks ls us xs ns more inside l = record {
 
 -- if all steps lead somewhere, so do the first ones
 pub lead_left : (xs ys : List Step) → AllLead (xs ++ ys) → AllLead xs
-lead_left xs ys h t i = h t (In-left xs ys (Nowhere t) i)
+lead_left xs ys h t i = h t (Contains-append_left xs ys (Nowhere t) i)
 
 -- if all steps lead somewhere, so do the last ones
 pub lead_right : (xs ys : List Step) → AllLead (xs ++ ys) → AllLead ys
-lead_right xs ys h t i = h t (In-right xs ys (Nowhere t) i)
+lead_right xs ys h t i = h t (Contains-append_right xs ys (Nowhere t) i)
 
 -- one more word looks at its own keys
 module _ (t : Table) (keys : List Key) (us : List WordUse) (u : WordUse) (xs zs : List Step) (old new : List ℕ)
     (l : AreLooks t keys us xs old) (p : AreLooksPut t keys u zs old new) where
   seen_first : (k : Key) → IsSeen keys xs old k → IsSeen keys (xs ++ zs) new k
-  seen_first k (m, inl i, e) = (m, inl (In-left xs zs (To m) i), e)
+  seen_first k (m, inl i, e) = (m, inl (Contains-append_left xs zs (To m) i), e)
   seen_first k (m, inr i, e) = (m, inr ((p.looks_merged m).1 (inl i)), e)
 
   seen_then : (k : Key) → IsSeen keys zs p.own_numbers k → IsSeen keys (xs ++ zs) new k
-  seen_then k (m, inl i, e) = (m, inl (In-right xs zs (To m) i), e)
+  seen_then k (m, inl i, e) = (m, inl (Contains-append_right xs zs (To m) i), e)
   seen_then k (m, inr i, e) = (m, inr ((p.looks_merged m).1 (inr i)), e)
 
   looked_first : (k : Key) → WordsLookAt t us k → WordsLookAt t (us ++ u ∷ []) k
@@ -93,7 +88,7 @@ module _ (t : Table) (keys : List Key) (us : List WordUse) (u : WordUse) (xs zs 
   ]
 
   from : (k : Key) → IsSeen keys (xs ++ zs) new k → WordsLookAt t (us ++ u ∷ []) k
-  from k (m, inl i, e) = elim (in_both xs zs (To m) i) [
+  from k (m, inl i, e) = elim (Contains-append_cases xs zs (To m) i) [
     | inl a ↦ looked_first k ((l.words_look k).1 (m, inl a, e))
     | inr b ↦ looked_then k ((p.words_look k).1 (m, inl b, e))
   ]
@@ -111,7 +106,7 @@ module _ (t : Table) (keys : List Key) (us : List WordUse) (u : WordUse) (xs zs 
 -- the targets of a word, as its steps
 module _ (t : Table) (keys : List Key) (u : WordUse) (ns old new : List ℕ) (xs : List Step)
     (a : AreTargets t keys u ns old new)
-    (same : (m : ℕ) → In (To m) xs ↔ In m ns) where
+    (same : (m : ℕ) → Contains xs (To m) ↔ Contains ns m) where
   pub looks_put : AreLooksPut t keys u xs old new
   looks_put = record {
     own_numbers = a.own_numbers;
@@ -120,13 +115,13 @@ module _ (t : Table) (keys : List Key) (u : WordUse) (ns old new : List ℕ) (xs
     words_look = λ k. (λ w. by_steps k ((a.word_looks k).0 w), λ s. (a.word_looks k).1 (by_numbers k s));
   }
     where
-      by_steps : (k : Key) → ((m : ℕ) × (In m ns ⊎ In m a.own_numbers) × (k ≡ key_at keys m))
+      by_steps : (k : Key) → ((m : ℕ) × (Contains ns m ⊎ Contains a.own_numbers m) × (k ≡ key_at keys m))
           → IsSeen keys xs a.own_numbers k
       by_steps k (m, inl i, e) = (m, inl ((same m).1 i), e)
       by_steps k (m, inr i, e) = (m, inr i, e)
 
       by_numbers : (k : Key) → IsSeen keys xs a.own_numbers k
-          → (m : ℕ) × (In m ns ⊎ In m a.own_numbers) × (k ≡ key_at keys m)
+          → (m : ℕ) × (Contains ns m ⊎ Contains a.own_numbers m) × (k ≡ key_at keys m)
       by_numbers k (m, inl i, e) = (m, inl ((same m).0 i), e)
       by_numbers k (m, inr i, e) = (m, inr i, e)
 
@@ -135,29 +130,43 @@ same_number : (n m : ℕ) → To n ≡ To m → n ≡ m
 same_number n m q = cc
 
 -- a word with a single target has it as both steps
-pub one_step : (n m : ℕ) → In (To m) (To n ∷ To n ∷ []) ↔ In m (n ∷ [])
-one_step n m = (there, λ i. elim i [ inl e ↦ inl (ap To e) | inr z ↦ absurd z ])
+pub one_step : (n m : ℕ) → Contains (To n ∷ To n ∷ []) (To m) ↔ Contains (n ∷ []) m
+one_step n m = (there, back)
   where
-    there : In (To m) (To n ∷ To n ∷ []) → In m (n ∷ [])
-    there (inl e) = inl (same_number m n e)
-    there (inr (inl e)) = inl (same_number m n e)
-    there (inr (inr z)) = absurd z
+    there : Contains (To n ∷ To n ∷ []) (To m) → Contains (n ∷ []) m
+    there i = elim (member_cases (To m) (To n) (To n ∷ []) i) [
+      | inl e ↦ member_first m n [] (same_number m n e)
+      | inr j ↦ elim (member_cases (To m) (To n) [] j)
+          [ inl e ↦ member_first m n [] (same_number m n e) | inr z ↦ absurd (no_member (To m) z) ]
+    ]
+
+    back : Contains (n ∷ []) m → Contains (To n ∷ To n ∷ []) (To m)
+    back i = elim (member_cases m n [] i)
+        [ inl e ↦ member_first (To m) (To n) (To n ∷ []) (ap To e) | inr z ↦ absurd (no_member m z) ]
 
 -- a word with two targets has each of them as one step
-pub two_steps : (n p m : ℕ) → In (To m) (To n ∷ To p ∷ []) ↔ In m (n ∷ p ∷ [])
+pub two_steps : (n p m : ℕ) → Contains (To n ∷ To p ∷ []) (To m) ↔ Contains (n ∷ p ∷ []) m
 two_steps n p m = (there, back)
   where
-    there : In (To m) (To n ∷ To p ∷ []) → In m (n ∷ p ∷ [])
-    there (inl e) = inl (same_number m n e)
-    there (inr (inl e)) = inr (inl (same_number m p e))
-    there (inr (inr z)) = absurd z
+    there : Contains (To n ∷ To p ∷ []) (To m) → Contains (n ∷ p ∷ []) m
+    there i = elim (member_cases (To m) (To n) (To p ∷ []) i) [
+      | inl e ↦ member_first m n (p ∷ []) (same_number m n e)
+      | inr j ↦ elim (member_cases (To m) (To p) [] j) [
+        | inl e ↦ member_later m n (p ∷ []) (member_first m p [] (same_number m p e))
+        | inr z ↦ absurd (no_member (To m) z)
+      ]
+    ]
 
-    back : In m (n ∷ p ∷ []) → In (To m) (To n ∷ To p ∷ [])
-    back (inl e) = inl (ap To e)
-    back (inr (inl e)) = inr (inl (ap To e))
-    back (inr (inr z)) = absurd z
+    back : Contains (n ∷ p ∷ []) m → Contains (To n ∷ To p ∷ []) (To m)
+    back i = elim (member_cases m n (p ∷ []) i) [
+      | inl e ↦ member_first (To m) (To n) (To p ∷ []) (ap To e)
+      | inr j ↦ elim (member_cases m p [] j) [
+        | inl e ↦ member_later (To m) (To n) (To p ∷ []) (member_first (To m) (To p) [] (ap To e))
+        | inr z ↦ absurd (no_member m z)
+      ]
+    ]
 
 -- the steps of a word that leads nowhere need no looks
 pub nowhere_put : (t : Table) (keys : List Key) (u : WordUse) (x y : Step) (b : ℕ) (old new : List ℕ) → x ≡ Nowhere b
     → AllLead (x ∷ y ∷ []) → AreLooksPut t keys u (x ∷ y ∷ []) old new
-nowhere_put t keys u x y b old new e h = absurd (h b (inl (sym e)))
+nowhere_put t keys u x y b old new e h = absurd (h b (member_first (Nowhere b) x (y ∷ []) (sym e)))

@@ -53,7 +53,6 @@ use Rattle.live_table.specs.EvalInvariants.{asked_words, scene}
 use Rattle.live_table.proofs.DeckTables.{fits_kinds}
 use Rattle.live_table.proofs.OutcomesByKey.{key_settled, right_outcome, settled_within}
 use Rattle.live_table.proofs.Parts.{IsStepped, part_stands, word_at}
-use Rattle.name_walk.proofs.Lists.{get_In}
 use Rattle.live_table.proofs.Places.{element, get_lt, some_same}
 use Rattle.live_table.proofs.ToldWords.{IsLedBy, callee_from, callee_name, callee_when, is_its_callee, settled_from}
 use Rattle.live_table.proofs.ToldWords.{settled_to, to_first}
@@ -116,8 +115,8 @@ module _ (deck : Contents) (l : Listed) (asked : Asked) (is : IsSurrounding deck
           led = record {
             word_leads = led_word;
             single_target = inl (t, refl);
-            user_settled = words.targets_settled n (get_In xs (2 * k) (To n) e);
-            target_settled = words.targets_settled n (get_In xs (2 * k) (To n) e);
+            user_settled = words.targets_settled n (member_at xs (2 * k) (To n) e);
+            target_settled = words.targets_settled n (member_at xs (2 * k) (To n) e);
           };
         }
         by (word.ForTwo n m accepted t) e f = record {
@@ -128,8 +127,8 @@ module _ (deck : Contents) (l : Listed) (asked : Asked) (is : IsSurrounding deck
           led = record {
             word_leads = led_word;
             single_target = inr t;
-            user_settled = words.targets_settled n (get_In xs (2 * k) (To n) e);
-            target_settled = words.targets_settled m (get_In xs (2 * k + 1) (To m) f);
+            user_settled = words.targets_settled n (member_at xs (2 * k) (To n) e);
+            target_settled = words.targets_settled m (member_at xs (2 * k + 1) (To m) f);
           };
         }
 

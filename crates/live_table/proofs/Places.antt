@@ -1,8 +1,8 @@
 -- The items at the places of lists.
-use Rattle.std.proofs.Common.{◌≡◌, ◌⊎◌, ◌<◌, ℕ, zero, suc, List, [], ◌∷◌, ◌++◌, length, Some, refl, sym, ap, inl, inr}
-use Rattle.std.proofs.Common.{arith}
+use Rattle.std.proofs.Common.{◌≡◌, ◌⊎◌, ◌<◌, ℕ, zero, suc, List, [], ◌∷◌, ◌++◌, length, Some, refl, ap, inl, inr}
+use Rattle.std.proofs.Common.{arith, Contains}
 use Rattle.std.specs.List.{slice_get}
-use Rattle.name_walk.specs.Lists.{In}
+use Rattle.std.proofs.lemmas.Option.{slice_get-get_or}
 
 module _ {A : Type 0} where
   pub some_same : (x y : A) → Some x ≡ Some y → x ≡ y
@@ -19,10 +19,8 @@ module _ {A : Type 0} where
   element (x ∷ xs) (suc k) h = element xs k (omega arith)
 
   -- a member has a place
-  pub place_in : (xs : List A) (x : A) → In x xs → (k : ℕ) × (slice_get xs k ≡ Some x)
-  place_in [] x i = absurd i
-  place_in (y ∷ xs) x (inl e) = (0, ap Some (sym e))
-  place_in (y ∷ xs) x (inr i) = let r = place_in xs x i in (suc r.0, r.1)
+  pub place_in : (xs : List A) (x : A) → Contains xs x → (k : ℕ) × (slice_get xs k ≡ Some x)
+  place_in xs x i = (i.0, slice_get-get_or xs i.0 x i.1 ∙ ap Some i.2)
 
   -- an appended item is at the last place
   pub get_last : (xs : List A) (y : A) → slice_get (xs ++ y ∷ []) (length xs) ≡ Some y

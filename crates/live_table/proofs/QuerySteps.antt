@@ -1,13 +1,12 @@
 -- The steps of the words of a query, word after word.
 use Rattle.std.proofs.Common.{◌≡◌, ◌+◌, ◌++◌, ◌∷◌, [], ℕ, zero, suc, List, take, drop, Some}
-use Rattle.std.proofs.Common.{None, sym, ◌∙◌, ap, subst}
+use Rattle.std.proofs.Common.{None, sym, ◌∙◌, ap, subst, Contains}
 use Rattle.std.specs.List.{slice_get}
 use Rattle.std.proofs.lemmas.Bool.{true≢false}
 use Rattle.std.proofs.lemmas.List.{append_assoc}
 use Rattle.expr_tree.specs.declared.word_list.WordUse.{WordUse}
 use Rattle.def_entry.specs.Tables.{Table}
 use Rattle.name_walk.specs.declared.step.Step.{Step}
-use Rattle.name_walk.specs.Lists.{In}
 use Rattle.name_walk.proofs.Lists.{take_at}
 use Rattle.live_table.specs.declared.dead_end.DeadEnd.{DeadEnd}
 use Rattle.live_table.specs.declared.word_targets.Lead.{Lead}
@@ -61,7 +60,7 @@ module _ (t : Table) (old now m : Listed) (before here list there : List ℕ) (u
 
   module _ (lead : Lead) (is : IsQueryLead t m.keys u lead) where
     -- the steps of the word are appended
-    pub stepping_next : ((n : ℕ) → In n (numbers lead) → IsKnown m before there n) → (w : WordSteps)
+    pub stepping_next : ((n : ℕ) → Contains (numbers lead) n → IsKnown m before there n) → (w : WordSteps)
         → Some w ≡ steps_to lead → (ys zs : List Step) → ys ≡ xs ++ w.first ∷ [] → zs ≡ ys ++ w.second ∷ []
         → IsStepping t old m before here there us zs (i + 1)
     stepping_next known w e ys zs a b = record {

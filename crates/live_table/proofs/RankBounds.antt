@@ -2,6 +2,7 @@
 use Rattle.std.proofs.Common.{◌≡◌, ◌⊎◌, ◌+◌, ◌<◌, ◌≤◌, ℕ, suc, max, true, List, [], ◌∷◌}
 use Rattle.std.proofs.Common.{length, Option, Some, None, is_some, refl, sym, ap, ◌∙◌, inl, inr}
 use Rattle.std.proofs.Common.{arith}
+use Rattle.std.proofs.lemmas.List.Elements.{Contains-append_right}
 use Rattle.std.specs.List.{slice_get}
 use Rattle.expr_tree.specs.declared.word_list.WordUse.{WordUse}
 use Rattle.def_entry.specs.declared.key.Key.{Key}
@@ -151,7 +152,7 @@ module _ (deck : Contents) (l : Listed) (asked : Asked) (is : IsSurrounding deck
         words_closed = (closed_law.words (table deck) us).1
             (λ u i. (closed_law.words (table deck) (v ∷ us)).0 h.words_closed u
             (member_later u v us i));
-        targets_settled = λ m i. h.targets_settled m (inr (inr i));
+        targets_settled = λ m i. h.targets_settled m (Contains-append_right (x ∷ y ∷ []) xs (To m) i);
       }
 
   -- ---- the rank of a name at hand that is a function

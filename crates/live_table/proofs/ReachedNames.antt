@@ -2,22 +2,25 @@
 use Rattle.smallvec.specs.SmallVec.{SmallVec}
 use Rattle.std.proofs.Common.{◌≡◌, ◌+◌, ◌<◌, ◌≤◌, ℕ, zero, suc, true, false, List, [], ◌∷◌, ◌++◌, set}
 use Rattle.std.proofs.Common.{take, length, Vec, Some, None, nat_eq, refl, sym, ◌∙◌, ap, subst, inl, inr, arith}
+use Rattle.std.proofs.Common.{Contains}
 use Rattle.std.specs.declared.alloc.Global.{Global}
 use Rattle.std.specs.List.{IsDistinct, slice_get}
 use Rattle.std.proofs.lemmas.Bool.{cases_eq, cases_lt, eq-eqb}
 use Rattle.std.proofs.lemmas.List.{length-set, take_all}
+use Rattle.std.proofs.lemmas.List.Elements.{Contains-push_cases}
 use Rattle.def_entry.specs.declared.key.Key.{Key}
 use Rattle.def_entry.specs.Entries.{Entry}
 use Rattle.def_entry.specs.Tables.{Table, entry_at, is_present}
 use Rattle.name_walk.specs.declared.step.Step.{Step}
 use Rattle.name_walk.specs.declared.step.Step.TheVariants.{To}
 use Rattle.name_walk.specs.ClosedNames.{IsSettled}
-use Rattle.name_walk.specs.Lists.{In}
 use Rattle.name_walk.specs.Steps.{Graph, items_of, steps}
-use Rattle.name_walk.proofs.Lists.{In-push, all_at, get_In, take_at}
+use Rattle.name_walk.proofs.Lists.{all_at, take_at}
 use Rattle.name_walk.proofs.Marks.{get_set_other, get_set_same}
 use Rattle.name_walk.proofs.DoneNames.{settled_law_holds}
+use Rattle.name_walk.proofs.Members.{take_member}
 use Rattle.table_names.specs.Words.{key_words}
+use Rattle.table_names.proofs.Members.{member_at, member_cases, no_member}
 use Rattle.name_numbers.specs.NumberedNames.{AreWords}
 use Rattle.live_table.specs.declared.callee.Callee.{Callee}
 use Rattle.live_table.specs.declared.dead_end.DeadEnd.{DeadEnd}
@@ -51,15 +54,15 @@ looks_same : (g : Looks) (n : ℕ) (w : Vec ℕ Global) → n < length g → loo
 looks_same g n w h = ap numbers_in (get_set_same g n w h)
 
 -- a number past the end has no steps
-no_steps : (g : Graph) (x : ℕ) (s : Step) → length g ≤ x → In s (steps g x) → ⊥
-no_steps [] x s h j = j
+no_steps : (g : Graph) (x : ℕ) (s : Step) → length g ≤ x → Contains (steps g x) s → ⊥
+no_steps [] x s h j = no_member s j
 no_steps (w ∷ g) zero s h j = absurd (omega arith)
 no_steps (w ∷ g) (suc x) s h j = no_steps g x s (omega arith) j
 
 module _ (t : Table) (l : Listed) (n : ℕ) (c : Callee) (v : SmallVec Step) (w : Vec ℕ Global)
     (nodes : AreNumberedNames t l)
     (fresh : IsSettled l.settled_flags n → ⊥)
-    (inside : (m : ℕ) → In (To m) v.items → m < length l.keys) where
+    (inside : (m : ℕ) → Contains v.items (To m) → m < length l.keys) where
   abbrev later : Listed
   later = with_steps n c v w l
 
@@ -69,21 +72,22 @@ module _ (t : Table) (l : Listed) (n : ℕ) (c : Callee) (v : SmallVec Step) (w 
   not_n : (m : ℕ) → IsSettled l.settled_flags m → m ≡ n → ⊥
   not_n m e q = fresh (subst (λ (x : ℕ). IsSettled l.settled_flags x) q e)
 
-  range : (a b : ℕ) → In (To b) (steps (set l.graph n v) a) → b < length (set l.graph n v)
+  range : (a b : ℕ) → Contains (steps (set l.graph n v) a) (To b) → b < length (set l.graph n v)
   range a b i = elim (cases_eq a n) [
     | inl q ↦ let z : b < length l.graph = at_n q i in let s : length (set l.graph n v) ≡ length l.graph = count in
         omega arith
     | inr ne ↦
         let z : b < length l.graph =
-        nodes.net.steps_in_range a b (subst (λ (xs : List Step). In (To b) xs) (steps_other l.graph n a v ne) i) in
+        nodes.net.steps_in_range a b (subst (λ (xs : List Step). Contains xs (To b)) (steps_other l.graph n a v ne) i)
+        in
         let s : length (set l.graph n v) ≡ length l.graph = count in omega arith
   ]
     where
-      at_n : a ≡ n → In (To b) (steps (set l.graph n v) a) → b < length l.graph
+      at_n : a ≡ n → Contains (steps (set l.graph n v) a) (To b) → b < length l.graph
       at_n q j = elim (cases_lt n (length l.graph)) [
         | inl h ↦
             let z : b < length l.keys =
-            inside b (subst (λ (xs : List Step). In (To b) xs)
+            inside b (subst (λ (xs : List Step). Contains xs (To b))
             (ap (steps (set l.graph n v)) q ∙ steps_same l.graph n v h) j) in
             let s : length l.graph ≡ length l.keys = nodes.step_count in omega arith
         | inr h ↦ absurd (no_steps (set l.graph n v) a (To b)
@@ -128,15 +132,16 @@ module _ (t : Table) (l : Listed) (n : ℕ) (c : Callee) (v : SmallVec Step) (w 
 -- a name on the list gets its steps, after the additions for its words
 module _ (t : Table) (l m : Listed) (before here there : List ℕ) (ends more : List DeadEnd) (n : ℕ) (c : Callee)
     (v : SmallVec Step) (w : Vec ℕ Global)
-    (added : AreAdded t l m before here there ends more) (right : AreListed t l before here) (is_listed : In n here)
+    (added : AreAdded t l m before here there ends more) (right : AreListed t l before here)
+    (is_listed : Contains here n)
     (written : AreWritten t m before there more (key_words t (key_at l.keys n)) v.items) where
-  in_there : In n there
+  in_there : Contains there n
   in_there = in_more here there n added.growth.list_more is_listed
 
   in_keys : n < length l.keys
   in_keys = right.listed_in_table n is_listed
 
-  inside : (q : ℕ) → In (To q) v.items → q < length m.keys
+  inside : (q : ℕ) → Contains v.items (To q) → q < length m.keys
   inside q i = known_within t m before there added.growth.nodes added.growth.list_right q (written.targets q i)
 
   longer : length l.keys ≤ length m.keys
@@ -237,9 +242,10 @@ module _ (t : Table) (l m : Listed) (before here there : List ℕ) (ends more : 
 -- explored names stay explored when a name that was not explored gets its steps
 module _ (t : Table) (l m : Listed) (before here there : List ℕ) (ends more : List DeadEnd) (n : ℕ)
     (nodes : AreNumberedNames t l) (grown : AreGrown t l m before here there ends more)
-    (same : AreSame (λ q. q ≡ n → ⊥) l m) (other : In n before → ⊥) (explored : WereExplored t l before ends) where
-  apart : (x : ℕ) → In x before → x ≡ n → ⊥
-  apart x i e = other (subst (λ (y : ℕ). In y before) e i)
+    (same : AreSame (λ q. q ≡ n → ⊥) l m) (other : Contains before n → ⊥)
+    (explored : WereExplored t l before ends) where
+  apart : (x : ℕ) → Contains before x → x ≡ n → ⊥
+  apart x i e = other (subst (λ (y : ℕ). Contains before y) e i)
 
   pub still_explored : WereExplored t m before more
   still_explored = record {
@@ -260,7 +266,7 @@ pub record IsExploring (t : Table) (old now : Listed) (before here list : List �
     (place : ℕ) : Type 0 where
   pub grown : AreGrown t old now before here list ends more
   pub explored : WereExplored t now before more
-  pub gone : (n : ℕ) → In n (take place list) → HasOwnSteps t now before list more n
+  pub gone : (n : ℕ) → Contains (take place list) n → HasOwnSteps t now before list more n
   pub stay : HaveSameSteps before old now
   pub within : place ≤ length list
 
@@ -271,34 +277,29 @@ pub exploring_start : (t : Table) (l : Listed) (before list : List ℕ) (ends : 
 exploring_start t l before list ends nodes right explored = record {
   grown = grown_none t l before list ends ends nodes right (λ i x e. e);
   explored = explored;
-  gone = λ n i. absurd i;
+  gone = λ n i. absurd (no_member n i);
   stay = λ n i. refl;
   within = omega arith;
 }
 
--- a member of the front of a list is a member of the list
-in_take : {A : Type 0} (k : ℕ) (xs : List A) (x : A) → In x (take k xs) → In x xs
-in_take zero xs x i = absurd i
-in_take (suc k) [] x i = i
-in_take (suc k) (y ∷ xs) x (inl e) = inl e
-in_take (suc k) (y ∷ xs) x (inr i) = inr (in_take k xs x i)
-
 -- a number that occurs once is not before its place
-distinct_at : (ns : List ℕ) (i n : ℕ) → IsDistinct nat_eq ns → slice_get ns i ≡ Some n → In n (take i ns) → ⊥
+distinct_at : (ns : List ℕ) (i n : ℕ) → IsDistinct nat_eq ns → slice_get ns i ≡ Some n → Contains (take i ns) n → ⊥
 unfolding IsDistinct
 distinct_at [] i n d e j = cc
-distinct_at (x ∷ ns) zero n d e j = j
-distinct_at (x ∷ ns) (suc i) n d e (inr j) = distinct_at ns i n d.1 e j
-distinct_at (x ∷ ns) (suc i) n d e (inl q) =
-    let f : nat_eq x n ≡ false = all_at (λ y. nat_eq x y ≡ false) ns n d.0 (get_In ns i n e) in
-    let t : nat_eq x n ≡ true = eq-eqb x n (sym q) in
-    absurd (let z : true ≡ false = sym t ∙ f in cc)
+distinct_at (x ∷ ns) zero n d e j = no_member n j
+distinct_at (x ∷ ns) (suc i) n d e j = elim (member_cases n x (take i ns) j) [
+  | inl q ↦
+      let f : nat_eq x n ≡ false = all_at (λ y. nat_eq x y ≡ false) ns n d.0 (member_at ns i n e) in
+      let t : nat_eq x n ≡ true = eq-eqb x n (sym q) in
+      let z : true ≡ false = sym t ∙ f in cc
+  | inr k ↦ distinct_at ns i n d.1 e k
+]
 
 module _ (t : Table) (old now m : Listed) (before here list there : List ℕ) (ends more most : List DeadEnd)
     (place n : ℕ) (is : slice_get list place ≡ Some n) (s : IsExploring t old now before here list ends more place)
     (grown : AreGrown t now m before list there more most) (same : AreSame (λ q. q ≡ n → ⊥) now m) where
-  pub listed_now : In n list
-  listed_now = get_In list place n is
+  pub listed_now : Contains list n
+  listed_now = member_at list place n is
 
   pub explored_next : WereExplored t m before most
   explored_next = still_explored t now m before list there more most n s.grown.nodes grown same
@@ -307,14 +308,14 @@ module _ (t : Table) (old now m : Listed) (before here list there : List ℕ) (e
   pub stay_next : HaveSameSteps before old m
   stay_next x i =
       same.steps x (s.explored.explored_in_table x i)
-      (λ e. s.grown.list_right.new n listed_now (subst (λ (y : ℕ). In y before) e i))
+      (λ e. s.grown.list_right.new n listed_now (subst (λ (y : ℕ). Contains before y) e i))
       ∙ s.stay x i
 
-  gone_old : (x : ℕ) → In x (take place list) → HasOwnSteps t m before there most x
+  gone_old : (x : ℕ) → Contains (take place list) x → HasOwnSteps t m before there most x
   gone_old x i =
       let ne : x ≡ n → ⊥ = (λ q. distinct_at list place n s.grown.list_right.numbers_distinct is
-      (subst (λ (y : ℕ). In y (take place list)) q i)) in
-      let h : x < length now.keys = s.grown.list_right.listed_in_table x (in_take place list x i) in
+      (subst (λ (y : ℕ). Contains (take place list) y) q i)) in
+      let h : x < length now.keys = s.grown.list_right.listed_in_table x (take_member place list x i) in
       still_written t now m before list there more most x s.grown.nodes s.grown.list_right grown h
       (same.steps x h ne) (same.callees x h ne) (same.looks x h ne) (s.gone x i)
 
@@ -331,9 +332,9 @@ module _ (t : Table) (old now m : Listed) (before here list there : List ℕ) (e
   exploring_next written = record {
     grown = grown_both t old now m before here list there ends more most s.grown grown;
     explored = explored_next;
-    gone = λ x i. elim (In-push (take place list) n x (subst (λ (xs : List ℕ). In x xs) taken i)) [
+    gone = λ x i. elim (Contains-push_cases (take place list) n x (subst (λ (xs : List ℕ). Contains xs x) taken i)) [
       | inl j ↦ gone_old x j
-      | inr e ↦ subst (λ (y : ℕ). HasOwnSteps t m before there most y) (sym e) written
+      | inr e ↦ subst (λ (y : ℕ). HasOwnSteps t m before there most y) e written
     ];
     stay = stay_next;
     within =
@@ -354,5 +355,5 @@ pub exploring_end : (t : Table) (old now : Listed) (before here list : List ℕ)
 exploring_end t old now before here list ends more place s all = record {
   list_right = s.grown.list_right;
   earlier_explored = s.explored;
-  listed_have_steps = λ n i. s.gone n (subst (λ (xs : List ℕ). In n xs) (sym (take_all place list all)) i);
+  listed_have_steps = λ n i. s.gone n (subst (λ (xs : List ℕ). Contains xs n) (sym (take_all place list all)) i);
 }

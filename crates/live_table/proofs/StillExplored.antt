@@ -1,12 +1,11 @@
 -- Explored names stay explored until an edit.
 use Rattle.std.proofs.Common.{◌≡◌, ◌⊎◌, ◌↔◌, ◌<◌, ℕ, true, List, [], set, length, Some, refl, sym, ◌∙◌, ap, subst}
-use Rattle.std.proofs.Common.{inl, inr}
+use Rattle.std.proofs.Common.{inl, inr, Contains}
 use Rattle.std.specs.List.{slice_get}
 use Rattle.std.proofs.lemmas.Bool.{cases_eq}
 use Rattle.def_entry.specs.declared.key.Key.{Key}
 use Rattle.def_entry.specs.Tables.{Table, is_present}
 use Rattle.name_walk.specs.ClosedNames.{IsSettled}
-use Rattle.name_walk.specs.Lists.{In}
 use Rattle.name_walk.proofs.Marks.{get_set_other, get_set_same}
 use Rattle.tree_eval.specs.declared.outcome.Outcome.{Outcome}
 use Rattle.live_table.specs.declared.callee.Callee.{Callee}
@@ -20,6 +19,7 @@ use Rattle.live_table.specs.TableContents.{Listed}
 use Rattle.live_table.proofs.AddedNames.{grown_alone, key_same, none_listed}
 use Rattle.live_table.proofs.Places.{element, get_lt, some_same}
 use Rattle.live_table.proofs.ReachedNames.{still_written}
+use Rattle.table_names.proofs.Members.{no_member}
 
 -- about no names nothing is claimed
 pub none_explored : (t : Table) (l : Listed) (names : List ℕ) (ends : List DeadEnd) → names ≡ []
@@ -27,10 +27,9 @@ pub none_explored : (t : Table) (l : Listed) (names : List ℕ) (ends : List Dea
 none_explored t l names ends e =
     subst (λ (ns : List ℕ). WereExplored t l ns ends) (sym e)
     (record {
-      explored_in_table = λ n i. absurd i;
-      explored_have_entries = λ n i. absurd i;
-      explored_have_steps = λ n i.
-          absurd i;
+      explored_in_table = λ n i. absurd (no_member n i);
+      explored_have_entries = λ n i. absurd (no_member n i);
+      explored_have_steps = λ n i. absurd (no_member n i);
     })
 
 -- written steps stay written when more names are known
@@ -123,11 +122,12 @@ settled_explored t l later n o rank h put before ends were =
 
 -- ---- the names explored below a query are added to the explored ones
 module _ (t : Table) (l : Listed) (before list names : List ℕ) (ends : List DeadEnd)
-    (all : AreAllExplored t l before list ends) (same : (m : ℕ) → In m names ↔ (In m before ⊎ In m list)) where
+    (all : AreAllExplored t l before list ends)
+    (same : (m : ℕ) → Contains names m ↔ (Contains before m ⊎ Contains list m)) where
   known_before : (m : ℕ) → IsKnown l before [] m → IsKnown l names [] m
   known_before m (inl e) = inl e
   known_before m (inr (inl i)) = inr (inl ((same m).1 (inl i)))
-  known_before m (inr (inr i)) = absurd i
+  known_before m (inr (inr i)) = absurd (no_member m i)
 
   known_there : (m : ℕ) → IsKnown l before list m → IsKnown l names [] m
   known_there m (inl e) = inl e

@@ -2,6 +2,8 @@
 use Rattle.std.proofs.Common.{◌≡◌, ◌⊎◌, ◌↔◌, ◌-◌, ◌+◌, ◌<◌, ◌≤◌, ◌++◌, ◌∷◌, [], ℕ, zero, suc, cond, false, List, length}
 use Rattle.std.proofs.Common.{map, take, drop, Contains, refl, sym, ◌∙◌, ap, subst, inl, inr, arith}
 use Rattle.std.proofs.lemmas.List.{drop_all, length-drop, map-append, take-append-drop}
+use Rattle.std.proofs.lemmas.List.Elements.{Contains-append_left, Contains-append_right, Contains-push}
+use Rattle.std.proofs.lemmas.List.Elements.{Contains-push_cases, Contains-append_cases}
 use Rattle.expr_tree.specs.declared.word_list.WordKind.{WordKind}
 use Rattle.expr_tree.specs.declared.word_list.WordUse.{WordUse}
 use Rattle.expr_tree.specs.Names.{is_refused}
@@ -13,9 +15,9 @@ use Rattle.name_lookup.specs.Order.{plan}
 use Rattle.name_lookup.specs.Plans.{Found, run}
 use Rattle.name_lookup.specs.Targets.{AreFound, last_keys, target_count}
 use Rattle.name_walk.specs.Faults.{is_on_path}
-use Rattle.name_walk.specs.Lists.{In}
-use Rattle.name_walk.proofs.Lists.{In-left, In-right, take_at}
+use Rattle.name_walk.proofs.Lists.{take_at}
 use Rattle.table_names.specs.Leads.{LookupLaw, looked_keys, targets, word_lookup}
+use Rattle.table_names.proofs.Members.{member_cases, member_first, member_later, no_member}
 use Rattle.name_numbers.proofs.NewKeys.{key_in, number_in}
 use Rattle.live_table.specs.declared.word_targets.Lead.{Lead}
 use Rattle.live_table.specs.declared.word_targets.Lead.TheVariants.{Refused, Nowhere, One, Two}
@@ -27,7 +29,6 @@ use Rattle.live_table.specs.TableContents.{Listed, key_at}
 use Rattle.live_table.proofs.GatheredNumbers.{put_one}
 use Rattle.live_table.proofs.AddedNames.{added_both, added_none, key_read, key_same, more_length, none_listed}
 use Rattle.live_table.proofs.KeyNumbers.{numbered_push, within_push}
-use Rattle.live_table.proofs.LookedKeys.{in_both}
 
 -- ---- keys that are not targets
 -- at the start no number is gathered
@@ -35,8 +36,8 @@ pub gathered_start : (keys others : List Key) (old : List ℕ) → others ≡ []
 gathered_start keys others old e = record {
   own_numbers = [];
   numbers_are = e;
-  own_in_table = λ m i. absurd i;
-  looks_merged = λ m. (λ i. inl i, λ h. elim h [ inl i ↦ i | inr z ↦ absurd z ]);
+  own_in_table = λ m i. absurd (no_member m i);
+  looks_merged = λ m. (λ i. inl i, λ h. elim h [ inl i ↦ i | inr z ↦ absurd (no_member m z) ]);
 }
 
 -- gathered keys stay gathered when keys are added
@@ -49,11 +50,11 @@ gathered_more ks ls others old new more g = record {
   looks_merged = g.looks_merged;
 }
   where
-    same : (ns : List ℕ) → ((m : ℕ) → In m ns → m < length ks) → map (key_at ks) ns ≡ map (key_at ls) ns
+    same : (ns : List ℕ) → ((m : ℕ) → Contains ns m → m < length ks) → map (key_at ks) ns ≡ map (key_at ls) ns
     same [] within = refl
     same (n ∷ ns) within =
-        let rest : map (key_at ks) ns ≡ map (key_at ls) ns = same ns (λ m i. within m (inr i)) in
-        λ i. sym (key_same ks ls n more (within n (inl refl))) i ∷ rest i
+        let rest : map (key_at ks) ns ≡ map (key_at ls) ns = same ns (λ m i. within m (member_later m n ns i)) in
+        λ i. sym (key_same ks ls n more (within n (member_first n n ns refl))) i ∷ rest i
 
 -- the next key has a number, and is gathered
 pub gathered_next : (ks ls tried : List Key) (old now next : List ℕ) (place n : ℕ) → IsMore ks ls
@@ -70,18 +71,18 @@ gathered_next ks ls tried old now next place n more h g p e = record {
   looks_merged = λ m. (to m, from m);
 }
   where
-    to : (m : ℕ) → In m next → In m old ⊎ In m (g.own_numbers ++ n ∷ [])
+    to : (m : ℕ) → Contains next m → Contains old m ⊎ Contains (g.own_numbers ++ n ∷ []) m
     to m i = elim ((put_one now next n e m).0 i) [
-      | inl a ↦ elim ((g.looks_merged m).0 a) [ inl b ↦ inl b | inr b ↦ inr (In-left g.own_numbers (n ∷ []) m b) ]
-      | inr is ↦ inr (In-right g.own_numbers (n ∷ []) m (inl is))
+      | inl a ↦ elim ((g.looks_merged m).0 a)
+          [ inl b ↦ inl b | inr b ↦ inr (Contains-append_left g.own_numbers (n ∷ []) m b) ]
+      | inr is ↦ inr (subst (λ (x : ℕ). Contains (g.own_numbers ++ n ∷ []) x) (sym is) (Contains-push g.own_numbers n))
     ]
 
-    from : (m : ℕ) → In m old ⊎ In m (g.own_numbers ++ n ∷ []) → In m next
+    from : (m : ℕ) → Contains old m ⊎ Contains (g.own_numbers ++ n ∷ []) m → Contains next m
     from m (inl a) = (put_one now next n e m).1 (inl ((g.looks_merged m).1 (inl a)))
-    from m (inr a) = elim (in_both g.own_numbers (n ∷ []) m a) [
+    from m (inr a) = elim (Contains-push_cases g.own_numbers n m a) [
       | inl b ↦ (put_one now next n e m).1 (inl ((g.looks_merged m).1 (inr b)))
-      | inr (inl is) ↦ (put_one now next n e m).1 (inr is)
-      | inr (inr z) ↦ absurd z
+      | inr is ↦ (put_one now next n e m).1 (inr (sym is))
     ]
 
 -- ---- numbers for keys in turn
@@ -102,7 +103,7 @@ adds_both t l m k a b before list ends right =
 
 -- an addition of names is a growth without listed numbers
 grown_names : (t : Table) (l m : Listed) → AddsNames t l m → AreGrown t l m [] [] [] [] []
-grown_names t l m a = (a [] [] [] (none_listed t l [] [] (λ n i. absurd i) refl)).growth
+grown_names t l m a = (a [] [] [] (none_listed t l [] [] (λ n i. absurd (no_member n i)) refl)).growth
 
 -- after an addition the nodes are right
 pub added_nodes : (t : Table) (l m : Listed) → AddsNames t l m → AreNumberedNames t m
@@ -167,10 +168,12 @@ leads_to_two ks ls tried i j n m h e f more p q =
       inside below,
     )
   where
-    inside : n < length ls → (k : ℕ) → In k (n ∷ m ∷ []) → k < length ls
-    inside below k (inl s) = subst (λ (x : ℕ). x < length ls) (sym s) below
-    inside below k (inr (inl s)) = subst (λ (x : ℕ). x < length ls) (sym s) q.0
-    inside below k (inr (inr z)) = absurd z
+    inside : n < length ls → (k : ℕ) → Contains (n ∷ m ∷ []) k → k < length ls
+    inside below k i = elim (member_cases k n (m ∷ []) i) [
+      | inl s ↦ subst (λ (x : ℕ). x < length ls) (sym s) below
+      | inr j ↦ elim (member_cases k m [] j)
+          [ inl s ↦ subst (λ (x : ℕ). x < length ls) (sym s) q.0 | inr z ↦ absurd (no_member k z) ]
+    ]
 
 -- ---- the targets that a search among the keys of a table found, if none was tried before
 pub found_by : (t : Table) (u : WordUse) (law : LookupLaw) (w : Targets) (before tried : List Key) (kind : WordKind)
@@ -214,7 +217,7 @@ module _ (t : Table) (u : WordUse) (w : Targets) (tried : List Key) (found : Are
 
     -- ---- the targets and the other keys
     module _ (ks ls : List Key) (more : IsMore ks ls) (old mid new : List ℕ) (ns : List ℕ)
-        (led : last_keys (target_count w) tried ≡ map (key_at ls) ns) (inside : (m : ℕ) → In m ns → m < length ls)
+        (led : last_keys (target_count w) tried ≡ map (key_at ls) ns) (inside : (m : ℕ) → Contains ns m → m < length ls)
         (g : AreGathered ks (take (length tried - target_count w) tried) old mid) (same : new ≡ mid) where
       now : AreGathered ls (take (length tried - target_count w) tried) old mid
       now = gathered_more ks ls (take (length tried - target_count w) tried) old mid more g
@@ -225,17 +228,19 @@ module _ (t : Table) (u : WordUse) (w : Targets) (tried : List Key) (found : Are
           ∙ ((λ i. sym now.numbers_are i ++ sym led i)
           ∙ (take-append-drop (length tried - target_count w) tried ∙ found.looks_appended))
 
-      to : (k : Key) → Contains (looked_keys t u) k → (m : ℕ) × (In m ns ⊎ In m now.own_numbers) × (k ≡ key_at ls m)
+      to : (k : Key) → Contains (looked_keys t u) k → (m : ℕ) × (Contains ns m ⊎ Contains now.own_numbers m)
+          × (k ≡ key_at ls m)
       to k i =
           let r = number_in (key_at ls) (now.own_numbers ++ ns) k (subst (λ (xs : List Key). Contains xs k) (sym all) i)
           in
-          (r.0, elim (in_both now.own_numbers ns r.0 r.2) [ inl a ↦ inr a | inr b ↦ inl b ], r.1)
+          (r.0, elim (Contains-append_cases now.own_numbers ns r.0 r.2) [ inl a ↦ inr a | inr b ↦ inl b ], r.1)
 
-      number_of : (m : ℕ) → In m ns ⊎ In m now.own_numbers → In m (now.own_numbers ++ ns)
-      number_of m (inl i) = In-right now.own_numbers ns m i
-      number_of m (inr i) = In-left now.own_numbers ns m i
+      number_of : (m : ℕ) → Contains ns m ⊎ Contains now.own_numbers m → Contains (now.own_numbers ++ ns) m
+      number_of m (inl i) = Contains-append_right now.own_numbers ns m i
+      number_of m (inr i) = Contains-append_left now.own_numbers ns m i
 
-      from : (k : Key) → ((m : ℕ) × (In m ns ⊎ In m now.own_numbers) × (k ≡ key_at ls m)) → Contains (looked_keys t u) k
+      from : (k : Key) → ((m : ℕ) × (Contains ns m ⊎ Contains now.own_numbers m) × (k ≡ key_at ls m))
+          → Contains (looked_keys t u) k
       from k (m, i, e) =
           subst (λ (xs : List Key). Contains xs k) all
           (subst (λ (q : Key). Contains (map (key_at ls) (now.own_numbers ++ ns)) q) (sym e)
@@ -246,7 +251,7 @@ module _ (t : Table) (u : WordUse) (w : Targets) (tried : List Key) (found : Are
         targets = targets_are ∙ led;
         targets_in_table = inside;
         own_numbers = now.own_numbers;
-        looks_merged = subst (λ (xs : List ℕ). (m : ℕ) → In m xs ↔ (In m old ⊎ In m now.own_numbers))
+        looks_merged = subst (λ (xs : List ℕ). (m : ℕ) → Contains xs m ↔ (Contains old m ⊎ Contains now.own_numbers m))
             (sym same) now.looks_merged;
         own_in_table = now.own_in_table;
         word_looks = λ k. (to k, from k);

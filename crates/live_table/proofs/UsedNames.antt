@@ -1,22 +1,23 @@
 -- The names to which the first steps lead.
 use Rattle.std.proofs.Common.{◌≡◌, ◌⊎◌, ◌↔◌, ◌+◌, ◌≤◌, ◌++◌, ◌∷◌, [], ℕ, cond, List, Some, take, length}
-use Rattle.std.proofs.Common.{sym, ◌∙◌, ap, subst, inl, inr}
+use Rattle.std.proofs.Common.{sym, ◌∙◌, ap, subst, inl, inr, Contains}
 use Rattle.std.specs.List.{slice_get}
 use Rattle.std.proofs.lemmas.List.{take_all}
+use Rattle.std.proofs.lemmas.List.Elements.{Contains-append_left, Contains-push, Contains-push_cases}
 use Rattle.name_walk.specs.declared.step.Step.{Step}
 use Rattle.name_walk.specs.declared.step.Step.TheVariants.{Nowhere, To}
 use Rattle.name_walk.specs.Faults.{is_on_path}
-use Rattle.name_walk.specs.Lists.{In}
-use Rattle.name_walk.proofs.Lists.{In-left, In-push, In-right, take_at}
+use Rattle.name_walk.proofs.Lists.{take_at}
 use Rattle.live_table.proofs.GatheredNumbers.{put_one}
+use Rattle.table_names.proofs.Members.{no_member}
 
 -- numbers to which steps lead
 abbrev pub AreUsed : List ℕ → List Step → Type 0
-AreUsed targets xs = (m : ℕ) → In m targets ↔ In (To m) xs
+AreUsed targets xs = (m : ℕ) → Contains targets m ↔ Contains xs (To m)
 
 -- one more step adds the name to which it leads
 abbrev pub IsUsed : List ℕ → List ℕ → Step → Type 0
-IsUsed old new x = (m : ℕ) → In m new ↔ (In m old ⊎ (x ≡ To m))
+IsUsed old new x = (m : ℕ) → Contains new m ↔ (Contains old m ⊎ (x ≡ To m))
 
 -- equal steps lead to one number
 same_to : (m n : ℕ) → To m ≡ To n → m ≡ n
@@ -42,19 +43,19 @@ nowhere_used old t x is m = (λ i. inl i, λ h. elim h [ inl j ↦ j | inr q ↦
 
 -- without steps no names are used
 pub none_used : (xs : List Step) → AreUsed [] (take 0 xs)
-none_used xs m = (λ c. absurd c, λ i. absurd i)
+none_used xs m = (λ c. absurd (no_member m c), λ i. absurd (no_member (To m) i))
 
 -- the next step is used with those before it
 pub one_used : (old new : List ℕ) (xs : List Step) (i : ℕ) (x : Step) → slice_get xs i ≡ Some x
     → AreUsed old (take i xs) → IsUsed old new x → AreUsed new (take (i + 1) xs)
 one_used old new xs i x at are put = subst (AreUsed new) (sym (take_at xs i x at)) (λ m. (
   λ c. elim ((put m).0 c) [
-    | inl j ↦ In-left (take i xs) (x ∷ []) (To m) ((are m).0 j)
-    | inr q ↦ In-right (take i xs) (x ∷ []) (To m) (inl (sym q))
+    | inl j ↦ Contains-append_left (take i xs) (x ∷ []) (To m) ((are m).0 j)
+    | inr q ↦ subst (λ (s : Step). Contains (take i xs ++ x ∷ []) s) q (Contains-push (take i xs) x)
   ],
-  λ j. elim (In-push (take i xs) x (To m) j) [
+  λ j. elim (Contains-push_cases (take i xs) x (To m) j) [
     | inl k ↦ (put m).1 (inl ((are m).1 k))
-    | inr q ↦ (put m).1 (inr (sym q))
+    | inr q ↦ (put m).1 (inr q)
   ],
 ))
 

@@ -1,9 +1,10 @@
 -- Names that wait for their edges: after names are added, after one more is settled, and if none waits.
 use Rattle.std.proofs.Common.{◌≡◌, ◌⊎◌, ◌↔◌, ◌<◌, ◌≤◌, ℕ, Bool, true, false, List, [], ◌∷◌, ◌++◌, length, set}
-use Rattle.std.proofs.Common.{Option, Some, is_some, refl, sym, ◌∙◌, ap, subst, inl, inr, arith}
+use Rattle.std.proofs.Common.{Option, Some, is_some, refl, sym, ◌∙◌, ap, subst, inl, inr, arith, Contains}
 use Rattle.std.specs.FinMap as map_of
 use Rattle.std.specs.Prelude.{if◌then◌else◌}
 use Rattle.std.proofs.lemmas.Bool.{cases_Bool, cases_lt, true≢false}
+use Rattle.std.proofs.lemmas.List.Elements.{Contains-append_left, Contains-push, Contains-push_cases}
 use Rattle.expr_tree.specs.declared.word_list.WordUse.{WordUse}
 use Rattle.def_entry.specs.declared.key.Key.{Key}
 use Rattle.def_entry.specs.Tables.{Table}
@@ -15,16 +16,16 @@ use Rattle.name_numbers.proofs.Reached.{step_of_lead}
 use Rattle.name_walk.specs.declared.step.Step.TheVariants.{To}
 use Rattle.name_walk.specs.ClosedNames.{IsSettled}
 use Rattle.name_walk.specs.Faults.{is_on_path}
-use Rattle.name_walk.specs.Lists.{In}
 use Rattle.name_walk.specs.Steps.{steps}
-use Rattle.name_walk.proofs.Lists.{In-last, In-left, In-on, In-push, on-In}
 use Rattle.name_walk.proofs.Marks.{get_set_other, get_set_same}
+use Rattle.name_walk.proofs.Members.{member_on_path, on_path_member}
 use Rattle.table_names.specs.declared.fault.NameFault.{NameFault}
 use Rattle.table_names.specs.declared.fault.NameFault.TheVariants.{Unknown}
 use Rattle.table_names.specs.ClosedKeys.{IsClosed}
 use Rattle.table_names.specs.Leads.{WordsLeadTo}
 use Rattle.table_names.specs.Words.{key_words}
 use Rattle.table_names.proofs.ClosedLaws.{closed_law}
+use Rattle.table_names.proofs.Members.{member_cases, member_first, member_later, no_member}
 use Rattle.tree_eval.specs.declared.outcome.Outcome.{Outcome}
 use Rattle.live_table.specs.declared.callee.Callee.{Callee}
 use Rattle.live_table.specs.declared.dead_end.DeadEnd.{DeadEnd}
@@ -52,14 +53,15 @@ pub linked_facts : (settled : List Bool) (waiting : List ℕ) (n : ℕ) → is_l
 linked_facts settled waiting n e = chosen (is_on_path waiting n) (is_flagged settled n) e
 
 -- a number that is not found on a list is not in it
-pub not_waiting : (waiting : List ℕ) (n : ℕ) → is_on_path waiting n ≡ false → In n waiting → ⊥
-not_waiting waiting n e i = true≢false (sym (In-on waiting n i) ∙ e)
+pub not_waiting : (waiting : List ℕ) (n : ℕ) → is_on_path waiting n ≡ false → Contains waiting n → ⊥
+not_waiting waiting n e i = true≢false (sym (member_on_path waiting n i) ∙ e)
 
 -- a settled name that does not wait has its edges
-pub linked_where : (settled : List Bool) (waiting : List ℕ) (n : ℕ) → is_flagged settled n ≡ true → (In n waiting → ⊥)
+pub linked_where : (settled : List Bool) (waiting : List ℕ) (n : ℕ) → is_flagged settled n ≡ true
+    → (Contains waiting n → ⊥)
     → is_linked settled waiting n ≡ true
 linked_where settled waiting n e out = elim (cases_Bool (is_on_path waiting n)) [
-  | inl i ↦ absurd (out (on-In waiting n i))
+  | inl i ↦ absurd (out (on_path_member waiting n i))
   | inr o ↦ ap (λ b. if b then false else is_flagged settled n) o ∙ e
 ]
 
@@ -70,7 +72,7 @@ dead_end t holder = Unknown [] holder
 -- the names to which the words of a closed name lead, by number
 pub number_of_lead : (deck : Contents) (l : Listed) (n : ℕ) → IsClosed (table deck) (key_at l.keys n)
     → IsFaithful (table deck) l n → (k : Key) → WordsLeadTo (table deck) (key_words (table deck) (key_at l.keys n)) k
-    → (m : ℕ) × (k ≡ key_at l.keys m) × In (To m) (steps l.graph n)
+    → (m : ℕ) × (k ≡ key_at l.keys m) × Contains (steps l.graph n) (To m)
 number_of_lead deck l n closed faithful k w =
     let us : List WordUse = key_words (table deck) (key_at l.keys n) in
     let fine = ((closed_law.words (table deck) us).0
@@ -79,34 +81,36 @@ number_of_lead deck l n closed faithful k w =
 
 -- ---- the order in which names wait
 module _ (t : Table) where
-  same_order : (key later : ℕ → Key) (ns : List ℕ) → ((n : ℕ) → In n ns → later n ≡ key n) → AreTargetsFirst t key ns
+  same_order : (key later : ℕ → Key) (ns : List ℕ) → ((n : ℕ) → Contains ns n → later n ≡ key n)
+      → AreTargetsFirst t key ns
       → AreTargetsFirst t later ns
   same_order key later [] same o = o
   same_order key later (n ∷ ns) same o = (
     λ m i w. o.0 m i (subst (λ (p : Key × Key). WordsLeadTo t (key_words t p.0) p.1)
-        (λ j. (same n (inl refl) j, same m i j)) w),
+        (λ j. (same n (member_first n n ns refl) j, same m i j)) w),
     o.1,
-    same_order key later ns (λ m i. same m (inr i)) o.2,
+    same_order key later ns (λ m i. same m (member_later m n ns i)) o.2,
   )
 
-  push_order : (key : ℕ → Key) (ns : List ℕ) (n : ℕ) → AreTargetsFirst t key ns → (In n ns → ⊥)
-      → ((m : ℕ) → In m ns → WordsLeadTo t (key_words t (key m)) (key n) → ⊥)
+  push_order : (key : ℕ → Key) (ns : List ℕ) (n : ℕ) → AreTargetsFirst t key ns → (Contains ns n → ⊥)
+      → ((m : ℕ) → Contains ns m → WordsLeadTo t (key_words t (key m)) (key n) → ⊥)
       → (WordsLeadTo t (key_words t (key n)) (key n) → ⊥) → AreTargetsFirst t key (ns ++ n ∷ [])
   push_order key [] n o out before own = (
-    λ m i w. elim i [
+    λ m i w. elim (member_cases m n [] i) [
       | inl e ↦ own (subst (λ x. WordsLeadTo t (key_words t (key n)) (key x)) e w)
-      | inr j ↦ j
+      | inr j ↦ no_member m j
     ],
-    λ i. i,
+    λ i. no_member n i,
     tt,
   )
   push_order key (q ∷ ns) n o out before own = (
-    λ m i w. elim (In-push (q ∷ ns) n m i) [
+    λ m i w. elim (Contains-push_cases (q ∷ ns) n m i) [
       | inl j ↦ o.0 m j w
-      | inr e ↦ before q (inl refl) (subst (λ x. WordsLeadTo t (key_words t (key q)) (key x)) e w)
+      | inr e ↦ before q (member_first q q ns refl)
+          (subst (λ x. WordsLeadTo t (key_words t (key q)) (key x)) (sym e) w)
     ],
-    λ i. elim (In-push ns n q i) [ inl j ↦ o.1 j | inr e ↦ out (inl (sym e)) ],
-    push_order key ns n o.2 (λ i. out (inr i)) (λ m i. before m (inr i)) own,
+    λ i. elim (Contains-push_cases ns n q i) [ inl j ↦ o.1 j | inr e ↦ out (member_first n q ns e) ],
+    push_order key ns n o.2 (λ i. out (member_later n q ns i)) (λ m i. before m (member_later m q ns i)) own,
   )
 
 -- ---- names are added
@@ -201,7 +205,7 @@ module _ (deck : Contents) (l : Listed) (r n : ℕ) (sound : IsSound deck l r) (
     abbrev more : List ℕ
     more = waiting ++ n ∷ []
 
-    out : In n waiting → ⊥
+    out : Contains waiting n → ⊥
     out i = fresh (edges.waiting_settled n i)
 
     same_links : (m : ℕ) → (is_linked now more m ≡ true) ↔ (is_linked l.settled_flags waiting m ≡ true)
@@ -210,12 +214,12 @@ module _ (deck : Contents) (l : Listed) (r n : ℕ) (sound : IsSound deck l r) (
         from : is_linked now more m ≡ true → is_linked l.settled_flags waiting m ≡ true
         from e =
             let p = linked_facts now more m e in
-            let off : In m more → ⊥ = not_waiting more m p.1 in
-            let other : m ≡ n → ⊥ = λ q. off (subst (λ x. In x more) (sym q) (In-last waiting n)) in
+            let off : Contains more m → ⊥ = not_waiting more m p.1 in
+            let other : m ≡ n → ⊥ = λ q. off (subst (λ x. Contains more x) (sym q) (Contains-push waiting n)) in
             linked_where l.settled_flags waiting m
             (settled_flag l.settled_flags m (sym (get_set_other l.settled_flags n m true other)
             ∙ flag_settled now m p.0))
-            (λ i. off (In-left waiting (n ∷ []) m i))
+            (λ i. off (Contains-append_left waiting (n ∷ []) m i))
 
         to : is_linked l.settled_flags waiting m ≡ true → is_linked now more m ≡ true
         to e =
@@ -223,14 +227,15 @@ module _ (deck : Contents) (l : Listed) (r n : ℕ) (sound : IsSound deck l r) (
             let was : IsSettled l.settled_flags m = flag_settled l.settled_flags m p.0 in
             let other : m ≡ n → ⊥ = λ q. fresh (subst (IsSettled l.settled_flags) q was) in
             linked_where now more m (settled_flag now m (get_set_other l.settled_flags n m true other ∙ was))
-            (λ i. elim (In-push waiting n m i) [ inl j ↦ not_waiting waiting m p.1 j | inr q ↦ other q ])
+            (λ i. elim (Contains-push_cases waiting n m i)
+            [ inl j ↦ not_waiting waiting m p.1 j | inr q ↦ other (sym q) ])
 
-    settled_more : (m : ℕ) → In m waiting ⊎ (m ≡ n) → IsSettled now m
+    settled_more : (m : ℕ) → Contains waiting m ⊎ (n ≡ m) → IsSettled now m
     settled_more m (inl i) =
         let was : IsSettled l.settled_flags m = edges.waiting_settled m i in
         get_set_other l.settled_flags n m true (λ q. fresh (subst (IsSettled l.settled_flags) q was)) ∙ was
     settled_more m (inr e) =
-        subst (IsSettled now) (sym e)
+        subst (IsSettled now) e
         (get_set_same l.settled_flags n true (get_lt l.settled_flags n false due.still_unsettled))
 
     -- the edges are still those of the other names
@@ -240,7 +245,7 @@ module _ (deck : Contents) (l : Listed) (r n : ℕ) (sound : IsSound deck l r) (
       edges_right = edges_grown (table deck) (key_at l.keys) (key_at l.keys) g.names g.names
           (is_linked l.settled_flags waiting)
           (is_linked now more) g edges.edges_right (omega arith) (λ m t. refl) same_links;
-      waiting_settled = λ m i. settled_more m (In-push waiting n m i);
+      waiting_settled = λ m i. settled_more m (Contains-push_cases waiting n m i);
       targets_first = push_order (table deck) (key_at l.keys) waiting n edges.targets_first out
           (λ m i. not_led m (edges.waiting_settled m i)) not_self;
     }
@@ -256,7 +261,7 @@ no_edges deck = record {
     use_edges = λ n e k. absurd (none n e);
     look_edges = λ n e k. absurd (none n e);
   };
-  waiting_settled = λ n i. absurd i;
+  waiting_settled = λ n i. absurd (no_member n i);
   targets_first = tt;
 }
   where
@@ -285,7 +290,6 @@ none_waits deck l waiting g none edges =
     (record {
       names = edges.names;
       edges_right = edges.edges_right;
-      waiting_settled = λ n i. absurd i;
-      targets_first =
-          tt;
+      waiting_settled = λ n i. absurd (no_member n i);
+      targets_first = tt;
     })

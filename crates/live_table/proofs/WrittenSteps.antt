@@ -1,6 +1,7 @@
 -- The steps of words, word after word.
-use Rattle.std.proofs.Common.{◌≡◌, ◌+◌, ◌<◌, ℕ, true, false, List, [], ◌∷◌, ◌++◌, take, length, Option, Some, refl}
+use Rattle.std.proofs.Common.{◌≡◌, ◌⊎◌, ◌+◌, ◌<◌, ℕ, true, false, List, [], ◌∷◌, ◌++◌, take, length, Option, Some, refl}
 use Rattle.std.proofs.Common.{sym, subst, inl, inr, arith, length-append}
+use Rattle.std.proofs.lemmas.List.Elements.{Contains-append_cases}
 use Rattle.std.specs.Prelude.{Contains, IfOk, Result, Ok, Err}
 use Rattle.std.specs.List.{slice_get}
 use Rattle.expr_tree.specs.declared.word_list.WordUse.{WordUse}
@@ -8,10 +9,9 @@ use Rattle.expr_tree.specs.Names.{is_refused}
 use Rattle.def_entry.specs.declared.key.Key.{Key}
 use Rattle.def_entry.specs.Tables.{Table, is_present}
 use Rattle.table_names.proofs.Lookups.{target_present}
-use Rattle.table_names.proofs.Members.{member_first, member_later}
+use Rattle.table_names.proofs.Members.{member_first, member_later, member_cases, no_member}
 use Rattle.name_walk.specs.declared.step.Step.{Step}
 use Rattle.name_walk.specs.declared.step.Step.TheVariants.{Nowhere, To}
-use Rattle.name_walk.specs.Lists.{In}
 use Rattle.name_walk.proofs.Lists.{take_at}
 use Rattle.table_names.specs.declared.fault.NameFault.{NameFault}
 use Rattle.table_names.specs.Leads.{targets}
@@ -22,7 +22,7 @@ use Rattle.live_table.specs.Exploration.{AreAdded, AreWritten, AreWrittenBehind,
 use Rattle.live_table.specs.TableContents.{Listed, key_at}
 use Rattle.live_table.specs.Looks.{AllLead, AreLooks}
 use Rattle.live_table.proofs.AddedNames.{added_both, known_within, written_more}
-use Rattle.live_table.proofs.LookedKeys.{in_both, lead_left, lead_right, looks_behind, looks_more}
+use Rattle.live_table.proofs.LookedKeys.{lead_left, lead_right, looks_behind, looks_more}
 
 -- ---- one word after others
 words_behind : (t : Table) (key : ℕ → Key) (ends : ℕ → Option Key → NameFault) (us vs : List WordUse)
@@ -41,9 +41,10 @@ pub written_behind : (t : Table) (l : Listed) (before list : List ℕ) (ends : L
     (us ++ vs) (xs ++ ys)
 written_behind t l before list ends us vs xs ys a b = record {
   words = words_behind t (key_at l.keys) (fault_at ends) us vs xs ys a.words b.words;
-  targets = λ n i. elim (in_both xs ys (To n) i) [ inl j ↦ a.targets n j | inr j ↦ b.targets n j ];
+  targets = λ n i. elim (Contains-append_cases xs ys (To n) i) [ inl j ↦ a.targets n j | inr j ↦ b.targets n j ];
   dead_ends_within = λ n i.
-      elim (in_both xs ys (Nowhere n) i) [ inl j ↦ a.dead_ends_within n j | inr j ↦ b.dead_ends_within n j ];
+      elim (Contains-append_cases xs ys (Nowhere n) i)
+      [ inl j ↦ a.dead_ends_within n j | inr j ↦ b.dead_ends_within n j ];
 }
 
 -- without words there are no steps
@@ -51,7 +52,11 @@ pub written_none : (t : Table) (l : Listed) (before list : List ℕ) (ends : Lis
     → AreWritten t l before list ends [] xs
 written_none t l before list ends xs e =
     subst (AreWritten t l before list ends []) (sym e)
-    (record { words = tt; targets = λ n i. absurd i; dead_ends_within = λ n i. absurd i })
+    (record {
+      words = tt;
+      targets = λ n i. absurd (no_member (To n) i);
+      dead_ends_within = λ n i. absurd (no_member (Nowhere n) i);
+    })
 
 -- ---- the state of the loop over words
 pub record IsPutting (t : Table) (old now : Listed) (before here list : List ℕ) (ends more : List DeadEnd)
@@ -84,8 +89,15 @@ putting_next t old now m before here list there ends more most first next us xs 
       (w.looks (lead_right xs w.own_steps led)));
 }
   where
-    inside : (q : ℕ) → In (To q) xs → q < length now.keys
+    inside : (q : ℕ) → Contains xs (To q) → q < length now.keys
     inside q j = known_within t now before list s.added.growth.nodes s.added.growth.list_right q (s.written.targets q j)
+
+-- a member of a list of two steps is one of them
+one_of_two : (x y s : Step) → Contains (x ∷ y ∷ []) s → (s ≡ x) ⊎ (s ≡ y)
+one_of_two x y s i = elim (member_cases s x (y ∷ []) i) [
+  | inl e ↦ inl e
+  | inr j ↦ elim (member_cases s y [] j) [ inl e ↦ inr e | inr z ↦ absurd (no_member s z) ]
+]
 
 -- ---- the steps of one word
 module _ (t : Table) (l : Listed) (before list : List ℕ) (u : WordUse) where
@@ -94,18 +106,15 @@ module _ (t : Table) (l : Listed) (before list : List ℕ) (u : WordUse) where
   last_end [] b holder = refl
   last_end (x ∷ ends) b holder = last_end ends b holder
 
-  not_to : (b n : ℕ) → In (To n) (Nowhere b ∷ Nowhere b ∷ []) → ⊥
-  not_to b n (inl e) = cc
-  not_to b n (inr (inl e)) = cc
-  not_to b n (inr (inr i)) = i
+  not_to : (b n : ℕ) → Contains (Nowhere b ∷ Nowhere b ∷ []) (To n) → ⊥
+  not_to b n i = elim (one_of_two (Nowhere b) (Nowhere b) (To n) i) [ inl e ↦ cc | inr e ↦ cc ]
 
   same_place : (b c : ℕ) → Nowhere c ≡ Nowhere b → c ≡ b
   same_place b c q = cc
 
-  place_is : (b c : ℕ) → In (Nowhere c) (Nowhere b ∷ Nowhere b ∷ []) → c ≡ b
-  place_is b c (inl e) = same_place b c e
-  place_is b c (inr (inl e)) = same_place b c e
-  place_is b c (inr (inr i)) = absurd i
+  place_is : (b c : ℕ) → Contains (Nowhere b ∷ Nowhere b ∷ []) (Nowhere c) → c ≡ b
+  place_is b c i = elim (one_of_two (Nowhere b) (Nowhere b) (Nowhere c) i)
+      [ inl e ↦ same_place b c e | inr e ↦ same_place b c e ]
 
   dead_written : (ends : List DeadEnd) (b : DeadEnd) → IsWord t (key_at l.keys) (fault_at (ends ++ b ∷ [])) u
       (Nowhere (length ends)) (Nowhere (length ends))
@@ -146,16 +155,16 @@ module _ (t : Table) (l : Listed) (before list : List ℕ) (u : WordUse) where
   same_number : (n m : ℕ) → To n ≡ To m → n ≡ m
   same_number n m q = cc
 
-  targets_known : (n m : ℕ) → IsKnown l before list n → IsKnown l before list m → (r : ℕ) → In (To r) (To n ∷ To m ∷ [])
+  targets_known : (n m : ℕ) → IsKnown l before list n → IsKnown l before list m → (r : ℕ)
+      → Contains (To n ∷ To m ∷ []) (To r)
       → IsKnown l before list r
-  targets_known n m a b r (inl e) = subst (IsKnown l before list) (sym (same_number r n e)) a
-  targets_known n m a b r (inr (inl e)) = subst (IsKnown l before list) (sym (same_number r m e)) b
-  targets_known n m a b r (inr (inr i)) = absurd i
+  targets_known n m a b r i = elim (one_of_two (To n) (To m) (To r) i) [
+    | inl e ↦ subst (IsKnown l before list) (sym (same_number r n e)) a
+    | inr e ↦ subst (IsKnown l before list) (sym (same_number r m e)) b
+  ]
 
-  no_end : (n m b : ℕ) → In (Nowhere b) (To n ∷ To m ∷ []) → ⊥
-  no_end n m b (inl e) = cc
-  no_end n m b (inr (inl e)) = cc
-  no_end n m b (inr (inr i)) = i
+  no_end : (n m b : ℕ) → Contains (To n ∷ To m ∷ []) (Nowhere b) → ⊥
+  no_end n m b i = elim (one_of_two (To n) (To m) (Nowhere b) i) [ inl e ↦ cc | inr e ↦ cc ]
 
   pub two_written : (ends : List DeadEnd) (n m : ℕ) → IsWord t (key_at l.keys) (fault_at ends) u (To n) (To m)
       → IsKnown l before list n → IsKnown l before list m → AreWritten t l before list ends (u ∷ []) (To n ∷ To m ∷ [])

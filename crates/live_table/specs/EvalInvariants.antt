@@ -1,5 +1,5 @@
 -- The invariants on which an evaluation over the nodes relies.
-use Rattle.std.specs.Prelude.{◌≡◌, ◌<◌, ℕ, true, List, [], Option, Some, None, length}
+use Rattle.std.specs.Prelude.{◌≡◌, ◌<◌, ℕ, true, List, [], Option, Some, None, length, Contains}
 use Rattle.expr_tree.specs.declared.word_list.WordUse.{WordUse}
 use Rattle.def_entry.specs.declared.key.Key.{Key}
 use Rattle.def_entry.specs.Tables.{Table, is_present}
@@ -8,7 +8,6 @@ use Rattle.deck.specs.Tables.{table}
 use Rattle.name_walk.specs.declared.step.Step.{Step}
 use Rattle.name_walk.specs.declared.step.Step.TheVariants.{To}
 use Rattle.name_walk.specs.ClosedNames.{IsSettled}
-use Rattle.name_walk.specs.Lists.{In}
 use Rattle.name_walk.specs.Steps.{LeadsTo}
 use Rattle.table_names.specs.declared.fault.NameFault.{NameFault}
 use Rattle.table_names.specs.ClosedKeys.{AreClosed, IsClosed}
@@ -25,7 +24,7 @@ pub record AreSettledWords (table : Table) (l : Listed) (us : List WordUse) (xs 
   pub dead_end : ℕ → Option Key → NameFault
   pub words : AreWords table (key_at l.keys) dead_end us xs
   pub words_closed : AreClosed table us
-  pub targets_settled : (m : ℕ) → In (To m) xs → IsSettled l.settled_flags m
+  pub targets_settled : (m : ℕ) → Contains xs (To m) → IsSettled l.settled_flags m
 
 -- a name with the steps of its words, which leads only to settled names
 pub record IsAtHand (table : Table) (l : Listed) (n : ℕ) : Type 0 where

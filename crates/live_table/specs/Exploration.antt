@@ -1,7 +1,7 @@
 -- The state of an exploration: the names that are still to be processed are on an agenda. Names that were explored
 -- before and have not changed since are not processed again.
 use Rattle.std.specs.Prelude.{◌≡◌, ◌⊎◌, ◌||◌, ◌++◌, ◌∷◌, [], ◌<◌, ℕ, Bool, true, false, List, length, Option, Some}
-use Rattle.std.specs.Prelude.{None, Vec, nat_eq, slice_get, slice_set}
+use Rattle.std.specs.Prelude.{None, Vec, nat_eq, slice_get, slice_set, Contains}
 use Rattle.std.specs.declared.alloc.Global.{Global}
 use Rattle.std.specs.List.{IsDistinct}
 use Rattle.smallvec.specs.SmallVec.{SmallVec}
@@ -12,7 +12,6 @@ use Rattle.name_walk.specs.declared.step.Step.{Step}
 use Rattle.name_walk.specs.declared.step.Step.TheVariants.{Nowhere, To}
 use Rattle.name_walk.specs.ClosedNames.{IsSettled}
 use Rattle.name_walk.specs.Faults.{is_on_path}
-use Rattle.name_walk.specs.Lists.{In}
 use Rattle.name_walk.specs.Steps.{steps}
 use Rattle.table_names.specs.Words.{key_words}
 use Rattle.name_numbers.specs.NumberedNames.{AreWords}
@@ -25,11 +24,11 @@ use Rattle.live_table.specs.TableContents.{Listed, kept_of, key_at, looks_of}
 
 -- distinct numbers of names that have an entry, are not settled and were not explored before
 pub record AreListed (table : Table) (l : Listed) (before list : List ℕ) : Type 0 where
-  pub explored_in_table : (n : ℕ) → In n before → n < length l.keys
-  pub listed_in_table : (n : ℕ) → In n list → n < length l.keys
-  pub listed_not_settled : (n : ℕ) → In n list → IsSettled l.settled_flags n → ⊥
-  pub new : (n : ℕ) → In n list → In n before → ⊥
-  pub listed_have_entries : (n : ℕ) → In n list → is_present table (key_at l.keys n) ≡ true
+  pub explored_in_table : (n : ℕ) → Contains before n → n < length l.keys
+  pub listed_in_table : (n : ℕ) → Contains list n → n < length l.keys
+  pub listed_not_settled : (n : ℕ) → Contains list n → IsSettled l.settled_flags n → ⊥
+  pub new : (n : ℕ) → Contains list n → Contains before n → ⊥
+  pub listed_have_entries : (n : ℕ) → Contains list n → is_present table (key_at l.keys n) ≡ true
   pub numbers_distinct : IsDistinct nat_eq list
 
 -- the first list is an initial part of the second
@@ -61,7 +60,7 @@ pub record AreAdded (table : Table) (l m : Listed) (before here there : List ℕ
 
 -- the name is settled, was explored before, or is listed
 abbrev pub IsKnown : Listed → (before list : List ℕ) → ℕ → Type 0
-IsKnown l before list n = IsSettled l.settled_flags n ⊎ (In n before ⊎ In n list)
+IsKnown l before list n = IsSettled l.settled_flags n ⊎ (Contains before n ⊎ Contains list n)
 
 -- the computed form of `IsKnown`
 abbrev pub is_some_true : Option Bool → Bool
@@ -75,8 +74,8 @@ is_known settled before list n = is_some_true (slice_get settled n) || (is_on_pa
 pub record AreWritten (table : Table) (l : Listed) (before list : List ℕ) (ends : List DeadEnd) (us : List WordUse)
     (xs : List Step) : Type 0 where
   pub words : AreWords table (key_at l.keys) (fault_at ends) us xs
-  pub targets : (n : ℕ) → In (To n) xs → IsKnown l before list n
-  pub dead_ends_within : (t : ℕ) → In (Nowhere t) xs → t < length ends
+  pub targets : (n : ℕ) → Contains xs (To n) → IsKnown l before list n
+  pub dead_ends_within : (t : ℕ) → Contains xs (Nowhere t) → t < length ends
 
 -- the steps of one more word are appended, and its looks are added
 pub record AreWrittenBehind (table : Table) (l : Listed) (before list : List ℕ) (ends : List DeadEnd)
@@ -96,9 +95,9 @@ pub record HasOwnSteps (table : Table) (l : Listed) (before list : List ℕ) (en
 -- names that were explored before: they have an entry and their steps, and the names to which these lead are settled or
 -- explored too
 pub record WereExplored (table : Table) (l : Listed) (before : List ℕ) (ends : List DeadEnd) : Type 0 where
-  pub explored_in_table : (n : ℕ) → In n before → n < length l.keys
-  pub explored_have_entries : (n : ℕ) → In n before → is_present table (key_at l.keys n) ≡ true
-  pub explored_have_steps : (n : ℕ) → In n before → HasOwnSteps table l before [] ends n
+  pub explored_in_table : (n : ℕ) → Contains before n → n < length l.keys
+  pub explored_have_entries : (n : ℕ) → Contains before n → is_present table (key_at l.keys n) ≡ true
+  pub explored_have_steps : (n : ℕ) → Contains before n → HasOwnSteps table l before [] ends n
 
 -- names that were explored before still are
 abbrev pub StayExplored : Table → Listed → Listed → Type 0
@@ -109,7 +108,7 @@ StayExplored table l m =
 pub record AreAllExplored (table : Table) (l : Listed) (before list : List ℕ) (ends : List DeadEnd) : Type 0 where
   pub list_right : AreListed table l before list
   pub earlier_explored : WereExplored table l before ends
-  pub listed_have_steps : (n : ℕ) → In n list → HasOwnSteps table l before list ends n
+  pub listed_have_steps : (n : ℕ) → Contains list n → HasOwnSteps table l before list ends n
 
 -- the nodes with one more name, which is not settled
 abbrev pub with_new_name : Key → Bool → Callee → SmallVec Step → Vec ℕ Global → Listed → Listed

@@ -1,5 +1,5 @@
 -- The edges of a live table.
-use Rattle.std.specs.Prelude.{◌≤◌, ℕ, List, [], ◌∷◌, Bool, false, ⊤, length, slice_index_or, if◌then◌else◌}
+use Rattle.std.specs.Prelude.{◌≤◌, ℕ, List, [], ◌∷◌, Bool, false, ⊤, length, slice_index_or, if◌then◌else◌, Contains}
 use Rattle.def_entry.specs.declared.key.Key.{Key}
 use Rattle.def_entry.specs.Tables.{Table}
 use Rattle.deck.specs.Decks.{Contents}
@@ -8,7 +8,6 @@ use Rattle.name_edges.specs.NameGraphs.{NameGraph}
 use Rattle.name_numbers.specs.EdgeLaws.{AreNameEdges}
 use Rattle.name_walk.specs.ClosedNames.{IsSettled}
 use Rattle.name_walk.specs.Faults.{is_on_path}
-use Rattle.name_walk.specs.Lists.{In}
 use Rattle.table_names.specs.Leads.{WordsLeadTo}
 use Rattle.table_names.specs.Words.{key_words}
 use Rattle.live_table.specs.declared.late_edges.LateEdges.{LateEdges}
@@ -37,14 +36,14 @@ is_linked settled waiting n = if is_on_path waiting n then false else is_flagged
 abbrev pub AreTargetsFirst : Table → (ℕ → Key) → List ℕ → Type 0
 AreTargetsFirst t key [] = ⊤
 AreTargetsFirst t key (n ∷ rest) =
-    ((m : ℕ) → In m (n ∷ rest) → WordsLeadTo t (key_words t (key n)) (key m) → ⊥) × (In n rest → ⊥)
+    ((m : ℕ) → Contains (n ∷ rest) m → WordsLeadTo t (key_words t (key n)) (key m) → ⊥) × (Contains rest n → ⊥)
     × AreTargetsFirst t key rest
 
 -- the edges are those of the settled names that do not wait for theirs
 pub record HasLateEdges (deck : Contents) (l : Listed) (waiting : List ℕ) (g : NameGraph) : Type 0 where
   pub names : g.names ≤ length l.keys
   pub edges_right : AreNameEdges (table deck) (key_at l.keys) g.names (is_linked l.settled_flags waiting) g
-  pub waiting_settled : (n : ℕ) → In n waiting → IsSettled l.settled_flags n
+  pub waiting_settled : (n : ℕ) → Contains waiting n → IsSettled l.settled_flags n
   pub targets_first : AreTargetsFirst (table deck) (key_at l.keys) waiting
 
 -- a live table is sound, and has its edges except those of the waiting names

@@ -1,8 +1,7 @@
 //! Creates the edges of settled names when an edit needs them.
 
-ghost use Rattle.std.specs.Prelude.{◌≡◌, ◌⊎◌, ◌↔◌, ◌<◌, ◌∷◌, [], ℕ, List, OnErr, OnOk};
+ghost use Rattle.std.specs.Prelude.{◌≡◌, ◌⊎◌, ◌↔◌, ◌<◌, ◌∷◌, [], ℕ, List, OnErr, OnOk, Contains};
 ghost use Rattle.name_walk.specs.ClosedNames.{IsSettled};
-ghost use Rattle.name_walk.specs.Lists.{In};
 ghost use Rattle.live_table.specs.TableEdges.{HasLateEdges};
 ghost use Rattle.live_table.specs.Sound.{IsSound};
 ghost use Rattle.live_table.specs.TableContents.{node_lists};
@@ -62,8 +61,8 @@ fn link(
 
 // Gathers the distinct names to which steps lead. They are below `end`.
 fn gather_targets(targets: &mut Worklist, steps: &[Step], end: usize) -> Result<(), AllocError>
-    requires { (m : ℕ) → In (Step.To m) steps.now → m < end }
-    ensures { OnOk result ((m : ℕ) → In m targets.new ↔ In (Step.To m) steps.now) }
+    requires { (m : ℕ) → Contains steps.now (Step.To m) → m < end }
+    ensures { OnOk result ((m : ℕ) → Contains targets.new m ↔ Contains steps.now (Step.To m)) }
 {
     targets.clear();
     for step in steps {
@@ -75,7 +74,7 @@ fn gather_targets(targets: &mut Worklist, steps: &[Step], end: usize) -> Result<
 // Gathers the name to which a step leads, if any.
 fn gather_target(targets: &mut Worklist, step: Step, end: usize) -> Result<(), AllocError>
     requires { (m : ℕ) → step ≡ Step.To m → m < end }
-    ensures { OnOk result ((m : ℕ) → In m targets.new ↔ (In m targets.old ⊎ (step ≡ Step.To m))) }
+    ensures { OnOk result ((m : ℕ) → Contains targets.new m ↔ (Contains targets.old m ⊎ (step ≡ Step.To m))) }
 {
     match step {
         Step::To(n) => {

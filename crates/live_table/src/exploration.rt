@@ -1,9 +1,8 @@
 //! Assigns numbers and steps to all names below a query.
 
-ghost use Rattle.std.specs.Prelude.{◌≡◌, IfOk};
+ghost use Rattle.std.specs.Prelude.{◌≡◌, IfOk, Contains};
 ghost use Rattle.def_entry.specs.Views.{what_view};
 ghost use Rattle.deck.specs.Tables.{table};
-ghost use Rattle.name_walk.specs.Lists.{In};
 ghost use Rattle.live_table.specs.Exploration.{AreAllExplored, AreGrown, AreListed, AreSame, HasOwnSteps, WereExplored};
 ghost use Rattle.live_table.specs.KnownFaults.{HaveSameSteps};
 ghost use Rattle.live_table.specs.FoundDefinitions.{AreFoundByNumber, HasEntry};
@@ -79,7 +78,7 @@ fn explore_name<'a>(
 ) -> Result<(), AllocError>
     requires nodes { AreNumberedNames (table deck.now) (node_lists nodes.old) }
     requires listed { AreListed (table deck.now) (node_lists nodes.old) explored.now worklist.old }
-    requires name { In n worklist.old }
+    requires name { Contains worklist.old n }
     requires what { HasEntry (table deck.now) (key_at nodes.old.keys n) (what_view what.now) }
     ensures grown { AreGrown (table deck.now) (node_lists nodes.old) (node_lists nodes.new) explored.now
         worklist.old worklist.new dead_ends.old.items dead_ends.new.items }

@@ -1,8 +1,7 @@
 //! The names explored since the last edit.
 
-ghost use Rattle.std.specs.Prelude.{◌≡◌, ◌⊎◌, ◌↔◌, ◌<◌, [], ℕ, OnErr, OnOk};
+ghost use Rattle.std.specs.Prelude.{◌≡◌, ◌⊎◌, ◌↔◌, ◌<◌, [], ℕ, OnErr, OnOk, Contains};
 ghost use Rattle.name_walk.specs.Findings.{IsNothing};
-ghost use Rattle.name_walk.specs.Lists.{In};
 
 use crate::dead_end::DeadEnd;
 use crate::worklist::Worklist;
@@ -51,8 +50,9 @@ impl Explored {
         worklist: &Worklist,
         end: usize,
     ) -> Result<(), AllocError>
-        requires { (m : ℕ) → In m worklist.now → m < end }
-        ensures ok { OnOk result ((m : ℕ) → In m self.new.names ↔ (In m self.old.names ⊎ In m worklist.now)) }
+        requires { (m : ℕ) → Contains worklist.now m → m < end }
+        ensures ok { OnOk result ((m : ℕ) → Contains self.new.names m
+            ↔ (Contains self.old.names m ⊎ Contains worklist.now m)) }
         ensures kept { OnOk result (self.new.findings ≡ self.old.findings) }
         ensures err { OnErr result (self.new.names ≡ []) }
         ensures none { OnErr result (IsNothing self.new.findings) }

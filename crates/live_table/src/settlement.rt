@@ -1,11 +1,10 @@
 //! Computes the outcomes of names in the order of a walk.
 
 ghost use Rattle.std.specs.Prelude.{◌≡◌, ◌+◌, ◌^◌, ◌<◌, ◌∷◌, [], ℕ, map, true, IfOk, OnErr, OnOk, Some, length};
-ghost use Rattle.std.specs.Prelude.{slice_get};
+ghost use Rattle.std.specs.Prelude.{slice_get, Contains};
 ghost use Rattle.def_entry.specs.Tables.{is_present};
 ghost use Rattle.def_entry.specs.Views.{what_view};
 ghost use Rattle.live_table.specs.declared.callee.Callee.{Callee};
-ghost use Rattle.name_walk.specs.Lists.{In};
 ghost use Rattle.deck.specs.Tables.{table};
 ghost use Rattle.tree_eval.specs.Entries.{rank_of_meaning};
 ghost use Rattle.table_names.specs.Meanings as names;
@@ -180,7 +179,7 @@ fn rank_of(deck: &Deck, nodes: &Nodes, n: usize, outcome: &Outcome) -> u32
 
 // Returns the greatest rank of the names to which the steps lead, or 0 if there are none.
 fn greatest_rank(callees: &[Callee], steps: &[Step]) -> u32
-    requires { (m : ℕ) → In (Step.To m) steps.now → m < length callees.now }
+    requires { (m : ℕ) → Contains steps.now (Step.To m) → m < length callees.now }
     ensures { result ≡ ranks.greatest_step_rank callees.now steps.now }
 {
     let mut greatest = 0;

@@ -1,9 +1,8 @@
 //! Computes the steps of words.
 
-ghost use Rattle.std.specs.Prelude.{◌≡◌, ◌<◌, ◌++◌, ◌∷◌, [], ℕ, List, true, IfOk, length};
+ghost use Rattle.std.specs.Prelude.{◌≡◌, ◌<◌, ◌++◌, ◌∷◌, [], ℕ, List, true, IfOk, length, Contains};
 ghost use Rattle.def_entry.specs.Tables.{Table, is_present};
 ghost use Rattle.deck.specs.Tables.{table};
-ghost use Rattle.name_walk.specs.Lists.{In};
 ghost use Rattle.live_table.specs.declared.dead_end.DeadEnd as dead_end_spec;
 ghost use Rattle.live_table.specs.Exploration.{AreAdded, AreListed, AreWritten, AreWrittenBehind, IsKnown, IsMore};
 ghost use Rattle.live_table.specs.WordTargets.{is_refused_lead, numbers, steps_to};
@@ -123,12 +122,12 @@ pub(crate) fn target_steps(
     lead: Lead,
 ) -> Result<Option<WordSteps>, AllocError>
     requires nodes { (table : Table) × AreNumberedNames table (node_lists nodes.now) }
-    requires within { (m : ℕ) → In m (numbers lead) → m < length nodes.now.keys }
+    requires within { (m : ℕ) → Contains (numbers lead) m → m < length nodes.now.keys }
     ensures added { (table : Table) (ends : List dead_end_spec.DeadEnd) → AreNumberedNames table (node_lists nodes.now)
         → AreListed table (node_lists nodes.now) explored.now worklist.old
-        → ((m : ℕ) → In m (numbers lead) → is_present table (key_at nodes.now.keys m) ≡ true)
+        → ((m : ℕ) → Contains (numbers lead) m → is_present table (key_at nodes.now.keys m) ≡ true)
         → AreAdded table (node_lists nodes.now) (node_lists nodes.now) explored.now worklist.old worklist.new ends ends }
-    ensures known { IfOk result (λ _. (m : ℕ) → In m (numbers lead)
+    ensures known { IfOk result (λ _. (m : ℕ) → Contains (numbers lead) m
         → IsKnown (node_lists nodes.now) explored.now worklist.new m) }
     ensures steps { IfOk result (λ steps. steps ≡ steps_to lead) }
 {

@@ -1,10 +1,9 @@
 //! An ordered set of numbers that are still to be processed.
 
 ghost use Rattle.std.specs.Prelude.{◌≡◌, ◌⊎◌, ◌↔◌, ◌+◌, ◌^◌, ◌<◌, ◌++◌, ◌∷◌, [], ℕ, length, if◌then◌else◌, nat_eq};
-ghost use Rattle.std.specs.Prelude.{IfOk, IfSome, MatchOption, OnOk, OnErr, Some, false, slice_get};
+ghost use Rattle.std.specs.Prelude.{IfOk, IfSome, MatchOption, OnOk, OnErr, Some, false, slice_get, Contains};
 ghost use Rattle.std.specs.List.{IsDistinct};
 ghost use Rattle.name_walk.specs.Faults.{is_on_path};
-ghost use Rattle.name_walk.specs.Lists.{In};
 ghost use Rattle.live_table.specs.Agendas.{AreSamePlaces};
 
 use std::alloc::{AllocError, Global};
@@ -82,8 +81,8 @@ impl Worklist {
     /// Appends the numbers, which are below `end`, that are not there already. On failure some of them may have been
     /// appended.
     pub(crate) fn put_all(&mut self, numbers: &[usize], end: usize) -> Result<(), AllocError>
-        requires { (m : ℕ) → In m numbers.now → m < end }
-        ensures { OnOk result ((m : ℕ) → In m self.new ↔ (In m self.old ⊎ In m numbers.now)) }
+        requires { (m : ℕ) → Contains numbers.now m → m < end }
+        ensures { OnOk result ((m : ℕ) → Contains self.new m ↔ (Contains self.old m ⊎ Contains numbers.now m)) }
     {
         for n in numbers {
             self.put(*n, end)?;

@@ -9,7 +9,6 @@ use Rattle.def_entry.specs.Tables.{Table}
 use Rattle.name_walk.specs.declared.step.Step.{Step}
 use Rattle.name_walk.specs.declared.step.Step.TheVariants.{To}
 use Rattle.name_walk.specs.ClosedNames.{IsSettled}
-use Rattle.name_walk.specs.Lists.{In}
 use Rattle.name_walk.specs.NewlyClosed.{AreNewlyClosed, IsReached}
 use Rattle.name_walk.specs.Steps.{Graph}
 use Rattle.table_names.specs.declared.fault.NameFault.{NameFault}
@@ -23,23 +22,28 @@ use Rattle.name_numbers.proofs.Paths.{AllKnown, distinct_keys}
 use Rattle.name_numbers.proofs.Reached.{key_reached, key_way, known_reached, number_below, number_reached}
 
 -- the key of a member of some numbers is a member of their keys
-pub key_in : (key : ℕ → Key) (ns : List ℕ) (n : ℕ) → In n ns → Contains (map key ns) (key n)
-key_in key [] n i = absurd i
-key_in key (m ∷ ns) n (inl e) = member_first (key n) (key m) (map key ns) (ap key e)
-key_in key (m ∷ ns) n (inr i) = member_later (key n) (key m) (map key ns) (key_in key ns n i)
+pub key_in : (key : ℕ → Key) (ns : List ℕ) (n : ℕ) → Contains ns n → Contains (map key ns) (key n)
+key_in key [] n i = absurd (no_member n i)
+key_in key (m ∷ ns) n i = elim (member_cases n m ns i) [
+  | inl e ↦ member_first (key n) (key m) (map key ns) (ap key e)
+  | inr j ↦ member_later (key n) (key m) (map key ns) (key_in key ns n j)
+]
 
 -- a member of the keys of some numbers is the key of one of them
-pub number_in : (key : ℕ → Key) (ns : List ℕ) (k : Key) → Contains (map key ns) k → (n : ℕ) × (k ≡ key n) × In n ns
+pub number_in : (key : ℕ → Key) (ns : List ℕ) (k : Key) → Contains (map key ns) k
+    → (n : ℕ) × (k ≡ key n) × Contains ns n
 number_in key [] k i = absurd (no_member k i)
 number_in key (m ∷ ns) k i = elim (member_cases k (key m) (map key ns) i) [
-  | inl e ↦ (m, e, inl refl)
-  | inr j ↦ let r : (n : ℕ) × (k ≡ key n) × In n ns = number_in key ns k j in (r.0, r.1, inr r.2)
+  | inl e ↦ (m, e, member_first m m ns refl)
+  | inr j ↦ let r : (n : ℕ) × (k ≡ key n) × Contains ns n = number_in key ns k j in
+      (r.0, r.1, member_later r.0 m ns r.2)
 ]
 
 -- if each number of a list is known, then all are known
-all_known : (known : ℕ → Bool) (ns : List ℕ) → ((n : ℕ) → In n ns → known n ≡ true) → AllKnown known ns
+all_known : (known : ℕ → Bool) (ns : List ℕ) → ((n : ℕ) → Contains ns n → known n ≡ true) → AllKnown known ns
 all_known known [] h = tt
-all_known known (n ∷ ns) h = (h n (inl refl), all_known known ns (λ m i. h m (inr i)))
+all_known known (n ∷ ns) h =
+    (h n (member_first n n ns refl), all_known known ns (λ m i. h m (member_later m n ns i)))
 
 module _ (same_keys : SameKeysLaw) (closed_law : ClosedWordLaw) (table : Table) (key : ℕ → Key)
     (dead_end : ℕ → Option Key → NameFault) (g : Graph) (known : ℕ → Bool) (marks : List Bool) (settled : Key → Bool)
@@ -65,7 +69,7 @@ module _ (same_keys : SameKeysLaw) (closed_law : ClosedWordLaw) (table : Table) 
 
       asked : (m : Key) → Contains (map key order) m → Asked m × (settled m ≡ false)
       asked m i =
-          let n : (n : ℕ) × (m ≡ key n) × In n order = number_in key order m i in
+          let n : (n : ℕ) × (m ≡ key n) × Contains order n = number_in key order m i in
           let r : IsReached g xs n.0 × (IsSettled marks n.0 → ⊥) = (closed.names_reached n.0).0 n.2 in
           subst (λ (k : Key). Asked k × (settled k ≡ false)) (sym n.1) (to_key n.0 r.0, unsettled n.0 r.0 r.1)
 
@@ -75,7 +79,7 @@ module _ (same_keys : SameKeysLaw) (closed_law : ClosedWordLaw) (table : Table) 
           let off : settled (key n.0) ≡ false = ap settled (sym n.1) ∙ h.1 in
           let fresh : IsSettled marks n.0 → ⊥ =
           λ s. both_ways (settled (key n.0)) off ((are_marks n.0 (all_reached xs ks n.0 n.2)).0 s) in
-          let i : In n.0 order = (closed.names_reached n.0).1 (n.2, fresh) in
+          let i : Contains order n.0 = (closed.names_reached n.0).1 (n.2, fresh) in
           subst (λ (k : Key). Contains (map key order) k) (sym n.1) (key_in key order n.0 i)
 
   pub words_settle :
@@ -92,9 +96,8 @@ module _ (same_keys : SameKeysLaw) (closed_law : ClosedWordLaw) (table : Table) 
   key_settles n order k e closed =
       new_keys (λ m. (m ≡ key n) ⊎ Reaches table (key n) m) (To n ∷ []) order there closed to_key to_number
     where
-      one : (m : ℕ) → In (To m) (To n ∷ []) → m ≡ n
-      one m (inl q) = cc
-      one m (inr i) = absurd i
+      one : (m : ℕ) → Contains (To n ∷ []) (To m) → m ≡ n
+      one m i = elim (member_cases (To m) (To n) [] i) [ inl q ↦ cc | inr j ↦ absurd (no_member (To m) j) ]
 
       there : LeadToKnown known (To n ∷ [])
       there m i = ap known (one m i) ∙ k
@@ -113,7 +116,7 @@ module _ (same_keys : SameKeysLaw) (closed_law : ClosedWordLaw) (table : Table) 
       to_number :
           (m : Key) → (m ≡ key n) ⊎ Reaches table (key n) m
           → (r : ℕ) × (m ≡ key r) × IsReached g (To n ∷ []) r
-      to_number m (inl f) = (n, f, (n, inl refl, inl refl))
+      to_number m (inl f) = (n, f, (n, member_first (To n) (To n) [] refl, inl refl))
       to_number m (inr r) = number_below table key dead_end g known numbered closed_law n k e m r
 
 -- the law of newly settled keys

@@ -1,14 +1,13 @@
 -- Paths of known numbers, and the same paths of their keys.
 use Rattle.std.proofs.Common.{◌≡◌, ℕ, Bool, true, false, cond, ◌||◌, List, [], ◌∷◌, ◌++◌, map}
-use Rattle.std.proofs.Common.{nat_eq, refl, sym, ◌∙◌, ap, inl, inr}
-use Rattle.std.specs.List.{AllByRecursion, IsDistinct}
+use Rattle.std.proofs.Common.{nat_eq, refl, sym, ◌∙◌, ap, inl, inr, None}
+use Rattle.std.specs.List.{AllByRecursion, IsDistinct, last_or}
 use Rattle.std.specs.Prelude.{option_map}
 use Rattle.std.proofs.lemmas.Bool.{cases_eq, eq-eqb, false_from_ne_true, ne_eqb}
 use Rattle.std.proofs.lemmas.List.{map-append}
 use Rattle.def_entry.specs.declared.key.Key.{Key}
 use Rattle.def_entry.specs.SameKeys.{SameKeysLaw, is_key_among, is_same}
 use Rattle.name_walk.specs.Faults.{from_name, is_on_path}
-use Rattle.name_walk.specs.Lists as walk
 use Rattle.table_names.specs.Faults as names
 use Rattle.table_names.specs.Faults.{cycle_chain}
 
@@ -27,7 +26,7 @@ pub map_push : (key : ℕ → Key) (p : List ℕ) (n : ℕ) → map key (p ++ n 
 map_push key p n = map-append key p (n ∷ [])
 
 -- the last key of a path is that of its last number
-pub same_last : (key : ℕ → Key) (p : List ℕ) → names.last_of_list (map key p) ≡ option_map key (walk.last_item p)
+pub same_last : (key : ℕ → Key) (p : List ℕ) → names.last_of_list (map key p) ≡ option_map key (last_or None p)
 same_last key [] = refl
 same_last key (n ∷ []) = refl
 same_last key (n ∷ m ∷ p) = same_last key (m ∷ p)

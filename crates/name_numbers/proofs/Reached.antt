@@ -7,7 +7,6 @@ use Rattle.def_entry.specs.declared.key.Key.{Key}
 use Rattle.def_entry.specs.Tables.{Table}
 use Rattle.name_walk.specs.declared.step.Step.{Step}
 use Rattle.name_walk.specs.declared.step.Step.TheVariants.{To}
-use Rattle.name_walk.specs.Lists.{In}
 use Rattle.name_walk.specs.NewlyClosed.{IsReached}
 use Rattle.name_walk.specs.Steps as walk
 use Rattle.name_walk.specs.Steps.{Graph, LeadsTo, steps}
@@ -59,22 +58,25 @@ module _ (table : Table) (key : ℕ → Key) (dead_end : ℕ → Option Key → 
 
   -- ---- words, and their steps
   pub lead_of_step :
-      (us : List WordUse) (xs : List Step) → AreWords table key dead_end us xs → (n : ℕ) → In (To n) xs
+      (us : List WordUse) (xs : List Step) → AreWords table key dead_end us xs → (n : ℕ) → Contains xs (To n)
       → WordsLeadTo table us (key n)
-  lead_of_step [] [] w n i = absurd i
+  lead_of_step [] [] w n i = absurd (no_member (To n) i)
   lead_of_step [] (x ∷ xs) w n i = absurd w
   lead_of_step (u ∷ us) [] w n i = absurd w
   lead_of_step (u ∷ us) (x ∷ []) w n i = absurd w
-  lead_of_step (u ∷ us) (x ∷ y ∷ xs) w n (inl e) = (u, member_first u u us refl, target_of_step u w.0 n (inl e))
-  lead_of_step (u ∷ us) (x ∷ y ∷ xs) w n (inr (inl e)) = (u, member_first u u us refl, target_of_step u w.0 n (inr e))
-  lead_of_step (u ∷ us) (x ∷ y ∷ xs) w n (inr (inr i)) =
-      let l : WordsLeadTo table us (key n) = lead_of_step us xs w.1 n i in
-      (l.0, member_later l.0 u us l.1, l.2)
+  lead_of_step (u ∷ us) (x ∷ y ∷ xs) w n i = elim (member_cases (To n) x (y ∷ xs) i) [
+    | inl e ↦ (u, member_first u u us refl, target_of_step u w.0 n (inl e))
+    | inr j ↦ elim (member_cases (To n) y xs j) [
+      | inl e ↦ (u, member_first u u us refl, target_of_step u w.0 n (inr e))
+      | inr k ↦ let l : WordsLeadTo table us (key n) = lead_of_step us xs w.1 n k in
+          (l.0, member_later l.0 u us l.1, l.2)
+    ]
+  ]
 
   pub step_of_lead :
       (us : List WordUse) (xs : List Step) → AreWords table key dead_end us xs
       → (u : WordUse) → Contains us u → is_refused u.text ≡ false → (k : Key) → Contains (targets table u) k
-      → (n : ℕ) × (k ≡ key n) × In (To n) xs
+      → (n : ℕ) × (k ≡ key n) × Contains xs (To n)
   step_of_lead [] xs w u i fine k t = absurd (no_member u i)
   step_of_lead (v ∷ us) [] w u i fine k t = absurd w
   step_of_lead (v ∷ us) (x ∷ []) w u i fine k t = absurd w
@@ -82,11 +84,17 @@ module _ (table : Table) (key : ℕ → Key) (dead_end : ℕ → Option Key → 
     | inl e ↦
         let word : IsWord table key dead_end u x y =
         subst (λ (z : WordUse). IsWord table key dead_end z x y) (sym e) w.0 in
-        let r : (n : ℕ) × (k ≡ key n) × LeadsAlong x y n = step_to_target u word fine k t in
-        (r.0, r.1, elim r.2 [ inl q ↦ inl q | inr q ↦ inr (inl q) ])
+        let r : (n : ℕ) × (k ≡ key n) × LeadsAlong x y n = step_to_target u word fine k t in (
+          r.0,
+          r.1,
+          elim r.2 [
+            | inl q ↦ member_first (To r.0) x (y ∷ xs) q
+            | inr q ↦ member_later (To r.0) x (y ∷ xs) (member_first (To r.0) y xs q)
+          ],
+        )
     | inr j ↦
-        let r : (n : ℕ) × (k ≡ key n) × In (To n) xs = step_of_lead us xs w.1 u j fine k t in
-        (r.0, r.1, inr (inr r.2))
+        let r : (n : ℕ) × (k ≡ key n) × Contains xs (To n) = step_of_lead us xs w.1 u j fine k t in
+        (r.0, r.1, member_later (To r.0) x (y ∷ xs) (member_later (To r.0) y xs r.2))
   ]
 
   module _ (g : Graph) (known : ℕ → Bool) (numbered : AreNumbered table key dead_end g known) where
@@ -124,7 +132,7 @@ module _ (table : Table) (key : ℕ → Key) (dead_end : ℕ → Option Key → 
         ]
 
     -- ---- from names to numbers
-    onward : (xs : List Step) (n m : ℕ) → In (To n) xs → IsReached g (steps g n) m → IsReached g xs m
+    onward : (xs : List Step) (n m : ℕ) → Contains xs (To n) → IsReached g (steps g n) m → IsReached g xs m
     onward xs n m i r = (
       n,
       i,
@@ -137,7 +145,7 @@ module _ (table : Table) (key : ℕ → Key) (dead_end : ℕ → Option Key → 
     module _ (closed_law : ClosedWordLaw) where
       closed_lead :
           (us : List WordUse) (xs : List Step) → AreWords table key dead_end us xs → AreClosed table us
-          → (k : Key) → WordsLeadTo table us k → (n : ℕ) × (k ≡ key n) × In (To n) xs
+          → (k : Key) → WordsLeadTo table us k → (n : ℕ) × (k ≡ key n) × Contains xs (To n)
       closed_lead us xs w closed k l =
           let u : WordLeadsInto table (IsClosed table) l.0 = (closed_law.words table us).0 closed l.0 l.1 in
           step_of_lead us xs w l.0 l.1 u.not_refused k l.2
@@ -153,10 +161,10 @@ module _ (table : Table) (key : ℕ → Key) (dead_end : ℕ → Option Key → 
           {us : List WordUse} {m : Key} → WordsReach table us m → (xs : List Step) → AreWords table key dead_end us xs
           → LeadToKnown known xs → AreClosed table us → (n : ℕ) × (m ≡ key n) × IsReached g xs n
       reached {us} {m} (at_once l) xs w ks closed =
-          let s : (n : ℕ) × (m ≡ key n) × In (To n) xs = closed_lead us xs w closed m l in
+          let s : (n : ℕ) × (m ≡ key n) × Contains xs (To n) = closed_lead us xs w closed m l in
           (s.0, s.1, (s.0, s.2, inl refl))
       reached {us} {m} (further {n = k} l r) xs w ks closed =
-          let s : (n : ℕ) × (k ≡ key n) × In (To n) xs = closed_lead us xs w closed k l in
+          let s : (n : ℕ) × (k ≡ key n) × Contains xs (To n) = closed_lead us xs w closed k l in
           let known_there : known s.0 ≡ true = ks s.0 s.2 in
           let words : AreWords table key dead_end (key_words table k) (steps g s.0) =
           subst (λ (q : Key). AreWords table key dead_end (key_words table q) (steps g s.0)) (sym s.1)
@@ -178,4 +186,4 @@ module _ (table : Table) (key : ℕ → Key) (dead_end : ℕ → Option Key → 
           let words : AreClosed table (key_words table (key n)) = (closed_law.key table (key n)).0 closed in
           let t : (q : ℕ) × (m ≡ key q) × IsReached g (steps g n) q =
           reached r (steps g n) (numbered.known_steps n k) (λ q i. numbered.below_known n q k i) words in
-          (t.0, t.1, onward (To n ∷ []) n t.0 (inl refl) t.2)
+          (t.0, t.1, onward (To n ∷ []) n t.0 (member_first (To n) (To n) [] refl) t.2)

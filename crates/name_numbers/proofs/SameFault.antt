@@ -1,9 +1,10 @@
 -- The first fault by number is the name fault.
 use Rattle.std.proofs.Common.{◌≡◌, ◌⊎◌, ◌+◌, ◌-◌, ◌<◌, ◌≤◌, ℕ, zero, suc, Bool, true, false, cond}
 use Rattle.std.proofs.Common.{List, [], ◌∷◌, ◌++◌, map, length, Option, Some, None}
-use Rattle.std.proofs.Common.{refl, sym, ◌∙◌, ap, subst, inl, inr, arith, length-append}
+use Rattle.std.proofs.Common.{refl, sym, ◌∙◌, ap, subst, inl, inr, arith, length-append, Contains}
 use Rattle.std.specs.Option.{option_or}
 use Rattle.std.specs.Prelude.{option_map}
+use Rattle.std.specs.List.{last_or}
 use Rattle.std.proofs.lemmas.Bool.{cond-false, cond-true}
 use Rattle.expr_tree.specs.declared.word_list.WordUse.{WordUse}
 use Rattle.expr_tree.specs.Names.{is_refused}
@@ -16,7 +17,6 @@ use Rattle.name_walk.specs.FaultLaws.{StepsFaultLaw as WalkFaultLaw}
 use Rattle.name_walk.specs.Faults as walk
 use Rattle.name_walk.specs.Faults.{at_name, at_step, from_name, is_on_path}
 use Rattle.name_walk.specs.Lists as lists
-use Rattle.name_walk.specs.Lists.{In}
 use Rattle.name_walk.specs.Paths.{IsNamePath as IsWalkPath, NamePathLaw as WalkPathLaw}
 use Rattle.name_walk.specs.Steps.{Graph, InRange, steps}
 use Rattle.table_names.specs.declared.fault.NameFault.{NameFault}
@@ -26,6 +26,7 @@ use Rattle.table_names.specs.Faults as names
 use Rattle.table_names.specs.Faults.{Deeper, cycle_chain, first_some, target_fault, targets_fault, word_fault}
 use Rattle.table_names.specs.Leads.{targets}
 use Rattle.table_names.specs.Words.{key_words}
+use Rattle.table_names.proofs.Members.{member_cases, member_first, member_later, no_member}
 use Rattle.name_numbers.specs.FaultLaws.{NumberedFaultLaw}
 use Rattle.name_numbers.specs.NumberedNames.{AreNumbered, AreWords, LeadToKnown, fault_by_name}
 use Rattle.name_numbers.specs.NumberedNames.{ForOne, ForRefused, ForTwo, ForUnknown, IsWord}
@@ -102,7 +103,7 @@ module _ (same_keys : SameKeysLaw) (table : Table) (key : ℕ → Key) (dead_end
     ended :
         (t : ℕ) (fault : Option Key → NameFault) → ((holder : Option Key) → dead_end t holder ≡ fault holder)
         → by_name (at_step f p (Nowhere t)) ≡ Some (fault (names.last_of_list (map key p)))
-    ended t fault e = ap Some (e (option_map key (lists.last_item p)) ∙ ap fault (sym (same_last key p)))
+    ended t fault e = ap Some (e (option_map key (last_or None p)) ∙ ap fault (sym (same_last key p)))
 
     same_word :
         (u : WordUse) {x y : Step} → IsWord table key dead_end u x y
@@ -124,14 +125,18 @@ module _ (same_keys : SameKeysLaw) (table : Table) (key : ℕ → Key) (dead_end
 
     same_words :
         (us : List WordUse) (xs : List Step) → AreWords table key dead_end us xs → LeadToKnown known xs
-        → by_name (lists.first_hit (at_step f p) xs) ≡ first_some fault_of_word us
+        → by_name (lists.first_some (at_step f p) xs) ≡ first_some fault_of_word us
     same_words [] [] w k = refl
     same_words [] (x ∷ xs) w k = absurd w
     same_words (u ∷ us) [] w k = absurd w
     same_words (u ∷ us) (x ∷ []) w k = absurd w
     same_words (u ∷ us) (x ∷ y ∷ xs) w k =
-        same_word u w.0 (λ n c. k n (elim c [ inl e ↦ inl e | inr e ↦ inr (inl e) ])) (lists.first_hit (at_step f p) xs)
-        ∙ ap (option_or (fault_of_word u)) (same_words us xs w.1 (λ n i. k n (inr (inr i))))
+        same_word u w.0 (λ n c. k n (elim c [
+          | inl e ↦ member_first (To n) x (y ∷ xs) e
+          | inr e ↦ member_later (To n) x (y ∷ xs) (member_first (To n) y xs e)
+        ])) (lists.first_some (at_step f p) xs)
+        ∙ ap (option_or (fault_of_word u))
+        (same_words us xs w.1 (λ n i. k n (member_later (To n) x (y ∷ xs) (member_later (To n) y xs i))))
 
   -- ---- after all paths, by the number of names that are not on them
   module _ (range : InRange g) (walk_fault : WalkFaultLaw) (walk_path : WalkPathLaw) (name_fault : WordsFaultLaw)
@@ -185,9 +190,11 @@ module _ (same_keys : SameKeysLaw) (table : Table) (key : ℕ → Key) (dead_end
         (path_of_keys [] n (name_path.empty_key_path table) tt k refl)
         (numbered.known_steps n k) (λ m l. numbered.below_known n m k l)
       where
-        there : (m : ℕ) → In (To m) (To n ∷ []) → m < length g
-        there m (inl e) = let q : m ≡ n = cc in subst (λ (x : ℕ). x < length g) (sym q) (numbered.known_in_range n k)
-        there m (inr i) = absurd i
+        there : (m : ℕ) → Contains (To n ∷ []) (To m) → m < length g
+        there m i = elim (member_cases (To m) (To n) [] i) [
+          | inl e ↦ let q : m ≡ n = cc in subst (λ (x : ℕ). x < length g) (sym q) (numbered.known_in_range n k)
+          | inr j ↦ absurd (no_member (To m) j)
+        ]
 
 -- the law of faults by number
 pub numbered_fault_law : SameKeysLaw → WalkFaultLaw → WalkPathLaw → WordsFaultLaw → KeyPathLaw → NumberedFaultLaw

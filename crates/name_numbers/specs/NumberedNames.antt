@@ -1,5 +1,6 @@
 -- Numbered names of a table: when the steps between numbers agree with the words of names.
 use Rattle.std.specs.Prelude.{◌≡◌, ◌<◌, ⊤, ℕ, Bool, true, false, List, [], ◌∷◌, map, length, Option, option_map}
+use Rattle.std.specs.Prelude.{Contains}
 use Rattle.expr_tree.specs.declared.word_list.WordUse.{WordUse}
 use Rattle.expr_tree.specs.Names.{is_refused}
 use Rattle.def_entry.specs.declared.key.Key.{Key}
@@ -7,7 +8,6 @@ use Rattle.def_entry.specs.Tables.{Table, is_present}
 use Rattle.name_walk.specs.declared.step.Step.{Step}
 use Rattle.name_walk.specs.declared.step.Step.TheVariants.{Nowhere, To}
 use Rattle.name_walk.specs.Faults as walk
-use Rattle.name_walk.specs.Lists.{In}
 use Rattle.name_walk.specs.Steps.{Graph, LeadsTo, steps}
 use Rattle.table_names.specs.declared.fault.NameFault.{NameFault}
 use Rattle.table_names.specs.declared.fault.NameFault.TheVariants.{Unknown, Refused, Cycle}
@@ -49,4 +49,4 @@ module _ (table : Table) (key : ℕ → Key) (dead_end : ℕ → Option Key → 
 
 -- the steps lead only to known numbers, or nowhere
 abbrev pub LeadToKnown : (ℕ → Bool) → List Step → Type 0
-LeadToKnown known xs = (n : ℕ) → In (To n) xs → known n ≡ true
+LeadToKnown known xs = (n : ℕ) → Contains xs (To n) → known n ≡ true

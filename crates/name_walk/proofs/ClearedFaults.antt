@@ -1,18 +1,18 @@
 -- Faults that are cleared.
 use Rattle.std.proofs.Common.{◌≡◌, ℕ, ◌+◌, ◌<◌, ◌≤◌, zero, suc, List, [], ◌∷◌, length, set, drop, Some, None}
-use Rattle.std.proofs.Common.{sym, ◌∙◌, ap, subst, inl, inr, length-set, get_or}
+use Rattle.std.proofs.Common.{sym, ◌∙◌, ap, subst, inl, inr, length-set, get_or, Contains}
 use Rattle.std.specs.List.{slice_get}
 use Rattle.std.proofs.lemmas.Bool.{cases_eq}
 use Rattle.std.proofs.lemmas.List.{drop_all, drop_more}
 use Rattle.name_walk.specs.declared.trail.FaultyStep.{FaultyStep}
-use Rattle.name_walk.specs.Lists.{In}
 use Rattle.name_walk.specs.Trails.{Faults, IsFaulty}
 use Rattle.name_walk.proofs.Marks.{get_set_other}
+use Rattle.name_walk.proofs.Members.{member_cases, no_member}
 
 -- each name that is still known to have a fault is among the remaining names
 pub record IsClearing (es : List ℕ) (fs hs : Faults) (i : ℕ) : Type 0 where
   pub size : length hs ≡ length fs
-  pub left : (n : ℕ) → IsFaulty hs n → In n (drop i es)
+  pub left : (n : ℕ) → IsFaulty hs n → Contains (drop i es) n
 
 module _ (es : List ℕ) (fs hs : Faults) (i : ℕ) (h : IsClearing es fs hs i) (l : i < length es) where
   pub clearing_next : IsClearing es fs (set hs (get_or es i 0) None) (i + 1)
@@ -20,8 +20,9 @@ module _ (es : List ℕ) (fs hs : Faults) (i : ℕ) (h : IsClearing es fs hs i) 
     size = length-set hs (get_or es i 0) None ∙ h.size;
     left = λ n f. elim (cases_eq n (get_or es i 0)) [
       | inl q ↦ absurd (gone n f q)
-      | inr ne ↦ elim (subst (λ (ns : List ℕ). In n ns) (drop_more es i 0 l)
-          (h.left n (f.0, sym (get_set_other hs (get_or es i 0) n None ne) ∙ f.1)))
+      | inr ne ↦ elim (member_cases n (get_or es i 0) (drop (i + 1) es)
+          (subst (λ (ns : List ℕ). Contains ns n) (drop_more es i 0 l)
+          (h.left n (f.0, sym (get_set_other hs (get_or es i 0) n None ne) ∙ f.1))))
           [ inl e ↦ absurd (ne e) | inr j ↦ j ]
     ];
   }
@@ -36,4 +37,5 @@ module _ (es : List ℕ) (fs hs : Faults) (i : ℕ) (h : IsClearing es fs hs i) 
 
 pub clearing_end : (es : List ℕ) (fs hs : Faults) (i : ℕ) → IsClearing es fs hs i → length es ≤ i → (n : ℕ)
     → IsFaulty hs n → ⊥
-clearing_end es fs hs i h end n f = subst (λ (ns : List ℕ). In n ns) (drop_all i es end) (h.left n f)
+clearing_end es fs hs i h end n f =
+    no_member n (subst (λ (ns : List ℕ). Contains ns n) (drop_all i es end) (h.left n f))

@@ -1,6 +1,6 @@
 -- Closed names, and the paths to them.
 use Rattle.std.proofs.Common.{◌≡◌, ◌↔◌, ℕ, zero, suc, ◌+◌, ◌-◌, ◌<◌, ◌≤◌, false, List, [], ◌∷◌, ◌++◌, length, None}
-use Rattle.std.proofs.Common.{refl, sym, ◌∙◌, subst, arith, length-append}
+use Rattle.std.proofs.Common.{refl, sym, ◌∙◌, subst, arith, length-append, Contains}
 use Rattle.std.proofs.lemmas.Bool.{cond-false, false_from_ne_true}
 use Rattle.name_walk.specs.declared.step.Step.{Step}
 use Rattle.name_walk.specs.declared.step.Step.TheVariants.{Nowhere, To}
@@ -8,10 +8,10 @@ use Rattle.name_walk.specs.ClosedNames.{EndsWithin, IsClosedName, StepLeadsInto}
 use Rattle.name_walk.specs.ClosedLaws.{ClosedNameLaw}
 use Rattle.name_walk.specs.Paths.{IsNamePath}
 use Rattle.name_walk.specs.Faults.{at_name, at_step, is_on_path, name_fault_within, steps_fault}
-use Rattle.name_walk.specs.Lists.{In}
 use Rattle.name_walk.specs.Steps.{Graph, InRange, LeadsTo, NameReaches, at_once, further, steps}
 use Rattle.name_walk.proofs.Faults.{empty_path, path_length, path_push}
-use Rattle.name_walk.proofs.Lists.{all_at, all_map, all_none, none_from, not_chosen, on-In, on-push_false, or_none}
+use Rattle.name_walk.proofs.Lists.{all_at, all_map, all_none, none_from, not_chosen, on-push_false, or_none}
+use Rattle.name_walk.proofs.Members.{no_member, on_path_member}
 
 -- reaching is transitive
 pub reaches_on : {g : Graph} {n x m : ℕ} → NameReaches g n x → NameReaches g x m → NameReaches g n m
@@ -67,7 +67,7 @@ module _ (g : Graph) where
   step_below : (j k : ℕ) (p : List ℕ) (n : ℕ) → EndsWithin g (suc j) n
       → ((m : ℕ) → NameReaches g n m → is_on_path p m ≡ false)
       → ((m : ℕ) → EndsWithin g j m → LeadsTo g n m → name_fault_within g k (p ++ m ∷ []) m ≡ None)
-      → (s : Step) → In s (steps g n) → at_step (name_fault_within g k) p s ≡ None
+      → (s : Step) → Contains (steps g n) s → at_step (name_fault_within g k) p s ≡ None
   step_below j k p n ends clear deeper (Nowhere w) i =
       absurd (all_at (StepLeadsInto (EndsWithin g j)) (steps g n) (Nowhere w) ends i)
   step_below j k p n ends clear deeper (To m) i = cond-false (is_on_path p m) _ _ (clear m (at_once i))
@@ -90,13 +90,14 @@ module _ (g : Graph) where
 
     -- a closed name has no fault after any path that leads to it
     pub name_closed : (j : ℕ) (p : List ℕ) (n : ℕ) → EndsWithin g j n → n < length g → IsNamePath g p
-        → ((q : ℕ) → In q p → NameReaches g q n)
+        → ((q : ℕ) → Contains p q → NameReaches g q n)
         → at_name (name_fault_within g (length g - length p)) p n ≡ None
     name_closed j p n ends there path leads =
         let clear : (m : ℕ) → NameReaches g n m → is_on_path p m ≡ false =
-        λ m r. false_from_ne_true (is_on_path p m) (λ e. no_loop j n ends (reaches_on r (leads m (on-In p m e)))) in
+        λ m r. false_from_ne_true (is_on_path p m)
+        (λ e. no_loop j n ends (reaches_on r (leads m (on_path_member p m e)))) in
         let new : is_on_path p n ≡ false = false_from_ne_true (is_on_path p n)
-        (λ e. no_loop j n ends (leads n (on-In p n e))) in
+        (λ e. no_loop j n ends (leads n (on_path_member p n e))) in
         let short : length p ≤ length g = path_length g p path in
         cond-false (is_on_path p n) _ _ new
         ∙ none_below j (length g - length p) (p ++ n ∷ []) n ends (path_push g p n path new there)
@@ -117,13 +118,15 @@ module _ (g : Graph) where
         any_depth (length g - 0) n there (ends_from_none (length g - 0) (n ∷ []) n none)
 
     any_path : (j n : ℕ) → n < length g → EndsWithin g j n → (p : List ℕ) → IsNamePath g p
-        → ((q : ℕ) → In q p → NameReaches g q n)
+        → ((q : ℕ) → Contains p q → NameReaches g q n)
         → steps_fault g p (To n ∷ []) ≡ None
     any_path j n there ends p path leads = or_none _ ∙ name_closed j p n ends there path leads
 
     faultless : (n : ℕ) → n < length g → IsClosedName g n ↔ (steps_fault g [] (To n ∷ []) ≡ None)
-    faultless n there =
-        (λ h. any_path (length g) n there h [] (empty_path g) (λ q i. absurd i), λ e. closed_from_none n there e)
+    faultless n there = (
+      λ h. any_path (length g) n there h [] (empty_path g) (λ q i. absurd (no_member q i)),
+      λ e. closed_from_none n there e,
+    )
 
 -- the law of closed names
 pub closed_law_holds : ClosedNameLaw

@@ -1,21 +1,23 @@
 -- Names that are done: settled, or closed before.
 use Rattle.std.proofs.Common.{◌≡◌, ◌⊎◌, ◌↔◌, ℕ, zero, suc, ◌+◌, ◌-◌, ◌≤◌, Bool, true, false, List, [], ◌∷◌, ◌++◌}
 use Rattle.std.proofs.Common.{length, Option, Some, None, sym, subst, inl, inr, arith, append_assoc, append-nil}
+use Rattle.std.proofs.Common.{Contains}
+use Rattle.std.proofs.lemmas.List.Elements.{Contains-append_left}
 use Rattle.std.specs.List.{AllByRecursion, slice_get}
 use Rattle.name_walk.specs.declared.step.Step.{Step}
 use Rattle.name_walk.specs.declared.step.Step.TheVariants.{Nowhere, To}
 use Rattle.name_walk.specs.ClosedNames.{AreSettled, EndsWithin, IsClosedName, IsDone, IsSettled, StepLeadsInto}
-use Rattle.name_walk.specs.Lists.{In}
 use Rattle.name_walk.specs.NewlyClosed.{AreNewlyClosed, AreOrdered, IsReached}
 use Rattle.name_walk.specs.SettledLaws.{SettledLaw}
 use Rattle.name_walk.specs.Steps.{Graph, LeadsTo, NameReaches, at_once, further, steps}
 use Rattle.name_walk.proofs.ClosedPaths.{ends_longer}
-use Rattle.name_walk.proofs.Lists.{In-left, all_map_in}
+use Rattle.name_walk.proofs.Lists.{all_map_in}
+use Rattle.name_walk.proofs.Members.{member_cases, no_member}
 
 -- a name that is done stays done after one more name is closed
 pub done_more : (s : List Bool) (names : List ℕ) (n m : ℕ) → IsDone s names m → IsDone s (names ++ n ∷ []) m
 done_more s names n m (inl e) = inl e
-done_more s names n m (inr i) = inr (In-left names (n ∷ []) m i)
+done_more s names n m (inr i) = inr (Contains-append_left names (n ∷ []) m i)
 
 -- a name is settled or it is not
 pub or_settled : (s : List Bool) (n : ℕ) → IsSettled s n ⊎ (IsSettled s n → ⊥)
@@ -37,14 +39,15 @@ module _ (g : Graph) (s : List Bool) where
         (λ m l. subst (λ (xs : List ℕ). IsDone s xs m) (sym (append_assoc before (k ∷ []) ns)) (h m l)),
   )
 
-  ordered_done : (before ns : List ℕ) → AreOrdered g s before ns → (n : ℕ) → In n ns → (m : ℕ) → LeadsTo g n m
+  ordered_done : (before ns : List ℕ) → AreOrdered g s before ns → (n : ℕ) → Contains ns n → (m : ℕ) → LeadsTo g n m
       → IsDone s (before ++ ns) m
-  ordered_done before [] o n i m l = absurd i
-  ordered_done before (k ∷ ns) o n (inl e) m l =
-      elim (o.0 m (subst (λ (x : ℕ). LeadsTo g x m) e l)) [ inl d ↦ inl d | inr d ↦ inr (In-left before (k ∷ ns) m d) ]
-  ordered_done before (k ∷ ns) o n (inr i) m l =
-      subst (λ (xs : List ℕ). IsDone s xs m) (append_assoc before (k ∷ []) ns)
-      (ordered_done (before ++ k ∷ []) ns o.1 n i m l)
+  ordered_done before [] o n i m l = absurd (no_member n i)
+  ordered_done before (k ∷ ns) o n i m l = elim (member_cases n k ns i) [
+    | inl e ↦ elim (o.0 m (subst (λ (x : ℕ). LeadsTo g x m) e l))
+        [ inl d ↦ inl d | inr d ↦ inr (Contains-append_left before (k ∷ ns) m d) ]
+    | inr j ↦ subst (λ (xs : List ℕ). IsDone s xs m) (append_assoc before (k ∷ []) ns)
+        (ordered_done (before ++ k ∷ []) ns o.1 n j m l)
+  ]
 
   module _ (settled : AreSettled g s) where
     settled_below : (n m : ℕ) → IsSettled s n → NameReaches g n m → IsSettled s m
@@ -61,7 +64,7 @@ module _ (g : Graph) (s : List Bool) where
     done_below names o d (at_once l) = done_next names o _ _ d l
     done_below names o d (further l r) = done_below names o (done_next names o _ _ d l) r
 
-    pub done_closed : (names : List ℕ) → ((n : ℕ) → In n names → IsClosedName g n) → (n : ℕ) → IsDone s names n
+    pub done_closed : (names : List ℕ) → ((n : ℕ) → Contains names n → IsClosedName g n) → (n : ℕ) → IsDone s names n
         → IsClosedName g n
     done_closed names closed n (inl e) = (settled n e).0
     done_closed names closed n (inr i) = closed n i
@@ -89,7 +92,7 @@ module _ (g h : Graph) (s : List Bool) (settled : AreSettled g s)
       (into_there k (λ m l f. ends_there k m ((settled n t).1 m l) f)) e)
     where
       into_there : (j : ℕ) → ((m : ℕ) → LeadsTo g n m → EndsWithin g j m → EndsWithin h j m) → (x : Step)
-          → In x (steps g n)
+          → Contains (steps g n) x
           → StepLeadsInto (EndsWithin g j) x → StepLeadsInto (EndsWithin h j) x
       into_there j f (Nowhere w) i q = q
       into_there j f (To m) i q = f m i q
@@ -100,7 +103,7 @@ module _ (g h : Graph) (s : List Bool) (settled : AreSettled g s)
       let room : length h - length g + length g ≡ length h = omega arith in (
         subst (λ (k : ℕ). EndsWithin h k n) room
             (ends_longer h (length g) (length h - length g) n (ends_there (length g) n before (settled n before).0)),
-        λ m l. (alike m).1 ((settled n before).1 m (subst (λ (xs : List Step). In (To m) xs) (same n before) l)),
+        λ m l. (alike m).1 ((settled n before).1 m (subst (λ (xs : List Step). Contains xs (To m)) (same n before) l)),
       )
 
 -- the law of settled names

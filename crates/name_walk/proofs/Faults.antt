@@ -1,19 +1,21 @@
 -- Paths, and the faults after them.
 use Rattle.std.proofs.Common.{◌≡◌, ℕ, zero, suc, ◌+◌, ◌-◌, ◌<◌, ◌≤◌, false, List, [], ◌∷◌, ◌++◌, length, Option, Some}
-use Rattle.std.proofs.Common.{refl, sym, ◌∙◌, ap, subst, inl, inr, arith, length-append}
+use Rattle.std.proofs.Common.{refl, sym, ◌∙◌, ap, subst, inl, inr, arith, length-append, Contains}
 use Rattle.std.proofs.lemmas.Bool.{cond-true, cond-false, cases_Bool}
 use Rattle.std.proofs.lemmas.Cmp.{nat_eq_equiv}
 use Rattle.std.proofs.lemmas.Map.Keys.{IsDistinct-push}
 use Rattle.std.proofs.lemmas.Map.Steps.{length-le_from_distinct_below}
+use Rattle.std.proofs.lemmas.List.Elements.{Contains-push_cases}
 use Rattle.name_walk.specs.declared.step.Step.{Step}
 use Rattle.name_walk.specs.declared.step.Step.TheVariants.{Nowhere, To}
 use Rattle.name_walk.specs.FaultLaws.{IsStepsFault, StepsFaultLaw}
 use Rattle.name_walk.specs.Paths.{IsNamePath, NamePathLaw}
 use Rattle.name_walk.specs.Faults.{Cycle, NameFault, at_name, at_step, from_name, is_on_path, name_fault_within}
 use Rattle.name_walk.specs.Faults.{steps_fault}
-use Rattle.name_walk.specs.Lists.{In, first_hit}
 use Rattle.name_walk.specs.Steps.{Graph, InRange, StayInGraph, steps}
-use Rattle.name_walk.proofs.Lists.{In-on, In-push, first_same, nothing_twice, on-In}
+use Rattle.name_walk.specs.Lists.{first_some}
+use Rattle.name_walk.proofs.Lists.{first_same, nothing_twice}
+use Rattle.name_walk.proofs.Members.{member_on_path, on_path_member}
 
 -- a path has no more names than the graph
 pub path_length : (g : Graph) (p : List ℕ) → IsNamePath g p → length p ≤ length g
@@ -28,9 +30,9 @@ pub path_push : (g : Graph) (p : List ℕ) (n : ℕ) → IsNamePath g p → is_o
     → IsNamePath g (p ++ n ∷ [])
 path_push g p n h new there = record {
   names_differ = IsDistinct-push nat_eq_equiv p n h.names_differ new;
-  names_in_graph = λ q e. elim (In-push p n q (on-In (p ++ n ∷ []) q e)) [
-    | inl i ↦ h.names_in_graph q (In-on p q i)
-    | inr f ↦ subst (λ (k : ℕ). k < length g) (sym f) there
+  names_in_graph = λ q e. elim (Contains-push_cases p n q (on_path_member (p ++ n ∷ []) q e)) [
+    | inl i ↦ h.names_in_graph q (member_on_path p q i)
+    | inr f ↦ subst (λ (k : ℕ). k < length g) f there
   ];
 }
 
@@ -66,10 +68,10 @@ same_name f h p n same =
 module _ (g : Graph) (range : InRange g) where
   same_steps : (f h : List ℕ → ℕ → Option NameFault) (p : List ℕ) (xs : List Step) → StayInGraph g xs
       → ((n : ℕ) → is_on_path p n ≡ false → n < length g → f (p ++ n ∷ []) n ≡ h (p ++ n ∷ []) n)
-      → first_hit (at_step f p) xs ≡ first_hit (at_step h p) xs
+      → first_some (at_step f p) xs ≡ first_some (at_step h p) xs
   same_steps f h p xs known same = first_same (at_step f p) (at_step h p) xs each
     where
-      each : (x : Step) → In x xs → at_step f p x ≡ at_step h p x
+      each : (x : Step) → Contains xs x → at_step f p x ≡ at_step h p x
       each (Nowhere w) i = refl
       each (To n) i = same_name f h p n (λ new. same n new (known n i))
 

@@ -1,9 +1,10 @@
 -- A running visit, and the invariant that each of its moves preserves.
 use Rattle.std.proofs.Common.{◌≡◌, ◌⊎◌, ℕ, suc, ◌+◌, ◌-◌, ◌^◌, ◌<◌, ◌≤◌, Bool, true, false, List, [], ◌∷◌, ◌++◌, length}
-use Rattle.std.proofs.Common.{take, drop, set, Some, None, refl, sym, ◌∙◌, ap, subst, inl, inr, arith, nat_eq}
+use Rattle.std.proofs.Common.{take, drop, set, Some, None, refl, sym, ◌∙◌, ap, subst, inl, inr, arith, nat_eq, Contains}
 use Rattle.std.specs.List.{AllByRecursion, IsDistinct, slice_get}
 use Rattle.std.proofs.lemmas.Bool.{cond-true, false_from_ne_true}
 use Rattle.std.proofs.lemmas.List.{take_all, drop_all}
+use Rattle.std.proofs.lemmas.List.Elements.{Contains-append_left, Contains-push}
 use Rattle.std.proofs.lemmas.Option.{slice_get_within}
 use Rattle.name_walk.specs.declared.mark.Mark.{Mark}
 use Rattle.name_walk.specs.declared.mark.Mark.TheVariants.{Closed, OnPath, Open}
@@ -12,7 +13,6 @@ use Rattle.name_walk.specs.declared.step.Step.TheVariants.{Nowhere, To}
 use Rattle.name_walk.specs.declared.traces.Frame.{Frame}
 use Rattle.name_walk.specs.ClosedNames.{IsClosedName, IsDone, IsSettled, StepLeadsInto}
 use Rattle.name_walk.specs.Faults.{Cycle, DeadEnd, at_name, from_name, is_on_path, name_fault_within, steps_fault}
-use Rattle.name_walk.specs.Lists.{In}
 use Rattle.name_walk.specs.Nets.{IsConsistentGraph}
 use Rattle.name_walk.specs.Paths.{IsNamePath}
 use Rattle.name_walk.specs.Steps.{Graph, LeadsTo, NameReaches, at_once, steps}
@@ -21,13 +21,14 @@ use Rattle.name_walk.specs.Visits.{AreOrdering, IsBelow, IsFaultless}
 use Rattle.name_walk.proofs.ClosedPaths.{any_depth, into_map, name_closed, reaches_on}
 use Rattle.name_walk.proofs.Faults.{empty_path, name_is, path_push}
 use Rattle.name_walk.proofs.Links.{AreDone, AreLinked, are_done_more, head, head_more, frame, last_path, linked_more}
-use Rattle.name_walk.proofs.Links.{linked_pop, linked_push, linked_reach, name_In, path_more}
-use Rattle.name_walk.proofs.Lists.{In-last, In-left, In-on, all_append, all_at, all_front, all_map, distinct_front}
-use Rattle.name_walk.proofs.Lists.{distinct_last, get_In, on-In, or_none, take_at}
+use Rattle.name_walk.proofs.Links.{linked_pop, linked_push, linked_reach, path_more, head_member, name_member}
+use Rattle.name_walk.proofs.Lists.{all_append, all_at, all_front, all_map, distinct_front}
+use Rattle.name_walk.proofs.Lists.{distinct_last, or_none, take_at}
 use Rattle.name_walk.proofs.Marks.{AreMarked, marked_pop, marked_push, other_mark}
 use Rattle.name_walk.proofs.WalkOrder.{either_new, ordering_close, ordering_enter}
 use Rattle.name_walk.proofs.PendingFault.{enter_pending, fault_pending, leave_pending, pass_pending, pending}
 use Rattle.name_walk.proofs.DoneNames.{done_closed}
+use Rattle.name_walk.proofs.Members.{member_at, member_cases, member_on_path, no_member, on_path_member}
 
 -- the place of each frame can be passed
 abbrev pub HaveRoom : List Frame → Type 0
@@ -43,7 +44,7 @@ pub record IsOnWay (g : Graph) (s : List Bool) (start : ℕ) (ms : List Mark) (o
   pub passed : AreDone s os (take place (steps g name))
   pub within : place ≤ length (steps g name)
   pub on_path : AreMarked OnPath ms (path fs name)
-  pub fresh_path : (n : ℕ) → In n (path fs name) → IsSettled s n → ⊥
+  pub fresh_path : (n : ℕ) → Contains (path fs name) n → IsSettled s n → ⊥
   pub room : HaveRoom fs
 
 -- the invariant of a visit, including the names that it has closed; `before` is the order at its start
@@ -51,8 +52,8 @@ pub record IsGoing (g : Graph) (s : List Bool) (start : ℕ) (before : List ℕ)
     (ms : List Mark) (es os : List ℕ) (fs : List Frame) (name place : ℕ) : Type 0 where
   pub way : IsOnWay g s start ms os fs name place
   pub in_target_order : AreOrdering g s ms es os
-  pub from : (n : ℕ) → In n os → In n before ⊎ IsBelow g start n
-  pub kept : (n : ℕ) → In n before → In n os
+  pub from : (n : ℕ) → Contains os n → Contains before n ⊎ IsBelow g start n
+  pub kept : (n : ℕ) → Contains before n → Contains os n
 
 module _ (g : Graph) (s : List Bool) (net : IsConsistentGraph g s) (start : ℕ) (before : List ℕ) where
   -- ---- the start
@@ -71,10 +72,10 @@ module _ (g : Graph) (s : List Bool) (net : IsConsistentGraph g s) (start : ℕ)
           linked = tt;
           passed = tt;
           within = omega arith;
-          on_path = marked_push ms start here OnPath [] (λ n. (λ e. off n e, λ i. absurd i));
-          fresh_path = λ n i. elim i [
+          on_path = marked_push ms start here OnPath [] (λ n. (λ e. absurd (off n e), λ i. absurd (no_member n i)));
+          fresh_path = λ n i. elim (member_cases n start [] i) [
             | inl e ↦ λ t. absurd (let f : slice_get s n ≡ Some false = ap (slice_get s) e ∙ unsettled in cc)
-            | inr e ↦ absurd e
+            | inr j ↦ absurd (no_member n j)
           ];
           room = tt;
         };
@@ -86,27 +87,23 @@ module _ (g : Graph) (s : List Bool) (net : IsConsistentGraph g s) (start : ℕ)
   module _ (ms : List Mark) (es os : List ℕ) (fs : List Frame) (name place : ℕ)
       (go : IsGoing g s start before ms es os fs name place) where
     pub name_there : name < length g
-    name_there = go.way.is_path.names_in_graph name (In-on (path fs name) name (name_In fs name))
+    name_there = go.way.is_path.names_in_graph name (member_on_path (path fs name) name (name_member fs name))
 
     pub name_marked : slice_get ms name ≡ Some OnPath
-    name_marked = (go.way.on_path name).1 (name_In fs name)
+    name_marked = (go.way.on_path name).1 (name_member fs name)
 
     pub name_below : IsBelow g start name
     name_below =
-        elim (linked_reach g s os fs name go.way.linked (head fs name) (head_on fs)) [
+        elim (linked_reach g s os fs name go.way.linked (head fs name) (head_member fs name)) [
           | inl e ↦ inl (sym e ∙ go.way.begins)
           | inr r ↦ inr (subst (λ (x : ℕ). NameReaches g x name) go.way.begins r)
         ]
-      where
-        head_on : (hs : List Frame) → In (head hs name) (path hs name)
-        head_on [] = inl refl
-        head_on (h ∷ hs) = inl refl
 
     -- ---- passing a step to a name that is done
     pub pass : (m : ℕ) → slice_get (steps g name) place ≡ Some (To m) → IsDone s os m
         → IsGoing g s start before ms es os fs name (place + 1)
     pass m e d =
-        let leads : LeadsTo g name m = get_In _ _ _ e in
+        let leads : LeadsTo g name m = member_at _ _ _ e in
         let none : at_name (name_fault_within g (length g - length (path fs name))) (path fs name) m ≡ None =
         name_closed g net.steps_in_range (length g) (path fs name) m
         (done_closed g s net.settled_right os go.in_target_order.names_closed m d)
@@ -141,12 +138,13 @@ module _ (g : Graph) (s : List Bool) (net : IsConsistentGraph g s) (start : ℕ)
         → place + 1 < 2 ^ 64
         → IsGoing g s start before (set ms m OnPath) (es ++ m ∷ []) os (fs ++ frame name place ∷ []) m 0
     enter m e is_open unsettled fits =
-        let leads : LeadsTo g name m = get_In _ _ _ e in
+        let leads : LeadsTo g name m = member_at _ _ _ e in
         let there : m < length g = net.steps_in_range name m leads in
         let here : m < length ms = slice_get_within ms m Open is_open in
-        let apart : In m (path fs name)
+        let apart : Contains (path fs name) m
         → ⊥ = other_mark OnPath Open ms (path fs name) go.way.on_path (λ q. cc) m is_open in
-        let new : is_on_path (path fs name) m ≡ false = false_from_ne_true _ (λ f. apart (on-In (path fs name) m f)) in
+        let new : is_on_path (path fs name) m ≡ false =
+        false_from_ne_true _ (λ f. apart (on_path_member (path fs name) m f)) in
         let p : path (fs ++ frame name place ∷ []) m ≡ path fs name ++ m ∷ [] = path_more fs (frame name place) m in
         record {
           way = record {
@@ -161,7 +159,7 @@ module _ (g : Graph) (s : List Bool) (net : IsConsistentGraph g s) (start : ℕ)
             within = omega arith;
             on_path = subst (λ (q : List ℕ). AreMarked OnPath (set ms m OnPath) q) (sym p)
                 (marked_push ms m here OnPath (path fs name) go.way.on_path);
-            fresh_path = subst (λ (q : List ℕ). (n : ℕ) → In n q → IsSettled s n → ⊥) (sym p)
+            fresh_path = subst (λ (q : List ℕ). (n : ℕ) → Contains q n → IsSettled s n → ⊥) (sym p)
                 (either_new {P = λ n. IsSettled s n → ⊥} (path fs name) m go.way.fresh_path (λ t. cc));
             room = all_append (λ (f : Frame). f.place + 1 < 2 ^ 64) fs (frame name place ∷ []) go.way.room (fits, tt);
           };
@@ -179,7 +177,7 @@ module _ (g : Graph) (s : List Bool) (net : IsConsistentGraph g s) (start : ℕ)
         (ap (λ o. Some (DeadEnd w o)) (last_path [] fs name))
 
     pub is_on : (m : ℕ) → slice_get ms m ≡ Some OnPath → is_on_path (path fs name) m ≡ true
-    is_on m marked = In-on (path fs name) m ((go.way.on_path m).0 marked)
+    is_on m marked = member_on_path (path fs name) m ((go.way.on_path m).0 marked)
 
     pub cycle : (m : ℕ) → slice_get (steps g name) place ≡ Some (To m) → slice_get ms m ≡ Some OnPath
         → steps_fault g [] (To start ∷ []) ≡ Some (Cycle (from_name m (path fs name) ++ m ∷ []))
@@ -204,14 +202,14 @@ module _ (g : Graph) (s : List Bool) (net : IsConsistentGraph g s) (start : ℕ)
       pub ordering_after : AreOrdering g s (set ms name Closed) es (os ++ name ∷ [])
       ordering_after =
           ordering_close g s ms es os name go.in_target_order name_marked name_closes
-          (go.way.fresh_path name (name_In fs name))
+          (go.way.fresh_path name (name_member fs name))
           (λ m l. all_at (StepLeadsInto (IsDone s os)) (steps g name) (To m) all_done l)
 
-      from_after : (n : ℕ) → In n (os ++ name ∷ []) → In n before ⊎ IsBelow g start n
-      from_after = either_new {P = λ n. In n before ⊎ IsBelow g start n} os name go.from (inr name_below)
+      from_after : (n : ℕ) → Contains (os ++ name ∷ []) n → Contains before n ⊎ IsBelow g start n
+      from_after = either_new {P = λ n. Contains before n ⊎ IsBelow g start n} os name go.from (inr name_below)
 
-      kept_after : (n : ℕ) → In n before → In n (os ++ name ∷ [])
-      kept_after n i = In-left os (name ∷ []) n (go.kept n i)
+      kept_after : (n : ℕ) → Contains before n → Contains (os ++ name ∷ []) n
+      kept_after n i = Contains-append_left os (name ∷ []) n (go.kept n i)
 
       nothing_left : drop place (steps g name) ≡ []
       nothing_left = drop_all place (steps g name) full
@@ -225,26 +223,26 @@ module _ (g : Graph) (s : List Bool) (net : IsConsistentGraph g s) (start : ℕ)
       let p : path (fs ++ f ∷ []) name ≡ path fs f.name ++ name ∷ [] = path_more fs f name in
       let once : IsDistinct nat_eq (path fs f.name ++ name ∷ []) =
       subst (λ (q : List ℕ). IsDistinct nat_eq q) p go.way.is_path.names_differ in
-      let apart : In name (path fs f.name) → ⊥ = distinct_last (path fs f.name) name once in
+      let apart : Contains (path fs f.name) name → ⊥ = distinct_last (path fs f.name) name once in
       let here : name < length ms =
       slice_get_within ms name OnPath (name_marked ms es os (fs ++ f ∷ []) name place go) in
       let short : f.place < length (steps g f.name) = slice_get_within _ _ _ pop.1 in
-      let up : (n : ℕ) → In n (path fs f.name) → In n (path (fs ++ f ∷ []) name) =
-      λ n i. subst (λ (q : List ℕ). In n q) (sym p) (In-left (path fs f.name) (name ∷ []) n i) in
+      let up : (n : ℕ) → Contains (path fs f.name) n → Contains (path (fs ++ f ∷ []) name) n =
+      λ n i. subst (λ (q : List ℕ). Contains q n) (sym p) (Contains-append_left (path fs f.name) (name ∷ []) n i) in
       record {
         way = record {
           answer = sym (leave_pending g [] fs f name place (nothing_left ms es os (fs ++ f ∷ []) name place go full))
               ∙ go.way.answer;
           is_path = record {
             names_differ = distinct_front (path fs f.name) (name ∷ []) once;
-            names_in_graph = λ q e. go.way.is_path.names_in_graph q (In-on _ q (up q (on-In _ q e)));
+            names_in_graph = λ q e. go.way.is_path.names_in_graph q (member_on_path _ q (up q (on_path_member _ q e)));
           };
           begins = sym (head_more fs f name) ∙ go.way.begins;
           linked = linked_more g s os name fs f.name pop.0;
           passed = subst (λ (xs : List Step). AreDone s (os ++ name ∷ []) xs)
               (sym (take_at (steps g f.name) f.place (To name) pop.1))
               (all_append (StepLeadsInto (IsDone s (os ++ name ∷ []))) (take f.place (steps g f.name)) (To name ∷ [])
-              (are_done_more s os name _ pop.2) (inr (In-last os name), tt));
+              (are_done_more s os name _ pop.2) (inr (Contains-push os name), tt));
           within = omega arith;
           on_path = marked_pop ms name here OnPath Closed (path fs f.name)
               (subst (λ (q : List ℕ). AreMarked OnPath ms q) p go.way.on_path) (λ q. cc) apart;
@@ -264,21 +262,21 @@ module _ (g : Graph) (s : List Bool) (net : IsConsistentGraph g s) (start : ℕ)
   finish ms es os name place old same go full =
       let here : name < length ms = slice_get_within ms name OnPath (name_marked ms es os [] name place go) in
       let off : AreMarked OnPath (set ms name Closed) [] =
-      marked_pop ms name here OnPath Closed [] go.way.on_path (λ q. cc) (λ i. i) in
+      marked_pop ms name here OnPath Closed [] go.way.on_path (λ q. cc) (λ i. no_member name i) in
       record {
         without_fault = sym go.way.answer ∙ ap (λ xs. steps_fault g (name ∷ []) xs)
             (nothing_left ms es os [] name place go full);
         state_between = record {
           in_target_order = ordering_after ms es os [] name place go full;
-          off_path = λ n e. (off n).0 e;
+          off_path = λ n e. no_member n ((off n).0 e);
           frames = refl;
         };
         adds = record {
           new_below = λ n i. elim (from_after ms es os [] name place go full n i) [
-            | inl j ↦ inl (subst (λ (xs : List ℕ). In n xs) (sym same) j)
+            | inl j ↦ inl (subst (λ (xs : List ℕ). Contains xs n) (sym same) j)
             | inr b ↦ inr b
           ];
-          old_kept = λ n i. kept_after ms es os [] name place go full n (subst (λ (xs : List ℕ). In n xs) same i);
-          start_added = subst (λ (x : ℕ). In x (os ++ name ∷ [])) go.way.begins (In-last os name);
+          old_kept = λ n i. kept_after ms es os [] name place go full n (subst (λ (xs : List ℕ). Contains xs n) same i);
+          start_added = subst (λ (x : ℕ). Contains (os ++ name ∷ []) x) go.way.begins (Contains-push os name);
         };
       }

@@ -9,6 +9,7 @@ mod StableFindings
 mod Links
 pub mod Lists
 pub mod Marks
+pub mod Members
 mod Moves
 mod PathFaultRecords
 mod WalkOrder

@@ -1,16 +1,17 @@
 -- The frames of a path: each is at the step to the next, and the steps before that step are done.
 use Rattle.std.proofs.Common.{◌≡◌, ◌⊎◌, ℕ, Bool, List, [], ◌∷◌, ◌++◌, take, Some, refl, sym, ◌∙◌, ap, subst, inl, inr}
-use Rattle.std.specs.List.{AllByRecursion, slice_get}
+use Rattle.std.proofs.Common.{Contains, None, Option}
+use Rattle.std.specs.List.{AllByRecursion, slice_get, last_or}
 use Rattle.name_walk.specs.declared.step.Step.{Step}
 use Rattle.name_walk.specs.declared.step.Step.TheVariants.{To}
 use Rattle.name_walk.specs.declared.traces.Frame.{Frame}
 use Rattle.name_walk.specs.ClosedNames.{IsDone, StepLeadsInto}
-use Rattle.name_walk.specs.Lists.{In, last_item}
 use Rattle.name_walk.specs.Traces.{path}
 use Rattle.name_walk.specs.Steps.{Graph, NameReaches, at_once, further, steps}
 use Rattle.name_walk.proofs.ClosedPaths.{into_map}
-use Rattle.name_walk.proofs.Lists.{all_map, get_In}
+use Rattle.name_walk.proofs.Lists.{all_map}
 use Rattle.name_walk.proofs.DoneNames.{done_more}
+use Rattle.name_walk.proofs.Members.{member_at, member_cases, member_first, member_later, no_member}
 
 -- the outermost name of a path
 abbrev pub head : List Frame → ℕ → ℕ
@@ -32,23 +33,26 @@ head_more [] f m = refl
 head_more (h ∷ fs) f m = refl
 
 -- the last name of a path is the current name
-pub last_path : (p : List ℕ) (fs : List Frame) (name : ℕ) → last_item (p ++ path fs name) ≡ Some name
-last_path [] [] name = refl
-last_path [] (f ∷ []) name = refl
-last_path [] (f ∷ h ∷ fs) name = last_path [] (h ∷ fs) name
-last_path (k ∷ []) [] name = refl
-last_path (k ∷ []) (f ∷ fs) name = last_path [] (f ∷ fs) name
-last_path (k ∷ l ∷ p) fs name = last_path (l ∷ p) fs name
+pub last_path : (p : List ℕ) (fs : List Frame) (name : ℕ) → last_or None (p ++ path fs name) ≡ Some name
+last_path p fs name = after_path None p
+  where
+    of_frames : (o : Option ℕ) (hs : List Frame) → last_or o (path hs name) ≡ Some name
+    of_frames o [] = refl
+    of_frames o (h ∷ hs) = of_frames (Some h.name) hs
+
+    after_path : (o : Option ℕ) (q : List ℕ) → last_or o (q ++ path fs name) ≡ Some name
+    after_path o [] = of_frames o fs
+    after_path o (k ∷ q) = after_path (Some k) q
 
 -- the first name is on the path
-pub head_In : (fs : List Frame) (name : ℕ) → In (head fs name) (path fs name)
-head_In [] name = inl refl
-head_In (f ∷ fs) name = inl refl
+pub head_member : (fs : List Frame) (name : ℕ) → Contains (path fs name) (head fs name)
+head_member [] name = member_first name name [] refl
+head_member (f ∷ fs) name = member_first f.name f.name (path fs name) refl
 
 -- the current name is on the path
-pub name_In : (fs : List Frame) (name : ℕ) → In name (path fs name)
-name_In [] name = inl refl
-name_In (f ∷ fs) name = inr (name_In fs name)
+pub name_member : (fs : List Frame) (name : ℕ) → Contains (path fs name) name
+name_member [] name = member_first name name [] refl
+name_member (f ∷ fs) name = member_later name f.name (path fs name) (name_member fs name)
 
 -- each step leads to a name that is done
 abbrev pub AreDone : List Bool → List ℕ → List Step → Type 0
@@ -90,13 +94,14 @@ module _ (g : Graph) (s : List Bool) where
 
   -- each name of the path leads to the last one
   pub linked_reach : (order : List ℕ) (fs : List Frame) (name : ℕ) → AreLinked order fs name
-      → (q : ℕ) → In q (path fs name) → (q ≡ name) ⊎ NameReaches g q name
-  linked_reach order [] name l q (inl e) = inl e
-  linked_reach order [] name l q (inr i) = absurd i
-  linked_reach order (f ∷ fs) name l q (inr i) = linked_reach order fs name l.2 q i
-  linked_reach order (f ∷ fs) name l q (inl e) =
-      inr (subst (λ (x : ℕ). NameReaches g x name) (sym e)
-      (elim (linked_reach order fs name l.2 (head fs name) (head_In fs name)) [
-        | inl d ↦ subst (λ (x : ℕ). NameReaches g f.name x) d (at_once (get_In _ _ _ l.0))
-        | inr r ↦ further (get_In _ _ _ l.0) r
-      ]))
+      → (q : ℕ) → Contains (path fs name) q → (q ≡ name) ⊎ NameReaches g q name
+  linked_reach order [] name l q i =
+      elim (member_cases q name [] i) [ inl e ↦ inl e | inr j ↦ absurd (no_member q j) ]
+  linked_reach order (f ∷ fs) name l q i = elim (member_cases q f.name (path fs name) i) [
+    | inl e ↦ inr (subst (λ (x : ℕ). NameReaches g x name) (sym e)
+        (elim (linked_reach order fs name l.2 (head fs name) (head_member fs name)) [
+          | inl d ↦ subst (λ (x : ℕ). NameReaches g f.name x) d (at_once (member_at _ _ _ l.0))
+          | inr r ↦ further (member_at _ _ _ l.0) r
+        ]))
+    | inr j ↦ linked_reach order fs name l.2 q j
+  ]

@@ -1,12 +1,14 @@
 -- Lists, and paths as lists of distinct names.
-use Rattle.std.proofs.Common.{◌≡◌, ◌⊎◌, ◌+◌, ℕ, zero, suc, Bool, true, false, cond, List, [], ◌∷◌, ◌++◌, take, drop}
-use Rattle.std.proofs.Common.{Option, Some, None, nat_eq, refl, sym, ◌∙◌, ap, subst, inl, inr, arith}
+use Rattle.std.proofs.Common.{◌≡◌, ◌+◌, ℕ, zero, suc, Bool, true, false, cond, List, [], ◌∷◌, ◌++◌, take, drop}
+use Rattle.std.proofs.Common.{Option, Some, None, nat_eq, refl, sym, ◌∙◌, ap, subst, inl, inr, arith, Contains}
 use Rattle.std.specs.List.{AllByRecursion, IsDistinct, slice_get}
 use Rattle.std.specs.Option.{option_or}
-use Rattle.std.proofs.lemmas.Bool.{or_cases, or_left, or_right, or_from, eqb-true, eq-eqb, ne_eqb, eqb-false}
+use Rattle.std.proofs.lemmas.Bool.{or_from, ne_eqb, eqb-false}
 use Rattle.std.proofs.lemmas.List.Folds.{list_any-append}
+use Rattle.std.proofs.lemmas.List.Elements.{All-contains, All-from_recursion, Contains-push}
 use Rattle.name_walk.specs.Faults.{is_on_path}
-use Rattle.name_walk.specs.Lists.{In, first_hit}
+use Rattle.name_walk.specs.Lists.{first_some}
+use Rattle.name_walk.proofs.Members.{member_cases, member_first, member_later, no_member}
 
 -- ---- properties of all elements
 pub all_map : {A : Type 0} (P Q : A → Type 0) → ((x : A) → P x → Q x) → (xs : List A) → AllByRecursion P xs
@@ -15,16 +17,15 @@ all_map P Q f [] h = tt
 all_map P Q f (x ∷ xs) h = (f x h.0, all_map P Q f xs h.1)
 
 -- a property that follows for each member from a property of all members holds for all members
-pub all_map_in : {A : Type 0} (P Q : A → Type 0) (xs : List A) → ((x : A) → In x xs → P x → Q x) → AllByRecursion P xs
-    → AllByRecursion Q xs
+pub all_map_in : {A : Type 0} (P Q : A → Type 0) (xs : List A) → ((x : A) → Contains xs x → P x → Q x)
+    → AllByRecursion P xs → AllByRecursion Q xs
 all_map_in P Q [] f h = tt
-all_map_in P Q (x ∷ xs) f h = (f x (inl refl) h.0, all_map_in P Q xs (λ y i. f y (inr i)) h.1)
+all_map_in P Q (x ∷ xs) f h =
+    (f x (member_first x x xs refl) h.0, all_map_in P Q xs (λ y i. f y (member_later y x xs i)) h.1)
 
 -- a property of all members holds for each member
-pub all_at : {A : Type 0} (P : A → Type 0) (xs : List A) (x : A) → AllByRecursion P xs → In x xs → P x
-all_at P [] x h i = absurd i
-all_at P (y ∷ ys) x h (inl e) = subst P (sym e) h.0
-all_at P (y ∷ ys) x h (inr i) = all_at P ys x h.1 i
+pub all_at : {A : Type 0} (P : A → Type 0) (xs : List A) (x : A) → AllByRecursion P xs → Contains xs x → P x
+all_at P xs x h i = All-contains P xs x (All-from_recursion P xs h) i
 
 -- a property of all members of two lists holds for both lists together
 pub all_append : {A : Type 0} (P : A → Type 0) (xs ys : List A) → AllByRecursion P xs → AllByRecursion P ys
@@ -38,50 +39,11 @@ all_front P [] ys h = tt
 all_front P (x ∷ xs) ys h = (h.0, all_front P xs ys h.1)
 
 -- ---- elements
-pub In-left : {A : Type 0} (xs ys : List A) (a : A) → In a xs → In a (xs ++ ys)
-In-left [] ys a h = absurd h
-In-left (x ∷ xs) ys a (inl e) = inl e
-In-left (x ∷ xs) ys a (inr h) = inr (In-left xs ys a h)
-
--- a member of the second list is a member of both lists together
-pub In-right : {A : Type 0} (xs ys : List A) (a : A) → In a ys → In a (xs ++ ys)
-In-right [] ys a h = h
-In-right (x ∷ xs) ys a h = inr (In-right xs ys a h)
-
--- the last member is in the list
-pub In-last : {A : Type 0} (xs : List A) (a : A) → In a (xs ++ a ∷ [])
-In-last xs a = In-right xs (a ∷ []) a (inl refl)
-
--- an element of a list with one more element is in the list, or is that element
-pub In-push : {A : Type 0} (xs : List A) (x a : A) → In a (xs ++ x ∷ []) → In a xs ⊎ (a ≡ x)
-In-push [] x a (inl e) = inr e
-In-push [] x a (inr h) = absurd h
-In-push (y ∷ xs) x a (inl e) = inl (inl e)
-In-push (y ∷ xs) x a (inr h) = elim (In-push xs x a h) [ inl i ↦ inl (inr i) | inr e ↦ inr e ]
-
--- the test for a member is true
-pub In-on : (ks : List ℕ) (k : ℕ) → In k ks → is_on_path ks k ≡ true
-In-on [] k h = absurd h
-In-on (x ∷ ks) k (inl e) = or_left _ _ (eq-eqb k x e)
-In-on (x ∷ ks) k (inr h) = or_right _ _ (In-on ks k h)
-
--- if the test is true, the number is a member
-pub on-In : (ks : List ℕ) (k : ℕ) → is_on_path ks k ≡ true → In k ks
-on-In [] k h = cc
-on-In (x ∷ ks) k h =
-    elim (or_cases (nat_eq k x) (is_on_path ks k) h) [ inl e ↦ inl (eqb-true k x e) | inr e ↦ inr (on-In ks k e) ]
-
 -- a number that is not a member, and is not the appended number, is not a member afterwards
 pub on-push_false : (ks : List ℕ) (x k : ℕ) → is_on_path ks k ≡ false → (k ≡ x → ⊥)
     → is_on_path (ks ++ x ∷ []) k ≡ false
 on-push_false ks x k h ne = list_any-append (nat_eq k) ks (x ∷ [])
     ∙ or_from _ _ h (or_from (nat_eq k x) false (ne_eqb k x ne) refl)
-
--- the element at a place is a member
-pub get_In : {A : Type 0} (xs : List A) (i : ℕ) (v : A) → slice_get xs i ≡ Some v → In v xs
-get_In [] i v e = cc
-get_In (x ∷ xs) zero v e = inl (cc)
-get_In (x ∷ xs) (suc i) v e = inr (get_In xs i v e)
 
 -- ---- parts
 pub drop_at : {A : Type 0} (xs : List A) (i : ℕ) (v : A) → slice_get xs i ≡ Some v → drop i xs ≡ v ∷ drop (i + 1) xs
@@ -115,39 +77,42 @@ none_second None b e = e
 none_second (Some x) b e = cc
 
 -- if a list has no first result, no member has a result
-pub all_none : {A B : Type 0} (f : A → Option B) (xs : List A) → first_hit f xs ≡ None
+pub all_none : {A B : Type 0} (f : A → Option B) (xs : List A) → first_some f xs ≡ None
     → AllByRecursion (λ x. f x ≡ None) xs
 all_none f [] e = tt
-all_none f (x ∷ xs) e = (none_first (f x) (first_hit f xs) e, all_none f xs (none_second (f x) (first_hit f xs) e))
+all_none f (x ∷ xs) e = (none_first (f x) (first_some f xs) e, all_none f xs (none_second (f x) (first_some f xs) e))
 
 -- if no member has a result, the list has no first result
-pub none_from : {A B : Type 0} (f : A → Option B) (xs : List A) → ((x : A) → In x xs → f x ≡ None)
-    → first_hit f xs ≡ None
+pub none_from : {A B : Type 0} (f : A → Option B) (xs : List A) → ((x : A) → Contains xs x → f x ≡ None)
+    → first_some f xs ≡ None
 none_from f [] h = refl
-none_from f (x ∷ xs) h = ap (λ o. option_or o (first_hit f xs)) (h x (inl refl)) ∙ none_from f xs (λ y i. h y (inr i))
+none_from f (x ∷ xs) h =
+    ap (λ o. option_or o (first_some f xs)) (h x (member_first x x xs refl))
+    ∙ none_from f xs (λ y i. h y (member_later y x xs i))
 
 -- functions that agree on the members of a list have the same first result
-pub first_same : {A B : Type 0} (f g : A → Option B) (xs : List A) → ((x : A) → In x xs → f x ≡ g x)
-    → first_hit f xs ≡ first_hit g xs
+pub first_same : {A B : Type 0} (f g : A → Option B) (xs : List A) → ((x : A) → Contains xs x → f x ≡ g x)
+    → first_some f xs ≡ first_some g xs
 first_same f g [] h = refl
-first_same f g (x ∷ xs) h = λ i. option_or (h x (inl refl) i) (first_same f g xs (λ y j. h y (inr j)) i)
+first_same f g (x ∷ xs) h =
+    λ i. option_or (h x (member_first x x xs refl) i) (first_same f g xs (λ y j. h y (member_later y x xs j)) i)
 
 -- if a list has no first result, then with one more member it has the result of that member
-pub first_push : {A B : Type 0} (f : A → Option B) (xs : List A) (x : A) → first_hit f xs ≡ None
-    → first_hit f (xs ++ x ∷ []) ≡ f x
+pub first_push : {A B : Type 0} (f : A → Option B) (xs : List A) (x : A) → first_some f xs ≡ None
+    → first_some f (xs ++ x ∷ []) ≡ f x
 first_push f [] x e = or_none (f x)
 first_push f (y ∷ xs) x e =
-    ap (λ o. option_or o (first_hit f (xs ++ x ∷ []))) (none_first (f y) (first_hit f xs) e)
-    ∙ first_push f xs x (none_second (f y) (first_hit f xs) e)
+    ap (λ o. option_or o (first_some f (xs ++ x ∷ []))) (none_first (f y) (first_some f xs) e)
+    ∙ first_push f xs x (none_second (f y) (first_some f xs) e)
 
 -- if no element before a place has a result, the first result of the list is that of the element there
 pub first_at : {A B : Type 0} (f : A → Option B) (xs : List A) (i : ℕ) (x : A) (y : B)
-    → first_hit f (take i xs) ≡ None → slice_get xs i ≡ Some x → f x ≡ Some y → first_hit f xs ≡ Some y
+    → first_some f (take i xs) ≡ None → slice_get xs i ≡ Some x → f x ≡ Some y → first_some f xs ≡ Some y
 first_at f [] i x y e g h = cc
-first_at f (z ∷ xs) zero x y e g h = let k : z ≡ x = cc in ap (λ o. option_or o (first_hit f xs)) (ap f k ∙ h)
+first_at f (z ∷ xs) zero x y e g h = let k : z ≡ x = cc in ap (λ o. option_or o (first_some f xs)) (ap f k ∙ h)
 first_at f (z ∷ xs) (suc i) x y e g h =
-    ap (λ o. option_or o (first_hit f xs)) (none_first (f z) (first_hit f (take i xs)) e)
-    ∙ first_at f xs i x y (none_second (f z) (first_hit f (take i xs)) e) g h
+    ap (λ o. option_or o (first_some f xs)) (none_first (f z) (first_some f (take i xs)) e)
+    ∙ first_at f xs i x y (none_second (f z) (first_some f (take i xs)) e) g h
 
 -- a choice is `None` only if the test is false and the alternative is `None`
 pub not_chosen : {A : Type 0} (b : Bool) (x : A) (o : Option A) → cond b (Some x) o ≡ None → (b ≡ false) × (o ≡ None)
@@ -166,9 +131,10 @@ distinct_front [] ys h = tt
 distinct_front (x ∷ xs) ys h = (all_front (λ y. nat_eq x y ≡ false) xs ys h.0, distinct_front xs ys h.1)
 
 -- the last of distinct members is not among the others
-pub distinct_last : (xs : List ℕ) (n : ℕ) → IsDistinct nat_eq (xs ++ n ∷ []) → In n xs → ⊥
+pub distinct_last : (xs : List ℕ) (n : ℕ) → IsDistinct nat_eq (xs ++ n ∷ []) → Contains xs n → ⊥
 unfolding IsDistinct
-distinct_last [] n h i = i
-distinct_last (x ∷ xs) n h (inr i) = distinct_last xs n h.1 i
-distinct_last (x ∷ xs) n h (inl e) =
-    eqb-false x n (all_at (λ y. nat_eq x y ≡ false) (xs ++ n ∷ []) n h.0 (In-last xs n)) (sym e)
+distinct_last [] n h i = no_member n i
+distinct_last (x ∷ xs) n h i = elim (member_cases n x xs i) [
+  | inl e ↦ eqb-false x n (all_at (λ y. nat_eq x y ≡ false) (xs ++ n ∷ []) n h.0 (Contains-push xs n)) (sym e)
+  | inr j ↦ distinct_last xs n h.1 j
+]

@@ -14,8 +14,8 @@ use Rattle.name_walk.specs.Visits.{IsBetween, IsFaultless, IsMarkFound}
 use Rattle.name_walk.proofs.Going.{HaveRoom, IsGoing, begin, cycle, dead_end, enter, finish, is_on, leave, name_marked}
 use Rattle.name_walk.proofs.Going.{name_there, ordering_after, pass}
 use Rattle.name_walk.proofs.Links.{frame}
-use Rattle.name_walk.proofs.Lists.{get_In}
 use Rattle.name_walk.proofs.Weights.{enter_less, leave_less, weight}
+use Rattle.name_walk.proofs.Members.{member_at}
 
 -- a visit is at a step of a name
 abbrev pub IsGoingAt : Graph → List Bool → ℕ → List ℕ → Trace → ℕ → ℕ → Type 0
@@ -49,7 +49,7 @@ module _ {g : Graph} {s : List Bool} (net : IsConsistentGraph g s) {start : ℕ}
     pub next_at : (m : ℕ) → slice_get (steps g name) place ≡ Some (To m)
         → (m < length g) × (m < length s) × (m < length t.marks)
     next_at m e =
-        let there : m < length g = net.steps_in_range name m (get_In _ _ _ e) in (
+        let there : m < length g = net.steps_in_range name m (member_at _ _ _ e) in (
           there,
           subst (λ (k : ℕ). m < k) (sym net.mark_per_name) there,
           subst (λ (k : ℕ). m < k) (sym go.in_target_order.mark_per_name) there,

@@ -1,28 +1,29 @@
 -- The names of a path, whose faults are recorded from the last name up.
 use Rattle.std.proofs.Common.{◌≡◌, ℕ, ◌+◌, ◌<◌, List, [], ◌∷◌, ◌++◌, length, set, Option, Some, refl, sym, ◌∙◌, ap}
-use Rattle.std.proofs.Common.{subst, inl, inr, arith, nat_eq, append_assoc, length-append, length-set}
+use Rattle.std.proofs.Common.{subst, arith, nat_eq, append_assoc, length-append, length-set, Contains}
+use Rattle.std.proofs.lemmas.List.Elements.{Contains-append_left}
 use Rattle.std.specs.List.{IsDistinct, slice_get}
 use Rattle.name_walk.specs.declared.step.Step.{Step}
 use Rattle.name_walk.specs.declared.step.Step.TheVariants.{To}
 use Rattle.name_walk.specs.declared.traces.Frame.{Frame}
 use Rattle.name_walk.specs.declared.trail.Ending.{Ending}
 use Rattle.name_walk.specs.declared.trail.FaultyStep.{FaultyStep}
-use Rattle.name_walk.specs.Lists.{In}
 use Rattle.name_walk.specs.PathRecords.{AreNoted, end_for, ending_above, ending_of_path, step_down}
 use Rattle.name_walk.specs.Traces.{Trace, path, with_frame, without_frames}
 use Rattle.name_walk.specs.Trails.{Faults}
 use Rattle.name_walk.proofs.Distinct.{distinct_apart}
-use Rattle.name_walk.proofs.Links.{name_In, path_more}
-use Rattle.name_walk.proofs.Lists.{In-left}
+use Rattle.name_walk.proofs.Links.{path_more, name_member}
 use Rattle.name_walk.proofs.Marks.{get_set_other, get_set_same}
+use Rattle.name_walk.proofs.Members.{member_first, member_later}
 
 -- recording the fault of another name does not change the records of some names
-noted_still : (fs : Faults) (n : ℕ) (v : Option FaultyStep) (ending : Ending) (x : Step) (ns : List ℕ) → (In n ns → ⊥)
+noted_still : (fs : Faults) (n : ℕ) (v : Option FaultyStep) (ending : Ending) (x : Step) (ns : List ℕ)
+    → (Contains ns n → ⊥)
     → AreNoted fs ending x ns → AreNoted (set fs n v) ending x ns
 noted_still fs n v ending x [] apart h = tt
 noted_still fs n v ending x (k ∷ ns) apart h = (
-  get_set_other fs n k v (λ e. apart (inl (sym e))) ∙ h.0,
-  noted_still fs n v ending x ns (λ i. apart (inr i)) h.1,
+  get_set_other fs n k v (λ e. apart (member_first n k ns (sym e))) ∙ h.0,
+  noted_still fs n v ending x ns (λ i. apart (member_later n k ns i)) h.1,
 )
 
 -- the faults of the names below are recorded, and no others
@@ -31,7 +32,7 @@ pub record IsNoting (old now : Trace) (fs hs : Faults) (last : ℕ) (last_step :
   pub below : List ℕ
   pub whole : path now.frames name ++ below ≡ path old.frames last
   pub noted : AreNoted hs last_ending last_step below
-  pub others : (n : ℕ) → (In n below → ⊥) → slice_get hs n ≡ slice_get fs n
+  pub others : (n : ℕ) → (Contains below n → ⊥) → slice_get hs n ≡ slice_get fs n
   pub size : length hs ≡ length fs
   pub step_is : step ≡ step_down last_step below
   pub ending_is : ending ≡ ending_of_path last_ending below
@@ -39,7 +40,7 @@ pub record IsNoting (old now : Trace) (fs hs : Faults) (last : ℕ) (last_step :
 
 module _ (old : Trace) (fs : Faults) (last : ℕ) (x : Step) (last_ending : Ending)
     (once : IsDistinct nat_eq (path old.frames last))
-    (there : (n : ℕ) → In n (path old.frames last) → n < length fs) where
+    (there : (n : ℕ) → Contains (path old.frames last) n → n < length fs) where
   pub noting_start : IsNoting old old fs fs last x last_ending last x last_ending
   noting_start = record {
     below = [];
@@ -58,18 +59,18 @@ module _ (old : Trace) (fs : Faults) (last : ℕ) (x : Step) (last_ending : Endi
 
   module _ (now : Trace) (hs : Faults) (name : ℕ) (step : Step) (ending : Ending)
       (h : IsNoting old now fs hs last x last_ending name step ending) where
-    here_In : In name (path old.frames last)
-    here_In =
-        subst (λ (ns : List ℕ). In name ns) h.whole
-        (In-left (path now.frames name) h.below name (name_In now.frames name))
+    here_member : Contains (path old.frames last) name
+    here_member =
+        subst (λ (ns : List ℕ). Contains ns name) h.whole
+        (Contains-append_left (path now.frames name) h.below name (name_member now.frames name))
 
     pub noting_there : name < length hs
-    noting_there = subst (λ (k : ℕ). name < k) (sym h.size) (there name here_In)
+    noting_there = subst (λ (k : ℕ). name < k) (sym h.size) (there name here_member)
 
-    apart : In name h.below → ⊥
+    apart : Contains h.below name → ⊥
     apart i =
         distinct_apart (path now.frames name) h.below (subst (λ (ns : List ℕ). IsDistinct nat_eq ns) (sym h.whole) once)
-        name (name_In now.frames name) i
+        name (name_member now.frames name) i
 
     abbrev noted_now : Faults
     noted_now = set hs name (Some (record { step = step; end = end_for ending name }))
@@ -82,10 +83,11 @@ module _ (old : Trace) (fs : Faults) (last : ℕ) (x : Step) (last_ending : Endi
           h.noted,
     )
 
-    others_one : (n : ℕ) → (In n (name ∷ h.below) → ⊥) → slice_get noted_now n ≡ slice_get fs n
+    others_one : (n : ℕ) → (Contains (name ∷ h.below) n → ⊥) → slice_get noted_now n ≡ slice_get fs n
     others_one n out =
-        get_set_other hs name n (Some (record { step = step; end = end_for ending name })) (λ e. out (inl e))
-        ∙ h.others n (λ i. out (inr i))
+        get_set_other hs name n (Some (record { step = step; end = end_for ending name }))
+        (λ e. out (member_first n name h.below e))
+        ∙ h.others n (λ i. out (member_later n name h.below i))
 
     size_one : length noted_now ≡ length fs
     size_one = length-set hs name (Some (record { step = step; end = end_for ending name })) ∙ h.size
@@ -113,8 +115,8 @@ module _ (old : Trace) (fs : Faults) (last : ℕ) (x : Step) (last_ending : Endi
       pub noting_all : AreNoted noted_now last_ending x (path old.frames last)
       noting_all = subst (λ (ns : List ℕ). AreNoted noted_now last_ending x ns) whole_is noted_one
 
-      pub noting_others : (n : ℕ) → (In n (path old.frames last) → ⊥) → slice_get noted_now n ≡ slice_get fs n
-      noting_others n out = others_one n (λ i. out (subst (λ (ns : List ℕ). In n ns) whole_is i))
+      pub noting_others : (n : ℕ) → (Contains (path old.frames last) n → ⊥) → slice_get noted_now n ≡ slice_get fs n
+      noting_others n out = others_one n (λ i. out (subst (λ (ns : List ℕ). Contains ns n) whole_is i))
 
       pub noting_size : length noted_now ≡ length fs
       noting_size = size_one

@@ -1,8 +1,9 @@
 -- What is known after the faults of the names of a path were recorded.
 use Rattle.std.proofs.Common.{◌≡◌, ◌⊎◌, ℕ, Bool, true, false, List, [], ◌∷◌, ◌++◌, Some, refl, sym, ◌∙◌, ap, subst}
-use Rattle.std.proofs.Common.{inl, inr, nat_eq, append_assoc}
-use Rattle.std.specs.List.{IsDistinct, slice_get}
+use Rattle.std.proofs.Common.{inl, inr, nat_eq, append_assoc, Contains, None}
+use Rattle.std.specs.List.{IsDistinct, slice_get, last_or}
 use Rattle.std.proofs.lemmas.Bool.{cases_Bool, cond-true, cond-false, eq-eqb, ne_eqb}
+use Rattle.std.proofs.lemmas.List.Elements.{Contains-append_right, Contains-append_cases}
 use Rattle.name_walk.specs.declared.step.Step.{Step}
 use Rattle.name_walk.specs.declared.step.Step.TheVariants.{Nowhere, To}
 use Rattle.name_walk.specs.declared.traces.Frame.{Frame}
@@ -10,16 +11,17 @@ use Rattle.name_walk.specs.declared.trail.Ending.{Ending}
 use Rattle.name_walk.specs.declared.trail.Ending.TheVariants.{At, Ring}
 use Rattle.name_walk.specs.declared.trail.FaultyStep.{FaultyStep}
 use Rattle.name_walk.specs.Faults.{is_on_path}
-use Rattle.name_walk.specs.Lists.{In, last_item}
 use Rattle.name_walk.specs.PathRecords.{AreNoted, end_for, ending_above, ending_of_path, step_down}
 use Rattle.name_walk.specs.Steps.{Graph}
 use Rattle.name_walk.specs.Traces.{path}
 use Rattle.name_walk.specs.Trails.{AreFindings, AreTrails, EndsAt, Faults, FollowsFaults, GoesBy, IsFaulty, IsFirst}
 use Rattle.name_walk.specs.Trails.{IsTrail}
-use Rattle.name_walk.proofs.Distinct.{distinct_append, distinct_apart, distinct_back, last_back, member_or, split_at}
+use Rattle.name_walk.proofs.Distinct.{distinct_append, distinct_apart, distinct_back, last_back, split_at}
 use Rattle.name_walk.proofs.Links.{AreLinked, head}
-use Rattle.name_walk.proofs.Lists.{In-on, In-right, distinct_front, on-In}
+use Rattle.name_walk.proofs.Lists.{distinct_front}
 use Rattle.name_walk.proofs.Trails.{all_faulty, follows_join, follows_same, follows_split}
+use Rattle.name_walk.proofs.Members.{member_cases, member_first, member_later, member_on_path, member_or, no_member}
+use Rattle.name_walk.proofs.Members.{on_path_member}
 
 two_same : {A : Type 0} (a b : A) → Some (Some a) ≡ Some (Some b) → a ≡ b
 two_same a b e = cc
@@ -32,26 +34,25 @@ above_at : (e : ℕ) (below : List ℕ) → ending_of_path (At e) below ≡ At e
 above_at e [] = refl
 above_at e (n ∷ below) = ap (λ d. ending_above d n) (above_at e below)
 
-above_out : (m : ℕ) (below : List ℕ) → (In m below → ⊥) → ending_of_path (Ring m) below ≡ Ring m
+above_out : (m : ℕ) (below : List ℕ) → (Contains below m → ⊥) → ending_of_path (Ring m) below ≡ Ring m
 above_out m [] out = refl
 above_out m (n ∷ below) out =
-    ap (λ d. ending_above d n) (above_out m below (λ i. out (inr i)))
-    ∙ cond-false (nat_eq n m) (At m) (Ring m) (ne_eqb n m (λ e. out (inl (sym e))))
+    ap (λ d. ending_above d n) (above_out m below (λ i. out (member_later m n below i)))
+    ∙ cond-false (nat_eq n m) (At m) (Ring m) (ne_eqb n m (λ e. out (member_first m n below (sym e))))
 
-above_in : (m : ℕ) (below : List ℕ) → In m below → ending_of_path (Ring m) below ≡ At m
-above_in m [] i = absurd i
+above_in : (m : ℕ) (below : List ℕ) → Contains below m → ending_of_path (Ring m) below ≡ At m
+above_in m [] i = absurd (no_member m i)
 above_in m (n ∷ below) i = elim (cases_Bool (is_on_path below m)) [
-  | inl t ↦ ap (λ d. ending_above d n) (above_in m below (on-In below m t))
+  | inl t ↦ ap (λ d. ending_above d n) (above_in m below (on_path_member below m t))
   | inr f ↦ ap (λ d. ending_above d n) (above_out m below (not_below f))
       ∙ cond-true (nat_eq n m) (At m) (Ring m) (eq-eqb n m (is_head f i))
 ]
   where
-    not_below : is_on_path below m ≡ false → In m below → ⊥
-    not_below f j = let t : is_on_path below m ≡ true = In-on below m j in cc
+    not_below : is_on_path below m ≡ false → Contains below m → ⊥
+    not_below f j = let t : is_on_path below m ≡ true = member_on_path below m j in cc
 
-    is_head : is_on_path below m ≡ false → In m (n ∷ below) → n ≡ m
-    is_head f (inl e) = sym e
-    is_head f (inr j) = absurd (not_below f j)
+    is_head : is_on_path below m ≡ false → Contains (n ∷ below) m → n ≡ m
+    is_head f j = elim (member_cases m n below j) [ inl e ↦ sym e | inr k ↦ absurd (not_below f k) ]
 
 -- ---- the records of a path
 module _ (hs : Faults) (ending : Ending) (x : Step) where
@@ -59,12 +60,13 @@ module _ (hs : Faults) (ending : Ending) (x : Step) where
   noted_back [] back h = h
   noted_back (n ∷ front) back h = noted_back front back h.1
 
-  pub noted_faulty : (ns : List ℕ) → AreNoted hs ending x ns → (n : ℕ) → In n ns → IsFaulty hs n
-  noted_faulty [] h n i = absurd i
-  noted_faulty (k ∷ ns) h n (inl e) =
-      subst (λ (j : ℕ). IsFaulty hs j) (sym e)
-      (record { step = step_down x ns; end = end_for (ending_of_path ending ns) k }, h.0)
-  noted_faulty (k ∷ ns) h n (inr i) = noted_faulty ns h.1 n i
+  pub noted_faulty : (ns : List ℕ) → AreNoted hs ending x ns → (n : ℕ) → Contains ns n → IsFaulty hs n
+  noted_faulty [] h n i = absurd (no_member n i)
+  noted_faulty (k ∷ ns) h n i = elim (member_cases n k ns i) [
+    | inl e ↦ subst (λ (j : ℕ). IsFaulty hs j) (sym e)
+        (record { step = step_down x ns; end = end_for (ending_of_path ending ns) k }, h.0)
+    | inr j ↦ noted_faulty ns h.1 n j
+  ]
 
   noted_follows : (n : ℕ) (below : List ℕ) → AreNoted hs ending x (n ∷ below) → FollowsFaults hs n below x
   noted_follows n [] h = (record { step = x; end = end_for ending n }, h.0, refl)
@@ -74,19 +76,26 @@ module _ (hs : Faults) (ending : Ending) (x : Step) where
   )
 
   -- the faulty step of a recorded name leads to a name with a fault, or nowhere
-  noted_leads : (ns : List ℕ) → AreNoted hs ending x ns → ((k : ℕ) → In k ns → IsFaulty hs k)
-      → ((m : ℕ) → x ≡ To m → IsFaulty hs m) → (n m : ℕ) → In n ns → GoesBy hs n (To m) → IsFaulty hs m
-  noted_leads [] h all ends n m i b = absurd i
-  noted_leads (k ∷ ns) h all ends n m (inr i) b = noted_leads ns h.1 (λ j q. all j (inr q)) ends n m i b
-  noted_leads (k ∷ []) h all ends n m (inl e) b =
-      let c : FaultyStep = record { step = x; end = end_for ending k } in
-      let same : b.0 ≡ c = two_same b.0 c (sym b.1 ∙ (ap (slice_get hs) e ∙ h.0)) in
-      ends m (sym (ap (λ (d : FaultyStep). d.step) same) ∙ b.2)
-  noted_leads (k ∷ j ∷ ns) h all ends n m (inl e) b =
-      let c : FaultyStep = record { step = To j; end = end_for (ending_of_path ending (j ∷ ns)) k } in
-      let same : b.0 ≡ c = two_same b.0 c (sym b.1 ∙ (ap (slice_get hs) e ∙ h.0)) in
-      subst (λ (i : ℕ). IsFaulty hs i) (to_name j m (sym (ap (λ (d : FaultyStep). d.step) same) ∙ b.2))
-      (all j (inr (inl refl)))
+  noted_leads : (ns : List ℕ) → AreNoted hs ending x ns → ((k : ℕ) → Contains ns k → IsFaulty hs k)
+      → ((m : ℕ) → x ≡ To m → IsFaulty hs m) → (n m : ℕ) → Contains ns n → GoesBy hs n (To m) → IsFaulty hs m
+  noted_leads [] h all ends n m i b = absurd (no_member n i)
+  noted_leads (k ∷ ns) h all ends n m i b = elim (member_cases n k ns i) [
+    | inl e ↦ first_leads k ns h all ends m (b.0, sym (ap (slice_get hs) e) ∙ b.1, b.2)
+    | inr j ↦ noted_leads ns h.1 (λ l q. all l (member_later l k ns q)) ends n m j b
+  ]
+    where
+      first_leads : (k : ℕ) (ns : List ℕ) → AreNoted hs ending x (k ∷ ns)
+          → ((j : ℕ) → Contains (k ∷ ns) j → IsFaulty hs j) → ((m : ℕ) → x ≡ To m → IsFaulty hs m)
+          → (m : ℕ) → GoesBy hs k (To m) → IsFaulty hs m
+      first_leads k [] h all ends m b =
+          let c : FaultyStep = record { step = x; end = end_for ending k } in
+          let same : b.0 ≡ c = two_same b.0 c (sym b.1 ∙ h.0) in
+          ends m (sym (ap (λ (d : FaultyStep). d.step) same) ∙ b.2)
+      first_leads k (j ∷ ns) h all ends m b =
+          let c : FaultyStep = record { step = To j; end = end_for (ending_of_path ending (j ∷ ns)) k } in
+          let same : b.0 ≡ c = two_same b.0 c (sym b.1 ∙ h.0) in
+          subst (λ (i : ℕ). IsFaulty hs i) (to_name j m (sym (ap (λ (d : FaultyStep). d.step) same) ∙ b.2))
+          (all j (member_later j k (j ∷ ns) (member_first j j ns refl)))
 
 -- ---- the first steps of a path
 module _ (g : Graph) (s : List Bool) (os : List ℕ) (x : Step) where
@@ -108,32 +117,27 @@ module _ (g : Graph) (s : List Bool) (os : List ℕ) (x : Step) where
   )
 
   first_noted : (hs : Faults) (ending : Ending) (ns : List ℕ) → AreNoted hs ending x ns → AreFirst ns → (n : ℕ)
-      (c : FaultyStep) → In n ns → slice_get hs n ≡ Some (Some c) → IsFirst g s os n c.step
-  first_noted hs ending [] h a n c i e = absurd i
-  first_noted hs ending (k ∷ ns) h a n c (inr i) e = first_noted hs ending ns h.1 a.1 n c i e
-  first_noted hs ending (k ∷ ns) h a n c (inl q) e =
-      let d : FaultyStep = record { step = step_down x ns; end = end_for (ending_of_path ending ns) k } in
-      let same : c ≡ d = two_same c d (sym e ∙ (ap (slice_get hs) q ∙ h.0)) in
-      subst (λ (v : ℕ × Step). IsFirst g s os v.0 v.1)
-      (λ i. (sym q i, ap (λ (b : FaultyStep). b.step) (sym same) i)) a.0
-
--- a member of two joined lists is a member of one of them
-In_either : (xs ys : List ℕ) (n : ℕ) → In n (xs ++ ys) → In n xs ⊎ In n ys
-In_either [] ys n i = inr i
-In_either (x ∷ xs) ys n (inl e) = inl (inl e)
-In_either (x ∷ xs) ys n (inr i) = elim (In_either xs ys n i) [ inl j ↦ inl (inr j) | inr j ↦ inr j ]
+      (c : FaultyStep) → Contains ns n → slice_get hs n ≡ Some (Some c) → IsFirst g s os n c.step
+  first_noted hs ending [] h a n c i e = absurd (no_member n i)
+  first_noted hs ending (k ∷ ns) h a n c i e = elim (member_cases n k ns i) [
+    | inl q ↦ let d : FaultyStep = record { step = step_down x ns; end = end_for (ending_of_path ending ns) k } in
+        let same : c ≡ d = two_same c d (sym e ∙ (ap (slice_get hs) q ∙ h.0)) in
+        subst (λ (v : ℕ × Step). IsFirst g s os v.0 v.1)
+        (λ j. (sym q j, ap (λ (b : FaultyStep). b.step) (sym same) j)) a.0
+    | inr j ↦ first_noted hs ending ns h.1 a.1 n c j e
+  ]
 
 -- how a path ends by the step of its last name
 abbrev pub PathEnds : Faults → List ℕ → ℕ → Step → Ending → Type 0
-PathEnds fs ns here (Nowhere w) d = (d ≡ At here) × (last_item ns ≡ Some here)
+PathEnds fs ns here (Nowhere w) d = (d ≡ At here) × (last_or None ns ≡ Some here)
 PathEnds fs ns here (To m) (At e) = (c : FaultyStep) × (slice_get fs m ≡ Some (Some c)) × (c.end ≡ e)
-PathEnds fs ns here (To m) (Ring k) = (k ≡ m) × In m ns
+PathEnds fs ns here (To m) (Ring k) = (k ≡ m) × Contains ns m
 
 -- ---- the ways from the names of a path
 module _ (fs hs : Faults) (ending : Ending) (x : Step) (ns : List ℕ) (noted : AreNoted hs ending x ns)
-    (others : (n : ℕ) → (In n ns → ⊥) → slice_get hs n ≡ slice_get fs n)
-    (fresh : (n : ℕ) → In n ns → IsFaulty fs n → ⊥) (once : IsDistinct nat_eq ns) (old : AreTrails fs) where
-  is_noted : (n : ℕ) → In n ns ⊎ (In n ns → ⊥)
+    (others : (n : ℕ) → (Contains ns n → ⊥) → slice_get hs n ≡ slice_get fs n)
+    (fresh : (n : ℕ) → Contains ns n → IsFaulty fs n → ⊥) (once : IsDistinct nat_eq ns) (old : AreTrails fs) where
+  is_noted : (n : ℕ) → Contains ns n ⊎ (Contains ns n → ⊥)
   is_noted n = member_or ns n
 
   -- what was known about names is still known
@@ -144,7 +148,8 @@ module _ (fs hs : Faults) (ending : Ending) (x : Step) (ns : List ℕ) (noted : 
   still_faulty n f = (f.0, still n f.0 f.1)
 
   -- what is known about other names was known before
-  before : (n : ℕ) (c : FaultyStep) → (In n ns → ⊥) → slice_get hs n ≡ Some (Some c) → slice_get fs n ≡ Some (Some c)
+  before : (n : ℕ) (c : FaultyStep) → (Contains ns n → ⊥) → slice_get hs n ≡ Some (Some c)
+      → slice_get fs n ≡ Some (Some c)
   before n c out e = sym (others n out) ∙ e
 
   trail_still : (n e : ℕ) → IsTrail fs n e → IsTrail hs n e
@@ -175,24 +180,24 @@ module _ (fs hs : Faults) (ending : Ending) (x : Step) (ns : List ℕ) (noted : 
         let d : FaultyStep = record { step = step_down x back; end = end_for (ending_of_path ending back) n } in
         ap (λ (b : FaultyStep). b.end) (two_same c d (sym e ∙ here_noted.0))
 
-    in_whole : (k : ℕ) → In k (front ++ n ∷ back) → In k ns
-    in_whole k i = subst (λ (ks : List ℕ). In k ks) (sym whole) i
+    in_whole : (k : ℕ) → Contains (front ++ n ∷ back) k → Contains ns k
+    in_whole k i = subst (λ (ks : List ℕ). Contains ks k) (sym whole) i
 
     -- a way to a word that leads nowhere
-    to_dead_end : (w e : ℕ) → x ≡ Nowhere w → last_item ns ≡ Some e → IsTrail hs n e
+    to_dead_end : (w e : ℕ) → x ≡ Nowhere w → last_or None ns ≡ Some e → IsTrail hs n e
     to_dead_end w e is final = record {
       names = back;
       step = Nowhere w;
       follows_faults = subst (λ (y : Step). FollowsFaults hs n back y) is here_follows;
       names_differ = back_once;
-      ends_at = sym (last_back front n back) ∙ (ap last_item (sym whole) ∙ final);
+      ends_at = sym (last_back front n back) ∙ (ap (last_or None) (sym whole) ∙ final);
     }
 
     -- a way to a name that is known to have a fault
     ends_further : (m : ℕ) (ms : List ℕ) (y : Step) (e : ℕ) → EndsAt (m ∷ ms) y e
         → EndsAt ((n ∷ back) ++ m ∷ ms) y e
     ends_further m ms (Nowhere w) e h = last_back (n ∷ back) m ms ∙ h
-    ends_further m ms (To k) e h = (h.0, In-right (n ∷ back) (m ∷ ms) e h.1)
+    ends_further m ms (To k) e h = (h.0, Contains-append_right (n ∷ back) (m ∷ ms) e h.1)
 
     to_known : (m e : ℕ) → x ≡ To m → IsTrail fs m e → IsTrail hs n e
     to_known m e is t =
@@ -204,13 +209,13 @@ module _ (fs hs : Faults) (ending : Ending) (x : Step) (ns : List ℕ) (noted : 
               (subst (λ (y : Step). FollowsFaults hs n back y) is here_follows)
               new;
           names_differ = distinct_append (n ∷ back) (m ∷ t.names) back_once t.names_differ
-              (λ k i j. fresh k (in_whole k (In-right front (n ∷ back) k i))
+              (λ k i j. fresh k (in_whole k (Contains-append_right front (n ∷ back) k i))
               (all_faulty fs m t.names t.step t.follows_faults k j));
           ends_at = ends_further m t.names t.step e t.ends_at;
         }
 
     -- a way into a ring below the name
-    to_ring : (m : ℕ) → x ≡ To m → In m (n ∷ back) → IsTrail hs n m
+    to_ring : (m : ℕ) → x ≡ To m → Contains (n ∷ back) m → IsTrail hs n m
     to_ring m is i = record {
       names = back;
       step = To m;
@@ -233,7 +238,7 @@ module _ (fs hs : Faults) (ending : Ending) (x : Step) (ns : List ℕ) (noted : 
         follows_faults = follows_join hs n back m b (To n) parts.1 parts.0;
         names_differ = distinct_append (n ∷ back) (m ∷ b) (distinct_back (m ∷ b) (n ∷ back) apart)
             (front_once (m ∷ b) (n ∷ back) apart) (λ k i j. distinct_apart (m ∷ b) (n ∷ back) apart k j i);
-        ends_at = (refl, inl refl);
+        ends_at = (refl, member_first n n (back ++ m ∷ b) refl);
       }
     where
       front_once : (xs ys : List ℕ) → IsDistinct nat_eq (xs ++ ys) → IsDistinct nat_eq xs
@@ -244,31 +249,32 @@ module _ (fs hs : Faults) (ending : Ending) (x : Step) (ns : List ℕ) (noted : 
       → ending_of_path ending back ≡ d → (c : FaultyStep) → slice_get hs n ≡ Some (Some c) → c.end ≡ end_for d n
   end_is front n back whole d same c e = here_ends front n back whole c e ∙ ap (λ q. end_for q n) same
 
-  trail_in_ring : (m : ℕ) → x ≡ To m → ending ≡ Ring m → In m ns → (n : ℕ) (c : FaultyStep) (front back : List ℕ)
-      → ns ≡ front ++ n ∷ back → slice_get hs n ≡ Some (Some c) → In m back ⊎ (In m back → ⊥) → IsTrail hs n c.end
+  trail_in_ring : (m : ℕ) → x ≡ To m → ending ≡ Ring m → Contains ns m → (n : ℕ) (c : FaultyStep) (front back : List ℕ)
+      → ns ≡ front ++ n ∷ back → slice_get hs n ≡ Some (Some c) → Contains back m ⊎ (Contains back m → ⊥)
+      → IsTrail hs n c.end
   trail_in_ring m xe de i n c front back whole e (inl j) =
       subst (λ (k : ℕ). IsTrail hs n k)
       (sym (end_is front n back whole (At m) (ap (λ d. ending_of_path d back) de ∙ above_in m back j) c e))
-      (to_ring front n back whole m xe (inr j))
+      (to_ring front n back whole m xe (member_later m n back j))
   trail_in_ring m xe de i n c front back whole e (inr out) =
       subst (λ (k : ℕ). IsTrail hs n k)
       (sym (end_is front n back whole (Ring m) (ap (λ d. ending_of_path d back) de ∙ above_out m back out) c e))
-      (elim (In_either front (n ∷ back) m (subst (λ (ks : List ℕ). In m ks) whole i)) [
+      (elim (Contains-append_cases front (n ∷ back) m (subst (λ (ks : List ℕ). Contains ks m) whole i)) [
         | inl j ↦ above_here j
-        | inr j ↦ elim j [
-          | inl q ↦ subst (λ (k : ℕ). IsTrail hs n k) q (to_ring front n back whole m xe (inl q))
+        | inr j ↦ elim (member_cases m n back j) [
+          | inl q ↦ subst (λ (k : ℕ). IsTrail hs n k) q (to_ring front n back whole m xe (member_first m n back q))
           | inr k ↦ absurd (out k)
         ]
       ])
     where
-      above_here : In m front → IsTrail hs n n
+      above_here : Contains front m → IsTrail hs n n
       above_here j =
           let r = split_at front m j in
           in_ring m n r.front r.back back xe
           (whole ∙ (ap (λ (ks : List ℕ). ks ++ n ∷ back) r.whole ∙ append_assoc r.front (m ∷ r.back) (n ∷ back)))
 
   trail_by : (here : ℕ) (y : Step) (d : Ending) → x ≡ y → ending ≡ d → PathEnds fs ns here y d → (n : ℕ)
-      (c : FaultyStep) → In n ns → slice_get hs n ≡ Some (Some c) → IsTrail hs n c.end
+      (c : FaultyStep) → Contains ns n → slice_get hs n ≡ Some (Some c) → IsTrail hs n c.end
   trail_by here (Nowhere w) d xe de p n c i e =
       let r = split_at ns n i in
       subst (λ (k : ℕ). IsTrail hs n k)
@@ -314,7 +320,7 @@ module _ (fs hs : Faults) (ending : Ending) (x : Step) (ns : List ℕ) (noted : 
       | inl i ↦ first_noted g s os x hs ending (path frames name)
           (subst (λ (ks : List ℕ). AreNoted hs ending x ks) same noted) (linked_first g s os x frames name linked at) n
           c
-          (subst (λ (ks : List ℕ). In n ks) same i) e
+          (subst (λ (ks : List ℕ). Contains ks n) same i) e
       | inr out ↦ are.first_faults n c (before n c out e)
     ];
   }

@@ -1,8 +1,9 @@
 -- The steps of a query that a walk has passed.
 use Rattle.std.proofs.Common.{◌≡◌, ◌⊎◌, ℕ, zero, suc, ◌+◌, ◌-◌, ◌<◌, Bool, List, [], ◌∷◌, ◌++◌, length, take, replicate}
-use Rattle.std.proofs.Common.{◌≤◌, Some, None, refl, sym, ◌∙◌, ap, subst, inl, inr, arith, length-append}
+use Rattle.std.proofs.Common.{◌≤◌, Some, None, refl, sym, ◌∙◌, ap, subst, inl, inr, arith, length-append, Contains}
 use Rattle.std.specs.List.{slice_get}
 use Rattle.std.proofs.lemmas.List.{length-replicate, length-take, take_all}
+use Rattle.std.proofs.lemmas.List.Elements.{Contains-append_left, Contains-push, Contains-push_cases}
 use Rattle.std.proofs.lemmas.Option.{slice_get_within}
 use Rattle.name_walk.specs.declared.mark.Mark.{Mark}
 use Rattle.name_walk.specs.declared.mark.Mark.TheVariants.{Closed, OnPath, Open}
@@ -10,7 +11,6 @@ use Rattle.name_walk.specs.declared.step.Step.{Step}
 use Rattle.name_walk.specs.declared.step.Step.TheVariants.{To}
 use Rattle.name_walk.specs.ClosedNames.{IsDone, IsSettled}
 use Rattle.name_walk.specs.Faults.{NameFault, at_step, name_fault_within, steps_fault}
-use Rattle.name_walk.specs.Lists.{In}
 use Rattle.name_walk.specs.Nets.{IsConsistentGraph}
 use Rattle.name_walk.specs.NewlyClosed.{AreNewlyClosed, IsReached}
 use Rattle.name_walk.specs.Steps.{Graph}
@@ -18,16 +18,17 @@ use Rattle.name_walk.specs.Traces.{IsIdle, Trace, trace_with_names, without_orde
 use Rattle.name_walk.specs.Visits.{AreOrdering, IsBetween, IsFaultless, IsMarkFound}
 use Rattle.name_walk.proofs.ClosedPaths.{name_closed}
 use Rattle.name_walk.proofs.Faults.{empty_path}
-use Rattle.name_walk.proofs.Lists.{In-left, In-push, first_at, first_push, or_none, take_at}
+use Rattle.name_walk.proofs.Lists.{first_at, first_push, or_none, take_at}
 use Rattle.name_walk.proofs.WalkOrder.{ordering_start}
 use Rattle.name_walk.proofs.DoneNames.{done_below, done_closed}
+use Rattle.name_walk.proofs.Members.{no_member}
 
 -- these steps of a query have no fault, they reach the names that were closed, and each leads to a name that is done
 pub record ArePassed (g : Graph) (s : List Bool) (query : List Step) (t : Trace) : Type 0 where
   pub between : IsBetween g s t
   pub none : steps_fault g [] query ≡ None
-  pub reached : (n : ℕ) → In n t.order → IsReached g query n
-  pub done : (n : ℕ) → In (To n) query → IsDone s t.order n
+  pub reached : (n : ℕ) → Contains t.order n → IsReached g query n
+  pub done : (n : ℕ) → Contains query (To n) → IsDone s t.order n
 
 -- open marks with new open marks appended are all open
 open_front : (n : ℕ) (marks : List Mark) (k : ℕ) → ((m : ℕ) → m < length marks → slice_get marks m ≡ Some Open)
@@ -82,16 +83,16 @@ pub passed_start : (g : Graph) (s : List Bool) (t : Trace) → IsBetween g s t �
 passed_start g s t b e = record {
   between = b;
   none = refl;
-  reached = λ n i. absurd (subst (λ (xs : List ℕ). In n xs) e i);
-  done = λ n i. absurd i;
+  reached = λ n i. absurd (no_member n (subst (λ (xs : List ℕ). Contains xs n) e i));
+  done = λ n i. absurd (no_member (To n) i);
 }
 
 module _ (g : Graph) (s : List Bool) (query : List Step) where
   reached_push : (x : Step) (n : ℕ) → IsReached g query n → IsReached g (query ++ x ∷ []) n
-  reached_push x n w = (w.0, In-left query (x ∷ []) (To w.0) w.1, w.2)
+  reached_push x n w = (w.0, Contains-append_left query (x ∷ []) (To w.0) w.1, w.2)
 
-  last_step : (n r : ℕ) → In (To r) (query ++ To n ∷ []) → In (To r) query ⊎ (r ≡ n)
-  last_step n r i = elim (In-push query (To n) (To r) i) [ inl j ↦ inl j | inr e ↦ inr (cc) ]
+  last_step : (n r : ℕ) → Contains (query ++ To n ∷ []) (To r) → Contains query (To r) ⊎ (r ≡ n)
+  last_step n r i = elim (Contains-push_cases query (To n) (To r) i) [ inl j ↦ inl j | inr e ↦ inr (cc) ]
 
   none_push : (x : Step) → steps_fault g [] query ≡ None → steps_fault g [] (x ∷ []) ≡ None
       → steps_fault g [] (query ++ x ∷ []) ≡ None
@@ -107,7 +108,7 @@ module _ (g : Graph) (s : List Bool) (query : List Step) where
     between = p.between;
     none = none_push (To n) p.none (or_none _ ∙ name_closed g net.steps_in_range (length g) [] n
         (done_closed g s net.settled_right t.order p.between.in_target_order.names_closed n d) there (empty_path g)
-        (λ q i. absurd i));
+        (λ q i. absurd (no_member q i)));
     reached = λ m i. reached_push (To n) m (p.reached m i);
     done = λ r i. elim (last_step n r i)
         [ inl j ↦ p.done r j | inr e ↦ subst (λ (x : ℕ). IsDone s t.order x) (sym e) d ];
@@ -121,20 +122,13 @@ module _ (g : Graph) (s : List Bool) (query : List Step) where
     none = none_push (To n) p.none v.without_fault;
     reached = λ m i. elim (v.adds.new_below m i) [
       | inl j ↦ reached_push (To n) m (p.reached m j)
-      | inr b ↦ (n, In-here, b)
+      | inr b ↦ (n, Contains-push query (To n), b)
     ];
     done = λ r i. elim (last_step n r i) [
       | inl j ↦ elim (p.done r j) [ inl e ↦ inl e | inr k ↦ inr (v.adds.old_kept r k) ]
-      | inr e ↦ inr (subst (λ (x : ℕ). In x new.order) (sym e) v.adds.start_added)
+      | inr e ↦ inr (subst (λ (x : ℕ). Contains new.order x) (sym e) v.adds.start_added)
     ];
   }
-    where
-      In-here : In (To n) (query ++ To n ∷ [])
-      In-here = at_end query
-        where
-          at_end : (xs : List Step) → In (To n) (xs ++ To n ∷ [])
-          at_end [] = inl refl
-          at_end (x ∷ xs) = inr (at_end xs)
 
   -- after all steps are passed, the order has the names that the query newly closes
   pub newly_closed : IsConsistentGraph g s → (t : Trace) → ArePassed g s query t → AreNewlyClosed g s query t.order
@@ -148,7 +142,7 @@ module _ (g : Graph) (s : List Bool) (query : List Step) where
     targets_before = p.between.in_target_order.targets_before;
   }
     where
-      only_new : (n : ℕ) → IsDone s t.order n → (IsSettled s n → ⊥) → In n t.order
+      only_new : (n : ℕ) → IsDone s t.order n → (IsSettled s n → ⊥) → Contains t.order n
       only_new n (inl e) u = absurd (u e)
       only_new n (inr i) u = i
 

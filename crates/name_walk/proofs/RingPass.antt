@@ -5,8 +5,8 @@ use Rattle.std.proofs.lemmas.Map.Steps.{length-le_from_distinct_below}
 use Rattle.name_walk.specs.declared.step.Step.TheVariants.{To}
 use Rattle.name_walk.specs.Rings.{IsFaultRing, IsWay}
 use Rattle.name_walk.specs.Trails.{Faults, GoesBy}
-use Rattle.name_walk.proofs.Lists.{on-In}
 use Rattle.name_walk.proofs.Trails.{one_step}
+use Rattle.name_walk.proofs.Members.{on_path_member}
 
 next_name : (a b : ℕ) → To a ≡ To b → a ≡ b
 next_name a b e = cc
@@ -53,7 +53,7 @@ module _ (fs : Faults) (last first here : ℕ) (names : List ℕ) where
   has_room passed (n ∷ left) whole ring way ne =
       let all : length (last ∷ passed ++ n ∷ left) ≤ length fs =
       length-le_from_distinct_below (last ∷ passed ++ n ∷ left) (length fs) ring.names_differ
-      (λ k o. ring.names_in_faults k (on-In (last ∷ passed ++ n ∷ left) k o)) in
+      (λ k o. ring.names_in_faults k (on_path_member (last ∷ passed ++ n ∷ left) k o)) in
       let size : length names ≡ suc (length passed) = ap (λ (ns : List ℕ). length ns) whole in
       let parts : length (passed ++ n ∷ left) ≡ length passed + suc (length left) = length-append passed (n ∷ left) in
       omega arith

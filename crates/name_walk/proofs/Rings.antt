@@ -1,20 +1,21 @@
 -- Rings of names, and the faults of the names that lead to them.
 use Rattle.std.proofs.Common.{◌≡◌, ℕ, Bool, List, [], ◌∷◌, ◌++◌, Some}
-use Rattle.std.proofs.Common.{refl, sym, ◌∙◌, ap, subst, inl, inr, nat_eq}
-use Rattle.std.specs.List.{IsDistinct, slice_get}
+use Rattle.std.proofs.Common.{refl, sym, ◌∙◌, ap, subst, inl, inr, nat_eq, Contains, None}
+use Rattle.std.specs.List.{IsDistinct, slice_get, last_or}
 use Rattle.std.proofs.lemmas.Bool.{cond-true, cond-false, eq-eqb, ne_eqb}
 use Rattle.std.proofs.lemmas.Option.{slice_get_within}
+use Rattle.std.proofs.lemmas.List.Elements.{Contains-append_right}
 use Rattle.name_walk.specs.declared.step.Step.{Step}
 use Rattle.name_walk.specs.declared.step.Step.TheVariants.{Nowhere, To}
 use Rattle.name_walk.specs.declared.trail.FaultyStep.{FaultyStep}
 use Rattle.name_walk.specs.Faults.{Cycle, DeadEnd, from_name, steps_fault}
-use Rattle.name_walk.specs.Lists.{In, last_item}
 use Rattle.name_walk.specs.Nets.{IsConsistentGraph}
 use Rattle.name_walk.specs.Rings.{IsFaultRing, IsWay}
 use Rattle.name_walk.specs.Steps.{Graph}
 use Rattle.name_walk.specs.Trails.{AreFindings, AreTrails, EndsAt, Faults, FollowsFaults, GoesBy, IsFaulty, IsTrail}
 use Rattle.name_walk.proofs.Distinct.{distinct_apart, distinct_back, split_at}
 use Rattle.name_walk.proofs.Trails.{all_faulty, dead_end_fault, follows_split, one_step, ring_fault}
+use Rattle.name_walk.proofs.Members.{member_cases, member_first, member_later, no_member}
 
 one_name : (a b : ℕ) → Some a ≡ Some b → a ≡ b
 one_name a b e = cc
@@ -23,18 +24,19 @@ one_target : (a b : ℕ) → To a ≡ To b → a ≡ b
 one_target a b e = cc
 
 -- the last name of a list is a member of the list
-last_In : (ns : List ℕ) (e : ℕ) → last_item ns ≡ Some e → In e ns
-last_In [] e h = absurd (cc)
-last_In (n ∷ []) e h = inl (sym (one_name n e h))
-last_In (n ∷ m ∷ ns) e h = inr (last_In (m ∷ ns) e h)
+last_member : (ns : List ℕ) (e : ℕ) → last_or None ns ≡ Some e → Contains ns e
+last_member [] e h = absurd (cc)
+last_member (n ∷ []) e h = member_first e n [] (sym (one_name n e h))
+last_member (n ∷ m ∷ ns) e h = member_later e n (m ∷ ns) (last_member (m ∷ ns) e h)
 
 -- the part of a list from a name on, if the name does not occur earlier
-from_split : (front : List ℕ) (e : ℕ) (back : List ℕ) → (In e front → ⊥) → from_name e (front ++ e ∷ back) ≡ e ∷ back
+from_split : (front : List ℕ) (e : ℕ) (back : List ℕ) → (Contains front e → ⊥)
+    → from_name e (front ++ e ∷ back) ≡ e ∷ back
 from_split [] e back out = cond-true (nat_eq e e) (e ∷ back) (from_name e back) (eq-eqb e e refl)
 from_split (n ∷ front) e back out =
     cond-false (nat_eq n e) (n ∷ front ++ e ∷ back) (from_name e (front ++ e ∷ back))
-    (ne_eqb n e (λ q. out (inl (sym q))))
-    ∙ from_split front e back (λ i. out (inr i))
+    (ne_eqb n e (λ q. out (member_first e n front (sym q))))
+    ∙ from_split front e back (λ i. out (member_later e n front i))
 
 -- the faulty steps of some names lead from the first to the last, and then to e
 abbrev LeadInto : Faults → ℕ → List ℕ → Type 0
@@ -43,28 +45,33 @@ LeadInto fs e (k ∷ ks) = FollowsFaults fs k ks (To e)
 
 module _ (fs : Faults) where
   -- the last name of a way takes its last step
-  last_goes : (n : ℕ) (ms : List ℕ) (x : Step) (e : ℕ) → FollowsFaults fs n ms x → last_item (n ∷ ms) ≡ Some e
+  last_goes : (n : ℕ) (ms : List ℕ) (x : Step) (e : ℕ) → FollowsFaults fs n ms x → last_or None (n ∷ ms) ≡ Some e
       → GoesBy fs e x
   last_goes n [] x e h l = subst (λ (k : ℕ). GoesBy fs k x) (one_name n e l) h
   last_goes n (m ∷ ms) x e h l = last_goes m ms x e h.1 l
 
   -- each name of a way into a ring leads to a name
-  each_leads : (n : ℕ) (ms : List ℕ) (y : ℕ) → FollowsFaults fs n ms (To y) → (k : ℕ) → In k (n ∷ ms)
+  each_leads : (n : ℕ) (ms : List ℕ) (y : ℕ) → FollowsFaults fs n ms (To y) → (k : ℕ) → Contains (n ∷ ms) k
       → (m : ℕ) × GoesBy fs k (To m)
-  each_leads n [] y h k (inl e) = (y, subst (λ (j : ℕ). GoesBy fs j (To y)) (sym e) h)
-  each_leads n [] y h k (inr i) = absurd i
-  each_leads n (m ∷ ms) y h k (inl e) = (m, subst (λ (j : ℕ). GoesBy fs j (To m)) (sym e) h.0)
-  each_leads n (m ∷ ms) y h k (inr i) = each_leads m ms y h.1 k i
+  each_leads n [] y h k i = elim (member_cases k n [] i) [
+    | inl e ↦ (y, subst (λ (j : ℕ). GoesBy fs j (To y)) (sym e) h)
+    | inr j ↦ absurd (no_member k j)
+  ]
+  each_leads n (m ∷ ms) y h k i = elim (member_cases k n (m ∷ ms) i) [
+    | inl e ↦ (m, subst (λ (j : ℕ). GoesBy fs j (To m)) (sym e) h.0)
+    | inr j ↦ each_leads m ms y h.1 k j
+  ]
 
   -- a way to a name that it does not go through, from the name to which the first step leads
-  way_of : (e n : ℕ) (ms : List ℕ) (here : ℕ) → FollowsFaults fs n ms (To e) → GoesBy fs n (To here) → (In e ms → ⊥)
+  way_of : (e n : ℕ) (ms : List ℕ) (here : ℕ) → FollowsFaults fs n ms (To e) → GoesBy fs n (To here)
+      → (Contains ms e → ⊥)
       → IsWay fs e here ms
   way_of e n [] here h goes out = one_target here e (one_step fs n (To here) (To e) goes h)
   way_of e n (m ∷ ms) here h goes out =
-      let next : (j : ℕ) × GoesBy fs m (To j) = each_leads m ms e h.1 m (inl refl) in (
+      let next : (j : ℕ) × GoesBy fs m (To j) = each_leads m ms e h.1 m (member_first m m ms refl) in (
         one_target here m (one_step fs n (To here) (To m) goes h.0),
-        λ q. out (inl (sym q)),
-        (next.0, next.1, way_of e m ms next.0 h.1 next.1 (λ i. out (inr i))),
+        λ q. out (member_first e m ms (sym q)),
+        (next.0, next.1, way_of e m ms next.0 h.1 next.1 (λ i. out (member_later e m ms i))),
       )
 
   -- there is at most one way to a name
@@ -98,9 +105,10 @@ module _ (fs : Faults) where
         by_step : (x : Step) → t.step ≡ x → IsFaulty fs e
         by_step (Nowhere w) q =
             all_faulty fs n t.names t.step t.follows_faults e
-            (last_In (n ∷ t.names) e (subst (λ (y : Step). EndsAt (n ∷ t.names) y e) q t.ends_at))
+            (last_member (n ∷ t.names) e (subst (λ (y : Step). EndsAt (n ∷ t.names) y e) q t.ends_at))
         by_step (To m) q =
-            let ends : (m ≡ e) × In e (n ∷ t.names) = subst (λ (y : Step). EndsAt (n ∷ t.names) y e) q t.ends_at in
+            let ends : (m ≡ e) × Contains (n ∷ t.names) e = subst (λ (y : Step). EndsAt (n ∷ t.names) y e) q t.ends_at
+            in
             all_faulty fs n t.names t.step t.follows_faults e ends.1
 
     -- a name whose word leads nowhere ends the way
@@ -110,7 +118,8 @@ module _ (fs : Faults) where
       where
         by_step : (x : Step) → t.step ≡ x → steps_fault g [] (To n ∷ []) ≡ Some (DeadEnd w (Some e))
         by_step (Nowhere v) q =
-            let ends : last_item (n ∷ t.names) ≡ Some e = subst (λ (y : Step). EndsAt (n ∷ t.names) y e) q t.ends_at in
+            let ends : last_or None (n ∷ t.names) ≡ Some e = subst (λ (y : Step). EndsAt (n ∷ t.names) y e) q t.ends_at
+            in
             let follows : FollowsFaults fs n t.names (Nowhere v) =
             subst (λ (y : Step). FollowsFaults fs n t.names y) q t.follows_faults in
             let same : Nowhere v ≡ Nowhere w =
@@ -118,7 +127,8 @@ module _ (fs : Faults) where
             dead_end_fault g s net os fs are n t.names w e
             (subst (λ (y : Step). FollowsFaults fs n t.names y) same follows) t.names_differ ends
         by_step (To m) q =
-            let ends : (m ≡ e) × In e (n ∷ t.names) = subst (λ (y : Step). EndsAt (n ∷ t.names) y e) q t.ends_at in
+            let ends : (m ≡ e) × Contains (n ∷ t.names) e = subst (λ (y : Step). EndsAt (n ∷ t.names) y e) q t.ends_at
+            in
             let leads : (j : ℕ) × GoesBy fs e (To j) =
             each_leads n t.names m (subst (λ (y : Step). FollowsFaults fs n t.names y) q t.follows_faults) e ends.1 in
             let same : To leads.0 ≡ Nowhere w = one_step fs e (To leads.0) (Nowhere w) leads.1 goes in
@@ -141,38 +151,38 @@ module _ (fs : Faults) (n e : ℕ) (t : IsTrail fs n e) (here : ℕ) (goes : Goe
       let round : FollowsFaults fs e back (To e) = from_ring fs n t.names front e back whole follows in
       let named : from_name e (n ∷ t.names) ≡ e ∷ back =
       ap (from_name e) whole
-      ∙ from_split front e back (λ i. distinct_apart front (e ∷ back) once e i (inl refl)) in
+      ∙ from_split front e back (λ i. distinct_apart front (e ∷ back) once e i (member_first e e back refl)) in
       record {
         rest = back;
         ring = record {
-          way = way_of fs e e back here round goes (λ i. distinct_apart (e ∷ []) back own e (inl refl) i);
+          way = way_of fs e e back here round goes
+              (λ i. distinct_apart (e ∷ []) back own e (member_first e e [] refl) i);
           names_differ = own;
           names_in_faults = λ k i. let f = all_faulty fs e back (To e) round k i in
               slice_get_within fs k (Some f.0) f.1;
         };
         is_fault = λ g s os net are.
             ring_fault g s net os fs are n t.names e follows t.names_differ
-            (subst (λ (ns : List ℕ). In e ns) (sym whole) (in_middle front))
+            (subst (λ (ns : List ℕ). Contains ns e) (sym whole) (in_middle front))
             ∙ ap (λ (ns : List ℕ). Some (Cycle (ns ++ e ∷ []))) named;
       }
     where
-      in_middle : (xs : List ℕ) → In e (xs ++ e ∷ back)
-      in_middle [] = inl refl
-      in_middle (x ∷ xs) = inr (in_middle xs)
+      in_middle : (xs : List ℕ) → Contains (xs ++ e ∷ back) e
+      in_middle xs = Contains-append_right xs (e ∷ back) e (member_first e e back refl)
 
   pub ring_is : LeadsToRing fs n e here
   ring_is = by_step t.step refl
     where
       by_step : (x : Step) → t.step ≡ x → LeadsToRing fs n e here
       by_step (Nowhere v) q =
-          let ends : last_item (n ∷ t.names) ≡ Some e = subst (λ (y : Step). EndsAt (n ∷ t.names) y e) q t.ends_at in
+          let ends : last_or None (n ∷ t.names) ≡ Some e = subst (λ (y : Step). EndsAt (n ∷ t.names) y e) q t.ends_at in
           let follows : FollowsFaults fs n t.names (Nowhere v) =
           subst (λ (y : Step). FollowsFaults fs n t.names y) q t.follows_faults in
           let same : Nowhere v ≡ To here =
           one_step fs e (Nowhere v) (To here) (last_goes fs n t.names (Nowhere v) e follows ends) goes in
           absurd (cc)
       by_step (To m) q =
-          let ends : (m ≡ e) × In e (n ∷ t.names) = subst (λ (y : Step). EndsAt (n ∷ t.names) y e) q t.ends_at in
+          let ends : (m ≡ e) × Contains (n ∷ t.names) e = subst (λ (y : Step). EndsAt (n ∷ t.names) y e) q t.ends_at in
           let follows : FollowsFaults fs n t.names (To e) =
           subst (λ (y : Step). FollowsFaults fs n t.names y) (q ∙ ap To ends.0) t.follows_faults in
           let r = split_at (n ∷ t.names) e ends.1 in

@@ -1,9 +1,10 @@
 -- A running search, and the invariant that each of its moves preserves.
 use Rattle.std.proofs.Common.{◌≡◌, ◌⊎◌, ℕ, suc, ◌+◌, ◌^◌, ◌<◌, ◌≤◌, Bool, true, false, List, [], ◌∷◌, ◌++◌, length}
-use Rattle.std.proofs.Common.{take, set, Some, refl, sym, ◌∙◌, ap, subst, inl, inr, arith, nat_eq, length-set}
+use Rattle.std.proofs.Common.{take, set, Some, refl, sym, ◌∙◌, ap, subst, inl, inr, arith, nat_eq, length-set, Contains}
 use Rattle.std.specs.List.{IsDistinct, slice_get}
 use Rattle.std.proofs.lemmas.Bool.{false_from_ne_true}
 use Rattle.std.proofs.lemmas.List.{take_all}
+use Rattle.std.proofs.lemmas.List.Elements.{Contains-append_left, Contains-push, Contains-push_cases}
 use Rattle.std.proofs.lemmas.Option.{slice_get_within}
 use Rattle.name_walk.specs.declared.mark.Mark.{Mark}
 use Rattle.name_walk.specs.declared.mark.Mark.TheVariants.{Closed, OnPath, Open}
@@ -15,7 +16,6 @@ use Rattle.name_walk.specs.declared.trail.Ending.TheVariants.{At, Ring}
 use Rattle.name_walk.specs.ClosedNames.{IsClosedName, IsDone, IsSettled, StepLeadsInto}
 use Rattle.name_walk.specs.Faults.{is_on_path}
 use Rattle.name_walk.specs.Findings.{CanClear}
-use Rattle.name_walk.specs.Lists.{In}
 use Rattle.name_walk.specs.Nets.{IsConsistentGraph}
 use Rattle.name_walk.specs.PathRecords.{AreNoted}
 use Rattle.name_walk.specs.Paths.{IsNamePath}
@@ -25,17 +25,18 @@ use Rattle.name_walk.specs.Traces.{Trace, path}
 use Rattle.name_walk.specs.Trails.{AreFindings, AreTrails, Faults, IsFaulty, IsFirst}
 use Rattle.name_walk.specs.Visits.{IsBelow}
 use Rattle.name_walk.proofs.ClosedPaths.{any_depth, into_map}
-use Rattle.name_walk.proofs.Distinct.{member_or}
 use Rattle.name_walk.proofs.Faults.{empty_path, path_push}
 use Rattle.name_walk.proofs.Going.{HaveRoom}
-use Rattle.name_walk.proofs.Links.{AreDone, AreLinked, are_done_more, frame, head, head_In, head_more, last_path}
-use Rattle.name_walk.proofs.Links.{linked_more, linked_pop, linked_push, linked_reach, name_In, path_more}
-use Rattle.name_walk.proofs.Lists.{In-last, In-left, In-on, In-push, all_append, all_at, all_front, all_map}
-use Rattle.name_walk.proofs.Lists.{distinct_front, distinct_last, get_In, on-In, take_at}
+use Rattle.name_walk.proofs.Links.{AreDone, AreLinked, are_done_more, frame, head, head_more, last_path}
+use Rattle.name_walk.proofs.Links.{linked_more, linked_pop, linked_push, linked_reach, path_more, head_member}
+use Rattle.name_walk.proofs.Links.{name_member}
+use Rattle.name_walk.proofs.Lists.{all_append, all_at, all_front, all_map}
+use Rattle.name_walk.proofs.Lists.{distinct_front, distinct_last, take_at}
 use Rattle.name_walk.proofs.Marks.{entered_again, entered_in}
 use Rattle.name_walk.proofs.PathFaults.{PathEnds, noted_faulty, path_findings, path_trails, still_faulty}
 use Rattle.name_walk.proofs.DoneNames.{done_closed}
 use Rattle.name_walk.proofs.SearchMarks.{AreMarks, marks_clear, marks_close, marks_enter}
+use Rattle.name_walk.proofs.Members.{member_at, member_on_path, member_or, no_member, on_path_member}
 
 -- the path, whose frames have the places of the steps by which it goes on
 pub record IsOnTrail (g : Graph) (s : List Bool) (start : ℕ) (os : List ℕ) (frames : List Frame) (name place : ℕ)
@@ -55,13 +56,13 @@ pub record IsSeeking (g : Graph) (s : List Bool) (start : ℕ) (old : Trace) (ms
   pub way : IsOnTrail g s start os frames name place
   pub marks_size : length g ≤ length ms
   pub faults_size : length g ≤ length fs
-  pub kept : (n : ℕ) → In n old.order → In n os
-  pub from : (n : ℕ) → In n es → In n old.entered_names ⊎ (IsBelow g start n × (IsSettled s n → ⊥))
+  pub kept : (n : ℕ) → Contains old.order n → Contains os n
+  pub from : (n : ℕ) → Contains es n → Contains old.entered_names n ⊎ (IsBelow g start n × (IsSettled s n → ⊥))
 
 -- a name that is done stays done after one more name is closed
 done_wider : (s : List Bool) (os : List ℕ) (n m : ℕ) → IsDone s os m → IsDone s (os ++ n ∷ []) m
 done_wider s os n m (inl e) = inl e
-done_wider s os n m (inr i) = inr (In-left os (n ∷ []) m i)
+done_wider s os n m (inr i) = inr (Contains-append_left os (n ∷ []) m i)
 
 first_wider : (g : Graph) (s : List Bool) (os : List ℕ) (k n : ℕ) (x : Step) → IsFirst g s os n x
     → IsFirst g s (os ++ k ∷ []) n x
@@ -74,9 +75,9 @@ first_wider g s os k n x a = record {
 findings_close : (g : Graph) (s : List Bool) (os : List ℕ) (fs : Faults) (n : ℕ) → AreFindings g s os fs
     → IsClosedName g n → ((m : ℕ) → LeadsTo g n m → IsDone s os m) → AreFindings g s (os ++ n ∷ []) fs
 findings_close g s os fs n are closed below = record {
-  names_sound = λ k i. elim (In-push os n k i) [
+  names_sound = λ k i. elim (Contains-push_cases os n k i) [
     | inl j ↦ ((are.names_sound k j).0, λ m l. done_wider s os n m ((are.names_sound k j).1 m l))
-    | inr e ↦ subst (λ (q : ℕ). IsClosedName g q × ((m : ℕ) → LeadsTo g q m → IsDone s (os ++ n ∷ []) m)) (sym e)
+    | inr e ↦ subst (λ (q : ℕ). IsClosedName g q × ((m : ℕ) → LeadsTo g q m → IsDone s (os ++ n ∷ []) m)) e
         (closed, λ m l. done_wider s os n m (below m l))
   ];
   first_faults = λ k c e. first_wider g s os n k c.step (are.first_faults k c e);
@@ -100,8 +101,8 @@ module _ (g : Graph) (s : List Bool) (net : IsConsistentGraph g s) (start : ℕ)
           closed = b.consistent.marked_in_order;
           sound = b.consistent.order_entered;
           marked = λ n e. inr (b.consistent.off_path n e);
-          on_path = λ n i. absurd i;
-          fresh = λ n i f. i;
+          on_path = λ n i. absurd (no_member n i);
+          fresh = λ n i f. no_member n i;
         }) o.mark (let l : length g ≤ length fs = b.fault_room in omega arith) o.not_faulty;
         way = record {
           is_path = path_push g [] start (empty_path g) refl there;
@@ -114,23 +115,26 @@ module _ (g : Graph) (s : List Bool) (net : IsConsistentGraph g s) (start : ℕ)
         marks_size = subst (λ (k : ℕ). length g ≤ k) (sym (length-set old.marks start OnPath)) b.marks;
         faults_size = b.fault_room;
         kept = λ n i. i;
-        from = λ n i. elim (In-push old.entered_names start n i) [
+        from = λ n i. elim (Contains-push_cases old.entered_names start n i) [
           | inl j ↦ inl j
-          | inr e ↦ inr (inl e, λ q. let f : slice_get s n ≡ Some false = ap (slice_get s) e ∙ o.not_settled in cc)
+          | inr e ↦ inr (
+            inl (sym e),
+            λ q. let f : slice_get s n ≡ Some false = ap (slice_get s) (sym e) ∙ o.not_settled in cc,
+          )
         ];
       }
 
   module _ (fs : Faults) (ms : List Mark) (es os : List ℕ) (frames : List Frame) (name place : ℕ)
       (go : IsSeeking g s start old ms es os fs frames name place) where
     pub seek_there : name < length g
-    seek_there = go.way.is_path.names_in_graph name (In-on (path frames name) name (name_In frames name))
+    seek_there = go.way.is_path.names_in_graph name (member_on_path (path frames name) name (name_member frames name))
 
     seek_mark : slice_get ms name ≡ Some OnPath
-    seek_mark = go.marks.on_path name (name_In frames name)
+    seek_mark = go.marks.on_path name (name_member frames name)
 
     seek_below : IsBelow g start name
     seek_below =
-        elim (linked_reach g s os frames name go.way.linked (head frames name) (head_In frames name)) [
+        elim (linked_reach g s os frames name go.way.linked (head frames name) (head_member frames name)) [
           | inl e ↦ inl (sym e ∙ go.way.begins)
           | inr r ↦ inr (subst (λ (x : ℕ). NameReaches g x name) go.way.begins r)
         ]
@@ -172,13 +176,14 @@ module _ (g : Graph) (s : List Bool) (net : IsConsistentGraph g s) (start : ℕ)
     pub seek_enter : (m : ℕ) → slice_get (steps g name) place ≡ Some (To m) → IsOpen s ms fs m → place + 1 < 2 ^ 64
         → IsSeeking g s start old (set ms m OnPath) (es ++ m ∷ []) os fs (frames ++ frame name place ∷ []) m 0
     seek_enter m e o fits =
-        let leads : LeadsTo g name m = get_In _ _ _ e in
+        let leads : LeadsTo g name m = member_at _ _ _ e in
         let there : m < length g = net.steps_in_range name m leads in
         let p : path (frames ++ frame name place ∷ []) m ≡ path frames name ++ m ∷ [] =
         path_more frames (frame name place) m in
         let new : is_on_path (path frames name) m ≡ false =
         false_from_ne_true _ (λ f. let a : slice_get ms m ≡ Some OnPath =
-        go.marks.on_path m (on-In (path frames name) m f) in let b : slice_get ms m ≡ Some Open = o.mark in cc) in
+        go.marks.on_path m (on_path_member (path frames name) m f) in let b : slice_get ms m ≡ Some Open = o.mark in
+        cc) in
         record {
           are = go.are;
           trails = go.trails;
@@ -198,11 +203,11 @@ module _ (g : Graph) (s : List Bool) (net : IsConsistentGraph g s) (start : ℕ)
           marks_size = subst (λ (k : ℕ). length g ≤ k) (sym (length-set ms m OnPath)) go.marks_size;
           faults_size = go.faults_size;
           kept = go.kept;
-          from = λ n i. elim (In-push es m n i) [
+          from = λ n i. elim (Contains-push_cases es m n i) [
             | inl j ↦ go.from n j
             | inr q ↦ inr (
-              subst (λ (k : ℕ). IsBelow g start k) (sym q) (below_next m leads),
-              λ t. let f : slice_get s n ≡ Some false = ap (slice_get s) q ∙ o.not_settled in cc,
+              subst (λ (k : ℕ). IsBelow g start k) q (below_next m leads),
+              λ t. let f : slice_get s n ≡ Some false = ap (slice_get s) (sym q) ∙ o.not_settled in cc,
             )
           ];
         }
@@ -238,8 +243,8 @@ module _ (g : Graph) (s : List Bool) (net : IsConsistentGraph g s) (start : ℕ)
       pub close_size : length g ≤ length (set ms name Closed)
       close_size = subst (λ (k : ℕ). length g ≤ k) (sym (length-set ms name Closed)) go.marks_size
 
-      pub close_kept : (n : ℕ) → In n old.order → In n (os ++ name ∷ [])
-      close_kept n i = In-left os (name ∷ []) n (go.kept n i)
+      pub close_kept : (n : ℕ) → Contains old.order n → Contains (os ++ name ∷ []) n
+      close_kept n i = Contains-append_left os (name ∷ []) n (go.kept n i)
 
   -- ---- leaving a name for the one above it
   pub seek_leave : (fs : Faults) (ms : List Mark) (es os : List ℕ) (frames : List Frame) (f : Frame) (name place : ℕ)
@@ -250,10 +255,10 @@ module _ (g : Graph) (s : List Bool) (net : IsConsistentGraph g s) (start : ℕ)
       let p : path (frames ++ f ∷ []) name ≡ path frames f.name ++ name ∷ [] = path_more frames f name in
       let once : IsDistinct nat_eq (path frames f.name ++ name ∷ []) =
       subst (λ (q : List ℕ). IsDistinct nat_eq q) p go.way.is_path.names_differ in
-      let apart : In name (path frames f.name) → ⊥ = distinct_last (path frames f.name) name once in
+      let apart : Contains (path frames f.name) name → ⊥ = distinct_last (path frames f.name) name once in
       let short : f.place < length (steps g f.name) = slice_get_within _ _ _ pop.1 in
-      let up : (n : ℕ) → In n (path frames f.name) → In n (path (frames ++ f ∷ []) name) =
-      λ n i. subst (λ (q : List ℕ). In n q) (sym p) (In-left (path frames f.name) (name ∷ []) n i) in
+      let up : (n : ℕ) → Contains (path frames f.name) n → Contains (path (frames ++ f ∷ []) name) n =
+      λ n i. subst (λ (q : List ℕ). Contains q n) (sym p) (Contains-append_left (path frames f.name) (name ∷ []) n i) in
       record {
         are = close_findings fs ms es os (frames ++ f ∷ []) name place go full;
         trails = go.trails;
@@ -262,14 +267,14 @@ module _ (g : Graph) (s : List Bool) (net : IsConsistentGraph g s) (start : ℕ)
         way = record {
           is_path = record {
             names_differ = distinct_front (path frames f.name) (name ∷ []) once;
-            names_in_graph = λ q e. go.way.is_path.names_in_graph q (In-on _ q (up q (on-In _ q e)));
+            names_in_graph = λ q e. go.way.is_path.names_in_graph q (member_on_path _ q (up q (on_path_member _ q e)));
           };
           begins = sym (head_more frames f name) ∙ go.way.begins;
           linked = linked_more g s os name frames f.name pop.0;
           passed = subst (λ (xs : List Step). AreDone s (os ++ name ∷ []) xs)
               (sym (take_at (steps g f.name) f.place (To name) pop.1))
               (all_append (StepLeadsInto (IsDone s (os ++ name ∷ []))) (take f.place (steps g f.name)) (To name ∷ [])
-              (are_done_more s os name _ pop.2) (inr (In-last os name), tt));
+              (are_done_more s os name _ pop.2) (inr (Contains-push os name), tt));
           within = omega arith;
           room = all_front (λ (h : Frame). h.place + 1 < 2 ^ 64) frames (f ∷ []) go.way.room;
         };
@@ -286,7 +291,7 @@ module _ (g : Graph) (s : List Bool) (net : IsConsistentGraph g s) (start : ℕ)
       (record { marks = set ms name Closed; entered_names = es; order = os ++ name ∷ []; frames = [] }) fs fs false
   seek_finish fs ms es os name place go full =
       let m : AreMarks (set ms name Closed) es (os ++ name ∷ []) fs [] =
-      marks_close ms es os fs [] name go.marks (λ i. i) in
+      marks_close ms es os fs [] name go.marks (λ i. no_member name i) in
       record {
         state_between = record {
           findings_right = close_findings fs ms es os [] name place go full;
@@ -295,7 +300,7 @@ module _ (g : Graph) (s : List Bool) (net : IsConsistentGraph g s) (start : ℕ)
             marked_in_order = m.closed;
             order_entered = m.sound;
             trails = go.trails;
-            off_path = λ n e. elim (m.marked n e) [ inl i ↦ absurd i | inr f ↦ f ];
+            off_path = λ n e. elim (m.marked n e) [ inl i ↦ absurd (no_member n i) | inr f ↦ f ];
             frames = refl;
           };
           marks = close_size fs ms es os [] name place go full;
@@ -306,16 +311,16 @@ module _ (g : Graph) (s : List Bool) (net : IsConsistentGraph g s) (start : ℕ)
           faults_grow = λ n f. f;
           names = go.from;
         };
-        decision = inr (subst (λ (x : ℕ). In x (os ++ name ∷ [])) go.way.begins (In-last os name));
+        decision = inr (subst (λ (x : ℕ). Contains (os ++ name ∷ []) x) go.way.begins (Contains-push os name));
       }
 
   -- ---- meeting a fault, which is recorded for the names of the path
   module _ (fs hs : Faults) (ms : List Mark) (es os : List ℕ) (frames : List Frame) (name place : ℕ)
       (go : IsSeeking g s start old ms es os fs frames name place) (x : Step) (ending : Ending)
       (at : slice_get (steps g name) place ≡ Some x) (is : IsEnding ms fs name x ending) where
-    path_there : (n : ℕ) → In n (path frames name) → n < length fs
+    path_there : (n : ℕ) → Contains (path frames name) n → n < length fs
     path_there n i =
-        let l : n < length g = go.way.is_path.names_in_graph n (In-on (path frames name) n i) in
+        let l : n < length g = go.way.is_path.names_in_graph n (member_on_path (path frames name) n i) in
         let k : length g ≤ length fs = go.faults_size in
         omega arith
 
@@ -331,13 +336,13 @@ module _ (g : Graph) (s : List Bool) (net : IsConsistentGraph g s) (start : ℕ)
     )
 
     module _ (noted : AreNoted hs ending x (path frames name))
-        (others : (n : ℕ) → (In n (path frames name) → ⊥) → slice_get hs n ≡ slice_get fs n)
+        (others : (n : ℕ) → (Contains (path frames name) n → ⊥) → slice_get hs n ≡ slice_get fs n)
         (size : length hs ≡ length fs) where
       more_faulty : (n : ℕ) → IsFaulty fs n → IsFaulty hs n
       more_faulty =
           still_faulty fs hs ending x (path frames name) noted others go.marks.fresh path_once go.trails
 
-      all_noted : (n : ℕ) → IsFaulty hs n → In n es
+      all_noted : (n : ℕ) → IsFaulty hs n → Contains es n
       all_noted n f = elim (member_or (path frames name) n) [
         | inl i ↦ entered_in OnPath (λ q. cc) ms es n go.marks.entered (go.marks.on_path n i)
         | inr out ↦ go.marks.noted n (f.0, sym (others n out) ∙ f.1)
@@ -376,5 +381,5 @@ module _ (g : Graph) (s : List Bool) (net : IsConsistentGraph g s) (start : ℕ)
         };
         more = record { order_grows = go.kept; faults_grow = more_faulty; names = go.from };
         decision = subst (λ (n : ℕ). IsFaulty hs n) go.way.begins
-            (noted_faulty hs ending x (path frames name) noted (head frames name) (head_In frames name));
+            (noted_faulty hs ending x (path frames name) noted (head frames name) (head_member frames name));
       }

@@ -1,7 +1,7 @@
 -- The moves of a search, and how they change its traces.
 use Rattle.std.proofs.Common.{◌≡◌, ℕ, ◌+◌, ◌^◌, ◌<◌, ◌≤◌, Bool, false, true, List, [], ◌∷◌, ◌++◌, length, set, Some}
 use Rattle.std.proofs.Common.{sym}
-use Rattle.std.proofs.Common.{◌∙◌, ap, subst, inl, inr, arith}
+use Rattle.std.proofs.Common.{◌∙◌, ap, subst, inl, inr, arith, Contains}
 use Rattle.std.specs.List.{slice_get}
 use Rattle.std.proofs.lemmas.Option.{slice_get_within}
 use Rattle.name_walk.specs.declared.mark.Mark.TheVariants.{Closed, OnPath}
@@ -10,7 +10,6 @@ use Rattle.name_walk.specs.declared.step.Step.TheVariants.{To}
 use Rattle.name_walk.specs.declared.traces.Frame.{Frame}
 use Rattle.name_walk.specs.declared.trail.Ending.{Ending}
 use Rattle.name_walk.specs.Findings.{CanClear}
-use Rattle.name_walk.specs.Lists.{In}
 use Rattle.name_walk.specs.Nets.{IsConsistentGraph}
 use Rattle.name_walk.specs.PathRecords.{AreNoted}
 use Rattle.name_walk.specs.Searches.{IsBetween, IsEnding, IsOpen, IsSearched}
@@ -19,14 +18,14 @@ use Rattle.name_walk.specs.Traces.{Trace, path, with_closed, with_entered, with_
 use Rattle.name_walk.specs.Trails.{Faults}
 use Rattle.name_walk.specs.Visits.{IsMarkFound}
 use Rattle.name_walk.proofs.Going.{HaveRoom}
-use Rattle.name_walk.proofs.Links.{frame, name_In}
-use Rattle.name_walk.proofs.Lists.{In-on, get_In}
+use Rattle.name_walk.proofs.Links.{frame, name_member}
 use Rattle.name_walk.proofs.Moves.{weight_at}
 use Rattle.name_walk.proofs.SearchMarks.{marks_clear}
 use Rattle.name_walk.proofs.SearchInvariant.{IsSeeking, close_clear, fault_clear, seek_begin}
 use Rattle.name_walk.proofs.SearchInvariant.{seek_enter, seek_fault, seek_finish}
 use Rattle.name_walk.proofs.SearchInvariant.{seek_leave, seek_pass, seek_there}
 use Rattle.name_walk.proofs.Weights.{enter_less, leave_less, pass_less, weight}
+use Rattle.name_walk.proofs.Members.{member_at, member_on_path}
 
 -- a search is at a step of a name
 abbrev pub IsSeekingAt : Graph → List Bool → ℕ → Trace → Trace → Faults → ℕ → ℕ → Type 0
@@ -114,13 +113,14 @@ module _ {g : Graph} {s : List Bool} (net : IsConsistentGraph g s) {start : ℕ}
           λ hs. weight g (set t.marks name Closed) new.frames f.name (f.place + 1) < weight g t.marks hs name place in
           subst (λ (x : Trace). weight_at g x f.name (f.place + 1) < weight_at g t name place) is
           (subst less (sym frames)
-          (leave_less g t.marks new.frames f name place (go.marks.on_path name (name_In t.frames name)) go.way.within))
+          (leave_less g t.marks new.frames f name place (go.marks.on_path name (name_member t.frames name))
+          go.way.within))
 
     -- a name to which a step leads is in range
     pub next_there : (m : ℕ) → slice_get (steps g name) place ≡ Some (To m)
         → (m < length s) × (m < length t.marks) × (m < length fs)
     next_there m e =
-        let there : m < length g = net.steps_in_range name m (get_In _ _ _ e) in
+        let there : m < length g = net.steps_in_range name m (member_at _ _ _ e) in
         let ms : length g ≤ length t.marks = go.marks_size in
         let hs : length g ≤ length fs = go.faults_size in
         (subst (λ (k : ℕ). m < k) (sym net.mark_per_name) there, omega arith, omega arith)
@@ -131,21 +131,21 @@ module _ {g : Graph} {s : List Bool} (net : IsConsistentGraph g s) {start : ℕ}
     enter_less_seek m pushed new e o push entering =
         subst (λ (x : Trace). weight_at g x m 0 < weight_at g t name place)
         (sym (entering ∙ ap (λ (x : Trace). with_entered x m) push))
-        (enter_less g t.marks t.frames (frame name place) m o.mark (net.steps_in_range name m (get_In _ _ _ e)))
+        (enter_less g t.marks t.frames (frame name place) m o.mark (net.steps_in_range name m (member_at _ _ _ e)))
 
     pub pass_less_seek : (x : Step) → slice_get (steps g name) place ≡ Some x
         → weight_at g t name (place + 1) < weight_at g t name place
     pass_less_seek x e = pass_less g t.marks t.frames name place (slice_get_within _ _ _ e)
 
-    pub path_there_seek : (n : ℕ) → In n (path t.frames name) → n < length fs
+    pub path_there_seek : (n : ℕ) → Contains (path t.frames name) n → n < length fs
     path_there_seek n i =
-        let l : n < length g = go.way.is_path.names_in_graph n (In-on (path t.frames name) n i) in
+        let l : n < length g = go.way.is_path.names_in_graph n (member_on_path (path t.frames name) n i) in
         let k : length g ≤ length fs = go.faults_size in
         omega arith
 
     module _ (hs : Faults) (x : Step) (ending : Ending) (at : slice_get (steps g name) place ≡ Some x)
         (is : IsEnding t.marks fs name x ending) (noted : AreNoted hs ending x (path t.frames name))
-        (others : (n : ℕ) → (In n (path t.frames name) → ⊥) → slice_get hs n ≡ slice_get fs n)
+        (others : (n : ℕ) → (Contains (path t.frames name) n → ⊥) → slice_get hs n ≡ slice_get fs n)
         (size : length hs ≡ length fs) (new : Trace) (same : new ≡ without_frames t) where
       pub fault_clear_seek : CanClear new.marks new.entered_names hs
       fault_clear_seek =

@@ -1,14 +1,14 @@
 -- The steps of a query that a search has passed.
 use Rattle.std.proofs.Common.{◌≡◌, ℕ, ◌+◌, ◌-◌, ◌<◌, ◌≤◌, Bool, true, false, List, [], ◌∷◌, ◌++◌, length, take}
-use Rattle.std.proofs.Common.{Some, None, refl, sym, ◌∙◌, ap, subst, inl, inr}
+use Rattle.std.proofs.Common.{Some, None, refl, sym, ◌∙◌, ap, subst, inl, inr, Contains}
 use Rattle.std.specs.List.{slice_get}
 use Rattle.std.proofs.lemmas.List.{take_all}
+use Rattle.std.proofs.lemmas.List.Elements.{Contains-append_left, Contains-push}
 use Rattle.name_walk.specs.declared.step.Step.{Step}
 use Rattle.name_walk.specs.declared.step.Step.TheVariants.{Nowhere, To}
 use Rattle.name_walk.specs.ClosedNames.{IsDone}
 use Rattle.name_walk.specs.Faults.{Cycle, DeadEnd, NameFault, at_step, from_name, name_fault_within, steps_fault}
 use Rattle.name_walk.specs.Findings.{AreFromQuery, IsFirstFaulty}
-use Rattle.name_walk.specs.Lists.{In}
 use Rattle.name_walk.specs.Nets.{IsConsistentGraph}
 use Rattle.name_walk.specs.NewlyClosed.{IsReached}
 use Rattle.name_walk.specs.Searches.{AreMore, IsBetween, IsSearched}
@@ -16,11 +16,11 @@ use Rattle.name_walk.specs.Steps.{Graph}
 use Rattle.name_walk.specs.Traces.{Trace}
 use Rattle.name_walk.specs.Trails.{AreFindings, AreTrails, EndsAt, Faults, FollowsFaults, IsFaulty, IsTrail}
 use Rattle.name_walk.proofs.ClosedPaths.{name_closed}
-use Rattle.name_walk.proofs.Distinct.{take_In}
 use Rattle.name_walk.proofs.Faults.{empty_path}
-use Rattle.name_walk.proofs.Lists.{In-left, first_push, take_at}
+use Rattle.name_walk.proofs.Lists.{first_push, take_at}
 use Rattle.name_walk.proofs.QueryPasses.{fault_next}
 use Rattle.name_walk.proofs.Trails.{dead_end_fault, is_closed, ring_fault}
+use Rattle.name_walk.proofs.Members.{no_member, take_member}
 
 -- the fault of a name that has one
 pub record HasFault (g : Graph) (n : ℕ) : Type 0 where
@@ -44,7 +44,7 @@ module _ (g : Graph) (s : List Bool) (net : IsConsistentGraph g s) where
         (subst (λ (y : Step). EndsAt (n ∷ t.names) y e) is t.ends_at);
   }
   trail_has os fs are n e t (To m) is =
-      let end : (m ≡ e) × In e (n ∷ t.names) = subst (λ (y : Step). EndsAt (n ∷ t.names) y e) is t.ends_at in
+      let end : (m ≡ e) × Contains (n ∷ t.names) e = subst (λ (y : Step). EndsAt (n ∷ t.names) y e) is t.ends_at in
       record {
         own = Cycle (from_name e (n ∷ t.names) ++ e ∷ []);
         is = ring_fault g s net os fs are n t.names e
@@ -61,11 +61,7 @@ module _ (g : Graph) (s : List Bool) (net : IsConsistentGraph g s) where
   passed_none t fs b = record { between = b; none = refl; names = λ n i. inl i }
 
   reached_more : (query : List Step) (x : Step) (n : ℕ) → IsReached g query n → IsReached g (query ++ x ∷ []) n
-  reached_more query x n w = (w.0, In-left query (x ∷ []) (To w.0) w.1, w.2)
-
-  at_end : (xs : List Step) (x : Step) → In x (xs ++ x ∷ [])
-  at_end [] x = inl refl
-  at_end (y ∷ xs) x = inr (at_end xs x)
+  reached_more query x n w = (w.0, Contains-append_left query (x ∷ []) (To w.0) w.1, w.2)
 
   -- after one more name is searched, each known name was known before or is reached by the query
   names_more : (query : List Step) (n : ℕ) (old now later : Trace) (fs hs : Faults)
@@ -73,14 +69,14 @@ module _ (g : Graph) (s : List Bool) (net : IsConsistentGraph g s) where
       → AreFromQuery g s (query ++ To n ∷ []) old.entered_names later.entered_names
   names_more query n old now later fs hs names more k i = elim (more.names k i) [
     | inl j ↦ elim (names k j) [ inl q ↦ inl q | inr r ↦ inr (reached_more query (To n) k r.0, r.1) ]
-    | inr r ↦ inr ((n, at_end query (To n), r.0), r.1)
+    | inr r ↦ inr ((n, Contains-push query (To n), r.0), r.1)
   ]
 
   names_whole : (query : List Step) (i : ℕ) (old now : List ℕ) → AreFromQuery g s (take i query) old now
       → AreFromQuery g s query old now
   names_whole query i old now names n j = elim (names n j) [
     | inl q ↦ inl q
-    | inr r ↦ inr ((r.0.0, take_In i query (To r.0.0) r.0.1, r.0.2), r.1)
+    | inr r ↦ inr ((r.0.0, take_member i query (To r.0.0) r.0.1, r.0.2), r.1)
   ]
 
   module _ (query : List Step) (i : ℕ) (old now : Trace) (fs : Faults) (p : ArePassedBy g s (take i query) old now fs)
@@ -95,7 +91,7 @@ module _ (g : Graph) (s : List Bool) (net : IsConsistentGraph g s) where
             none = first_push (at_step (name_fault_within g (length g - 0)) []) (take i query) (To n) p.none
                 ∙ name_closed g net.steps_in_range (length g) [] n
                 (is_closed g s net later.order hs h.state_between.findings_right n h.decision) there (empty_path g)
-                (λ q j. absurd j);
+                (λ q j. absurd (no_member q j));
             names = names_more (take i query) n old now later fs hs p.names h.more;
           })
 

@@ -1,7 +1,7 @@
 -- When findings stay right.
 use Rattle.std.proofs.Common.{◌≡◌, ℕ, zero, suc, ◌+◌, ◌<◌, ◌≤◌, Bool, List, [], ◌∷◌, length, take, Some, refl, sym}
 use Rattle.std.proofs.Common.{subst}
-use Rattle.std.proofs.Common.{inl, inr, arith}
+use Rattle.std.proofs.Common.{inl, inr, arith, Contains}
 use Rattle.std.specs.List.{AllByRecursion, slice_get}
 use Rattle.std.proofs.lemmas.Bool.{cases_lt}
 use Rattle.std.proofs.lemmas.Option.{slice_get_within}
@@ -12,13 +12,13 @@ use Rattle.name_walk.specs.declared.trail.FaultyStep.{FaultyStep}
 use Rattle.name_walk.specs.ClosedNames.{EndsWithin, IsClosedName, IsDone, IsSettled, StepLeadsInto}
 use Rattle.name_walk.specs.Findings.{AreRight, IsConsistent, IsNothing, WalkFindings}
 use Rattle.name_walk.specs.FindingsLaws.{FindingsLaw}
-use Rattle.name_walk.specs.Lists.{In}
 use Rattle.name_walk.specs.Nets.{IsConsistentGraph}
 use Rattle.name_walk.specs.Steps.{Graph, LeadsTo, steps}
 use Rattle.name_walk.specs.Traces.{IsIdle, Trace}
 use Rattle.name_walk.specs.Trails.{AreFindings, Faults, IsFaulty, IsFirst}
 use Rattle.name_walk.proofs.ClosedPaths.{any_depth, ends_longer, into_map}
 use Rattle.name_walk.proofs.Lists.{all_map, all_map_in}
+use Rattle.name_walk.proofs.Members.{no_member}
 
 -- a name that is not in the graph has no steps
 no_steps : (g : Graph) (n : ℕ) → length g ≤ n → steps g n ≡ []
@@ -30,18 +30,19 @@ no_steps (v ∷ g) (suc n) l = no_steps g n (omega arith)
 module _ (g h : Graph) (s r : List Bool) (os : List ℕ) (fs : Faults) (are : AreFindings g s os fs)
     (net : IsConsistentGraph h r)
     (more : length g ≤ length h) (settled : (n : ℕ) → IsSettled s n → IsSettled r n)
-    (sound_same : (n : ℕ) → In n os → steps h n ≡ steps g n)
+    (sound_same : (n : ℕ) → Contains os n → steps h n ≡ steps g n)
     (faulty_same : (n : ℕ) → IsFaulty fs n → steps h n ≡ steps g n) where
   still_done : (n : ℕ) → IsDone s os n → IsDone r os n
   still_done n (inl e) = inl (settled n e)
   still_done n (inr i) = inr i
 
-  next_ends : (k m : ℕ) → IsDone s os m → (In m os → EndsWithin h (k + length h) m) → EndsWithin h (k + length h) m
+  next_ends : (k m : ℕ) → IsDone s os m → (Contains os m → EndsWithin h (k + length h) m)
+      → EndsWithin h (k + length h) m
   next_ends k m (inl d) f = ends_longer h (length h) k m ((net.settled_right m (settled m d)).0)
   next_ends k m (inr j) f = f j
 
   -- ways down from a sound name go through sound names, and then through settled ones
-  still_ends : (k n : ℕ) → In n os → EndsWithin g k n → EndsWithin h (k + length h) n
+  still_ends : (k n : ℕ) → Contains os n → EndsWithin g k n → EndsWithin h (k + length h) n
   still_ends zero n i e = absurd e
   still_ends (suc k) n i e =
       let depth : suc (k + length h) ≡ suc k + length h = omega arith in
@@ -52,7 +53,7 @@ module _ (g h : Graph) (s r : List Bool) (os : List ℕ) (fs : Faults) (are : Ar
       (into_there k (λ m l f. next_ends k m ((are.names_sound n i).1 m l) (λ j. still_ends k m j f))) e))
     where
       into_there : (j : ℕ) → ((m : ℕ) → LeadsTo g n m → EndsWithin g j m → EndsWithin h (j + length h) m) → (x : Step)
-          → In x (steps g n) → StepLeadsInto (EndsWithin g j) x → StepLeadsInto (EndsWithin h (j + length h)) x
+          → Contains (steps g n) x → StepLeadsInto (EndsWithin g j) x → StepLeadsInto (EndsWithin h (j + length h)) x
       into_there j f (Nowhere w) a q = q
       into_there j f (To m) a q = f m a q
 
@@ -66,7 +67,7 @@ module _ (g h : Graph) (s r : List Bool) (os : List ℕ) (fs : Faults) (are : Ar
   ends_at_once (suc k) n l e =
       subst (λ (xs : List Step). AllByRecursion (StepLeadsInto (EndsWithin h k)) xs) (sym e) tt
 
-  still_closed : (n : ℕ) → In n os → IsClosedName h n
+  still_closed : (n : ℕ) → Contains os n → IsClosedName h n
   still_closed n i = elim (cases_lt n (length h)) [
     | inl there ↦ any_depth h net.steps_in_range (length g + length h) n there
         (still_ends (length g) n i (are.names_sound n i).0)
@@ -92,7 +93,8 @@ module _ (g h : Graph) (s r : List Bool) (os : List ℕ) (fs : Faults) (are : Ar
   still_are = record {
     names_sound = λ n i. (
       still_closed n i,
-      λ m l. still_done m ((are.names_sound n i).1 m (subst (λ (xs : List Step). In (To m) xs) (sound_same n i) l)),
+      λ m l. still_done m ((are.names_sound n i).1 m
+          (subst (λ (xs : List Step). Contains xs (To m)) (sound_same n i) l)),
     );
     first_faults = still_first;
   }
@@ -101,16 +103,16 @@ module _ (g h : Graph) (s r : List Bool) (os : List ℕ) (fs : Faults) (are : Ar
 pub nothing_right : (g : Graph) (s : List Bool) (f : WalkFindings) → IsNothing f → AreRight g s f
 nothing_right g s f h = record {
   findings_right = record {
-    names_sound = λ n i. absurd (subst (λ (ns : List ℕ). In n ns) h.no_sound_names i);
+    names_sound = λ n i. absurd (no_member n (subst (λ (ns : List ℕ). Contains ns n) h.no_sound_names i));
     first_faults = λ n c e. absurd (h.no_faults n (c, e));
   };
-  sound_named = λ n i. absurd (subst (λ (ns : List ℕ). In n ns) h.no_sound_names i);
+  sound_named = λ n i. absurd (no_member n (subst (λ (ns : List ℕ). Contains ns n) h.no_sound_names i));
   faulty_named = λ n q. absurd (h.no_faults n q);
 }
 
 still_right : (g h : Graph) (s r : List Bool) (f : WalkFindings) → AreRight g s f → IsConsistentGraph h r
     → length g ≤ length h
-    → ((n : ℕ) → IsSettled s n → IsSettled r n) → ((n : ℕ) → In n f.names → steps h n ≡ steps g n)
+    → ((n : ℕ) → IsSettled s n → IsSettled r n) → ((n : ℕ) → Contains f.names n → steps h n ≡ steps g n)
     → AreRight h r f
 still_right g h s r f right net more settled same = record {
   findings_right = still_are g h s r f.sound_names f.faults right.findings_right net more settled
@@ -140,7 +142,7 @@ nothing_consistent t fs idle none faultless = record {
   marked_in_order = λ n e. let o : slice_get t.marks n ≡ Some Open =
       idle.are_open n (slice_get_within t.marks n Closed e) in
       absurd (cc);
-  order_entered = λ n i. absurd (subst (λ (ns : List ℕ). In n ns) none i);
+  order_entered = λ n i. absurd (no_member n (subst (λ (ns : List ℕ). Contains ns n) none i));
   trails = record {
     leads_to_faulty = λ n m b. absurd (faultless n (b.0, b.1));
     trails = λ n c e. absurd (faultless n (c, e));
@@ -150,5 +152,5 @@ nothing_consistent t fs idle none faultless = record {
   frames = idle.frames;
 }
   where
-    no_name : (n : ℕ) → In n t.entered_names → ⊥
-    no_name n i = subst (λ (ns : List ℕ). In n ns) idle.none_entered i
+    no_name : (n : ℕ) → Contains t.entered_names n → ⊥
+    no_name n i = no_member n (subst (λ (ns : List ℕ). Contains ns n) idle.none_entered i)

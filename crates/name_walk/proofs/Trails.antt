@@ -1,25 +1,25 @@
 -- Ways to faults, and the faults at their ends.
 use Rattle.std.proofs.Common.{◌≡◌, ℕ, zero, suc, ◌<◌, ◌-◌, Bool, false, List, [], ◌∷◌, ◌++◌, length, take, Option}
-use Rattle.std.proofs.Common.{Some, None, sym, ◌∙◌, ap, subst, inl, inr, arith, nat_eq, append_assoc}
-use Rattle.std.specs.List.{IsDistinct, slice_get}
+use Rattle.std.proofs.Common.{Some, None, sym, ◌∙◌, ap, subst, inl, inr, arith, nat_eq, append_assoc, Contains}
+use Rattle.std.specs.List.{IsDistinct, slice_get, last_or}
 use Rattle.std.proofs.lemmas.Bool.{cond-true, false_from_ne_true}
+use Rattle.std.proofs.lemmas.List.Elements.{Contains-append_left, Contains-push_cases}
 use Rattle.name_walk.specs.declared.step.Step.{Step}
 use Rattle.name_walk.specs.declared.step.Step.TheVariants.{Nowhere, To}
 use Rattle.name_walk.specs.declared.trail.FaultyStep.{FaultyStep}
 use Rattle.name_walk.specs.ClosedNames.{IsClosedName, IsDone, StepLeadsInto}
 use Rattle.name_walk.specs.Faults.{Cycle, DeadEnd, NameFault, at_step, from_name, is_on_path, name_fault_within}
 use Rattle.name_walk.specs.Faults.{steps_fault}
-use Rattle.name_walk.specs.Lists.{In, last_item}
 use Rattle.name_walk.specs.Nets.{IsConsistentGraph}
 use Rattle.name_walk.specs.Paths.{IsNamePath}
 use Rattle.name_walk.specs.Steps.{Graph, LeadsTo, NameReaches, at_once, steps}
 use Rattle.name_walk.specs.Trails.{AreFindings, Faults, FollowsFaults, GoesBy, IsFaulty, IsFirst}
 use Rattle.name_walk.proofs.ClosedPaths.{name_closed, reaches_on}
-use Rattle.name_walk.proofs.Distinct.{take_In}
 use Rattle.name_walk.proofs.Faults.{name_is}
-use Rattle.name_walk.proofs.Lists.{In-left, In-on, In-push, all_at, distinct_front, distinct_last, first_at, get_In}
-use Rattle.name_walk.proofs.Lists.{none_from, on-In, or_none}
+use Rattle.name_walk.proofs.Lists.{all_at, distinct_front, distinct_last, first_at}
+use Rattle.name_walk.proofs.Lists.{none_from, or_none}
 use Rattle.name_walk.proofs.DoneNames.{done_closed}
+use Rattle.name_walk.proofs.Members.{member_at, member_cases, member_on_path, no_member, on_path_member, take_member}
 
 some_same : {A : Type 0} (a b : A) → Some (Some a) ≡ Some (Some b) → a ≡ b
 some_same a b e = cc
@@ -51,11 +51,16 @@ module _ (fs : Faults) where
   follows_split n (k ∷ xs) m ys x h = let r = follows_split k xs m ys x h.1 in ((h.0, r.0), r.1)
 
   -- each name on a way has a fault
-  pub all_faulty : (n : ℕ) (ms : List ℕ) (x : Step) → FollowsFaults fs n ms x → (k : ℕ) → In k (n ∷ ms) → IsFaulty fs k
-  all_faulty n [] x h k (inl e) = subst (λ (j : ℕ). IsFaulty fs j) (sym e) (h.0, h.1)
-  all_faulty n [] x h k (inr i) = absurd i
-  all_faulty n (m ∷ ms) x h k (inl e) = subst (λ (j : ℕ). IsFaulty fs j) (sym e) (h.0.0, h.0.1)
-  all_faulty n (m ∷ ms) x h k (inr i) = all_faulty m ms x h.1 k i
+  pub all_faulty : (n : ℕ) (ms : List ℕ) (x : Step) → FollowsFaults fs n ms x → (k : ℕ) → Contains (n ∷ ms) k
+      → IsFaulty fs k
+  all_faulty n [] x h k i = elim (member_cases k n [] i) [
+    | inl e ↦ subst (λ (j : ℕ). IsFaulty fs j) (sym e) (h.0, h.1)
+    | inr j ↦ absurd (no_member k j)
+  ]
+  all_faulty n (m ∷ ms) x h k i = elim (member_cases k n (m ∷ ms) i) [
+    | inl e ↦ subst (λ (j : ℕ). IsFaulty fs j) (sym e) (h.0.0, h.0.1)
+    | inr j ↦ all_faulty m ms x h.1 k j
+  ]
 
 -- a way stays a way if the faulty steps that were known stay
 pub follows_same : (fs hs : Faults) → ((n : ℕ) (c : FaultyStep) → slice_get fs n ≡ Some (Some c)
@@ -68,7 +73,8 @@ follows_same fs hs same n (m ∷ ms) x h = ((h.0.0, same n h.0.0 h.0.1, h.0.2), 
 pub path_front : (g : Graph) (p q : List ℕ) → IsNamePath g (p ++ q) → IsNamePath g p
 path_front g p q h = record {
   names_differ = distinct_front p q h.names_differ;
-  names_in_graph = λ n e. h.names_in_graph n (In-on (p ++ q) n (In-left p q n (on-In p n e)));
+  names_in_graph = λ n e.
+      h.names_in_graph n (member_on_path (p ++ q) n (Contains-append_left p q n (on_path_member p n e)));
 }
 
 module _ (g : Graph) (s : List Bool) (net : IsConsistentGraph g s) (os : List ℕ) (fs : Faults)
@@ -85,15 +91,16 @@ module _ (g : Graph) (s : List Bool) (net : IsConsistentGraph g s) (os : List �
   pub first_step : (n : ℕ) (x : Step) → GoesBy fs n x → IsFirst g s os n x
   first_step n x b = subst (λ (y : Step). IsFirst g s os n y) b.2 (are.first_faults n b.0 b.1)
 
-  module _ (p : List ℕ) (n : ℕ) (path : IsNamePath g (p ++ n ∷ [])) (reach : (q : ℕ) → In q p → NameReaches g q n) where
-    longer_reach : (m : ℕ) → LeadsTo g n m → (q : ℕ) → In q (p ++ n ∷ []) → NameReaches g q m
-    longer_reach m l q i = elim (In-push p n q i) [
+  module _ (p : List ℕ) (n : ℕ) (path : IsNamePath g (p ++ n ∷ []))
+      (reach : (q : ℕ) → Contains p q → NameReaches g q n) where
+    longer_reach : (m : ℕ) → LeadsTo g n m → (q : ℕ) → Contains (p ++ n ∷ []) q → NameReaches g q m
+    longer_reach m l q i = elim (Contains-push_cases p n q i) [
       | inl j ↦ reaches_on (reach q j) (at_once l)
-      | inr e ↦ subst (λ (k : ℕ). NameReaches g k m) (sym e) (at_once l)
+      | inr e ↦ subst (λ (k : ℕ). NameReaches g k m) e (at_once l)
     ]
 
     -- a step before the first faulty step has no fault on the path
-    none_before : (x : Step) → In x (steps g n) → StepLeadsInto (IsDone s os) x
+    none_before : (x : Step) → Contains (steps g n) x → StepLeadsInto (IsDone s os) x
         → at_step (name_fault_within g (length g - length (p ++ n ∷ []))) (p ++ n ∷ []) x ≡ None
     none_before (Nowhere w) i h = absurd h
     none_before (To m) i h =
@@ -106,20 +113,20 @@ module _ (g : Graph) (s : List Bool) (net : IsConsistentGraph g s) (os : List �
         → steps_fault g p (To n ∷ []) ≡ Some f
     at_first x f a h =
         let new : is_on_path p n ≡ false =
-        false_from_ne_true (is_on_path p n) (λ e. distinct_last p n path.names_differ (on-In p n e)) in
+        false_from_ne_true (is_on_path p n) (λ e. distinct_last p n path.names_differ (on_path_member p n e)) in
         or_none _
         ∙ (name_is g p n (path_front g p (n ∷ []) path) new (has_steps g n a.place x a.step_at)
         ∙ first_at (at_step (name_fault_within g (length g - length (p ++ n ∷ []))) (p ++ n ∷ [])) (steps g n) a.place x
         f
         (none_from (at_step (name_fault_within g (length g - length (p ++ n ∷ []))) (p ++ n ∷ []))
         (take a.place (steps g n))
-        (λ y i. none_before y (take_In a.place (steps g n) y i)
+        (λ y i. none_before y (take_member a.place (steps g n) y i)
         (all_at (StepLeadsInto (IsDone s os)) (take a.place (steps g n)) y a.earlier_done i)))
         a.step_at h)
 
   -- the fault of a name is the one at the end of its way
   pub way_fault : (p : List ℕ) (n : ℕ) (ms : List ℕ) (x : Step) (f : NameFault) → IsNamePath g (p ++ n ∷ ms)
-      → ((q : ℕ) → In q p → NameReaches g q n) → FollowsFaults fs n ms x
+      → ((q : ℕ) → Contains p q → NameReaches g q n) → FollowsFaults fs n ms x
       → ((deeper : List ℕ → ℕ → Option NameFault) → at_step deeper (p ++ n ∷ ms) x ≡ Some f)
       → steps_fault g p (To n ∷ []) ≡ Some f
   way_fault p n [] x f path reach h gives =
@@ -132,7 +139,7 @@ module _ (g : Graph) (s : List Bool) (net : IsConsistentGraph g s) (os : List �
       let short : IsNamePath g (p ++ n ∷ []) = path_front g (p ++ n ∷ []) (m ∷ ms) long in
       at_first p n short reach (To m) f a
       (sym (or_none _)
-      ∙ way_fault (p ++ n ∷ []) m ms x f long (longer_reach p n short reach m (get_In _ _ _ a.step_at)) h.1
+      ∙ way_fault (p ++ n ∷ []) m ms x f long (longer_reach p n short reach m (member_at _ _ _ a.step_at)) h.1
       (λ deeper. subst (λ (q : List ℕ). at_step deeper q x ≡ Some f) (sym same) (gives deeper)))
 
   -- the names of a way are a path
@@ -140,22 +147,23 @@ module _ (g : Graph) (s : List Bool) (net : IsConsistentGraph g s) (os : List �
       → IsNamePath g (n ∷ ms)
   way_path n ms x h once = record {
     names_differ = once;
-    names_in_graph = λ k e. faulty_there k (all_faulty fs n ms x h k (on-In (n ∷ ms) k e));
+    names_in_graph = λ k e. faulty_there k (all_faulty fs n ms x h k (on_path_member (n ∷ ms) k e));
   }
 
   -- a way to a word that leads nowhere gives a dead end
   pub dead_end_fault : (n : ℕ) (ms : List ℕ) (w e : ℕ) → FollowsFaults fs n ms (Nowhere w) → IsDistinct nat_eq (n ∷ ms)
-      → last_item (n ∷ ms) ≡ Some e → steps_fault g [] (To n ∷ []) ≡ Some (DeadEnd w (Some e))
+      → last_or None (n ∷ ms) ≡ Some e → steps_fault g [] (To n ∷ []) ≡ Some (DeadEnd w (Some e))
   dead_end_fault n ms w e h once is =
-      way_fault [] n ms (Nowhere w) (DeadEnd w (Some e)) (way_path n ms (Nowhere w) h once) (λ q i. absurd i) h
+      way_fault [] n ms (Nowhere w) (DeadEnd w (Some e)) (way_path n ms (Nowhere w) h once)
+      (λ q i. absurd (no_member q i)) h
       (λ deeper. ap (λ (o : Option ℕ). Some (DeadEnd w o)) is)
 
   -- a way into a ring gives a cycle
   pub ring_fault : (n : ℕ) (ms : List ℕ) (e : ℕ) → FollowsFaults fs n ms (To e) → IsDistinct nat_eq (n ∷ ms)
-      → In e (n ∷ ms) → steps_fault g [] (To n ∷ []) ≡ Some (Cycle (from_name e (n ∷ ms) ++ e ∷ []))
+      → Contains (n ∷ ms) e → steps_fault g [] (To n ∷ []) ≡ Some (Cycle (from_name e (n ∷ ms) ++ e ∷ []))
   ring_fault n ms e h once i =
       way_fault [] n ms (To e) (Cycle (from_name e (n ∷ ms) ++ e ∷ [])) (way_path n ms (To e) h once)
-      (λ q j. absurd j) h
+      (λ q j. absurd (no_member q j)) h
       (λ deeper. cond-true (is_on_path (n ∷ ms) e) (Some (Cycle (from_name e (n ∷ ms) ++ e ∷ [])))
       (deeper ((n ∷ ms) ++ e ∷ []) e)
-      (In-on (n ∷ ms) e i))
+      (member_on_path (n ∷ ms) e i))

@@ -1,14 +1,13 @@
 -- Added names, about which nothing is known.
 use Rattle.std.proofs.Common.{◌≡◌, ◌⊎◌, ℕ, zero, suc, ◌+◌, ◌-◌, ◌<◌, ◌≤◌, Bool, List, [], ◌∷◌, ◌++◌, length, take}
 use Rattle.std.proofs.Common.{replicate}
-use Rattle.std.proofs.Common.{Some, None, refl, sym, ◌∙◌, ap, subst, inl, inr, arith, length-append}
+use Rattle.std.proofs.Common.{Some, None, refl, sym, ◌∙◌, ap, subst, inl, inr, arith, length-append, Contains}
 use Rattle.std.specs.List.{slice_get}
 use Rattle.std.proofs.lemmas.List.{length-replicate, take_all}
 use Rattle.std.proofs.lemmas.Option.{slice_get_within}
 use Rattle.name_walk.specs.declared.mark.Mark.{Mark}
 use Rattle.name_walk.specs.declared.mark.Mark.TheVariants.{Closed, OnPath, Open}
 use Rattle.name_walk.specs.Findings.{CanClear, IsConsistent}
-use Rattle.name_walk.specs.Lists.{In}
 use Rattle.name_walk.specs.Searches.{AreFaultsCovered, AreMarksCovered, IsBetween}
 use Rattle.name_walk.specs.Steps.{Graph}
 use Rattle.name_walk.specs.Traces.{AreEntered, Trace, trace_with_names}
@@ -123,9 +122,9 @@ module _ (old new : Trace) (fs hs : Faults) (m : AreMarksCovered old new) (f : A
   pub covered_clear : CanClear old.marks old.entered_names fs → CanClear new.marks new.entered_names hs
   covered_clear h = record {
     names_entered = m.names_entered h.names_entered;
-    names_within = λ n i. let a : n < length fs = h.names_within n (subst (λ (es : List ℕ). In n es) m.names i) in
+    names_within = λ n i. let a : n < length fs = h.names_within n (subst (λ (es : List ℕ). Contains es n) m.names i) in
         let b : length fs ≤ length hs = f.fault_list_grows in omega arith;
-    faulty_entered = λ n g. subst (λ (es : List ℕ). In n es) (sym m.names) (h.faulty_entered n (is_old n g));
+    faulty_entered = λ n g. subst (λ (es : List ℕ). Contains es n) (sym m.names) (h.faulty_entered n (is_old n g));
   }
 
   trail_new : (n e : ℕ) → IsTrail fs n e → IsTrail hs n e
@@ -140,10 +139,10 @@ module _ (old new : Trace) (fs hs : Faults) (m : AreMarksCovered old new) (f : A
   pub covered_consistent : IsConsistent old fs → IsConsistent new hs
   covered_consistent k = record {
     can_clear = covered_clear k.can_clear;
-    marked_in_order = λ n e. subst (λ (os : List ℕ). In n os) (sym m.order)
+    marked_in_order = λ n e. subst (λ (os : List ℕ). Contains os n) (sym m.order)
         (k.marked_in_order n (m.marks n Closed (λ q. cc) e));
-    order_entered = λ n i. subst (λ (es : List ℕ). In n es) (sym m.names)
-        (k.order_entered n (subst (λ (os : List ℕ). In n os) m.order i));
+    order_entered = λ n i. subst (λ (es : List ℕ). Contains es n) (sym m.names)
+        (k.order_entered n (subst (λ (os : List ℕ). Contains os n) m.order i));
     trails = record {
       leads_to_faulty = λ n j b. is_new j (k.trails.leads_to_faulty n j (b.0, f.new_faults n b.0 b.1, b.2));
       trails = λ n c e. trail_new n c.end (k.trails.trails n c (f.new_faults n c e));

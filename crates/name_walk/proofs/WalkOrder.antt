@@ -1,27 +1,28 @@
 -- The names that a walk has closed.
-use Rattle.std.proofs.Common.{◌≡◌, ℕ, ◌<◌, Bool, List, [], ◌∷◌, ◌++◌, length, set, Some, sym, ◌∙◌, subst, inl, inr}
-use Rattle.std.proofs.Common.{length-set}
+use Rattle.std.proofs.Common.{◌≡◌, ℕ, ◌<◌, Bool, List, [], ◌∷◌, ◌++◌, length, set, Some, ◌∙◌, subst, inl, inr}
+use Rattle.std.proofs.Common.{length-set, Contains}
 use Rattle.std.specs.List.{slice_get}
 use Rattle.std.proofs.lemmas.Bool.{false_from_ne_true}
 use Rattle.std.proofs.lemmas.Cmp.{nat_eq_equiv}
 use Rattle.std.proofs.lemmas.Map.Keys.{IsDistinct-push}
 use Rattle.std.proofs.lemmas.Option.{slice_get_within}
+use Rattle.std.proofs.lemmas.List.Elements.{Contains-push_cases}
 use Rattle.name_walk.specs.declared.mark.Mark.{Mark}
 use Rattle.name_walk.specs.declared.mark.Mark.TheVariants.{Closed, OnPath, Open}
 use Rattle.name_walk.specs.ClosedNames.{IsClosedName, IsDone, IsSettled}
 use Rattle.name_walk.specs.Faults.{is_on_path}
-use Rattle.name_walk.specs.Lists.{In}
 use Rattle.name_walk.specs.Steps.{Graph, LeadsTo}
 use Rattle.name_walk.specs.Traces.{AreOpen}
 use Rattle.name_walk.specs.Visits.{AreOrdering}
-use Rattle.name_walk.proofs.Lists.{In-push, nothing_twice, on-In}
+use Rattle.name_walk.proofs.Lists.{nothing_twice}
 use Rattle.name_walk.proofs.Marks.{entered_again, entered_in, entered_push, marked_push, marked_same, other_mark}
 use Rattle.name_walk.proofs.DoneNames.{ordered_push}
+use Rattle.name_walk.proofs.Members.{no_member, on_path_member}
 
 -- a property of the names of a list and of one more name holds for all of them
-pub either_new : {P : ℕ → Type 0} (xs : List ℕ) (x : ℕ) → ((n : ℕ) → In n xs → P n) → P x → (n : ℕ)
-    → In n (xs ++ x ∷ []) → P n
-either_new {P} xs x f p n i = elim (In-push xs x n i) [ inl j ↦ f n j | inr e ↦ subst P (sym e) p ]
+pub either_new : {P : ℕ → Type 0} (xs : List ℕ) (x : ℕ) → ((n : ℕ) → Contains xs n → P n) → P x → (n : ℕ)
+    → Contains (xs ++ x ∷ []) n → P n
+either_new {P} xs x f p n i = elim (Contains-push_cases xs x n i) [ inl j ↦ f n j | inr e ↦ subst P e p ]
 
 module _ (g : Graph) (s : List Bool) where
   -- at the start no name is closed
@@ -30,13 +31,13 @@ module _ (g : Graph) (s : List Bool) where
     mark_per_name = size;
     marked_in_order = λ n. (
       λ h. let o : slice_get ms n ≡ Some Open = are_open n (slice_get_within ms n Closed h) in absurd (cc),
-      λ i. absurd i,
+      λ i. absurd (no_member n i),
     );
-    names_closed = λ n i. absurd i;
-    names_not_settled = λ n i. absurd i;
+    names_closed = λ n i. absurd (no_member n i);
+    names_not_settled = λ n i. absurd (no_member n i);
     names_differ = nothing_twice;
     targets_before = tt;
-    names_entered = record { names_within = λ n i. absurd i; open_or_listed = λ n l. inl (are_open n l) };
+    names_entered = record { names_within = λ n i. absurd (no_member n i); open_or_listed = λ n l. inl (are_open n l) };
   }
 
   -- an open name is put on the path
@@ -69,7 +70,7 @@ module _ (g : Graph) (s : List Bool) where
         names_not_settled = either_new {P = λ m. IsSettled s m → ⊥} os n h.names_not_settled fresh;
         names_differ = IsDistinct-push nat_eq_equiv os n h.names_differ
             (false_from_ne_true (is_on_path os n)
-            (λ e. other_mark Closed OnPath ms os h.marked_in_order (λ q. cc) n on_path (on-In os n e)));
+            (λ e. other_mark Closed OnPath ms os h.marked_in_order (λ q. cc) n on_path (on_path_member os n e)));
         targets_before = ordered_push g s [] os n h.targets_before done;
         names_entered = entered_again ms n there Closed es (entered_in OnPath (λ q. cc) ms es n h.names_entered on_path)
             h.names_entered;

@@ -1,9 +1,8 @@
 -- Laws of closed names.
-use Rattle.std.specs.Prelude.{◌≡◌, ◌↔◌, ◌<◌, ℕ, suc, List, [], ◌∷◌, length, None}
+use Rattle.std.specs.Prelude.{◌≡◌, ◌↔◌, ◌<◌, ℕ, suc, List, [], ◌∷◌, length, None, Contains}
 use Rattle.name_walk.specs.declared.step.Step.TheVariants.{To}
 use Rattle.name_walk.specs.ClosedNames.{EndsWithin, IsClosedName}
 use Rattle.name_walk.specs.Faults.{steps_fault}
-use Rattle.name_walk.specs.Lists.{In}
 use Rattle.name_walk.specs.Paths.{IsNamePath}
 use Rattle.name_walk.specs.Steps.{Graph, InRange, NameReaches}
 
@@ -17,4 +16,5 @@ pub record ClosedNameLaw : Type 0 where
   pub reached_closed : (g : Graph) (k n m : ℕ) → EndsWithin g k n → NameReaches g n m → EndsWithin g k m
   pub no_cycle : (g : Graph) (k n : ℕ) → EndsWithin g k n → NameReaches g n n → ⊥
   pub any_path : (g : Graph) → InRange g → (k n : ℕ) → n < length g → EndsWithin g k n
-      → (p : List ℕ) → IsNamePath g p → ((q : ℕ) → In q p → NameReaches g q n) → steps_fault g p (To n ∷ []) ≡ None
+      → (p : List ℕ) → IsNamePath g p → ((q : ℕ) → Contains p q → NameReaches g q n)
+      → steps_fault g p (To n ∷ []) ≡ None

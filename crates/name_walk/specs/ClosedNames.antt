@@ -1,9 +1,8 @@
 -- Closed names and settled names.
-use Rattle.std.specs.Prelude.{◌≡◌, ◌⊎◌, ℕ, zero, suc, Bool, true, List, length, Some, slice_get}
+use Rattle.std.specs.Prelude.{◌≡◌, ◌⊎◌, ℕ, zero, suc, Bool, true, List, length, Some, slice_get, Contains}
 use Rattle.std.specs.List.{AllByRecursion}
 use Rattle.name_walk.specs.declared.step.Step.{Step}
 use Rattle.name_walk.specs.declared.step.Step.TheVariants.{Nowhere, To}
-use Rattle.name_walk.specs.Lists.{In}
 use Rattle.name_walk.specs.Steps.{Graph, LeadsTo, steps}
 
 -- a step leads to a name with this property
@@ -31,4 +30,4 @@ AreSettled g settled =
 
 -- a name is settled or one of these names
 abbrev pub IsDone : List Bool → List ℕ → ℕ → Type 0
-IsDone settled names n = IsSettled settled n ⊎ In n names
+IsDone settled names n = IsSettled settled n ⊎ Contains names n

@@ -1,10 +1,12 @@
 -- The first name fault of steps, by recursion over paths.
 use Rattle.std.specs.Prelude.{ℕ, zero, suc, ◌-◌, Bool, List, [], ◌∷◌, ◌++◌, length, Option, Some, if◌then◌else◌, nat_eq}
+use Rattle.std.specs.Prelude.{None}
 use Rattle.std.specs.Set.{is_member}
+use Rattle.std.specs.List.{last_or}
 use Rattle.name_walk.specs.declared.step.Step.{Step}
 use Rattle.name_walk.specs.declared.step.Step.TheVariants.{Nowhere, To}
-use Rattle.name_walk.specs.Lists.{first_hit, last_item}
 use Rattle.name_walk.specs.Steps.{Graph, steps}
+use Rattle.name_walk.specs.Lists.{first_some}
 
 -- a word that leads nowhere, with the name whose words include it, or `None` if the word is in the query itself; or a
 -- name that leads back to itself, given as the names from its first place on the path down and then the name again
@@ -30,15 +32,15 @@ at_name deeper p n = if is_on_path p n then Some (Cycle (from_name n p ++ n ∷ 
 
 -- a word that leads nowhere is a fault of the last name of the path
 abbrev pub at_step : (List ℕ → ℕ → Option NameFault) → List ℕ → Step → Option NameFault
-at_step deeper p (Nowhere w) = Some (DeadEnd w (last_item p))
+at_step deeper p (Nowhere w) = Some (DeadEnd w (last_or None p))
 at_step deeper p (To n) = at_name deeper p n
 
 -- the first fault in the steps of the last name of a path, if at most `room` more names may be entered
 abbrev pub name_fault_within : Graph → ℕ → List ℕ → ℕ → Option NameFault
 name_fault_within g zero p n = Some (Cycle p)
-name_fault_within g (suc room) p n = first_hit (at_step (name_fault_within g room) p) (steps g n)
+name_fault_within g (suc room) p n = first_some (at_step (name_fault_within g room) p) (steps g n)
 
 -- the first fault of steps after a path: no name occurs twice in a path, so the number of names of the graph that are
 -- not on it is room enough
 abbrev pub steps_fault : Graph → List ℕ → List Step → Option NameFault
-steps_fault g p xs = first_hit (at_step (name_fault_within g (length g - length p)) p) xs
+steps_fault g p xs = first_some (at_step (name_fault_within g (length g - length p)) p) xs

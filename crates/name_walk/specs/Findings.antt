@@ -1,12 +1,11 @@
 -- The results of searches for faults, valid as long as no step changes.
-use Rattle.std.specs.Prelude.{◌≡◌, ◌⊎◌, ◌<◌, ⊤, ℕ, Bool, List, [], ◌∷◌, length, Option, Some, None, slice_get}
+use Rattle.std.specs.Prelude.{◌≡◌, ◌⊎◌, ◌<◌, ⊤, ℕ, Bool, List, [], ◌∷◌, length, Option, Some, None, slice_get, Contains}
 use Rattle.name_walk.specs.declared.mark.Mark.{Mark}
 use Rattle.name_walk.specs.declared.mark.Mark.TheVariants.{Closed, OnPath}
 use Rattle.name_walk.specs.declared.step.Step.{Step}
 use Rattle.name_walk.specs.declared.step.Step.TheVariants.{Nowhere, To}
 use Rattle.name_walk.specs.ClosedNames.{IsSettled}
 use Rattle.name_walk.specs.Faults.{NameFault, steps_fault}
-use Rattle.name_walk.specs.Lists.{In}
 use Rattle.name_walk.specs.NewlyClosed.{IsReached}
 use Rattle.name_walk.specs.Steps.{Graph}
 use Rattle.name_walk.specs.Traces.{AreEntered, Trace}
@@ -22,20 +21,20 @@ pub record WalkFindings : Type 0 where
 -- what is known about names is true, and `f.names` are all the names about which something is known
 pub record AreRight (g : Graph) (s : List Bool) (f : WalkFindings) : Type 0 where
   pub findings_right : AreFindings g s f.sound_names f.faults
-  pub sound_named : (n : ℕ) → In n f.sound_names → In n f.names
-  pub faulty_named : (n : ℕ) → IsFaulty f.faults n → In n f.names
+  pub sound_named : (n : ℕ) → Contains f.sound_names n → Contains f.names n
+  pub faulty_named : (n : ℕ) → IsFaulty f.faults n → Contains f.names n
 
 -- marks and faults can be cleared: each name that has one is in the list
 pub record CanClear (ms : List Mark) (es : List ℕ) (fs : Faults) : Type 0 where
   pub names_entered : AreEntered ms es
-  pub names_within : (n : ℕ) → In n es → n < length fs
-  pub faulty_entered : (n : ℕ) → IsFaulty fs n → In n es
+  pub names_within : (n : ℕ) → Contains es n → n < length fs
+  pub faulty_entered : (n : ℕ) → IsFaulty fs n → Contains es n
 
 -- each mark agrees with what is known about its name, and each name with a fault has a way to it
 pub record IsConsistent (t : Trace) (fs : Faults) : Type 0 where
   pub can_clear : CanClear t.marks t.entered_names fs
-  pub marked_in_order : (n : ℕ) → slice_get t.marks n ≡ Some Closed → In n t.order
-  pub order_entered : (n : ℕ) → In n t.order → In n t.entered_names
+  pub marked_in_order : (n : ℕ) → slice_get t.marks n ≡ Some Closed → Contains t.order n
+  pub order_entered : (n : ℕ) → Contains t.order n → Contains t.entered_names n
   pub trails : AreTrails fs
   pub off_path : (n : ℕ) → slice_get t.marks n ≡ Some OnPath → IsFaulty fs n
   pub frames : t.frames ≡ []
@@ -64,4 +63,4 @@ IsFirstFaulty g query fs (Some x) = IsQueryFault g query x × IsFaultyStep fs x
 
 -- each name about which something is now known was known before, or is reached by the query and not settled
 abbrev pub AreFromQuery : Graph → List Bool → List Step → List ℕ → List ℕ → Type 0
-AreFromQuery g s query old new = (n : ℕ) → In n new → In n old ⊎ (IsReached g query n × (IsSettled s n → ⊥))
+AreFromQuery g s query old new = (n : ℕ) → Contains new n → Contains old n ⊎ (IsReached g query n × (IsSettled s n → ⊥))

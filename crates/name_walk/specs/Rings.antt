@@ -1,8 +1,7 @@
 -- Rings of names.
-use Rattle.std.specs.Prelude.{◌≡◌, ◌<◌, ℕ, List, [], ◌∷◌, length, nat_eq}
+use Rattle.std.specs.Prelude.{◌≡◌, ◌<◌, ℕ, List, [], ◌∷◌, length, nat_eq, Contains}
 use Rattle.std.specs.List.{IsDistinct}
 use Rattle.name_walk.specs.declared.step.Step.TheVariants.{To}
-use Rattle.name_walk.specs.Lists.{In}
 use Rattle.name_walk.specs.Trails.{Faults, GoesBy}
 
 -- from the name `here`, the faulty steps lead through these names and then to `last`
@@ -15,4 +14,4 @@ IsWay fs last here (n ∷ ns) =
 pub record IsFaultRing (fs : Faults) (name here : ℕ) (rest : List ℕ) : Type 0 where
   pub way : IsWay fs name here rest
   pub names_differ : IsDistinct nat_eq (name ∷ rest)
-  pub names_in_faults : (n : ℕ) → In n (name ∷ rest) → n < length fs
+  pub names_in_faults : (n : ℕ) → Contains (name ∷ rest) n → n < length fs

@@ -1,5 +1,5 @@
 -- What a search for faults knows while it runs.
-use Rattle.std.specs.Prelude.{◌≡◌, ◌⊎◌, ◌<◌, ◌≤◌, ℕ, Bool, true, false, List, length, Some, slice_get}
+use Rattle.std.specs.Prelude.{◌≡◌, ◌⊎◌, ◌<◌, ◌≤◌, ℕ, Bool, true, false, List, length, Some, slice_get, Contains}
 use Rattle.name_walk.specs.declared.mark.Mark.{Mark}
 use Rattle.name_walk.specs.declared.mark.Mark.TheVariants.{Closed, OnPath, Open}
 use Rattle.name_walk.specs.declared.search.Finding.{Finding}
@@ -11,7 +11,6 @@ use Rattle.name_walk.specs.declared.trail.Ending.TheVariants.{At, Ring}
 use Rattle.name_walk.specs.declared.trail.FaultyStep.{FaultyStep}
 use Rattle.name_walk.specs.ClosedNames.{IsDone, IsSettled}
 use Rattle.name_walk.specs.Findings.{IsConsistent}
-use Rattle.name_walk.specs.Lists.{In}
 use Rattle.name_walk.specs.Steps.{Graph}
 use Rattle.name_walk.specs.Traces.{AreEntered, Trace}
 use Rattle.name_walk.specs.Trails.{AreFindings, Faults, IsFaulty}
@@ -48,9 +47,10 @@ pub record IsBetween (g : Graph) (s : List Bool) (t : Trace) (fs : Faults) : Typ
 
 -- what was known is still known, and each name that is newly known is at or below `start` and not settled
 pub record AreMore (g : Graph) (s : List Bool) (start : ℕ) (old new : Trace) (fs hs : Faults) : Type 0 where
-  pub order_grows : (n : ℕ) → In n old.order → In n new.order
+  pub order_grows : (n : ℕ) → Contains old.order n → Contains new.order n
   pub faults_grow : (n : ℕ) → IsFaulty fs n → IsFaulty hs n
-  pub names : (n : ℕ) → In n new.entered_names → In n old.entered_names ⊎ (IsBelow g start n × (IsSettled s n → ⊥))
+  pub names : (n : ℕ) → Contains new.entered_names n
+      → Contains old.entered_names n ⊎ (IsBelow g start n × (IsSettled s n → ⊥))
 
 -- it is known whether a name has a fault
 abbrev pub IsDecided : List Bool → List ℕ → Faults → ℕ → Bool → Type 0

@@ -1,9 +1,8 @@
 -- Numbered names, and the steps of each.
-use Rattle.std.specs.Prelude.{◌<◌, ℕ, List, [], length, Option, Some, None, slice_get}
+use Rattle.std.specs.Prelude.{◌<◌, ℕ, List, [], length, Option, Some, None, slice_get, Contains}
 use Rattle.smallvec.specs.SmallVec.{SmallVec}
 use Rattle.name_walk.specs.declared.step.Step.{Step}
 use Rattle.name_walk.specs.declared.step.Step.TheVariants.{To}
-use Rattle.name_walk.specs.Lists.{In}
 
 -- the steps of each name
 abbrev pub Graph : Type 0
@@ -19,7 +18,7 @@ steps g n = items_of (slice_get g n)
 
 -- the name n leads to m by one of its steps
 abbrev pub LeadsTo : Graph → ℕ → ℕ → Type 0
-LeadsTo g n m = In (To m) (steps g n)
+LeadsTo g n m = Contains (steps g n) (To m)
 
 -- the name n leads to m by one or more steps
 pub data NameReaches (g : Graph) : ℕ → ℕ → Type 0 where
@@ -28,7 +27,7 @@ pub data NameReaches (g : Graph) : ℕ → ℕ → Type 0 where
 
 -- the steps lead only to names of the graph, or nowhere
 abbrev pub StayInGraph : Graph → List Step → Type 0
-StayInGraph g xs = (m : ℕ) → In (To m) xs → m < length g
+StayInGraph g xs = (m : ℕ) → Contains xs (To m) → m < length g
 
 -- all steps of the graph lead only to names of the graph, or nowhere
 abbrev pub InRange : Graph → Type 0

@@ -1,10 +1,9 @@
 -- The state of a walk.
 use Rattle.std.specs.Prelude.{◌≡◌, ◌⊎◌, ◌<◌, ◌-◌, ℕ, List, [], ◌∷◌, ◌++◌, length, take, replicate, Some, slice_get}
-use Rattle.std.specs.Prelude.{slice_set}
+use Rattle.std.specs.Prelude.{slice_set, Contains}
 use Rattle.name_walk.specs.declared.mark.Mark.{Mark}
 use Rattle.name_walk.specs.declared.mark.Mark.TheVariants.{Closed, OnPath, Open}
 use Rattle.name_walk.specs.declared.traces.Frame.{Frame}
-use Rattle.name_walk.specs.Lists.{In}
 
 -- the mark of each name, the names that were entered, the names that were closed, in order, and the path above the
 -- current name
@@ -51,8 +50,8 @@ AreOpen marks = (n : ℕ) → n < length marks → slice_get marks n ≡ Some Op
 
 -- each name with a mark other than open is in the list, and each name in the list has a mark
 pub record AreEntered (marks : List Mark) (names : List ℕ) : Type 0 where
-  pub names_within : (n : ℕ) → In n names → n < length marks
-  pub open_or_listed : (n : ℕ) → n < length marks → (slice_get marks n ≡ Some Open) ⊎ In n names
+  pub names_within : (n : ℕ) → Contains names n → n < length marks
+  pub open_or_listed : (n : ℕ) → n < length marks → (slice_get marks n ≡ Some Open) ⊎ Contains names n
 
 -- the state between two walks
 pub record IsIdle (t : Trace) : Type 0 where

@@ -1,12 +1,11 @@
 -- How names come to their faults: each name with a fault has a first step with a fault, which leads nowhere or to a
 -- name with a fault.
-use Rattle.std.specs.Prelude.{◌≡◌, ℕ, Bool, List, [], ◌∷◌, Option, Some, nat_eq, slice_get, take}
-use Rattle.std.specs.List.{AllByRecursion, IsDistinct}
+use Rattle.std.specs.Prelude.{◌≡◌, ℕ, Bool, List, [], ◌∷◌, Option, Some, nat_eq, slice_get, take, Contains, None}
+use Rattle.std.specs.List.{AllByRecursion, IsDistinct, last_or}
 use Rattle.name_walk.specs.declared.step.Step.{Step}
 use Rattle.name_walk.specs.declared.step.Step.TheVariants.{Nowhere, To}
 use Rattle.name_walk.specs.declared.trail.FaultyStep.{FaultyStep}
 use Rattle.name_walk.specs.ClosedNames.{IsClosedName, IsDone, StepLeadsInto}
-use Rattle.name_walk.specs.Lists.{In, last_item}
 use Rattle.name_walk.specs.Steps.{Graph, LeadsTo, steps}
 
 -- what is known about each name that has a fault
@@ -29,8 +28,8 @@ FollowsFaults fs n (m ∷ ms) x = GoesBy fs n (To m) × FollowsFaults fs m ms x
 -- names on a way to a fault end at e: the last name if the step leads nowhere, or else the name among them to which
 -- the step leads back
 abbrev pub EndsAt : List ℕ → Step → ℕ → Type 0
-EndsAt names (Nowhere w) e = last_item names ≡ Some e
-EndsAt names (To m) e = (m ≡ e) × In e names
+EndsAt names (Nowhere w) e = last_or None names ≡ Some e
+EndsAt names (To m) e = (m ≡ e) × Contains names e
 
 -- the way from n to its fault, which occurs at e
 pub record IsTrail (fs : Faults) (n e : ℕ) : Type 0 where
@@ -54,5 +53,5 @@ pub record AreTrails (fs : Faults) : Type 0 where
 -- what is known about names is true: sound names are closed and lead only to settled and sound names, and each name
 -- with a fault comes to it by the first of its steps that has a fault
 pub record AreFindings (g : Graph) (s : List Bool) (names : List ℕ) (fs : Faults) : Type 0 where
-  pub names_sound : (n : ℕ) → In n names → IsClosedName g n × ((m : ℕ) → LeadsTo g n m → IsDone s names m)
+  pub names_sound : (n : ℕ) → Contains names n → IsClosedName g n × ((m : ℕ) → LeadsTo g n m → IsDone s names m)
   pub first_faults : (n : ℕ) (c : FaultyStep) → slice_get fs n ≡ Some (Some c) → IsFirst g s names n c.step

@@ -1,6 +1,6 @@
 -- What a walk knows between two steps of a query.
 use Rattle.std.specs.Prelude.{◌≡◌, ◌⊎◌, ◌↔◌, ℕ, Bool, false, List, [], ◌∷◌, length, Option, Some, None, MatchOption}
-use Rattle.std.specs.Prelude.{nat_eq, slice_get}
+use Rattle.std.specs.Prelude.{nat_eq, slice_get, Contains}
 use Rattle.std.specs.List.{IsDistinct}
 use Rattle.name_walk.specs.declared.fault.Fault.{Fault}
 use Rattle.name_walk.specs.declared.mark.Mark.{Mark}
@@ -8,7 +8,6 @@ use Rattle.name_walk.specs.declared.mark.Mark.TheVariants.{Closed, OnPath, Open}
 use Rattle.name_walk.specs.declared.step.Step.TheVariants.{To}
 use Rattle.name_walk.specs.ClosedNames.{IsClosedName, IsSettled}
 use Rattle.name_walk.specs.Faults.{steps_fault}
-use Rattle.name_walk.specs.Lists.{In}
 use Rattle.name_walk.specs.NewlyClosed.{AreOrdered}
 use Rattle.name_walk.specs.Steps.{Graph, NameReaches}
 use Rattle.name_walk.specs.Traces.{AreEntered, Trace}
@@ -24,9 +23,9 @@ IsMarkFound settled marks n Open = (slice_get settled n ≡ Some false) × (slic
 -- distinct, with targets before users
 pub record AreOrdering (g : Graph) (settled : List Bool) (marks : List Mark) (names order : List ℕ) : Type 0 where
   pub mark_per_name : length marks ≡ length g
-  pub marked_in_order : (n : ℕ) → (slice_get marks n ≡ Some Closed) ↔ In n order
-  pub names_closed : (n : ℕ) → In n order → IsClosedName g n
-  pub names_not_settled : (n : ℕ) → In n order → IsSettled settled n → ⊥
+  pub marked_in_order : (n : ℕ) → (slice_get marks n ≡ Some Closed) ↔ Contains order n
+  pub names_closed : (n : ℕ) → Contains order n → IsClosedName g n
+  pub names_not_settled : (n : ℕ) → Contains order n → IsSettled settled n → ⊥
   pub names_differ : IsDistinct nat_eq order
   pub targets_before : AreOrdered g settled [] order
   pub names_entered : AreEntered marks names
@@ -43,9 +42,9 @@ IsBelow g start n = (n ≡ start) ⊎ NameReaches g start n
 
 -- the name `start` was closed, together with some of the names that it reaches
 pub record AddsBelow (g : Graph) (start : ℕ) (old new : List ℕ) : Type 0 where
-  pub new_below : (n : ℕ) → In n new → In n old ⊎ IsBelow g start n
-  pub old_kept : (n : ℕ) → In n old → In n new
-  pub start_added : In start new
+  pub new_below : (n : ℕ) → Contains new n → Contains old n ⊎ IsBelow g start n
+  pub old_kept : (n : ℕ) → Contains old n → Contains new n
+  pub start_added : Contains new start
 
 -- the result of a visit that finds no fault: the name is closed
 pub record IsFaultless (g : Graph) (settled : List Bool) (start : ℕ) (old new : Trace) : Type 0 where

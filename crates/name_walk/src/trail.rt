@@ -1,9 +1,7 @@
 //! The ways from names to their faults.
 
-ghost use Rattle.std.specs.Prelude.{◌≡◌, ◌<◌, length, ℕ, slice_get};
-ghost use Rattle.std.specs.Prelude.{nat_eq};
+ghost use Rattle.std.specs.Prelude.{◌≡◌, ◌<◌, length, ℕ, slice_get, nat_eq, Contains};
 ghost use Rattle.std.specs.List.{IsDistinct};
-ghost use Rattle.name_walk.specs.Lists.{In};
 ghost use Rattle.name_walk.specs.PathRecords.{AreNoted, end_for, ending_above};
 ghost use Rattle.name_walk.specs.Traces.{path, without_frames};
 
@@ -64,9 +62,9 @@ pub(crate) fn note_path(
     last_ending: Ending,
 )
     requires once { IsDistinct nat_eq (path traces.old.frames last) }
-    requires there { (n : ℕ) → In n (path traces.old.frames last) → n < length faults.old.items }
+    requires there { (n : ℕ) → Contains (path traces.old.frames last) n → n < length faults.old.items }
     ensures noted { AreNoted faults.new.items last_ending last_step (path traces.old.frames last) }
-    ensures others { (n : ℕ) → (In n (path traces.old.frames last) → ⊥)
+    ensures others { (n : ℕ) → (Contains (path traces.old.frames last) n → ⊥)
         → slice_get faults.new.items n ≡ slice_get faults.old.items n }
     ensures size { length faults.new.items ≡ length faults.old.items }
     ensures traces { traces.new ≡ without_frames traces.old }

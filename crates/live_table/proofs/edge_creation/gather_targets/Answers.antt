@@ -1,11 +1,10 @@
-use Rattle.std.proofs.Common.{ℕ, List, get_or, take, sym, subst}
+use Rattle.std.proofs.Common.{ℕ, List, get_or, take, sym, subst, Contains}
 use Rattle.std.proofs.lemmas.Option.{slice_get-get_or}
-use Rattle.name_walk.proofs.Lists.{get_In}
 use Rattle.name_walk.specs.declared.step.Step.{Step}
 use Rattle.name_walk.specs.declared.step.Step.TheVariants.{Nowhere}
-use Rattle.name_walk.specs.Lists.{In}
 use Rattle.live_table.proofs.UsedNames.{AreUsed, all_used, none_used, one_used}
 use Rattle.live_table.proofs.edge_creation.gather_targets.Goals as goal
+use Rattle.table_names.proofs.Members.{member_at}
 
 pub loop-step-init : goal.loop-step-init
 loop-step-init c =
@@ -13,8 +12,8 @@ loop-step-init c =
 
 pub gather_target-requires : goal.gather_target-requires
 gather_target-requires c m e =
-    c.requires m (subst (λ (x : Step). In x c.args.steps.now) e
-    (get_In c.args.steps.now c.loop-step.step-index (get_or c.args.steps.now c.loop-step.step-index (Nowhere 0))
+    c.requires m (subst (λ (x : Step). Contains c.args.steps.now x) e
+    (member_at c.args.steps.now c.loop-step.step-index (get_or c.args.steps.now c.loop-step.step-index (Nowhere 0))
     (slice_get-get_or c.args.steps.now c.loop-step.step-index (Nowhere 0) c.loop-step-test.true)))
 
 pub loop-step-preserved : goal.loop-step-preserved

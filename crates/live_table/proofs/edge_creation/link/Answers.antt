@@ -1,10 +1,9 @@
 use Rattle.std.proofs.Common.{◌↔◌, ◌≤◌, ℕ, List, ◌∷◌, max, Contains, refl, sym, ◌∙◌, subst, arith}
 use Rattle.name_walk.specs.declared.step.Step.{Step}
 use Rattle.name_walk.specs.declared.step.Step.TheVariants.{To}
-use Rattle.name_walk.specs.Lists.{In}
 use Rattle.live_table.specs.TableContents.{node_lists}
 use Rattle.live_table.proofs.OutcomesByKey.{settled_within}
-use Rattle.live_table.proofs.LinkedNames.{covered_edges, covered_on_err, gathered, linked_edges, looks_at, member_in}
+use Rattle.live_table.proofs.LinkedNames.{covered_edges, covered_on_err, linked_edges, looks_at}
 use Rattle.live_table.proofs.LinkedNames.{target_within}
 use Rattle.live_table.proofs.edge_creation.link.Goals as goal
 
@@ -46,8 +45,8 @@ link-requires-clause-user c =
 
 pub link-requires-clause-used : goal.link-requires-clause-used
 link-requires-clause-used c k i =
-    let j = (c.in_ok-gather_targets.ensures k).0 (member_in k c.gather_targets.new.targets
-    (subst (λ (ns : List ℕ). Contains ns k) c.as_slice.ensures i)) in
+    let j = (c.in_ok-gather_targets.ensures k).0
+    (subst (λ (ns : List ℕ). Contains ns k) c.as_slice.ensures i) in
     let w = target_within c.args.deck.now (node_lists c.args.nodes.now) c.requires.sound.0 c.requires.sound.1 c.args.n
     c.requires.settled c.steps_of.result.now c.steps_of.ensures.is k j in
     let e = c.len-count.ensures in
@@ -62,7 +61,7 @@ link-requires-clause-looked c k i =
     let same = c.deref.ensures.value ∙ looks_at (node_lists c.args.nodes.now).looks c.args.n c.index.result.now
     (omega (arith, n, d)) c.index.ensures in
     let w = (c.requires.sound.1.numbers.settled_looks c.args.n c.requires.settled).looks.seen_in_table k
-    (member_in k _ (subst (λ (ns : List ℕ). Contains ns k) same i)) in
+    (subst (λ (ns : List ℕ). Contains ns k) same i) in
     let e = c.len-count.ensures in
     let a = c.in_ok-cover.ensures.covered in
     omega (arith, w, e, a)
@@ -89,9 +88,9 @@ returns-clause-ok c rest edges =
     (subst (λ k. c.cover.new.self.names ≤ max c.args.made.now.names k) c.len-count.ensures c.cover.ensures.within)
     (c.args.n ∷ rest) edges)
     (omega (arith, n, e, a)) c.link.ensures.names c.in_ok-link.ensures.uses c.in_ok-link.ensures.looks
-    (subst (λ (p : List ℕ × List Step). (m : ℕ) → Contains p.0 m ↔ In (To m) p.1)
+    (subst (λ (p : List ℕ × List Step). (m : ℕ) → Contains p.0 m ↔ Contains p.1 (To m))
     (λ i. (sym c.as_slice.ensures i, c.steps_of.ensures.is i))
-    (gathered c.gather_targets.new.targets c.steps_of.result.now c.in_ok-gather_targets.ensures))
+    c.in_ok-gather_targets.ensures)
     (c.deref.ensures.value ∙ looks_at (node_lists c.args.nodes.now).looks c.args.n c.index.result.now
     (omega (arith, n, z)) c.index.ensures)
     (omega (arith, e, a))

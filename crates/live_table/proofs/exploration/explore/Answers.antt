@@ -1,7 +1,6 @@
 use Rattle.std.proofs.Common.{◌≡◌, ◌+◌, Some, refl, sym, ◌∙◌, subst}
 use Rattle.std.specs.List.{slice_get}
 use Rattle.def_entry.specs.Views.{entry_view, what_view}
-use Rattle.name_walk.proofs.Lists.{get_In}
 use Rattle.deck.specs.Tables.{table}
 use Rattle.live_table.specs.FoundDefinitions.{HasEntry}
 use Rattle.live_table.specs.TableContents.{Listed, key_at, node_lists}
@@ -11,6 +10,7 @@ use Rattle.live_table.proofs.ReachedNames.{IsExploring, at_end, explored_next, e
 use Rattle.live_table.proofs.ReachedNames.{exploring_start, stay_next}
 use Rattle.live_table.proofs.exploration.explore.Goals as goal
 use Rattle.live_table.proofs.exploration.explore.Goals.{After-entry, After-make_room}
+use Rattle.table_names.proofs.Members.{member_at}
 
 pub loop-n-init : goal.loop-n-init
 loop-n-init c = (
@@ -55,13 +55,13 @@ pub entry-requires-clause-within : goal.entry-requires-clause-within
 entry-requires-clause-within c =
     let now = (goal.at.entry-requires-clause-within c).After-make_room in
     (with_room now).grown.list_right.listed_in_table c.in-Some.n
-    (get_In c.loop-n.worklist c.loop-n.place c.in-Some.n (at_place now))
+    (member_at c.loop-n.worklist c.loop-n.place c.in-Some.n (at_place now))
 
 pub entry-requires-clause-present : goal.entry-requires-clause-present
 entry-requires-clause-present c =
     let now = (goal.at.entry-requires-clause-present c).After-make_room in
     (with_room now).grown.list_right.listed_have_entries c.in-Some.n
-    (get_In c.loop-n.worklist c.loop-n.place c.in-Some.n (at_place now))
+    (member_at c.loop-n.worklist c.loop-n.place c.in-Some.n (at_place now))
 
 pub returns-in_err-push-clause-grown : goal.returns-in_err-push-clause-grown
 returns-in_err-push-clause-grown c =
@@ -87,7 +87,7 @@ explore_name-requires-clause-listed c =
     (with_room (goal.at.explore_name-requires-clause-listed c).After-make_room).grown.list_right
 
 pub explore_name-requires-clause-name : goal.explore_name-requires-clause-name
-explore_name-requires-clause-name c = get_In c.loop-n.worklist c.loop-n.place c.in-Some.n
+explore_name-requires-clause-name c = member_at c.loop-n.worklist c.loop-n.place c.in-Some.n
     (at_place (goal.at.explore_name-requires-clause-name c).After-make_room)
 
 pub explore_name-requires-clause-what : goal.explore_name-requires-clause-what

@@ -1,6 +1,5 @@
 use Rattle.std.proofs.Common.{◌≡◌, Some, ℕ, List, length, sym, ◌∙◌, ap, subst, inl, inr, arith}
 use Rattle.std.proofs.lemmas.Option.{slice_get-get_or}
-use Rattle.name_walk.proofs.Lists.{on-In}
 use Rattle.live_table.specs.Exploration.{AreAdded}
 use Rattle.live_table.specs.TableContents.{node_lists}
 use Rattle.live_table.proofs.AddedNames.{added_none}
@@ -9,6 +8,7 @@ use Rattle.live_table.proofs.AgendaPuts.{not_on, put_added, put_there, sizes, un
 use Rattle.live_table.proofs.numbered_keys.put_target.Goals as goal
 use Rattle.live_table.proofs.numbered_keys.put_target.Goals.{then-index-via-else-index+then-has}
 use Rattle.live_table.proofs.numbered_keys.put_target.Goals.{then-index-via-then-index}
+use Rattle.name_walk.proofs.Members.{on_path_member}
 
 pub index-requires : goal.index-requires
 index-requires c =
@@ -31,7 +31,7 @@ returns-then-index-clause-known c = elim c.then-index.branch [
       inl (slice_get-get_or c.args.nodes.now.settled.items c.args.n c.index.result.now (omega arith)
       ∙ ap Some (sym c.index.ensures ∙ w.if-index.true))
   | then-index-via-else-index+then-has w ↦
-      inr (inl (on-In c.args.explored.now c.args.n (sym w.has.ensures ∙ w.if-has.true)))
+      inr (inl (on_path_member c.args.explored.now c.args.n (sym w.has.ensures ∙ w.if-has.true)))
 ]
 
 pub returns-in_err-put-clause-added : goal.returns-in_err-put-clause-added

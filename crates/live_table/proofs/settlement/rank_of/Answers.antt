@@ -1,7 +1,6 @@
-use Rattle.std.proofs.Common.{◌≡◌, ◌+◌, ◌<◌, ◌≤◌, List, length, ap, subst, sym, ◌∙◌, arith}
+use Rattle.std.proofs.Common.{◌≡◌, ◌+◌, ◌<◌, ◌≤◌, List, length, ap, subst, sym, ◌∙◌, arith, Contains}
 use Rattle.name_walk.specs.declared.step.Step.{Step}
 use Rattle.name_walk.specs.declared.step.Step.TheVariants.{To}
-use Rattle.name_walk.specs.Lists.{In}
 use Rattle.live_table.specs.declared.callee.Callee.{Callee}
 use Rattle.live_table.specs.Ranks.{greatest_step_rank}
 use Rattle.live_table.specs.TableContents.{node_lists}
@@ -18,7 +17,7 @@ steps_of-requires c =
 pub greatest_rank-requires : goal.greatest_rank-requires
 greatest_rank-requires c = λ m h.
     let a : m < length (node_lists c.args.nodes.now).graph =
-    c.requires.sound.1.numbers.net.steps_in_range c.args.n m (subst (λ (xs : List Step). In (To m) xs)
+    c.requires.sound.1.numbers.net.steps_in_range c.args.n m (subst (λ (xs : List Step). Contains xs (To m))
     c.steps_of.ensures.is h) in
     let b : length (node_lists c.args.nodes.now).graph ≡ length (node_lists c.args.nodes.now).keys =
     c.requires.sound.1.numbers.step_count in

@@ -1,9 +1,8 @@
-use Rattle.std.proofs.Common.{◌+◌, ◌<◌, ◌≤◌, ℕ, List, length, arith, get_or, set, None, subst, sym, ◌∙◌}
+use Rattle.std.proofs.Common.{◌+◌, ◌<◌, ◌≤◌, ℕ, List, length, arith, get_or, set, None, subst, sym, ◌∙◌, Contains}
 use Rattle.std.proofs.lemmas.Option.{slice_get-get_or}
-use Rattle.name_walk.specs.Lists.{In}
 use Rattle.name_walk.proofs.ClearedFaults.{IsClearing, clearing_end, clearing_next}
-use Rattle.name_walk.proofs.Lists.{get_In}
 use Rattle.name_walk.proofs.search.clear.Goals as goal
+use Rattle.name_walk.proofs.Members.{member_at}
 
 pub index_mut-requires : goal.index_mut-requires
 index_mut-requires c =
@@ -11,8 +10,8 @@ index_mut-requires c =
     let es : List ℕ = c.entered_names-name-items.result.now in
     let within : get_or es i 0 < length c.args.faults.now.items =
     c.requires.names_within (get_or es i 0)
-    (subst (λ (ns : List ℕ). In (get_or es i 0) ns) c.entered_names-name-items.ensures
-    (get_In es i (get_or es i 0) (slice_get-get_or es i 0 c.loop-name-test.true))) in
+    (subst (λ (ns : List ℕ). Contains ns (get_or es i 0)) c.entered_names-name-items.ensures
+    (member_at es i (get_or es i 0) (slice_get-get_or es i 0 c.loop-name-test.true))) in
     subst (λ (k : ℕ). get_or es i 0 < k) (sym (c.loop-name.faults.ok.0 ∙ c.loop-name.invariant.size)) within
 
 pub loop-name-preserved : goal.loop-name-preserved

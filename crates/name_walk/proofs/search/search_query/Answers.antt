@@ -9,10 +9,10 @@ use Rattle.name_walk.specs.Searches.{IsSearched}
 use Rattle.name_walk.specs.Steps.{Graph, StayInGraph}
 use Rattle.name_walk.specs.Traces.{Trace}
 use Rattle.name_walk.specs.Trails.{Faults}
-use Rattle.name_walk.proofs.Lists.{get_In}
 use Rattle.name_walk.proofs.SearchPasses.{faulty_names, passed_faulty, passed_names, passed_next, passed_none}
 use Rattle.name_walk.proofs.SearchPasses.{passed_nowhere, passed_whole}
 use Rattle.name_walk.proofs.search.search_query.Goals as goal
+use Rattle.name_walk.proofs.Members.{member_at}
 
 read : {A : Type 0} (xs : List A) (i : ℕ) (d : A) {x : A} → i < length xs → get_or xs i d ≡ x → slice_get xs i ≡ Some x
 read xs i d l e = slice_get-get_or xs i d l ∙ ap Some e
@@ -20,7 +20,7 @@ read xs i d l e = slice_get-get_or xs i d l ∙ ap Some e
 -- a step of the query leads to a name of the graph
 known : (g : Graph) (query : List Step) (i n : ℕ) → StayInGraph g query → i < length query
     → get_or query i (Nowhere 0) ≡ To n → n < length g
-known g query i n are_known l e = are_known n (get_In _ _ _ (read query i (Nowhere 0) l e))
+known g query i n are_known l e = are_known n (member_at _ _ _ (read query i (Nowhere 0) l e))
 
 searched_as : {g : Graph} {s : List Bool} {n : ℕ} {now later : Trace} {fs hs : Faults} {a b : Bool} → a ≡ b
     → IsSearched g s n now later fs hs a → IsSearched g s n now later fs hs b

@@ -8,9 +8,9 @@ use Rattle.name_walk.specs.declared.step.Step.TheVariants.{Nowhere, To}
 use Rattle.name_walk.specs.Faults.{DeadEnd}
 use Rattle.name_walk.specs.Steps.{Graph, StayInGraph}
 use Rattle.name_walk.specs.Walks.{fault_view}
-use Rattle.name_walk.proofs.Lists.{get_In}
 use Rattle.name_walk.proofs.QueryPasses.{all_passed, fault_next, found_closed, next_done, next_visit, passed_start}
 use Rattle.name_walk.proofs.walk.visit_each.Goals as goal
+use Rattle.name_walk.proofs.Members.{member_at}
 
 read : {A : Type 0} (xs : List A) (i : ℕ) (d : A) {x : A} → i < length xs → get_or xs i d ≡ x → slice_get xs i ≡ Some x
 read xs i d l e = slice_get-get_or xs i d l ∙ ap Some e
@@ -18,7 +18,7 @@ read xs i d l e = slice_get-get_or xs i d l ∙ ap Some e
 -- a step of the query leads to a name of the graph
 known : (g : Graph) (query : List Step) (i n : ℕ) → StayInGraph g query → i < length query
     → get_or query i (Nowhere 0) ≡ To n → n < length g
-known g query i n are_known l e = are_known n (get_In _ _ _ (read query i (Nowhere 0) l e))
+known g query i n are_known l e = are_known n (member_at _ _ _ (read query i (Nowhere 0) l e))
 
 at_some : (r : Option Fault) (f : Fault) (P : Type 0) (Q : Fault → Type 0) → MatchOption r P Q → r ≡ Some f → Q f
 at_some r f P Q m e = subst (λ (o : Option Fault). MatchOption o P Q) e m

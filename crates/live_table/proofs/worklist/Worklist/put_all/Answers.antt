@@ -1,8 +1,8 @@
 use Rattle.std.proofs.Common.{get_or, arith}
 use Rattle.std.proofs.lemmas.Option.{slice_get-get_or}
-use Rattle.name_walk.proofs.Lists.{get_In}
 use Rattle.live_table.proofs.GatheredNumbers.{gathered_all, gathering_next, gathering_start}
 use Rattle.live_table.proofs.worklist.Worklist.put_all.Goals as goal
+use Rattle.table_names.proofs.Members.{member_at}
 
 pub loop-n-init : goal.loop-n-init
 loop-n-init c = gathering_start c.args.self.now c.args.numbers.now
@@ -10,7 +10,7 @@ loop-n-init c = gathering_start c.args.self.now c.args.numbers.now
 pub put-requires : goal.put-requires
 put-requires c =
     c.requires (get_or c.args.numbers.now c.loop-n.n-index 0)
-    (get_In c.args.numbers.now c.loop-n.n-index (get_or c.args.numbers.now c.loop-n.n-index 0)
+    (member_at c.args.numbers.now c.loop-n.n-index (get_or c.args.numbers.now c.loop-n.n-index 0)
     (slice_get-get_or c.args.numbers.now c.loop-n.n-index 0 (omega arith)))
 
 pub loop-n-preserved : goal.loop-n-preserved

@@ -1,8 +1,8 @@
-use Rattle.std.proofs.Common.{ℕ, List, subst, sym}
+use Rattle.std.proofs.Common.{ℕ, List, subst, sym, Contains}
 use Rattle.name_walk.specs.Findings.{AreFromQuery, AreRight, WalkFindings}
-use Rattle.name_walk.specs.Lists.{In}
 use Rattle.name_walk.proofs.StableFindings.{nothing_consistent, nothing_right}
 use Rattle.name_walk.proofs.findings.Findings.find.Goals as goal
+use Rattle.name_walk.proofs.Members.{no_member}
 
 pub search_from-requires-clause-net : goal.search_from-requires-clause-net
 search_from-requires-clause-net c = c.requires.net
@@ -57,7 +57,8 @@ returns-in-Err-clause-right c =
     })
 
 pub returns-in-Err-clause-names : goal.returns-in-Err-clause-names
-returns-in-Err-clause-names c n i = absurd (subst (λ (ns : List ℕ). In n ns) c.clear.ensures.marks.none_entered i)
+returns-in-Err-clause-names c n i =
+    absurd (no_member n (subst (λ (ns : List ℕ). Contains ns n) c.clear.ensures.marks.none_entered i))
 
 pub returns-in-Err-clause-found : goal.returns-in-Err-clause-found
 returns-in-Err-clause-found c = tt

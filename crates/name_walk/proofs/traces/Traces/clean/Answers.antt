@@ -1,8 +1,8 @@
 use Rattle.std.proofs.Common.{◌≡◌, ◌<◌, ◌∷◌, [], ◌++◌, ℕ, List, subst, sym, ◌∙◌, length-set}
+use Rattle.std.proofs.lemmas.List.Elements.{Contains-push}
 use Rattle.name_walk.specs.declared.mark.Mark.{Mark}
 use Rattle.name_walk.specs.declared.mark.Mark.TheVariants.{Open}
 use Rattle.name_walk.specs.Traces.{AreEntered}
-use Rattle.name_walk.proofs.Lists.{In-last}
 use Rattle.name_walk.proofs.Marks.{entered_pop}
 use Rattle.name_walk.proofs.traces.Traces.clean.Goals as goal
 
@@ -18,14 +18,14 @@ index_mut-requires c =
     ((last_entered c.pop.new.self.items c.in-Some.name c.loop-name.invariant.entered
     c.in-Some.ensures.items).names_within
     c.in-Some.name
-    (In-last c.pop.new.self.items c.in-Some.name))
+    (Contains-push c.pop.new.self.items c.in-Some.name))
 
 pub loop-name-preserved : goal.loop-name-preserved
 loop-name-preserved c =
     let h = last_entered c.pop.new.self.items c.in-Some.name c.loop-name.invariant.entered c.in-Some.ensures.items in
     record {
       entered = entered_pop c.loop-name.self-inside.marks.items c.in-Some.name
-          (h.names_within c.in-Some.name (In-last c.pop.new.self.items c.in-Some.name)) c.pop.new.self.items h;
+          (h.names_within c.in-Some.name (Contains-push c.pop.new.self.items c.in-Some.name)) c.pop.new.self.items h;
       size = length-set c.loop-name.self-inside.marks.items c.in-Some.name Open ∙ c.loop-name.invariant.size;
       order = c.loop-name.invariant.order;
     }
