@@ -8,7 +8,6 @@ use Rattle.std.proofs.lemmas.List.{map-append}
 use Rattle.def_entry.specs.declared.key.Key.{Key}
 use Rattle.def_entry.specs.SameKeys.{SameKeysLaw, is_key_among, is_same}
 use Rattle.name_walk.specs.Faults.{from_name, is_on_path}
-use Rattle.table_names.specs.Faults as names
 use Rattle.table_names.specs.Faults.{cycle_chain}
 
 -- all numbers of a list are known
@@ -26,7 +25,7 @@ pub map_push : (key : ℕ → Key) (p : List ℕ) (n : ℕ) → map key (p ++ n 
 map_push key p n = map-append key p (n ∷ [])
 
 -- the last key of a path is that of its last number
-pub same_last : (key : ℕ → Key) (p : List ℕ) → names.last_of_list (map key p) ≡ option_map key (last_or None p)
+pub same_last : (key : ℕ → Key) (p : List ℕ) → last_or None (map key p) ≡ option_map key (last_or None p)
 same_last key [] = refl
 same_last key (n ∷ []) = refl
 same_last key (n ∷ m ∷ p) = same_last key (m ∷ p)

@@ -16,14 +16,14 @@ use Rattle.name_walk.specs.declared.step.Step.TheVariants.{Nowhere, To}
 use Rattle.name_walk.specs.FaultLaws.{StepsFaultLaw as WalkFaultLaw}
 use Rattle.name_walk.specs.Faults as walk
 use Rattle.name_walk.specs.Faults.{at_name, at_step, from_name, is_on_path}
-use Rattle.name_walk.specs.Lists as lists
 use Rattle.name_walk.specs.Paths.{IsNamePath as IsWalkPath, NamePathLaw as WalkPathLaw}
 use Rattle.name_walk.specs.Steps.{Graph, InRange, steps}
+use Rattle.name_walk.specs.Lists.{first_some}
 use Rattle.table_names.specs.declared.fault.NameFault.{NameFault}
 use Rattle.table_names.specs.declared.fault.NameFault.TheVariants.{Unknown, Refused, Cycle}
 use Rattle.table_names.specs.FaultLaws.{IsKeyPath, KeyPathLaw, WordsFaultLaw}
 use Rattle.table_names.specs.Faults as names
-use Rattle.table_names.specs.Faults.{Deeper, cycle_chain, first_some, target_fault, targets_fault, word_fault}
+use Rattle.table_names.specs.Faults.{Deeper, cycle_chain, target_fault, targets_fault, word_fault}
 use Rattle.table_names.specs.Leads.{targets}
 use Rattle.table_names.specs.Words.{key_words}
 use Rattle.table_names.proofs.Members.{member_cases, member_first, member_later, no_member}
@@ -90,7 +90,7 @@ module _ (same_keys : SameKeysLaw) (table : Table) (key : ℕ → Key) (dead_end
 
     refused :
         (u : WordUse) (rest : Option NameFault) → is_refused u.text ≡ true
-        → Some (Refused u.text (names.last_of_list (map key p))) ≡ option_or (fault_of_word u) rest
+        → Some (Refused u.text (last_or None (map key p))) ≡ option_or (fault_of_word u) rest
     refused u rest is = ap (λ o. option_or o rest) (sym (cond-true (is_refused u.text) _ _ is))
 
     accepted :
@@ -102,7 +102,7 @@ module _ (same_keys : SameKeysLaw) (table : Table) (key : ℕ → Key) (dead_end
     -- a word that leads nowhere is a fault of the last name of the path
     ended :
         (t : ℕ) (fault : Option Key → NameFault) → ((holder : Option Key) → dead_end t holder ≡ fault holder)
-        → by_name (at_step f p (Nowhere t)) ≡ Some (fault (names.last_of_list (map key p)))
+        → by_name (at_step f p (Nowhere t)) ≡ Some (fault (last_or None (map key p)))
     ended t fault e = ap Some (e (option_map key (last_or None p)) ∙ ap fault (sym (same_last key p)))
 
     same_word :
@@ -125,7 +125,7 @@ module _ (same_keys : SameKeysLaw) (table : Table) (key : ℕ → Key) (dead_end
 
     same_words :
         (us : List WordUse) (xs : List Step) → AreWords table key dead_end us xs → LeadToKnown known xs
-        → by_name (lists.first_some (at_step f p) xs) ≡ first_some fault_of_word us
+        → by_name (first_some (at_step f p) xs) ≡ first_some fault_of_word us
     same_words [] [] w k = refl
     same_words [] (x ∷ xs) w k = absurd w
     same_words (u ∷ us) [] w k = absurd w
@@ -134,7 +134,7 @@ module _ (same_keys : SameKeysLaw) (table : Table) (key : ℕ → Key) (dead_end
         same_word u w.0 (λ n c. k n (elim c [
           | inl e ↦ member_first (To n) x (y ∷ xs) e
           | inr e ↦ member_later (To n) x (y ∷ xs) (member_first (To n) y xs e)
-        ])) (lists.first_some (at_step f p) xs)
+        ])) (first_some (at_step f p) xs)
         ∙ ap (option_or (fault_of_word u))
         (same_words us xs w.1 (λ n i. k n (member_later (To n) x (y ∷ xs) (member_later (To n) y xs i))))
 

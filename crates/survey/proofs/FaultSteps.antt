@@ -9,12 +9,14 @@ use Rattle.def_entry.specs.declared.key.Key.{Key}
 use Rattle.def_entry.specs.Entries.{Entry}
 use Rattle.def_entry.specs.SameKeys.{is_key_among}
 use Rattle.def_entry.specs.Tables.{Table, entry_at, is_present}
+use Rattle.name_walk.specs.Lists.{first_some}
 use Rattle.std.proofs.Common.{is_some}
+use Rattle.std.specs.List.{last_or}
 use Rattle.table_names.specs.declared.fault.NameFault.{NameFault}
 use Rattle.table_names.specs.declared.fault.NameFault.TheVariants.{Unknown, Refused, Cycle}
 use Rattle.table_names.specs.ClosedKeys.{IsClosed}
 use Rattle.table_names.specs.FaultLaws.{IsKeyPath}
-use Rattle.table_names.specs.Faults.{Deeper, cycle_chain, first_some, key_fault, key_fault_within, last_of_list}
+use Rattle.table_names.specs.Faults.{Deeper, cycle_chain, key_fault, key_fault_within}
 use Rattle.table_names.specs.Faults.{target_fault}
 use Rattle.table_names.specs.Faults.{words_fault}
 use Rattle.table_names.specs.Faults.{targets_fault, word_fault}
@@ -77,8 +79,8 @@ module _ (table : Table) where
 
   -- the fault that a step leads to after a path
   abbrev pub meet : List Key → Step table → Option NameFault
-  meet path (Lost word) = Some (Unknown word (last_of_list path))
-  meet path (Barred word) = Some (Refused word (last_of_list path))
+  meet path (Lost word) = Some (Unknown word (last_or None path))
+  meet path (Barred word) = Some (Refused word (last_or None path))
   meet path (Open n h) = target_fault table by_words path n
 
   -- a fault is the one that a step leads to
@@ -145,15 +147,15 @@ module _ (table : Table) where
       where
         by_targets : (ns : List Key) → ((n : Key) → Contains ns n → is_present table n ≡ true)
             → Fits path (targets_fault table by_words path u ns) (targets_step u ns)
-        by_targets [] h = (refl, (Unknown u.text (last_of_list path), refl))
+        by_targets [] h = (refl, (Unknown u.text (last_or None path), refl))
         by_targets (n ∷ ns) h =
             fits_first path (target_fault table by_words path) target_step (n ∷ ns) (λ m i. fits_target m (h m i))
 
         go : (b : Bool) → Fits path
-            (if b then Some (Refused u.text (last_of_list path)) else targets_fault table by_words path u
+            (if b then Some (Refused u.text (last_or None path)) else targets_fault table by_words path u
             (targets table u))
             (if b then Some (Barred u.text) else targets_step u (targets table u))
-        go true = (refl, (Refused u.text (last_of_list path), refl))
+        go true = (refl, (Refused u.text (last_or None path), refl))
         go false = by_targets (targets table u) (λ n i. target_present table u n i)
 
     -- if no key of a path is closed, the fault of words after it is the fault that their step leads to

@@ -4,6 +4,7 @@ use Rattle.std.proofs.Common.{[], ◌∷◌, ◌++◌}
 use Rattle.std.proofs.Common.{length, Option, Some, None, refl, sym, ap, subst, inl, inr, arith, length-append}
 use Rattle.std.specs.Option.{option_map}
 use Rattle.std.proofs.lemmas.Bool.{false_from_ne_true}
+use Rattle.std.specs.List.{last_or}
 use Rattle.expr_tree.specs.declared.word_list.WordUse.{WordUse}
 use Rattle.def_entry.specs.declared.key.Key.{Key}
 use Rattle.def_entry.specs.SameKeys.{is_key_among, is_same}
@@ -12,7 +13,7 @@ use Rattle.table_names.specs.declared.fault.NameFault.{NameFault}
 use Rattle.table_names.specs.declared.fault.NameFault.TheVariants.{Unknown, Refused, Cycle}
 use Rattle.table_names.specs.ClosedKeys.{IsClosed}
 use Rattle.table_names.specs.FaultLaws.{IsKeyPath}
-use Rattle.table_names.specs.Faults.{cycle_chain, key_fault, last_of_list, name_fault, words_fault}
+use Rattle.table_names.specs.Faults.{cycle_chain, key_fault, name_fault, words_fault}
 use Rattle.table_names.specs.Words.{key_words}
 use Rattle.table_names.proofs.KeyLists.{off_longer, on_longer, one_key, same_itself}
 use Rattle.table_names.proofs.Paths.{empty_is_path, key_words_closed, longer, path_fits_table, words_closed_key}
@@ -24,25 +25,25 @@ use Rattle.survey.proofs.ChainTurns.{chain_off, turned_back, turned_here, turned
 
 -- ---- the key in which a word is reported
 unknown_last : (k : Key) (word : List ℕ) (x : Key) (path : List Key)
-    → prefix_fault k (Unknown word (last_of_list (x ∷ path))) ≡ Unknown word (last_of_list (x ∷ path))
+    → prefix_fault k (Unknown word (last_or None (x ∷ path))) ≡ Unknown word (last_or None (x ∷ path))
 unknown_last k word x [] = refl
 unknown_last k word x (y ∷ path) = unknown_last k word y path
 
 -- a refused word after a nonempty path is reported in the last key of that path
 refused_last : (k : Key) (word : List ℕ) (x : Key) (path : List Key)
-    → prefix_fault k (Refused word (last_of_list (x ∷ path))) ≡ Refused word (last_of_list (x ∷ path))
+    → prefix_fault k (Refused word (last_or None (x ∷ path))) ≡ Refused word (last_or None (x ∷ path))
 refused_last k word x [] = refl
 refused_last k word x (y ∷ path) = refused_last k word y path
 
 -- an unknown word is reported in the prefix if there is no other key in between
 unknown_behind : (k : Key) (word : List ℕ) (path : List Key)
-    → prefix_fault k (Unknown word (last_of_list path)) ≡ Unknown word (last_of_list (k ∷ path))
+    → prefix_fault k (Unknown word (last_or None path)) ≡ Unknown word (last_or None (k ∷ path))
 unknown_behind k word [] = refl
 unknown_behind k word (x ∷ path) = unknown_last k word x path
 
 -- a refused word is reported in the prefix if there is no other key in between
 refused_behind : (k : Key) (word : List ℕ) (path : List Key)
-    → prefix_fault k (Refused word (last_of_list path)) ≡ Refused word (last_of_list (k ∷ path))
+    → prefix_fault k (Refused word (last_or None path)) ≡ Refused word (last_or None (k ∷ path))
 refused_behind k word [] = refl
 refused_behind k word (x ∷ path) = refused_last k word x path
 
@@ -178,9 +179,9 @@ module _ (table : Table) (k : Key) (k_open : IsClosed table k → ⊥) where
       → Fits table path (words_fault table path words) s → Comes path words
   comes_at path words b below None some p q = absurd (some refl)
   comes_at path words b below (Some (Lost w)) some p q =
-      (Unknown w (last_of_list (k ∷ path)), p.0, inl (Unknown w (last_of_list path), q.0, unknown_behind k w path))
+      (Unknown w (last_or None (k ∷ path)), p.0, inl (Unknown w (last_or None path), q.0, unknown_behind k w path))
   comes_at path words b below (Some (Barred w)) some p q =
-      (Refused w (last_of_list (k ∷ path)), p.0, inl (Refused w (last_of_list path), q.0, refused_behind k w path))
+      (Refused w (last_or None (k ∷ path)), p.0, inl (Refused w (last_or None path), q.0, refused_behind k w path))
   comes_at path words b below (Some (Open h h_open)) some p q =
       comes_by path words b below h h_open (is_same h k) (is_key_among path h) refl refl p.0 q.0
 

@@ -6,8 +6,9 @@ use Rattle.expr_tree.specs.Names.{is_refused}
 use Rattle.def_entry.specs.declared.key.Key.{Key}
 use Rattle.def_entry.specs.SameKeys.{is_key_among}
 use Rattle.def_entry.specs.Tables.{Table}
+use Rattle.name_walk.specs.Lists.{first_some}
 use Rattle.table_names.specs.ClosedKeys.{WordLeadsInto}
-use Rattle.table_names.specs.Faults.{first_some, key_fault_within, target_fault, targets_fault, word_fault}
+use Rattle.table_names.specs.Faults.{key_fault_within, target_fault, targets_fault, word_fault}
 use Rattle.table_names.specs.Leads.{Reaches, WordsLeadTo, WordsReach, at_once, further, targets}
 use Rattle.table_names.specs.Words.{key_words}
 use Rattle.table_names.proofs.Members.{first_none}

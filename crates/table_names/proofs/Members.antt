@@ -6,7 +6,7 @@ use Rattle.std.specs.Option.{option_or}
 use Rattle.std.proofs.lemmas.Bool.{or_cases, or_left, or_right}
 use Rattle.std.proofs.lemmas.List.Elements.{Contains-append_cases, Contains-append_left, Contains-append_right}
 use Rattle.std.proofs.lemmas.Option.{get_or_from_slice_get, slice_get_within}
-use Rattle.table_names.specs.Faults.{first_some}
+use Rattle.name_walk.specs.Lists.{first_some}
 
 module _ {A : Type 0} where
   pub no_member : (x : A) → Contains [] x → ⊥

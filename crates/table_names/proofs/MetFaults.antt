@@ -4,15 +4,17 @@ use Rattle.std.proofs.Common.{length}
 use Rattle.std.proofs.Common.{Contains, Option, Some, None, refl, sym, ◌∙◌, ap, subst, inl, inr, arith, length-append}
 use Rattle.std.specs.Option.{option_or}
 use Rattle.std.proofs.lemmas.Bool.{cond-false, cond-true}
+use Rattle.std.specs.List.{last_or}
 use Rattle.expr_tree.specs.declared.word_list.WordUse.{WordUse}
 use Rattle.expr_tree.specs.Names.{is_refused}
 use Rattle.def_entry.specs.declared.key.Key.{Key}
 use Rattle.def_entry.specs.SameKeys.{is_key_among}
 use Rattle.def_entry.specs.Tables.{Table, is_present}
+use Rattle.name_walk.specs.Lists.{first_some}
 use Rattle.table_names.specs.declared.fault.NameFault.{NameFault}
 use Rattle.table_names.specs.declared.fault.NameFault.TheVariants.{Cycle, Refused}
 use Rattle.table_names.specs.FaultLaws.{IsKeyPath}
-use Rattle.table_names.specs.Faults.{Deeper, cycle_chain, first_some, key_fault_within, last_of_list, target_fault}
+use Rattle.table_names.specs.Faults.{Deeper, cycle_chain, key_fault_within, target_fault}
 use Rattle.table_names.specs.Faults.{targets_fault}
 use Rattle.table_names.specs.Faults.{words_fault}
 use Rattle.table_names.specs.Faults.{word_fault}
@@ -192,7 +194,7 @@ module _ (table : Table) where
           (told_keys F path (n ∷ ns) deeper (subst ArePresent e (target_present table u))) rest
 
       by : Told path us behind → (b : Bool) → is_refused u.text ≡ b
-          → Told path (u ∷ us) (option_or (cond b (Some (Refused u.text (last_of_list path)))
+          → Told path (u ∷ us) (option_or (cond b (Some (Refused u.text (last_or None path)))
           (targets_fault table F path u (targets table u))) behind)
       by rest true r = AtRefusedName r refl
       by rest false r = at rest (targets table u) r refl

@@ -1,6 +1,7 @@
 -- The computed name fault is the only one that satisfies the recursion.
 use Rattle.std.proofs.Common.{◌≡◌, ℕ, zero, suc, ◌+◌, ◌-◌, ◌≤◌, Bool, true, false, cond, List, [], ◌∷◌, ◌++◌, length}
-use Rattle.std.proofs.Common.{Contains, Option, Some, refl, sym, ◌∙◌, ap, arith, length-append}
+use Rattle.std.proofs.Common.{Contains, Option, Some, refl, sym, ◌∙◌, ap, arith, length-append, None}
+use Rattle.std.specs.List.{last_or}
 use Rattle.expr_tree.specs.declared.word_list.WordUse.{WordUse}
 use Rattle.expr_tree.specs.Names.{is_refused}
 use Rattle.def_entry.specs.declared.key.Key.{Key}
@@ -9,7 +10,7 @@ use Rattle.def_entry.specs.Tables.{Table}
 use Rattle.table_names.specs.declared.fault.NameFault.{NameFault}
 use Rattle.table_names.specs.declared.fault.NameFault.TheVariants.{Cycle, Refused}
 use Rattle.table_names.specs.FaultLaws.{IsKeyPath, IsWordsFault, WordsFaultLaw}
-use Rattle.table_names.specs.Faults.{Deeper, cycle_chain, key_fault_within, last_of_list, target_fault, targets_fault}
+use Rattle.table_names.specs.Faults.{Deeper, cycle_chain, key_fault_within, target_fault, targets_fault}
 use Rattle.table_names.specs.Faults.{word_fault, words_fault}
 use Rattle.table_names.specs.Leads.{targets}
 use Rattle.table_names.specs.Words.{key_words}
@@ -34,7 +35,7 @@ module _ (table : Table) where
       → f (path ++ n ∷ []) n ≡ g (path ++ n ∷ []) n)
       → word_fault table f path u ≡ word_fault table g path u
   word_same f g path u h =
-      ap (λ o. cond (is_refused u.text) (Some (Refused u.text (last_of_list path))) o)
+      ap (λ o. cond (is_refused u.text) (Some (Refused u.text (last_or None path))) o)
       (targets_same (targets table u) h)
     where
       targets_same :

@@ -12,9 +12,10 @@ use Rattle.def_entry.specs.declared.key.Key.{Key}
 use Rattle.def_entry.specs.Entries.{Entry}
 use Rattle.def_entry.specs.SameKeys.{is_key_among, is_same}
 use Rattle.def_entry.specs.Tables.{Table, entry_at, is_present}
+use Rattle.name_walk.specs.Lists.{first_some}
 use Rattle.table_names.specs.ClosedKeys.{AreClosed, IsClosed, WordLeadsInto}
 use Rattle.table_names.specs.FaultLaws.{IsKeyPath, KeyPathLaw}
-use Rattle.table_names.specs.Faults.{first_some, key_fault_within, target_fault, targets_fault, word_fault}
+use Rattle.table_names.specs.Faults.{key_fault_within, target_fault, targets_fault, word_fault}
 use Rattle.table_names.specs.Leads.{Reaches, WordsLeadTo, WordsReach, at_once, further, targets}
 use Rattle.table_names.specs.Words.{entry_words, key_words}
 use Rattle.table_names.proofs.EndingWays.{AreEnding, EndsWithin, no_loop, words_end}

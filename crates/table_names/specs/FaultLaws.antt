@@ -5,8 +5,9 @@ use Rattle.expr_tree.specs.declared.word_list.WordUse.{WordUse}
 use Rattle.def_entry.specs.declared.key.Key.{Key}
 use Rattle.def_entry.specs.SameKeys.{is_key_among, is_same}
 use Rattle.def_entry.specs.Tables.{Table, is_present}
+use Rattle.name_walk.specs.Lists.{first_some}
 use Rattle.table_names.specs.declared.fault.NameFault.{NameFault}
-use Rattle.table_names.specs.Faults.{first_some, word_fault, words_fault}
+use Rattle.table_names.specs.Faults.{word_fault, words_fault}
 use Rattle.table_names.specs.Words.{key_words}
 
 -- a path consists of distinct keys that all have an entry

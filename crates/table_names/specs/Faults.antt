@@ -1,26 +1,16 @@
 -- The name fault of words.
 use Rattle.std.specs.Prelude.{ℕ, zero, suc, ◌-◌, List, [], ◌∷◌, ◌++◌, length, Option, Some, None, if◌then◌else◌}
-use Rattle.std.specs.Option.{option_or}
+use Rattle.std.specs.List.{last_or}
 use Rattle.expr_tree.specs.declared.word_list.WordUse.{WordUse}
 use Rattle.expr_tree.specs.Names.{is_refused}
 use Rattle.def_entry.specs.declared.key.Key.{Key}
 use Rattle.def_entry.specs.SameKeys.{is_key_among, is_same}
 use Rattle.def_entry.specs.Tables.{Table}
+use Rattle.name_walk.specs.Lists.{first_some}
 use Rattle.table_names.specs.declared.fault.NameFault.{NameFault}
 use Rattle.table_names.specs.declared.fault.NameFault.TheVariants.{Unknown, Refused, Cycle}
 use Rattle.table_names.specs.Leads.{targets}
 use Rattle.table_names.specs.Words.{key_words}
-
--- the first result of `f` on the elements of a list that is not `None`, or `None` if all are `None`
-abbrev pub first_some : {A B : Type 0} → (A → Option B) → List A → Option B
-first_some f [] = None
-first_some f (x ∷ xs) = option_or (f x) (first_some f xs)
-
--- the last element of a list, or `None` if the list is empty
-abbrev pub last_of_list : {A : Type 0} → List A → Option A
-last_of_list [] = None
-last_of_list (x ∷ []) = Some x
-last_of_list (x ∷ y ∷ ys) = last_of_list (y ∷ ys)
 
 -- the keys of a path from the first place of a key on, and then that key again
 abbrev pub cycle_chain : Key → List Key → List Key
@@ -42,14 +32,14 @@ module _ (table : Table) where
 
   -- a word without targets is unknown
   abbrev pub targets_fault : Deeper → List Key → WordUse → List Key → Option NameFault
-  targets_fault deeper path u [] = Some (Unknown u.text (last_of_list path))
+  targets_fault deeper path u [] = Some (Unknown u.text (last_or None path))
   targets_fault deeper path u (n ∷ ns) = first_some (target_fault deeper path) (n ∷ ns)
 
   -- the fault of a refused name, or else the first fault of the targets in order
   abbrev pub word_fault : Deeper → List Key → WordUse → Option NameFault
   word_fault deeper path u =
       if is_refused u.text
-      then Some (Refused u.text (last_of_list path))
+      then Some (Refused u.text (last_or None path))
       else targets_fault deeper path u (targets table u)
 
   -- the first fault in the entry of the last key of a path, if at most `room` more keys may be entered; there is always

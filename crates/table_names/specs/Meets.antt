@@ -1,5 +1,6 @@
 -- The name fault of words, by rules.
-use Rattle.std.specs.Prelude.{◌≡◌, ◌≢◌, true, false, List, [], ◌∷◌, ◌++◌}
+use Rattle.std.specs.Prelude.{◌≡◌, ◌≢◌, true, false, List, [], ◌∷◌, ◌++◌, None}
+use Rattle.std.specs.List.{last_or}
 use Rattle.expr_tree.specs.declared.word_list.WordUse.{WordUse}
 use Rattle.expr_tree.specs.Names.{is_refused}
 use Rattle.def_entry.specs.declared.key.Key.{Key}
@@ -7,7 +8,7 @@ use Rattle.def_entry.specs.SameKeys.{is_key_among}
 use Rattle.def_entry.specs.Tables.{Table}
 use Rattle.table_names.specs.declared.fault.NameFault.{NameFault}
 use Rattle.table_names.specs.declared.fault.NameFault.TheVariants.{Unknown, Refused, Cycle}
-use Rattle.table_names.specs.Faults.{cycle_chain, last_of_list}
+use Rattle.table_names.specs.Faults.{cycle_chain}
 use Rattle.table_names.specs.Leads.{targets}
 use Rattle.table_names.specs.Words.{key_words}
 
@@ -33,10 +34,10 @@ mutual
   pub data Meets (table : Table) : List Key → List WordUse → NameFault → Type 0 where
     -- The first word is a refused name.
     AtRefusedName : {path : List Key} {u : WordUse} {us : List WordUse} {f : NameFault} → is_refused u.text ≡ true
-        → f ≡ Refused u.text (last_of_list path) → Meets table path (u ∷ us) f
+        → f ≡ Refused u.text (last_or None path) → Meets table path (u ∷ us) f
     -- The first word is not a refused name, and has no targets.
     AtUnknownWord : {path : List Key} {u : WordUse} {us : List WordUse} {f : NameFault} → is_refused u.text ≡ false
-        → targets table u ≡ [] → f ≡ Unknown u.text (last_of_list path) → Meets table path (u ∷ us) f
+        → targets table u ≡ [] → f ≡ Unknown u.text (last_or None path) → Meets table path (u ∷ us) f
     -- The first word is not a refused name, and its targets meet the fault.
     AtTargets : {path : List Key} {u : WordUse} {us : List WordUse} {f : NameFault} → is_refused u.text ≡ false
         → MeetKeys table path (targets table u) f → Meets table path (u ∷ us) f
