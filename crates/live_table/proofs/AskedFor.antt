@@ -1,5 +1,4 @@
 -- The result of a query of words.
-use Rattle.smallvec.specs.SmallVec.{SmallVec}
 use Rattle.std.proofs.Common.{◌≡◌, ◌<◌, ℕ, List, [], ◌∷◌, map, length, Option, Some, None, option_map, refl, sym, ◌∙◌}
 use Rattle.std.proofs.Common.{ap, subst, inl, arith, Contains}
 use Rattle.std.specs.Prelude.{Result, Ok, Err}
@@ -102,16 +101,16 @@ module _ (s : Stages) (are : AreAllStages s) (us : List WordUse) (xs : List Step
 
   -- or the names that the words reach are settled
   pub explored_settled : (now : Listed) (count old later : ℕ) → IsSettledAfter s xs now count old later
-      → (v : SmallVec Step) → v.items ≡ xs
-      → IsAsked (AsksWords us) (name_fault (table s.deck) us) (λ (x : SmallVec Step). AreSettledWords (table s.deck)
-      now us x.items) (Ok v) (shown_table s.deck s.start s.reductions) (shown_table s.deck now count) old later
+      → (v : List Step) → v ≡ xs
+      → IsAsked (AsksWords us) (name_fault (table s.deck) us) (λ (x : List Step). AreSettledWords (table s.deck)
+      now us x) (Ok v) (shown_table s.deck s.start s.reductions) (shown_table s.deck now count) old later
   explored_settled now count old later after v is =
-      subst (λ (b : Shown). IsAsked (AsksWords us) fault (λ (x : SmallVec Step). AreSettledWords (table s.deck) now us
-      x.items) (Ok v) b (shown_table s.deck now count) old later) (same_start s are.stages)
+      subst (λ (b : Shown). IsAsked (AsksWords us) fault (λ (x : List Step). AreSettledWords (table s.deck) now us
+      x) (Ok v) b (shown_table s.deck now count) old later) (same_start s are.stages)
       (asked_none (AsksWords us) fault (reach (table s.deck) us) (WordsReach (table s.deck) us) s.deck s.explored
       s.reductions s.more xs sound (words_query (table s.deck) us) by_name (reach_law.reached_words (table s.deck) us)
       new
-      (λ (x : SmallVec Step). AreSettledWords (table s.deck) now us x.items) (shown_table s.deck now count) old later
+      (λ (x : List Step). AreSettledWords (table s.deck) now us x) (shown_table s.deck now count) old later
       after.sound.is_right v after.order after.closing after.all
       (subst (λ (ys : List Step). AreSettledWords (table s.deck) now us ys) (sym is) settled_words))
     where

@@ -1,5 +1,4 @@
 -- One additional name at the end changes nothing about the others.
-use Rattle.smallvec.specs.SmallVec.{SmallVec}
 use Rattle.std.proofs.Common.{◌≡◌, ◌+◌, ◌<◌, ℕ, zero, suc, Bool, true, false, List, [], ◌∷◌, ◌++◌}
 use Rattle.std.proofs.Common.{length, Vec, Option, Some, None, nat_eq, refl, sym, ◌∙◌, ap, subst, inl, inr, arith}
 use Rattle.std.proofs.Common.{length-append, Contains}
@@ -54,7 +53,7 @@ was_true (b ∷ bs) zero e = e
 was_true (b ∷ bs) (suc n) e = was_true bs n e
 
 -- the steps of all other names stay the same
-steps_front : (g : Graph) (v : SmallVec Step) (n : ℕ) → v.items ≡ [] → steps (g ++ v ∷ []) n ≡ steps g n
+steps_front : (g : Graph) (v : List Step) (n : ℕ) → v ≡ [] → steps (g ++ v ∷ []) n ≡ steps g n
 steps_front [] v zero e = e
 steps_front [] v (suc n) e = refl
 steps_front (w ∷ g) v zero e = refl
@@ -83,8 +82,8 @@ not_there ks k e n h q =
     let t : is_key_among ks k ≡ true = among_member ks k (member_at ks n k (key_read ks n h ∙ ap Some q)) in
     let z : true ≡ false = sym t ∙ e in cc
 
-module _ (t : Table) (l : Listed) (k : Key) (b : Bool) (c : Callee) (v : SmallVec Step) (w : Vec ℕ Global)
-    (empty : v.items ≡ []) (none : w.items ≡ [])
+module _ (t : Table) (l : Listed) (k : Key) (b : Bool) (c : Callee) (v : List Step) (w : Vec ℕ Global)
+    (empty : v ≡ []) (none : w.items ≡ [])
     (flag : b ≡ is_present t k) (nodes : AreNumberedNames t l)
     (new : (n : ℕ) → n < length l.keys → key_at l.keys n ≡ k → ⊥) where
   abbrev m : Listed

@@ -1,12 +1,11 @@
 -- The names below a query get their steps in turn.
-use Rattle.smallvec.specs.SmallVec.{SmallVec}
 use Rattle.std.proofs.Common.{◌≡◌, ◌+◌, ◌<◌, ◌≤◌, ℕ, zero, suc, true, false, List, [], ◌∷◌, ◌++◌, set}
 use Rattle.std.proofs.Common.{take, length, Vec, Some, None, nat_eq, refl, sym, ◌∙◌, ap, subst, inl, inr, arith}
 use Rattle.std.proofs.Common.{Contains}
 use Rattle.std.specs.declared.alloc.Global.{Global}
 use Rattle.std.specs.List.{IsDistinct, slice_get}
 use Rattle.std.proofs.lemmas.Bool.{cases_eq, cases_lt, eq-eqb}
-use Rattle.std.proofs.lemmas.List.{length-set, take_all}
+use Rattle.std.proofs.lemmas.List.{get_or-set_other, get_or-set_same, length-set, take_all}
 use Rattle.std.proofs.lemmas.List.Elements.{Contains-push_cases}
 use Rattle.def_entry.specs.declared.key.Key.{Key}
 use Rattle.def_entry.specs.Entries.{Entry}
@@ -14,7 +13,7 @@ use Rattle.def_entry.specs.Tables.{Table, entry_at, is_present}
 use Rattle.name_walk.specs.declared.step.Step.{Step}
 use Rattle.name_walk.specs.declared.step.Step.TheVariants.{To}
 use Rattle.name_walk.specs.ClosedNames.{IsSettled}
-use Rattle.name_walk.specs.Steps.{Graph, items_of, steps}
+use Rattle.name_walk.specs.Steps.{Graph, steps}
 use Rattle.name_walk.proofs.Lists.{all_at, take_at}
 use Rattle.name_walk.proofs.Marks.{get_set_other, get_set_same}
 use Rattle.name_walk.proofs.DoneNames.{settled_law_holds}
@@ -38,12 +37,12 @@ use Rattle.live_table.proofs.LookedKeys.{looks_more}
 use Rattle.live_table.proofs.Places.{get_lt, some_same}
 
 -- ---- other steps of a name that is not settled
-steps_other : (g : Graph) (n m : ℕ) (v : SmallVec Step) → (m ≡ n → ⊥) → steps (set g n v) m ≡ steps g m
-steps_other g n m v ne = ap items_of (get_set_other g n m v ne)
+steps_other : (g : Graph) (n m : ℕ) (v : List Step) → (m ≡ n → ⊥) → steps (set g n v) m ≡ steps g m
+steps_other g n m v ne = get_or-set_other g n m v [] ne
 
 -- the steps that are set for a number are its steps
-steps_same : (g : Graph) (n : ℕ) (v : SmallVec Step) → n < length g → steps (set g n v) n ≡ v.items
-steps_same g n v h = ap items_of (get_set_same g n v h)
+steps_same : (g : Graph) (n : ℕ) (v : List Step) → n < length g → steps (set g n v) n ≡ v
+steps_same g n v h = get_or-set_same g n v [] h
 
 -- the looks of all others stay
 looks_other : (g : Looks) (n m : ℕ) (w : Vec ℕ Global) → (m ≡ n → ⊥) → looks_of (set g n w) m ≡ looks_of g m
@@ -59,10 +58,10 @@ no_steps [] x s h j = no_member s j
 no_steps (w ∷ g) zero s h j = absurd (omega arith)
 no_steps (w ∷ g) (suc x) s h j = no_steps g x s (omega arith) j
 
-module _ (t : Table) (l : Listed) (n : ℕ) (c : Callee) (v : SmallVec Step) (w : Vec ℕ Global)
+module _ (t : Table) (l : Listed) (n : ℕ) (c : Callee) (v : List Step) (w : Vec ℕ Global)
     (nodes : AreNumberedNames t l)
     (fresh : IsSettled l.settled_flags n → ⊥)
-    (inside : (m : ℕ) → Contains v.items (To m) → m < length l.keys) where
+    (inside : (m : ℕ) → Contains v (To m) → m < length l.keys) where
   abbrev later : Listed
   later = with_steps n c v w l
 
@@ -131,17 +130,17 @@ module _ (t : Table) (l : Listed) (n : ℕ) (c : Callee) (v : SmallVec Step) (w 
 
 -- a name on the list gets its steps, after the additions for its words
 module _ (t : Table) (l m : Listed) (before here there : List ℕ) (ends more : List DeadEnd) (n : ℕ) (c : Callee)
-    (v : SmallVec Step) (w : Vec ℕ Global)
+    (v : List Step) (w : Vec ℕ Global)
     (added : AreAdded t l m before here there ends more) (right : AreListed t l before here)
     (is_listed : Contains here n)
-    (written : AreWritten t m before there more (key_words t (key_at l.keys n)) v.items) where
+    (written : AreWritten t m before there more (key_words t (key_at l.keys n)) v) where
   in_there : Contains there n
   in_there = in_more here there n added.growth.list_more is_listed
 
   in_keys : n < length l.keys
   in_keys = right.listed_in_table n is_listed
 
-  inside : (q : ℕ) → Contains v.items (To q) → q < length m.keys
+  inside : (q : ℕ) → Contains v (To q) → q < length m.keys
   inside q i = known_within t m before there added.growth.nodes added.growth.list_right q (written.targets q i)
 
   longer : length l.keys ≤ length m.keys
@@ -188,7 +187,7 @@ module _ (t : Table) (l m : Listed) (before here there : List ℕ) (ends more : 
       let b : length l.keys ≤ length m.keys = longer in let h : n < length l.keys = in_keys in omega arith
 
   pub stepped_written : ((e : Entry) → entry_at t (key_at l.keys n) ≡ Some e → HasStarts e.what c)
-      → (AllLead v.items → AreLooks t m.keys (key_words t (key_at l.keys n)) v.items w.items)
+      → (AllLead v → AreLooks t m.keys (key_words t (key_at l.keys n)) v w.items)
       → IsDistinct nat_eq w.items
       → HasOwnSteps t (with_steps n c v w m) before there more n
   stepped_written starts looks once = record {

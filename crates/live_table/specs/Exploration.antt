@@ -4,7 +4,6 @@ use Rattle.std.specs.Prelude.{◌≡◌, ◌⊎◌, ◌||◌, ◌++◌, ◌∷�
 use Rattle.std.specs.Prelude.{None, Vec, nat_eq, slice_get, slice_set, Contains}
 use Rattle.std.specs.declared.alloc.Global.{Global}
 use Rattle.std.specs.List.{IsDistinct}
-use Rattle.smallvec.specs.SmallVec.{SmallVec}
 use Rattle.expr_tree.specs.declared.word_list.WordUse.{WordUse}
 use Rattle.def_entry.specs.declared.key.Key.{Key}
 use Rattle.def_entry.specs.Tables.{Table, is_present}
@@ -111,7 +110,7 @@ pub record AreAllExplored (table : Table) (l : Listed) (before list : List ℕ) 
   pub listed_have_steps : (n : ℕ) → Contains list n → HasOwnSteps table l before list ends n
 
 -- the nodes with one more name, which is not settled
-abbrev pub with_new_name : Key → Bool → Callee → SmallVec Step → Vec ℕ Global → Listed → Listed
+abbrev pub with_new_name : Key → Bool → Callee → List Step → Vec ℕ Global → Listed → Listed
 with_new_name k b c v w l = record {
   keys = l.keys ++ k ∷ [];
   entry_flags = l.entry_flags ++ b ∷ [];
@@ -125,14 +124,14 @@ with_new_name k b c v w l = record {
 
 pub record IsNameAdded (k : Key) (b : Bool) (l m : Listed) : Type 0 where
   pub callee : Callee
-  pub steps : SmallVec Step
+  pub steps : List Step
   pub looks : Vec ℕ Global
-  pub no_steps : steps.items ≡ []
+  pub no_steps : steps ≡ []
   pub no_looks : looks.items ≡ []
   pub name_added : m ≡ with_new_name k b callee steps looks l
 
 -- the nodes with other steps and looks of one name, and with the starts of its trees
-abbrev pub with_steps : ℕ → Callee → SmallVec Step → Vec ℕ Global → Listed → Listed
+abbrev pub with_steps : ℕ → Callee → List Step → Vec ℕ Global → Listed → Listed
 with_steps n c v w l = record l {
   callees = slice_set l.callees n c;
   graph = slice_set l.graph n v;

@@ -63,7 +63,7 @@ pub(crate) fn ask_words<L: Ledger>(
     ensures asked { HoldsByName (table deck.now) (node_lists nodes.new) explored.new.dead_ends.items
         explored.new.findings.faults result (λ answer. IsAsked (AsksWords words.now)
         (name_fault (table deck.now) words.now)
-        (λ query. AreSettledWords (table deck.now) (node_lists nodes.new) words.now query.items) answer
+        (λ query. AreSettledWords (table deck.now) (node_lists nodes.new) words.now query) answer
         (shown_table deck.now (node_lists nodes.old) reductions.old)
         (shown_table deck.now (node_lists nodes.new) reductions.new)
         steps.old steps.new) }

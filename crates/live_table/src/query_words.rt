@@ -44,7 +44,7 @@ pub(crate) fn query_steps(
         explored.now worklist.old worklist.new ends ends }
     ensures steps { IfOk result (λ query. AreQuerySteps (table deck.now) (node_lists nodes.new) explored.now
         worklist.new
-        words.now query.steps.items query.end) }
+        words.now query.steps query.end) }
 {
     let mut steps = StepList::new(alloc);
     for u in words.as_slice() {

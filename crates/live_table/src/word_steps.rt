@@ -39,9 +39,9 @@ pub(crate) fn put_words(
     ensures added { AreAdded (table deck.now) (node_lists nodes.old) (node_lists nodes.new)
         explored.now worklist.old worklist.new dead_ends.old.items dead_ends.new.items }
     ensures written { IfOk result (λ steps. AreWritten (table deck.now) (node_lists nodes.new) explored.now worklist.new
-        dead_ends.new.items words.now steps.items) }
-    ensures looks { IfOk result (λ steps. AllLead steps.items
-        → AreLooks (table deck.now) nodes.new.keys words.now steps.items nodes.new.gathered) }
+        dead_ends.new.items words.now steps) }
+    ensures looks { IfOk result (λ steps. AllLead steps
+        → AreLooks (table deck.now) nodes.new.keys words.now steps nodes.new.gathered) }
 {
     nodes.gathered.clear();
     let mut steps = StepList::new(alloc);
@@ -70,7 +70,7 @@ fn put_word(
     ensures added { AreAdded (table deck.now) (node_lists nodes.old) (node_lists nodes.new)
         explored.now worklist.old worklist.new dead_ends.old.items dead_ends.new.items }
     ensures written { IfOk result (λ _. AreWrittenBehind (table deck.now) (node_lists nodes.new) explored.now
-        worklist.new dead_ends.new.items nodes.old.gathered nodes.new.gathered u.now steps.old.items steps.new.items) }
+        worklist.new dead_ends.new.items nodes.old.gathered nodes.new.gathered u.now steps.old steps.new) }
 {
     let word = word_steps(alloc, deck, nodes, explored, worklist, dead_ends, tried, u)?;
     steps.push(word.first)?;

@@ -1,20 +1,15 @@
 -- Numbered names, and the steps of each.
-use Rattle.std.specs.Prelude.{◌<◌, ℕ, List, [], length, Option, Some, None, slice_get, Contains}
-use Rattle.smallvec.specs.SmallVec.{SmallVec}
+use Rattle.std.specs.Prelude.{◌<◌, ℕ, List, [], length, slice_index_or, Contains}
 use Rattle.name_walk.specs.declared.step.Step.{Step}
 use Rattle.name_walk.specs.declared.step.Step.TheVariants.{To}
 
 -- the steps of each name
 abbrev pub Graph : Type 0
-Graph = List (SmallVec Step)
-
-abbrev pub items_of : Option (SmallVec Step) → List Step
-items_of None = []
-items_of (Some v) = v.items
+Graph = List (List Step)
 
 -- the steps of one name, or no steps if no name has the number
 abbrev pub steps : Graph → ℕ → List Step
-steps g n = items_of (slice_get g n)
+steps g n = slice_index_or g n []
 
 -- the name n leads to m by one of its steps
 abbrev pub LeadsTo : Graph → ℕ → ℕ → Type 0

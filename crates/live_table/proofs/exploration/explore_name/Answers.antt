@@ -55,10 +55,10 @@ words c =
 written : (c : In_ok-steps)
     → AreWritten (table c.args.deck.now) (node_lists c.put_words.new.nodes) c.args.explored.now c.put_words.new.worklist
     c.put_words.new.dead_ends.items (key_words (table c.args.deck.now) (key_at c.args.nodes.now.keys c.args.n))
-    c.in_ok-steps.steps.items
+    c.in_ok-steps.steps
 written c =
     subst (λ (us : List WordUse). AreWritten (table c.args.deck.now) (node_lists c.put_words.new.nodes)
-    c.args.explored.now c.put_words.new.worklist c.put_words.new.dead_ends.items us c.in_ok-steps.steps.items)
+    c.args.explored.now c.put_words.new.worklist c.put_words.new.dead_ends.items us c.in_ok-steps.steps)
     (words c).words c.in_ok-steps.ensures.written
 
 pub returns-clause-grown : goal.returns-clause-grown
@@ -88,8 +88,8 @@ returns-clause-written c =
     c.in_ok-looks.looks c.put_words.ensures.added c.requires.listed c.requires.name
     (written (goal.at.returns-clause-written c).In_ok-steps)
     (words (goal.at.returns-clause-written c).In_ok-steps).part_starts
-    (subst (λ (p : List WordUse × List ℕ). AllLead c.in_ok-steps.steps.items
-    → AreLooks (table c.args.deck.now) c.put_words.new.nodes.keys p.0 c.in_ok-steps.steps.items p.1)
+    (subst (λ (p : List WordUse × List ℕ). AllLead c.in_ok-steps.steps
+    → AreLooks (table c.args.deck.now) c.put_words.new.nodes.keys p.0 c.in_ok-steps.steps p.1)
     (λ i. ((words (goal.at.returns-clause-written c).In_ok-steps).words i, sym c.in_ok-looks.ensures.copy i))
     c.in_ok-steps.ensures.looks)
     (subst (IsDistinct nat_eq) (sym c.in_ok-looks.ensures.copy) c.in_ok-looks.ensures.once)

@@ -1,4 +1,3 @@
-use Rattle.smallvec.specs.SmallVec.{SmallVec}
 use Rattle.std.proofs.Common.{◌≡◌, [], List, Some, Ok, Err, Result, refl, sym, ◌∙◌, ap, subst}
 use Rattle.std.proofs.lemmas.Result.{err_from_is_err_and}
 use Rattle.expr_tree.specs.declared.word_list.WordUse.{WordUse}
@@ -88,8 +87,8 @@ returns-in_err-query-clause-asked g c =
     let p = err_from_is_err_and c.from_residual.result c.from_residual.ensures.1 in
     no_memory t (node_lists c.query_steps.new.nodes) c.args.explored.now.dead_ends.items
     c.args.explored.now.findings.faults _ c.from_residual.result (p.1 ∙ ap Err p.2)
-    (cut_short (λ (query : SmallVec Step). AreSettledWords t (node_lists c.query_steps.new.nodes) c.args.words.now
-    query.items) (AsksWords c.args.words.now) (name_fault t c.args.words.now) (reach t c.args.words.now)
+    (cut_short (λ (query : List Step). AreSettledWords t (node_lists c.query_steps.new.nodes) c.args.words.now
+    query) (AsksWords c.args.words.now) (name_fault t c.args.words.now) (reach t c.args.words.now)
     c.args.deck.now (node_lists c.args.nodes.now) (node_lists c.query_steps.new.nodes) c.args.explored.now.names
     c.clear.new.self c.query_steps.new.worklist c.args.explored.now.dead_ends.items
     c.args.explored.now.dead_ends.items c.args.reductions.now c.args.steps.now
@@ -151,7 +150,7 @@ returns-in_err-found-clause-asked g c =
     no_memory t (node_lists c.explore.new.nodes) c.explore.new.dead_ends.items c.args.explored.now.findings.faults _
     c.from_residual-in_err-found.result (p.1 ∙ ap Err p.2)
     (cut_there (stages g now) (are_stages g now)
-    (λ (query : SmallVec Step). AreSettledWords t (node_lists c.explore.new.nodes) c.args.words.now query.items)
+    (λ (query : List Step). AreSettledWords t (node_lists c.explore.new.nodes) c.args.words.now query)
     (AsksWords c.args.words.now) (name_fault t c.args.words.now) (reach t c.args.words.now) c.args.steps.now
     (words_query t c.args.words.now) (Err fault.OutOfMemory) refl)
 
@@ -185,16 +184,16 @@ known g c us xs targets same written =
 -- ---- a word leads nowhere
 cut : (g : _) (c : In-Some g)
     → AreCutAt (table c.args.deck.now) (node_lists c.query_steps.new.nodes) c.args.explored.now.names
-    c.query_steps.new.worklist c.args.words.now c.in_ok-query.query.steps.items c.in-Some.end
+    c.query_steps.new.worklist c.args.words.now c.in_ok-query.query.steps c.in-Some.end
 cut g c =
     subst (AreQuerySteps (table c.args.deck.now) (node_lists c.query_steps.new.nodes) c.args.explored.now.names
-    c.query_steps.new.worklist c.args.words.now c.in_ok-query.query.steps.items) c.in-Some.is
+    c.query_steps.new.worklist c.args.words.now c.in_ok-query.query.steps) c.in-Some.is
     c.in_ok-query.ensures.steps
 
 pub cut_stop-requires-clause-known : goal.cut_stop-requires-clause-known
 cut_stop-requires-clause-known g c =
     let at = goal.at.cut_stop-requires-clause-known g c in
-    known g at.After-explore (cut g at.In-Some).words_before c.in_ok-query.query.steps.items
+    known g at.After-explore (cut g at.In-Some).words_before c.in_ok-query.query.steps
     c.as_slice-targets.result.now
     c.as_slice-targets.ensures (cut g at.In-Some).front_steps
 
@@ -214,7 +213,7 @@ returns-in_err-stop-clause-asked g c =
     no_memory t (node_lists c.explore.new.nodes) c.cut_stop.new.explored.dead_ends.items
     c.cut_stop.new.explored.findings.faults _ c.from_residual-in_err-stop.result (p.1 ∙ ap Err p.2)
     (cut_there (stages g now) (are_stages g now)
-    (λ (query : SmallVec Step). AreSettledWords t (node_lists c.explore.new.nodes) c.args.words.now query.items)
+    (λ (query : List Step). AreSettledWords t (node_lists c.explore.new.nodes) c.args.words.now query)
     (AsksWords c.args.words.now) (name_fault t c.args.words.now) (reach t c.args.words.now) c.args.steps.now
     (words_query t c.args.words.now) (Err fault.OutOfMemory) refl)
 
@@ -235,10 +234,10 @@ returns-in-Some-clause-asked g c =
             (sym c.cut_stop.ensures.dead_ends) stopped.stop_named,
         refl,
       );
-      answer_holds = explored_cut (λ (query : SmallVec Step). AreSettledWords t (node_lists c.explore.new.nodes)
+      answer_holds = explored_cut (λ (query : List Step). AreSettledWords t (node_lists c.explore.new.nodes)
           c.args.words.now
-          query.items) (all_stages g at.In_ok-found) (are_all g at.In_ok-found) c.args.words.now
-          c.in_ok-query.query.steps.items c.in-Some.end c.args.steps.now (cut g at.In-Some) stopped.name
+          query) (all_stages g at.In_ok-found) (are_all g at.In_ok-found) c.args.words.now
+          c.in_ok-query.query.steps c.in-Some.end c.args.steps.now (cut g at.In-Some) stopped.name
           (subst (λ (ys : List Step). fault_before (fault_in t (node_lists c.explore.new.nodes)
           c.explore.new.dead_ends.items ys) c.in-Some.end ≡ Some stopped.name)
           c.as_slice-targets.ensures stopped.fault_first);
@@ -247,10 +246,10 @@ returns-in-Some-clause-asked g c =
 -- ---- all words lead somewhere
 written : (g : _) (c : In_default g)
     → AreWritten (table c.args.deck.now) (node_lists c.query_steps.new.nodes) c.args.explored.now.names
-    c.query_steps.new.worklist [] c.args.words.now c.in_ok-query.query.steps.items
+    c.query_steps.new.worklist [] c.args.words.now c.in_ok-query.query.steps
 written g c =
     subst (AreQuerySteps (table c.args.deck.now) (node_lists c.query_steps.new.nodes) c.args.explored.now.names
-    c.query_steps.new.worklist c.args.words.now c.in_ok-query.query.steps.items) c.in_default.is
+    c.query_steps.new.worklist c.args.words.now c.in_ok-query.query.steps) c.in_default.is
     c.in_ok-query.ensures.steps
 
 pub settle_query-requires-clause-live : goal.settle_query-requires-clause-live
@@ -259,7 +258,7 @@ settle_query-requires-clause-live g c = live g (goal.at.settle_query-requires-cl
 pub settle_query-requires-clause-known : goal.settle_query-requires-clause-known
 settle_query-requires-clause-known g c =
     let at = goal.at.settle_query-requires-clause-known g c in
-    known g at.After-explore c.args.words.now c.in_ok-query.query.steps.items c.as_slice-targets.result.now
+    known g at.After-explore c.args.words.now c.in_ok-query.query.steps c.as_slice-targets.result.now
     c.as_slice-targets.ensures (written g at.In_default)
 
 pub settle_query-requires-clause-faults : goal.settle_query-requires-clause-faults
@@ -282,8 +281,8 @@ returns-in_err-settle_query-clause-asked g c =
     now c.args.steps.now c.settle_query.new.steps) c.in_err-settle_query.field-0.0
     c.in_err-settle_query.ensures.answered
     (λ q answered. explored_fault (all_stages g at.In_ok-found) (are_all g at.In_ok-found) c.args.words.now
-    c.in_ok-query.query.steps.items (written g at.In_default)
-    (λ (query : SmallVec Step). AreSettledWords t (node_lists c.settle_query.new.nodes) c.args.words.now query.items)
+    c.in_ok-query.query.steps (written g at.In_default)
+    (λ (query : List Step). AreSettledWords t (node_lists c.settle_query.new.nodes) c.args.words.now query)
     now c.args.steps.now c.settle_query.new.steps c.settle_query.ensures.live.is_sound.is_right q
     (subst (λ (ys : List Step). IsQueryAnswered t (node_lists c.explore.new.nodes) c.explore.new.dead_ends.items ys
     (Err q) (shown_table c.args.deck.now (node_lists c.explore.new.nodes) c.args.reductions.now)
@@ -305,7 +304,7 @@ returns-clause-asked g c =
       named_answer = Ok c.in_ok-query.query.steps;
       result_named = refl;
       answer_holds = explored_settled (all_stages g at.In_ok-found) (are_all g at.In_ok-found) c.args.words.now
-          c.in_ok-query.query.steps.items (written g at.In_default) (node_lists c.settle_query.new.nodes)
+          c.in_ok-query.query.steps (written g at.In_default) (node_lists c.settle_query.new.nodes)
           c.settle_query.new.reductions c.args.steps.now c.settle_query.new.steps
           (record {
             sound = c.settle_query.ensures.live.is_sound;

@@ -45,7 +45,7 @@ turn : (c : After-target_steps)
     → IsTurn (table c.args.deck.now) (node_lists c.args.nodes.now) (node_lists c.loop-u.nodes)
     (node_lists c.query_lead.new.nodes)
     c.args.explored.now c.args.worklist.now c.loop-u.worklist c.target_steps.new.worklist c.args.words.now
-    c.loop-u.steps.items c.loop-u.u-index c.u-item.result
+    c.loop-u.steps c.loop-u.u-index c.u-item.result
 turn c = record {
   word = ap (λ (xs : List WordUse). slice_get xs c.loop-u.u-index) (sym c.as_slice-u-items.ensures)
       ∙ (slice_get-get_or c.as_slice-u-items.result.now c.loop-u.u-index c.u-item.result (omega arith)
@@ -71,7 +71,7 @@ added c ends =
     stepped_added (table c.args.deck.now) (node_lists c.args.nodes.now) (node_lists c.loop-u.nodes)
     (node_lists c.query_lead.new.nodes) c.args.explored.now c.args.worklist.now c.loop-u.worklist
     c.target_steps.new.worklist
-    c.args.words.now c.loop-u.steps.items c.loop-u.u-index c.u-item.result (turn c) ends
+    c.args.words.now c.loop-u.steps c.loop-u.u-index c.u-item.result (turn c) ends
 
 pub returns-in_err-word-clause-added : goal.returns-in_err-word-clause-added
 returns-in_err-word-clause-added c = added (goal.at.returns-in_err-word-clause-added c).After-target_steps
@@ -93,7 +93,7 @@ returns-in_default-clause-steps c =
     stepping_cut (table c.args.deck.now) (node_lists c.args.nodes.now) (node_lists c.loop-u.nodes)
     (node_lists c.query_lead.new.nodes) c.args.explored.now c.args.worklist.now c.loop-u.worklist
     c.target_steps.new.worklist
-    c.args.words.now c.loop-u.steps.items c.loop-u.u-index c.u-item.result
+    c.args.words.now c.loop-u.steps c.loop-u.u-index c.u-item.result
     (turn (goal.at.returns-in_default-clause-steps c).After-target_steps) c.in_ok-lead.lead c.in_ok-lead.ensures.lead
     (sym c.in_default.is ∙ c.in_ok-word.ensures.steps) c.in_ok-new.field-0 c.in_ok-new.ensures
 
@@ -102,7 +102,7 @@ loop-u-preserved c =
     stepping_next (table c.args.deck.now) (node_lists c.args.nodes.now) (node_lists c.loop-u.nodes)
     (node_lists c.query_lead.new.nodes) c.args.explored.now c.args.worklist.now c.loop-u.worklist
     c.target_steps.new.worklist
-    c.args.words.now c.loop-u.steps.items c.loop-u.u-index c.u-item.result
+    c.args.words.now c.loop-u.steps c.loop-u.u-index c.u-item.result
     (turn (goal.at.loop-u-preserved c).After-target_steps) c.in_ok-lead.lead c.in_ok-lead.ensures.lead
-    c.in_ok-word.ensures.known c.in-Some.word (sym c.in-Some.is ∙ c.in_ok-word.ensures.steps) c.push.new.self.items
-    c.push-in-loop-u.new.self.items c.in_ok-push.ensures.ok c.in_ok-push-2.ensures.ok
+    c.in_ok-word.ensures.known c.in-Some.word (sym c.in-Some.is ∙ c.in_ok-word.ensures.steps) c.push.new.self
+    c.push-in-loop-u.new.self c.in_ok-push.ensures.ok c.in_ok-push-2.ensures.ok

@@ -6,5 +6,5 @@ use Rattle.live_table.proofs.query_words.query_steps.Given as goal
 abbrev pub invariant-loop-u : goal.invariant-loop-u
 invariant-loop-u l =
     IsStepping (table l.deck) (node_lists l.fn.nodes) (node_lists l.nodes) l.explored l.fn.worklist l.worklist l.words
-    l.steps.items
+    l.steps
     l.u-index

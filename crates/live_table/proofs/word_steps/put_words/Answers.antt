@@ -28,7 +28,7 @@ loop-u-preserved c =
     (node_lists c.put_word.new.nodes)
     c.args.explored.now c.args.worklist.now c.loop-u.worklist c.put_word.new.worklist
     c.args.dead_ends.now.items c.loop-u.dead_ends.items c.put_word.new.dead_ends.items c.loop-u.nodes.gathered
-    c.put_word.new.nodes.gathered c.args.words.now c.loop-u.steps.items c.put_word.new.steps.items c.loop-u.u-index
+    c.put_word.new.nodes.gathered c.args.words.now c.loop-u.steps c.put_word.new.steps c.loop-u.u-index
     c.u-item.result
     (ap (λ (xs : List WordUse). slice_get xs c.loop-u.u-index) (sym c.as_slice-u-items.ensures)
     ∙ (slice_get-get_or c.as_slice-u-items.result.now c.loop-u.u-index c.u-item.result (omega arith)

@@ -1,4 +1,3 @@
-use Rattle.smallvec.specs.SmallVec.{SmallVec}
 use Rattle.std.proofs.Common.{◌≡◌, ◌∷◌, [], Ok, Err, Result, Option, None, IfOk, List, refl, sym, subst}
 use Rattle.std.proofs.lemmas.Result.{err_from_is_err_and}
 use Rattle.expr_tree.specs.declared.word_list.WordUse.{WordUse}
@@ -51,11 +50,11 @@ before g c = shown_table c.self.inside.deck (node_lists c.self.inside.nodes) c.s
 abbrev now : (g : _) → After-ask_words-query g → Shown
 now g c = shown_table c.self.inside.deck (node_lists c.ask_words-query.new.nodes) c.ask_words-query.new.reductions
 
-abbrev AreGiven : (g : _) → After-ask_words-query g → SmallVec Step → Type 0
+abbrev AreGiven : (g : _) → After-ask_words-query g → List Step → Type 0
 AreGiven g c query = AreSettledWords (table c.self.inside.deck) (node_lists c.ask_words-query.new.nodes)
-    (us g c) query.items
+    (us g c) query
 
-abbrev Holds : (g : _) → After-ask_words-query g → Result (SmallVec Step) QueryFault → Type 0
+abbrev Holds : (g : _) → After-ask_words-query g → Result (List Step) QueryFault → Type 0
 Holds g c answer =
     IsAsked (AsksWords (us g c)) (name_fault (table c.self.inside.deck) (us g c)) (AreGiven g c) answer (before g c)
     (now g c) c.args.steps.now c.ask_words-query.new.steps
@@ -103,7 +102,7 @@ returns-clause-after g c =
     c.no_value.result s.0 s.1 c.no_value.ensures.err) s.2)
 
 -- ---- the names have no fault
-asked : (g : _) (c : After-ask_words-query g) (query : SmallVec Step) → c.ask_words-query.result ≡ Ok query
+asked : (g : _) (c : After-ask_words-query g) (query : List Step) → c.ask_words-query.result ≡ Ok query
     → Holds g c (Ok query)
 asked g c query is =
     answered_ok (table c.self.inside.deck) (node_lists c.ask_words-query.new.nodes)
