@@ -96,7 +96,6 @@ impl<'a, 'w> Surroundings<'a, 'w> {
             → scenes.IsLed self.now u result.first result.second }
         ensures first { IsSettled self.now.settled_flags result.first }
         ensures second { IsSettled self.now.settled_flags result.second }
-        ensures few { place < 2 ^ 63 }
     {
         match holder {
             Holder::Query => match self.asked {
@@ -180,7 +179,6 @@ fn targets_at(steps: &[Step], place: usize) -> Targets
     requires second { (n : ℕ) × (slice_get steps.now (2 * place + 1) ≡ Some (Step.To n)) }
     ensures first { slice_get steps.now (2 * place) ≡ Some (Step.To result.first) }
     ensures second { slice_get steps.now (2 * place + 1) ≡ Some (Step.To result.second) }
-    ensures few { place < 2 ^ 63 }
 {
     Targets {
         first: number_of(steps[2 * place]),

@@ -2,7 +2,7 @@
 //! parentheses, and so does the stack. So each call stores its value in a slot of its caller, and code that needs much
 //! stack is in separate functions that return before further calls nest.
 
-ghost use Rattle.std.specs.Prelude.{◌≡◌, ◌+◌, ◌++◌, ◌<◌, IsTrue, OnOk, Some, length, map, slice_get};
+ghost use Rattle.std.specs.Prelude.{◌≡◌, ◌+◌, ◌++◌, ◌<◌, IfOk, IsTrue, OnOk, Some, length, map, slice_get};
 ghost use Rattle.std.specs.Option.{option_copied};
 ghost use Rattle.expr_tree.specs.declared.word_list.WordUse.{WordUse};
 ghost use Rattle.expr_tree.specs.Trees.{syntax, trees_of};
@@ -31,7 +31,7 @@ use crate::step::Step;
 use crate::word::{put_word, take_word};
 use expr_tree::{RootKind, Tree, Trees, view_law};
 use quantity::Quantity;
-use std::alloc::Global;
+use std::alloc::{AllocError, Global};
 
 /// Returns the value of a tree, with `arg` as the argument. Fails with `Value` and the first fault from left to right:
 /// a fault of a step on numbers, a sum of quantities that do not conform, an exponent that is not a number or is out of
@@ -107,11 +107,11 @@ impl<'a, E: Env> Scope<'a, E> {
             }
             Tree::Word(_) => self.word(place, held),
             Tree::Call(_, operand) => {
-                let meaning = self.next_meaning(place);
+                let meaning = self.next_meaning(place)?;
                 self.evaluate_operand(Direction::Forward, meaning, operand, place, held)
             }
             Tree::Inverse(_, operand) => {
-                let meaning = self.next_meaning(place);
+                let meaning = self.next_meaning(place)?;
                 self.evaluate_operand(Direction::Inverse, meaning, operand, place, held)
             }
             Tree::Group(operand) => self.evaluate(operand, place, held),
@@ -193,9 +193,10 @@ impl<'a, E: Env> Scope<'a, E> {
         ensures worth { (u : WordUse) → slice_get (E.words self.now.env.now self.now.holder) place.old ≡ Some u
             → GivesWorth (λ _. amount_in held.new) result
             (spec.value (expanded_meaning (E.means self.now.env.now u)) (option_copied self.now.arg)) }
-        ensures place { place.new ≡ place.old + 1 }
+        ensures place { OnOk result (place.new ≡ place.old + 1) }
     {
-        put_word(self.alloc, self.env, self.next_meaning(place), held)
+        let meaning = self.next_meaning(place)?;
+        put_word(self.alloc, self.env, meaning, held)
     }
 
     // Combines the running value with the single word at `place`.
@@ -205,22 +206,26 @@ impl<'a, E: Env> Scope<'a, E> {
         ensures worth { (u : WordUse) → slice_get (E.words self.now.env.now self.now.holder) place.old ≡ Some u
             → GivesWorth (λ _. amount_in held.new) result (with_worth step (amount_in held.old)
             (spec.value (expanded_meaning (E.means self.now.env.now u)) (option_copied self.now.arg))) }
-        ensures place { place.new ≡ place.old + 1 }
+        ensures place { OnOk result (place.new ≡ place.old + 1) }
     {
-        take_word(self.alloc, self.env, held, step, self.next_meaning(place))
+        let meaning = self.next_meaning(place)?;
+        take_word(self.alloc, self.env, held, step, meaning)
     }
 
-    // Returns the meaning of the word at `place`, and moves `place` past it.
+    // Returns the meaning of the word at `place`, and moves `place` past it. The only error is lack of memory: no
+    // memory holds more words than `usize` counts.
     #[inline(never)]
-    fn next_meaning(&self, place: &mut usize) -> Meaning<'a>
+    fn next_meaning(&self, place: &mut usize) -> Result<Meaning<'a>, AllocError>
         requires { place.old < length (E.words self.now.env.now self.now.holder) }
-        ensures told { (u : WordUse) → slice_get (E.words self.now.env.now self.now.holder) place.old ≡ Some u
-            → IsMeaningTold (E.has self.now.env.now) (E.callee self.now.env.now) (E.means self.now.env.now u) result }
-        ensures place { place.new ≡ place.old + 1 }
+        ensures told { IfOk result (λ meaning. (u : WordUse)
+            → slice_get (E.words self.now.env.now self.now.holder) place.old ≡ Some u
+            → IsMeaningTold (E.has self.now.env.now) (E.callee self.now.env.now) (E.means self.now.env.now u) meaning) }
+        ensures place { OnOk result (place.new ≡ place.old + 1) }
     {
+        let next = place.checked_add(1).ok_or(AllocError)?;
         let meaning = self.env.meaning(self.holder, *place);
-        *place += 1;
-        meaning
+        *place = next;
+        Ok(meaning)
     }
 
     // Evaluates a word and the operand after it, with or without a `~` before the word.
@@ -271,7 +276,7 @@ impl<'a, E: Env> Scope<'a, E> {
     {
         match factor_of_word(trees) {
             Some(factor) => {
-                let meaning = self.next_meaning(place);
+                let meaning = self.next_meaning(place)?;
                 put_multiple(self.alloc, self.env, factor, meaning, held)
             }
             None => self.chain(Operands::Juxtaposed(trees), place, held),

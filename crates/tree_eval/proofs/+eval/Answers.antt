@@ -26,8 +26,8 @@ scope::Scope::evaluate-returns-in-Word-clause-worth g t c =
     alone_gives _ _ (ap syntax c.in-Word.is ∙ c.view_law.ensures.word c.in-Word.field-0) c.requires
     (g.E.Env.means c.args.self.now.env.now) _ _ _ c.word.ensures.worth
 
-pub scope::Scope::evaluate-next_meaning-meaning-requires : goal.scope::Scope::evaluate-next_meaning-meaning-requires
-scope::Scope::evaluate-next_meaning-meaning-requires g t c =
+pub scope::Scope::evaluate-next_meaning-requires : goal.scope::Scope::evaluate-next_meaning-requires
+scope::Scope::evaluate-next_meaning-requires g t c =
     use_within Forward _ _ _ _ (ap syntax c.in-Call.is ∙ c.view_law.ensures.call c.in-Call.field-0 c.in-Call.operand)
     c.requires
 
@@ -37,7 +37,7 @@ scope::Scope::evaluate-evaluate_operand-requires g t c κs within =
     (ap syntax c.in-Call.is
     ∙ (c.view_law.ensures.call c.in-Call.field-0 c.in-Call.operand
     ∙ ap (λ y. tree.Call c.in-Call.field-0.value (syntax y)) (sym c.deref-in-Call.ensures)))
-    c.requires _ _ _ _ c.next_meaning-meaning.ensures.told c.next_meaning-meaning.ensures.place in
+    c.requires _ _ _ _ c.in_ok-meaning.ensures.told c.in_ok-meaning.ensures.place in
     search (rules, arith, part.can, part.lighter, part.stand)
 
 pub scope::Scope::evaluate-returns-in-Call-clause-worth : goal.scope::Scope::evaluate-returns-in-Call-clause-worth
@@ -46,11 +46,11 @@ scope::Scope::evaluate-returns-in-Call-clause-worth g t c =
     (ap syntax c.in-Call.is
     ∙ (c.view_law.ensures.call c.in-Call.field-0 c.in-Call.operand
     ∙ ap (λ y. tree.Call c.in-Call.field-0.value (syntax y)) (sym c.deref-in-Call.ensures)))
-    c.requires _ _ _ _ c.next_meaning-meaning.ensures.told _ _ _ c.evaluate_operand.ensures.worth
+    c.requires _ _ _ _ c.in_ok-meaning.ensures.told _ _ _ c.evaluate_operand.ensures.worth
 
-pub scope::Scope::evaluate-next_meaning-meaning-requires-in-Inverse
-    : goal.scope::Scope::evaluate-next_meaning-meaning-requires-in-Inverse
-scope::Scope::evaluate-next_meaning-meaning-requires-in-Inverse g t c =
+pub scope::Scope::evaluate-next_meaning-requires-in-Inverse
+    : goal.scope::Scope::evaluate-next_meaning-requires-in-Inverse
+scope::Scope::evaluate-next_meaning-requires-in-Inverse g t c =
     use_within Inverse _ _ _ _
     (ap syntax c.in-Inverse.is ∙ c.view_law.ensures.inverse c.in-Inverse.field-0 c.in-Inverse.operand) c.requires
 
@@ -61,8 +61,8 @@ scope::Scope::evaluate-evaluate_operand-requires-in-Inverse g t c κs within =
     (ap syntax c.in-Inverse.is
     ∙ (c.view_law.ensures.inverse c.in-Inverse.field-0 c.in-Inverse.operand
     ∙ ap (λ y. tree.Inverse c.in-Inverse.field-0.value (syntax y)) (sym c.deref-in-Inverse.ensures)))
-    c.requires _ _ _ _ c.next_meaning-meaning-in-Inverse.ensures.told
-    c.next_meaning-meaning-in-Inverse.ensures.place in
+    c.requires _ _ _ _ c.in_ok-meaning-in-Inverse.ensures.told
+    c.in_ok-meaning-in-Inverse.ensures.place in
     search (rules, arith, part.can, part.lighter, part.stand)
 
 pub scope::Scope::evaluate-returns-in-Inverse-clause-worth : goal.scope::Scope::evaluate-returns-in-Inverse-clause-worth
@@ -71,7 +71,7 @@ scope::Scope::evaluate-returns-in-Inverse-clause-worth g t c =
     (ap syntax c.in-Inverse.is
     ∙ (c.view_law.ensures.inverse c.in-Inverse.field-0 c.in-Inverse.operand
     ∙ ap (λ y. tree.Inverse c.in-Inverse.field-0.value (syntax y)) (sym c.deref-in-Inverse.ensures)))
-    c.requires _ _ _ _ c.next_meaning-meaning-in-Inverse.ensures.told _ _ _ c.evaluate_operand-in-Inverse.ensures.worth
+    c.requires _ _ _ _ c.in_ok-meaning-in-Inverse.ensures.told _ _ _ c.evaluate_operand-in-Inverse.ensures.worth
 
 pub scope::Scope::evaluate-evaluate-requires : goal.scope::Scope::evaluate-evaluate-requires
 scope::Scope::evaluate-evaluate-requires g t c κs within =
@@ -207,28 +207,28 @@ scope::Scope::evaluate_operand-returns-in-Function-clause-worth g t c m h =
     taken_give _ _ _ _ _ _ h c.in-Function.is c.in_ok-evaluate.ensures.worth _ _
     c.put_taken.ensures
 
-pub scope::Scope::evaluate_juxtaposition-next_meaning-meaning-requires
-    : goal.scope::Scope::evaluate_juxtaposition-next_meaning-meaning-requires
-scope::Scope::evaluate_juxtaposition-next_meaning-meaning-requires g t c =
+pub scope::Scope::evaluate_juxtaposition-next_meaning-requires
+    : goal.scope::Scope::evaluate_juxtaposition-next_meaning-requires
+scope::Scope::evaluate_juxtaposition-next_meaning-requires g t c =
     multiple_within _ c.in-Some.is c.factor_of_word.ensures _ _ c.requires
 
 pub scope::Scope::evaluate_juxtaposition-put_multiple-requires
     : goal.scope::Scope::evaluate_juxtaposition-put_multiple-requires
 scope::Scope::evaluate_juxtaposition-put_multiple-requires g t c =
     multiple_usable _ c.in-Some.is c.factor_of_word.ensures _ _ c.requires _ _ _ _
-    c.next_meaning-meaning.ensures.told
+    c.in_ok-meaning.ensures.told
 
 pub scope::Scope::evaluate_juxtaposition-returns-in-Some-clause-worth
     : goal.scope::Scope::evaluate_juxtaposition-returns-in-Some-clause-worth
 scope::Scope::evaluate_juxtaposition-returns-in-Some-clause-worth g t c =
     multiple_gives _ c.in-Some.is c.factor_of_word.ensures _ _ c.requires _ _ _ _
-    c.next_meaning-meaning.ensures.told _ _ _ c.put_multiple.ensures
+    c.in_ok-meaning.ensures.told _ _ _ c.put_multiple.ensures
 
 pub scope::Scope::evaluate_juxtaposition-returns-in-Some-clause-place
     : goal.scope::Scope::evaluate_juxtaposition-returns-in-Some-clause-place
 scope::Scope::evaluate_juxtaposition-returns-in-Some-clause-place g t c =
     multiple_place _ c.in-Some.is c.factor_of_word.ensures c.put_multiple.result _
-    c.next_meaning-meaning.ensures.place
+    c.in_ok-meaning.ensures.place
 
 pub scope::Scope::chain-evaluate-requires : goal.scope::Scope::chain-evaluate-requires
 scope::Scope::chain-evaluate-requires g t c κs within =

@@ -5,4 +5,4 @@ use Rattle.tree_eval.proofs.scope.Scope.word.Goals as goal
 pub put_word-requires : goal.put_word-requires
 put_word-requires g c =
     let s = word_at _ _ c.requires in
-    usable _ _ _ _ (c.next_meaning.ensures.told s.0 s.1)
+    usable _ _ _ _ (c.in_ok-meaning.ensures.told s.0 s.1)
