@@ -54,7 +54,7 @@ key_listed table k closed n = (
     words = reach_law.reached_words table (key_words table k) ((closed_law.key table k).0 closed)
 
 -- the names that are stored after an event are those of `IsKeptBy`
-event_kept : (e : Event) (s : TableState) → CanBe e s → IsRight s → (n : Key)
+pub event_kept : (e : Event) (s : TableState) → CanBe e s → IsRight s → (n : Key)
     → IsKeySettled (after_event e s) n ↔ IsKeptBy e s.table (IsKeySettled s) n
 event_kept (AsksWords words) s can h =
     query_kept s (reach s.table words) h (AreClosed s.table words) (WordsReach s.table words)
@@ -75,7 +75,7 @@ query_table true keys s = refl
 query_table false keys s = refl
 
 -- the table after an event is that of `table_after`
-event_table : (e : Event) (s : TableState) → (after_event e s).table ≡ table_after e s.table
+pub event_table : (e : Event) (s : TableState) → (after_event e s).table ≡ table_after e s.table
 event_table (AsksWords words) s = query_table (is_none (name_fault s.table words)) (reach s.table words) s
 event_table (AsksKey k) s = query_table (is_none (key_fault s.table k)) (k ∷ key_reach s.table k) s
 event_table (Becomes later) s = refl

@@ -4,6 +4,7 @@ pub mod QueryAnswers
 pub mod AskedFor
 pub mod AskedKeys
 pub mod CachedKeys
+mod CachedNames
 pub mod CallLists
 pub mod NameCounts
 pub mod SettleCounts

@@ -1,6 +1,7 @@
 pub mod Agendas
 pub mod Answers
 pub mod QueryEffects
+pub mod CachedNames
 pub mod Callees
 pub mod CallLists
 pub mod Calls

@@ -1,5 +1,6 @@
 //! Laws of stored outcomes.
 
+ghost use Rattle.live_table.specs.CachedNames.{CachedNamesLaw};
 ghost use Rattle.live_table.specs.CallLists.{CallListLaw, DeckKindsLaw, EditsCanBeLaw};
 ghost use Rattle.live_table.specs.EventExamples.{EventExamples};
 ghost use Rattle.live_table.specs.KeptLists.{KeptListLaw};
@@ -40,6 +41,11 @@ pub fn new_law()
 /// each with its outcome in the present table.
 pub fn kept_law()
     ensures { StoredNamesLaw }
+{}
+
+/// The state after queries and edits is determined by the names whose outcomes are cached after each of them.
+pub fn cached_names_law()
+    ensures { CachedNamesLaw }
 {}
 
 /// Events never lower the count of newly settled names.

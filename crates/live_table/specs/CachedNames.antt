@@ -1,0 +1,37 @@
+-- The effect of queries and edits, by the names whose outcomes are cached before and after each.
+use Rattle.std.specs.Prelude.{◌≡◌, ◌↔◌, ◌≤◌, ◌+◌, ◌-◌, ◌^◌, ℕ, min, List, [], ◌∷◌}
+use Rattle.std.specs.FinMap as map_of
+use Rattle.def_entry.specs.declared.key.Key.{Key}
+use Rattle.live_table.specs.KeptNames.{IsKeptBy, table_after}
+use Rattle.live_table.specs.Right.{IsKeySettled, IsRight}
+use Rattle.live_table.specs.States.{AllCanBe, AsksKey, AsksWords, Becomes, Event, Kept, TableState, after_all}
+
+-- the number of names that an event adds to the cache: a query removes none, and an edit adds none
+abbrev pub newly_cached : Event → (before after : Kept) → ℕ
+newly_cached (AsksWords words) before after = map_of.len after - map_of.len before
+newly_cached (AsksKey k) before after = map_of.len after - map_of.len before
+newly_cached (Becomes later) before after = 0
+
+-- a query without a name fault adds the names that it reaches to the cache, each with one step and one reduction; an
+-- edit removes the names that it affects; each cached outcome is that of the present table
+pub record IsCachedBy (event : Event) (before after : TableState) : Type 0 where
+  pub later_table : after.table ≡ table_after event before.table
+  pub names : (n : Key) → IsKeySettled after n ↔ IsKeptBy event before.table (IsKeySettled before) n
+  pub outcomes_right : IsRight after
+  pub reductions_counted :
+      after.reductions
+      ≡ min (2 ^ 64 - 1) (before.reductions + newly_cached event before.kept_outcomes after.kept_outcomes)
+  pub steps_counted : after.steps ≡ before.steps + newly_cached event before.kept_outcomes after.kept_outcomes
+
+-- events in turn
+abbrev pub AreCachedBy : List Event → TableState → TableState → Type 0
+AreCachedBy [] before after = after ≡ before
+AreCachedBy (event ∷ events) before after =
+    (then : TableState) × IsCachedBy event before then × AreCachedBy events then after
+
+-- law: this determines the state after any possible events, and `after_all` computes it (no live table counts more than
+-- 2^64 - 1 reductions)
+abbrev pub CachedNamesLaw : Type 0
+CachedNamesLaw = (events : List Event) (before after : TableState) → IsRight before → AllCanBe events before
+    → before.reductions ≤ 2 ^ 64 - 1
+    → (after ≡ after_all events before) ↔ AreCachedBy events before after
