@@ -1,0 +1,152 @@
+-- Moving the items of a list with gaps to the front.
+use Rattle.std.proofs.Common.{◌≡◌, ◌<◌, ◌≤◌, ◌+◌, ◌∷◌, [], ℕ, suc, List, Bool, true, false, cond, length}
+use Rattle.std.proofs.Common.{nat_lt, get_or, take, refl, sym, ap, subst, ◌∙◌, arith, None, Some, slice_get}
+use Rattle.std.proofs.lemmas.Bool.Decides.{nat_tests}
+use Rattle.std.proofs.lemmas.List.{get_or-take, length-take}
+use Rattle.std.proofs.lemmas.Option.{same_Some, unwrap_or-slice_get}
+use Rattle.std.specs.List.{SwappedAt}
+use Rattle.std.specs.Option.{unwrap_or}
+use Rattle.gap_list.specs.Fillings.{AreFilled, AreMoved}
+use Rattle.gap_list.specs.Gaps.{AreGaps, AreIncreasing, items_without, slot_at}
+use Rattle.gap_list.proofs.GapSearch.{slot_before_all}
+use Rattle.gap_list.proofs.SlotItems.{gap_count, item_in_slot, length-without}
+
+-- the slot of an item is its place and at most the number of gaps
+pub slot_most : (gaps : List ℕ) (place : ℕ) → slot_at gaps place ≤ place + length gaps
+slot_most [] place = omega arith
+slot_most (gap ∷ gaps) place = by (slot_most gaps place) (slot_most gaps (place + 1)) (nat_lt place gap)
+  where
+    by : slot_at gaps place ≤ place + length gaps → slot_at gaps (place + 1) ≤ place + 1 + length gaps → (b : Bool)
+        → slot_at gaps (cond b place (place + 1)) ≤ place + length (gap ∷ gaps)
+    by same next true = omega (arith, same)
+    by same next false = omega (arith, next)
+
+-- the slot of an item is at least its place
+pub slot_least : (gaps : List ℕ) (place : ℕ) → place ≤ slot_at gaps place
+slot_least [] place = omega arith
+slot_least (gap ∷ gaps) place = by (slot_least gaps place) (slot_least gaps (place + 1)) (nat_lt place gap)
+  where
+    by : place ≤ slot_at gaps place → place + 1 ≤ slot_at gaps (place + 1) → (b : Bool)
+        → place ≤ slot_at gaps (cond b place (place + 1))
+    by same next true = same
+    by same next false = omega (arith, next)
+
+-- a later item is in a later slot
+pub slots_increase : (gaps : List ℕ) (place other : ℕ) → place < other → slot_at gaps place < slot_at gaps other
+slots_increase [] place other h = h
+slots_increase (gap ∷ gaps) place other h =
+    slots_increase gaps (cond (nat_lt place gap) place (place + 1)) (cond (nat_lt other gap) other (other + 1)) less
+  where
+    less : cond (nat_lt place gap) place (place + 1) < cond (nat_lt other gap) other (other + 1)
+    less = grind (arith, nat_tests, h)
+
+-- gaps within a vector increase
+pub gaps_increase : (low high : ℕ) (gaps : List ℕ) → AreGaps low high gaps → AreIncreasing low gaps
+gaps_increase low high [] h = tt
+gaps_increase low high (gap ∷ gaps) h = (h.0, gaps_increase (gap + 1) high gaps h.1)
+
+module _ {A : Type 0} where
+  -- the item at a place, by its slot
+  item_by_slot : (gaps : List ℕ) (slots : List A) (k : ℕ) (d : A)
+      → get_or slots (slot_at gaps k) d ≡ get_or (items_without gaps slots) k d
+  item_by_slot gaps slots k d =
+      sym (unwrap_or-slice_get slots (slot_at gaps k) d)
+      ∙ ap (λ o. unwrap_or o d) (sym (item_in_slot gaps slots k))
+      ∙ unwrap_or-slice_get (items_without gaps slots) k d
+
+  -- the items before the first gap are in their slots
+  pub fill_start : (low gap : ℕ) (gaps : List ℕ) (slots : List A) → AreIncreasing low (gap ∷ gaps)
+      → AreFilled (gap ∷ gaps) (items_without (gap ∷ gaps) slots) slots gap
+  fill_start low gap gaps slots h = record {
+    filled = λ k d less.
+        ap (λ s. get_or slots s d) (sym (slot_before_all gap k (gap ∷ gaps) (omega arith, h.1) less))
+        ∙ item_by_slot (gap ∷ gaps) slots k d;
+    others = λ k d from within. item_by_slot (gap ∷ gaps) slots k d;
+  }
+
+  -- one item is moved
+  pub fill_one : (gaps : List ℕ) (old new : List A) (place slot : ℕ) → slot ≡ slot_at gaps place
+      → SwappedAt old new place slot → AreMoved gaps place (place + 1) old new
+  fill_one gaps old new place slot e swapped items inside before = record {
+    filled = λ k d less. by k d less (nat_lt k place) refl;
+    others = λ k d from within.
+        let later : slot_at gaps place < slot_at gaps k = slots_increase gaps place k (omega (arith, from)) in
+        let least : place ≤ slot_at gaps place = slot_least gaps place in
+        swapped.2 (slot_at gaps k) d (λ h. omega (arith, later, least, h)) (λ h. omega (arith, later, e, h))
+        ∙ before.others k d (omega (arith, from)) within;
+  }
+    where
+      by : (k : ℕ) (d : A) → k < place + 1 → (b : Bool) → nat_lt k place ≡ b → get_or new k d ≡ get_or items k d
+      by k d less true f =
+          let early : k < place = grind (arith, nat_tests, f) in
+          let least : place ≤ slot_at gaps place = slot_least gaps place in
+          swapped.2 k d (λ h. omega (arith, early, h)) (λ h. omega (arith, early, least, e, h))
+          ∙ before.filled k d early
+      by k d less false f =
+          let same : k ≡ place = grind (arith, nat_tests, f, less) in
+          ap (λ i. get_or new i d) same ∙ swapped.0 d ∙ ap (λ i. get_or old i d) e
+          ∙ before.others place d (omega arith) (omega (arith, inside)) ∙ ap (λ i. get_or items i d) (sym same)
+
+  -- no item is moved at the start
+  pub moved_none : (gaps : List ℕ) (from : ℕ) (slots : List A) → AreMoved gaps from from slots slots
+  moved_none gaps from slots items le filled = filled
+
+  -- one more item is moved
+  pub moved_more : (gaps : List ℕ) (from place : ℕ) (old mid new : List A) → AreMoved gaps from place old mid
+      → AreMoved gaps place (place + 1) mid new → AreMoved gaps from (place + 1) old new
+  moved_more gaps from place old mid new first next items le filled =
+      next items le (first items (omega (arith, le)) filled)
+
+  -- lists of one length with the same items are equal
+  alike : (xs ys : List A) → length xs ≡ length ys
+      → ((k : ℕ) (d : A) → k < length xs → get_or xs k d ≡ get_or ys k d) → xs ≡ ys
+  alike [] [] e h = refl
+  alike [] (y ∷ ys) e h = absurd (omega (arith, e))
+  alike (x ∷ xs) [] e h = absurd (omega (arith, e))
+  alike (x ∷ xs) (y ∷ ys) e h =
+      let first : x ≡ y = h 0 x (omega arith) in
+      let rest : xs ≡ ys = alike xs ys (omega (arith, e)) (λ k d less. h (suc k) d (omega (arith, less))) in
+      λ i. first i ∷ rest i
+
+  -- when all items are moved, the first slots have the items
+  pub fill_end : (gaps : List ℕ) (items slots : List A) (count : ℕ) → AreFilled gaps items slots count
+      → length items ≡ count → count ≤ length slots → take count slots ≡ items
+  fill_end gaps items slots count filled e le =
+      let len : length (take count slots) ≡ count = length-take count slots ∙ omega (arith, le) in
+      alike (take count slots) items (len ∙ sym e)
+      (λ k d less. get_or-take count slots k d (omega (arith, less, len)) ∙ filled.filled k d (omega (arith, less, len)))
+
+  -- the first slots have all items, if the gaps start at the first place that is moved
+  pub moved_all : (low high gap : ℕ) (gaps : List ℕ) (old new : List A) (len : ℕ) → AreIncreasing low (gap ∷ gaps)
+      → AreMoved (gap ∷ gaps) gap len old new → len ≡ length (items_without (gap ∷ gaps) old) → len ≤ length new
+      → take len new ≡ items_without (gap ∷ gaps) old
+  moved_all low high gap gaps old new len h moved e le =
+      fill_end (gap ∷ gaps) (items_without (gap ∷ gaps) old) new len
+      (moved (items_without (gap ∷ gaps) old) (omega (arith, e)) (fill_start low gap gaps old h)) (sym e) le
+
+  -- the same, given the first gap
+  pub filled_all : (gaps : List ℕ) (old new : List A) (first len : ℕ) → AreGaps 0 (length old) gaps
+      → Some first ≡ slice_get gaps 0 → AreMoved gaps first len old new → len + length gaps ≡ length old
+      → length new ≡ length old → take len new ≡ items_without gaps old
+  filled_all [] old new first len h e moved count same = cc
+  filled_all (gap ∷ gaps) old new first len h e moved count same =
+      let is : first ≡ gap = same_Some first gap e in
+      let long : length (items_without (gap ∷ gaps) old) + length (gap ∷ gaps) ≡ length old =
+      length-without 0 (gap ∷ gaps) old h in
+      moved_all 0 (length old) gap gaps old new len (gaps_increase 0 (length old) (gap ∷ gaps) h)
+      (subst (λ from. AreMoved (gap ∷ gaps) from len old new) is moved) (omega (arith, count, long))
+      (omega (arith, count, same))
+
+-- no gap is the first one
+pub none_first : (gaps : List ℕ) → None ≡ slice_get gaps 0 → gaps ≡ []
+none_first [] e = refl
+none_first (gap ∷ gaps) e = cc
+
+-- the first gap is before the items that are moved
+pub first_within : (gaps : List ℕ) (first high : ℕ) → AreGaps 0 high gaps → Some first ≡ slice_get gaps 0
+    → first + length gaps ≤ high
+first_within [] first high h e = cc
+first_within (gap ∷ gaps) first high h e =
+    let is : first ≡ gap = same_Some first gap e in
+    let bound : gap + 1 + length gaps ≤ high = gap_count (gap + 1) high gaps h.1 in
+    omega (arith, is, bound)

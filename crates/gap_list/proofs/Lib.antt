@@ -1,0 +1,4 @@
+pub mod FilledGaps
+pub mod GapSearch
+pub mod SlotItems
+pub mod Truncations

@@ -1,0 +1,12 @@
+//! Lists from which an item is removed without moving the others.
+#![tactic(auto)]
+
+mod filling;
+mod gaps;
+mod laws;
+mod list;
+mod slots;
+
+pub use gaps::Gaps;
+pub use laws::{gap_examples_law, gap_law};
+pub use list::GapList;
