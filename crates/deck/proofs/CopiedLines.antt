@@ -6,7 +6,6 @@ use Rattle.std.proofs.lemmas.Bool.Decides.{nat_tests}
 use Rattle.std.proofs.lemmas.List.Sums.{sum_by-take-drop}
 use Rattle.std.proofs.lemmas.Option.{same_Some}
 use Rattle.std.specs.Option.{option_and_then}
-use Rattle.def_lines.specs.declared.line.Line.{Line}
 use Rattle.def_entry.specs.Entries.{Entry}
 use Rattle.def_entry.specs.Headings.{entry_text}
 use Rattle.def_entry.specs.LineViews.{seen_entry}
@@ -14,13 +13,10 @@ use Rattle.def_entry.specs.Views.{what_view}
 use Rattle.def_entry.specs.declared.entry.What.{What as MadeWhat}
 use Rattle.def_entry.specs.declared.key.Key.{Key}
 use Rattle.deck_lines.specs.Limits.{pass_limit}
-use Rattle.deck_lines.specs.Marks.{with_marks}
 use Rattle.deck_lines.specs.Readings.{entry_in}
 use Rattle.deck_lines.specs.Stores.{definition_at}
 use Rattle.deck_lines.specs.declared.line.DeckLine.{DeckLine}
 use Rattle.deck_lines.proofs.Entries.{text_in}
-use Rattle.deck_lines.proofs.MarkLimits.{marks_drop, marks_get, marks_len, marks_take}
-use Rattle.deck_lines.proofs.MarkReplacement.{few_lines}
 
 -- if a copy and the remaining items make up the whole list, so they do after one more item is copied
 pub copied_step : {A : Type 0} (xs rest now copy whole : List A) (x : A) → xs ≡ x ∷ rest → now ≡ copy ++ x ∷ []
@@ -28,14 +24,20 @@ pub copied_step : {A : Type 0} (xs rest now copy whole : List A) (x : A) → xs 
 copied_step xs rest now copy whole x at e h = ap (λ t. t ++ rest) e ∙ append_assoc copy (x ∷ []) rest
     ∙ sym (ap (λ t. copy ++ t) at) ∙ h
 
--- the line at a place is the stored line with its mark
-pub line_there : (ls : List Line) (ms : List Bool) (lines : List DeckLine) (i : ℕ) (l : Line) (m : Bool) (text : List ℕ)
-    → with_marks ls ms ≡ lines → length ms ≡ length ls → i < length ls →
-    l ≡ get_or ls i l → m ≡ get_or ms i false → text ≡ l.text
-    → slice_get lines i ≡ Some (record { number = l.number; text = text; mark = m })
-line_there ls ms lines i l m text are h g e f same =
-    ap (λ xs. slice_get xs i) (sym are) ∙ marks_get ls ms i l m h g e f
-    ∙ ap (λ t. Some (record { number = l.number; text = t; mark = m })) (sym same)
+-- the line at a place, with a copy of its text
+pub with_text : (lines : List DeckLine) (place : ℕ) (line : DeckLine) (text : List ℕ)
+    → slice_get lines place ≡ Some line
+    → text ≡ line.text → slice_get lines place ≡ Some (record { number = line.number; text = text; mark = line.mark })
+with_text lines place line text at same =
+    at ∙ ap (λ t. Some (record { number = line.number; text = t; mark = line.mark })) (sym same)
+
+-- an item of a list is in a front of the list that is long enough
+pub in_front : {A : Type 0} (n : ℕ) (xs : List A) (i : ℕ) (x : A) → i < n → slice_get xs i ≡ Some x
+    → slice_get (take n xs) i ≡ Some x
+in_front zero xs i x less e = absurd (omega (arith, less))
+in_front (suc n) [] i x less e = e
+in_front (suc n) (y ∷ xs) zero x less e = e
+in_front (suc n) (y ∷ xs) (suc i) x less e = in_front n xs i x (omega (arith, less)) e
 
 -- the front of a list that is one item longer ends with that item
 pub front_more : {A : Type 0} (xs : List A) (i : ℕ) (x : A) → slice_get xs i ≡ Some x
@@ -85,23 +87,3 @@ defined_by_parts lines place x k what e at keyed said same =
         let text : entry_text x.text ≡ d.1.text = sym (text_in x d is) in
         let what : what_view what ≡ d.1.what = same ∙ ap (λ (f : Entry). f.what) (same_Some e d.1 said) in
         ap Some (λ i. (one i, record { text = text i; what = what i }))
-
--- a range of the lines, marked with the same range of the marks, is that range of the marked lines
-pub part_marks : (ls : List Line) (ms : List Bool) (lines : List DeckLine) (at count : ℕ) → with_marks ls ms ≡ lines
-    → length ms ≡ length ls →
-    with_marks (take (at + count - at) (drop at ls)) (take (at + count - at) (drop at ms)) ≡ take count (drop at lines)
-part_marks ls ms lines at count are each =
-    let so_many : at + count - at ≡ count = omega arith in
-    ap (λ n. with_marks (take n (drop at ls)) (take n (drop at ms))) so_many
-    ∙ marks_take count (drop at ls) (drop at ms) ∙ ap (take count) (marks_drop at ls ms each)
-    ∙ ap (λ xs. take count (drop at xs)) are
-
--- the range is within the lines and no longer than the largest deck
-module _ (ls : List Line) (ms : List Bool) (stored lines : List DeckLine) (at count : ℕ)
-    (are : with_marks ls ms ≡ stored)
-    (each : length ms ≡ length ls) (same : stored ≡ lines) (inside : at + count ≤ length lines) where
-  pub part_within : at + count ≤ length ls
-  part_within = omega (arith, inside, ap length same, ap length are, marks_len ls ms each)
-
-  pub part_few : pass_limit stored ≡ false → at + count ≤ 100000
-  part_few limit = omega (arith, part_within, few_lines stored limit, ap length are, marks_len ls ms each)

@@ -17,17 +17,14 @@ use Rattle.deck.specs.Active.{active_lines}
 use Rattle.deck.specs.Changes.{IsTableChange, is_same_entry}
 use Rattle.deck.specs.Decks.{Contents}
 use Rattle.deck.specs.Edits.{after_drop, without_some}
-use Rattle.deck.specs.KindPlaces.{without_gap}
+use Rattle.gap_list.specs.Gaps.{without_gap}
 use Rattle.deck.specs.LastPlaces.{AreLast, IsIndexed, places_of}
 use Rattle.deck.specs.Numbers.{entry_there, key_if}
-use Rattle.deck.specs.PlacedKeys.{DefineTheirKeys}
 use Rattle.deck.specs.Tables.{active_definitions, definitions_among, last_place, place_of, table, table_of}
 use Rattle.deck.specs.declared.places.last_places.LastPlaces.{LastPlaces}
 use Rattle.deck.specs.declared.settings.Settings.{Settings}
 use Rattle.deck.proofs.RemovedLine.{DefinesAt, defined_last, definitions_dropped, dropped, indexed_dropped, table_moved}
 use Rattle.deck.proofs.RemovedLine.{place_in_lines}
-use Rattle.deck.proofs.PlacedKeys.{all_defined}
-use Rattle.deck.proofs.PlacedDefinitions.{in_place_by}
 use Rattle.deck.proofs.UncoveredKeys.{changed_dropped, last_uncovered}
 use Rattle.deck.proofs.LastRemoval.{place_within}
 
@@ -90,16 +87,6 @@ module _ (settings : Settings) (store : Store) (notices : List (List ℕ)) (d : 
         last_left numbering old put indexed one =
             last_uncovered settings store n k defines.0 place (set (active_lines settings store.lines) place false)
             uncovered numbered was defines.1 refl (covers k numbered) numbering old put indexed.places one
-
-        -- each of these places is that of a line which defines the key
-        pub defined_left : IsNumbering store → (old put : LastPlaces) → IsIndexed store settings old →
-            ((kind : Kind) → places_of put kind ≡ cond (is_same_kind kind n.kind)
-            (set (places_of old kind) n.number uncovered) (places_of old kind)) →
-            DefineTheirKeys store put
-        defined_left numbering old put indexed one =
-            all_defined store put (definitions_among (set (active_lines settings store.lines) place false) store.lines)
-            (in_place_by (set (active_lines settings store.lines) place false) store.lines)
-            (last_left numbering old put indexed one)
 
         -- after the places after the gap are decremented, the last places are those of the deck without the line
         pub indexed_drop : IsNumbering store → (old put now : LastPlaces) → IsIndexed store settings old →

@@ -1,6 +1,8 @@
 -- Storing, adding and changing places.
 use Rattle.std.proofs.Common.{◌≡◌, ◌++◌, ◌∷◌, ◌+◌, ◌<◌, ◌≤◌, [], ℕ, zero, suc, List, Bool, true, false, cond, length}
 use Rattle.std.proofs.Common.{get_or, take, drop, map, set, refl, sym, ap, ◌∙◌, arith, Option, Some, None, option_map}
+use Rattle.std.proofs.Common.{length-append, length-drop, length-take}
+use Rattle.std.proofs.lemmas.List.{length-map}
 use Rattle.std.specs.Option.{is_some}
 use Rattle.deck.specs.KindPlaces.{HasSamePlaces, place_count, place_in}
 
@@ -123,22 +125,36 @@ mapped_all f [] (suc i) h = refl
 mapped_all f (x ∷ xs) zero h = absurd (omega arith)
 mapped_all f (x ∷ xs) (suc i) h = ap (λ t. f x ∷ t) (mapped_all f xs i (omega arith))
 
--- reading within a list does not depend on the default
-pub read_same : {A : Type 0} (xs : List A) (i : ℕ) (d : A) → i < length xs → get_or xs i d ≡ get_or xs i (get_or xs i d)
-read_same [] i d h = absurd (omega arith)
-read_same (x ∷ xs) zero d h = refl
-read_same (x ∷ xs) (suc i) d h = read_same xs i d (omega arith)
-
--- replacing all members of a list by as many others gives the list of the others
-pub in_place : {A : Type 0} (n : ℕ) (xs ys : List A) → length xs ≡ length ys → n ≡ length ys
-    → take n (xs ++ drop (length xs) ys) ≡ xs
-in_place zero [] ys h e = refl
-in_place zero (x ∷ xs) ys h e = absurd (omega arith)
-in_place (suc n) [] [] h e = refl
-in_place (suc n) [] (y ∷ ys) h e = absurd (omega arith)
-in_place (suc n) (x ∷ xs) [] h e = absurd (omega arith)
-in_place (suc n) (x ∷ xs) (y ∷ ys) h e = ap (λ t. x ∷ t) (in_place n xs ys (omega arith) (omega arith))
-
 -- having the same places is transitive
 pub same_then : (a b c : List (Option ℕ)) → HasSamePlaces a b → HasSamePlaces b c → HasSamePlaces a c
 same_then a b c h g = record { place = λ m. g.place m ∙ h.place m; count = g.count ∙ h.count }
+
+-- reading a number gives its place
+place_read : (ps : List (Option ℕ)) (n : ℕ) → n < length ps → place_in ps n ≡ get_or ps n (place_in ps n)
+place_read [] n h = absurd (omega arith)
+place_read (x ∷ ps) zero h = refl
+place_read (x ∷ ps) (suc n) h = place_read ps n (omega arith)
+
+module _ (f : ℕ → ℕ) (old : List (Option ℕ)) where
+  -- moving the first places keeps the length
+  pub length-moved : (n : ℕ) → length (map (option_map f) (take n old) ++ drop n old) ≡ length old
+  length-moved n =
+      omega (
+        arith,
+        length-append (map (option_map f) (take n old)) (drop n old),
+        length-map (take n old) (option_map f),
+        length-take n old,
+        length-drop n old,
+      )
+
+  -- if the first places have moved, so have they and the next one after it is stored
+  pub moved_place : (now new : List (Option ℕ)) (n : ℕ) (place : Option ℕ) → n < length old
+      → now ≡ map (option_map f) (take n old) ++ drop n old → place ≡ option_map f (place_in now n)
+      → new ≡ set now n place
+      → new ≡ map (option_map f) (take (n + 1) old) ++ drop (n + 1) old
+  moved_place now new n place inside are is stored =
+      let within : n < length now = omega (arith, inside, ap length are, length-moved n) in
+      let read : place_in now n ≡ get_or (map (option_map f) (take n old) ++ drop n old) n (place_in now n) =
+      place_read now n within ∙ ap (λ ps. get_or ps n (place_in now n)) are in
+      stored ∙ ap (set now n) is ∙ ap (λ ps. set ps n (option_map f (place_in now n))) are
+      ∙ mapped_step (option_map f) old n (place_in now n) inside read

@@ -19,7 +19,7 @@ mod LastLine
 mod LastPlaceSteps
 mod DistinctKeys
 mod MarkedLines
-mod MovedPlaces
+mod PlaceSlots
 mod NumberedKeys
 mod KeysByNumber
 mod OneKeyList

@@ -17,7 +17,7 @@ use Rattle.deck_lines.specs.Stores.{Store, definition_at}
 use Rattle.deck_lines.specs.declared.line.DeckLine.{DeckLine}
 use Rattle.deck.specs.LastPlaces.{AreLast}
 use Rattle.deck.specs.Numbers.{AreInPlace}
-use Rattle.deck.specs.PlacedKeys.{ArePlaced, DefineTheirKeys, IsInPlace, key_there, keys_there, placed_key}
+use Rattle.deck.specs.PlacedKeys.{ArePlaced, IsInPlace, key_there, keys_there, placed_key}
 use Rattle.deck.specs.Tables.{Definitions, place_of}
 use Rattle.deck.specs.declared.deck.placed_keys.PlacedKey.{PlacedKey}
 use Rattle.deck.specs.declared.places.last_places.LastPlaces.{LastPlaces}
@@ -41,23 +41,6 @@ pub all_placed :
     → ArePlaced store last
 all_placed store last ds placed are n place e =
     there_if store.lines ds placed (key_numbered store.names n) place (sym (are.place n) ∙ e)
-
--- the line at the last place of a number defines the key with this number
-pub all_defined : (store : Store) (last : LastPlaces) (ds : Definitions) → AreInPlace store.lines ds
-    → AreLast store.names ds last → DefineTheirKeys store last
-all_defined store last ds placed are n place e = by (key_numbered store.names n) refl (sym (are.place n) ∙ e)
-  where
-    at : (k : Key) → key_numbered store.names n ≡ Some k → (o : Option (ℕ × Entry)) → lookup (is_same k) ds ≡ o
-        → option_map (λ p. p.0) o ≡ Some place
-        → (d : Key × Entry) × (definition_at store.lines place ≡ Some d) × (key_numbered store.names n ≡ Some d.0)
-    at k is None f h = cc
-    at k is (Some v) f h =
-        ((k, v.1), ap (definition_at store.lines) (sym (same_Some v.0 place h)) ∙ placed k v f, is)
-
-    by : (o : Option Key) → key_numbered store.names n ≡ o → option_and_then (place_of ds) o ≡ Some place
-        → (d : Key × Entry) × (definition_at store.lines place ≡ Some d) × (key_numbered store.names n ≡ Some d.0)
-    by None is h = cc
-    by (Some k) is h = at k is (lookup (is_same k) ds) refl h
 
 -- the keys at the places of placed keys are these keys
 pub keys_at_places : (lines : List DeckLine) (ks : List PlacedKey) → All (IsInPlace lines) ks

@@ -21,7 +21,8 @@ use Rattle.deck_lines.specs.Stores.{Store, definition_at}
 use Rattle.deck_lines.specs.declared.line.DeckLine.{DeckLine}
 use Rattle.deck_lines.specs.declared.line.Ending.{Ending}
 use Rattle.deck.specs.Active.{Surroundings, active_lines, activity, behind_kind, behind_line, is_active, start}
-use Rattle.deck.specs.KindPlaces.{place_count, place_in, without_gap}
+use Rattle.gap_list.specs.Gaps.{without_gap}
+use Rattle.deck.specs.KindPlaces.{place_count, place_in}
 use Rattle.deck.specs.LastPlaces.{AreLast, IsIndexed, key_tally, places_of}
 use Rattle.deck.specs.Tables.{Definitions, active_definitions, definition_by, definitions_among, definitions_from}
 use Rattle.deck.specs.Tables.{place_of}

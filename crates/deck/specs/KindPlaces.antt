@@ -1,6 +1,5 @@
 -- The places of the keys of one kind, indexed by the numbers of the keys.
-use Rattle.std.specs.Prelude.{◌≡◌, ◌+◌, ◌-◌, ℕ, List, [], ◌∷◌, nat_eq, nat_lt, if◌then◌else◌, Option, Some, None}
-use Rattle.std.specs.Prelude.{slice_get}
+use Rattle.std.specs.Prelude.{◌≡◌, ◌+◌, ℕ, List, [], ◌∷◌, Option, Some, None, slice_get}
 use Rattle.std.specs.Option.{option_and_then}
 
 -- the place of the key with a number, if it has one
@@ -17,11 +16,3 @@ place_count (Some place ∷ places) = place_count places + 1
 pub record HasSamePlaces (old new : List (Option ℕ)) : Type 0 where
   pub place : (number : ℕ) → place_in new number ≡ place_in old number
   pub count : place_count new ≡ place_count old
-
--- a place after the line at `gap` is removed
-abbrev pub without_gap : ℕ → ℕ → ℕ
-without_gap gap place = if nat_lt gap place then place - 1 else place
-
--- a place, decremented if it is `moved`
-abbrev pub moved_back : ℕ → ℕ → ℕ
-moved_back moved place = if nat_eq place moved then place - 1 else place

@@ -1,25 +1,31 @@
 -- The last places of keys, indexed by the numbers of the keys.
-use Rattle.std.specs.Prelude.{◌≡◌, ◌<◌, ℕ, List, length, nat_lt, if◌then◌else◌, Option, option_map}
+use Rattle.std.specs.Prelude.{◌≡◌, ◌<◌, ℕ, List, length, map, Option, option_map}
 use Rattle.std.specs.Option.{option_and_then}
 use Rattle.def_entry.specs.declared.key.Kind.{Kind}
 use Rattle.def_entry.specs.declared.key.Kind.TheVariants as kind
+use Rattle.gap_list.specs.Gaps.{place_without}
 use Rattle.deck_lines.specs.ClosedBlocks.{AreBlocksClosed}
 use Rattle.deck_lines.specs.Names.{Names, key_numbered, names_of_kind}
 use Rattle.deck_lines.specs.Stores.{Store}
 use Rattle.deck_lines.specs.declared.key_number.KeyNumber.{KeyNumber}
 use Rattle.deck.specs.Changes.{each_once}
 use Rattle.deck.specs.KeyLists.{of_kind}
-use Rattle.deck.specs.KindPlaces.{place_count, place_in, without_gap}
+use Rattle.deck.specs.KindPlaces.{place_count, place_in}
 use Rattle.deck.specs.Tables.{Definitions, Table, active_definitions, keys_of, place_of, table_of}
+use Rattle.deck.specs.declared.places.key_places.KeyPlaces.{KeyPlaces}
 use Rattle.deck.specs.declared.places.last_places.LastPlaces.{LastPlaces}
 use Rattle.deck.specs.declared.settings.Settings.{Settings}
 
 -- the places of the keys of a kind
+abbrev pub kind_places : KeyPlaces → Kind → List (Option ℕ)
+kind_places places kind.Unit = places.units
+kind_places places kind.Prefix = places.prefixes
+kind_places places kind.Func = places.functions
+kind_places places kind.List = places.lists
+
+-- the last places of the keys of a kind, which are stored as slots
 abbrev pub places_of : LastPlaces → Kind → List (Option ℕ)
-places_of last kind.Unit = last.units
-places_of last kind.Prefix = last.prefixes
-places_of last kind.Func = last.functions
-places_of last kind.List = last.lists
+places_of last kind = map (option_map (place_without last.gaps)) (kind_places last.slots kind)
 
 abbrev pub place_at : LastPlaces → KeyNumber → Option ℕ
 place_at last n = place_in (places_of last n.kind) n.number
@@ -37,15 +43,6 @@ key_tally table kind = length (of_kind kind (each_once (keys_of table)))
 pub record AreLast (names : Names) (ds : Definitions) (last : LastPlaces) : Type 0 where
   pub place : (n : KeyNumber) → place_at last n ≡ option_and_then (place_of ds) (key_numbered names n)
   pub count : (kind : Kind) → place_count (places_of last kind) ≡ key_tally (table_of ds) kind
-
--- a place, after the places between `gap` and `end` are decremented
-abbrev pub moved_to : (gap end place : ℕ) → ℕ
-moved_to gap end place = if nat_lt place end then without_gap gap place else place
-
--- the last places, after the places between `gap` and `end` are decremented
-pub record IsMovedTo (gap end : ℕ) (old now : LastPlaces) : Type 0 where
-  pub place : (n : KeyNumber) → place_at now n ≡ option_map (moved_to gap end) (place_at old n)
-  pub same_room : (kind : Kind) → length (places_of now kind) ≡ length (places_of old kind)
 
 -- the lines are closed, and `last` has the last places of their keys
 pub record IsIndexed (store : Store) (settings : Settings) (last : LastPlaces) : Type 0 where

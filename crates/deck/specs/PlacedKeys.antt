@@ -38,9 +38,3 @@ abbrev pub ArePlaced : Store → LastPlaces → Type 0
 ArePlaced store last =
     (n : KeyNumber) (place : ℕ) → place_at last n ≡ Some place → key_there store.lines place ≡ key_numbered store.names
     n
-
--- the line at the last place of each number defines the key with this number
-abbrev pub DefineTheirKeys : Store → LastPlaces → Type 0
-DefineTheirKeys store last =
-    (n : KeyNumber) (place : ℕ) → place_at last n ≡ Some place
-    → (d : Key × Entry) × (definition_at store.lines place ≡ Some d) × (key_numbered store.names n ≡ Some d.0)

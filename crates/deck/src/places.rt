@@ -1,6 +1,7 @@
 //! The places of the last active lines of keys.
 
 mod changes;
+mod key_places;
 mod kind_places;
 mod last_places;
 mod pass;

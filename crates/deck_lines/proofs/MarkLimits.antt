@@ -1,10 +1,11 @@
 -- Lines with their marks, within the limits.
 use Rattle.std.proofs.Common.{◌≡◌, ◌++◌, ◌∷◌, ◌+◌, ◌-◌, ◌<◌, ◌≤◌, [], ℕ, zero, suc, List, Bool, true, false, not}
 use Rattle.std.proofs.Common.{length, map, take, drop, reverse, refl, append_assoc, sym, ap, ◌∙◌, arith, length-append}
-use Rattle.std.proofs.Common.{length-take, Some, slice_get, get_or}
+use Rattle.std.proofs.Common.{length-take, None, Some, option_map, slice_get}
 use Rattle.std.specs.Prelude.{nat_le}
 use Rattle.std.proofs.lemmas.Bool.Decides.{nat_tests}
 use Rattle.std.proofs.lemmas.List.{length-map, reverse-append}
+use Rattle.std.proofs.lemmas.Option.{same_Some, slice_get-map}
 use Rattle.std.proofs.lemmas.List.Sums.{sum_by-append, sum_by-cons, sum_by-take-drop}
 use Rattle.def_lines.specs.declared.line.Line.{Line}
 use Rattle.deck_lines.specs.Limits.{bytes_in, pass_limit, text_len}
@@ -193,11 +194,36 @@ bytes_on put =
     ∙ sym (length-map put line_without_mark) in
     sym (marks_bytes (map line_without_mark put) (map mark_of put) each) ∙ ap text_len (marks_on put)
 
--- the marked line at a place is the line there with its mark
-pub marks_get : (ls : List Line) (ms : List Bool) (i : ℕ) (l : Line) (m : Bool) → length ms ≡ length ls → i < length ls
-    →
-    l ≡ get_or ls i l → m ≡ get_or ms i false → slice_get (with_marks ls ms) i ≡ Some (with_mark m l)
-marks_get [] ms i l m h g e f = absurd (omega arith)
-marks_get (k ∷ ls) [] i l m h g e f = absurd (omega arith)
-marks_get (k ∷ ls) (n ∷ ms) zero l m h g e f = rw (e, f) refl
-marks_get (k ∷ ls) (n ∷ ms) (suc i) l m h g e f = marks_get ls ms i l m (omega arith) (omega arith) e f
+-- a place within a list has an item
+pub item_inside : {A : Type 0} → (xs : List A) (place : ℕ) → place < length xs → None ≡ slice_get xs place → ⊥
+item_inside [] place h e = omega (arith, h)
+item_inside (x ∷ xs) zero h e = cc
+item_inside (x ∷ xs) (suc place) h e = item_inside xs place (omega (arith, h)) e
+
+-- a line and its mark at the same place are the marked line at that place
+pub marks_there : (ls : List Line) (ms : List Bool) (place : ℕ) (l : Line) (m : Bool) → slice_get ls place ≡ Some l
+    → slice_get ms place ≡ Some m → slice_get (with_marks ls ms) place ≡ Some (with_mark m l)
+marks_there [] ms place l m e f = cc
+marks_there (k ∷ ls) [] zero l m e f = cc
+marks_there (k ∷ ls) [] (suc place) l m e f = cc
+marks_there (k ∷ ls) (n ∷ ms) zero l m e f =
+    ap (λ x. Some (with_mark x k)) (same_Some n m f) ∙ ap (λ x. Some (with_mark m x)) (same_Some k l e)
+marks_there (k ∷ ls) (n ∷ ms) (suc place) l m e f = marks_there ls ms place l m e f
+
+-- the line at the place of a marked line is that line without its mark
+pub line_of_marked : (ls : List Line) (ms : List Bool) (place : ℕ) (x : DeckLine) → length ms ≡ length ls
+    → slice_get (with_marks ls ms) place ≡ Some x → slice_get ls place ≡ Some (line_without_mark x)
+line_of_marked ls ms place x h e =
+    ap (λ (l : List Line). slice_get l place) (sym (marks_off ls ms h))
+    ∙ slice_get-map line_without_mark (with_marks ls ms) place ∙ ap (option_map line_without_mark) e
+
+-- the bytes from a line on are those of the line and those of the lines after it
+pub bytes_from : (ls : List Line) (place : ℕ) (l : Line) → slice_get ls place ≡ Some l
+    → bytes_in (drop place ls) ≡ length l.text + bytes_in (drop (place + 1) ls)
+bytes_from [] place l e = cc
+bytes_from (k ∷ ls) zero l e =
+    sum_by-cons (λ (x : Line). length x.text) k ls
+    ∙ ap (λ (x : Line). length x.text + bytes_in ls) (same_Some k l e)
+bytes_from (k ∷ ls) (suc place) l e =
+    let next : suc (place + 1) ≡ suc place + 1 = omega arith in
+    bytes_from ls place l e ∙ ap (λ n. length l.text + bytes_in (drop n (k ∷ ls))) next

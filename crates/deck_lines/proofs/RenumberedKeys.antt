@@ -168,11 +168,11 @@ written_back len ds written same all =
 
 -- there are as many numbers as definitions
 pub numbers_long : (lines : List DeckLine) (d : Definitions) (r : Renumbering) → HoldsDefinitions lines d
-    → IsRenumbering lines r → length r.of_lines.items ≡ length d.of_lines.items
+    → IsRenumbering lines r → length r.of_lines.items ≡ length d.of_lines.listed
 numbers_long lines d r kept are =
     sym (length-map r.of_lines.items (option_map (key_numbered (names_after r)))) ∙ ap length are.definition_numbers
     ∙ length-map (map entry_in lines) (option_map keyed) ∙ length-map lines entry_in
-    ∙ sym (defined_long (names_in d.keys) d.of_lines.items lines kept.definitions_right)
+    ∙ sym (defined_long (names_in d.keys) d.of_lines.listed lines kept.definitions_right)
 
 -- the definitions with other numbers are still those of the lines
 pub kept_renumbered : (lines : List DeckLine) (d new : Definitions) (r : Renumbering) → HoldsDefinitions lines d

@@ -26,16 +26,17 @@ use Rattle.deck_lines.proofs.Keys.{found_key, one_to_one}
 use Rattle.deck_lines.proofs.NameNumbers.{found_is_any}
 
 -- making room does not change the definitions
-pub defined_same : (d room : Definitions) (said : List (Option (Key × Entry))) → room.of_lines.items ≡ d.of_lines.items
+pub defined_same : (d room : Definitions) (said : List (Option (Key × Entry)))
+    → room.of_lines.listed ≡ d.of_lines.listed
     → names_in room.keys ≡ names_in d.keys → AreDefined d said → AreDefined room said
 defined_same d room said items names are =
-    subst (λ n. IsDefined n room.of_lines.items said) (sym names)
+    subst (λ n. IsDefined n room.of_lines.listed said) (sym names)
     (subst (λ ds. IsDefined (names_in d.keys) ds said) (sym items) are)
 
 module _ (lines : List DeckLine) (d : Definitions) (kept : HoldsDefinitions lines d) where
   -- the definitions after one more line is appended
   pub kept_push : (line : DeckLine) (room new : Definitions) (made : Option (Key × MadeWhat)) (after : List DeckLine) →
-      room.of_lines.items ≡ d.of_lines.items → names_in room.keys ≡ names_in d.keys
+      room.of_lines.listed ≡ d.of_lines.listed → names_in room.keys ≡ names_in d.keys
       → option_map (seen_entry line.text) made ≡ entry_in line → after ≡ lines ++ line ∷ [] →
       ((said : List (Option (Key × Entry))) (text : List ℕ) → AreDefined room said
       → AreDefined new (said ++ option_map (seen_entry text) made ∷ [])) →
@@ -90,7 +91,7 @@ defined_long names ds lines are =
 -- the definitions of lines of which some are replaced by others
 pub kept_exchange : (lines put : List DeckLine) (d room new : Definitions) (kept : HoldsDefinitions lines d)
     (ds : List (Option Definition)) (at cut : ℕ) (after : List DeckLine) →
-    room.of_lines.items ≡ d.of_lines.items → names_in room.keys ≡ names_in d.keys
+    room.of_lines.listed ≡ d.of_lines.listed → names_in room.keys ≡ names_in d.keys
     → IsDefined (names_in d.keys) ds (map entry_in put) → after ≡ take at lines ++ (put ++ drop (at + cut) lines) →
     ((said by : List (Option (Key × Entry))) → AreDefined room said → IsDefined (names_in room.keys) ds by
     → AreDefined new (take at said ++ (by ++ drop (at + cut) said))) →
@@ -136,21 +137,21 @@ numbered_at names (Some x) (Some line) d e is =
 pub numbering_of : (lines : List DeckLine) (d : Definitions) (s : Store) → HoldsDefinitions lines d
     → record { lines = lines; names = names_in d.keys } ≡ s → IsNumbering s
 numbering_of lines d s kept e = subst IsNumbering e (record {
-  definition_numbers = λ place made is. numbered_at (names_in d.keys) (slice_get d.of_lines.items place)
+  definition_numbers = λ place made is. numbered_at (names_in d.keys) (slice_get d.of_lines.listed place)
       (slice_get lines place) made
-      (definition_at_place (names_in d.keys) d.of_lines.items lines place kept.definitions_right) is;
+      (definition_at_place (names_in d.keys) d.of_lines.listed lines place kept.definitions_right) is;
   unique = kept.unique;
 })
 
 -- the definitions stay those of the lines when more keys get numbers
 pub kept_read : (lines : List DeckLine) (d new : Definitions) → HoldsDefinitions lines d
-    → new.of_lines.items ≡ d.of_lines.items
+    → new.of_lines.listed ≡ d.of_lines.listed
     → IsExtended (names_in d.keys) (names_in new.keys) →
     (IsOneToOne (names_in d.keys) → IsOneToOne (names_in new.keys)) → HoldsDefinitions lines new
 kept_read lines d new kept items wider unique = record {
   definitions_right =
       subst (λ ds. IsDefined (names_in new.keys) ds (map entry_in lines)) (sym items)
-      (defined_with_more (names_in d.keys) (names_in new.keys) wider d.of_lines.items (map entry_in lines)
+      (defined_with_more (names_in d.keys) (names_in new.keys) wider d.of_lines.listed (map entry_in lines)
       kept.definitions_right);
   unique = unique kept.unique;
 }

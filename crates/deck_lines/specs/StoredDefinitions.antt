@@ -1,6 +1,5 @@
 -- What is stored about lines in addition to their texts.
-use Rattle.std.specs.Prelude.{◌≡◌, ◌≤◌, ◌<◌, ◌+◌, List, ◌∷◌, map, vec_len, vec_capacity, Option, Some, None, option_map}
-use Rattle.std.specs.Prelude.{⊤}
+use Rattle.std.specs.Prelude.{◌≡◌, ◌<◌, List, ◌∷◌, map, Option, Some, None, option_map, ⊤}
 use Rattle.def_entry.specs.declared.entry.What.{What as MadeWhat}
 use Rattle.def_entry.specs.declared.key.Key.{Key}
 use Rattle.def_entry.specs.Entries.{Entry, What}
@@ -28,7 +27,7 @@ IsDefined names definitions said =
     map (option_map (seen_definition names)) definitions ≡ map (option_map keyed_definition) said
 
 abbrev pub AreDefined : Definitions → List (Option (Key × Entry)) → Type 0
-AreDefined definitions said = IsDefined (names_in definitions.keys) definitions.of_lines.items said
+AreDefined definitions said = IsDefined (names_in definitions.keys) definitions.of_lines.listed said
 
 abbrev pub HasRoomForKey : KeyNumbers → Option (Key × MadeWhat) → Type 0
 HasRoomForKey keys None = ⊤
@@ -36,7 +35,7 @@ HasRoomForKey keys (Some definition) = 0 < spare_of keys definition.0.kind
 
 -- the definition of one more line can be added without an allocation
 pub record HasRoomFor (definitions : Definitions) (definition : Option (Key × MadeWhat)) : Type 0 where
-  pub room_for_line : vec_len definitions.of_lines + 1 ≤ vec_capacity definitions.of_lines
+  pub room_for_line : 0 < definitions.of_lines.spare
   pub room_for_key : HasRoomForKey definitions.keys definition
 
 -- the definitions are those of the lines, and no key has two numbers

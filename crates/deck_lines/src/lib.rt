@@ -13,7 +13,7 @@ mod store;
 pub use draft::{Draft, LoadFault, Notices};
 pub use key_number::KeyNumber;
 pub use laws::{decks_are_closed, examples_law, first_faults_end_loads};
-pub use line::{Block, BorrowedLine, DeckLine, DeckLines, Ending, MarkedLines, Role};
+pub use line::{Block, BorrowedLine, DeckLine, DeckLines, Ending, Role};
 pub use line_meaning::{Reading, read_line};
 pub use load::load_text;
 pub use store::{

@@ -1,10 +1,8 @@
 //! The lines and blocks of a deck.
 
-ghost use Rattle.std.specs.Prelude.{◌≡◌, ◌<◌, Some, length, slice_get};
+ghost use Rattle.std.specs.Prelude.{◌≡◌};
 ghost use Rattle.deck_lines.specs.Blocks as spec;
-ghost use Rattle.deck_lines.specs.Marks.{with_marks};
 
-use def_lines::Line;
 use units_io::{List, Text};
 
 /// A line of a deck. A line with the mark has no effect.
@@ -41,31 +39,6 @@ impl DeckLine {
 
 /// Lines of a deck, in order.
 pub type DeckLines = List<DeckLine>;
-
-/// Lines of a deck and their marks, in parallel slices.
-#[derive(Clone, Copy)]
-pub struct MarkedLines<'a> {
-    pub lines: &'a [Line],
-    pub marks: &'a [bool],
-}
-
-impl<'a> MarkedLines<'a> {
-    /// Returns the line at `place`.
-    pub fn line(self, place: usize) -> BorrowedLine<'a>
-        requires each { length self.marks.now ≡ length self.lines.now }
-        requires inside { place < length self.lines.now }
-        ensures { slice_get (with_marks self.entry.lines.now self.entry.marks.now) place
-            ≡ Some (record { number = result.number; text = result.text.now; mark = result.mark }) }
-    {
-        let MarkedLines { lines, marks } = self;
-        let line = &lines[place];
-        BorrowedLine {
-            number: line.number,
-            text: line.text.as_bytes(),
-            mark: marks[place],
-        }
-    }
-}
 
 /// The kind of line that closes a block.
 #[derive(Clone, Copy, Debug, PartialEq, Eq)]

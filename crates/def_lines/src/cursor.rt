@@ -5,7 +5,8 @@ ghost use Rattle.def_lines.specs.Lines.{lines_behind, logical_lines, nonblank_li
 ghost use Rattle.def_lines.specs.Lines.{with_front};
 ghost use Rattle.def_lines.specs.Lines.{trimmed_line};
 
-use crate::line::{LentLine, Line, Lines};
+use crate::line::{LentLine, Line};
+use crate::line_list::Lines;
 use crate::part::Part;
 use crate::physical::{clean, line_feed_count, next_line, strip_last};
 use std::alloc::{AllocError, Global};

@@ -6,7 +6,7 @@ use crate::blanks::trim;
 use std::alloc::{AllocError, Global};
 use std::borrow::CowSlice;
 use std::marker::Model;
-use units_io::{List, Text};
+use units_io::Text;
 
 /// A logical line of a file.
 #[derive(Drop)]
@@ -16,9 +16,6 @@ pub struct Line {
     /// The content, without blanks at the ends.
     pub text: Text,
 }
-
-/// An ordered list of lines.
-pub type Lines = List<Line>;
 
 /// A logical line of a file. Its text is borrowed from the file if the line is a single physical line.
 #[derive(Drop)]

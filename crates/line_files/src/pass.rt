@@ -7,13 +7,13 @@ ghost use Rattle.deck_lines.specs.Blocks as blocks;
 use crate::fault::LineFilesFault;
 use crate::line_files::LineFiles;
 use deck_lines::Ending;
-use def_lines::Line;
+use def_lines::{Line, Lines};
 use std::alloc::Global;
 
 /// The files of the lines that have been read so far, and the lines of the deck.
 #[derive(Drop)]
 pub(crate) struct Pass<'a> {
-    pub(crate) expected: &'a [Line],
+    pub(crate) expected: &'a Lines,
     pub(crate) found: LineFiles,
 }
 

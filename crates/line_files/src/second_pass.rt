@@ -12,7 +12,7 @@ use crate::line_files::LineFiles;
 use crate::pass::{NamedFile, Pass, end_line_text};
 use crate::step::{Step, change_blocks, step_of};
 use deck_lines::Block;
-use def_lines::{Cursor, LentLine, Line};
+use def_lines::{Cursor, LentLine, Lines};
 use std::alloc::Global;
 use units_io::{FetchFault, Files};
 
@@ -27,7 +27,7 @@ pub fn find_line_files<F: Files>(
     files: &mut F,
     name: &[u8],
     bytes: &[u8],
-    lines: &[Line],
+    lines: &Lines,
 ) -> Result<LineFiles, LineFilesFault>
     requires { length bytes.now ≤ longest_file }
     ensures found { (m : FileMap) → F.files files.old ≡ Some m

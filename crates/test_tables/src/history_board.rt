@@ -114,7 +114,11 @@ fn value_text<L: Ledger>(
 // Returns the lines of the deck, each followed by `;`.
 fn lines_text(alloc: Global, live: &LiveTable) -> Result<Vec<u8>, AllocError> {
     let mut text = Vec::new(alloc);
-    for line in live.deck().lines().as_slice() {
+    let lines = live.deck().lines();
+    for place in 0..lines.len() {
+        let Some(line) = lines.get(place) else {
+            continue;
+        };
         text.extend_from_slice(line.text.as_bytes())?;
         text.push(b';')?;
     }

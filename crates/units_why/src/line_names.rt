@@ -52,8 +52,7 @@ pub(crate) fn line_names<F: Files>(
     let Some(text) = text_of(alloc, files, name)? else {
         return Ok(None);
     };
-    let lines = deck.lines().as_slice();
-    match find_line_files(alloc, files, name, text.as_bytes(), lines) {
+    match find_line_files(alloc, files, name, text.as_bytes(), deck.lines()) {
         Ok(found) => Ok(Some(LineNames::Many(found))),
         Err(LineFilesFault::Changed) => Ok(None),
         Err(LineFilesFault::OutOfMemory) => Err(AllocError),
@@ -94,9 +93,12 @@ fn has_includes(deck: &Deck) -> bool {
     if has_one_line_per_key(deck) {
         return false;
     }
-    for line in deck.lines().as_slice() {
-        if is_include(line.text.as_bytes()) {
-            return true;
+    let lines = deck.lines();
+    for place in 0..lines.len() {
+        if let Some(line) = lines.get(place) {
+            if is_include(line.text.as_bytes()) {
+                return true;
+            }
         }
     }
     false
@@ -124,10 +126,11 @@ fn line_count(text: &[u8]) -> usize {
 
 // Returns the largest line number.
 fn last_number(deck: &Deck) -> usize {
+    let lines = deck.lines();
     let mut last = 0;
-    for line in deck.lines().as_slice() {
-        if line.number > last {
-            last = line.number;
+    for place in 0..lines.len() {
+        if let Some(line) = lines.get(place) {
+            last = line.number.max(last);
         }
     }
     last as usize

@@ -37,7 +37,7 @@ impl Deck {
         let uncovered = uncovered_by(alloc, &self.store, &self.settings, place, number)?;
         let keys = changed_key(alloc, &self.store, number, Some(place), uncovered)?;
         self.last.restore(number, uncovered);
-        self.last.close_gap(&self.store, place);
+        self.last.close_gap(place);
         self.store.remove(place);
         Ok(keys)
     }

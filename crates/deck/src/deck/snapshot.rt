@@ -6,7 +6,7 @@ ghost use Rattle.deck_lines.specs.Readings.{entry_in};
 ghost use Rattle.deck_lines.specs.declared.line.DeckLine.{DeckLine};
 
 use super::Deck;
-use deck_lines::{LineStore, MarkedLines};
+use deck_lines::LineStore;
 use def_entry::{Key, What};
 use def_lines::Line;
 use std::alloc::{AllocError, Global};
@@ -29,15 +29,13 @@ impl Deck {
 fn copied_store(alloc: Global, store: &LineStore) -> Result<LineStore, AllocError>
     ensures { IfOk result (λ copy. copy.lines ≡ store.now.lines) }
 {
-    let MarkedLines { lines, marks } = store.marked();
     let mut copy = LineStore::new(alloc, store.table_seed());
-    for place in 0..lines.len() {
-        let mark = marks[place];
-        let line = &lines[place];
+    for place in 0..store.len() {
+        let line = store.line(place);
         let number = line.number;
-        let text = line.text.copy(alloc)?;
+        let text = Text::from_bytes(alloc, line.text)?;
         let definition = copied_definition(alloc, store, place)?;
-        copy.push(alloc, Line { number, text }, mark, definition)?;
+        copy.push(alloc, Line { number, text }, line.mark, definition)?;
     }
     Ok(copy)
 }

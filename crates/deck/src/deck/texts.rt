@@ -15,12 +15,10 @@ impl Deck {
     pub fn messages(&self, alloc: Global) -> Result<Texts, AllocError>
         ensures { IfOk result (λ texts. texts ≡ spec.messages self.now) }
     {
-        let marked = self.store.marked();
         let flags = active_flags(alloc, &self.store, &self.settings)?;
-        let lines = marked.lines;
         let mut texts = Texts::new(alloc);
-        for i in 0..lines.len() {
-            push_message(alloc, &mut texts, flags[i], lines[i].text.as_bytes())?;
+        for i in 0..flags.len() {
+            push_message(alloc, &mut texts, flags[i], self.store.line(i).text)?;
         }
         Ok(texts)
     }

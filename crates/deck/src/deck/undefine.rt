@@ -44,7 +44,7 @@ impl Deck {
         let Some(number) = self.store.key_number(place) else {
             unreachable!()
         };
-        let text = Text::from_bytes(alloc, self.store.marked().line(place).text)?;
+        let text = Text::from_bytes(alloc, self.store.line(place).text)?;
         let keys = changed_key(alloc, &self.store, number, Some(place), uncovered)?;
         self.store.truncate(place);
         self.last.restore(number, uncovered);

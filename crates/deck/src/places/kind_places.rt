@@ -1,8 +1,10 @@
 //! The places of the keys of one kind.
 
-ghost use Rattle.std.specs.Prelude.{◌≡◌, ◌<◌, [], None, Some, length, set, OnOk};
+ghost use Rattle.std.specs.Prelude.{◌≡◌, ◌<◌, [], None, Some, length, map, option_map, set, OnOk};
+ghost use Rattle.gap_list.specs.Gaps.{place_without, without_gap};
 ghost use Rattle.deck.specs.KindPlaces as spec;
 
+use gap_list::Gaps;
 use std::alloc::{AllocError, Global};
 use std::marker::Model;
 
@@ -45,6 +47,13 @@ impl KindPlaces {
         }
     }
 
+    /// Returns the number of keys for whose places there is room.
+    pub(crate) fn len(&self) -> usize
+        ensures { result ≡ length self.now }
+    {
+        self.places.len()
+    }
+
     /// Returns the number of keys that have a place.
     pub(crate) fn count(&self) -> usize
         ensures { result ≡ spec.place_count self.now }
@@ -85,6 +94,26 @@ impl KindPlaces {
         }
     }
 
+    /// Moves all places for the removal of the item at `gap`.
+    pub(crate) fn close_gap(&mut self, gap: usize)
+        ensures { self.new ≡ map (option_map (without_gap gap)) self.old }
+    {
+        for number in 0..self.len() {
+            let place = place_past_gap(gap, self.get(number));
+            self.restore(number, place);
+        }
+    }
+
+    /// Replaces slots by places.
+    pub(crate) fn fill_gaps(&mut self, gaps: &Gaps)
+        ensures { self.new ≡ map (option_map (place_without gaps.now)) self.old }
+    {
+        for number in 0..self.len() {
+            let place = place_of(gaps, self.get(number));
+            self.restore(number, place);
+        }
+    }
+
     // Removes the place of the key with this number.
     fn forget(&mut self, number: usize)
         requires { number < length self.old }
@@ -94,5 +123,28 @@ impl KindPlaces {
             self.count -= 1;
         }
         self.places[number] = None;
+    }
+}
+
+// Returns a place after the removal of the item at `gap`.
+fn place_past_gap(gap: usize, place: Option<usize>) -> Option<usize>
+    ensures { result ≡ option_map (without_gap gap) place }
+{
+    let Some(place) = place else {
+        return None;
+    };
+    if gap < place {
+        return Some(place - 1);
+    }
+    Some(place)
+}
+
+/// Returns the place of a slot, if there is one.
+pub(crate) fn place_of(gaps: &Gaps, slot: Option<usize>) -> Option<usize>
+    ensures { result ≡ option_map (place_without gaps.now) slot }
+{
+    match slot {
+        Some(slot) => Some(gaps.place_of(slot)),
+        None => None,
     }
 }

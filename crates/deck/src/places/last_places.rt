@@ -1,26 +1,25 @@
 //! The last places of keys.
 
-ghost use Rattle.std.specs.Prelude.{◌≡◌, ◌<◌, ◌+◌, ℕ, [], ◌≢◌, Some, map, length, set, option_map, OnOk, if◌then◌else◌};
+ghost use Rattle.std.specs.Prelude.{◌≡◌, ◌<◌, [], Some, map, length, set, option_map, OnOk, if◌then◌else◌};
+ghost use Rattle.gap_list.specs.Gaps.{place_without, without_gap};
 ghost use Rattle.def_entry.specs.declared.key.Kind as key_kind;
 ghost use Rattle.def_entry.specs.SameKeys.{is_same_kind};
-ghost use Rattle.deck_lines.specs.declared.key_number.KeyNumber as number_spec;
 ghost use Rattle.deck.specs.KindPlaces as kind_spec;
 ghost use Rattle.deck.specs.LastPlaces as spec;
-ghost use Rattle.deck.specs.PlacedKeys.{DefineTheirKeys};
-ghost use Rattle.deck.specs.declared.places.last_places.LastPlaces as places_spec;
 
-use super::kind_places::KindPlaces;
-use deck_lines::{KeyNumber, LineStore};
+use super::key_places::KeyPlaces;
+use super::kind_places::place_of;
+use deck_lines::KeyNumber;
 use def_entry::Kind;
+use gap_list::Gaps;
 use std::alloc::{AllocError, Global};
 
-/// The places of the last active lines of keys, indexed by the numbers of the keys.
+/// The places of the last active lines of keys, indexed by the numbers of the keys. Each is stored as a slot: a slot
+/// stays if lines before it are removed, and is a place less the gaps before it.
 #[derive(Drop)]
 pub(crate) struct LastPlaces {
-    pub units: KindPlaces,
-    pub prefixes: KindPlaces,
-    pub functions: KindPlaces,
-    pub lists: KindPlaces,
+    pub slots: KeyPlaces,
+    pub gaps: Gaps,
 }
 
 impl LastPlaces {
@@ -29,10 +28,8 @@ impl LastPlaces {
         ensures { (kind : key_kind.Kind) → spec.places_of result kind ≡ [] }
     {
         LastPlaces {
-            units: KindPlaces::new(alloc),
-            prefixes: KindPlaces::new(alloc),
-            functions: KindPlaces::new(alloc),
-            lists: KindPlaces::new(alloc),
+            slots: KeyPlaces::new(alloc),
+            gaps: Gaps::new(alloc),
         }
     }
 
@@ -40,14 +37,14 @@ impl LastPlaces {
     pub(crate) fn get(&self, n: KeyNumber) -> Option<usize>
         ensures { result ≡ spec.place_at self.now n }
     {
-        self.of_kind(n.kind).get(n.number)
+        place_of(&self.gaps, self.slots.get(n))
     }
 
     /// Returns the number of keys of a kind that have a place.
     pub(crate) fn count(&self, kind: Kind) -> usize
         ensures { result ≡ kind_spec.place_count (spec.places_of self.now kind) }
     {
-        self.of_kind(kind).count()
+        self.slots.count(kind)
     }
 
     /// Makes room for the place of the key with this number. All places stay.
@@ -58,12 +55,7 @@ impl LastPlaces {
             ≡ (if is_same_kind k kind then spec.places_of self.new k else spec.places_of self.old k) }
         ensures ok { OnOk result (number < length (spec.places_of self.new kind)) }
     {
-        match kind {
-            Kind::Unit => self.units.make_room(number),
-            Kind::Prefix => self.prefixes.make_room(number),
-            Kind::Func => self.functions.make_room(number),
-            Kind::List => self.lists.make_room(number),
-        }
+        self.slots.make_room(kind, number)
     }
 
     /// Sets the place of the key with this number. Allocates no memory.
@@ -74,12 +66,7 @@ impl LastPlaces {
             then set (spec.places_of self.old kind) n.number (Some place)
             else spec.places_of self.old kind) }
     {
-        match n.kind {
-            Kind::Unit => self.units.put(n.number, place),
-            Kind::Prefix => self.prefixes.put(n.number, place),
-            Kind::Func => self.functions.put(n.number, place),
-            Kind::List => self.lists.put(n.number, place),
-        }
+        self.restore(n, Some(place));
     }
 
     /// Sets or removes the place of the key with this number. Allocates no memory.
@@ -90,63 +77,56 @@ impl LastPlaces {
             then set (spec.places_of self.old kind) n.number place
             else spec.places_of self.old kind) }
     {
-        match n.kind {
-            Kind::Unit => self.units.restore(n.number, place),
-            Kind::Prefix => self.prefixes.restore(n.number, place),
-            Kind::Func => self.functions.restore(n.number, place),
-            Kind::List => self.lists.restore(n.number, place),
-        }
+        let slot = self.slot_of(place);
+        self.slots.restore(n, slot);
     }
 
-    /// Updates the places for the removal of the line at `gap`. Goes over the lines after that line.
-    pub(crate) fn close_gap(&mut self, store: &LineStore, gap: usize)
-        requires inside { gap < length store.now.lines }
-        requires defined { DefineTheirKeys store.now self.old }
+    /// Updates the places for the removal of the line at `gap`. The cost does not depend on the number of keys, except
+    /// that one call in many goes over all places, and so does a call without memory for one more gap.
+    pub(crate) fn close_gap(&mut self, gap: usize)
         ensures { (kind : key_kind.Kind) → spec.places_of self.new kind
-            ≡ map (option_map (kind_spec.without_gap gap)) (spec.places_of self.old kind) }
+            ≡ map (option_map (without_gap gap)) (spec.places_of self.old kind) }
     {
-        store.lines_few();
-        for place in gap + 1..store.len() {
-            self.move_line_back(store, place);
+        self.fill_many_gaps();
+        match self.gaps.add(gap) {
+            Ok(()) => {}
+            Err(_) => {
+                self.fill_gaps();
+                self.slots.close_gap(gap);
+            }
         }
     }
 
-    // Decrements the last place of the key that the line at `place` defines, if it is `place`.
-    fn move_line_back(&mut self, store: &LineStore, place: usize)
-        ensures { (gap : ℕ) (old : places_spec.LastPlaces) → gap < place → DefineTheirKeys store.now old
-            → spec.IsMovedTo gap place old self.old → spec.IsMovedTo gap (place + 1) old self.new }
+    // Fills the gaps if there are more than half as many as places.
+    fn fill_many_gaps(&mut self)
+        ensures { (kind : key_kind.Kind) → spec.places_of self.new kind ≡ spec.places_of self.old kind }
     {
-        if let Some(n) = store.key_number(place) {
-            self.move_back(n, place);
+        if self.gaps.len() > self.slots.len() / 2 {
+            self.fill_gaps();
         }
     }
 
-    // Decrements the place of the key with this number, if it is `place`. All other places stay.
-    fn move_back(&mut self, n: KeyNumber, place: usize)
-        ensures own { spec.place_at self.new n
-            ≡ option_map (kind_spec.moved_back place) (spec.place_at self.old n) }
-        ensures others { (m : number_spec.KeyNumber) → m ≢ n
-            → spec.place_at self.new m ≡ spec.place_at self.old m }
-        ensures room { (kind : key_kind.Kind)
-            → length (spec.places_of self.new kind) ≡ length (spec.places_of self.old kind) }
+    // Replaces all slots by places, so that no gap is left.
+    fn fill_gaps(&mut self)
+        ensures places { (kind : key_kind.Kind) → spec.places_of self.new kind ≡ spec.places_of self.old kind }
+        ensures none { self.new.gaps ≡ [] }
     {
-        let Some(own) = self.get(n) else {
-            return;
+        self.slots.fill_gaps(&self.gaps);
+        self.gaps.clear();
+    }
+
+    // Returns the slot of a place, if there is one. If the number of the slot would be too large, fills the gaps.
+    fn slot_of(&mut self, place: Option<usize>) -> Option<usize>
+        ensures places { (kind : key_kind.Kind) → spec.places_of self.new kind ≡ spec.places_of self.old kind }
+        ensures slot { option_map (place_without self.new.gaps) result ≡ place }
+    {
+        let Some(place) = place else {
+            return None;
         };
-        if own == place {
-            self.put(n, place.saturating_sub(1));
+        if let Some(slot) = self.gaps.slot_of(place) {
+            return Some(slot);
         }
-    }
-
-    // Returns the places of the keys of a kind.
-    fn of_kind(&self, kind: Kind) -> &KindPlaces
-        ensures { result.now ≡ spec.places_of self.now kind }
-    {
-        match kind {
-            Kind::Unit => &self.units,
-            Kind::Prefix => &self.prefixes,
-            Kind::Func => &self.functions,
-            Kind::List => &self.lists,
-        }
+        self.fill_gaps();
+        Some(place)
     }
 }

@@ -18,11 +18,12 @@ ghost use Rattle.deck_lines.specs.declared.line.DeckLine.{DeckLine};
 
 use super::exchange::exchange;
 use super::key_numbers::KeyNumbers;
-use super::lists;
 use super::new_key_numbers::Renumbering;
 use crate::key_number::KeyNumber;
 use def_entry::{Key, What};
+use gap_list::GapList;
 use std::alloc::{AllocError, Global};
+use std::mem;
 use units_io::HashSeed;
 
 /// The definition of a line: the number of its key, and the rest of the entry except its text, which is part of the
@@ -36,7 +37,7 @@ pub struct Definition {
 /// The definition of each line, and the keys that have numbers.
 #[derive(Drop)]
 pub(crate) struct Definitions {
-    pub of_lines: Vec<Option<Definition>>,
+    pub of_lines: GapList<Option<Definition>>,
     pub keys: KeyNumbers,
 }
 
@@ -49,11 +50,11 @@ pub struct PutDefinitions {
 impl Definitions {
     /// Returns definitions of no lines, without numbered keys. `seed` is the hash seed of the tables of names.
     pub(crate) fn new(alloc: Global, seed: HashSeed) -> Definitions
-        ensures lines { result.of_lines.items ≡ [] }
+        ensures lines { result.of_lines.listed ≡ [] }
         ensures names { names_in result.keys ≡ no_names }
     {
         Definitions {
-            of_lines: Vec::new(alloc),
+            of_lines: GapList::new(alloc),
             keys: KeyNumbers::new(alloc, seed),
         }
     }
@@ -64,12 +65,16 @@ impl Definitions {
             → option_map (seen_definition (names_in self.now.keys)) (option_copied result)
             ≡ option_map keyed_definition (definition_at lines place) }
     {
-        definition_in(self.of_lines.as_slice(), place)
+        match self.of_lines.get(place) {
+            Some(Some(definition)) => Some(definition),
+            Some(None) => None,
+            None => None,
+        }
     }
 
     /// Makes room for the definition of one more line.
     pub(crate) fn reserve_for(&mut self, definition: &Option<(Key, What)>) -> Result<(), AllocError>
-        ensures lines { self.new.of_lines.items ≡ self.old.of_lines.items }
+        ensures lines { self.new.of_lines.listed ≡ self.old.of_lines.listed }
         ensures names { names_in self.new.keys ≡ names_in self.old.keys }
         ensures ok { OnOk result (HasRoomFor self.new definition.now) }
     {
@@ -95,11 +100,11 @@ impl Definitions {
         match definition {
             Some((key, what)) => {
                 let key = self.keys.put(key);
-                lists::put_last(&mut self.of_lines, Some(Definition { key, what }));
+                self.of_lines.put(Some(Definition { key, what }));
                 Some(key)
             }
             None => {
-                lists::put_last(&mut self.of_lines, None);
+                self.of_lines.put(None);
                 None
             }
         }
@@ -116,12 +121,12 @@ impl Definitions {
 
     /// Removes the definition of the line at `place`.
     pub(crate) fn remove(&mut self, place: usize)
-        requires { place < length self.old.of_lines.items }
+        requires { place < length self.old.of_lines.listed }
         ensures lines { (said : List (Option (key_spec.Key × entries.Entry))) → AreDefined self.old said
             → AreDefined self.new (take place said ++ drop (place + 1) said) }
         ensures names { names_in self.new.keys ≡ names_in self.old.keys }
     {
-        let _ = lists::remove_at(&mut self.of_lines, place);
+        self.of_lines.remove(place);
     }
 
     /// Makes room for replacing `cut` lines by `put` others, and returns an empty vector for the definitions that are
@@ -132,9 +137,9 @@ impl Definitions {
         put: usize,
         cut: usize,
     ) -> Result<Vec<Option<Definition>>, AllocError>
-        ensures lines { self.new.of_lines.items ≡ self.old.of_lines.items }
+        ensures lines { self.new.of_lines.listed ≡ self.old.of_lines.listed }
         ensures names { names_in self.new.keys ≡ names_in self.old.keys }
-        ensures room { OnOk result (vec_len self.new.of_lines + put ≤ vec_capacity self.new.of_lines) }
+        ensures room { OnOk result (put ≤ self.new.of_lines.spare) }
         ensures gone { IfOk result (λ gone. (gone.items ≡ []) × (cut ≤ vec_capacity gone)) }
     {
         self.of_lines.reserve(put)?;
@@ -149,8 +154,8 @@ impl Definitions {
         mut put: Vec<Option<Definition>>,
         mut gone: Vec<Option<Definition>>,
     )
-        requires places { at + cut ≤ length self.old.of_lines.items }
-        requires room { vec_len self.old.of_lines + vec_len put ≤ vec_capacity self.old.of_lines }
+        requires places { at + cut ≤ length self.old.of_lines.listed }
+        requires room { vec_len put ≤ self.old.of_lines.spare }
         requires hole { cut ≤ vec_capacity gone }
         requires empty { gone.items ≡ [] }
         ensures lines { (said by : List (Option (key_spec.Key × entries.Entry))) → AreDefined self.old said
@@ -158,19 +163,32 @@ impl Definitions {
             → AreDefined self.new (take at said ++ (by ++ drop (at + cut) said)) }
         ensures names { names_in self.new.keys ≡ names_in self.old.keys }
     {
-        exchange(&mut self.of_lines, at, cut, &mut put, &mut gone);
+        let mut items = self.take_items(*gone.allocator());
+        exchange(&mut items, at, cut, &mut put, &mut gone);
+        self.of_lines = GapList::from(items);
     }
 
     /// Gives new numbers to the keys that lines define, and forgets all other keys. Allocates no memory.
     pub(crate) fn renumber(&mut self, numbers: Renumbering)
-        requires { length numbers.of_lines.items ≡ length self.old.of_lines.items }
+        requires { length numbers.of_lines.items ≡ length self.old.of_lines.listed }
         ensures lines { (said : List (Option (key_spec.Key × entries.Entry))) → AreDefined self.old said
             → AreNumbers (names_after numbers) numbers.of_lines.items said → AreDefined self.new said }
         ensures names { names_in self.new.keys ≡ names_after numbers }
     {
         let Renumbering { keys, of_lines } = numbers;
-        set_numbers(self.of_lines.as_mut_slice(), of_lines.as_slice());
+        let mut items = self.take_items(*of_lines.allocator());
+        set_numbers(items.as_mut_slice(), of_lines.as_slice());
+        self.of_lines = GapList::from(items);
         self.keys = keys;
+    }
+
+    // Returns the definitions of all lines, and leaves none.
+    fn take_items(&mut self, alloc: Global) -> Vec<Option<Definition>>
+        ensures items { result.items ≡ self.old.of_lines.listed }
+        ensures room { self.old.of_lines.spare + vec_len result ≤ vec_capacity result }
+        ensures names { names_in self.new.keys ≡ names_in self.old.keys }
+    {
+        mem::replace(&mut self.of_lines, GapList::new(alloc)).into_vec()
     }
 }
 

@@ -97,7 +97,7 @@ impl<'a> EditedLines<'a> {
     pub fn len(&self) -> usize
         ensures { result ≡ length self.now.new_lines }
     {
-        self.store.marked().lines.len() - self.cut + self.put.len()
+        self.store.len() - self.cut + self.put.len()
     }
 
     /// Returns the line at `place` after the edit.

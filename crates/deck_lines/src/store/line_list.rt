@@ -8,9 +8,9 @@ ghost use Rattle.deck_lines.specs.Exchanges.{IsExchanged};
 ghost use Rattle.deck_lines.specs.declared.line.DeckLine as line_spec;
 
 use super::line_replacement::exchange_in_list;
-use super::lists;
-use crate::line::{DeckLine, DeckLines, MarkedLines};
+use crate::line::{BorrowedLine, DeckLine, DeckLines};
 use def_lines::{Line, Lines};
+use gap_list::GapList;
 use std::alloc::{AllocError, AllocFailed, Global};
 use std::marker::Model;
 
@@ -24,7 +24,7 @@ pub const MOST_BYTES: usize = 67_108_864;
 #[derive(Drop)]
 pub(crate) struct LineList {
     lines: Lines,
-    marks: Vec<bool>,
+    marks: GapList<bool>,
     bytes: usize,
 }
 
@@ -36,9 +36,9 @@ impl Model for LineList {
 
     ghost Value = { List DeckLine };
 
-    ghost view = { λ l. with_marks l.lines l.marks.items };
+    ghost view = { λ l. with_marks l.lines l.marks.listed };
 
-    ghost invariant = { λ l. IsWithin l.lines l.marks.items l.bytes };
+    ghost invariant = { λ l. IsWithin l.lines l.marks.listed l.bytes };
 }
 
 impl LineList {
@@ -48,7 +48,7 @@ impl LineList {
     {
         LineList {
             lines: Lines::new(alloc),
-            marks: Vec::new(alloc),
+            marks: GapList::new(alloc),
             bytes: 0,
         }
     }
@@ -68,15 +68,23 @@ impl LineList {
         &self.lines
     }
 
-    /// Returns the lines and their marks.
-    pub(crate) fn marked(&self) -> MarkedLines<'_>
-        ensures lines { with_marks result.lines.now result.marks.now ≡ self.now }
-        ensures each { length result.marks.now ≡ length result.lines.now }
+    /// Returns the line at `place` with its mark.
+    pub(crate) fn line(&self, place: usize) -> BorrowedLine<'_>
+        requires { place < length self.now }
+        ensures is { slice_get self.now place
+            ≡ Some (record { number = result.number; text = result.text.now; mark = result.mark }) }
         ensures within { pass_limit self.now ≡ false }
     {
-        MarkedLines {
-            lines: self.lines.as_slice(),
-            marks: self.marks.as_slice(),
+        let Some(line) = self.lines.get(place) else {
+            unreachable!()
+        };
+        let Some(mark) = self.marks.get(place) else {
+            unreachable!()
+        };
+        BorrowedLine {
+            number: line.number,
+            text: line.text.as_bytes(),
+            mark: *mark,
         }
     }
 
@@ -97,7 +105,7 @@ impl LineList {
         let len = line.text.as_bytes().len();
         self.marks.reserve(1)?;
         self.lines.push(alloc, line)?;
-        lists::put_last(&mut self.marks, mark);
+        self.marks.put(mark);
         self.bytes += len;
         Ok(())
     }
@@ -109,9 +117,8 @@ impl LineList {
         if self.lines.len() <= len {
             return;
         }
-        let (_, dropped) = self.lines.as_slice().split_at(len);
-        self.bytes -= texts_len(dropped);
-        lists::truncate(&mut self.lines, *self.marks.allocator(), len);
+        self.bytes -= texts_len(&self.lines, len);
+        self.lines.truncate(len);
         self.marks.truncate(len);
     }
 
@@ -120,9 +127,9 @@ impl LineList {
         requires { place < length self.old }
         ensures { self.new ≡ take place self.old ++ drop (place + 1) self.old }
     {
-        let line = lists::remove(&mut self.lines, *self.marks.allocator(), place);
-        let _ = lists::remove_at(&mut self.marks, place);
-        self.bytes -= line.text.as_bytes().len();
+        self.bytes -= self.line(place).text.len();
+        self.lines.remove(place);
+        self.marks.remove(place);
     }
 
     /// Replaces the `cut` lines from `at` on by `put`, and returns the replaced lines. If an allocation fails, the
@@ -160,13 +167,17 @@ fn marked_texts_len(lines: &[DeckLine]) -> usize
     len
 }
 
-// Returns the total number of bytes in the texts of lines.
-fn texts_len(lines: &[Line]) -> usize
-    requires { bytes_in lines.now ≤ most_bytes }
-    ensures { result ≡ bytes_in lines.now }
+// Returns the total number of bytes in the texts of the lines from `start` on.
+fn texts_len(lines: &Lines, start: usize) -> usize
+    requires range { start ≤ length lines.now }
+    requires within { bytes_in lines.now ≤ most_bytes }
+    ensures { result ≡ bytes_in (drop start lines.now) }
 {
     let mut len = 0;
-    for line in lines {
+    for place in start..lines.len() {
+        let Some(line) = lines.get(place) else {
+            unreachable!()
+        };
         len += line.text.as_bytes().len();
     }
     len

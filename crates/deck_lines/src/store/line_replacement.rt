@@ -9,30 +9,34 @@ use super::exchange::exchange;
 use super::lists;
 use crate::line::{DeckLine, DeckLines};
 use def_lines::{Line, Lines};
+use gap_list::GapList;
 use std::alloc::{AllocError, AllocFailed, Global};
+use std::mem;
 
 /// Replaces the `cut` lines and marks from `at` on by those of `put`, and returns the replaced lines. If an allocation
 /// fails, the error hands `put` back and nothing changes.
 pub(crate) fn exchange_in_list(
     alloc: Global,
     lines: &mut Lines,
-    marks: &mut Vec<bool>,
+    marks: &mut GapList<bool>,
     at: usize,
     cut: usize,
     put: DeckLines,
 ) -> Result<DeckLines, AllocFailed<DeckLines>>
-    requires each { length marks.old.items ≡ length lines.old }
+    requires each { length marks.old.listed ≡ length lines.old }
     requires places { at + cut ≤ length lines.old }
     ensures ok { OnOk result (IsExchanged at cut (map line_without_mark put) lines.old lines.new
-        × IsExchanged at cut (map mark_of put) marks.old.items marks.new.items) }
+        × IsExchanged at cut (map mark_of put) marks.old.listed marks.new.listed) }
     ensures gone { IfOk result (λ gone.
-        gone ≡ with_marks (take cut (drop at lines.old)) (take cut (drop at marks.old.items))) }
-    ensures err { OnErr result ((lines.new ≡ lines.old) × (marks.new.items ≡ marks.old.items)) }
+        gone ≡ with_marks (take cut (drop at lines.old)) (take cut (drop at marks.old.listed))) }
+    ensures err { OnErr result ((lines.new ≡ lines.old) × (marks.new.listed ≡ marks.old.listed)) }
     ensures back { IfErr result (λ refused. refused.value ≡ put) }
 {
-    let mut items = lists::take_items(lines, alloc);
-    let result = exchange_marked(alloc, &mut items, marks, at, cut, put);
-    *lines = Lines::from(items);
+    let mut line_items = mem::replace(lines, Lines::new(alloc)).into_vec();
+    let mut mark_items = mem::replace(marks, GapList::new(alloc)).into_vec();
+    let result = exchange_marked(alloc, &mut line_items, &mut mark_items, at, cut, put);
+    *lines = Lines::from(line_items);
+    *marks = GapList::from(mark_items);
     result
 }
 

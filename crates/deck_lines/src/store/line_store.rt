@@ -10,7 +10,7 @@ ghost use Rattle.deck_lines.specs.Exchanges.{IsExchanged};
 ghost use Rattle.deck_lines.specs.StoredDefinitions.{IsDefined, keyed_definition, seen_definition};
 ghost use Rattle.deck_lines.specs.Limits.{most_lines, pass_limit};
 ghost use Rattle.deck_lines.specs.Loads.{with_lines};
-ghost use Rattle.deck_lines.specs.Marks.{line_without_mark, with_mark, with_marks};
+ghost use Rattle.deck_lines.specs.Marks.{line_without_mark, with_mark};
 ghost use Rattle.deck_lines.specs.Names.{IsExtended, is_numbered, key_numbered, names_of_kind};
 ghost use Rattle.deck_lines.specs.KeyNumbering.{IsNumbering};
 ghost use Rattle.deck_lines.specs.Readings.{entry_in};
@@ -23,7 +23,7 @@ use super::line_list::LineList;
 use super::new_key_numbers::Renumbering;
 use super::reads::read_definitions;
 use crate::key_number::KeyNumber;
-use crate::line::{DeckLine, DeckLines, MarkedLines};
+use crate::line::{BorrowedLine, DeckLine, DeckLines};
 use def_entry::{Entry, Key, Kind, What};
 use def_lines::{Line, Lines};
 use std::alloc::{AllocError, AllocFailed, Global};
@@ -99,13 +99,14 @@ impl LineStore {
         self.lines.lines()
     }
 
-    /// Returns the lines and their marks, in parallel slices.
-    pub fn marked(&self) -> MarkedLines<'_>
-        ensures lines { with_marks result.lines.now result.marks.now ≡ self.now.lines }
-        ensures each { length result.marks.now ≡ length result.lines.now }
+    /// Returns the line at `place` with its mark.
+    pub fn line(&self, place: usize) -> BorrowedLine<'_>
+        requires { place < length self.now.lines }
+        ensures is { slice_get self.now.lines place
+            ≡ Some (record { number = result.number; text = result.text.now; mark = result.mark }) }
         ensures within { pass_limit self.now.lines ≡ false }
     {
-        self.lines.marked()
+        self.lines.line(place)
     }
 
     /// Reports whether one more line with a text of `len` bytes is within the limits.
@@ -143,7 +144,7 @@ impl LineStore {
     {
         match self.definitions.at(place) {
             Some(definition) => Some(Entry {
-                line: self.lines.marked().line(place).text,
+                line: self.lines.line(place).text,
                 what: &definition.what,
             }),
             None => None,

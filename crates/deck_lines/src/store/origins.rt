@@ -53,7 +53,7 @@ pub(crate) fn line_at<'a>(
         ≡ Some (record { number = result.number; text = result.text.now; mark = result.mark }) }
 {
     match origin_of(store.len(), at, cut, put.len(), place) {
-        Origin::Stored(place) => store.marked().line(place),
+        Origin::Stored(place) => store.line(place),
         Origin::Put(place) => put[place].borrow_line(),
         Origin::Past => unreachable!(),
     }

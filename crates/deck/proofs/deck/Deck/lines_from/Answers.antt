@@ -1,49 +1,39 @@
-use Rattle.std.proofs.Common.{◌≡◌, List, take, drop, ap, subst, ◌∙◌, arith}
-use Rattle.std.specs.Prelude.{IfOk}
+use Rattle.std.proofs.Common.{◌≡◌, ◌≤◌, ◌+◌, ◌++◌, List, Some, length, length-take, take, drop, ap, sym, ◌∙◌, arith}
+use Rattle.std.proofs.Common.{slice_get}
+use Rattle.std.proofs.lemmas.List.{append-nil, drop-take, drop_all}
 use Rattle.deck_lines.specs.declared.line.DeckLine.{DeckLine}
+use Rattle.deck_lines.proofs.ExchangedItems.{drop_found}
 use Rattle.deck.specs.Decks.{Contents}
-use Rattle.deck.proofs.CopiedLines.{part_few, part_marks, part_within}
+use Rattle.deck.proofs.CopiedLines.{copied_step, in_front, with_text}
 use Rattle.deck.proofs.deck.Deck.lines_from.Goals as goal
 
-pub overflow_add-end : goal.overflow_add-end
-overflow_add-end c =
-    omega (
-      arith,
-      part_few c.marked.result.lines.now c.marked.result.marks.now c.self.inside.store.lines _ c.args.at c.args.count
-          c.marked.ensures.lines c.marked.ensures.each (ap (λ (d : Contents). d.lines) c.self.view_is) c.requires
-          c.marked.ensures.within,
-    )
+pub overflow_add-place : goal.overflow_add-place
+overflow_add-place c =
+    omega (arith, c.requires, c.lines_few.ensures, ap (λ (d : Contents). length d.lines) c.self.view_is)
 
-pub offset_bounds-lines-at : goal.offset_bounds-lines-at
-offset_bounds-lines-at c =
-    omega (
-      arith,
-      part_few c.marked.result.lines.now c.marked.result.marks.now c.self.inside.store.lines _ c.args.at c.args.count
-          c.marked.ensures.lines c.marked.ensures.each (ap (λ (d : Contents). d.lines) c.self.view_is) c.requires
-          c.marked.ensures.within,
-    )
+pub line-requires : goal.line-requires
+line-requires c =
+    omega (arith, c.requires, c.loop-place-test.true, ap (λ (d : Contents). length d.lines) c.self.view_is)
 
-pub slice_bounds-copied_lines-end : goal.slice_bounds-copied_lines-end
-slice_bounds-copied_lines-end c =
-    omega (
-      arith,
-      part_within c.marked.result.lines.now c.marked.result.marks.now c.self.inside.store.lines _ c.args.at c.args.count
-          c.marked.ensures.lines c.marked.ensures.each (ap (λ (d : Contents). d.lines) c.self.view_is) c.requires,
-    )
-
-pub slice_bounds-copied_lines-end-2 : goal.slice_bounds-copied_lines-end-2
-slice_bounds-copied_lines-end-2 c =
-    omega (
-      arith,
-      c.marked.ensures.each,
-      part_within c.marked.result.lines.now c.marked.result.marks.now c.self.inside.store.lines _ c.args.at c.args.count
-          c.marked.ensures.lines c.marked.ensures.each (ap (λ (d : Contents). d.lines) c.self.view_is) c.requires,
-    )
+pub loop-place-preserved : goal.loop-place-preserved
+loop-place-preserved c =
+    let place = c.loop-place.place in
+    let range : List DeckLine = take (c.args.at + c.args.count) c.args.self.now.lines in
+    let line : DeckLine = record { number = c.line.result.number; text = c.in_ok-text.text; mark = c.line.result.mark }
+    in
+    let at : slice_get range place ≡ Some line =
+    in_front (c.args.at + c.args.count) c.args.self.now.lines place line (omega (arith, c.loop-place-test.true))
+    (ap (λ (d : Contents). slice_get d.lines place) (sym c.self.view_is)
+    ∙ with_text c.self.inside.store.lines place _ c.in_ok-text.text c.line.ensures.is c.in_ok-text.ensures) in
+    copied_step (drop place range) (drop (place + 1) range) c.push.new.self c.loop-place.copies
+    (drop c.args.at range) line (drop_found range place line at) c.in_ok-push.ensures.ok c.loop-place.invariant
 
 pub returns : goal.returns
 returns c =
-    subst (λ (ls : List DeckLine). IfOk c.copied_lines.result (λ lines. lines ≡ ls))
-    (part_marks c.marked.result.lines.now c.marked.result.marks.now c.self.inside.store.lines c.args.at c.args.count
-    c.marked.ensures.lines c.marked.ensures.each
-    ∙ ap (λ (d : Contents). take c.args.count (drop c.args.at d.lines)) c.self.view_is)
-    c.copied_lines.ensures
+    let range : List DeckLine = take (c.args.at + c.args.count) c.args.self.now.lines in
+    let past : length range ≤ c.loop-place.place =
+    omega (arith, c.loop-place-test.false, length-take (c.args.at + c.args.count) c.args.self.now.lines) in
+    sym (append-nil c.loop-place.copies)
+    ∙ ap (λ ls. c.loop-place.copies ++ ls) (sym (drop_all c.loop-place.place range past))
+    ∙ c.loop-place.invariant
+    ∙ drop-take c.args.at c.args.count c.args.self.now.lines

@@ -1,5 +1,5 @@
-use Rattle.deck.proofs.DroppedLine.{changed_drop, defined_left, indexed_drop, last_drop, line_defines, line_dropped}
-use Rattle.deck.proofs.DroppedLine.{line_inside, room_drop}
+use Rattle.deck.proofs.DroppedLine.{changed_drop, indexed_drop, last_drop, line_defines, line_dropped, line_inside}
+use Rattle.deck.proofs.DroppedLine.{room_drop}
 use Rattle.deck.proofs.deck.Deck.take_out_last.Goals as goal
 
 pub unreachable-requires : goal.unreachable-requires
@@ -49,16 +49,3 @@ uncovered_by-requires-clause-last c = λ k at.
     let s = c.self.inside in
     last_drop s.settings s.store s.notices _ c.self.view_is c.args.key.now c.in-Some.place c.in-Some.ensures
     c.in-Some-key_number.number c.in-Some-key_number.ensures.number k at
-
-pub close_gap-requires-clause-inside : goal.close_gap-requires-clause-inside
-close_gap-requires-clause-inside c =
-    let s = c.self.inside in
-    line_inside s.settings s.store s.notices _ c.self.view_is c.args.key.now c.in-Some.place c.in-Some.ensures
-
-pub close_gap-requires-clause-defined : goal.close_gap-requires-clause-defined
-close_gap-requires-clause-defined c =
-    let s = c.self.inside in
-    defined_left s.settings s.store s.notices _ c.self.view_is c.args.key.now c.in-Some.place c.in-Some.ensures
-    c.in-Some-key_number.number c.in-Some-key_number.ensures.number c.in_ok-uncovered.uncovered
-    c.in_ok-uncovered.ensures c.in-Some-key_number.ensures.numbering s.last c.restore.new.self c.self.invariant
-    c.restore.ensures

@@ -1,14 +1,13 @@
-use Rattle.std.proofs.Common.{◌≡◌, ◌++◌, ◌∷◌, ◌-◌, [], List, length, take, ap, ◌∙◌, arith, length-append}
+use Rattle.std.proofs.Common.{◌≡◌, ◌++◌, ◌∷◌, ◌-◌, [], List, length, take, refl, ap, ◌∙◌, arith, length-append}
 use Rattle.deck_lines.specs.declared.line.DeckLine.{DeckLine}
-use Rattle.deck_lines.proofs.MarkLimits.{marks_len}
 use Rattle.deck.specs.Decks.{Contents}
 use Rattle.deck.specs.LineRemoval.{without_last}
 use Rattle.deck.proofs.LastLine.{changed_undefined, indexed_undefined, room_undefined}
 use Rattle.deck.proofs.LastRemoval.{last_at, last_text}
 use Rattle.deck.proofs.deck.Deck.take_out_line.Goals as goal
 
-pub line-requires-clause-inside : goal.line-requires-clause-inside
-line-requires-clause-inside c =
+pub line-requires : goal.line-requires
+line-requires c =
     let lines : c.self.inside.store.lines ≡ c.requires.lines_before ++ c.requires.line ∷ [] =
     ap (λ (d : Contents). d.lines) c.self.view_is ∙ c.requires.lines in
     let last : c.len-place.result - 1 ≡ length c.requires.lines_before =
@@ -18,9 +17,7 @@ line-requires-clause-inside c =
       arith,
       ap length lines,
       c.len-place.ensures.count,
-      ap length c.marked.ensures.lines,
       last,
-      marks_len c.marked.result.lines.now c.marked.result.marks.now c.marked.ensures.each,
       length-append c.requires.lines_before (c.requires.line ∷ []),
     )
 
@@ -47,7 +44,7 @@ returns-clause-ok c = (
       c.args.uncovered c.requires c.len-place.result c.len-place.ensures.count c.len-place.ensures.numbering
       c.self.inside.last c.self.invariant c.in-Some.number c.in-Some.ensures.number c.same_text_law.ensures
       c.truncate.new.self.lines c.in_ok-keys.keys c.truncate.ensures.lines c.in_ok-keys.ensures,
-  λ front line is. last_text c.self.inside.store.lines _ c.len-place.result _ c.in_ok-text.text c.marked.ensures.lines
-      c.len-place.ensures.count c.line.ensures c.in_ok-text.ensures front line
+  λ front line is. last_text c.self.inside.store.lines _ c.len-place.result _ c.in_ok-text.text refl
+      c.len-place.ensures.count c.line.ensures.is c.in_ok-text.ensures front line
       (ap (λ (d : Contents). d.lines) c.self.view_is ∙ is),
 )

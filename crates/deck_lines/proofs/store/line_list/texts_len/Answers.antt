@@ -1,18 +1,34 @@
-use Rattle.std.proofs.Common.{◌≡◌, ◌∙◌, length, get_or, ap, arith}
-use Rattle.std.proofs.lemmas.List.Sums.{sum_by_more_le}
+use Rattle.std.proofs.Common.{◌≡◌, ◌+◌, ap, arith, drop, length, sym}
+use Rattle.std.proofs.lemmas.List.Sums.{sum_by-take-drop}
 use Rattle.def_lines.specs.declared.line.Line.{Line}
+use Rattle.deck_lines.specs.Limits.{bytes_in}
+use Rattle.deck_lines.proofs.MarkLimits.{bytes_from, item_inside}
 use Rattle.deck_lines.proofs.store.line_list.texts_len.Goals as goal
+
+pub unreachable-requires : goal.unreachable-requires
+unreachable-requires c =
+    item_inside c.args.lines.now c.loop-place.place
+    (omega (arith, c.loop-place-test.true, c.len-place-end.ensures)) c.in_default.ensures
 
 pub overflow_add-len : goal.overflow_add-len
 overflow_add-len c =
-    let item : length c.as_bytes.result.now
-    ≡ length (get_or c.args.lines.now c.loop-line.line-index c.line-item.result).text =
-    ap length c.as_bytes.ensures ∙ ap (λ (l : Line). length l.text) c.line-item.is in
+    let lines = c.args.lines.now in
+    let from : bytes_in (drop c.loop-place.place lines)
+    ≡ length c.in-Some.line.now.text + bytes_in (drop (c.loop-place.place + 1) lines) =
+    bytes_from lines c.loop-place.place c.in-Some.line.now (sym c.in-Some.ensures) in
     omega (
       arith,
-      c.requires,
-      c.loop-line.invariant,
-      item,
-      sum_by_more_le (λ (l : Line). length l.text) c.args.lines.now c.loop-line.line-index c.line-item.result
-          c.loop-line-test.true,
+      c.requires.within,
+      c.loop-place.invariant,
+      from,
+      ap length c.as_bytes.ensures,
+      sum_by-take-drop (λ (l : Line). length l.text) lines c.args.start,
     )
+
+pub loop-place-preserved : goal.loop-place-preserved
+loop-place-preserved c =
+    let lines = c.args.lines.now in
+    let from : bytes_in (drop c.loop-place.place lines)
+    ≡ length c.in-Some.line.now.text + bytes_in (drop (c.loop-place.place + 1) lines) =
+    bytes_from lines c.loop-place.place c.in-Some.line.now (sym c.in-Some.ensures) in
+    omega (arith, c.loop-place.invariant, from, ap length c.as_bytes.ensures)

@@ -1,10 +1,21 @@
-use Rattle.std.proofs.Common.{map, subst, sym}
-use Rattle.deck_lines.specs.StoredDefinitions.{IsDefined}
+use Rattle.std.proofs.Common.{ap, ◌∙◌, sym, Some, None, option_map}
+use Rattle.deck_lines.specs.StoredDefinitions.{keyed_definition}
 use Rattle.deck_lines.specs.NumberedKeys.{names_in}
-use Rattle.deck_lines.specs.Readings.{entry_in}
+use Rattle.deck_lines.proofs.DefinitionsByNumber.{defined_at, undefined_at}
 use Rattle.deck_lines.proofs.store.definitions.Definitions.at.Goals as goal
 
-pub returns : goal.returns
-returns c = λ lines are.
-    c.definition_in.ensures (names_in c.args.self.now.keys) lines
-    (subst (λ ds. IsDefined (names_in c.args.self.now.keys) ds (map entry_in lines)) (sym c.as_slice.ensures.value) are)
+pub returns-in-Some-Some : goal.returns-in-Some-Some
+returns-in-Some-Some c = λ lines are.
+    defined_at (names_in c.args.self.now.keys) c.args.self.now.of_lines.listed lines c.args.place are
+    (Some c.in-Some-Some.definition) (sym c.in-Some-Some.ensures ∙ ap Some c.in-Some-Some.field-0-is)
+
+pub returns-in-Some-None : goal.returns-in-Some-None
+returns-in-Some-None c = λ lines are.
+    defined_at (names_in c.args.self.now.keys) c.args.self.now.of_lines.listed lines c.args.place are None
+    (sym c.in-Some-None.ensures ∙ ap Some c.in-Some-None.field-0-is)
+
+pub returns-in-None : goal.returns-in-None
+returns-in-None c = λ lines are.
+    sym (ap (option_map keyed_definition)
+    (undefined_at (names_in c.args.self.now.keys) c.args.self.now.of_lines.listed lines c.args.place are
+    (sym c.in-None.ensures)))

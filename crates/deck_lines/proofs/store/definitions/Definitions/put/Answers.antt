@@ -5,5 +5,5 @@ use Rattle.deck_lines.proofs.store.definitions.Definitions.put.Goals as goal
 pub returns-in-Some-clause-lines : goal.returns-in-Some-clause-lines
 returns-in-Some-clause-lines c = λ said line are.
     key_put (names_in c.args.self.now.keys) (names_in c.put-key.new.self) c.in-Some.key c.in-Some.what c.put-key.result
-    c.args.definition line c.args.self.now.of_lines.items _ said
-    c.in-Some.is c.put-key.ensures.names c.put-key.ensures.number c.put_last.ensures.items are
+    c.args.definition line c.args.self.now.of_lines.listed _ said
+    c.in-Some.is c.put-key.ensures.names c.put-key.ensures.number c.put.ensures are

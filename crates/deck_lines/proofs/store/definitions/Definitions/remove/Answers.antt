@@ -6,5 +6,6 @@ use Rattle.deck_lines.proofs.store.definitions.Definitions.remove.Goals as goal
 
 pub returns-clause-lines : goal.returns-clause-lines
 returns-clause-lines c = λ said are.
-    ap (map (option_map (seen_definition (names_in c.args.self.now.keys)))) c.remove_at.ensures.rest
-    ∙ defined_exchange (names_in c.args.self.now.keys) c.args.self.now.of_lines.items [] said [] c.args.place 1 are refl
+    ap (map (option_map (seen_definition (names_in c.args.self.now.keys)))) c.remove.ensures
+    ∙ defined_exchange (names_in c.args.self.now.keys) c.args.self.now.of_lines.listed [] said [] c.args.place 1 are
+    refl

@@ -9,10 +9,12 @@ pub returns-clause-lines : goal.returns-clause-lines
 returns-clause-lines c = λ said are numbered.
     let d = c.args.self.now in
     let r = c.args.numbers in
-    let now : c.set_numbers.new.definitions ≡ all_with_numbers r.of_lines.items d.of_lines.items =
+    let items = c.take_items-items.result in
+    let now : c.set_numbers.new.definitions ≡ all_with_numbers r.of_lines.items items.items =
     c.set_numbers.ensures ∙ ap (λ ns. all_with_numbers ns c.as_mut_slice.result.now) c.as_slice.ensures.value
     ∙ ap (all_with_numbers r.of_lines.items) c.as_mut_slice.ensures.value in
     subst (λ ds. IsDefined (names_after r) ds said)
-    (sym (written_back d.of_lines.len d.of_lines.items c.set_numbers.new.definitions
-    (ap length now ∙ length-numbered r.of_lines.items d.of_lines.items) (omega (arith, d.of_lines.ok.0)) ∙ now))
-    (defined_numbered (names_in d.keys) (names_after r) r.of_lines.items d.of_lines.items said are numbered)
+    (sym (c.from.ensures ∙ written_back items.len items.items c.set_numbers.new.definitions
+    (ap length now ∙ length-numbered r.of_lines.items items.items) (omega (arith, items.ok.0)) ∙ now
+    ∙ ap (all_with_numbers r.of_lines.items) c.take_items-items.ensures.items))
+    (defined_numbered (names_in d.keys) (names_after r) r.of_lines.items d.of_lines.listed said are numbered)

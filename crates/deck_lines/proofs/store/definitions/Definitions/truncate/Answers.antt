@@ -6,5 +6,5 @@ use Rattle.deck_lines.proofs.store.definitions.Definitions.truncate.Goals as goa
 
 pub returns-clause-lines : goal.returns-clause-lines
 returns-clause-lines c = λ said are.
-    ap (map (option_map (seen_definition (names_in c.args.self.now.keys)))) c.truncate.ensures.items
-    ∙ defined_take (names_in c.args.self.now.keys) c.args.self.now.of_lines.items said c.args.len are
+    ap (map (option_map (seen_definition (names_in c.args.self.now.keys)))) c.truncate.ensures
+    ∙ defined_take (names_in c.args.self.now.keys) c.args.self.now.of_lines.listed said c.args.len are

@@ -1,7 +1,6 @@
 use Rattle.std.proofs.Common.{ap, arith, length}
 use Rattle.deck_lines.specs.StoreEdits.{StoreEdit}
 use Rattle.deck_lines.proofs.ExchangedItems.{exchanged_len}
-use Rattle.deck_lines.proofs.MarkLimits.{marks_len}
 use Rattle.deck_lines.proofs.store.edited_lines.EditedLines.len.Goals as goal
 
 pub overflow_sub-result : goal.overflow_sub-result
@@ -9,8 +8,7 @@ overflow_sub-result c =
     omega (
       arith,
       c.self.invariant.range_within,
-      ap length c.marked.ensures.lines,
-      marks_len c.marked.result.lines.now c.marked.result.marks.now c.marked.ensures.each,
+      c.len.ensures.count,
     )
 
 pub returns : goal.returns
@@ -19,8 +17,7 @@ returns c =
     omega (
       arith,
       c.self.invariant.range_within,
-      ap length c.marked.ensures.lines,
-      marks_len c.marked.result.lines.now c.marked.result.marks.now c.marked.ensures.each,
+      c.len.ensures.count,
       exchanged_len e.store.now.lines e.put.now e.at e.cut c.self.invariant.range_within,
       ap (λ (v : StoreEdit). length v.new_lines) c.self.view_is,
     )

@@ -18,7 +18,7 @@ exchange_in_list-requires-clause-places c =
       arith,
       c.requires.places,
       ap length c.self.view_is,
-      marks_len c.self.inside.lines c.self.inside.marks.items c.self.invariant.mark_count,
+      marks_len c.self.inside.lines c.self.inside.marks.listed c.self.invariant.mark_count,
     )
 
 pub overflow_add-self : goal.overflow_add-self
@@ -35,13 +35,13 @@ pub marked_texts_len-requires : goal.marked_texts_len-requires
 marked_texts_len-requires c =
     let s = c.self.inside in
     let gone : c.as_slice-2.result.now ≡ take c.args.cut (drop c.args.at c.args.self.now) =
-    told_gone s.lines s.marks.items s.bytes c.self.invariant c.args.self.now c.args.put c.args.at c.args.cut
+    told_gone s.lines s.marks.listed s.bytes c.self.invariant c.args.self.now c.args.put c.args.at c.args.cut
     c.self.view_is c.requires.places c.requires.within _ (c.as_slice-2.ensures ∙ c.in_ok-gone.ensures.gone) in
     omega (
       arith,
       ap text_len gone,
       c.self.invariant.small,
-      told_small s.lines s.marks.items s.bytes c.self.invariant c.args.self.now c.args.put c.args.at c.args.cut
+      told_small s.lines s.marks.listed s.bytes c.self.invariant c.args.self.now c.args.put c.args.at c.args.cut
           c.self.view_is c.requires.places c.requires.within,
     )
 
@@ -49,20 +49,20 @@ pub overflow_sub-self : goal.overflow_sub-self
 overflow_sub-self c =
     let s = c.self.inside in
     let gone : c.as_slice-2.result.now ≡ take c.args.cut (drop c.args.at c.args.self.now) =
-    told_gone s.lines s.marks.items s.bytes c.self.invariant c.args.self.now c.args.put c.args.at c.args.cut
+    told_gone s.lines s.marks.listed s.bytes c.self.invariant c.args.self.now c.args.put c.args.at c.args.cut
     c.self.view_is c.requires.places c.requires.within _ (c.as_slice-2.ensures ∙ c.in_ok-gone.ensures.gone) in
     omega (
       arith,
       c.marked_texts_len.ensures,
       ap text_len gone,
-      told_small s.lines s.marks.items s.bytes c.self.invariant c.args.self.now c.args.put c.args.at c.args.cut
+      told_small s.lines s.marks.listed s.bytes c.self.invariant c.args.self.now c.args.put c.args.at c.args.cut
           c.self.view_is c.requires.places c.requires.within,
     )
 
 pub invariant_of-self-2 : goal.invariant_of-self-2
 invariant_of-self-2 c =
     let s = c.self.inside in
-    told_kept s.lines s.marks.items s.bytes c.self.invariant c.args.self.now c.args.put c.args.at c.args.cut
+    told_kept s.lines s.marks.listed s.bytes c.self.invariant c.args.self.now c.args.put c.args.at c.args.cut
     c.self.view_is c.requires.places c.requires.within _ _ c.marked_texts_len-len.result c.marked_texts_len.result
     c.as_slice-2.result.now c.in_ok-gone.ensures.ok.0 c.in_ok-gone.ensures.ok.1
     (c.marked_texts_len-len.ensures ∙ ap text_len c.as_slice.ensures)
@@ -71,12 +71,12 @@ invariant_of-self-2 c =
 pub returns-clause-ok : goal.returns-clause-ok
 returns-clause-ok c =
     let s = c.self.inside in
-    told_exchanged s.lines s.marks.items s.bytes c.self.invariant c.args.self.now c.args.put c.args.at c.args.cut
+    told_exchanged s.lines s.marks.listed s.bytes c.self.invariant c.args.self.now c.args.put c.args.at c.args.cut
     c.self.view_is c.requires.places c.requires.within c.exchange_in_list.new.lines
-    c.exchange_in_list.new.marks.items c.in_ok-gone.ensures.ok.0 c.in_ok-gone.ensures.ok.1
+    c.exchange_in_list.new.marks.listed c.in_ok-gone.ensures.ok.0 c.in_ok-gone.ensures.ok.1
 
 pub returns-clause-gone : goal.returns-clause-gone
 returns-clause-gone c =
     let s = c.self.inside in
-    told_gone s.lines s.marks.items s.bytes c.self.invariant c.args.self.now c.args.put c.args.at c.args.cut
+    told_gone s.lines s.marks.listed s.bytes c.self.invariant c.args.self.now c.args.put c.args.at c.args.cut
     c.self.view_is c.requires.places c.requires.within _ c.in_ok-gone.ensures.gone

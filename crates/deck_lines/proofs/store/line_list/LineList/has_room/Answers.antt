@@ -8,13 +8,13 @@ use Rattle.deck_lines.proofs.store.line_list.LineList.has_room.Goals as goal
 pub returns-then-len-lt-MOST_LINES : goal.returns-then-len-lt-MOST_LINES
 returns-then-len-lt-MOST_LINES c = λ line e.
     ap (λ (lines : List DeckLine). pass_limit (lines ++ line ∷ [])) (sym c.self.view_is)
-    ∙ room_test c.self.inside.lines c.self.inside.marks.items c.self.inside.bytes c.self.invariant line c.args.len e
+    ∙ room_test c.self.inside.lines c.self.inside.marks.listed c.self.inside.bytes c.self.invariant line c.args.len e
     (omega (arith, c.if-len-lt-MOST_LINES.true, c.len.ensures))
 
 pub returns-else-len-lt-MOST_LINES : goal.returns-else-len-lt-MOST_LINES
 returns-else-len-lt-MOST_LINES c = λ line e.
     ap (λ (lines : List DeckLine). pass_limit (lines ++ line ∷ [])) (sym c.self.view_is)
-    ∙ full_lines c.self.inside.lines c.self.inside.marks.items c.self.inside.bytes c.self.invariant line
+    ∙ full_lines c.self.inside.lines c.self.inside.marks.listed c.self.inside.bytes c.self.invariant line
     (omega (arith, c.if-len-lt-MOST_LINES.false, c.len.ensures))
     ∙ off c.len.result (omega (arith, c.if-len-lt-MOST_LINES.false))
   where

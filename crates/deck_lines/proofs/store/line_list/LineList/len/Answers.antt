@@ -4,5 +4,5 @@ use Rattle.deck_lines.proofs.store.line_list.LineList.len.Goals as goal
 
 pub returns : goal.returns
 returns c =
-    c.len.ensures ∙ sym (marks_len c.self.inside.lines c.self.inside.marks.items c.self.invariant.mark_count)
+    c.len.ensures ∙ sym (marks_len c.self.inside.lines c.self.inside.marks.listed c.self.invariant.mark_count)
     ∙ ap length c.self.view_is

@@ -6,10 +6,10 @@ use Rattle.deck_lines.proofs.store.line_list.LineList.lines.Goals as goal
 
 pub returns-clause-lines : goal.returns-clause-lines
 returns-clause-lines c =
-    sym (marks_off c.self.inside.lines c.self.inside.marks.items c.self.invariant.mark_count)
+    sym (marks_off c.self.inside.lines c.self.inside.marks.listed c.self.invariant.mark_count)
     ∙ ap (map line_without_mark) c.self.view_is
 
 pub returns-clause-within : goal.returns-clause-within
 returns-clause-within c =
     ap pass_limit (sym c.self.view_is)
-    ∙ kept_within c.self.inside.lines c.self.inside.marks.items c.self.inside.bytes c.self.invariant
+    ∙ kept_within c.self.inside.lines c.self.inside.marks.listed c.self.inside.bytes c.self.invariant

@@ -8,17 +8,17 @@ use Rattle.deck_lines.proofs.store.line_list.LineList.push.Goals as goal
 
 pub invariant_of-self-2 : goal.invariant_of-self-2
 invariant_of-self-2 c =
-    within_push c.self.inside.lines c.self.inside.marks.items c.self.inside.bytes c.self.invariant c.args.line
+    within_push c.self.inside.lines c.self.inside.marks.listed c.self.inside.bytes c.self.invariant c.args.line
     c.args.mark (length c.as_bytes-len.result.now) _ _
     (ap (λ (lines : List DeckLine). pass_limit (lines ++ with_mark c.args.mark c.args.line ∷ [])) c.self.view_is
     ∙ c.requires)
     (ap length c.as_bytes-len.ensures) c.in_ok-push.ensures.ok
-    (c.put_last.ensures.items ∙ ap (λ (marks : List Bool). marks ++ c.args.mark ∷ []) c.in_ok-reserve.ensures.items)
+    (c.put.ensures ∙ ap (λ (marks : List Bool). marks ++ c.args.mark ∷ []) c.in_ok-reserve.ensures.items)
 
 pub returns-clause-ok : goal.returns-clause-ok
 returns-clause-ok c =
-    ap (λ (lines : List Line). with_marks lines c.put_last.new.items.items) c.in_ok-push.ensures.ok
+    ap (λ (lines : List Line). with_marks lines c.put.new.self.listed) c.in_ok-push.ensures.ok
     ∙ ap (with_marks (c.self.inside.lines ++ c.args.line ∷ []))
-    (c.put_last.ensures.items ∙ ap (λ (marks : List Bool). marks ++ c.args.mark ∷ []) c.in_ok-reserve.ensures.items)
-    ∙ marks_push c.self.inside.lines c.self.inside.marks.items c.args.line c.args.mark c.self.invariant.mark_count
+    (c.put.ensures ∙ ap (λ (marks : List Bool). marks ++ c.args.mark ∷ []) c.in_ok-reserve.ensures.items)
+    ∙ marks_push c.self.inside.lines c.self.inside.marks.listed c.args.line c.args.mark c.self.invariant.mark_count
     ∙ ap (λ (lines : List DeckLine). lines ++ with_mark c.args.mark c.args.line ∷ []) c.self.view_is

@@ -1,53 +1,61 @@
-use Rattle.std.proofs.Common.{◌≡◌, ◌<◌, ◌+◌, ◌++◌, List, [], refl, ap, sym, ◌∙◌, arith, drop, take, length}
+use Rattle.std.proofs.Common.{◌≡◌, ◌≤◌, ◌<◌, ◌+◌, ◌++◌, List, [], Some, refl, ap, sym, ◌∙◌, arith, drop, take, length}
+use Rattle.std.proofs.Common.{slice_get}
 use Rattle.def_lines.specs.declared.line.Line.{Line}
 use Rattle.deck_lines.specs.Marks.{with_marks}
 use Rattle.deck_lines.specs.declared.line.DeckLine.{DeckLine}
 use Rattle.deck_lines.proofs.ListExchanges.{bytes_at, marks_exchange, within_removed}
-use Rattle.deck_lines.proofs.MarkLimits.{marks_len}
+use Rattle.deck_lines.proofs.MarkLimits.{line_of_marked, marks_len}
 use Rattle.deck_lines.proofs.store.line_list.LineList.remove.Goals as goal
-
-pub remove-line-requires : goal.remove-line-requires
-remove-line-requires c =
-    let long : length c.args.self.now ≡ length c.self.inside.lines =
-    ap length (sym c.self.view_is) ∙ marks_len c.self.inside.lines c.self.inside.marks.items c.self.invariant.mark_count
-    in
-    omega (arith, long, c.requires)
-
-pub remove_at-requires : goal.remove_at-requires
-remove_at-requires c =
-    let long : length c.args.self.now ≡ length c.self.inside.lines =
-    ap length (sym c.self.view_is) ∙ marks_len c.self.inside.lines c.self.inside.marks.items c.self.invariant.mark_count
-    in
-    omega (arith, long, c.requires, c.self.invariant.mark_count)
 
 pub overflow_sub-self : goal.overflow_sub-self
 overflow_sub-self c =
-    let long : length c.args.self.now ≡ length c.self.inside.lines =
-    ap length (sym c.self.view_is) ∙ marks_len c.self.inside.lines c.self.inside.marks.items c.self.invariant.mark_count
+    let s = c.self.inside in
+    let long : length c.args.self.now ≡ length s.lines =
+    ap length (sym c.self.view_is) ∙ marks_len s.lines s.marks.listed c.self.invariant.mark_count in
+    let line : Line = record { number = c.line.result.number; text = c.line.result.text.now } in
+    let there : slice_get s.lines c.args.place ≡ Some line =
+    line_of_marked s.lines s.marks.listed c.args.place _ c.self.invariant.mark_count
+    (ap (λ (ls : List DeckLine). slice_get ls c.args.place) c.self.view_is ∙ c.line.ensures.is) in
+    let most : length line.text ≤ s.bytes =
+    bytes_at s.lines s.marks.listed s.bytes c.args.place c.self.invariant line there (omega (arith, long, c.requires))
     in
-    let within : c.args.place < length c.self.inside.lines = omega (arith, long, c.requires) in
+    omega (arith, most)
+
+pub remove-requires : goal.remove-requires
+remove-requires c =
     omega (
       arith,
-      ap length c.as_bytes.ensures,
-      bytes_at c.self.inside.lines c.self.inside.marks.items c.self.inside.bytes c.args.place c.self.invariant
-          c.remove-line.result c.remove-line.ensures.item within,
+      ap length c.self.view_is,
+      marks_len c.self.inside.lines c.self.inside.marks.listed c.self.invariant.mark_count,
+      c.requires,
+    )
+
+pub remove-requires-2 : goal.remove-requires-2
+remove-requires-2 c =
+    omega (
+      arith,
+      ap length c.self.view_is,
+      marks_len c.self.inside.lines c.self.inside.marks.listed c.self.invariant.mark_count,
+      c.requires,
+      c.self.invariant.mark_count,
     )
 
 pub invariant_of-self : goal.invariant_of-self
 invariant_of-self c =
-    let long : length c.args.self.now ≡ length c.self.inside.lines =
-    ap length (sym c.self.view_is) ∙ marks_len c.self.inside.lines c.self.inside.marks.items c.self.invariant.mark_count
-    in
-    let within : c.args.place < length c.self.inside.lines = omega (arith, long, c.requires) in
-    within_removed c.self.inside.lines c.self.inside.marks.items c.self.inside.bytes c.args.place c.self.invariant
-    c.remove-line.result c.remove-line.ensures.item within
-    (length c.as_bytes.result.now) _ _ (ap length c.as_bytes.ensures) c.remove-line.ensures.rest
-    c.remove_at.ensures.rest
+    let s = c.self.inside in
+    let long : length c.args.self.now ≡ length s.lines =
+    ap length (sym c.self.view_is) ∙ marks_len s.lines s.marks.listed c.self.invariant.mark_count in
+    let line : Line = record { number = c.line.result.number; text = c.line.result.text.now } in
+    let there : slice_get s.lines c.args.place ≡ Some line =
+    line_of_marked s.lines s.marks.listed c.args.place _ c.self.invariant.mark_count
+    (ap (λ (ls : List DeckLine). slice_get ls c.args.place) c.self.view_is ∙ c.line.ensures.is) in
+    within_removed s.lines s.marks.listed s.bytes c.args.place c.self.invariant line there
+    (omega (arith, long, c.requires)) (length c.line.result.text.now) _ _ refl c.remove.ensures c.remove-2.ensures
 
 pub returns : goal.returns
 returns c =
-    ap (λ (lines : List Line). with_marks lines c.remove_at.new.items.items) c.remove-line.ensures.rest
-    ∙ ap (with_marks (take c.args.place c.self.inside.lines ++ drop (c.args.place + 1) c.self.inside.lines))
-    c.remove_at.ensures.rest
-    ∙ marks_exchange c.self.inside.lines [] c.self.inside.marks.items [] c.args.place 1 c.self.invariant.mark_count refl
+    let s = c.self.inside in
+    ap (λ (lines : List Line). with_marks lines c.remove-2.new.self.listed) c.remove.ensures
+    ∙ ap (with_marks (take c.args.place s.lines ++ drop (c.args.place + 1) s.lines)) c.remove-2.ensures
+    ∙ marks_exchange s.lines [] s.marks.listed [] c.args.place 1 c.self.invariant.mark_count refl
     ∙ ap (λ (lines : List DeckLine). take c.args.place lines ++ drop (c.args.place + 1) lines) c.self.view_is

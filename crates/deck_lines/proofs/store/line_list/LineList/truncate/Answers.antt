@@ -9,41 +9,36 @@ use Rattle.deck_lines.proofs.store.line_list.LineList.truncate.Goals as goal
 pub returns-then-len : goal.returns-then-len
 returns-then-len c =
     let long : length c.args.self.now ≡ length c.self.inside.lines =
-    ap length (sym c.self.view_is) ∙ marks_len c.self.inside.lines c.self.inside.marks.items c.self.invariant.mark_count
+    ap length (sym c.self.view_is) ∙ marks_len c.self.inside.lines c.self.inside.marks.listed
+    c.self.invariant.mark_count
     in
     sym (all_of c.args.len c.args.self.now (omega (arith, long, c.len.ensures, c.if-len.true)))
 
-pub texts_len-requires : goal.texts_len-requires
-texts_len-requires c =
-    let some : bytes_in c.split_at.result.1.now ≡ bytes_in (drop c.args.len c.self.inside.lines) =
-    ap bytes_in (c.split_at.ensures.back ∙ ap (drop c.args.len) c.as_slice.ensures) in
+pub texts_len-requires-clause-within : goal.texts_len-requires-clause-within
+texts_len-requires-clause-within c =
     omega (
       arith,
-      some,
-      bytes_behind c.self.inside.lines c.self.inside.marks.items c.self.inside.bytes c.self.invariant c.args.len,
+      bytes_behind c.self.inside.lines c.self.inside.marks.listed c.self.inside.bytes c.self.invariant 0,
       c.self.invariant.small,
     )
 
 pub overflow_sub-self : goal.overflow_sub-self
 overflow_sub-self c =
-    let some : c.texts_len.result ≡ bytes_in (drop c.args.len c.self.inside.lines) =
-    c.texts_len.ensures ∙ ap bytes_in (c.split_at.ensures.back ∙ ap (drop c.args.len) c.as_slice.ensures) in
     omega (
       arith,
-      some,
-      bytes_behind c.self.inside.lines c.self.inside.marks.items c.self.inside.bytes c.self.invariant c.args.len,
+      c.texts_len.ensures,
+      bytes_behind c.self.inside.lines c.self.inside.marks.listed c.self.inside.bytes c.self.invariant c.args.len,
     )
 
 pub invariant_of-self : goal.invariant_of-self
 invariant_of-self c =
-    within_took c.self.inside.lines c.self.inside.marks.items c.self.inside.bytes c.self.invariant c.args.len
+    within_took c.self.inside.lines c.self.inside.marks.listed c.self.inside.bytes c.self.invariant c.args.len
     c.texts_len.result _ _
-    (c.texts_len.ensures ∙ ap bytes_in (c.split_at.ensures.back ∙ ap (drop c.args.len) c.as_slice.ensures))
-    c.truncate.ensures c.truncate-2.ensures.items
+    c.texts_len.ensures c.truncate.ensures c.truncate-2.ensures
 
 pub returns : goal.returns
 returns c =
-    ap (λ (lines : List Line). with_marks lines c.truncate-2.new.self.items) c.truncate.ensures
-    ∙ ap (with_marks (take c.args.len c.self.inside.lines)) c.truncate-2.ensures.items
-    ∙ marks_take c.args.len c.self.inside.lines c.self.inside.marks.items
+    ap (λ (lines : List Line). with_marks lines c.truncate-2.new.self.listed) c.truncate.ensures
+    ∙ ap (with_marks (take c.args.len c.self.inside.lines)) c.truncate-2.ensures
+    ∙ marks_take c.args.len c.self.inside.lines c.self.inside.marks.listed
     ∙ ap (take c.args.len) c.self.view_is

@@ -1,22 +1,16 @@
-use Rattle.std.proofs.Common.{◌∙◌, ap, arith, length, List, option_map, slice_get, sym}
+use Rattle.std.proofs.Common.{◌∙◌, ap, option_map}
 use Rattle.def_entry.specs.Entries.{Entry}
 use Rattle.def_entry.specs.declared.key.Key.{Key}
 use Rattle.deck_lines.specs.NumberedKeys.{names_in}
 use Rattle.deck_lines.specs.Stores.{Store, definition_at}
 use Rattle.deck_lines.specs.declared.line.DeckLine.{DeckLine}
 use Rattle.deck_lines.proofs.Entries.{is_there, none_there, said_there}
-use Rattle.deck_lines.proofs.MarkLimits.{marks_len}
 use Rattle.deck_lines.proofs.store.line_store.LineStore.entry.Goals as goal
 
-pub line-requires-clause-inside : goal.line-requires-clause-inside
-line-requires-clause-inside c =
-    omega (
-      arith,
-      is_there c.self.inside.lines c.args.place (names_in c.self.inside.definitions.keys) c.in-Some.definition.now
-          (c.in-Some.ensures c.self.inside.lines c.self.invariant.definitions_right),
-      ap length c.marked.ensures.lines,
-      marks_len c.marked.result.lines.now c.marked.result.marks.now c.marked.ensures.each,
-    )
+pub line-requires : goal.line-requires
+line-requires c =
+    is_there c.self.inside.lines c.args.place (names_in c.self.inside.definitions.keys) c.in-Some.definition.now
+    (c.in-Some.ensures c.self.inside.lines c.self.invariant.definitions_right)
 
 pub returns-in-Some : goal.returns-in-Some
 returns-in-Some c =
@@ -28,7 +22,7 @@ returns-in-Some c =
     } in
     said_there c.self.inside.lines c.args.place (names_in c.self.inside.definitions.keys) c.in-Some.definition.now
     (c.in-Some.ensures c.self.inside.lines c.self.invariant.definitions_right) x
-    (ap (λ (ls : List DeckLine). slice_get ls c.args.place) (sym c.marked.ensures.lines) ∙ c.line.ensures)
+    c.line.ensures.is
     ∙ ap (λ (s : Store). option_map (λ (p : Key × Entry). p.1) (definition_at s.lines c.args.place)) c.self.view_is
 
 pub returns-in-None : goal.returns-in-None

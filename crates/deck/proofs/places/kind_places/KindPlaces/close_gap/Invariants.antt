@@ -1,0 +1,8 @@
+use Rattle.std.proofs.Common.{◌≡◌, ◌++◌, drop, map, option_map, take}
+use Rattle.gap_list.specs.Gaps.{without_gap}
+use Rattle.deck.proofs.places.kind_places.KindPlaces.close_gap.Given as goal
+
+-- the places before the next number have moved
+abbrev pub invariant-loop-number : goal.invariant-loop-number
+invariant-loop-number l =
+    l.self ≡ map (option_map (without_gap l.gap)) (take l.number l.fn.self) ++ drop l.number l.fn.self
