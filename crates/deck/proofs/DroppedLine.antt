@@ -1,6 +1,8 @@
 -- Removing the last active line of a key from a deck.
 use Rattle.std.proofs.Common.{◌≡◌, ◌<◌, ℕ, List, false, not, cond, length, map, set, refl, sym, ap, subst, ◌∙◌}
-use Rattle.std.proofs.Common.{Option, Some, None, Ok, option_map}
+use Rattle.std.proofs.Common.{Option, Some, None, Ok, option_map, slice_get}
+use Rattle.std.specs.List.{remove}
+use Rattle.std.specs.Prelude.{IfSome}
 use Rattle.std.proofs.lemmas.Option.{same_Some}
 use Rattle.std.specs.Option.{option_and_then}
 use Rattle.def_entry.specs.declared.key.Key.{Key}
@@ -15,6 +17,7 @@ use Rattle.deck_lines.specs.declared.key_number.KeyNumber.{KeyNumber}
 use Rattle.deck_lines.specs.declared.line.DeckLine.{DeckLine}
 use Rattle.deck.specs.Active.{active_lines}
 use Rattle.deck.specs.Changes.{IsTableChange, is_same_entry}
+use Rattle.deck.specs.CoveredLines.{MayCover}
 use Rattle.deck.specs.Decks.{Contents}
 use Rattle.deck.specs.Edits.{after_drop, without_some}
 use Rattle.gap_list.specs.Gaps.{without_gap}
@@ -23,6 +26,7 @@ use Rattle.deck.specs.Numbers.{entry_there, key_if}
 use Rattle.deck.specs.Tables.{active_definitions, definitions_among, last_place, place_of, table, table_of}
 use Rattle.deck.specs.declared.places.last_places.LastPlaces.{LastPlaces}
 use Rattle.deck.specs.declared.settings.Settings.{Settings}
+use Rattle.deck.proofs.DroppedCover.{cover_left, covers_last}
 use Rattle.deck.proofs.RemovedLine.{DefinesAt, defined_last, definitions_dropped, dropped, indexed_dropped, table_moved}
 use Rattle.deck.proofs.RemovedLine.{place_in_lines}
 use Rattle.deck.proofs.UncoveredKeys.{changed_dropped, last_uncovered}
@@ -56,6 +60,16 @@ module _ (settings : Settings) (store : Store) (notices : List (List ℕ)) (d : 
       ∙ ap (λ o. without_some o (record { lines = store.lines; settings = settings; notices = notices })) was
       ∙ ap (λ (ls : List DeckLine). Ok (record { lines = ls; settings = settings; notices = notices })) (sym given)
 
+  -- the other lines cover the same lines
+  pub covers_drop : (covered : List (Option ℕ))
+      → MayCover (length store.lines) (active_definitions settings store.lines) (Some covered)
+      → (left : List DeckLine) → left ≡ dropped place store.lines → (rest : Option (List (Option ℕ)))
+      → IfSome rest (λ those. those ≡ map (option_map (without_gap place)) (remove covered place))
+      → MayCover (length left) (active_definitions settings left) rest
+  covers_drop covered are left given None rest_is = tt
+  covers_drop covered are left given (Some those) rest_is =
+      cover_left settings store.lines place k defines.0 defines.1 was covered are left those given rest_is
+
   module _ (n : KeyNumber)
       (told : Some (key_numbered store.names n) ≡ option_map (λ e. Some e.0) (definition_at store.lines place)) where
     -- the number of the line is the number of the key
@@ -68,6 +82,17 @@ module _ (settings : Settings) (store : Store) (notices : List (List ℕ)) (d : 
         place_within (places_of old n.kind) n.number place
         (indexed.places.place n ∙ ap (option_and_then (place_of (active_definitions settings store.lines))) numbered
         ∙ was)
+
+    -- the place that the line covers is the last place of the key among the other lines
+    pub uncovered_drop : (covered : List (Option ℕ))
+        → MayCover (length store.lines) (active_definitions settings store.lines) (Some covered)
+        → (uncovered : Option ℕ) → ((o : Option ℕ) → slice_get covered place ≡ Some o → uncovered ≡ o)
+        → (j : Key) → key_numbered store.names n ≡ Some j → uncovered
+        ≡ place_of (definitions_among (set (active_lines settings store.lines) place false) store.lines) j
+    uncovered_drop covered are uncovered read j at =
+        let es = definitions_among (set (active_lines settings store.lines) place false) store.lines in
+        read (place_of es k) (covers_last settings store.lines place k defines.0 defines.1 was covered are)
+        ∙ ap (place_of es) (same_Some k j (sym numbered ∙ at))
 
     -- the place is the last place of each key with this number
     pub last_drop : (j : Key) → key_numbered store.names n ≡ Some j → last_place settings store.lines j ≡ Some place

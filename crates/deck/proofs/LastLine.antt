@@ -1,5 +1,6 @@
 -- Removing the last line of a deck.
 use Rattle.std.proofs.Common.{◌≡◌, ◌++◌, ◌∷◌, ◌-◌, ◌<◌, [], ℕ, List, not, cond, length, set, take, sym, ap, subst, ◌∙◌}
+use Rattle.std.proofs.Common.{arith, length-append}
 use Rattle.std.proofs.Common.{Option, Some, option_map}
 use Rattle.std.proofs.lemmas.Option.{same_Some}
 use Rattle.def_entry.specs.declared.key.Key.{Key}
@@ -12,13 +13,15 @@ use Rattle.deck_lines.specs.Stores.{Store, definition_at}
 use Rattle.deck_lines.specs.declared.key_number.KeyNumber.{KeyNumber}
 use Rattle.deck_lines.specs.declared.line.DeckLine.{DeckLine}
 use Rattle.deck.specs.Changes.{IsTableChange, is_same_entry}
+use Rattle.deck.specs.CoveredLines.{AreBelow, MayCover}
 use Rattle.deck.specs.Decks.{Contents}
 use Rattle.deck.specs.LastPlaces.{IsIndexed, places_of}
 use Rattle.deck.specs.Numbers.{entry_there, key_if}
-use Rattle.deck.specs.Tables.{active_definitions, last_place, table, table_of}
+use Rattle.deck.specs.Tables.{Definitions, active_definitions, last_place, table, table_of}
 use Rattle.deck.specs.LineRemoval.{CanUndefine}
 use Rattle.deck.specs.declared.places.last_places.LastPlaces.{LastPlaces}
 use Rattle.deck.specs.declared.settings.Settings.{Settings}
+use Rattle.deck.proofs.CoveredPlaces.{active_below, cover_others}
 use Rattle.deck.proofs.LastRemoval.{changed_less, defined_there, definitions_are, front_taken, indexed_less, last_at}
 use Rattle.deck.proofs.LastRemoval.{room_there}
 
@@ -80,3 +83,25 @@ module _ (settings : Settings) (store : Store) (notices : List (List ℕ)) (d : 
       (definitions_are settings store can.lines_before can.line can.key can.entry split can.defines numbering last
       indexed)
       numbered at_end covers)))
+
+  -- the lines cover the same lines without the last one
+  pub covers_undefined : (covered : Option (List (Option ℕ)))
+      → MayCover (length store.lines) (active_definitions settings store.lines) covered
+      → (rest : Option (List (Option ℕ)))
+      → ((count : ℕ) (ds : Definitions) → len - 1 < count → AreBelow (len - 1) ds → MayCover count ds covered
+      → MayCover (len - 1) ds rest)
+      → (left : List DeckLine) → left ≡ take (len - 1) store.lines
+      → MayCover (length left) (active_definitions settings left) rest
+  covers_undefined covered are rest first left is =
+      let front : List DeckLine = can.lines_before in
+      let ds : Definitions = active_definitions settings front in
+      let more : active_definitions settings store.lines ≡ (can.key, (length front, can.entry)) ∷ ds =
+      definitions_are settings store front can.line can.key can.entry split can.defines numbering last indexed in
+      let some : MayCover (length store.lines) ds covered =
+      cover_others (length store.lines) (can.key, (length front, can.entry)) ds covered
+      (subst (λ es. MayCover (length store.lines) es covered) more are) in
+      let below : AreBelow (len - 1) ds = subst (λ n. AreBelow n ds) (sym at_end) (active_below settings front) in
+      let less : len - 1 < length store.lines =
+      omega (arith, at_end, ap length split, length-append front (can.line ∷ [])) in
+      subst (λ ls. MayCover (length ls) (active_definitions settings ls) rest) (sym (is ∙ left_is))
+      (subst (λ n. MayCover n ds rest) at_end (first (length store.lines) ds less below some))

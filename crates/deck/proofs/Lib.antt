@@ -5,7 +5,6 @@ mod KeyTallies
 mod LastDefinition
 mod DroppedLine
 mod RemovedLine
-mod EarlierLines
 mod EnclosingBlocks
 mod EnclosingLines
 mod EntryTexts
@@ -29,7 +28,6 @@ mod PlacedDefinitions
 mod PushedLine
 mod Sameness
 mod RenumberedPlaces
-mod LastLineSearch
 mod SettingChanges
 mod SpliceInverse
 mod TableLines
@@ -38,3 +36,6 @@ mod TextPlaces
 mod UncoveredKeys
 mod LastRemoval
 mod Variables
+mod CoveredPlaces
+mod PushedCover
+mod DroppedCover

@@ -1,6 +1,7 @@
 -- The places of keys, stored as slots.
 use Rattle.std.proofs.Common.{◌≡◌, [], ◌∷◌, ℕ, zero, suc, List, Bool, true, false, cond, map, set, refl, sym, ap, ◌∙◌}
-use Rattle.std.proofs.Common.{Option, Some, None, option_map}
+use Rattle.std.proofs.Common.{Option, Some, None, option_map, ◌++◌, ◌+◌, add-one, drop, take}
+use Rattle.std.specs.List.{remove}
 use Rattle.gap_list.specs.Gaps.{place_without, with_gap, without_gap}
 use Rattle.gap_list.proofs.SlotItems.{place_moved}
 use Rattle.deck.specs.KindPlaces.{HasSamePlaces}
@@ -51,3 +52,17 @@ map-gap gap gaps (Some p ∷ ps) =
     let rest : map (option_map (place_without (with_gap gap gaps))) ps
     ≡ map (option_map (without_gap gap)) (map (option_map (place_without gaps)) ps) = map-gap gap gaps ps in
     λ i. Some (one i) ∷ rest i
+
+module _ (f : ℕ → ℕ) where
+  removed : (ps : List (Option ℕ)) (place : ℕ) → map (option_map f) (take place ps ++ drop (suc place) ps)
+      ≡ remove (map (option_map f) ps) place
+  removed [] zero = refl
+  removed [] (suc place) = refl
+  removed (p ∷ ps) zero = refl
+  removed (p ∷ ps) (suc place) = ap {B = List (Option ℕ)} (λ qs. option_map f p ∷ qs) (removed ps place)
+
+  -- the places are mapped after one is removed
+  pub map-removed : (ps : List (Option ℕ)) (place : ℕ) → map (option_map f) (take place ps ++ drop (place + 1) ps)
+      ≡ remove (map (option_map f) ps) place
+  map-removed ps place =
+      ap (λ n. map (option_map f) (take place ps ++ drop n ps)) (add-one place) ∙ removed ps place

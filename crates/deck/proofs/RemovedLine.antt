@@ -180,7 +180,7 @@ from_dropped (f ∷ fs) (x ∷ lines) n (suc place) h e =
     by false (Some d) = refl
 
 -- the place of a key moves with its definition
-place_moved : (gap : ℕ) (ds : Definitions) (k : Key)
+pub place_moved : (gap : ℕ) (ds : Definitions) (k : Key)
     → place_of (moved gap ds) k ≡ option_map (without_gap gap) (place_of ds k)
 place_moved gap [] k = refl
 place_moved gap (d ∷ ds) k = by (is_same k d.0) (place_moved gap ds k)

@@ -1,6 +1,7 @@
 pub mod Active
 pub mod BlockExamples
 pub mod Changes
+pub mod CoveredLines
 pub mod Decks
 pub mod Edits
 pub mod EnclosingBlocks

@@ -26,7 +26,7 @@ mod switch;
 mod texts;
 mod undefine;
 
-use crate::places::LastPlaces;
+use crate::places::{CoveredLines, LastPlaces};
 use crate::settings::Settings;
 use deck_lines::LineStore;
 use def_entry::{Entry, Key, Kind};
@@ -36,10 +36,12 @@ use std::alloc::{AllocError, Global};
 use std::marker::Model;
 use units_io::Texts;
 
-/// The lines of a deck, with the settings that decide which of them are active.
+/// The lines of a deck, with the settings that decide which of them are active. The covered lines are found by the
+/// first drop, and forgotten by an edit of more than one line.
 pub struct Deck {
     store: LineStore,
     last: LastPlaces,
+    covered_lines: Option<CoveredLines>,
     settings: Settings,
     notices: Texts,
 }
@@ -50,6 +52,7 @@ impl Drop for Deck {
         let Deck {
             store: _,
             last: _,
+            covered_lines: _,
             settings: _,
             notices: _,
         } = self;
@@ -58,13 +61,13 @@ impl Drop for Deck {
 
 impl Model for Deck {
     ghost use Rattle.deck.specs.Decks.{Contents};
-    ghost use Rattle.deck.specs.LastPlaces.{IsIndexed};
+    ghost use Rattle.deck.specs.CoveredLines.{AreDeckPlaces};
 
     ghost Value = { Contents };
 
     ghost view = { λ d. record { lines = d.store.lines; settings = d.settings; notices = d.notices } };
 
-    ghost invariant = { λ d. IsIndexed d.store d.settings d.last };
+    ghost invariant = { λ d. AreDeckPlaces d.store d.settings d.last d.covered_lines };
 }
 
 impl Deck {
@@ -83,6 +86,7 @@ impl Deck {
         Ok(Deck {
             store,
             last,
+            covered_lines: None,
             settings,
             notices,
         })

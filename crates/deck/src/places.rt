@@ -1,12 +1,14 @@
 //! The places of the last active lines of keys.
 
 mod changes;
+mod covered_lines;
+mod covered_pass;
 mod key_places;
 mod kind_places;
 mod last_places;
 mod pass;
-mod search;
 
 pub(crate) use changes::{changed_key, changed_keys, keys_between};
+pub(crate) use covered_lines::{CoveredLines, first_lines, with_line, without_line};
+pub(crate) use covered_pass::find_covered_lines;
 pub(crate) use last_places::LastPlaces;
-pub(crate) use search::uncovered_by;

@@ -24,11 +24,12 @@ ghost use Rattle.deck.specs.declared.settings.Settings as settings_spec;
 
 use super::Deck;
 use crate::fault::DeckFault;
-use crate::places::LastPlaces;
+use crate::places::{LastPlaces, with_line};
 use deck_lines::LineStore;
 use def_entry::{Entry, EntryFault, Key, Keys, Kind, What, read_entry, same_text_law};
 use def_lines::{Line, LineKind, classify, trim};
 use std::alloc::{AllocError, Global};
+use std::mem;
 use units_io::Text;
 
 // An entry, and the place of its line.
@@ -69,7 +70,7 @@ impl Deck {
             return Err(DeckFault::DeckFull);
         }
         let over = self.changed_over(alloc, &key, Entry { line, what: &what })?;
-        self.push_definition(alloc, line, key, what)?;
+        self.push_definition(alloc, line, key, what, over.1)?;
         Ok(over)
     }
 
@@ -122,22 +123,27 @@ impl Deck {
         }
     }
 
-    // Appends a line that defines a key. On an error nothing changes.
+    // Appends a line that defines a key and covers the line at the place `over`. On an error nothing changes.
     fn push_definition(
         &mut self,
         alloc: Global,
         text: &[u8],
         key: Key,
         what: What,
+        over: Option<usize>,
     ) -> Result<(), AllocError>
         requires defines { entry_in (plain_line 0 text.now) ≡ Some (seen_entry text.now (key, what)) }
         requires within { pass_limit (edit.with_line text.now self.old).lines ≡ false }
+        requires covers { over ≡ last_place self.old.settings self.old.lines key }
         ensures ok { OnOk result (self.new ≡ edit.with_line text.now self.old) }
         ensures err { OnErr result (self.new ≡ self.old) }
     {
         let text = Text::from_bytes(alloc, text)?;
         let line = Line { number: 0, text };
-        put_definition(alloc, &mut self.store, &mut self.last, line, (key, what))
+        let covered = mem::replace(&mut self.covered_lines, None);
+        put_definition(alloc, &mut self.store, &mut self.last, line, (key, what))?;
+        self.covered_lines = with_line(covered, over);
+        Ok(())
     }
 }
 

@@ -1,20 +1,26 @@
 //! Removing the last line of a key.
 
+ghost use Rattle.std.specs.Prelude.{◌≡◌, None, Some, IfOk, length};
+ghost use Rattle.deck.specs.CoveredLines.{MayCover};
 ghost use Rattle.deck.specs.Edits as edit;
+ghost use Rattle.deck.specs.Tables.{active_definitions};
 
 use super::Deck;
 use crate::fault::DeckFault;
-use crate::places::{changed_key, uncovered_by};
+use crate::places::{CoveredLines, changed_key, find_covered_lines, without_line};
+use crate::settings::Settings;
+use deck_lines::LineStore;
 use def_entry::{Key, Keys, same_text_law};
-use std::alloc::Global;
+use std::alloc::{AllocError, Global};
+use std::mem;
 
 impl Deck {
     /// Removes the last active line of a key, which uncovers the previous one, and returns the key if its entry
     /// changes.
     ///
     /// The error is `NoSuchKey` if no active line defines the key. The only other error is running out of memory. The
-    /// call goes over the numbers of the lines, and over their texts only if an earlier line defines the key, or once
-    /// in many drops.
+    /// cost grows with the logarithm of the number of lines, except that the first drop after an edit of several lines
+    /// makes one pass over them, and so does one drop in many.
     pub fn drop_last(&mut self, alloc: Global, key: &Key) -> Result<Keys, DeckFault>
         ensures { edit.IsEdit (edit.after_drop key.now self.old) self.old self.new result }
     {
@@ -34,11 +40,36 @@ impl Deck {
         let Some(number) = self.store.key_number(place) else {
             unreachable!()
         };
-        let uncovered = uncovered_by(alloc, &self.store, &self.settings, place, number)?;
+        let covered = take_covered_lines(
+            alloc,
+            &mut self.covered_lines,
+            &self.store,
+            &self.settings,
+        )?;
+        let uncovered = covered.get(place);
         let keys = changed_key(alloc, &self.store, number, Some(place), uncovered)?;
         self.last.restore(number, uncovered);
         self.last.close_gap(place);
         self.store.remove(place);
+        self.covered_lines = without_line(covered, place);
         Ok(keys)
+    }
+}
+
+// Returns the covered lines, and leaves none. If they are not known, makes one pass over the lines.
+fn take_covered_lines(
+    alloc: Global,
+    covered: &mut Option<CoveredLines>,
+    store: &LineStore,
+    settings: &Settings,
+) -> Result<CoveredLines, AllocError>
+    requires { MayCover (length store.now.lines) (active_definitions settings.now store.now.lines) covered.old }
+    ensures none { covered.new ≡ None }
+    ensures covered { IfOk result (λ lines. MayCover (length store.now.lines)
+        (active_definitions settings.now store.now.lines) (Some lines)) }
+{
+    match mem::replace(covered, None) {
+        Some(lines) => Ok(lines),
+        None => find_covered_lines(alloc, store, settings),
     }
 }

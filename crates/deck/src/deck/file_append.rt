@@ -46,6 +46,7 @@ impl Deck {
         ensures stores { F.store_faults files.new ≡ F.store_faults files.old }
         ensures counted { F.faults files.new ≡ loading.fetch_faults_after (F.faults files.old) result }
     {
+        self.covered_lines = None;
         let FileEnd { changes, notices } = append_file(
             alloc,
             files,

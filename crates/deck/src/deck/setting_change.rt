@@ -31,6 +31,7 @@ impl Deck {
         let last = LastPlaces::in_force(alloc, &settings, &self.store)?;
         let keys = changed_keys(alloc, &self.store, &self.last, &last)?;
         let name = Text::from_bytes(alloc, name)?;
+        self.covered_lines = None;
         self.settings.vars.set(alloc, name, value)?;
         self.last = last;
         Ok(keys)
@@ -49,6 +50,7 @@ impl Deck {
         let keys = changed_keys(alloc, &self.store, &self.last, &last)?;
         self.settings.locale = Text::from_bytes(alloc, locale)?;
         self.last = last;
+        self.covered_lines = None;
         Ok(keys)
     }
 

@@ -52,6 +52,7 @@ impl Deck {
         requires { splices.CanSplice change self.old }
         ensures { splices.IsSpliced change self.old self.new result }
     {
+        self.covered_lines = None;
         let Ok(changes) = find_changes(alloc, &mut self.store, &self.last, &self.settings, &change)
         else {
             return Err((change, AllocError));

@@ -20,6 +20,7 @@ impl Deck {
         let keys = changed_keys(alloc, &self.store, &self.last, &last)?;
         self.settings = settings;
         self.last = last;
+        self.covered_lines = None;
         Ok(keys)
     }
 }

@@ -4,9 +4,10 @@ ghost use Rattle.std.specs.Prelude.{◌≡◌, IfOk, OnErr};
 ghost use Rattle.deck.specs.LineRemoval as spec;
 
 use super::Deck;
-use crate::places::changed_key;
+use crate::places::{changed_key, first_lines};
 use def_entry::{Keys, same_text_law};
 use std::alloc::{AllocError, Global};
+use std::mem;
 use units_io::Text;
 
 impl Deck {
@@ -48,6 +49,7 @@ impl Deck {
         let keys = changed_key(alloc, &self.store, number, Some(place), uncovered)?;
         self.store.truncate(place);
         self.last.restore(number, uncovered);
+        self.covered_lines = first_lines(mem::replace(&mut self.covered_lines, None), place);
         Ok((keys, text))
     }
 }

@@ -81,8 +81,8 @@ impl LastPlaces {
     }
 }
 
-// Returns last places without a place, with room for all keys that have a number.
-fn with_room(alloc: Global, edited: &EditedLines<'_>) -> Result<LastPlaces, AllocError>
+/// Returns last places without a place, with room for all keys that have a number.
+pub(super) fn with_room(alloc: Global, edited: &EditedLines<'_>) -> Result<LastPlaces, AllocError>
     ensures room { IfOk result (λ last. HasPlaceRoom edited.now.names last) }
     ensures none { IfOk result (λ last. AreLast edited.now.names [] last) }
 {
@@ -94,8 +94,8 @@ fn with_room(alloc: Global, edited: &EditedLines<'_>) -> Result<LastPlaces, Allo
     Ok(last)
 }
 
-// Sets the place of the key of a line to `place`, if the line is active.
-fn note_line(edited: &EditedLines<'_>, last: &mut LastPlaces, active: bool, place: usize)
+/// Sets the place of the key of a line to `place`, if the line is active.
+pub(super) fn note_line(edited: &EditedLines<'_>, last: &mut LastPlaces, active: bool, place: usize)
     requires { HasPlaceRoom edited.now.names last.old }
     ensures room { HasPlaceRoom edited.now.names last.new }
     ensures last { (ds : Definitions) → AreLast edited.now.names ds last.old

@@ -1,7 +1,7 @@
 //! Lines with their marks, within the limits of a deck.
 
 ghost use Rattle.std.specs.Prelude.{◌≡◌, ◌++◌, ◌∷◌, ◌+◌, ◌<◌, ◌≤◌, [], false, not, length, map, take, drop, IfOk};
-ghost use Rattle.std.specs.Prelude.{IfErr, OnOk, OnErr};
+ghost use Rattle.std.specs.Prelude.{IfErr, OnOk, OnErr, Some, slice_get};
 ghost use Rattle.deck_lines.specs.Limits.{bytes_in, most_bytes, pass_limit, text_len};
 ghost use Rattle.deck_lines.specs.Marks.{line_without_mark, with_mark, with_marks};
 ghost use Rattle.deck_lines.specs.Exchanges.{IsExchanged};

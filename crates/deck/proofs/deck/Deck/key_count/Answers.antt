@@ -9,6 +9,6 @@ pub returns : goal.returns
 returns c =
     let s = c.self.inside in
     c.count.ensures
-    ∙ c.self.invariant.places.count c.args.kind
+    ∙ c.self.invariant.indexed.places.count c.args.kind
     ∙ tallied (table_of (active_definitions s.settings s.store.lines)) c.args.kind
     ∙ ap (λ (d : Contents). key_count (table d) c.args.kind) c.self.view_is

@@ -24,8 +24,12 @@ line-requires c =
 pub loop-i-preserved : goal.loop-i-preserved
 loop-i-preserved c =
     let lines : List DeckLine = c.args.self.now.lines in
-    let x : DeckLine = record { number = c.line.result.number; text = c.line.result.text.now; mark =
-        c.line.result.mark }
+    let x : DeckLine = record {
+      number = c.line.result.number;
+      text = c.line.result.text.now;
+      mark =
+          c.line.result.mark;
+    }
     in
     let inside : c.loop-i.i < length c.in_ok-flags.flags.items =
     omega (arith, c.loop-i-test.true, c.in_ok-flags.flags.ok.0) in

@@ -19,7 +19,7 @@ returns-in_default c =
 pub returns : goal.returns
 returns c =
     let k = key c.args.kind c.args.name.now in
-    c.get.ensures ∙ c.self.invariant.places.place c.in-Some.number
+    c.get.ensures ∙ c.self.invariant.indexed.places.place c.in-Some.number
     ∙ ap (option_and_then (place_of (active_definitions c.self.inside.settings c.self.inside.store.lines)))
     c.in-Some.ensures.number
     ∙ ap (λ (d : Contents). last_place d.settings d.lines k) c.self.view_is

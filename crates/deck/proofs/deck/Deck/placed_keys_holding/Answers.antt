@@ -35,7 +35,7 @@ returns-clause-keys c =
     ∙ ap (λ ks. ks ++ of kind.Prefix)
     (c.in_ok-push_placed.ensures.keys ∙ ap (λ ks. map placed_key ks ++ of kind.Unit) c.new-keys.ensures.items))) in
     let are = keys_found s.store c.in_ok-push_placed.ensures.numbering (active_definitions s.settings s.store.lines)
-    (in_place s.settings s.store.lines) s.last c.self.invariant.places c.key_order_law.ensures c.new-finder.result
+    (in_place s.settings s.store.lines) s.last c.self.invariant.indexed.places c.key_order_law.ensures c.new-finder.result
     (map placed_key c.push_placed-4.new.keys.items) (map placed_key c.in_order.result.items)
     (found ∙ four_lists (of kind.Unit) (of kind.Prefix) (of kind.Func) (of kind.List))
     (IsPermutation-map placed_key _ _ c.in_order.ensures.same)
@@ -58,16 +58,16 @@ placed_in store settings last indexed =
 
 pub push_placed-requires-clause-places : goal.push_placed-requires-clause-places
 push_placed-requires-clause-places c =
-    placed_in c.self.inside.store c.self.inside.settings c.self.inside.last c.self.invariant
+    placed_in c.self.inside.store c.self.inside.settings c.self.inside.last c.self.invariant.indexed
 
 pub push_placed-requires-2-clause-places : goal.push_placed-requires-2-clause-places
 push_placed-requires-2-clause-places c =
-    placed_in c.self.inside.store c.self.inside.settings c.self.inside.last c.self.invariant
+    placed_in c.self.inside.store c.self.inside.settings c.self.inside.last c.self.invariant.indexed
 
 pub push_placed-requires-3-clause-places : goal.push_placed-requires-3-clause-places
 push_placed-requires-3-clause-places c =
-    placed_in c.self.inside.store c.self.inside.settings c.self.inside.last c.self.invariant
+    placed_in c.self.inside.store c.self.inside.settings c.self.inside.last c.self.invariant.indexed
 
 pub push_placed-requires-4-clause-places : goal.push_placed-requires-4-clause-places
 push_placed-requires-4-clause-places c =
-    placed_in c.self.inside.store c.self.inside.settings c.self.inside.last c.self.invariant
+    placed_in c.self.inside.store c.self.inside.settings c.self.inside.last c.self.invariant.indexed

@@ -1,4 +1,19 @@
+use Rattle.std.proofs.Common.{ap, sym, ◌∙◌}
+use Rattle.def_entry.specs.LineViews.{seen_entry}
+use Rattle.def_entry.specs.Views.{said_by}
+use Rattle.deck_lines.specs.Marks.{plain_line}
+use Rattle.deck.specs.Decks.{Contents}
+use Rattle.deck.specs.Tables.{last_place}
+use Rattle.deck.proofs.PushedCover.{covers_pushed}
 use Rattle.deck.proofs.deck.Deck.push_definition.Goals as goal
 
-pub invariant_of-self : goal.invariant_of-self
-invariant_of-self c = c.put_definition.ensures.indexed c.self.inside.settings c.self.invariant
+pub invariant_of-self-2 : goal.invariant_of-self-2
+invariant_of-self-2 c =
+    let s = c.self.inside in record {
+      indexed = c.in_ok-put_definition.ensures.indexed s.settings c.self.invariant.indexed;
+      covers = covers_pushed s.settings s.store c.put_definition.new.store _ c.args.key
+          (said_by c.args.text.now c.args.what) s.covered_lines c.with_line.result c.args.over
+          c.self.invariant.indexed.blocks_closed c.requires.defines c.in_ok-put_definition.ensures.ok
+          c.with_line.ensures c.self.invariant.covers
+          (c.requires.covers ∙ ap (λ (d : Contents). last_place d.settings d.lines c.args.key) (sym c.self.view_is));
+    }

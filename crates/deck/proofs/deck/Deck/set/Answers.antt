@@ -29,9 +29,11 @@ returns-then-has_value c =
 
 pub invariant_of-self : goal.invariant_of-self
 invariant_of-self c =
-    let s = c.self.inside in
-    subst (λ (ps : Pairs). IsIndexed s.store (settings_of s.settings.locale ps) s.last) (sym c.in_err-set.ensures.err)
-    c.self.invariant
+    let s = c.self.inside in record {
+      indexed = subst (λ (ps : Pairs). IsIndexed s.store (settings_of s.settings.locale ps) s.last)
+          (sym c.in_err-set.ensures.err) c.self.invariant.indexed;
+      covers = tt;
+    }
 
 pub returns : goal.returns
 returns c =
@@ -53,7 +55,7 @@ returns c =
           c.self.view_is
           (c.in_ok-keys.ensures (active_definitions s.settings lines) (active_definitions now lines)
           (in_place s.settings lines)
-          (in_place now lines) c.self.invariant.places
+          (in_place now lines) c.self.invariant.indexed.places
           (subst (λ (t : Settings). AreLast s.store.names (active_definitions t lines) c.in_ok-last.last) are
           c.in_ok-last.ensures)),
     )

@@ -27,7 +27,7 @@ returns c =
           c.self.view_is
           (c.in_ok-keys.ensures (active_definitions s.settings lines) (active_definitions now lines)
           (in_place s.settings lines)
-          (in_place now lines) c.self.invariant.places
+          (in_place now lines) c.self.invariant.indexed.places
           (subst (λ (t : Settings). AreLast s.store.names (active_definitions t lines) c.in_ok-last.last) are
           c.in_ok-last.ensures)),
     )

@@ -14,5 +14,5 @@ returns c =
       ap (λ (d : Contents). Ok (after_switch c.args.settings d)) (sym c.self.view_is),
       subst (λ (d : Contents). IsTableChange (table d) (table_of now) c.in_ok-keys.keys) c.self.view_is
           (c.in_ok-keys.ensures was now (in_place c.self.inside.settings lines)
-          (in_place c.args.settings lines) c.self.invariant.places c.in_ok-last.ensures.last),
+          (in_place c.args.settings lines) c.self.invariant.indexed.places c.in_ok-last.ensures.last),
     )

@@ -2,7 +2,7 @@ use Rattle.std.proofs.Common.{◌≡◌, ◌++◌, ◌∷◌, ◌-◌, [], List,
 use Rattle.deck_lines.specs.declared.line.DeckLine.{DeckLine}
 use Rattle.deck.specs.Decks.{Contents}
 use Rattle.deck.specs.LineRemoval.{without_last}
-use Rattle.deck.proofs.LastLine.{changed_undefined, indexed_undefined, room_undefined}
+use Rattle.deck.proofs.LastLine.{changed_undefined, covers_undefined, indexed_undefined, room_undefined}
 use Rattle.deck.proofs.LastRemoval.{last_at, last_text}
 use Rattle.deck.proofs.deck.Deck.take_out_line.Goals as goal
 
@@ -25,14 +25,20 @@ pub restore-requires : goal.restore-requires
 restore-requires c =
     room_undefined c.self.inside.settings c.self.inside.store c.self.inside.notices _ c.self.view_is c.args.uncovered
     c.requires c.len-place.result c.len-place.ensures.count c.len-place.ensures.numbering c.self.inside.last
-    c.self.invariant c.in-Some.number c.in-Some.ensures.number
+    c.self.invariant.indexed c.in-Some.number c.in-Some.ensures.number
 
 pub invariant_of-self : goal.invariant_of-self
 invariant_of-self c =
-    indexed_undefined c.self.inside.settings c.self.inside.store c.self.inside.notices _ c.self.view_is
-    c.args.uncovered c.requires c.len-place.result c.len-place.ensures.count c.len-place.ensures.numbering
-    c.self.inside.last c.self.invariant c.in-Some.number c.in-Some.ensures.number c.restore.new.self
-    c.truncate.new.self c.truncate.ensures.lines c.truncate.ensures.names c.restore.ensures
+    let s = c.self.inside in record {
+      indexed = indexed_undefined s.settings s.store s.notices _ c.self.view_is c.args.uncovered c.requires
+          c.len-place.result c.len-place.ensures.count c.len-place.ensures.numbering s.last c.self.invariant.indexed
+          c.in-Some.number c.in-Some.ensures.number c.restore.new.self c.truncate.new.self c.truncate.ensures.lines
+          c.truncate.ensures.names c.restore.ensures;
+      covers = covers_undefined s.settings s.store s.notices _ c.self.view_is c.args.uncovered c.requires
+          c.len-place.result c.len-place.ensures.count c.len-place.ensures.numbering s.last c.self.invariant.indexed
+          c.in-Some.number c.in-Some.ensures.number s.covered_lines c.self.invariant.covers c.first_lines.result
+          c.first_lines.ensures c.truncate.new.self.lines c.truncate.ensures.lines;
+    }
 
 pub returns-clause-ok : goal.returns-clause-ok
 returns-clause-ok c = (
@@ -42,7 +48,7 @@ returns-clause-ok c = (
       ∙ ap without_last c.self.view_is,
   changed_undefined c.self.inside.settings c.self.inside.store c.self.inside.notices _ c.self.view_is
       c.args.uncovered c.requires c.len-place.result c.len-place.ensures.count c.len-place.ensures.numbering
-      c.self.inside.last c.self.invariant c.in-Some.number c.in-Some.ensures.number c.same_text_law.ensures
+      c.self.inside.last c.self.invariant.indexed c.in-Some.number c.in-Some.ensures.number c.same_text_law.ensures
       c.truncate.new.self.lines c.in_ok-keys.keys c.truncate.ensures.lines c.in_ok-keys.ensures,
   λ front line is. last_text c.self.inside.store.lines _ c.len-place.result _ c.in_ok-text.text refl
       c.len-place.ensures.count c.line.ensures.is c.in_ok-text.ensures front line

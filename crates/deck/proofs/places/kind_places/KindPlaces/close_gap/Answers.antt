@@ -17,7 +17,7 @@ pub loop-number-preserved : goal.loop-number-preserved
 loop-number-preserved c =
     moved_place (without_gap c.args.gap) c.args.self.now c.loop-number.self c.restore.new.self c.loop-number.number
     c.place_past_gap-place.result (omega (arith, c.loop-number-test.true, c.len-number-end.ensures))
-        c.loop-number.invariant
+    c.loop-number.invariant
     (c.place_past_gap-place.ensures ∙ ap (option_map (without_gap c.args.gap)) c.get.ensures) c.restore.ensures
 
 pub returns : goal.returns

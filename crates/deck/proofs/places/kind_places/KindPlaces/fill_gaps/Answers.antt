@@ -16,7 +16,7 @@ restore-requires c =
 pub loop-number-preserved : goal.loop-number-preserved
 loop-number-preserved c =
     moved_place (place_without c.args.gaps.now) c.args.self.now c.loop-number.self c.restore.new.self
-        c.loop-number.number
+    c.loop-number.number
     c.place_of-place.result (omega (arith, c.loop-number-test.true, c.len-number-end.ensures)) c.loop-number.invariant
     (c.place_of-place.ensures ∙ ap (option_map (place_without c.args.gaps.now)) c.get.ensures) c.restore.ensures
 

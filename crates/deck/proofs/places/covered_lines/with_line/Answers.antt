@@ -1,0 +1,6 @@
+use Rattle.deck.proofs.CoveredPlaces.{cover_more}
+use Rattle.deck.proofs.places.covered_lines.with_line.Goals as goal
+
+pub returns-in-Ok : goal.returns-in-Ok
+returns-in-Ok c = λ count ds k e are is.
+    cover_more count ds c.in-Some.lines c.push.new.self k e c.args.place are is c.in-Ok.ensures
