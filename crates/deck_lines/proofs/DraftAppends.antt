@@ -1,12 +1,12 @@
 -- Drafts, to which one excerpt after another is appended.
-use Rattle.std.proofs.Common.{◌≡◌, ◌++◌, ◌∷◌, [], ℕ, List, true, refl, sym, ap, subst, ◌∙◌, arith, length, append_assoc}
+use Rattle.std.proofs.Common.{◌≡◌, ◌++◌, ◌∷◌, [], ℕ, List, true, refl, sym, ap, ◌∙◌, arith, length, append_assoc}
 use Rattle.std.proofs.Common.{length-append, Result, Ok, Err, Some, OnOk, OnErr}
 use Rattle.std.proofs.lemmas.Bool.Decides.{nat_tests}
 use Rattle.std.proofs.lemmas.List.Sums.{sum_by-append}
 use Rattle.deck_lines.specs.ClosedBlocks.{blocks_after, AreBlocksClosed}
 use Rattle.deck_lines.specs.Excerpts.{Excerpt, in_turn}
 use Rattle.deck_lines.specs.Limits.{pass_limit}
-use Rattle.deck_lines.specs.Loads.{Extends, IsLoad, Leads, MayEndLoad, draft_with_excerpt, with_definitions, with_lines}
+use Rattle.deck_lines.specs.Loads.{Extends, IsExcerptPut, Leads, draft_with_excerpt, with_definitions, with_lines}
 use Rattle.deck_lines.specs.Names.{Names}
 use Rattle.deck_lines.specs.Readings.{entry_in}
 use Rattle.deck_lines.specs.Stores.{Store, with_definition}
@@ -54,23 +54,16 @@ unfolding pass_limit
 passes_more xs ys h =
     grind (arith, nat_tests, length-append {A = DeckLine} xs ys, sum_by-append (λ line. length line.text) xs ys)
 
--- a fault that may end a part of a load may end the whole load
-pub failed : (mid part more whole : List DeckLine) (fault : LoadFault) → MayEndLoad (mid ++ part) fault
-    → mid ++ (part ++ more) ≡ whole → MayEndLoad whole fault
-failed mid part more whole DeckFull h e = sym (ap pass_limit (append_assoc mid part more ∙ e))
-    ∙ passes_more (mid ++ part) more h
-failed mid part more whole ReadFailed h e = tt
-failed mid part more whole OutOfMemory h e = tt
-
--- a load of the second part, after the first part was appended, is a load of both parts
-pub then_load : (before mid after : Draft) (first second : Excerpt) (r : Result (Unit {0}) LoadFault)
-    → mid ≡ draft_with_excerpt before first → IsLoad mid second r after → IsLoad before (in_turn first second) r after
-then_load before mid after first second (Ok u) e h =
-    h ∙ ap (λ (d : Draft). draft_with_excerpt d second) e ∙ with_excerpt-in_turn before first second
-then_load before mid after first second (Err fault) e h =
-    let lines : mid.store.lines ++ second.lines ≡ before.store.lines ++ (first.lines ++ second.lines) =
-    ap (λ (d : Draft). d.store.lines ++ second.lines) e ∙ append_assoc before.store.lines first.lines second.lines in
-    subst (λ ls. MayEndLoad ls fault) lines h
+-- if the first part of an excerpt is not put, the excerpt is not
+pub fails_with_part : (mid now before after : Draft) (part whole : Excerpt) (more : List DeckLine) (fault : LoadFault)
+    → IsExcerptPut mid part (Err fault) now
+    → mid.store.lines ++ (part.lines ++ more) ≡ before.store.lines ++ whole.lines
+    → IsExcerptPut before whole (Err fault) after
+fails_with_part mid now before after part whole more DeckFull h e =
+    sym (ap pass_limit (append_assoc mid.store.lines part.lines more ∙ e))
+    ∙ passes_more (mid.store.lines ++ part.lines) more h
+fails_with_part mid now before after part whole more ReadFailed h e = absurd h
+fails_with_part mid now before after part whole more OutOfMemory h e = tt
 
 -- an unchanged store extends the store
 pub same_extends : (before after : Store) → after ≡ before → Extends before after
@@ -87,19 +80,19 @@ then_extends before mid after first second = record {
 -- a load leads from the blocks before its excerpt to those after it if it extends the store
 pub load_leads : (from to : List Ending) (before after : Draft) (excerpt : Excerpt) (r : Result (Unit {0}) LoadFault)
     → blocks_after from excerpt.lines ≡ Some to →
-    IsLoad before excerpt r after → Extends before.store after.store → Leads from to before.store after.store r
-load_leads from to before after excerpt (Ok u) b told e =
-    record { lines = excerpt.lines; lines_put = ap (λ (d : Draft). d.store) told; blocks_lead = b }
-load_leads from to before after excerpt (Err fault) b told e =
+    IsExcerptPut before excerpt r after → Extends before.store after.store → Leads from to before.store after.store r
+load_leads from to before after excerpt (Ok u) b put e =
+    record { lines = excerpt.lines; lines_put = ap (λ (d : Draft). d.store) put.0; blocks_lead = b }
+load_leads from to before after excerpt (Err fault) b put e =
     record { lines = e.lines; lines_put = e.lines_put; blocks_lead = tt }
 
 -- a load leads from the blocks before its excerpt to those after it if a failure leaves the store unchanged
 pub one_leads : (from to : List Ending) (before after : Draft) (excerpt : Excerpt) (r : Result (Unit {0}) LoadFault)
     → blocks_after from excerpt.lines ≡ Some to →
-    IsLoad before excerpt r after → OnErr r (after.store ≡ before.store) → Leads from to before.store after.store r
-one_leads from to before after excerpt (Ok u) b told e =
-    record { lines = excerpt.lines; lines_put = ap (λ (d : Draft). d.store) told; blocks_lead = b }
-one_leads from to before after excerpt (Err fault) b told e =
+    IsExcerptPut before excerpt r after → OnErr r (after.store ≡ before.store) → Leads from to before.store after.store r
+one_leads from to before after excerpt (Ok u) b put e =
+    record { lines = excerpt.lines; lines_put = ap (λ (d : Draft). d.store) put.0; blocks_lead = b }
+one_leads from to before after excerpt (Err fault) b put e =
     let stayed = same_extends before.store after.store e in
     record { lines = stayed.lines; lines_put = stayed.lines_put; blocks_lead = tt }
 

@@ -11,7 +11,11 @@ mod LoadParts
 mod NameNumbers
 mod RenumberedKeys
 pub mod MarkReplacement
-mod LoadSteps
+mod LoadTranscripts
 mod StoredLines
-mod KnownFileSteps
+mod KnownLoads
+mod PartInduction
+mod FailedLoads
+mod AskedLoads
+mod KeptLines
 mod ListTurns

@@ -8,6 +8,8 @@ pub mod Exchanges
 pub mod Includes
 pub mod StoredDefinitions
 pub mod Limits
+pub mod LineLoads
+pub mod LoadLaws
 pub mod Loads
 pub mod Marks
 pub mod Names
@@ -17,8 +19,8 @@ pub mod KeyNumbering
 pub mod Origins
 pub mod Readings
 pub mod Renumberings
-pub mod StepLaws
-pub mod Steps
 pub mod Stores
+pub mod TranscriptExamples
+pub mod Transcripts
 pub mod Views
 pub mod Within

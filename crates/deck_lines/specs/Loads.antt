@@ -1,5 +1,5 @@
--- The result of a load.
-use Rattle.std.specs.Prelude.{◌≡◌, ◌++◌, List, [], ◌∷◌, true, map, Some, Result, Ok, Err, OnOk, IsErrOf, ⊤}
+-- Drafts, to which a load appends lines and notices.
+use Rattle.std.specs.Prelude.{◌≡◌, ◌++◌, List, [], ◌∷◌, true, false, map, Some, Result, Ok, Err, OnOk, ⊤}
 use Rattle.deck_lines.specs.ClosedBlocks.{blocks_after}
 use Rattle.deck_lines.specs.Excerpts.{Excerpt}
 use Rattle.deck_lines.specs.Limits.{pass_limit}
@@ -28,21 +28,13 @@ abbrev pub draft_with_excerpt : Draft → Excerpt → Draft
 draft_with_excerpt draft excerpt =
     record { store = with_lines draft.store excerpt.lines; notices = draft.notices ++ excerpt.notices }
 
--- this fault may end a load whose complete lines would be these
-abbrev pub MayEndLoad : List DeckLine → LoadFault → Type 0
-MayEndLoad lines DeckFull = pass_limit lines ≡ true
-MayEndLoad lines ReadFailed = ⊤
-MayEndLoad lines OutOfMemory = ⊤
-
--- a load succeeded and appended the lines and notices of the excerpt, or it failed with a fault that may end it, which
--- is `DeckFull` only if the lines before and those of the excerpt pass a limit
-abbrev pub IsLoad : Draft → Excerpt → Result (Unit {0}) LoadFault → Draft → Type 0
-IsLoad before excerpt (Ok _) after = after ≡ draft_with_excerpt before excerpt
-IsLoad before excerpt (Err fault) after = MayEndLoad (before.store.lines ++ excerpt.lines) fault
-
--- the result is not `ReadFailed`, as no file is read
-abbrev pub ReadsNone : Result (Unit {0}) LoadFault → Type 0
-ReadsNone result = IsErrOf result ReadFailed → ⊥
+-- an excerpt was appended, and the lines are within the limits; or its lines have no room, or memory ran out
+abbrev pub IsExcerptPut : Draft → Excerpt → Result (Unit {0}) LoadFault → Draft → Type 0
+IsExcerptPut before excerpt (Ok _) after =
+    (after ≡ draft_with_excerpt before excerpt) × (pass_limit after.store.lines ≡ false)
+IsExcerptPut before excerpt (Err DeckFull) after = pass_limit (before.store.lines ++ excerpt.lines) ≡ true
+IsExcerptPut before excerpt (Err ReadFailed) after = ⊥
+IsExcerptPut before excerpt (Err OutOfMemory) after = ⊤
 
 -- the endings of open blocks
 abbrev pub endings : List Block → List Ending

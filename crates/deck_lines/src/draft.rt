@@ -1,10 +1,9 @@
 //! The lines and notices that a load has read so far.
 
-ghost use Rattle.std.specs.Prelude.{◌≡◌, ◌++◌, ◌∷◌, [], OnOk, OnErr, false, option_map};
+ghost use Rattle.std.specs.Prelude.{◌≡◌, ◌++◌, ◌∷◌, [], OnOk, OnErr, option_map};
 ghost use Rattle.def_entry.specs.LineViews.{seen_entry};
 ghost use Rattle.deck_lines.specs.Excerpts.{line_with_notice, line_without_notice, notice};
-ghost use Rattle.deck_lines.specs.Limits.{pass_limit};
-ghost use Rattle.deck_lines.specs.Loads.{IsLoad, ReadsNone};
+ghost use Rattle.deck_lines.specs.Loads.{IsExcerptPut};
 ghost use Rattle.deck_lines.specs.Marks.{plain_line};
 ghost use Rattle.deck_lines.specs.Readings.{entry_in};
 ghost use Rattle.deck_lines.specs.Stores.{no_lines};
@@ -78,10 +77,8 @@ impl Draft {
         definition: Option<(Key, What)>,
     ) -> Result<(), LoadFault>
         requires { option_map (seen_entry line.text) definition ≡ entry_in (plain_line line.number line.text) }
-        ensures told { IsLoad self.old (line_without_notice line) result self.new }
-        ensures within { OnOk result (pass_limit self.new.store.lines ≡ false) }
+        ensures put { IsExcerptPut self.old (line_without_notice line) result self.new }
         ensures err { OnErr result (self.new.store ≡ self.old.store) }
-        ensures read { ReadsNone result }
     {
         if !self.store.has_room(line.text.as_bytes().len()) {
             return Err(LoadFault::DeckFull);
@@ -100,10 +97,8 @@ impl Draft {
         line: Line,
         text: &[u8],
     ) -> Result<(), LoadFault>
-        ensures told { IsLoad self.old (line_with_notice file.now line text.now) result self.new }
-        ensures within { OnOk result (pass_limit self.new.store.lines ≡ false) }
+        ensures put { IsExcerptPut self.old (line_with_notice file.now line text.now) result self.new }
         ensures err { OnErr result (self.new.store ≡ self.old.store) }
-        ensures read { ReadsNone result }
     {
         if !self.store.has_room(line.text.as_bytes().len()) {
             return Err(LoadFault::DeckFull);

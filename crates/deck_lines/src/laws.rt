@@ -2,22 +2,37 @@
 
 ghost use Rattle.deck_lines.specs.ClosedBlocks.{ClosedBlocksLaw};
 ghost use Rattle.deck_lines.specs.Examples.{LineExamplesLaw};
-ghost use Rattle.deck_lines.specs.StepLaws.{FailLaw, FirstLaw, KnownLoadLaw};
+ghost use Rattle.deck_lines.specs.LoadLaws.{AskLaw, FailureLaw, KeptLinesLaw, KnownLoadLaw};
+ghost use Rattle.deck_lines.specs.TranscriptExamples.{TranscriptExamplesLaw};
 
 /// The deck of a file is closed: every block has its own end line.
 pub fn decks_are_closed()
     ensures { ClosedBlocksLaw }
 {}
 
-/// The first step of a load that has no room, or whose fetch fails, ends the load, and later steps are not looked at.
-/// If the files are known and no fetch fails, a load yields the deck of its file, unless that deck passes a limit.
-pub fn first_faults_end_loads()
-    ensures first { FirstLaw }
-    ensures failed { FailLaw }
-    ensures told { KnownLoadLaw }
+/// A load ends with the first fetch that fails, which is that of the file that it asks for.
+pub fn failed_fetches_end_loads()
+    ensures failed { FailureLaw }
+    ensures asked { AskLaw }
+{}
+
+/// If the files are known, a load appends the deck of its file, unless the lines pass a limit, a fetch fails or memory
+/// runs out.
+pub fn known_files_determine_loads()
+    ensures { KnownLoadLaw }
+{}
+
+/// A load keeps the lines before it.
+pub fn loads_keep_lines()
+    ensures { KeptLinesLaw }
 {}
 
 /// The examples hold: a few texts have the decks that were worked out by hand.
 pub fn examples_law()
     ensures { LineExamplesLaw }
+{}
+
+/// The examples with transcripts hold: loads have the outcomes that were worked out by hand.
+pub fn transcript_examples_law()
+    ensures { TranscriptExamplesLaw }
 {}

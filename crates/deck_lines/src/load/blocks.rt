@@ -1,10 +1,9 @@
 //! The blocks of a file.
 
-ghost use Rattle.std.specs.Prelude.{◌≡◌, ◌++◌, [], None, false, map, option_map, reverse, OnOk, OnErr};
+ghost use Rattle.std.specs.Prelude.{◌≡◌, ◌++◌, [], None, map, reverse, OnOk, OnErr};
 ghost use Rattle.deck_lines.specs.Blocks.{end_text};
 ghost use Rattle.deck_lines.specs.Excerpts as spec;
-ghost use Rattle.deck_lines.specs.Limits.{pass_limit};
-ghost use Rattle.deck_lines.specs.Loads.{Extends, IsLoad, ReadsNone};
+ghost use Rattle.deck_lines.specs.Loads.{Extends, IsExcerptPut};
 ghost use Rattle.deck_lines.specs.Marks.{plain_line};
 ghost use Rattle.deck_lines.specs.Readings.{entry_in};
 
@@ -25,12 +24,11 @@ pub(crate) fn push_role_line(
     role: Role,
 ) -> Result<(), LoadFault>
     requires { entry_in (plain_line line.number line.text) ≡ None }
-    ensures told { IsLoad draft.old (spec.role_excerpt name.now (reverse blocks.old.items) line role) result draft.new }
+    ensures put { IsExcerptPut draft.old (spec.role_excerpt name.now (reverse blocks.old.items) line role) result
+        draft.new }
     ensures blocks { OnOk result (reverse blocks.new.items
         ≡ spec.blocks_behind_role (reverse blocks.old.items) line.number role) }
-    ensures within { OnOk result (pass_limit draft.new.store.lines ≡ false) }
     ensures err { OnErr result (draft.new.store ≡ draft.old.store) }
-    ensures read { ReadsNone result }
 {
     match role {
         Role::Opens(ending) => {
@@ -67,10 +65,8 @@ pub(crate) fn push_file_end(
     name: &[u8],
     blocks: Vec<Block>,
 ) -> Result<(), LoadFault>
-    ensures told { IsLoad draft.old (spec.file_end name.now (reverse blocks.items)) result draft.new }
-    ensures within { OnOk result (pass_limit draft.new.store.lines ≡ false) }
+    ensures put { IsExcerptPut draft.old (spec.file_end name.now (reverse blocks.items)) result draft.new }
     ensures extends { Extends draft.old.store draft.new.store }
-    ensures read { ReadsNone result }
 {
     push_unclosed_notices(alloc, draft, name, blocks.as_slice())?;
     push_missing_ends(alloc, draft, blocks)
@@ -98,11 +94,9 @@ fn push_missing_ends(
     draft: &mut Draft,
     mut blocks: Vec<Block>,
 ) -> Result<(), LoadFault>
-    ensures told { IsLoad draft.old (record { lines = map spec.missing_end (reverse blocks.items); notices = [] })
+    ensures put { IsExcerptPut draft.old (record { lines = map spec.missing_end (reverse blocks.items); notices = [] })
         result draft.new }
-    ensures within { OnOk result (pass_limit draft.new.store.lines ≡ false) }
     ensures extends { Extends draft.old.store draft.new.store }
-    ensures read { ReadsNone result }
 {
     let _ = draft.store.lines();
     while let Some(block) = blocks.pop() {

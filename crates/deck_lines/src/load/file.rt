@@ -1,18 +1,19 @@
 //! Loads a file line by line, with the files that it includes.
 
-ghost use Rattle.std.specs.Prelude.{◌≡◌, ◌++◌, [], ◌≤◌, None, Some, false, length, reverse, OnOk, OnErr};
-ghost use Rattle.units_io.specs.FileMap.{FileMap, longest_file};
+ghost use Rattle.std.specs.Prelude.{◌≡◌, ◌++◌, [], ◌≤◌, None, length, reverse, OnOk, OnErr};
+ghost use Rattle.units_io.specs.FileMap.{longest_file};
 ghost use Rattle.def_lines.specs.Kinds.{kind_of};
 ghost use Rattle.deck_lines.specs.Blocks.{role_of};
 ghost use Rattle.deck_lines.specs.ClosedBlocks.{AreBlocksClosed};
-ghost use Rattle.deck_lines.specs.Excerpts.{blocks_behind_line, include_excerpt, line_excerpt, line_with_notice};
-ghost use Rattle.deck_lines.specs.Includes.{deck_above, deck_of_file, included_below, included_by, included_name};
-ghost use Rattle.deck_lines.specs.Includes.{most_depth};
-ghost use Rattle.deck_lines.specs.Limits.{pass_limit};
-ghost use Rattle.deck_lines.specs.Loads.{Extends, IsLoad, Leads, ReadsNone, endings};
+ghost use Rattle.deck_lines.specs.Excerpts.{blocks_behind_line, line_with_notice};
+ghost use Rattle.deck_lines.specs.Includes.{included_name};
+ghost use Rattle.deck_lines.specs.LineLoads.{excerpt_in, faults_after_load, load_above, load_below, load_of_file};
+ghost use Rattle.deck_lines.specs.LineLoads.{load_of_line};
+ghost use Rattle.deck_lines.specs.Loads.{Extends, IsExcerptPut, Leads, endings};
 ghost use Rattle.deck_lines.specs.Marks.{plain_line};
 ghost use Rattle.deck_lines.specs.Readings.{entry_in, reading_of};
-ghost use Rattle.deck_lines.specs.Steps.{AreStepsAbove, AreStepsBelow, AreStepsOfLine, EndsBy, faults_after_load};
+ghost use Rattle.deck_lines.specs.Transcripts.{IsLoad};
+ghost use Rattle.deck_lines.specs.declared.draft.LoadFault.TheVariants.{OutOfMemory};
 ghost use Rattle.deck_lines.specs.declared.line.Role.TheVariants.{Inside};
 
 use crate::draft::{Draft, LoadFault};
@@ -34,7 +35,6 @@ const MOST_DEPTH: u8 = 16;
 /// ends it with `ReadFailed`, which `files` counts, and a failed allocation ends it with `OutOfMemory`. After an error
 /// the draft may hold some of the new lines. The load needs memory for the texts of the files that are open at the same
 /// time, and for the lines.
-#[tactic(auto, unfolding(crate::specs::Includes::deck_of_file))]
 pub fn load_text<F: Files>(
     alloc: Global,
     files: &mut F,
@@ -43,9 +43,8 @@ pub fn load_text<F: Files>(
     bytes: &[u8],
 ) -> Result<(), LoadFault>
     requires { length bytes.now ≤ longest_file }
-    ensures told { (m : FileMap) → F.files files.old ≡ Some m
-        → IsLoad draft.old (deck_of_file m name.now bytes.now) result draft.new }
-    ensures ends { EndsBy (AreStepsAbove (F.files files.old) most_depth name.now bytes.now) draft.old result draft.new }
+    ensures loads { IsLoad OutOfMemory (F.files files.old) (load_of_file name.now bytes.now (excerpt_in draft.old))
+        (λ _. excerpt_in draft.new) result }
     ensures extends { Extends draft.old.store draft.new.store }
     ensures closed { OnOk result (AreBlocksClosed draft.old.store.lines → AreBlocksClosed draft.new.store.lines) }
     ensures kept { F.files files.new ≡ F.files files.old }
@@ -66,9 +65,8 @@ fn load_file<F: Files>(
     depth: u8,
 ) -> Result<(), LoadFault>
     requires { length bytes.now ≤ longest_file }
-    ensures told { (m : FileMap) → F.files files.old ≡ Some m
-        → IsLoad draft.old (deck_above m depth name.now bytes.now) result draft.new }
-    ensures ends { EndsBy (AreStepsAbove (F.files files.old) depth name.now bytes.now) draft.old result draft.new }
+    ensures loads { IsLoad OutOfMemory (F.files files.old) (load_above depth name.now bytes.now (excerpt_in draft.old))
+        (λ _. excerpt_in draft.new) result }
     ensures leads { Leads [] [] draft.old.store draft.new.store result }
     ensures kept { F.files files.new ≡ F.files files.old }
     ensures stores { F.store_faults files.new ≡ F.store_faults files.old }
@@ -94,15 +92,10 @@ fn load_line<F: Files>(
     blocks: &mut Vec<Block>,
     line: Line,
 ) -> Result<(), LoadFault>
-    ensures told { (m : FileMap) → F.files files.old ≡ Some m
-        → IsLoad draft.old
-        (line_excerpt (included_by m depth name.now) name.now (reverse blocks.old.items) line (reading_of line.text))
-        result draft.new }
-    ensures ends { EndsBy
-        (AreStepsOfLine
-        (λ word. AreStepsBelow (F.files files.old) depth name.now (included_name name.now word))
-        name.now (reverse blocks.old.items) line (reading_of line.text))
-        draft.old result draft.new }
+    ensures loads { IsLoad OutOfMemory (F.files files.old)
+        (load_of_line (λ word. load_below depth name.now (included_name name.now word)) name.now
+        (reverse blocks.old.items) line (reading_of line.text) (excerpt_in draft.old))
+        (λ _. excerpt_in draft.new) result }
     ensures blocks { OnOk result (reverse blocks.new.items
         ≡ blocks_behind_line (reverse blocks.old.items) line (reading_of line.text)) }
     ensures leads { Leads (endings (reverse blocks.old.items))
@@ -137,9 +130,8 @@ fn load_include<F: Files>(
 ) -> Result<(), LoadFault>
     requires role { role_of (kind_of line.text) ≡ Inside }
     requires entry { entry_in (plain_line line.number line.text) ≡ None }
-    ensures told { (m : FileMap) → F.files files.old ≡ Some m
-        → IsLoad draft.old (include_excerpt name.now line (included_below m depth file)) result draft.new }
-    ensures ends { EndsBy (AreStepsBelow (F.files files.old) depth name.now file line) draft.old result draft.new }
+    ensures loads { IsLoad OutOfMemory (F.files files.old) (load_below depth name.now file line (excerpt_in draft.old))
+        (λ _. excerpt_in draft.new) result }
     ensures leads { Leads [] [] draft.old.store draft.new.store result }
     ensures kept { F.files files.new ≡ F.files files.old }
     ensures stores { F.store_faults files.new ≡ F.store_faults files.old }
@@ -173,12 +165,10 @@ fn put_unread(
     text: &[u8],
     file: &[u8],
 ) -> Result<(), LoadFault>
-    ensures told { IsLoad draft.old (line_with_notice name.now line (text.now ++ file.now)) result draft.new }
-    ensures within { OnOk result (pass_limit draft.new.store.lines ≡ false) }
+    ensures put { IsExcerptPut draft.old (line_with_notice name.now line (text.now ++ file.now)) result draft.new }
     ensures err { OnErr result (draft.new.store ≡ draft.old.store) }
-    ensures read { ReadsNone result }
 {
-    let mut told = Vec::from_slice(alloc, text)?;
-    told.extend_from_slice(file)?;
-    draft.refuse_line(alloc, name, line, told.as_slice())
+    let mut notice = Vec::from_slice(alloc, text)?;
+    notice.extend_from_slice(file)?;
+    draft.refuse_line(alloc, name, line, notice.as_slice())
 }

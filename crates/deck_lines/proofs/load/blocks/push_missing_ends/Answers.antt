@@ -10,7 +10,7 @@ use Rattle.deck_lines.specs.declared.draft.Draft.{Draft}
 use Rattle.deck_lines.specs.declared.line.Block.{Block}
 use Rattle.deck_lines.specs.declared.line.DeckLine.{DeckLine}
 use Rattle.deck_lines.proofs.ClosedFile.{end_defines}
-use Rattle.deck_lines.proofs.DraftAppends.{failed, then_extends, with_excerpt-in_turn, extended}
+use Rattle.deck_lines.proofs.DraftAppends.{fails_with_part, then_extends, with_excerpt-in_turn, extended}
 use Rattle.deck_lines.proofs.load.blocks.push_missing_ends.Goals as goal
 
 -- the missing end line of the innermost block comes first
@@ -34,7 +34,7 @@ loop-block-preserved c =
     record {
       put =
           ap (λ (d : Draft). draft_with_excerpt d (lone (map missing_end (reverse c.pop.new.self.items))))
-          c.in_ok-push_line.ensures.told
+          c.in_ok-push_line.ensures.put.0
           ∙ with_excerpt-in_turn c.loop-block.draft (lone (plain_line c.in-Some.block.number c.in_ok-text.text ∷ []))
           (lone (map missing_end (reverse c.pop.new.self.items)))
           ∙ ap (λ (t : List ℕ). draft_with_excerpt c.loop-block.draft
@@ -42,17 +42,18 @@ loop-block-preserved c =
           ∙ ap (λ ls. draft_with_excerpt c.loop-block.draft (lone ls)) (sym all)
           ∙ c.loop-block.invariant.put;
       extends = then_extends _ _ _ c.loop-block.invariant.extends
-          (extended c.loop-block.draft c.push_line.new.self _ c.in_ok-push_line.ensures.told);
-      within = c.in_ok-push_line.ensures.within;
+          (extended c.loop-block.draft c.push_line.new.self _ c.in_ok-push_line.ensures.put.0);
+      within = c.in_ok-push_line.ensures.put.1;
     }
 
-pub returns-in_err-push_line-clause-told : goal.returns-in_err-push_line-clause-told
-returns-in_err-push_line-clause-told c =
+pub returns-in_err-push_line-clause-put : goal.returns-in_err-push_line-clause-put
+returns-in_err-push_line-clause-put c =
     let p = err_from_is_err_and c.from_residual-in_err-push_line.result c.from_residual-in_err-push_line.ensures.1 in
     let all = ends_of c.loop-block.blocks.items c.pop.new.self.items c.in-Some.block c.in-Some.ensures.items in
     let text : c.in_ok-text.text ≡ end_text c.in-Some.block.ending = c.in_ok-text.ensures ∙ c.end_line_text.ensures in
-    rw (p.1, p.2) (failed c.loop-block.draft.store.lines (plain_line c.in-Some.block.number c.in_ok-text.text ∷ [])
-    (map missing_end (reverse c.pop.new.self.items)) _ _ c.in_err-push_line.ensures.told
+    rw (p.1, p.2) (fails_with_part c.loop-block.draft c.push_line.new.self c.args.draft.now c.push_line.new.self
+    (lone (plain_line c.in-Some.block.number c.in_ok-text.text ∷ []))
+    (lone (map missing_end (reverse c.args.blocks.items))) (map missing_end (reverse c.pop.new.self.items)) _ c.in_err-push_line.ensures.put
     (ap (λ (t : List ℕ). c.loop-block.draft.store.lines ++ plain_line c.in-Some.block.number t
     ∷ map missing_end (reverse c.pop.new.self.items)) text
     ∙ ap (λ ls. c.loop-block.draft.store.lines ++ ls) (sym all)

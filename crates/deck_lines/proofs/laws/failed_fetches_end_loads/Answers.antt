@@ -1,0 +1,9 @@
+use Rattle.deck_lines.proofs.AskedLoads.{ask_law}
+use Rattle.deck_lines.proofs.FailedLoads.{failure_law}
+use Rattle.deck_lines.proofs.laws.failed_fetches_end_loads.Goals as goal
+
+pub returns-clause-failed : goal.returns-clause-failed
+returns-clause-failed c = failure_law
+
+pub returns-clause-asked : goal.returns-clause-asked
+returns-clause-asked c = ask_law

@@ -1,0 +1,67 @@
+-- Transcripts of loads: the fetches that a load makes, in order.
+use Rattle.std.specs.Prelude.{◌≡◌, ◌⊎◌, ◌++◌, ℕ, List, [], ◌∷◌, if◌then◌else◌, bytes_eq, Option, IfSome, Result, Ok, Err}
+use Rattle.std.specs.Prelude.{MatchResult, ⊤}
+use Rattle.units_io.specs.FetchResults.{FileMap, IsFetched, faults_after_fetch}
+use Rattle.units_io.specs.declared.files.FetchFault.{FetchFault}
+use Rattle.deck_lines.specs.Excerpts.{Excerpt}
+
+-- a fetch: the name of the file that is asked for, and the answer
+pub record Fetch : Type 0 where
+  pub name : List ℕ
+  pub answer : Result (List ℕ) FetchFault
+
+-- the outcome of a load or of a part of it: it yields lines and notices, fails, or asks for a file whose fetch does not
+-- come next; each with the fetches that it leaves
+pub data Load (E : Type 0) : Type 0 where
+  Yields : Excerpt → List Fetch → Load E
+  Fails : E → List Fetch → Load E
+  Asks : List ℕ → List Fetch → Load E
+
+-- a load that asks for the file with this name; if the next fetch is of this file, it continues with the answer
+abbrev pub load_after_fetch : {E : Type 0} → List ℕ → (Result (List ℕ) FetchFault → List Fetch → Load E) → List Fetch → Load
+    E
+load_after_fetch name load [] = Asks name []
+load_after_fetch name load (fetch ∷ fetches) =
+    if bytes_eq name fetch.name then load fetch.answer fetches else Asks name (fetch ∷ fetches)
+
+-- two parts of a load, one after the other: the second continues with the lines, notices and fetches that the first
+-- leaves
+abbrev pub loads_in_turn : {E : Type 0} → Load E → (Excerpt → List Fetch → Load E) → Load E
+loads_in_turn (Yields excerpt fetches) second = second excerpt fetches
+loads_in_turn (Fails fault fetches) second = Fails fault fetches
+loads_in_turn (Asks name fetches) second = Asks name fetches
+
+-- a load that has come to this outcome and leaves these fetches
+abbrev pub load_outcome : {E : Type 0} → Result Excerpt E → List Fetch → Load E
+load_outcome (Ok excerpt) fetches = Yields excerpt fetches
+load_outcome (Err fault) fetches = Fails fault fetches
+
+-- the answers of the fetches are those of the files, if they are known; each fetch may fail
+abbrev pub AreAnswersOf : Option FileMap → List Fetch → Type 0
+AreAnswersOf files [] = ⊤
+AreAnswersOf files (fetch ∷ fetches) =
+    IfSome files (λ m. IsFetched m fetch.name fetch.answer) × AreAnswersOf files fetches
+
+-- a load uses up some fetches of the files, and then continues as another load
+abbrev pub ContinuesAs : {E : Type 0} → Option FileMap → (List Fetch → Load E) → (List Fetch → Load E) → Type 0
+ContinuesAs files load later =
+    (transcript : List Fetch) × AreAnswersOf files transcript
+    × ((rest : List Fetch) → load (transcript ++ rest) ≡ later rest)
+
+-- a load may have this outcome: there is a transcript with answers of the files that the load uses up as a whole, and
+-- with which it has the outcome
+abbrev pub HasTranscript : {E : Type 0} → Option FileMap → (List Fetch → Load E) → Result Excerpt E → Type 0
+HasTranscript files load outcome = ContinuesAs files load (load_outcome outcome)
+
+-- the result of a load is an outcome that it may have, or `wanting` if memory runs out; a success leaves the lines and
+-- notices `left`
+abbrev pub IsLoad : {T E : Type 0} → E → Option FileMap → (List Fetch → Load E) → (T → Excerpt) → Result T E → Type 0
+IsLoad wanting files load left result =
+    MatchResult result (λ value. HasTranscript files load (Ok (left value)))
+    (λ fault. (fault ≡ wanting) ⊎ HasTranscript files load (Err fault))
+
+-- the count of failed fetches after some fetches
+abbrev pub faults_after_fetches : ℕ → List Fetch → ℕ
+faults_after_fetches faults [] = faults
+faults_after_fetches faults (fetch ∷ fetches) =
+    faults_after_fetches (faults_after_fetch faults fetch.answer) fetches
