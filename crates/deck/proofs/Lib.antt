@@ -14,6 +14,7 @@ mod OneMoreName
 mod KeyCounts
 mod KeyLists
 mod KindPlacing
+mod KnownLoads
 mod LastLine
 mod LastPlaceSteps
 mod DistinctKeys

@@ -1,5 +1,5 @@
 -- The outcomes of loading a file.
-use Rattle.std.specs.Prelude.{◌≡◌, ◌⊎◌, ℕ, List, [], Bool, true, false, Option, Result, Ok, Err, MatchResult, ⊤}
+use Rattle.std.specs.Prelude.{◌≡◌, ◌⊎◌, ◌++◌, ℕ, List, [], Bool, true, false, Some, Result, Ok, Err, MatchResult, IsErrAnd}
 use Rattle.units_io.specs.Faults.{next_count}
 use Rattle.units_io.specs.FileMap.{FileMap, file_of}
 use Rattle.units_io.specs.FetchResults.{answer_of}
@@ -7,9 +7,9 @@ use Rattle.units_io.specs.declared.files.FetchFault.{FetchFault}
 use Rattle.units_io.specs.declared.files.FetchFault.TheVariants as fetch
 use Rattle.def_entry.specs.declared.key.Key.{Key}
 use Rattle.deck_lines.specs.Excerpts.{Excerpt}
-use Rattle.deck_lines.specs.Includes.{deck_of_file, lone_deck_of, most_depth}
-use Rattle.deck_lines.specs.Limits.{pass_limit}
-use Rattle.deck_lines.specs.Steps.{AreStepsAbove, MayAnswer, Step, steps_outcome}
+use Rattle.deck_lines.specs.Includes.{deck_of_file, lone_deck_of}
+use Rattle.deck_lines.specs.LineLoads.{load_of_file}
+use Rattle.deck_lines.specs.Transcripts.{Asks, Fails, Fetch, HasTranscript, Load, Yields, load_after_fetch}
 use Rattle.deck_lines.specs.declared.line.DeckLine.{DeckLine}
 use Rattle.deck_lines.specs.declared.draft.LoadFault.{LoadFault}
 use Rattle.deck_lines.specs.declared.draft.LoadFault.TheVariants as load
@@ -74,12 +74,11 @@ abbrev pub IsLoaded : Result Contents DeckFault → Result Contents DeckFault �
 IsLoaded outcome result =
     MatchResult result (λ d. outcome ≡ Ok d) (λ fault. MayFail fault ⊎ (outcome ≡ Err fault))
 
--- these are the lines and notices of the deck of this outcome, if the lines are within the limits; or the result is the
--- error of the outcome, or a failed fetch or allocation
+-- these are the lines and notices of the deck of this outcome; or the result is the error of the outcome, or a failed
+-- fetch or allocation
 abbrev pub IsLoadRead : {T : Type 0} → Result Contents DeckFault → Contents → List DeckLine → List (List ℕ)
     → Result T DeckFault → Type 0
-IsLoadRead outcome d lines notices (Ok _) = pass_limit lines ≡ false
-    → outcome ≡ Ok (record d { lines = lines; notices = notices })
+IsLoadRead outcome d lines notices (Ok _) = outcome ≡ Ok (record d { lines = lines; notices = notices })
 IsLoadRead outcome d lines notices (Err fault) = MayFail fault ⊎ (outcome ≡ Err fault)
 
 -- an append yields the deck or the error of this outcome, or a failed fetch or allocation
@@ -95,33 +94,39 @@ excerpt_of d = record { lines = d.lines; notices = d.notices }
 abbrev pub lines_alone : List DeckLine → Excerpt
 lines_alone lines = record { lines = lines; notices = [] }
 
--- the outcome of a load, given the outcome of its steps
-abbrev pub of_load : Result Excerpt LoadFault → Result Excerpt DeckFault
-of_load (Ok excerpt) = Ok excerpt
-of_load (Err fault) = Err (fault_of_load fault)
+-- a load with another name for its fault
+abbrev pub load_with_fault : (LoadFault → DeckFault) → Load LoadFault → Load DeckFault
+load_with_fault of_fault (Yields excerpt fetches) = Yields excerpt fetches
+load_with_fault of_fault (Fails fault fetches) = Fails (of_fault fault) fetches
+load_with_fault of_fault (Asks name fetches) = Asks name fetches
 
--- a load that appends to `before` may have this outcome if the fetch of the file with this name has this answer
-abbrev pub ComesTo : Option FileMap → List ℕ → Excerpt → Result (List ℕ) FetchFault → Result Excerpt DeckFault → Type 0
-ComesTo files name before (Ok bytes) outcome =
-    (steps : List Step) × AreStepsAbove files most_depth name bytes steps
-    × (outcome ≡ of_load (steps_outcome before steps))
-ComesTo files name before (Err fault) outcome = outcome ≡ Err (load_error fault)
+-- the load of the file with this name, given the answer of its fetch
+abbrev pub load_of_first_answer : List ℕ → Result (List ℕ) FetchFault → Excerpt → List Fetch → Load DeckFault
+load_of_first_answer name (Ok bytes) before fetches = load_with_fault fault_of_load (load_of_file name bytes before fetches)
+load_of_first_answer name (Err fault) before fetches = Fails (load_error fault) fetches
 
--- a load may have this outcome for some answers of the fetches: it ends with the first fault in the order of reading
-abbrev pub MayComeTo : Option FileMap → List ℕ → Excerpt → Result Excerpt DeckFault → Type 0
-MayComeTo files name before outcome =
-    (answer : Result (List ℕ) FetchFault) × MayAnswer files name answer × ComesTo files name before answer outcome
+-- the load of the file with this name, which appends to the lines and notices before it; its first fetch is of the file
+abbrev pub load_of_name : List ℕ → Excerpt → List Fetch → Load DeckFault
+load_of_name name before fetches = load_after_fetch name (λ answer. load_of_first_answer name answer before) fetches
 
--- a load may fail with this fault: it runs out of memory, or the fault is a possible outcome
-abbrev pub MayFailBy : Option FileMap → List ℕ → Excerpt → DeckFault → Type 0
-MayFailBy files name before OutOfMemory = ⊤
-MayFailBy files name before fault = MayComeTo files name before (Err fault)
+-- a deck with the lines and notices of an excerpt instead of its own
+abbrev pub deck_of_outcome : Contents → Result Excerpt DeckFault → Result Contents DeckFault
+deck_of_outcome d (Ok excerpt) = Ok (record d { lines = excerpt.lines; notices = excerpt.notices })
+deck_of_outcome d (Err fault) = Err fault
 
--- the result of a load is possible for some answers of the fetches; `left` gives the excerpt that a load without a
--- fault leaves
-abbrev pub IsLoadEnd : {T : Type 0} → Option FileMap → List ℕ → Excerpt → (T → Excerpt) → Result T DeckFault → Type 0
-IsLoadEnd files name before left result =
-    MatchResult result (λ end. MayComeTo files name before (Ok (left end))) (MayFailBy files name before)
+-- law: if the files are known, an append has the outcome that they determine, unless a fetch fails or memory runs out
+abbrev pub KnownAppendLaw : Type 0
+KnownAppendLaw =
+    (files : FileMap) (name : List ℕ) (d : Contents) (outcome : Result Excerpt DeckFault)
+    → HasTranscript (Some files) (load_of_name name (lines_alone d.lines)) outcome
+    → IsErrAnd outcome MayFail ⊎ (after_append files name d ≡ deck_of_outcome d outcome)
+
+-- law: an append keeps the lines before it and appends others
+abbrev pub AppendedLinesLaw : Type 0
+AppendedLinesLaw =
+    (name : List ℕ) (before now : Excerpt) (transcript rest : List Fetch)
+    → load_of_name name before transcript ≡ Yields now rest
+    → (more : List DeckLine) × (now.lines ≡ before.lines ++ more)
 
 -- the count of failed fetches after a load, which ends with the first failed fetch
 abbrev pub fetch_faults_after : {T : Type 0} → ℕ → Result T DeckFault → ℕ

@@ -4,11 +4,13 @@ ghost use Rattle.deck.specs.BlockExamples.{BlockExamplesLaw};
 ghost use Rattle.deck.specs.Changes.{ChangedLaw};
 ghost use Rattle.deck.specs.EnclosingBlocks.{EnclosingLaw};
 ghost use Rattle.deck.specs.Examples.{DeckExamplesLaw};
+ghost use Rattle.deck.specs.FileLoads.{AppendedLinesLaw, KnownAppendLaw};
 ghost use Rattle.deck.specs.KeyLists.{KeyListLaw, TableKeysLaw};
 ghost use Rattle.deck.specs.SettingChanges.{SettingLaw};
 ghost use Rattle.deck.specs.Splices.{SpliceInverseLaw};
 ghost use Rattle.deck.specs.Tables.{DeckTableLaw};
 
+use deck_lines::{known_files_determine_loads, loads_keep_lines};
 use def_entry::same_text_law;
 
 /// The inverse of a splice restores the deck.
@@ -26,6 +28,20 @@ pub fn changes_are_computed()
     ensures { ChangedLaw }
 {
     same_text_law();
+}
+
+/// If the files are known, they determine the outcome of an append, unless a fetch fails or memory runs out.
+pub fn known_files_determine_appends()
+    ensures { KnownAppendLaw }
+{
+    known_files_determine_loads();
+}
+
+/// An append keeps the lines before it.
+pub fn appends_keep_lines()
+    ensures { AppendedLinesLaw }
+{
+    loads_keep_lines();
 }
 
 /// The keys of a table are exactly those that have an entry, in order, each once.

@@ -14,8 +14,9 @@ mod substring_search;
 pub use deck::{BorrowedKey, Deck};
 pub use fault::DeckFault;
 pub use laws::{
-    block_examples_law, changes_are_computed, enclosing_law, examples_law, key_lists_are_one,
-    settings_are_undone, splices_are_undone, table_keys_law, tables_are_of_lines,
+    appends_keep_lines, block_examples_law, changes_are_computed, enclosing_law, examples_law,
+    key_lists_are_one, known_files_determine_appends, settings_are_undone, splices_are_undone,
+    table_keys_law, tables_are_of_lines,
 };
 pub use no_files::NoFiles;
 pub use settings::Settings;

@@ -6,12 +6,14 @@ ghost use Rattle.units_io.specs.FileMap.{FileMap};
 ghost use Rattle.deck_lines.specs.Limits.{pass_limit};
 ghost use Rattle.deck_lines.specs.Loads.{Extends};
 ghost use Rattle.deck_lines.specs.KeyNumbering.{IsNumbering};
-ghost use Rattle.deck_lines.specs.Steps.{excerpt_in};
+ghost use Rattle.deck_lines.specs.LineLoads.{excerpt_in};
+ghost use Rattle.deck_lines.specs.Transcripts.{IsLoad};
 ghost use Rattle.deck.specs.Changes.{IsChange, IsTableChange};
 ghost use Rattle.deck.specs.Decks.{Contents};
 ghost use Rattle.deck.specs.LastPlaces.{IsIndexed};
 ghost use Rattle.deck.specs.FileLoads as loading;
 ghost use Rattle.deck.specs.Tables.{active_definitions, table_of};
+ghost use Rattle.deck.specs.declared.fault.DeckFault.TheVariants.{OutOfMemory};
 
 use super::Deck;
 use super::file_load::load_file;
@@ -36,8 +38,9 @@ impl Deck {
     ) -> Result<Keys, DeckFault>
         ensures told { (m : FileMap) → F.files files.old ≡ Some m
             → loading.IsAppended (loading.after_append m name.now self.old) self.new result }
-        ensures ends { loading.IsLoadEnd (F.files files.old) name.now (loading.lines_alone self.old.lines)
-            (λ _. loading.excerpt_of self.new) result }
+        ensures loads { IsLoad OutOfMemory (F.files files.old)
+            (loading.load_of_name name.now (loading.lines_alone self.old.lines)) (λ _. loading.excerpt_of self.new)
+            result }
         ensures changed { IfOk result (λ keys. IsChange self.old self.new keys) }
         ensures settings { self.new.settings ≡ self.old.settings }
         ensures err { OnErr result (self.new ≡ self.old) }
@@ -89,7 +92,8 @@ fn append_file<F: Files>(
         MatchResult result
         (λ end. loading.after_append m name.now d ≡ Ok (record d { lines = store.new.lines; notices = end.notices }))
         (λ fault. loading.MayFail fault ⊎ (loading.after_append m name.now d ≡ Err fault)) }
-    ensures ends { loading.IsLoadEnd (F.files files.old) name.now (loading.lines_alone store.old.lines)
+    ensures loads { IsLoad OutOfMemory (F.files files.old)
+        (loading.load_of_name name.now (loading.lines_alone store.old.lines))
         (λ end. record { lines = store.new.lines; notices = end.notices }) result }
     ensures indexed { IfOk result (λ end. IsIndexed store.new settings.now end.changes.last) }
     ensures changed { IfOk result (λ end. IsTableChange
@@ -142,8 +146,8 @@ fn load_changes<F: Files>(
     requires numbering { IsNumbering draft.old.store }
     ensures told { (m : FileMap) (d : Contents) → F.files files.old ≡ Some m → d.lines ≡ draft.old.store.lines →
         loading.IsLoadRead (loading.after_append m name.now d) d draft.new.store.lines draft.new.notices result }
-    ensures ends { loading.IsLoadEnd (F.files files.old) name.now (loading.lines_alone draft.old.store.lines)
-        (λ _. excerpt_in draft.new) result }
+    ensures loads { IsLoad OutOfMemory (F.files files.old)
+        (loading.load_of_name name.now (loading.lines_alone draft.old.store.lines)) (λ _. excerpt_in draft.new) result }
     ensures within { OnOk result (pass_limit draft.new.store.lines ≡ false) }
     ensures extends { Extends draft.old.store draft.new.store }
     ensures indexed { IfOk result (λ now. IsIndexed draft.new.store settings.now now.last) }

@@ -4,15 +4,17 @@ ghost use Rattle.std.specs.Prelude.{◌≡◌, ◌≤◌, [], Some, true, length
 ghost use Rattle.units_io.specs.FileMap.{FileMap, longest_file};
 ghost use Rattle.deck_lines.specs.ClosedBlocks.{AreBlocksClosed};
 ghost use Rattle.deck_lines.specs.Loads.{Extends};
-ghost use Rattle.deck_lines.specs.Steps.{excerpt_in};
+ghost use Rattle.deck_lines.specs.LineLoads.{excerpt_in};
+ghost use Rattle.deck_lines.specs.Transcripts.{IsLoad};
 ghost use Rattle.deck.specs.Decks.{Contents};
 ghost use Rattle.deck.specs.FileLoads as loading;
+ghost use Rattle.deck.specs.declared.fault.DeckFault.TheVariants.{OutOfMemory};
 
 use super::Deck;
 use crate::fault::DeckFault;
 use crate::no_files::NoFiles;
 use crate::settings::Settings;
-use deck_lines::{Draft, load_text};
+use deck_lines::{Draft, known_files_determine_loads, load_text};
 use std::alloc::Global;
 use units_io::Files;
 
@@ -29,6 +31,7 @@ impl Deck {
         requires { length text.now ≤ longest_file }
         ensures { loading.IsLoadResult (loading.after_text text.now name.now settings) result }
     {
+        known_files_determine_loads();
         let mut draft = Draft::new(alloc, settings.vars.table_seed());
         load_text(alloc, &mut NoFiles::new(), &mut draft, name, text)?;
         Ok(Deck::from_parts(alloc, draft.store, settings, draft.notices)?)
@@ -47,7 +50,8 @@ impl Deck {
     ) -> Result<Deck, DeckFault>
         ensures told { (m : FileMap) → F.files files.old ≡ Some m
             → loading.IsLoaded (loading.after_load m name.now settings) result }
-        ensures ends { loading.IsLoadEnd (F.files files.old) name.now (loading.lines_alone []) loading.excerpt_of result }
+        ensures loads { IsLoad OutOfMemory (F.files files.old)
+            (loading.load_of_name name.now (loading.lines_alone [])) loading.excerpt_of result }
         ensures settings { IfOk result (λ d. d.settings ≡ settings) }
         ensures answers { IfErr result (λ fault. loading.is_load_fault fault ≡ true) }
         ensures kept { F.files files.new ≡ F.files files.old }
@@ -70,7 +74,7 @@ pub(crate) fn load_file<F: Files>(
     requires { draft.old.notices ≡ [] }
     ensures told { (m : FileMap) (d : Contents) → F.files files.old ≡ Some m → d.lines ≡ draft.old.store.lines
         → loading.IsLoadRead (loading.after_append m name.now d) d draft.new.store.lines draft.new.notices result }
-    ensures ends { loading.IsLoadEnd (F.files files.old) name.now (excerpt_in draft.old)
+    ensures loads { IsLoad OutOfMemory (F.files files.old) (loading.load_of_name name.now (excerpt_in draft.old))
         (λ _. excerpt_in draft.new) result }
     ensures extends { Extends draft.old.store draft.new.store }
     ensures closed { OnOk result (AreBlocksClosed draft.old.store.lines → AreBlocksClosed draft.new.store.lines) }
@@ -79,6 +83,7 @@ pub(crate) fn load_file<F: Files>(
     ensures stores { F.store_faults files.new ≡ F.store_faults files.old }
     ensures counted { F.faults files.new ≡ loading.fetch_faults_after (F.faults files.old) result }
 {
+    known_files_determine_loads();
     let text = files.fetch(alloc, name)?;
     load_text(alloc, files, draft, name, text.as_bytes())?;
     Ok(())

@@ -6,5 +6,4 @@ pub returns-clause-told : goal.returns-clause-told
 returns-clause-told g c = λ m told.
     c.in_ok-load_file.ensures.told m (empty_deck c.args.settings) told
     (sym (ap (λ d. d.store.lines) c.new-draft.ensures))
-    c.in_ok-from_parts.ensures.within
     ∙ ap Ok (sym c.in_ok-from_parts.ensures.is)
