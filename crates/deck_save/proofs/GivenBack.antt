@@ -1,6 +1,7 @@
 -- A deck that is loaded from the saved text of another has its definitions.
-use Rattle.std.proofs.Common.{◌≡◌, ◌≤◌, [], ℕ, List, false, cond, length, reverse, refl, sym, ap, subst, ◌∙◌}
-use Rattle.std.proofs.Common.{arith, Option, Some, Result, Ok, Err}
+use Rattle.std.proofs.Common.{◌≡◌, ◌≤◌, ◌∷◌, [], ℕ, List, false, cond, length, reverse, refl, sym, ap, ◌∙◌}
+use Rattle.std.proofs.Common.{arith, Some, Result, Ok, Err}
+use Rattle.std.proofs.lemmas.Slice.Eq.{bytes_eq-Decides}
 use Rattle.std.specs.Prelude.{nat_lt}
 use Rattle.std.proofs.lemmas.Bool.{le-leb, ltb-false, or_parts}
 use Rattle.std.proofs.lemmas.List.{length-map}
@@ -15,12 +16,14 @@ use Rattle.def_entry.specs.EntryGrammar.{EntryLaw}
 use Rattle.deck_lines.specs.Excerpts.{Excerpt}
 use Rattle.deck_lines.specs.Includes.{deck_of_file, included_name, lone_deck_of, most_depth}
 use Rattle.def_lines.specs.declared.line.Line.{Line}
-use Rattle.deck_lines.specs.Steps.{AreStepsBelow, AreStepsBy, AreStepsOfRest, Step, steps_outcome}
+use Rattle.deck_lines.specs.LineLoads.{LoadPart, load_below, load_of_bytes, load_of_file, load_of_rest}
+use Rattle.deck_lines.specs.Transcripts.{Asks, Fetch, Yields}
 use Rattle.deck_lines.specs.Limits.{most_bytes, most_lines, pass_limit, text_len}
 use Rattle.deck.specs.Active.{active_lines}
 use Rattle.deck.specs.Decks.{Contents}
 use Rattle.deck.specs.Edits.{deck_within_limit, with_excerpt}
-use Rattle.deck.specs.FileLoads.{ComesTo, after_load, after_text, empty_deck, lines_alone, of_load, with_answer}
+use Rattle.deck.specs.FileLoads.{after_load, after_text, empty_deck, fault_of_load, lines_alone, load_of_name}
+use Rattle.deck.specs.FileLoads.{load_with_fault, with_answer}
 use Rattle.deck.specs.Messages.{defining_texts}
 use Rattle.deck.specs.declared.fault.DeckFault.{DeckFault}
 use Rattle.deck.specs.declared.fault.DeckFault.TheVariants.{DeckFull}
@@ -30,7 +33,7 @@ use Rattle.deck_save.specs.SavedText.{saved_text, saved_texts}
 use Rattle.deck_save.specs.SavedLines.{saved_lines}
 use Rattle.deck_save.proofs.InForce.{entries, kept_count, kept_give, loaded_entries, loaded_texts, table_entries}
 use Rattle.deck_save.proofs.LoadedLines.{plain_excerpt, plain_lines, plain_within, saved_texts_are_loaded}
-use Rattle.deck_save.proofs.LoadSteps.{steps_load}
+use Rattle.deck_save.proofs.PlainLoads.{plain_lines_load}
 use Rattle.deck_save.proofs.ReadLines.{saved_lines_are_read_back}
 use Rattle.deck_save.proofs.SavedTexts.{AreGiving, are_plain}
 
@@ -110,26 +113,34 @@ module _ (law : EntryLaw) (d : Contents) where
     from_text name settings = is_back settings (after_text (saved_text d) name settings)
         (put settings (lone_deck_of name (saved_text d)) (deck_is no_files name))
 
-    -- the steps of a load, whatever the contents of the files are
-    stepped : (includes : List ℕ → Line → List Step → Type 0) (name : List ℕ) (steps : List Step)
-        → AreStepsBy includes name (saved_text d) steps
-        → steps_outcome (lines_alone []) steps ≡ Ok (plain_excerpt 1 (saved_texts d))
-    stepped includes name steps are =
-        steps_load includes name 1 (saved_texts d) (defined d) steps (lines_alone []) give
-        (subst (λ ls. AreStepsOfRest includes name [] ls steps)
+    -- the load of the saved text, whatever the contents of the files are
+    text_loads : (includes : List ℕ → Line → LoadPart) (name : List ℕ) (fetches : List Fetch)
+        → load_of_bytes includes name (saved_text d) (lines_alone []) fetches
+        ≡ Yields (plain_excerpt 1 (saved_texts d)) fetches
+    text_loads includes name fetches =
+        ap (λ ls. load_of_rest includes name [] ls (lines_alone []) fetches)
         (ap (λ t. nonblank_lines (logical_lines t)) (saved_is d) ∙ saved_lines_are_read_back (saved_texts d)
-        (are_plain (saved_texts d) (defined d) give)) are)
-        room
+        (are_plain (saved_texts d) (defined d) give))
+        ∙ plain_lines_load includes name 1 (saved_texts d) (defined d) (lines_alone []) fetches give room
 
-    pub from_answer : (files : Option FileMap) (name : List ℕ) (outcome : Result Excerpt DeckFault)
-        → ComesTo files name (lines_alone []) (Ok (saved_text d)) outcome
-        → (read : Excerpt) × (outcome ≡ Ok read)
+    -- a load whose first fetch returns the saved text continues with this text
+    named : (name : List ℕ) (rest : List Fetch)
+        → load_of_name name (lines_alone []) (record { name = name; answer = Ok (saved_text d) } ∷ rest)
+        ≡ load_with_fault fault_of_load (load_of_file name (saved_text d) (lines_alone []) rest)
+    named name rest =
+        ap (λ same. cond same (load_with_fault fault_of_load (load_of_file name (saved_text d) (lines_alone []) rest))
+        (Asks name (record { name = name; answer = Ok (saved_text d) } ∷ rest))) ((bytes_eq-Decides name name).1 refl)
+
+    pub from_answer : (name : List ℕ) (rest : List Fetch)
+        → (read : Excerpt)
+        × (load_of_name name (lines_alone []) (record { name = name; answer = Ok (saved_text d) } ∷ rest)
+        ≡ Yields read rest)
         × ((settings : Settings)
         → GivesBack d (record { lines = read.lines; settings = settings; notices = read.notices }))
-    from_answer files name outcome comes = (
+    from_answer name rest = (
       plain_excerpt 1 (saved_texts d),
-      comes.2
-          ∙ ap of_load (stepped (λ word. AreStepsBelow files most_depth name (included_name name word)) name comes.0
-          comes.1),
+      named name rest
+          ∙ ap (load_with_fault fault_of_load)
+          (text_loads (λ word. load_below most_depth name (included_name name word)) name rest),
       back,
     )

@@ -4,7 +4,7 @@ mod Expressions
 mod Forms
 mod GivenBack
 mod InForce
-mod LoadSteps
+mod PlainLoads
 mod LoadedLines
 mod Names
 mod Numbers

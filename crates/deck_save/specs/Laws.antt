@@ -1,5 +1,5 @@
 -- Laws of reading saved texts.
-use Rattle.std.specs.Prelude.{◌≡◌, ◌≤◌, ℕ, List, [], length, true, false, Option, Some, Result, Ok}
+use Rattle.std.specs.Prelude.{◌≡◌, ◌≤◌, ℕ, List, [], ◌∷◌, length, true, false, Some, Result, Ok}
 use Rattle.std.specs.List.{list_all}
 use Rattle.units_io.specs.FileMap.{FileMap, file_of, longest_file}
 use Rattle.def_lines.specs.Kinds.{kind_of}
@@ -8,8 +8,9 @@ use Rattle.def_entry.specs.Entries.{Entry}
 use Rattle.def_entry.specs.EntryReading.{entry_of, has_entry}
 use Rattle.deck_lines.specs.Excerpts.{Excerpt}
 use Rattle.deck_lines.specs.Limits.{pass_limit}
+use Rattle.deck_lines.specs.Transcripts.{Fetch, Yields}
 use Rattle.deck.specs.Decks.{Contents}
-use Rattle.deck.specs.FileLoads.{ComesTo, after_load, after_text, lines_alone}
+use Rattle.deck.specs.FileLoads.{after_load, after_text, lines_alone, load_of_name}
 use Rattle.deck.specs.Messages.{defining_texts}
 use Rattle.deck.specs.Tables.{table}
 use Rattle.deck.specs.declared.fault.DeckFault.{DeckFault}
@@ -46,11 +47,12 @@ abbrev pub TextLaw : Type 0
 TextLaw = (d : Contents) (name : List ℕ) (settings : Settings) → CanBeSaved d
     → IsGivenBack d settings (after_text (saved_text d) name settings)
 
--- law: loading a file gives the deck back if its fetch returns the saved text, even if the files are not known
+-- law: loading a file gives the deck back if its fetch returns the saved text, even if the files are not known; no other
+-- file is fetched
 abbrev pub AnswerLaw : Type 0
-AnswerLaw = (d : Contents) (files : Option FileMap) (name : List ℕ) (outcome : Result Excerpt DeckFault) → CanBeSaved d
-    → ComesTo files name (lines_alone []) (Ok (saved_text d)) outcome
-    → (read : Excerpt) × (outcome ≡ Ok read)
+AnswerLaw = (d : Contents) (name : List ℕ) (rest : List Fetch) → CanBeSaved d
+    → (read : Excerpt)
+    × (load_of_name name (lines_alone []) (record { name = name; answer = Ok (saved_text d) } ∷ rest) ≡ Yields read rest)
     × ((settings : Settings) → GivesBack d (record { lines = read.lines; settings = settings; notices = read.notices }))
 
 -- law: a deck that was given back has the same saved text again

@@ -1,21 +1,18 @@
 -- Edits that the history records.
 use Rattle.std.proofs.Common.{◌≡◌, ◌++◌, ◌∷◌, ◌+◌, ◌-◌, ◌≤◌, [], ℕ, List, Bool, true, false, cond, length, refl, sym}
 use Rattle.std.proofs.Common.{ap, subst, ◌∙◌, arith, append_assoc, Option, Some, Result, Ok, Err}
-use Rattle.std.proofs.lemmas.List.{append-nil}
 use Rattle.std.specs.Prelude.{reverse}
 use Rattle.units_io.specs.FileMap.{FileMap}
 use Rattle.def_entry.specs.declared.key.Key.{Key}
 use Rattle.deck_lines.specs.ClosedBlocks.{AreBlocksClosed}
-use Rattle.deck_lines.specs.Excerpts.{Excerpt, in_turn}
+use Rattle.deck_lines.specs.Excerpts.{Excerpt}
 use Rattle.deck_lines.specs.Limits.{pass_limit}
 use Rattle.deck_lines.specs.Origins.{exchanged_lines}
-use Rattle.deck_lines.specs.Steps.{Step as Read, Gives, Fails, steps_outcome}
-use Rattle.deck_lines.specs.declared.draft.LoadFault.{LoadFault}
-use Rattle.deck_lines.specs.declared.draft.LoadFault.TheVariants.{DeckFull, ReadFailed}
+use Rattle.deck_lines.specs.Transcripts.{HasTranscript}
 use Rattle.deck_lines.specs.declared.line.DeckLine.{DeckLine}
 use Rattle.deck.specs.Decks.{Contents}
 use Rattle.deck.specs.Edits.{after_drop, without_line, without_some}
-use Rattle.deck.specs.FileLoads.{MayComeTo, lines_alone, of_load}
+use Rattle.deck.specs.FileLoads.{AppendedLinesLaw, lines_alone, load_of_name}
 use Rattle.deck.specs.Splices.{SpliceInverseLaw, after_splice, lines_from}
 use Rattle.deck.specs.Tables.{last_place}
 use Rattle.deck.specs.declared.fault.DeckFault.{DeckFault}
@@ -99,47 +96,8 @@ appended at cut put more before after lines settings here all none closed within
     gone : exchanged_lines at cut [] after.lines ≡ before.lines
     gone = cut_last at cut before.lines more after.lines lines here all
 
--- a load appends lines to the present ones
-pub lines_behind : (before after : Excerpt) (reads : List Read) → steps_outcome before reads ≡ Ok after
-    → (more : List DeckLine) × (after.lines ≡ before.lines ++ more)
-unfolding steps_outcome
-lines_behind before after [] h =
-    ([], ap (λ (e : Excerpt). e.lines) (sym (same_Ok before after h)) ∙ sym (append-nil before.lines))
-  where
-    same_Ok : (a b : Excerpt) → ◌≡◌ {A = Result Excerpt LoadFault} (Ok a) (Ok b) → a ≡ b
-    same_Ok a b e = cc
-lines_behind before after (Gives excerpt ∷ reads) h =
-    by (pass_limit (before.lines ++ excerpt.lines)) (lines_behind (in_turn before excerpt) after reads) h
-  where
-    by : (b : Bool) → (steps_outcome (in_turn before excerpt) reads ≡ Ok after
-        → (more : List DeckLine) × (after.lines ≡ (in_turn before excerpt).lines ++ more))
-        → cond b (Err DeckFull) (steps_outcome (in_turn before excerpt) reads) ≡ Ok after
-        → (more : List DeckLine) × (after.lines ≡ before.lines ++ more)
-    by true ih g = cc
-    by false ih g =
-        let p = ih g in
-        (excerpt.lines ++ p.0, p.1 ∙ append_assoc before.lines excerpt.lines p.0)
-lines_behind before after (Fails line ∷ reads) h = by (pass_limit (before.lines ++ line ∷ [])) h
-  where
-    by : (b : Bool) → cond b (Err DeckFull) (Err ReadFailed) ≡ Ok after
-        → (more : List DeckLine) × (after.lines ≡ before.lines ++ more)
-    by true g = cc
-    by false g = cc
-
-pub appended_behind : (files : Option FileMap) (name : List ℕ) (lines : List DeckLine) (given : Excerpt)
-    → MayComeTo files name (lines_alone lines) (Ok given)
+-- an append of a file appends lines to the present ones
+pub appended_behind : AppendedLinesLaw → (files : Option FileMap) (name : List ℕ) (lines : List DeckLine)
+    (given : Excerpt) → HasTranscript files (load_of_name name (lines_alone lines)) (Ok given)
     → (more : List DeckLine) × (given.lines ≡ lines ++ more)
-appended_behind files name lines given (Err fault, may, comes) = cc
-appended_behind files name lines given (Ok bytes, may, (reads, are, comes)) =
-    by (steps_outcome (lines_alone lines) reads)
-    refl comes
-  where
-    by : (o : Result Excerpt LoadFault) → steps_outcome (lines_alone lines) reads ≡ o → Ok given ≡ of_load o
-        → (more : List DeckLine) × (given.lines ≡ lines ++ more)
-    by (Err fault) e g = cc
-    by (Ok x) e g =
-        let p = lines_behind (lines_alone lines) x reads e in
-        (p.0, ap (λ (r : Excerpt). r.lines) (same_Excerpt given x g) ∙ p.1)
-      where
-        same_Excerpt : (a b : Excerpt) → ◌≡◌ {A = Result Excerpt DeckFault} (Ok a) (Ok b) → a ≡ b
-        same_Excerpt a b h = cc
+appended_behind law files name lines given h = law name (lines_alone lines) given (h.0 ++ []) [] (h.2 [])

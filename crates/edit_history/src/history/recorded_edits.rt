@@ -1,10 +1,12 @@
 //! Edits that the history records.
 
-ghost use Rattle.std.specs.Prelude.{◌≡◌, true, Ok, Some, IfErr, MatchResult, OnErr, OnOk};
+ghost use Rattle.std.specs.Prelude.{◌≡◌, true, Some, IfErr, OnErr, OnOk};
 ghost use Rattle.units_io.specs.FileMap.{FileMap};
 ghost use Rattle.def_lines.specs.Blanks.{trim_of};
+ghost use Rattle.deck_lines.specs.Transcripts.{IsLoad};
 ghost use Rattle.deck.specs.Edits as deck_edit;
 ghost use Rattle.deck.specs.FileLoads as loading;
+ghost use Rattle.deck.specs.declared.fault.DeckFault.TheVariants.{OutOfMemory};
 ghost use Rattle.live_table.specs.Calls.{IsAcceptedEdit};
 ghost use Rattle.live_table.specs.Edits as edit;
 ghost use Rattle.edit_history.specs.Calls as calls;
@@ -18,7 +20,7 @@ use crate::settings_change::SettingsChange;
 use crate::stack;
 use crate::step::Step;
 use crate::step_application::switch_settings;
-use deck::{DeckFault, Settings, splices_are_undone};
+use deck::{DeckFault, Settings, appends_keep_lines, splices_are_undone};
 use deck_lines::DeckLines;
 use def_entry::Key;
 use live_table::LiveTable;
@@ -120,13 +122,13 @@ impl History {
         ensures answers { IfErr result (λ fault. loading.is_load_fault fault ≡ true) }
         ensures kept { F.files files.new ≡ F.files files.old }
         ensures stores { F.store_faults files.new ≡ F.store_faults files.old }
-        ensures ends { MatchResult result
-            (λ _. loading.MayComeTo (F.files files.old) name.now (loading.lines_alone table.old.deck.lines)
-            (Ok (loading.excerpt_of table.new.deck)))
-            (loading.MayFailBy (F.files files.old) name.now (loading.lines_alone table.old.deck.lines)) }
+        ensures loads { IsLoad OutOfMemory (F.files files.old)
+            (loading.load_of_name name.now (loading.lines_alone table.old.deck.lines))
+            (λ _. loading.excerpt_of table.new.deck) result }
         ensures counted { F.faults files.new ≡ loading.fetch_faults_after (F.faults files.old) result }
         ensures noted { calls.IsNoted self.old self.new table.old.deck table.new.deck result }
     {
+        appends_keep_lines();
         stack::make_room(&mut self.done)?;
         let mut step = BoxedExchange::new(alloc, LineExchange::none(alloc))?;
         let at = table.deck().lines().len();

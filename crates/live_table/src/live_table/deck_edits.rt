@@ -1,12 +1,14 @@
 //! Edits of the deck, which forget the outcomes that they affect.
 
-ghost use Rattle.std.specs.Prelude.{◌≡◌, Some, Ok, true, IfErr, MatchResult, OnOk, OnErr};
+ghost use Rattle.std.specs.Prelude.{◌≡◌, Some, Ok, true, IfErr, OnOk, OnErr};
 ghost use Rattle.units_io.specs.FileMap.{FileMap};
 ghost use Rattle.def_lines.specs.Blanks.{trim_of};
+ghost use Rattle.deck_lines.specs.Transcripts.{IsLoad};
 ghost use Rattle.deck.specs.Edits as deck_edit;
 ghost use Rattle.deck.specs.FileLoads as loading;
 ghost use Rattle.deck.specs.Splices.{CanSplice};
 ghost use Rattle.deck.specs.LineRemoval.{CanUndefine};
+ghost use Rattle.deck.specs.declared.fault.DeckFault.TheVariants.{OutOfMemory};
 ghost use Rattle.live_table.specs.Calls.{IsAcceptedEdit};
 ghost use Rattle.live_table.specs.Edits as edit;
 
@@ -123,10 +125,9 @@ impl LiveTable {
         ensures answers { IfErr result (λ fault. loading.is_load_fault fault ≡ true) }
         ensures kept { F.files files.new ≡ F.files files.old }
         ensures stores { F.store_faults files.new ≡ F.store_faults files.old }
-        ensures ends { MatchResult result
-            (λ _. loading.MayComeTo (F.files files.old) name.now (loading.lines_alone self.old.deck.lines)
-            (Ok (loading.excerpt_of self.new.deck)))
-            (loading.MayFailBy (F.files files.old) name.now (loading.lines_alone self.old.deck.lines)) }
+        ensures loads { IsLoad OutOfMemory (F.files files.old)
+            (loading.load_of_name name.now (loading.lines_alone self.old.deck.lines))
+            (λ _. loading.excerpt_of self.new.deck) result }
         ensures counted { F.faults files.new ≡ loading.fetch_faults_after (F.faults files.old) result }
     {
         link_waiting(alloc, &self.deck, &self.nodes, &mut self.edges)?;

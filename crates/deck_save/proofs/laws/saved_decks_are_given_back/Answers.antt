@@ -7,5 +7,5 @@ returns c =
     record {
       file = λ d files name settings can is. from_file law d can files name settings is;
       text = λ d name settings can. from_text law d can name settings;
-      answer = λ d files name outcome can comes. from_answer law d can files name outcome comes;
+      answer = λ d name rest can. from_answer law d can name rest;
     }

@@ -14,8 +14,8 @@ pub overflow_sub-cut : goal.overflow_sub-cut
 overflow_sub-cut g c =
     let old = c.args.table.now.deck in
     let new = c.append.new.self.deck in
-    let more = appended_behind _ c.args.name.now old.lines (record { lines = new.lines; notices = new.notices })
-    c.in_ok-append.ensures.ends in
+    let more = appended_behind c.appends_keep_lines.ensures (g.F.Files.files c.args.files.now) c.args.name.now old.lines
+    (record { lines = new.lines; notices = new.notices }) c.in_ok-append.ensures.loads in
     let before : c.len-at.result ≡ length old.lines = c.len-at.ensures ∙ ap length c.lines.ensures.is
     ∙ ap (λ (d : Contents). length (map line_without_mark d.lines)) c.deck.ensures.deck
     ∙ length-map old.lines line_without_mark in
@@ -28,8 +28,8 @@ pub returns-clause-follows : goal.returns-clause-follows
 returns-clause-follows g c =
     let old = c.args.table.now.deck in
     let new = c.append.new.self.deck in
-    let more = appended_behind _ c.args.name.now old.lines (record { lines = new.lines; notices = new.notices })
-    c.in_ok-append.ensures.ends in
+    let more = appended_behind c.appends_keep_lines.ensures (g.F.Files.files c.args.files.now) c.args.name.now old.lines
+    (record { lines = new.lines; notices = new.notices }) c.in_ok-append.ensures.loads in
     let before : c.len-at.result ≡ length old.lines = c.len-at.ensures ∙ ap length c.lines.ensures.is
     ∙ ap (λ (d : Contents). length (map line_without_mark d.lines)) c.deck.ensures.deck
     ∙ length-map old.lines line_without_mark in
@@ -54,8 +54,8 @@ pub returns-clause-noted : goal.returns-clause-noted
 returns-clause-noted g c =
     let old = c.args.table.now.deck in
     let new = c.append.new.self.deck in
-    let more = appended_behind _ c.args.name.now old.lines (record { lines = new.lines; notices = new.notices })
-    c.in_ok-append.ensures.ends in
+    let more = appended_behind c.appends_keep_lines.ensures (g.F.Files.files c.args.files.now) c.args.name.now old.lines
+    (record { lines = new.lines; notices = new.notices }) c.in_ok-append.ensures.loads in
     let before : c.len-at.result ≡ length old.lines = c.len-at.ensures ∙ ap length c.lines.ensures.is
     ∙ ap (λ (d : Contents). length (map line_without_mark d.lines)) c.deck.ensures.deck
     ∙ length-map old.lines line_without_mark in

@@ -1,5 +1,6 @@
 use Rattle.std.proofs.Common.{subst}
 use Rattle.std.specs.Prelude.{Ok}
+use Rattle.deck_lines.specs.Transcripts.{HasTranscript}
 use Rattle.deck.specs.FileLoads as loading
 use Rattle.live_table.specs.TableView.{Shown}
 use Rattle.live_table.specs.TableContents.{node_lists, shown_table}
@@ -37,8 +38,8 @@ returns-clause-ok g c =
     c.self.inside.reductions c.self.invariant.0 c.link_waiting.ensures.edges)
     c.in_ok-keys.ensures.changed)
 
-pub returns-clause-ends : goal.returns-clause-ends
-returns-clause-ends g c =
-    subst (λ (s : Shown). loading.MayComeTo (g.F.Files.files c.args.files.now) c.args.name.now
-    (loading.lines_alone s.deck.lines) (Ok (loading.excerpt_of c.append.new.self))) c.self.view_is
-    c.in_ok-keys.ensures.ends
+pub returns-clause-loads : goal.returns-clause-loads
+returns-clause-loads g c =
+    subst (λ (s : Shown). HasTranscript (g.F.Files.files c.args.files.now)
+    (loading.load_of_name c.args.name.now (loading.lines_alone s.deck.lines))
+    (Ok (loading.excerpt_of c.append.new.self))) c.self.view_is c.in_ok-keys.ensures.loads
