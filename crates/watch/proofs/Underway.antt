@@ -10,12 +10,12 @@ use Rattle.watch.specs.declared.watch.Watch.{Watch}
 use Rattle.watch.proofs.RenewedFirst.{renewed_at, renewed_first, renewed_next, renewed_same}
 use Rattle.watch.proofs.ReportSteps.{told_next}
 
--- the first watches are renewed, and the report on them was appended to some bytes
-pub record IsUnderway (table : Table) (options : Options) (watches now : List Watch) (i : ℕ) (start bytes : List ℕ)
-    : Type 0 where
-  pub renewed : now ≡ renewed_first (with_current_reply table options) i watches
-  pub told : start ++ report_from 1 (map (change_of table options) watches)
-      ≡ bytes ++ report_from (i + 1) (map (change_of table options) (drop i watches))
+-- the first watches are renewed, and these bytes are the report on them
+pub record IsUnderway (table : Table) (options : Options) (watches now : List Watch) (i : ℕ) (bytes : List ℕ) : Type 0
+  where
+    pub renewed : now ≡ renewed_first (with_current_reply table options) i watches
+    pub report : report_from 1 (map (change_of table options) watches)
+        ≡ bytes ++ report_from (i + 1) (map (change_of table options) (drop i watches))
 
 module _ (table : Table) (options : Options) (watches : List Watch) where
   -- a watch with its reply in this table, and the change of its reply
@@ -25,7 +25,7 @@ module _ (table : Table) (options : Options) (watches : List Watch) where
   abbrev change : Watch → Change
   change w = change_of table options w
 
-  module _ (i : ℕ) (now : List Watch) (start bytes : List ℕ) (u : IsUnderway table options watches now i start bytes)
+  module _ (i : ℕ) (now : List Watch) (bytes : List ℕ) (u : IsUnderway table options watches now i bytes)
       (d w : Watch) (within : i < length watches) (at : w ≡ get_or now i d) where
     -- the next watch is as it was
     pub underway-was : w ≡ get_or watches i d
@@ -41,15 +41,19 @@ module _ (table : Table) (options : Options) (watches : List Watch) where
     underway-same later e =
         (λ j. set (u.renewed j) i ((e ∙ underway-was) j)) ∙ renewed_same anew i watches d within
 
+    -- the next watch is renewed
+    pub underway-renewed : (later : Watch) → later ≡ anew w → set now i later ≡ renewed_first anew (i + 1) watches
+    underway-renewed later e =
+        (λ j. set (u.renewed j) i ((e ∙ ap anew underway-was) j)) ∙ renewed_next anew i watches d within
+
     -- the next watch is renewed, and the report on it is appended
     pub underway-next : (later : Watch) (further : List ℕ) → later ≡ anew w
         → further ≡ bytes ++ change_report (i + 1) (change w)
-        → IsUnderway table options watches (set now i later) (i + 1) start further
+        → IsUnderway table options watches (set now i later) (i + 1) further
     underway-next later further e put = record {
-      renewed =
-          (λ j. set (u.renewed j) i ((e ∙ ap anew underway-was) j)) ∙ renewed_next anew i watches d within;
-      told =
-          u.told
+      renewed = underway-renewed later e;
+      report =
+          u.report
           ∙ (ap (λ ws. bytes ++ report_from (i + 1) (map change ws)) next
           ∙ (ap (λ bs. bytes ++ bs) (told_next (i + 1) (change w) rest)
           ∙ (sym (append_assoc bytes (change_report (i + 1) (change w)) (report_from ((i + 1) + 1) rest))

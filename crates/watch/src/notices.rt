@@ -8,15 +8,15 @@ use std::alloc::{AllocError, Global};
 /// Appends the line `watch N` and a reply.
 pub(crate) fn put_notice(
     alloc: Global,
-    told: &mut Vec<u8>,
+    text: &mut Vec<u8>,
     number: usize,
     reply: &[u8],
 ) -> Result<(), AllocError>
-    ensures { OnOk result (told.new.items ≡ told.old.items ++ spec.watch_notice number reply.now) }
+    ensures { OnOk result (text.new.items ≡ text.old.items ++ spec.watch_notice number reply.now) }
 {
-    told.extend_from_slice(b"watch ".as_slice())?;
-    told.extend_from_slice(number.to_string(alloc)?.as_bytes())?;
-    told.extend_from_slice(b"\n".as_slice())?;
-    told.extend_from_slice(reply)?;
+    text.extend_from_slice(b"watch ".as_slice())?;
+    text.extend_from_slice(number.to_string(alloc)?.as_bytes())?;
+    text.extend_from_slice(b"\n".as_slice())?;
+    text.extend_from_slice(reply)?;
     Ok(())
 }

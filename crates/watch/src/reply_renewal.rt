@@ -1,35 +1,34 @@
 //! Renewing the replies of watches.
 
-ghost use Rattle.std.specs.Prelude.{◌≡◌, ◌++◌, OnErr, OnOk, map};
+ghost use Rattle.std.specs.Prelude.{◌≡◌, ◌++◌, [], IfOk, OnErr, OnOk, if◌then◌else◌, map};
 ghost use Rattle.deck.specs.Tables as tables;
 ghost use Rattle.live_table.specs.Calls.{AreQueries};
 ghost use Rattle.live_table.specs.TableView.{IsRightTable};
 ghost use Rattle.reply.specs.Options.{IsPrintable};
 ghost use Rattle.watch.specs.Calls.{IsPartlyRenewed};
-ghost use Rattle.watch.specs.Changes.{change_report, report_from};
+ghost use Rattle.watch.specs.Changes.{watch_notice, watch_report};
 ghost use Rattle.watch.specs.WatchViews as spec;
 
 use crate::notices::put_notice;
-use crate::watch::{Watch, reply_bytes};
+use crate::watch::Watch;
 use live_table::LiveTable;
 use reply::Options;
 use std::alloc::{AllocError, Global};
 use std::sync::ledger::Ledger;
 use units_io::Steps;
 
-/// Queries the replies of all watches again, in order, and appends a report on those that changed.
+/// Queries the replies of all watches again, in order, and returns the report on those that changed.
 pub(crate) fn renew_all<L: Ledger>(
     alloc: Global,
-    told: &mut Vec<u8>,
     watches: &mut Vec<Watch>,
     table: &mut LiveTable,
     options: &Options,
     steps: &mut Steps<L>,
-) -> Result<(), AllocError>
+) -> Result<Vec<u8>, AllocError>
     requires printable { IsPrintable options.now }
     requires right { IsRightTable table.old }
-    ensures told { OnOk result (told.new.items ≡ told.old.items
-        ++ report_from 1 (map (spec.change_of (tables.table table.old.deck) options.now) watches.old.items)) }
+    ensures report { IfOk result (λ report. report.items
+        ≡ watch_report (map (spec.change_of (tables.table table.old.deck) options.now) watches.old.items)) }
     ensures renewed { OnOk result (watches.new.items
         ≡ map (spec.with_current_reply (tables.table table.old.deck) options.now) watches.old.items) }
     ensures partly { OnErr result
@@ -38,50 +37,29 @@ pub(crate) fn renew_all<L: Ledger>(
         result table.old table.new steps.old steps.new }
     ensures deck { table.new.deck ≡ table.old.deck }
 {
+    let mut report = Vec::new(alloc);
     let count = watches.len();
     for place in 0..count {
-        renew(
-            alloc,
-            told,
-            place + 1,
-            &mut watches[place],
-            table,
-            options,
-            steps,
-        )?;
+        let watch = &mut watches[place];
+        let news = watch.renew(alloc, table, options, steps)?;
+        put_if_news(alloc, &mut report, place + 1, watch, news)?;
     }
-    Ok(())
+    Ok(report)
 }
 
-// Queries the reply of a watch again. If it differs from the stored one, reports it under this number and stores it. An
-// error leaves the watch as it was.
-fn renew<L: Ledger>(
+// Appends the line and the reply of a watch if the reply is news.
+fn put_if_news(
     alloc: Global,
-    told: &mut Vec<u8>,
+    report: &mut Vec<u8>,
     number: usize,
-    watch: &mut Watch,
-    table: &mut LiveTable,
-    options: &Options,
-    steps: &mut Steps<L>,
+    watch: &Watch,
+    news: bool,
 ) -> Result<(), AllocError>
-    requires { IsPrintable options.now }
-    ensures told { OnOk result (told.new.items ≡ told.old.items
-        ++ change_report number (spec.change_of (tables.table table.old.deck) options.now watch.old)) }
-    ensures renewed { OnOk result (watch.new
-        ≡ spec.with_current_reply (tables.table table.old.deck) options.now watch.old) }
-    ensures same { OnErr result (watch.new ≡ watch.old) }
-    ensures queries { AreQueries
-        (spec.queries_of (tables.table table.old.deck) options.now (spec.subject_of watch.old))
-        result table.old table.new steps.old steps.new }
-    ensures deck { table.new.deck ≡ table.old.deck }
+    ensures { OnOk result (report.new.items ≡ report.old.items
+        ++ (if news then watch_notice number watch.now.reply else [])) }
 {
-    let from = watch.from.as_bytes();
-    let to = watch.to.as_bytes();
-    let reply = reply_bytes(alloc, table, options, from, to, steps)?;
-    if reply.as_bytes() == watch.reply.as_bytes() {
+    if !news {
         return Ok(());
     }
-    put_notice(alloc, told, number, reply.as_bytes())?;
-    watch.reply = reply;
-    Ok(())
+    put_notice(alloc, report, number, watch.reply.as_bytes())
 }

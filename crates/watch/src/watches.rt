@@ -14,7 +14,7 @@ ghost use Rattle.watch.specs.declared.fault.WatchFault.TheVariants.{TooMany};
 use crate::fault::WatchFault;
 use crate::notices::put_notice;
 use crate::reply_renewal::renew_all;
-use crate::watch::{Watch, watch_on};
+use crate::watch::{Subject, Watch, watch_on};
 use live_table::LiveTable;
 use reply::Options;
 use std::alloc::{AllocError, Global};
@@ -100,7 +100,7 @@ impl Watches {
         if count >= MOST_WATCHES {
             return Err(WatchFault::TooMany);
         }
-        let watch = watch_on(alloc, table, options, from, to, steps)?;
+        let watch = watch_on(alloc, table, options, &Subject { from, to }, steps)?;
         let mut text = Vec::new(alloc);
         put_notice(alloc, &mut text, count + 1, watch.reply.as_bytes())?;
         self.items.push(watch)?;
@@ -133,8 +133,7 @@ impl Watches {
         ensures deck { table.new.deck ≡ table.old.deck }
     {
         table.outcomes_are_right();
-        let mut text = Vec::new(alloc);
-        renew_all(alloc, &mut text, &mut self.items, table, options, steps)?;
-        Ok(Text::from(text))
+        let report = renew_all(alloc, &mut self.items, table, options, steps)?;
+        Ok(Text::from(report))
     }
 }

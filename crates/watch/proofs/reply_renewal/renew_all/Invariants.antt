@@ -8,7 +8,6 @@ use Rattle.watch.proofs.reply_renewal.renew_all.Given as goal
 abbrev pub invariant-loop-place : goal.invariant-loop-place
 invariant-loop-place g l =
     (l.count ≡ length l.fn.watches.items) × (l.place ≤ l.count)
-    × IsUnderway (table l.fn.table.deck) l.options l.fn.watches.items l.watches.items l.place l.fn.told.items
-    l.told.items
+    × IsUnderway (table l.fn.table.deck) l.options l.fn.watches.items l.watches.items l.place l.report.items
     × AreAsked (λ w. queries_of (table l.fn.table.deck) l.options (subject_of w)) l.fn.watches.items l.place l.fn.table
     l.table l.fn.steps l.steps

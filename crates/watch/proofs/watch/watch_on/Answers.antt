@@ -6,13 +6,13 @@ use Rattle.watch.proofs.watch.watch_on.Goals as goal
 pub returns-in_err-from-clause-queries : goal.returns-in_err-from-clause-queries
 returns-in_err-from-clause-queries g c =
     queries_made c.from_residual-in_err-from.result
-    (queries_of (table c.args.table.now.deck) c.args.options.now (watch_subject c.args.from.now c.args.to.now))
+    (queries_of (table c.args.table.now.deck) c.args.options.now (watch_subject c.args.subject.now.from.now c.args.subject.now.to.now))
     c.args.table.now c.reply_bytes.new.table c.args.steps.now c.reply_bytes.new.steps
     c.in_ok-reply.ensures.deck c.in_ok-reply.ensures.queries
 
 pub returns-in_err-to-clause-queries : goal.returns-in_err-to-clause-queries
 returns-in_err-to-clause-queries g c =
     queries_made c.from_residual-in_err-to.result
-    (queries_of (table c.args.table.now.deck) c.args.options.now (watch_subject c.args.from.now c.args.to.now))
+    (queries_of (table c.args.table.now.deck) c.args.options.now (watch_subject c.args.subject.now.from.now c.args.subject.now.to.now))
     c.args.table.now c.reply_bytes.new.table c.args.steps.now c.reply_bytes.new.steps
     c.in_ok-reply.ensures.deck c.in_ok-reply.ensures.queries

@@ -1,4 +1,4 @@
-use Rattle.std.proofs.Common.{◌≡◌, ◌∙◌, ◌++◌, ℕ, List, ap, map, sym, subst}
+use Rattle.std.proofs.Common.{◌≡◌, ◌∙◌, List, ap, map, sym, subst}
 use Rattle.deck.specs.Tables.{table}
 use Rattle.watch.specs.Changes.{watch_report}
 use Rattle.watch.specs.WatchViews.{AreCurrent, change_of}
@@ -13,15 +13,13 @@ returns-clause-edit g c =
     let watches = c.args.self.now in
     let text : c.from.result ≡ watch_report (map (change_of now options) watches) =
     c.from.ensures
-    ∙ (c.in_ok-renew_all.ensures.told
-    ∙ (ap (λ (bytes : List ℕ). bytes ++ watch_report (map (change_of now options) c.self.inside.items.items))
-    c.new-text.ensures.items
-    ∙ ap (λ (ws : List Watch). watch_report (map (change_of now options) ws)) c.self.view_is)) in
+    ∙ (c.in_ok-report.ensures.report
+    ∙ ap (λ (ws : List Watch). watch_report (map (change_of now options) ws)) c.self.view_is) in
     λ before current. text ∙ edit_law.report before now options watches current
 
 pub returns-clause-current : goal.returns-clause-current
 returns-clause-current g c =
     let now = table c.args.table.now.deck in
     let options = c.args.options.now in
-    subst (λ (ws : List Watch). AreCurrent now options ws) (sym c.in_ok-renew_all.ensures.renewed)
+    subst (λ (ws : List Watch). AreCurrent now options ws) (sym c.in_ok-report.ensures.renewed)
     (renewed_current now options c.self.inside.items.items)
