@@ -68,6 +68,12 @@ fewer t options from to n i count is some =
     go [] none less = absurd (some none)
     go (fields ∷ left) more less = omega (arith, less)
 
+-- a statement on FROM and TO holds of equal texts
+pub of_texts : (P : (from to : List ℕ) → Type 0) {from from_too to to_too : List ℕ} → from ≡ from_too → to ≡ to_too
+    → P from to → P from_too to_too
+of_texts P {from} {from_too} {to} {to_too} same_from same_to p =
+    subst (λ t. P from_too t) same_to (subst (λ t. P t to) same_from p)
+
 module _ (options : Options) (from to : List ℕ) (whole : Input) (start : Option (List ℕ)) (before : Shown)
     (old : ℕ) where
   abbrev rows_at : Input → List ColumnRow

@@ -1,2 +1,3 @@
 pub mod Endings
 pub mod Outputs
+pub mod Tasks

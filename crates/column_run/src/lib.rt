@@ -5,6 +5,7 @@ mod end;
 mod input;
 mod rows;
 mod run;
+mod task;
 
 pub use end::ColumnEnd;
-pub use run::run_columns;
+pub use task::ColumnTask;

@@ -14,8 +14,10 @@ use Rattle.column_convert.specs.Inputs.{input_of}
 use Rattle.column_convert.specs.Rows.{queries, rows}
 use Rattle.column_convert.specs.Blocks.{is_error_row}
 use Rattle.column_run.specs.Outputs.{AreRowsWritten, is_over}
+use Rattle.column_run.specs.Tasks.{task_queries, task_rows}
 use Rattle.column_run.specs.declared.end.ColumnEnd.{ColumnEnd}
 use Rattle.column_run.specs.declared.end.ColumnEnd.TheVariants as column
+use Rattle.column_run.specs.declared.task.ColumnTask.{ColumnTask}
 use Rattle.session.proofs.Blocks.{front_all}
 use Rattle.units_run.specs.Calls.{column_rows, column_run, steps_of}
 use Rattle.units_run.specs.Endings.{IsConverted, IsLeftOf, IsStated, IsWorked, MayEnd, column_status}
@@ -112,34 +114,33 @@ over_worked column.WriteFault w = absurd w
 over_worked column.NoMemory w = absurd w
 over_worked column.InputTooLong w = absurd w
 
-module _ (work : ColumnWork) (plan : ColumnPlan) (n now : ℕ) (at : IsColumn work plan n now) (from to : List ℕ)
-    (is_from : from ≡ plan.from) (is_to : to ≡ plan.to) where
+module _ (work : ColumnWork) (plan : ColumnPlan) (n now : ℕ) (at : IsColumn work plan n now) where
+  abbrev task : ColumnTask
+  task = plan.task
+
   -- a function of the parts of the plan is that function of the parts of the work
   pub by_work : {X : Type 0} (f : Shown → Options → (from to : List ℕ) → (column : ℕ) → (header : Bool) → X)
-      → f plan.table plan.options from to plan.column plan.header
+      → f task.table task.options task.from task.to task.column task.header
       ≡ f (fresh_table work.deck) work.options work.from work.to work.column work.header
   by_work f =
-      ap (λ (s : Shown). f s plan.options from to plan.column plan.header) at.table
-      ∙ ap (λ (o : Options). f (fresh_table work.deck) o from to plan.column plan.header) at.options
-      ∙ ap (λ (t : List ℕ). f (fresh_table work.deck) work.options t to plan.column plan.header) (is_from ∙ at.from)
-      ∙ ap (λ (t : List ℕ). f (fresh_table work.deck) work.options work.from t plan.column plan.header) (is_to ∙ at.to)
-      ∙ ap (λ (k : ℕ). f (fresh_table work.deck) work.options work.from work.to k plan.header) at.column
+      ap (λ (s : Shown). f s task.options task.from task.to task.column task.header) at.table
+      ∙ ap (λ (o : Options). f (fresh_table work.deck) o task.from task.to task.column task.header) at.options
+      ∙ ap (λ (t : List ℕ). f (fresh_table work.deck) work.options t task.to task.column task.header) at.from
+      ∙ ap (λ (t : List ℕ). f (fresh_table work.deck) work.options work.from t task.column task.header) at.to
+      ∙ ap (λ (k : ℕ). f (fresh_table work.deck) work.options work.from work.to k task.header) at.column
       ∙ ap (λ (h : Bool). f (fresh_table work.deck) work.options work.from work.to work.column h) at.header
 
-  pub rows_same : (input : List ℕ)
-      → rows (table plan.table.deck) plan.options from to (input_of input plan.column plan.header) ≡ column_rows work
-      input
+  pub rows_same : (input : List ℕ) → task_rows task input ≡ column_rows work input
   rows_same input = by_work (λ s o f t k h. rows (table s.deck) o f t (input_of input k h))
 
   -- the steps are those of the queries that were made
   pub steps_same : LeavesLaw → (input : List ℕ) (after : Shown) (new : ℕ)
-      → IsAfterEvents (queries (table plan.table.deck) plan.options from to (input_of input plan.column plan.header))
-      plan.table after now new
+      → IsAfterEvents (task_queries task input) task.table after now new
       → new ≡ n + steps_of work input
   steps_same law input after new follows =
       let made = queries (table work.deck) work.options work.from work.to (input_of input work.column work.header) in
       (law made (fresh_table work.deck) after now new
       (subst (λ (s : Shown). IsAfterEvents made s after now new) at.table
-      (subst (λ (es : List Event). IsAfterEvents es plan.table after now new)
+      (subst (λ (es : List Event). IsAfterEvents es task.table after now new)
       (by_work (λ s o f t k h. queries (table s.deck) o f t (input_of input k h))) follows))).steps
       ∙ ap (λ (k : ℕ). k + steps_of work input) at.steps

@@ -1,6 +1,6 @@
 -- The plan of the words.
-use Rattle.std.proofs.Common.{◌≡◌, ◌&&◌, ◌||◌, inl, inr, ℕ, List, Bool, true, false, Result, Err, Some, None, refl, sym}
-use Rattle.std.proofs.Common.{ap, subst, ◌∙◌, if◌then◌else◌, is_some, not}
+use Rattle.std.proofs.Common.{◌≡◌, ◌&&◌, ◌||◌, inl, inr, ℕ, List, Bool, true, false, IfOk, Result, Ok, Err, Some, None, refl}
+use Rattle.std.proofs.Common.{ap, subst, sym, ◌∙◌, if◌then◌else◌, is_some, not}
 use Rattle.std.specs.declared.option.Option.{Option}
 use Rattle.units_io.specs.FileMap.{FileMap}
 use Rattle.units_io.specs.NamedValues.{Pairs}
@@ -40,12 +40,14 @@ plan_untaken words vars m taken =
 
 -- the plan if there is no deck
 pub deck_missing : {E : Type 0} (outcome : Result Contents DeckFault) (fault : DeckFault) (line : CommandLine)
-    (name : List ℕ) (m : FileMap) (result : Result Plan E) (n : ℕ) → (MayFail fault → ⊥) → IsLoaded outcome (Err fault)
-    → IsPlanned (complaint (no_deck_line fault name) NoFile) m result n n
+    (name : List ℕ) (m : FileMap) (result : Result Plan E) (n : ℕ) → IfOk result (λ _. MayFail fault → ⊥)
+    → IsLoaded outcome (Err fault) → IsPlanned (complaint (no_deck_line fault name) NoFile) m result n n
     → IsPlanned (file_plan line name outcome m) m result n n
-deck_missing outcome fault line name m result n known (inl may) planned = absurd (known may)
-deck_missing outcome fault line name m result n known (inr is) planned =
-    subst (λ (o : Result Contents DeckFault). IsPlanned (file_plan line name o m) m result n n) (sym is) planned
+deck_missing {E} outcome fault line name m (Err e) n known loaded planned = tt
+deck_missing {E} outcome fault line name m (Ok plan) n known (inl may) planned = absurd (known may)
+deck_missing {E} outcome fault line name m (Ok plan) n known (inr is) planned =
+    subst (λ (o : Result Contents DeckFault). IsPlanned {E = E} (file_plan line name o m) m (Ok plan) n n) (sym is)
+    planned
 
 -- if there is no deck, no fetch failed
 pub none_failed : (n : ℕ) (fault : DeckFault) → (MayFail fault → ⊥)

@@ -44,12 +44,12 @@ pub record IsCheck (want : plans.WholeRun) (plan : CheckPlan) (steps_old steps_n
 
 -- a column to be converted, with no step taken yet
 pub record IsColumn (want : plans.ColumnWork) (plan : ColumnPlan) (steps_old steps_new : ℕ) : Type 0 where
-  pub table : plan.table ≡ fresh_table want.deck
-  pub options : plan.options ≡ want.options
-  pub from : plan.from ≡ want.from
-  pub to : plan.to ≡ want.to
-  pub column : plan.column ≡ want.column
-  pub header : plan.header ≡ want.header
+  pub table : plan.task.table ≡ fresh_table want.deck
+  pub options : plan.task.options ≡ want.options
+  pub from : plan.task.from ≡ want.from
+  pub to : plan.task.to ≡ want.to
+  pub column : plan.task.column ≡ want.column
+  pub header : plan.task.header ≡ want.header
   pub err : plan.notices.items ≡ want.err
   pub steps : steps_new ≡ steps_old
 
@@ -78,7 +78,7 @@ IsFor taken file session column (Check plan) =
     (taken ≡ true) × ((session || column) ≡ false) × IsPrintable plan.options
 IsFor taken file session column (Opened said opened) = (taken ≡ true) × (session ≡ true)
 IsFor taken file session column (Columns plan) =
-    (taken ≡ true) × (column ≡ true) × IsPrintable plan.options × (1 ≤ plan.column)
+    (taken ≡ true) × (column ≡ true) × IsPrintable plan.task.options × (1 ≤ plan.task.column)
 
 -- the part of the world that a column conversion touches
 pub record Ends : Type 0 where

@@ -6,15 +6,13 @@ ghost use Rattle.deck.specs.Tables as tables;
 ghost use Rattle.def_lines.specs.Words.{is_empty};
 ghost use Rattle.live_table.specs.TableView.{IsAfterEvents, IsRightTable};
 ghost use Rattle.reply.specs.Options.{IsPrintable, style_of};
-ghost use Rattle.survey.specs.Checks.{check_among, check_queries, check_report, queries_among};
+ghost use Rattle.survey.specs.Checks.{check_among, check_queries, queries_among};
 ghost use Rattle.units_io.specs.Faults.{CountRose};
 ghost use Rattle.units_run.specs.Checks as spec;
 ghost use Rattle.units_run.specs.Endings.{IsWorked};
 
 use crate::check_plan::CheckPlan;
 use crate::status::Status;
-use live_table::LiveTable;
-use reply::Options;
 use session::leaves_law;
 use std::alloc::Global;
 use std::mem;
@@ -38,77 +36,71 @@ pub(crate) fn write_check<O: Sink, L: Ledger>(
 {
     leaves_law();
     let mut plan = plan;
-    let status = write_report(
-        alloc,
-        &mut plan.notices,
-        &mut plan.table,
-        &plan.options,
-        out,
-        steps,
-    );
+    let status = plan.write_report(alloc, out, steps);
     mem::forget(plan);
     status
 }
 
-// Writes the bytes in `lines` and then the lines of the report.
-fn write_report<O: Sink, L: Ledger>(
-    alloc: Global,
-    lines: &mut Vec<u8>,
-    table: &mut LiveTable,
-    options: &Options,
-    out: &mut O,
-    steps: &mut Steps<L>,
-) -> Status
-    requires { IsPrintable options.now }
-    ensures written { spec.IsReportWritten
-        (lines.old.items ++ check_report (tables.table table.old.deck) (style_of options.now)) result
-        (O.written out.old) (O.written out.new) }
-    ensures queries { IsWorked result → IsAfterEvents (check_queries (tables.table table.old.deck))
-        table.old table.new steps.old steps.new }
-    ensures write { result ≡ Status.WriteFault → CountRose (O.faults out.old) (O.faults out.new) }
-{
-    let Ok(places) = check_places(alloc, table, steps) else {
-        return Status::NoMemory;
-    };
-    // The cached outcomes in the table are right, even if it has no key.
-    table.outcomes_are_right();
-    write_blocks(alloc, lines, table, options, places.as_slice(), out, steps)
-}
-
-// Writes the bytes in `lines` and then the lines of the keys at `places`, block by block.
-fn write_blocks<O: Sink, L: Ledger>(
-    alloc: Global,
-    lines: &mut Vec<u8>,
-    table: &mut LiveTable,
-    options: &Options,
-    places: &[usize],
-    out: &mut O,
-    steps: &mut Steps<L>,
-) -> Status
-    requires printable { IsPrintable options.now }
-    requires right { IsRightTable table.old }
-    ensures written { spec.IsReportWritten (lines.old.items
-        ++ check_among (tables.table table.old.deck) (style_of options.now)
-        (keys_there table.old.deck.lines places.now)) result (O.written out.old) (O.written out.new) }
-    ensures queries { IsWorked result → IsAfterEvents
-        (queries_among (tables.table table.old.deck) (keys_there table.old.deck.lines places.now))
-        table.old table.new steps.old steps.new }
-    ensures write { result ≡ Status.WriteFault → CountRose (O.faults out.old) (O.faults out.new) }
-{
-    let mut rest = places;
-    let mut any = false;
-    loop {
-        let Ok(done) = put_check_block(alloc, lines, table, options, rest, steps) else {
+impl CheckPlan {
+    // Writes the notices and then the lines of the report.
+    fn write_report<O: Sink, L: Ledger>(
+        &mut self,
+        alloc: Global,
+        out: &mut O,
+        steps: &mut Steps<L>,
+    ) -> Status
+        requires { IsPrintable self.old.options }
+        ensures written { spec.IsReportWritten (spec.checked_report self.old) result
+            (O.written out.old) (O.written out.new) }
+        ensures queries { IsWorked result → IsAfterEvents (check_queries (tables.table self.old.table.deck))
+            self.old.table self.new.table steps.old steps.new }
+        ensures write { result ≡ Status.WriteFault → CountRose (O.faults out.old) (O.faults out.new) }
+    {
+        let Ok(places) = check_places(alloc, &mut self.table, steps) else {
             return Status::NoMemory;
         };
-        let Ok(()) = put_all(out, lines.as_slice()) else {
-            return Status::WriteFault;
-        };
-        any = has_bytes(any, lines.as_slice());
-        lines.clear();
-        rest = &rest[done..];
-        if rest.is_empty() {
-            return report_status(any);
+        // The cached outcomes in the table are right, even if it has no key.
+        self.table.outcomes_are_right();
+        self.write_blocks(alloc, places.as_slice(), out, steps)
+    }
+
+    // Writes the notices and then the lines of the keys at `places`, block by block.
+    fn write_blocks<O: Sink, L: Ledger>(
+        &mut self,
+        alloc: Global,
+        places: &[usize],
+        out: &mut O,
+        steps: &mut Steps<L>,
+    ) -> Status
+        requires printable { IsPrintable self.old.options }
+        requires right { IsRightTable self.old.table }
+        ensures written { spec.IsReportWritten (self.old.notices.items
+            ++ check_among (tables.table self.old.table.deck) (style_of self.old.options)
+            (keys_there self.old.table.deck.lines places.now)) result
+            (O.written out.old) (O.written out.new) }
+        ensures queries { IsWorked result → IsAfterEvents
+            (queries_among (tables.table self.old.table.deck) (keys_there self.old.table.deck.lines places.now))
+            self.old.table self.new.table steps.old steps.new }
+        ensures write { result ≡ Status.WriteFault → CountRose (O.faults out.old) (O.faults out.new) }
+    {
+        let lines = &mut self.notices;
+        let table = &mut self.table;
+        let options = &self.options;
+        let mut rest = places;
+        let mut any = false;
+        loop {
+            let Ok(done) = put_check_block(alloc, lines, table, options, rest, steps) else {
+                return Status::NoMemory;
+            };
+            let Ok(()) = put_all(out, lines.as_slice()) else {
+                return Status::WriteFault;
+            };
+            any = has_bytes(any, lines.as_slice());
+            lines.clear();
+            rest = &rest[done..];
+            if rest.is_empty() {
+                return report_status(any);
+            }
         }
     }
 }

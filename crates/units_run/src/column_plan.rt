@@ -1,19 +1,11 @@
 //! The plan of a column conversion.
 
-use live_table::LiveTable;
-use reply::Options;
-use units_io::Text;
+use column_run::ColumnTask;
 
-/// A column of the input to be converted: the notices of the definitions, their table, the options for replies, FROM
-/// and TO, the number of the column, counted from 1, and whether the first record is a header.
+/// A column of the input to be converted, and the notices of the definitions, which are written first.
 pub struct ColumnPlan {
     pub notices: Vec<u8>,
-    pub table: LiveTable,
-    pub options: Options,
-    pub from: Text,
-    pub to: Text,
-    pub column: u16,
-    pub header: bool,
+    pub task: ColumnTask,
 }
 
 // Written by hand, so that code that drops a plan need not prove anything about its contents.
@@ -21,12 +13,7 @@ impl Drop for ColumnPlan {
     fn drop(self) {
         let ColumnPlan {
             notices: _,
-            table: _,
-            options: _,
-            from: _,
-            to: _,
-            column: _,
-            header: _,
+            task: _,
         } = self;
     }
 }

@@ -10,54 +10,46 @@ ghost use Rattle.units_run.specs.ProgramPlans as planning;
 
 use crate::column_plan::ColumnPlan;
 use crate::status::Status;
-use column_run::{ColumnEnd, run_columns};
+use column_run::ColumnEnd;
 use session::leaves_law;
 use std::alloc::Global;
 use std::mem;
 use std::sync::ledger::Ledger;
 use units_io::{Sink, Source, Steps, put_all};
 
-/// Writes the notices, reads the input to its end, and then writes its rows.
-pub(crate) fn convert_column<S: Source, O: Sink, E: Sink, L: Ledger>(
-    alloc: Global,
-    plan: ColumnPlan,
-    src: &mut S,
-    out: &mut O,
-    err: &mut E,
-    steps: &mut Steps<L>,
-) -> Status
-    requires { IsPrintable plan.options × (1 ≤ plan.column) }
-    ensures told { planning.IsColumnConverted plan result
-        (planning.ends_of (S.left src.old) (O.written out.old) (E.written err.old) steps.old)
-        (planning.ends_of (S.left src.new) (O.written out.new) (E.written err.new) steps.new) }
-    ensures noticed { ((src.new ≡ src.old) × (out.new ≡ out.old))
-        ⊎ (E.written err.new ≡ known_append (E.written err.old) plan.notices.items) }
-    ensures ends { spec.IsStated result → spec.IsWorked result }
-    ensures whole { (input : List ℕ) → S.left src.old ≡ Some input → spec.IsWorked result → S.left src.new ≡ Some [] }
-    ensures read { result ≡ Status.ReadFault → CountRose (S.faults src.old) (S.faults src.new) }
-    ensures write { result ≡ Status.WriteFault →
-        CountRose (O.faults out.old) (O.faults out.new) ⊎ CountRose (E.faults err.old) (E.faults err.new) }
-    ensures too_long { result ≡ Status.InputTooLong → TookMoreThan 16777216 (S.taken src.old) (S.taken src.new) }
-{
-    leaves_law();
-    let Ok(()) = put_all(err, plan.notices.as_slice()) else {
-        return Status::WriteFault;
-    };
-    let mut plan = plan;
-    let end = run_columns(
-        alloc,
-        &mut plan.table,
-        &plan.options,
-        plan.from.as_bytes(),
-        plan.to.as_bytes(),
-        plan.column,
-        plan.header,
-        src,
-        out,
-        steps,
-    );
-    mem::forget(plan);
-    status_of(end)
+impl ColumnPlan {
+    /// Writes the notices, reads the input to its end, and then writes its rows.
+    pub(crate) fn convert_column<S: Source, O: Sink, E: Sink, L: Ledger>(
+        self,
+        alloc: Global,
+        src: &mut S,
+        out: &mut O,
+        err: &mut E,
+        steps: &mut Steps<L>,
+    ) -> Status
+        requires { IsPrintable self.task.options × (1 ≤ self.task.column) }
+        ensures told { planning.IsColumnConverted self result
+            (planning.ends_of (S.left src.old) (O.written out.old) (E.written err.old) steps.old)
+            (planning.ends_of (S.left src.new) (O.written out.new) (E.written err.new) steps.new) }
+        ensures noticed { ((src.new ≡ src.old) × (out.new ≡ out.old))
+            ⊎ (E.written err.new ≡ known_append (E.written err.old) self.notices.items) }
+        ensures ends { spec.IsStated result → spec.IsWorked result }
+        ensures whole { (input : List ℕ) → S.left src.old ≡ Some input → spec.IsWorked result →
+            S.left src.new ≡ Some [] }
+        ensures read { result ≡ Status.ReadFault → CountRose (S.faults src.old) (S.faults src.new) }
+        ensures write { result ≡ Status.WriteFault →
+            CountRose (O.faults out.old) (O.faults out.new) ⊎ CountRose (E.faults err.old) (E.faults err.new) }
+        ensures too_long { result ≡ Status.InputTooLong → TookMoreThan 16777216 (S.taken src.old) (S.taken src.new) }
+    {
+        leaves_law();
+        let mut plan = self;
+        let Ok(()) = put_all(err, plan.notices.as_slice()) else {
+            return Status::WriteFault;
+        };
+        let end = plan.task.run(alloc, src, out, steps);
+        mem::forget(plan);
+        status_of(end)
+    }
 }
 
 // Returns the status for the end of a column conversion.

@@ -11,19 +11,28 @@ use std::sync::ledger::Ledger;
 use survey::conformable_reply;
 use units_io::Steps;
 
-/// Returns the reply to FROM with this TO, which may be blank or `?`. The only error is running out of memory.
+/// FROM and TO on a command line. TO may be blank or `?`.
+#[derive(Clone, Copy)]
+pub(crate) struct Question<'a> {
+    pub(crate) from: &'a [u8],
+    pub(crate) to: &'a [u8],
+}
+
+/// Returns the reply to a question. The only error is running out of memory.
 pub(crate) fn ask<L: Ledger>(
     alloc: Global,
     table: &mut LiveTable,
     options: &Options,
-    from: &[u8],
-    to: &[u8],
+    question: &Question<'_>,
     steps: &mut Steps<L>,
 ) -> Result<Reply, AllocError>
     requires { IsPrintable options.now }
-    ensures { IsReplyOf (spec.asked_for (tables.table table.old.deck) options.now from.now to.now) result
+    ensures { IsReplyOf
+        (spec.asked_for (tables.table table.old.deck) options.now question.now.from.now question.now.to.now) result
         table.old table.new steps.old steps.new }
 {
+    let from = question.from;
+    let to = question.to;
     if to.is_empty() {
         return definition_reply(alloc, table, options, from, steps);
     }

@@ -14,7 +14,6 @@ ghost use Rattle.session.specs.Worlds.{files_seen, sink_of, source_of, world_of}
 ghost use Rattle.units_io.specs.FileMap.{FileMap};
 
 use crate::checks::write_check;
-use crate::columns::convert_column;
 use crate::halt::Halt;
 use crate::plan::Plan;
 use crate::status::Status;
@@ -90,7 +89,7 @@ pub fn units_main<S: Source, O: Sink, E: Sink, F: Files, L: Ledger>(
             mem::forget(session);
             status_of(end)
         }
-        Ok(Plan::Columns(plan)) => convert_column(alloc, plan, src, out, err, steps),
+        Ok(Plan::Columns(plan)) => plan.convert_column(alloc, src, out, err, steps),
         Err(Halt::ReadFault) => Status::ReadFault,
         Err(Halt::NoMemory) => Status::NoMemory,
     }

@@ -4,7 +4,6 @@ ghost use Rattle.units_io.specs.FileMap.{FileMap};
 ghost use Rattle.units_io.specs.Faults.{CountRose};
 ghost use Rattle.command_line.specs.AcceptedWords.{are_taken};
 ghost use Rattle.command_line.specs.Fields.{command_line_of};
-ghost use Rattle.deck.specs.FileLoads.{after_load};
 ghost use Rattle.session.specs.KnownContents.{TellsIf};
 ghost use Rattle.session.specs.Trials.{trial_session};
 ghost use Rattle.units_run.specs.Needs.{converts_column, is_column, is_session, loads_file, needs_definitions};
@@ -127,38 +126,12 @@ fn deck_plan<F: Files, L: Ledger>(
     ensures stores { F.store_faults files.new ≡ F.store_faults files.old }
     ensures unasked { is_some line.now.file ≡ false → files.new ≡ files.old }
 {
-    match &line.file {
-        Some(name) => file_plan(alloc, line, settings, name.as_bytes(), files, steps),
-        None => {
-            let deck = built_in_deck(alloc, settings)?;
-            Ok(work(alloc, line, deck, steps)?)
-        }
-    }
-}
-
-// Returns the plan of a command line over the file of this name.
-fn file_plan<F: Files, L: Ledger>(
-    alloc: Global,
-    line: &CommandLine,
-    settings: Settings,
-    name: &[u8],
-    files: &mut F,
-    steps: &mut Steps<L>,
-) -> Result<Plan, Halt>
-    requires digits { options.HasValidDigits line.now }
-    requires column { options.HasColumn line.now }
-    ensures told { (m : FileMap) → F.files files.old ≡ Some m →
-        IsPlanned (spec.file_plan line.now name.now (after_load m name.now settings) m) m result
-        steps.old steps.new }
-    ensures kind { IfOk result (IsFor true true (not (is_some line.now.from || line.now.check))
-        (is_some line.now.from && is_some line.now.column)) }
-    ensures calm { OnOk result (F.faults files.new ≡ F.faults files.old) }
-    ensures cause { IsErrOf result Halt.ReadFault → CountRose (F.faults files.old) (F.faults files.new) }
-    ensures kept { F.files files.new ≡ F.files files.old }
-    ensures stores { F.store_faults files.new ≡ F.store_faults files.old }
-{
-    match Deck::load(alloc, files, name, settings) {
+    let Some(name) = &line.file else {
+        let deck = built_in_deck(alloc, settings)?;
+        return Ok(work(alloc, line, deck, steps)?);
+    };
+    match Deck::load(alloc, files, name.as_bytes(), settings) {
         Ok(deck) => Ok(work(alloc, line, deck, steps)?),
-        Err(fault) => no_deck_plan(alloc, &fault, name),
+        Err(fault) => no_deck_plan(alloc, &fault, name.as_bytes()),
     }
 }

@@ -12,10 +12,11 @@ ghost use Rattle.units_run.specs.Work as spec;
 
 use crate::check_plan::CheckPlan;
 use crate::column_plan::ColumnPlan;
-use crate::command_reply::ask;
+use crate::command_reply::{Question, ask};
 use crate::options::options_of;
 use crate::plan::Plan;
 use crate::status::Status;
+use column_run::ColumnTask;
 use command_line::CommandLine;
 use deck::Deck;
 use def_lines::line_content;
@@ -80,14 +81,11 @@ fn reply_plan<L: Ledger>(
     leaves_law();
     let notices = notice_lines(alloc, table.deck())?;
     let options = options_of(line);
-    let reply = ask(
-        alloc,
-        table,
-        &options,
-        line_content(from),
-        to_text(line),
-        steps,
-    )?;
+    let question = Question {
+        from: line_content(from),
+        to: to_text(line),
+    };
+    let reply = ask(alloc, table, &options, &question, steps)?;
     let status = reply_status(reply.refused);
     let said = Said {
         out: reply.text.into_bytes(),
@@ -115,15 +113,15 @@ fn column_plan(
     let notices = notice_lines(alloc, table.deck())?;
     let from = Text::from_bytes(alloc, line_content(from))?;
     let to = Text::from_bytes(alloc, to_text(line))?;
-    Ok(Plan::Columns(ColumnPlan {
-        notices,
+    let task = ColumnTask {
         table,
         options: options_of(line),
         from,
         to,
         column,
         header: line.header,
-    }))
+    };
+    Ok(Plan::Columns(ColumnPlan { notices, task }))
 }
 
 // Returns the plan of the check report, which begins with the notices.

@@ -8,7 +8,7 @@ use Rattle.units_run.specs.Calls.{column_run}
 use Rattle.units_run.specs.Endings.{IsConverted, IsStated, IsWorked}
 use Rattle.units_run.specs.declared.status.Status.{Status}
 use Rattle.units_run.proofs.ColumnRuns.{converted, ends_worked, rows_same, steps_same}
-use Rattle.units_run.proofs.columns.convert_column.Goals as goal
+use Rattle.units_run.proofs.column_plan.ColumnPlan.convert_column.Goals as goal
 
 pub returns-in_default-clause-told : goal.returns-in_default-clause-told
 returns-in_default-clause-told g c = λ work m input files faults now stores later n q at fs. record {
@@ -29,35 +29,34 @@ returns-clause-told g c = λ work m input files faults now stores later n q at f
       steps = n;
     } in
     let after : Outside = record {
-      input_left = g.S.Source.left c.run_columns-end.new.src;
-      out = g.O.Sink.written c.run_columns-end.new.out;
+      input_left = g.S.Source.left c.run-end.new.src;
+      out = g.O.Sink.written c.run-end.new.out;
       err = g.E.Sink.written c.put_all.new.sink;
       files = files;
       fetch_faults = now;
       store_faults = later;
-      steps = c.run_columns-end.new.steps;
+      steps = c.run-end.new.steps;
     } in
     subst
     (λ (st : Status). IsConverted (column_run work m input).output (column_run work m input).status st before after)
     (sym c.status_of.ensures)
     (converted work m input before after
     (c.in-Ok.ensures.all ∙ ap (known_append (g.E.Sink.written c.args.err.now)) (c.as_slice.ensures.value ∙ at.err)) fs
-    c.run_columns-end.result
+    c.run-end.result
     (subst
-    (λ (rs : List ColumnRow). AreRowsWritten rs c.run_columns-end.result (g.O.Sink.written c.args.out.now)
-    (g.O.Sink.written c.run_columns-end.new.out))
-    (rows_same work c.args.plan n c.args.steps.now at c.as_bytes.result.now c.as_bytes-2.result.now c.as_bytes.ensures
-    c.as_bytes-2.ensures input)
-    (c.run_columns-end.ensures.told input q))
+    (λ (rs : List ColumnRow). AreRowsWritten rs c.run-end.result (g.O.Sink.written c.args.out.now)
+    (g.O.Sink.written c.run-end.new.out))
+    (rows_same work c.args.self n c.args.steps.now at input)
+    (c.run-end.ensures.told input q))
     (λ over.
-    steps_same work c.args.plan n c.args.steps.now at c.as_bytes.result.now c.as_bytes-2.result.now c.as_bytes.ensures
-    c.as_bytes-2.ensures c.leaves_law.ensures input c.run_columns-end.new.table c.run_columns-end.new.steps
-    (c.run_columns-end.ensures.queries input q over)))
+    steps_same work c.args.self n c.args.steps.now at c.leaves_law.ensures input c.run-end.new.self.table
+    c.run-end.new.steps
+    (c.run-end.ensures.queries input q over)))
 
 pub returns-clause-ends : goal.returns-clause-ends
 returns-clause-ends g c = λ s.
     subst IsWorked (sym c.status_of.ensures)
-    (ends_worked c.run_columns-end.result (subst IsStated c.status_of.ensures s))
+    (ends_worked c.run-end.result (subst IsStated c.status_of.ensures s))
 
 pub returns-in_default-clause-noticed : goal.returns-in_default-clause-noticed
 returns-in_default-clause-noticed g c = inl (refl, refl)

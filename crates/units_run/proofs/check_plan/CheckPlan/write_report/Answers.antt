@@ -11,7 +11,7 @@ use Rattle.reply.specs.Options.{style_of}
 use Rattle.survey.specs.Checks.{check_among, queries_among}
 use Rattle.units_run.specs.Checks.{IsReportWritten}
 use Rattle.units_run.proofs.PlanRuns.{front_same}
-use Rattle.units_run.proofs.checks.write_report.Goals as goal
+use Rattle.units_run.proofs.check_plan.CheckPlan.write_report.Goals as goal
 
 pub returns-in_default-clause-written : goal.returns-in_default-clause-written
 returns-in_default-clause-written g c =
@@ -19,31 +19,31 @@ returns-in_default-clause-written g c =
 
 pub returns-clause-written : goal.returns-clause-written
 returns-clause-written g c =
-    let deck = c.args.table.now.deck in
+    let deck = c.args.self.now.table.deck in
     let keys : keys_there deck.lines c.as_slice.result.now ≡ table_keys (table deck) =
     ap (keys_there deck.lines) c.as_slice.ensures.value ∙ c.in-Ok.ensures.keys in
     subst
     (λ (ks : List Key). IsReportWritten
-    (c.args.lines.now.items ++ check_among (table deck) (style_of c.args.options.now) ks) c.write_blocks.result
+    (c.args.self.now.notices.items ++ check_among (table deck) (style_of c.args.self.now.options) ks) c.write_blocks.result
     (g.O.Sink.written c.args.out.now) (g.O.Sink.written c.write_blocks.new.out))
     keys
     (subst
     (λ (d : Contents). IsReportWritten
-    (c.args.lines.now.items
-    ++ check_among (table d) (style_of c.args.options.now) (keys_there d.lines c.as_slice.result.now))
+    (c.args.self.now.notices.items
+    ++ check_among (table d) (style_of c.args.self.now.options) (keys_there d.lines c.as_slice.result.now))
     c.write_blocks.result (g.O.Sink.written c.args.out.now) (g.O.Sink.written c.write_blocks.new.out))
     c.check_places.ensures.deck c.write_blocks.ensures.written)
 
 pub returns-clause-queries : goal.returns-clause-queries
 returns-clause-queries g c = λ worked.
-    let deck = c.args.table.now.deck in
+    let deck = c.args.self.now.table.deck in
     let keys : keys_there deck.lines c.as_slice.result.now ≡ table_keys (table deck) =
     ap (keys_there deck.lines) c.as_slice.ensures.value ∙ c.in-Ok.ensures.keys in
-    follows_both (all_names (table deck)) (queries_among (table deck) (table_keys (table deck))) c.args.table.now
-    c.check_places.new.table c.write_blocks.new.table c.args.steps.now c.check_places.new.steps c.write_blocks.new.steps
+    follows_both (all_names (table deck)) (queries_among (table deck) (table_keys (table deck))) c.args.self.now.table
+    c.check_places.new.table c.write_blocks.new.self.table c.args.steps.now c.check_places.new.steps c.write_blocks.new.steps
     c.in-Ok.ensures.queries
     (subst (λ (ks : List Key). IsAfterEvents (queries_among (table deck) ks) c.check_places.new.table
-    c.write_blocks.new.table c.check_places.new.steps c.write_blocks.new.steps) keys
+    c.write_blocks.new.self.table c.check_places.new.steps c.write_blocks.new.steps) keys
     (subst (λ (d : Contents). IsAfterEvents (queries_among (table d) (keys_there d.lines c.as_slice.result.now))
-    c.check_places.new.table c.write_blocks.new.table c.check_places.new.steps c.write_blocks.new.steps)
+    c.check_places.new.table c.write_blocks.new.self.table c.check_places.new.steps c.write_blocks.new.steps)
     c.check_places.ensures.deck (c.write_blocks.ensures.queries worked)))
