@@ -14,6 +14,7 @@ pub mod CountWords
 pub mod FetchFaultCounts
 pub mod Blocks
 pub mod TakingUp
+pub mod SessionParts
 pub mod SinkGrowth
 pub mod SourceEnding
 pub mod OutputPieces

@@ -1,20 +1,13 @@
 -- The ending of a session over a source.
-use Rattle.std.proofs.Common.{inl, inr, ◌≡◌, ◌≤◌, ◌⊎◌, [], ℕ, List, Bool}
-use Rattle.std.proofs.Common.{true, false, refl, sym, ap, subst, ◌∙◌, arith}
+use Rattle.std.proofs.Common.{inl, inr, ◌≡◌, ◌≤◌, ◌⊎◌, ℕ, List, Bool}
+use Rattle.std.proofs.Common.{true, false, refl, ap, subst, ◌∙◌, arith}
 use Rattle.std.proofs.Common.{Some, None, Result, Ok, Err}
 use Rattle.std.specs.Prelude.{IsErrOf}
-use Rattle.std.specs.declared.option.Option.{Option}
-use Rattle.std.proofs.lemmas.List.{append-nil}
-use Rattle.units_io.specs.Bytes.{GrowsByFront}
 use Rattle.units_io.specs.Faults.{CountRose}
-use Rattle.session.specs.HeardLines.{heard}
-use Rattle.session.specs.Input.{lines_of}
 use Rattle.session.specs.Outside.{Outside, TookMoreThan}
 use Rattle.session.specs.Runs.{HasItsCause, end_after_feed, end_at_input_end, fault_end}
-use Rattle.session.specs.Sessions.{SessionState}
 use Rattle.session.specs.Talks.{SessionTrace, trace_on, trace_over}
 use Rattle.session.specs.KnownContents.{when_told}
-use Rattle.session.specs.BetweenPieces.{Opens}
 use Rattle.session.specs.Worlds.{FilesSeen, SinkSeen, SourceSeen, World, world_of}
 use Rattle.session.specs.WrittenOutput.{IsAll, IsEnded, IsPartIf, IsPrefixRun, IsPrefixRunExceptFile, output_of}
 use Rattle.session.specs.WrittenOutput.{session_course}
@@ -23,8 +16,7 @@ use Rattle.session.specs.declared.fault.SessionFault.TheVariants.{OutOfMemory, R
 use Rattle.session.specs.declared.over_source.SessionEnd.{SessionEnd}
 use Rattle.session.specs.declared.over_source.SessionEnd.TheVariants.{Done, NoMemory, ReadFault, WriteFault}
 use Rattle.session.specs.declared.over_source.SessionEnd.TheVariants.{InputTooLong}
-use Rattle.session.specs.declared.session_output.Said.{Said}
-use Rattle.session.proofs.Blocks.{any_since, either_rose, of_two, opened_files}
+use Rattle.session.proofs.Blocks.{any_since, either_rose, of_two}
 use Rattle.session.proofs.BrokenAnswers.{left_by, left_whole}
 
 same_end : (x y : SessionEnd) → Some x ≡ Some y → y ≡ x
@@ -165,23 +157,4 @@ cause_since ending source out err out_mid err_mid files files_mid steps steps_mi
       any_since out.faults out_mid.faults after.out.faults err.faults err_mid.faults after.err.faults
       files.store_faults files_mid.store_faults after.files.store_faults o e s (cause.write_cause is);
   too_long = cause.too_long;
-}
-
--- no bytes are a front of any bytes
-nothing_put : (o out : Option (List ℕ)) (bytes : List ℕ) → out ≡ o → GrowsByFront o out bytes
-nothing_put None out bytes e = (0, omega arith, e)
-nothing_put (Some held) out bytes e = (0, omega arith, e ∙ ap Some (sym (append-nil held)))
-
--- a session that was opened has written nothing and answered no line
-pub unwritten : (first : SessionTrace) (input : List ℕ) (said : Said) (session : SessionState) (start now : Outside)
-    → Opens first said session start now → IsPrefixRun (session_course first input) start now
-unwritten first input said session start now opened = record {
-  answered_lines = [];
-  lines_left = heard (lines_of input);
-  lines_split = refl;
-  output_front = record {
-    out = nothing_put start.out now.out first.out opened.out;
-    err = nothing_put start.err now.err first.err opened.err;
-  };
-  files = opened_files first said session start now opened;
 }

@@ -5,7 +5,7 @@ use Rattle.units_io.specs.FileMap.{FileMap}
 use Rattle.deck.specs.Tables.{table as table_in}
 use Rattle.deck.specs.contracts.settings.Settings as settings
 use Rattle.deck_lines.specs.contracts.line.DeckLine as line
-use Rattle.edit_history.specs.Histories.{IsHistoryOf, UndoStacks}
+use Rattle.edit_history.specs.Histories.{IsHistoryOf}
 use Rattle.edit_history.specs.Versions.{Version}
 use Rattle.live_table.specs.TableView.{Shown}
 use Rattle.live_table.specs.contracts.live_table.LiveTable as live_table
@@ -13,8 +13,8 @@ use Rattle.reply.specs.Options.{IsPrintable}
 use Rattle.reply.specs.contracts.options.Options as options
 use Rattle.reply.specs.declared.options.Options.{Options}
 use Rattle.session.specs.Versions.{Dated, Versions, table_with_versions}
+use Rattle.session.specs.declared.workspace.Workspace.{Workspace}
 use Rattle.watch.specs.WatchViews.{AreCurrent, Subject, subject_of}
-use Rattle.watch.specs.declared.watch.Watch.{Watch}
 
 -- a session as contracts see it: the options for its replies, the live table, the text of FROM if one is pending, the
 -- versions of the deck that an undo and a redo restore, and the watched conversions
@@ -73,16 +73,16 @@ session_of options table pending versions watched =
 abbrev pub session_of_versions : Options → Dated → (pending : Option (List ℕ)) → (watched : List Subject) → SessionState
 session_of_versions options d pending watched = session_of options d.table pending d.versions watched
 
--- a session with these parts, given a history and watches, as contracts see it
-abbrev pub session_of_history : Options → Shown → UndoStacks → (pending : Option (List ℕ)) → List Watch → SessionState
-session_of_history options table history pending watches =
-    session_of_versions options (table_with_versions table history) pending (map subject_of watches)
+-- a session with these parts, as contracts see it
+abbrev pub session_in : Workspace → SessionState
+session_in w = session_of_versions w.options (table_with_versions w.table w.history) w.pending (map subject_of w.watches)
 
 -- the parts belong to one session: its replies can be printed, its history is one of its deck, and each stored reply of
 -- a watch is the reply in its table
-abbrev pub IsSessionInvariant : Options → Shown → UndoStacks → List Watch → Type 0
-IsSessionInvariant options table history watches =
-    IsPrintable options × IsHistoryOf history table.deck × AreCurrent (table_in table.deck) options watches
+abbrev pub IsOneSession : Workspace → Type 0
+IsOneSession w =
+    IsPrintable w.options × IsHistoryOf w.history w.table.deck
+    × AreCurrent (table_in w.table.deck) w.options w.watches
 
 -- the live table of a session with the versions of its deck
 abbrev pub dated_in : SessionState → Dated

@@ -1,10 +1,9 @@
 //! The answer to a line of a session.
 
-ghost use Rattle.std.specs.Prelude.{◌≡◌, ◌≤◌, List, length, None, Some, IfOk, IsErrOf, OnOk, [], false, true};
+ghost use Rattle.std.specs.Prelude.{◌≡◌, ◌≤◌, length, None, Some, IfOk, IsErrOf, OnOk, [], false, true};
 ghost use Rattle.units_io.specs.FileMap.{FileMap, longest_file, with_file};
 ghost use Rattle.units_io.specs.Faults.{CountRose};
 ghost use Rattle.deck_save.specs.SavedText.{saved_file};
-ghost use Rattle.reply.specs.Options.{IsPrintable};
 ghost use Rattle.session.specs.AnswerEffects.{AreCounted, FailsOnlyForMemory, IsAnswerTo, file_faults, scene_of};
 ghost use Rattle.session.specs.Answers.{files_saved, save_reply_text};
 ghost use Rattle.session.specs.Commands as commands;
@@ -13,29 +12,23 @@ ghost use Rattle.session.specs.FilesLeft.{LineKeeps, SaveKeeps};
 ghost use Rattle.session.specs.Lines as lines;
 ghost use Rattle.session.specs.Parts.{IsAnswerGiven, IsLine};
 ghost use Rattle.session.specs.CommandViews.{seen_command};
-ghost use Rattle.session.specs.Sessions.{IsSessionInvariant, session_of, session_of_history, state_of};
+ghost use Rattle.session.specs.Sessions.{IsOneSession, session_in, state_of};
 ghost use Rattle.session.specs.Steps as spec;
-ghost use Rattle.session.specs.Versions.{Versions};
-ghost use Rattle.watch.specs.WatchViews.{Subject};
 
 use crate::command::{Command, read_command};
-use crate::edit_reports::{edit, load};
 use crate::fault::SessionFault;
 use crate::lines::{line_of, no_text, word_line};
 use crate::session::Session;
-use crate::session_queries::{ask_conversion, ask_definition, conformable, evaluate_text};
-use crate::session_watches::watch;
+use crate::session_queries::{ask_definition, conformable, evaluate_text};
 use crate::table_counts::statistics;
+use crate::workspace::Workspace;
 use deck::Deck;
 use deck_save::{SaveFault, save_text};
-use edit_history::History;
-use live_table::LiveTable;
-use reply::{FromValue, Options};
+use reply::{FromValue, convert_reply};
 use std::alloc::{AllocError, Global};
 use std::sync::ledger::Ledger;
 use survey::search_report;
 use units_io::{Files, Steps, StoreFault, Text};
-use watch::Watches;
 
 /// The answer to a line, and whether the line ends the session.
 #[derive(Drop)]
@@ -77,107 +70,137 @@ fn last_reply(alloc: Global) -> LineReply
     }
 }
 
-// Takes a text as FROM: returns its fault, or makes it the pending FROM.
-fn take_from<L: Ledger>(
-    alloc: Global,
-    options: &Options,
-    table: &mut LiveTable,
-    pending: &mut Option<Text>,
-    text: &[u8],
-    steps: &mut Steps<L>,
-) -> Result<LineReply, SessionFault>
-    requires { IsPrintable options.now }
-    ensures said { (m : FileMap) (versions : Versions) (watched : List Subject) → IsAnswerGiven
-        (spec.from_answer text.now (state_of (session_of options.now table.old pending.old versions watched) m)) result
-        (session_of options.now table.new pending.new versions watched) steps.old steps.new }
-    ensures done { IfOk result (λ reply. reply.done ≡ false) }
-    ensures deck { table.new.deck ≡ table.old.deck }
-    ensures calm { FailsOnlyForMemory result }
-{
-    match evaluate_text(alloc, options, table, text, steps)? {
-        FromValue::Good(_) => {
-            *pending = Some(Text::from_bytes(alloc, text)?);
-            Ok(output_reply(alloc, no_text(alloc)))
-        }
-        FromValue::Bad(fault) => {
-            *pending = None;
-            Ok(output_reply(alloc, line_of(fault)?))
+impl Workspace {
+    // Takes a text as FROM: returns its fault, or makes it the pending FROM.
+    fn take_from<L: Ledger>(
+        &mut self,
+        alloc: Global,
+        text: &[u8],
+        steps: &mut Steps<L>,
+    ) -> Result<LineReply, SessionFault>
+        requires parts { IsOneSession self.old }
+        ensures said { (m : FileMap) → IsAnswerGiven (spec.from_answer text.now (state_of (session_in self.old) m))
+            result (session_in self.new) steps.old steps.new }
+        ensures done { IfOk result (λ reply. reply.done ≡ false) }
+        ensures parts { IsOneSession self.new }
+        ensures calm { FailsOnlyForMemory result }
+    {
+        match evaluate_text(alloc, &self.options, &mut self.table, text, steps)? {
+            FromValue::Good(_) => {
+                self.pending = Some(Text::from_bytes(alloc, text)?);
+                Ok(output_reply(alloc, no_text(alloc)))
+            }
+            FromValue::Bad(fault) => {
+                self.pending = None;
+                Ok(output_reply(alloc, line_of(fault)?))
+            }
         }
     }
-}
 
-// Answers a blank line: the reply to the pending FROM alone.
-fn answer_blank<L: Ledger>(
-    alloc: Global,
-    options: &Options,
-    table: &mut LiveTable,
-    pending: &mut Option<Text>,
-    steps: &mut Steps<L>,
-) -> Result<LineReply, SessionFault>
-    requires { IsPrintable options.now }
-    ensures said { (m : FileMap) (versions : Versions) (watched : List Subject) → IsAnswerGiven
-        (spec.blank_answer pending.old (state_of (session_of options.now table.old pending.old versions watched) m))
-        result
-        (session_of options.now table.new pending.new versions watched) steps.old steps.new }
-    ensures done { IfOk result (λ reply. reply.done ≡ false) }
-    ensures deck { table.new.deck ≡ table.old.deck }
-    ensures calm { FailsOnlyForMemory result }
-{
-    let Some(from) = pending.take() else {
-        return Ok(output_reply(alloc, no_text(alloc)));
-    };
-    let text = ask_definition(alloc, options, table, from.as_bytes(), steps)?;
-    Ok(output_reply(alloc, text))
-}
+    // Answers a blank line: the reply to the pending FROM alone.
+    fn answer_blank<L: Ledger>(
+        &mut self,
+        alloc: Global,
+        steps: &mut Steps<L>,
+    ) -> Result<LineReply, SessionFault>
+        requires parts { IsOneSession self.old }
+        ensures said { (m : FileMap) → IsAnswerGiven
+            (spec.blank_answer self.old.pending (state_of (session_in self.old) m))
+            result (session_in self.new) steps.old steps.new }
+        ensures done { IfOk result (λ reply. reply.done ≡ false) }
+        ensures parts { IsOneSession self.new }
+        ensures calm { FailsOnlyForMemory result }
+    {
+        let Some(from) = self.pending.take() else {
+            return Ok(output_reply(alloc, no_text(alloc)));
+        };
+        let from = from.as_bytes();
+        let text = ask_definition(alloc, &self.options, &mut self.table, from, steps)?;
+        Ok(output_reply(alloc, text))
+    }
 
-// Answers with the units that conform to the pending FROM, which stays pending.
-fn answer_conformable<L: Ledger>(
-    alloc: Global,
-    options: &Options,
-    table: &mut LiveTable,
-    pending: &mut Option<Text>,
-    steps: &mut Steps<L>,
-) -> Result<LineReply, SessionFault>
-    requires { IsPrintable options.now }
-    ensures said { (m : FileMap) (versions : Versions) (watched : List Subject) → IsAnswerGiven
-        (spec.conformable_answer pending.old
-        (state_of (session_of options.now table.old pending.old versions watched) m))
-        result
-        (session_of options.now table.new pending.new versions watched) steps.old steps.new }
-    ensures done { IfOk result (λ reply. reply.done ≡ false) }
-    ensures deck { table.new.deck ≡ table.old.deck }
-    ensures calm { FailsOnlyForMemory result }
-{
-    let Some(from) = pending.as_ref() else {
-        return take_from(alloc, options, table, pending, b"?", steps);
-    };
-    let text = conformable(alloc, options, table, from.as_bytes(), steps)?;
-    Ok(output_reply(alloc, text))
-}
+    // Answers with the units that conform to the pending FROM, which stays pending.
+    fn answer_conformable<L: Ledger>(
+        &mut self,
+        alloc: Global,
+        steps: &mut Steps<L>,
+    ) -> Result<LineReply, SessionFault>
+        requires parts { IsOneSession self.old }
+        ensures said { (m : FileMap) → IsAnswerGiven
+            (spec.conformable_answer self.old.pending (state_of (session_in self.old) m))
+            result (session_in self.new) steps.old steps.new }
+        ensures done { IfOk result (λ reply. reply.done ≡ false) }
+        ensures parts { IsOneSession self.new }
+        ensures calm { FailsOnlyForMemory result }
+    {
+        let Some(from) = self.pending.as_ref() else {
+            return self.take_from(alloc, b"?", steps);
+        };
+        let from = from.as_bytes();
+        let text = conformable(alloc, &self.options, &mut self.table, from, steps)?;
+        Ok(output_reply(alloc, text))
+    }
 
-// Answers an expression, which is FROM, or TO if a FROM is pending.
-fn answer_expression<L: Ledger>(
-    alloc: Global,
-    options: &Options,
-    table: &mut LiveTable,
-    pending: &mut Option<Text>,
-    text: &[u8],
-    steps: &mut Steps<L>,
-) -> Result<LineReply, SessionFault>
-    requires { IsPrintable options.now }
-    ensures said { (m : FileMap) (versions : Versions) (watched : List Subject) → IsAnswerGiven
-        (spec.expression_answer pending.old text.now
-        (state_of (session_of options.now table.old pending.old versions watched) m)) result
-        (session_of options.now table.new pending.new versions watched) steps.old steps.new }
-    ensures done { IfOk result (λ reply. reply.done ≡ false) }
-    ensures deck { table.new.deck ≡ table.old.deck }
-    ensures calm { FailsOnlyForMemory result }
-{
-    let Some(from) = pending.take() else {
-        return take_from(alloc, options, table, pending, text, steps);
-    };
-    let reply = ask_conversion(alloc, options, table, from.as_bytes(), text, steps)?;
-    Ok(output_reply(alloc, reply))
+    // Answers an expression, which is FROM, or TO if a FROM is pending.
+    fn answer_expression<L: Ledger>(
+        &mut self,
+        alloc: Global,
+        text: &[u8],
+        steps: &mut Steps<L>,
+    ) -> Result<LineReply, SessionFault>
+        requires parts { IsOneSession self.old }
+        ensures said { (m : FileMap) → IsAnswerGiven
+            (spec.expression_answer self.old.pending text.now (state_of (session_in self.old) m))
+            result (session_in self.new) steps.old steps.new }
+        ensures done { IfOk result (λ reply. reply.done ≡ false) }
+        ensures parts { IsOneSession self.new }
+        ensures calm { FailsOnlyForMemory result }
+    {
+        let Some(from) = self.pending.take() else {
+            return self.take_from(alloc, text, steps);
+        };
+        let from = from.as_bytes();
+        let reply = convert_reply(alloc, &mut self.table, &self.options, from, text, steps)?;
+        Ok(output_reply(alloc, reply.text))
+    }
+
+    // Answers a command that needs no file.
+    #[tactic(auto, unfolding(crate::specs::Steps::answer_to))]
+    fn perform<L: Ledger>(
+        &mut self,
+        alloc: Global,
+        command: Command<'_>,
+        steps: &mut Steps<L>,
+    ) -> Result<LineReply, SessionFault>
+        requires parts { IsOneSession self.old }
+        requires no_file { commands.names_file (seen_command command) ≡ false }
+        ensures said { (m : FileMap) → IsAnswerGiven
+            (spec.answer_to (state_of (session_in self.old) m) (seen_command command.entry))
+            result (session_in self.new) steps.old steps.new }
+        ensures done { IfOk result (λ reply. reply.done ≡ commands.is_quit (seen_command command.entry)) }
+        ensures parts { IsOneSession self.new }
+        ensures calm { FailsOnlyForMemory result }
+    {
+        match command {
+            Command::Blank => self.answer_blank(alloc, steps),
+            Command::Quit => Ok(last_reply(alloc)),
+            Command::Conformable => self.answer_conformable(alloc, steps),
+            Command::Search(text) => {
+                Ok(output_reply(alloc, search_report(alloc, &self.table, text)?))
+            }
+            Command::Edit(change) => self.edit(alloc, change, steps),
+            Command::Load(_) | Command::Save(_) => unreachable!(),
+            Command::Watch(from, to) => self.watch(alloc, from, to, steps),
+            Command::Unwatch => {
+                self.watches.clear();
+                Ok(output_reply(alloc, no_text(alloc)))
+            }
+            Command::Stats => Ok(output_reply(alloc, statistics(alloc, &self.table)?)),
+            Command::Unknown(word) => Ok(saying_word(alloc, b"unknown command: ", word)?),
+            Command::Bad(word) => Ok(saying_word(alloc, b"bad command: ", word)?),
+            Command::Expression(text) => self.answer_expression(alloc, text, steps),
+        }
+    }
 }
 
 // Stores the text of the deck in a file.
@@ -234,49 +257,6 @@ fn store<F: Files>(
     }
 }
 
-// Answers a command that needs no file.
-#[tactic(auto, unfolding(crate::specs::Steps::answer_to))]
-fn perform<L: Ledger>(
-    alloc: Global,
-    options: &Options,
-    table: &mut LiveTable,
-    history: &mut History,
-    watches: &mut Watches,
-    pending: &mut Option<Text>,
-    command: Command<'_>,
-    steps: &mut Steps<L>,
-) -> Result<LineReply, SessionFault>
-    requires parts { IsSessionInvariant options.now table.old history.old watches.old }
-    requires no_file { commands.names_file (seen_command command) ≡ false }
-    ensures said { (m : FileMap) → IsAnswerGiven (spec.answer_to
-        (state_of (session_of_history options.now table.old history.old pending.old watches.old) m)
-        (seen_command command.entry))
-        result (session_of_history options.now table.new history.new pending.new watches.new) steps.old steps.new }
-    ensures done { IfOk result (λ reply. reply.done ≡ commands.is_quit (seen_command command.entry)) }
-    ensures parts { IsSessionInvariant options.now table.new history.new watches.new }
-    ensures calm { FailsOnlyForMemory result }
-{
-    match command {
-        Command::Blank => answer_blank(alloc, options, table, pending, steps),
-        Command::Quit => Ok(last_reply(alloc)),
-        Command::Conformable => answer_conformable(alloc, options, table, pending, steps),
-        Command::Search(text) => Ok(output_reply(alloc, search_report(alloc, table, text)?)),
-        Command::Edit(change) => edit(alloc, options, table, history, watches, change, steps),
-        Command::Load(_) | Command::Save(_) => unreachable!(),
-        Command::Watch(from, to) => watch(alloc, options, table, watches, from, to, steps),
-        Command::Unwatch => {
-            watches.clear();
-            Ok(output_reply(alloc, no_text(alloc)))
-        }
-        Command::Stats => Ok(output_reply(alloc, statistics(alloc, table)?)),
-        Command::Unknown(word) => Ok(saying_word(alloc, b"unknown command: ", word)?),
-        Command::Bad(word) => Ok(saying_word(alloc, b"bad command: ", word)?),
-        Command::Expression(text) => {
-            answer_expression(alloc, options, table, pending, text, steps)
-        }
-    }
-}
-
 impl Session {
     /// Answers a line, given as it was read but without its line feed. Returns `ReadFailed` only if a fetch failed and
     /// `WriteFailed` only if a store failed, both of which the files count, and `OutOfMemory` if memory runs out. After
@@ -300,27 +280,9 @@ impl Session {
         ensures unasked { commands.names_file (commands.command_of line.now) ≡ false → files.new ≡ files.old }
     {
         match read_command(line) {
-            Command::Load(name) => load(
-                alloc,
-                &self.options,
-                &mut self.table,
-                &mut self.history,
-                &mut self.watches,
-                name,
-                files,
-                steps,
-            ),
-            Command::Save(name) => save(alloc, self.table.deck(), name, files),
-            command => perform(
-                alloc,
-                &self.options,
-                &mut self.table,
-                &mut self.history,
-                &mut self.watches,
-                &mut self.pending,
-                command,
-                steps,
-            ),
+            Command::Load(name) => self.workspace.load(alloc, name, files, steps),
+            Command::Save(name) => save(alloc, self.workspace.table.deck(), name, files),
+            command => self.workspace.perform(alloc, command, steps),
         }
     }
 }

@@ -9,6 +9,7 @@ mod edit_reports;
 mod fault;
 mod laws;
 mod lines;
+mod listener;
 mod over_source;
 mod partial_line;
 mod session;
@@ -20,6 +21,7 @@ mod talk;
 mod text_decks;
 mod trial;
 mod trial_lines;
+mod workspace;
 
 pub use answer::LineReply;
 pub use command::{Command, DeckEdit, read_command};
@@ -29,7 +31,8 @@ pub use laws::{
     trial_examples,
 };
 pub use lines::notice_lines;
-pub use over_source::{SessionEnd, run_session};
+pub use listener::Listener;
+pub use over_source::SessionEnd;
 pub use session::Session;
 pub use session_output::Said;
 pub use text_decks::text_deck;

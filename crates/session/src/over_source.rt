@@ -1,6 +1,6 @@
 //! A session over a source. The output for a block of input is written in one piece, or in several if it is long.
 
-ghost use Rattle.std.specs.Prelude.{◌≡◌, ◌≤◌, ◌<◌, ◌⊎◌, ◌++◌, [], List, ℕ, Some, length};
+ghost use Rattle.std.specs.Prelude.{◌≡◌, ◌⊎◌, ◌++◌, [], List, ℕ, Some};
 ghost use Rattle.session.specs.HeardLines.{NamesNoFile};
 ghost use Rattle.session.specs.Outside.{GrowsAtLeast};
 ghost use Rattle.session.specs.Runs as spec;
@@ -8,11 +8,7 @@ ghost use Rattle.session.specs.SessionProgress.{Holds};
 ghost use Rattle.session.specs.Worlds.{SourceSeen, files_seen, sink_of, source_of, world_of};
 
 use crate::fault::SessionFault;
-use crate::partial_line::Held;
-use crate::session::Session;
-use crate::session_output::Said;
-use crate::talk::{feed, feed_end};
-use std::alloc::Global;
+use crate::listener::Listener;
 use std::sync::ledger::Ledger;
 use units_io::{Files, Sink, Source, Steps};
 
@@ -35,165 +31,152 @@ const BLOCK: usize = 65_536;
 
 const MOST_INPUT: u64 = 4_294_967_296;
 
-/// Writes the opening, and then answers the lines of a source, block by block. The output for a block is written before
-/// more is read, and as soon as it is long; notices are written before replies.
-///
-/// `run`: `specs/Runs.antt` states everything that holds of a run. If it ends with `Done`, both sinks have everything
-/// that the session says over its whole input. With any other ending the lines up to some line have been answered: each
-/// sink has a front of the output for them, and the files are as these lines leave them, except perhaps for one that
-/// could not be written. If the input is too long or the source failed, these are the complete lines of the bytes read,
-/// and all of their output is written. Every ending except `Done` and `NoMemory` has its cause. The contents of the
-/// files need not be known if no line loads one. `unasked`: if no line names a file, the files are not used. `opening`:
-/// nothing is read from the source before the opening is written. `order`: nothing is written to `out` before the
-/// notices of the opening.
-pub fn run_session<S: Source, O: Sink, E: Sink, F: Files, L: Ledger>(
-    alloc: Global,
-    session: &mut Session,
-    said: &mut Said,
-    src: &mut S,
-    out: &mut O,
-    err: &mut E,
-    files: &mut F,
-    steps: &mut Steps<L>,
-) -> SessionEnd
-    ensures run { spec.IsSessionRun said.old session.old result
-        (world_of (source_of (S.left src.old) (S.taken src.old) (S.faults src.old))
-        (sink_of (O.written out.old) (O.faults out.old)) (sink_of (E.written err.old) (E.faults err.old))
-        (files_seen (F.files files.old) (F.faults files.old) (F.store_faults files.old)) steps.old)
-        (world_of (source_of (S.left src.new) (S.taken src.new) (S.faults src.new))
-        (sink_of (O.written out.new) (O.faults out.new)) (sink_of (E.written err.new) (E.faults err.new))
-        (files_seen (F.files files.new) (F.faults files.new) (F.store_faults files.new)) steps.new) }
-    ensures unasked { (input : List ℕ) → S.left src.old ≡ Some input → NamesNoFile input → files.new ≡ files.old }
-    ensures opening { (src.new ≡ src.old) ⊎ (GrowsAtLeast (O.written out.old) (O.written out.new) said.old.out.items
-        × GrowsAtLeast (E.written err.old) (E.written err.new) said.old.err.items) }
-    ensures order { (out.new ≡ out.old) ⊎ GrowsAtLeast (E.written err.old) (E.written err.new) said.old.err.items }
-{
-    let mut held = Held::new(alloc);
-    let Ok(mut block) = vec![in alloc; 0u8; BLOCK] else {
-        return SessionEnd::NoMemory;
-    };
-    match said.write(out, err) {
-        Ok(()) => {}
-        Err(_) => return SessionEnd::WriteFault,
+impl Listener {
+    /// Writes the opening, and then answers the lines of a source, block by block. The output for a block is written before
+    /// more is read, and as soon as it is long; notices are written before replies.
+    ///
+    /// `run`: `specs/Runs.antt` states everything that holds of a run. If it ends with `Done`, both sinks have everything
+    /// that the session says over its whole input. With any other ending the lines up to some line have been answered: each
+    /// sink has a front of the output for them, and the files are as these lines leave them, except perhaps for one that
+    /// could not be written. If the input is too long or the source failed, these are the complete lines of the bytes read,
+    /// and all of their output is written. Every ending except `Done` and `NoMemory` has its cause. The contents of the
+    /// files need not be known if no line loads one. `unasked`: if no line names a file, the files are not used. `opening`:
+    /// nothing is read from the source before the opening is written. `order`: nothing is written to `out` before the
+    /// notices of the opening.
+    pub fn answer_source<S: Source, O: Sink, E: Sink, F: Files, L: Ledger>(
+        &mut self,
+        src: &mut S,
+        out: &mut O,
+        err: &mut E,
+        files: &mut F,
+        steps: &mut Steps<L>,
+    ) -> SessionEnd
+        ensures run { spec.IsSessionRun self.old.talk.said self.old.talk.session result
+            (world_of (source_of (S.left src.old) (S.taken src.old) (S.faults src.old))
+            (sink_of (O.written out.old) (O.faults out.old)) (sink_of (E.written err.old) (E.faults err.old))
+            (files_seen (F.files files.old) (F.faults files.old) (F.store_faults files.old)) steps.old)
+            (world_of (source_of (S.left src.new) (S.taken src.new) (S.faults src.new))
+            (sink_of (O.written out.new) (O.faults out.new)) (sink_of (E.written err.new) (E.faults err.new))
+            (files_seen (F.files files.new) (F.faults files.new) (F.store_faults files.new)) steps.new) }
+        ensures unasked { (input : List ℕ) → S.left src.old ≡ Some input → NamesNoFile input → files.new ≡ files.old }
+        ensures opening { (src.new ≡ src.old)
+            ⊎ (GrowsAtLeast (O.written out.old) (O.written out.new) self.old.talk.said.out.items
+            × GrowsAtLeast (E.written err.old) (E.written err.new) self.old.talk.said.err.items) }
+        ensures order { (out.new ≡ out.old)
+            ⊎ GrowsAtLeast (E.written err.old) (E.written err.new) self.old.talk.said.err.items }
+    {
+        // The input begins with a new line.
+        self.held.clear();
+        match self.talk.said.write(out, err) {
+            Ok(()) => self.answer_blocks(src, out, err, files, steps),
+            Err(_) => SessionEnd::WriteFault,
+        }
     }
-    answer_blocks(
-        alloc,
-        session,
-        &mut held,
-        said,
-        block.as_mut_slice(),
-        src,
-        out,
-        err,
-        files,
-        steps,
-    )
-}
 
-// Answers the lines of a source. All output so far has been written.
-fn answer_blocks<S: Source, O: Sink, E: Sink, F: Files, L: Ledger>(
-    alloc: Global,
-    session: &mut Session,
-    held: &mut Held,
-    said: &mut Said,
-    block: &mut [u8],
-    src: &mut S,
-    out: &mut O,
-    err: &mut E,
-    files: &mut F,
-    steps: &mut Steps<L>,
-) -> SessionEnd
-    requires some { 0 < length block.old }
-    requires small { length block.old ≤ 65536 }
-    ensures run { spec.AreAnswered held.old session.old result
-        (world_of (source_of (S.left src.old) (S.taken src.old) (S.faults src.old))
-        (sink_of (O.written out.old) (O.faults out.old)) (sink_of (E.written err.old) (E.faults err.old))
-        (files_seen (F.files files.old) (F.faults files.old) (F.store_faults files.old)) steps.old)
-        (world_of (source_of (S.left src.new) (S.taken src.new) (S.faults src.new))
-        (sink_of (O.written out.new) (O.faults out.new)) (sink_of (E.written err.new) (E.faults err.new))
-        (files_seen (F.files files.new) (F.faults files.new) (F.store_faults files.new)) steps.new) }
-    ensures unasked { (input : List ℕ) → S.left src.old ≡ Some input → Holds [] held.old → NamesNoFile input →
-        files.new ≡ files.old }
-{
-    let mut total = 0u64;
-    while total <= MOST_INPUT {
-        let n = match src.take(block) {
-            Ok(n) => n,
-            Err(_) => return SessionEnd::ReadFault,
+    // Answers the lines of a source. All output so far has been written.
+    fn answer_blocks<S: Source, O: Sink, E: Sink, F: Files, L: Ledger>(
+        &mut self,
+        src: &mut S,
+        out: &mut O,
+        err: &mut E,
+        files: &mut F,
+        steps: &mut Steps<L>,
+    ) -> SessionEnd
+        ensures run { spec.AreAnswered self.old.held self.old.talk.session result
+            (world_of (source_of (S.left src.old) (S.taken src.old) (S.faults src.old))
+            (sink_of (O.written out.old) (O.faults out.old)) (sink_of (E.written err.old) (E.faults err.old))
+            (files_seen (F.files files.old) (F.faults files.old) (F.store_faults files.old)) steps.old)
+            (world_of (source_of (S.left src.new) (S.taken src.new) (S.faults src.new))
+            (sink_of (O.written out.new) (O.faults out.new)) (sink_of (E.written err.new) (E.faults err.new))
+            (files_seen (F.files files.new) (F.faults files.new) (F.store_faults files.new)) steps.new) }
+        ensures unasked { (input : List ℕ) → S.left src.old ≡ Some input → Holds [] self.old.held →
+            NamesNoFile input → files.new ≡ files.old }
+    {
+        let Ok(mut block) = vec![in self.alloc; 0u8; BLOCK] else {
+            return SessionEnd::NoMemory;
         };
-        if n == 0 {
-            return answer_end(alloc, session, held, said, out, err, files, steps);
+        let block = block.as_mut_slice();
+        let mut total = 0u64;
+        while total <= MOST_INPUT {
+            let n = match src.take(block) {
+                Ok(n) => n,
+                Err(_) => return SessionEnd::ReadFault,
+            };
+            if n == 0 {
+                return self.answer_end(out, err, files, steps);
+            }
+            total += n as u64;
+            let taken = &block[..n];
+            if let Some(end) = self.answer_block(taken, out, err, files, steps) {
+                return end;
+            }
         }
-        total += n as u64;
-        let taken = &block[..n];
-        if let Some(end) = answer_block(alloc, session, held, said, out, err, files, steps, taken) {
-            return end;
-        }
+        SessionEnd::InputTooLong
     }
-    SessionEnd::InputTooLong
-}
 
-// Answers the lines of a block. Returns how the session ended, or `None` if it goes on. The output is written after
-// each line that makes it long, and after the block.
-fn answer_block<O: Sink, E: Sink, F: Files, L: Ledger>(
-    alloc: Global,
-    session: &mut Session,
-    held: &mut Held,
-    said: &mut Said,
-    out: &mut O,
-    err: &mut E,
-    files: &mut F,
-    steps: &mut Steps<L>,
-    block: &[u8],
-) -> Option<SessionEnd>
-    ensures run { (was is : SourceSeen) →
-        spec.IsBlockAnswered result block.now held.old session.old held.new session.new
-        (world_of was (sink_of (O.written out.old) (O.faults out.old)) (sink_of (E.written err.old) (E.faults err.old))
-        (files_seen (F.files files.old) (F.faults files.old) (F.store_faults files.old)) steps.old)
-        (world_of is (sink_of (O.written out.new) (O.faults out.new)) (sink_of (E.written err.new) (E.faults err.new))
-        (files_seen (F.files files.new) (F.faults files.new) (F.store_faults files.new)) steps.new) }
-    ensures cut { (taken : List ℕ) → Holds taken held.old → spec.IsBlockCut result taken block.now held.new }
-    ensures unasked { (taken more : List ℕ) → Holds taken held.old → NamesNoFile ((taken ++ block.now) ++ more) →
-        files.new ≡ files.old }
-{
-    let mut rest = block;
-    while !rest.is_empty() {
-        said.clear();
-        let fed = feed(alloc, session, held, said, files, steps, &mut rest);
-        let Ok(()) = said.write(out, err) else {
-            return Some(SessionEnd::WriteFault);
+    // Answers the lines of a block. Returns how the session ended, or `None` if it goes on. The output is written after
+    // each line that makes it long, and after the block.
+    fn answer_block<O: Sink, E: Sink, F: Files, L: Ledger>(
+        &mut self,
+        block: &[u8],
+        out: &mut O,
+        err: &mut E,
+        files: &mut F,
+        steps: &mut Steps<L>,
+    ) -> Option<SessionEnd>
+        ensures run { (was is : SourceSeen) →
+            spec.IsBlockAnswered result block.now self.old.held self.old.talk.session self.new.held
+            self.new.talk.session
+            (world_of was (sink_of (O.written out.old) (O.faults out.old))
+            (sink_of (E.written err.old) (E.faults err.old))
+            (files_seen (F.files files.old) (F.faults files.old) (F.store_faults files.old)) steps.old)
+            (world_of is (sink_of (O.written out.new) (O.faults out.new))
+            (sink_of (E.written err.new) (E.faults err.new))
+            (files_seen (F.files files.new) (F.faults files.new) (F.store_faults files.new)) steps.new) }
+        ensures cut { (taken : List ℕ) → Holds taken self.old.held →
+            spec.IsBlockCut result taken block.now self.new.held }
+        ensures unasked { (taken more : List ℕ) → Holds taken self.old.held →
+            NamesNoFile ((taken ++ block.now) ++ more) → files.new ≡ files.old }
+    {
+        let mut rest = block;
+        while !rest.is_empty() {
+            self.talk.said.clear();
+            let fed = self.feed_block(files, steps, &mut rest);
+            let Ok(()) = self.talk.said.write(out, err) else {
+                return Some(SessionEnd::WriteFault);
+            };
+            if let Some(end) = end_of(fed) {
+                return Some(end);
+            }
+        }
+        None
+    }
+
+    // Answers the line that the end of the input completes, if there is one, and returns how the session ended.
+    fn answer_end<O: Sink, E: Sink, F: Files, L: Ledger>(
+        &mut self,
+        out: &mut O,
+        err: &mut E,
+        files: &mut F,
+        steps: &mut Steps<L>,
+    ) -> SessionEnd
+        ensures run { (was is : SourceSeen) →
+            spec.IsEndAnswered result self.old.held self.old.talk.session
+            (world_of was (sink_of (O.written out.old) (O.faults out.old))
+            (sink_of (E.written err.old) (E.faults err.old))
+            (files_seen (F.files files.old) (F.faults files.old) (F.store_faults files.old)) steps.old)
+            (world_of is (sink_of (O.written out.new) (O.faults out.new))
+            (sink_of (E.written err.new) (E.faults err.new))
+            (files_seen (F.files files.new) (F.faults files.new) (F.store_faults files.new)) steps.new) }
+        ensures unasked { (input : List ℕ) → Holds input self.old.held → NamesNoFile input → files.new ≡ files.old }
+    {
+        self.talk.said.clear();
+        let fed = self.feed_end(files, steps);
+        let Ok(()) = self.talk.said.write(out, err) else {
+            return SessionEnd::WriteFault;
         };
-        if let Some(end) = end_of(fed) {
-            return Some(end);
-        }
+        last_end(fed)
     }
-    None
-}
-
-// Answers the line that the end of the input completes, if there is one, and returns how the session ended.
-fn answer_end<O: Sink, E: Sink, F: Files, L: Ledger>(
-    alloc: Global,
-    session: &mut Session,
-    held: &Held,
-    said: &mut Said,
-    out: &mut O,
-    err: &mut E,
-    files: &mut F,
-    steps: &mut Steps<L>,
-) -> SessionEnd
-    ensures run { (was is : SourceSeen) → spec.IsEndAnswered result held.now session.old
-        (world_of was (sink_of (O.written out.old) (O.faults out.old)) (sink_of (E.written err.old) (E.faults err.old))
-        (files_seen (F.files files.old) (F.faults files.old) (F.store_faults files.old)) steps.old)
-        (world_of is (sink_of (O.written out.new) (O.faults out.new)) (sink_of (E.written err.new) (E.faults err.new))
-        (files_seen (F.files files.new) (F.faults files.new) (F.store_faults files.new)) steps.new) }
-    ensures unasked { (input : List ℕ) → Holds input held.now → NamesNoFile input → files.new ≡ files.old }
-{
-    said.clear();
-    let fed = feed_end(alloc, session, held, said, files, steps);
-    let Ok(()) = said.write(out, err) else {
-        return SessionEnd::WriteFault;
-    };
-    last_end(fed)
 }
 
 // Returns how the session ended with the bytes that were fed, or `None` if it goes on.

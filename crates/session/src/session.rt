@@ -5,47 +5,37 @@ ghost use Rattle.reply.specs.Options.{IsPrintable};
 ghost use Rattle.session.specs.Sessions.{prompt, session_of};
 ghost use Rattle.session.specs.Versions.{no_versions};
 
+use crate::workspace::Workspace;
 use edit_history::History;
 use live_table::LiveTable;
 use reply::Options;
 use std::alloc::Global;
 use std::marker::Model;
-use units_io::Text;
 use watch::Watches;
 
-/// A session: the options for its replies, the live table with the history of its edits, the text of FROM if one is
-/// pending, and the watched conversions.
+/// A session. Contracts see the options for its replies, the live table, the text of FROM if one is pending, the
+/// versions of the deck that an undo and a redo restore, and the watched conversions.
 pub struct Session {
-    pub(crate) options: Options,
-    pub(crate) table: LiveTable,
-    pub(crate) history: History,
-    pub(crate) pending: Option<Text>,
-    pub(crate) watches: Watches,
+    pub(crate) workspace: Workspace,
 }
 
 // Written by hand, so that code that drops a session need not prove anything about its contents.
 impl Drop for Session {
     fn drop(self) {
-        let Session {
-            options: _,
-            table: _,
-            history: _,
-            pending: _,
-            watches: _,
-        } = self;
+        let Session { workspace: _ } = self;
     }
 }
 
 impl Model for Session {
-    ghost use Rattle.session.specs.Sessions.{IsSessionInvariant, SessionState, known_code, session_of_history};
+    ghost use Rattle.session.specs.Sessions.{IsOneSession, SessionState, known_code, session_in};
 
     ghost Value = { SessionState };
 
     ghost coded = { known_code };
 
-    ghost view = { λ s. session_of_history s.options s.table s.history s.pending s.watches };
+    ghost view = { λ s. session_in s.workspace };
 
-    ghost invariant = { λ s. IsSessionInvariant s.options s.table s.history s.watches };
+    ghost invariant = { λ s. IsOneSession s.workspace };
 }
 
 impl Session {
@@ -55,11 +45,13 @@ impl Session {
         ensures { result ≡ session_of options table None no_versions [] }
     {
         Session {
-            options,
-            table,
-            history: History::new(alloc),
-            pending: None,
-            watches: Watches::new(alloc),
+            workspace: Workspace {
+                options,
+                table,
+                history: History::new(alloc),
+                pending: None,
+                watches: Watches::new(alloc),
+            },
         }
     }
 
@@ -68,10 +60,10 @@ impl Session {
     pub fn prompt(&self) -> &[u8]
         ensures { result.now ≡ prompt self.now }
     {
-        if self.options.quiet {
+        if self.workspace.options.quiet {
             return b"".as_slice();
         }
-        match &self.pending {
+        match &self.workspace.pending {
             None => b"You have: ".as_slice(),
             Some(_) => b"You want: ".as_slice(),
         }
@@ -81,13 +73,13 @@ impl Session {
     pub(crate) fn is_quiet(&self) -> bool
         ensures { result ≡ self.now.options.quiet }
     {
-        self.options.quiet
+        self.workspace.options.quiet
     }
 
     /// Borrows the live table.
     pub fn table(&self) -> &LiveTable
         ensures { result.now ≡ self.now.table }
     {
-        &self.table
+        &self.workspace.table
     }
 }

@@ -8,7 +8,7 @@ ghost use Rattle.survey.specs.ConversionReplies as spec;
 ghost use Rattle.session.specs.Parts.{IsReplied};
 
 use live_table::LiveTable;
-use reply::{FromValue, Options, convert_reply, definition_reply, from_value};
+use reply::{FromValue, Options, definition_reply, from_value};
 use std::alloc::{AllocError, Global};
 use std::sync::ledger::Ledger;
 use survey::conformable_reply;
@@ -45,24 +45,6 @@ pub(crate) fn ask_definition<L: Ledger>(
     ensures deck { table.new.deck ≡ table.old.deck }
 {
     let reply = definition_reply(alloc, table, options, from, steps)?;
-    Ok(reply.text)
-}
-
-/// Returns the reply to a conversion.
-pub(crate) fn ask_conversion<L: Ledger>(
-    alloc: Global,
-    options: &Options,
-    table: &mut LiveTable,
-    from: &[u8],
-    to: &[u8],
-    steps: &mut Steps<L>,
-) -> Result<Text, AllocError>
-    requires { IsPrintable options.now }
-    ensures reply { let asked = spec.asked_conversion (tables.table table.old.deck) options.now from.now to.now in
-        IsReplied asked.queries asked.reply.text result table.old table.new steps.old steps.new }
-    ensures deck { table.new.deck ≡ table.old.deck }
-{
-    let reply = convert_reply(alloc, table, options, from, to, steps)?;
     Ok(reply.text)
 }
 

@@ -1,7 +1,6 @@
 //! The conversions that a session watches.
 
-ghost use Rattle.std.specs.Prelude.{◌≡◌, ℕ, List, map, IfOk, OnOk, false};
-ghost use Rattle.std.specs.declared.option.Option.{Option};
+ghost use Rattle.std.specs.Prelude.{◌≡◌, map, IfOk, OnOk, false};
 ghost use Rattle.units_io.specs.FileMap.{FileMap};
 ghost use Rattle.def_entry.specs.Tables.{Table};
 ghost use Rattle.deck.specs.Tables as tables;
@@ -10,14 +9,14 @@ ghost use Rattle.reply.specs.Options.{IsPrintable};
 ghost use Rattle.session.specs.AnswerEffects.{FailsOnlyForMemory};
 ghost use Rattle.session.specs.Answers.{watch_answer};
 ghost use Rattle.session.specs.Parts.{IsAnswerGiven};
-ghost use Rattle.session.specs.Sessions.{session_of, state_of};
-ghost use Rattle.session.specs.Versions.{Versions};
+ghost use Rattle.session.specs.Sessions.{IsOneSession, session_in, state_of};
 ghost use Rattle.session.specs.WatchQueries.{is_full, watched_queries};
 ghost use Rattle.watch.specs.Edits.{report_by_edit};
 ghost use Rattle.watch.specs.WatchViews.{AreCurrent, subject_of, watch_subject};
 
 use crate::answer::{LineReply, output_reply};
 use crate::fault::SessionFault;
+use crate::workspace::Workspace;
 use live_table::LiveTable;
 use reply::Options;
 use std::alloc::{AllocError, Global};
@@ -27,7 +26,7 @@ use watch::{WatchFault, Watches};
 
 /// Queries all watched conversions again and returns the report on those that an edit changed. The only error is
 /// running out of memory, after which nothing is watched.
-pub(crate) fn tell_changes<L: Ledger>(
+pub(crate) fn report_changes<L: Ledger>(
     alloc: Global,
     options: &Options,
     table: &mut LiveTable,
@@ -53,33 +52,34 @@ pub(crate) fn tell_changes<L: Ledger>(
     }
 }
 
-/// Watches a conversion and returns its reply, unless the largest number is already watched.
-pub(crate) fn watch<L: Ledger>(
-    alloc: Global,
-    options: &Options,
-    table: &mut LiveTable,
-    watches: &mut Watches,
-    from: &[u8],
-    to: &[u8],
-    steps: &mut Steps<L>,
-) -> Result<LineReply, SessionFault>
-    requires printable { IsPrintable options.now }
-    requires current { AreCurrent (tables.table table.old.deck) options.now watches.old }
-    ensures said { (pending : Option (List ℕ)) (versions : Versions) (m : FileMap) → IsAnswerGiven
-        (watch_answer (is_full (map subject_of watches.old)) (watch_subject from.now to.now)
-        (state_of (session_of options.now table.old pending versions (map subject_of watches.old)) m)) result
-        (session_of options.now table.new pending versions (map subject_of watches.new)) steps.old steps.new }
-    ensures done { IfOk result (λ reply. reply.done ≡ false) }
-    ensures deck { table.new.deck ≡ table.old.deck }
-    ensures current { AreCurrent (tables.table table.new.deck) options.now watches.new }
-    ensures calm { FailsOnlyForMemory result }
-{
-    match watches.add(alloc, table, options, from, to, steps) {
-        Ok(text) => Ok(output_reply(alloc, text)),
-        Err(WatchFault::TooMany) => {
-            let line = Text::from_bytes(alloc, b"too many watches\n")?;
-            Ok(output_reply(alloc, line))
+impl Workspace {
+    /// Watches a conversion and returns its reply, unless the largest number is already watched.
+    pub(crate) fn watch<L: Ledger>(
+        &mut self,
+        alloc: Global,
+        from: &[u8],
+        to: &[u8],
+        steps: &mut Steps<L>,
+    ) -> Result<LineReply, SessionFault>
+        requires parts { IsOneSession self.old }
+        ensures said { (m : FileMap) → IsAnswerGiven
+            (watch_answer (is_full (map subject_of self.old.watches)) (watch_subject from.now to.now)
+            (state_of (session_in self.old) m))
+            result (session_in self.new) steps.old steps.new }
+        ensures done { IfOk result (λ reply. reply.done ≡ false) }
+        ensures parts { IsOneSession self.new }
+        ensures calm { FailsOnlyForMemory result }
+    {
+        match self
+            .watches
+            .add(alloc, &mut self.table, &self.options, from, to, steps)
+        {
+            Ok(text) => Ok(output_reply(alloc, text)),
+            Err(WatchFault::TooMany) => {
+                let line = Text::from_bytes(alloc, b"too many watches\n")?;
+                Ok(output_reply(alloc, line))
+            }
+            Err(WatchFault::OutOfMemory) => Err(SessionFault::OutOfMemory),
         }
-        Err(WatchFault::OutOfMemory) => Err(SessionFault::OutOfMemory),
     }
 }

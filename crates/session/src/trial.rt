@@ -6,11 +6,11 @@ ghost use Rattle.session.specs.Talks.{trace_on};
 ghost use Rattle.session.specs.TrialEffects.{IsTalked, Tells};
 ghost use Rattle.session.specs.Trials as spec;
 
-use crate::partial_line::Held;
+use crate::listener::Listener;
 use crate::session::Session;
 use crate::session_output::Said;
 use crate::table_counts::{put_count, statistics};
-use crate::talk::{feed, feed_end};
+use crate::talk::Talk;
 use crate::text_decks::text_deck;
 use crate::trial_lines::{all_rounds, definitions};
 use deck::{Deck, NoFiles, Settings};
@@ -36,10 +36,10 @@ pub fn run_trial<L: Ledger>(
 {
     let text = definitions(alloc, rounds)?;
     let deck = text_deck(alloc, &text, b"trial", settings)?;
-    let mut session = quiet_session(alloc, deck, options);
+    let session = quiet_session(alloc, deck, options);
     let lines = all_rounds(alloc, rounds)?;
-    let said = run_lines(alloc, &mut session, &lines, steps)?;
-    summary(alloc, rounds, said.out.len(), session.table())
+    let talk = answer_lines(alloc, session, &lines, steps)?;
+    summary(alloc, rounds, talk.said.out.len(), talk.session.table())
 }
 
 // Returns a session that says nothing but answers.
@@ -54,34 +54,32 @@ fn quiet_session(alloc: Global, deck: Deck, options: Options) -> Session
     Session::new(alloc, LiveTable::new(alloc, deck), options)
 }
 
-// Returns what the session says to all lines.
-fn run_lines<L: Ledger>(
+// Returns the session after all lines, with what it says to them.
+fn answer_lines<L: Ledger>(
     alloc: Global,
-    session: &mut Session,
+    session: Session,
     lines: &[u8],
     steps: &mut Steps<L>,
-) -> Result<Said, AllocError>
-    ensures { IfOk result (λ said.
-        IsTalked (trace_on (spec.silent_trace session.old) lines.now) said session.new steps.old steps.new) }
+) -> Result<Talk, AllocError>
+    ensures { IfOk result (λ talk.
+        IsTalked (trace_on (spec.silent_trace session) lines.now) talk.said talk.session steps.old steps.new) }
 {
     let mut files = NoFiles::new();
-    let mut held = Held::new(alloc);
-    let mut said = Said {
+    let said = Said {
         out: Vec::new(alloc),
         err: Vec::new(alloc),
     };
+    let mut listener = Listener::new(alloc, session, said);
     let mut rest = lines;
     while !rest.is_empty() {
-        match feed(
-            alloc, session, &mut held, &mut said, &mut files, steps, &mut rest,
-        ) {
-            Ok(true) => return Ok(said),
+        match listener.feed_block(&mut files, steps, &mut rest) {
+            Ok(true) => return Ok(listener.talk),
             Ok(false) => {}
             Err(_) => return Err(AllocError),
         }
     }
-    match feed_end(alloc, session, &held, &mut said, &mut files, steps) {
-        Ok(()) => Ok(said),
+    match listener.feed_end(&mut files, steps) {
+        Ok(()) => Ok(listener.talk),
         Err(_) => Err(AllocError),
     }
 }

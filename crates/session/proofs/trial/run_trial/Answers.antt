@@ -10,10 +10,10 @@ text_deck-requires g c = subst FitsDeck (sym c.deref.ensures.value) c.in_ok-text
 pub returns : goal.returns
 returns g c =
     told_summary c.summary.result c.args.rounds _ _ (trial_session c.args.options c.args.settings c.args.rounds)
-    c.args.steps.now c.run_lines.new.steps
+    c.args.steps.now c.answer_lines.new.steps
     (λ text is.
-    told_trial c.args.options c.args.settings c.args.rounds _ _ _ _ _ _ _ _ text c.args.steps.now c.run_lines.new.steps
+    told_trial c.args.options c.args.settings c.args.rounds _ _ _ _ _ _ _ _ text c.args.steps.now c.answer_lines.new.steps
     (c.deref.ensures.value ∙ c.in_ok-text.ensures.is) c.in_ok-deck.ensures.is c.quiet_session-session.ensures
-    (c.deref-2.ensures.value ∙ c.in_ok-lines.ensures) c.in_ok-said.ensures
-    (omega (arith, c.len.ensures, c.in_ok-said.said.out.ok.0)) c.table.ensures is)
+    (c.deref-2.ensures.value ∙ c.in_ok-lines.ensures) c.in_ok-talk.ensures
+    (omega (arith, c.len.ensures, c.in_ok-talk.talk.said.out.ok.0)) c.table.ensures is)
     c.summary.ensures

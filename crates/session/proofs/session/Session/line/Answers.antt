@@ -1,4 +1,4 @@
-use Rattle.std.proofs.Common.{◌≡◌, ◌∙◌, [], Some, false, IfOk, OnOk, map, sym, subst, ap, refl, arith, true≢false}
+use Rattle.std.proofs.Common.{◌≡◌, ◌∙◌, [], Some, false, IfOk, OnOk, sym, subst, ap, refl, arith, true≢false}
 use Rattle.units_io.specs.FileMap.{FileMap}
 use Rattle.deck.specs.Decks.{Contents}
 use Rattle.deck_save.specs.SavedText.{saved_file}
@@ -6,34 +6,26 @@ use Rattle.session.specs.AnswerEffects.{IsLineAnswered, scene_of}
 use Rattle.session.specs.Answers.{files_saved, save_reply_text}
 use Rattle.session.specs.Commands.{Command, command_of, is_load, is_quit, is_save, names_file, saved_in, saved_name}
 use Rattle.session.specs.Parts.{IsAnswerGiven, IsLine}
-use Rattle.session.specs.Sessions.{SessionState, session_of_versions, state_of}
+use Rattle.session.specs.Sessions.{SessionState, session_in, state_of}
 use Rattle.session.specs.Steps.{answer_to}
-use Rattle.session.specs.Versions.{table_with_versions}
 use Rattle.session.proofs.LineAnswers.{no_save, said_answered, save_answered, tells_needed}
 use Rattle.session.proofs.BrokenAnswers.{line_same, line_saves}
 use Rattle.session.proofs.FetchFaultCounts.{unread}
 use Rattle.session.proofs.session.Session.line.Goals as goal
-use Rattle.watch.specs.WatchViews.{subject_of}
 
 pub returns-in-Load-clause-answer : goal.returns-in-Load-clause-answer
 returns-in-Load-clause-answer g c = λ m h.
-    let now = session_of_versions c.self.inside.options (table_with_versions c.load.new.table c.load.new.history)
-    c.self.inside.pending
-    (map subject_of c.load.new.watches) in
-    let before = session_of_versions c.self.inside.options
-    (table_with_versions c.self.inside.table c.self.inside.history)
-    c.self.inside.pending (map subject_of c.self.inside.watches) in
+    let now = session_in c.load.new.self in
+    let before = session_in c.self.inside.workspace in
     said_answered c.load.result c.args.self.now now m (command_of c.args.line.now) _ _ _ c.args.steps.now
     c.load.new.steps h c.load.ensures.kept (sym (ap is_save (c.in-Load.ensures {u = tt})))
     (subst (λ (k : SessionState). IsAnswerGiven (answer_to (state_of k m) (command_of c.args.line.now)) c.load.result
-    now
-    c.args.steps.now c.load.new.steps)
+    now c.args.steps.now c.load.new.steps)
     c.self.view_is
     (subst (λ (a : Command). IsAnswerGiven (answer_to (state_of before m) a) c.load.result now c.args.steps.now
     c.load.new.steps)
     (c.in-Load.ensures {u = tt})
-    (c.load.ensures.said c.self.inside.pending m
-    (tells_needed _ _ m (sym (ap is_load (c.in-Load.ensures {u = tt}))) h))))
+    (c.load.ensures.said m (tells_needed _ _ m (sym (ap is_load (c.in-Load.ensures {u = tt}))) h))))
 
 pub returns-in-Save-clause-answer : goal.returns-in-Save-clause-answer
 returns-in-Save-clause-answer g c = λ m h.
@@ -55,18 +47,13 @@ returns-in-Save-clause-answer g c = λ m h.
 
 pub returns-in_default-clause-answer : goal.returns-in_default-clause-answer
 returns-in_default-clause-answer g c = λ m h.
-    let now = session_of_versions c.self.inside.options (table_with_versions c.perform.new.table c.perform.new.history)
-    c.perform.new.pending
-    (map subject_of c.perform.new.watches) in
-    let before = session_of_versions c.self.inside.options
-    (table_with_versions c.self.inside.table c.self.inside.history)
-    c.self.inside.pending (map subject_of c.self.inside.watches) in
+    let now = session_in c.perform.new.self in
+    let before = session_in c.self.inside.workspace in
     said_answered c.perform.result c.args.self.now _ m (command_of c.args.line.now) _ _ _ c.args.steps.now
     c.perform.new.steps h refl
     (sym (ap is_save c.read_command.ensures) ∙ no_save c.read_command.result c.in_default.not-Save)
     (subst (λ (k : SessionState). IsAnswerGiven (answer_to (state_of k m) (command_of c.args.line.now)) c.perform.result
-    now
-    c.args.steps.now c.perform.new.steps)
+    now c.args.steps.now c.perform.new.steps)
     c.self.view_is
     (subst (λ (a : Command). IsAnswerGiven (answer_to (state_of before m) a) c.perform.result now c.args.steps.now
     c.perform.new.steps)

@@ -1,0 +1,164 @@
+//! Listening to the bytes of an input, block by block.
+
+ghost use Rattle.std.specs.Prelude.{◌≡◌, ◌++◌, ◌∷◌, ◌≤◌, ◌<◌, List, ℕ, Some, [], length, IfOk, IfSome, MatchResult};
+ghost use Rattle.std.specs.Prelude.{false};
+ghost use Rattle.std.specs.Option.{option_copied};
+ghost use Rattle.session.specs.AnswerEffects.{AreCounted, file_faults};
+ghost use Rattle.session.specs.HeardLines.{NamesNoFile, any_loads_file, heard, is_last, loads_file_in, longest_line};
+ghost use Rattle.session.specs.HeardLines.{names_file_in, readable};
+ghost use Rattle.session.specs.Input.{lines_of};
+ghost use Rattle.session.specs.SessionProgress.{Base, Fed, Holds, IsAt, IsBroken, IsTakenUp, Stands, now_of};
+ghost use Rattle.session.specs.Steps as spec;
+ghost use Rattle.session.specs.Talks.{SessionTrace, talk_with_answer, trace_on};
+ghost use Rattle.session.specs.KnownContents.{IsToldIf};
+
+use crate::fault::SessionFault;
+use crate::partial_line::{Held, LONGEST_LINE};
+use crate::session::Session;
+use crate::session_output::Said;
+use crate::talk::Talk;
+use def_entry::cut_at;
+use std::alloc::Global;
+use std::sync::ledger::Ledger;
+use units_io::{Files, Steps};
+
+/// A session that reads an input: the session with its output that is not written yet, and the line of the input that
+/// is not complete yet.
+#[derive(Drop)]
+pub struct Listener {
+    pub(crate) alloc: Global,
+    pub(crate) talk: Talk,
+    pub(crate) held: Held,
+}
+
+impl Listener {
+    /// Returns a session that has read nothing yet, with output that it has not written yet. Allocates no memory.
+    pub fn new(alloc: Global, session: Session, said: Said) -> Listener
+        ensures talk { result.talk ≡ record { session = session; said = said } }
+        ensures held { result.held ≡ Some [] }
+    {
+        Listener {
+            alloc,
+            talk: Talk { session, said },
+            held: Held::new(alloc),
+        }
+    }
+
+    /// Answers the lines of a block, to the end of the block or to the line after which the output is long. Returns
+    /// whether a line ended the session. If none did, `rest` is then the unread remainder of the block. Lines that lie
+    /// completely within the block are answered without a copy.
+    pub(crate) fn feed_block<F: Files, L: Ledger>(
+        &mut self,
+        files: &mut F,
+        steps: &mut Steps<L>,
+        rest: &mut &[u8],
+    ) -> Result<bool, SessionFault>
+        ensures told { (base : Base) (first : SessionTrace) (taken more : List ℕ) →
+            IsToldIf (any_loads_file ((taken ++ rest.old.now) ++ more)) base.files →
+            Stands base first taken self.old.held
+            (now_of self.old.talk.said self.old.talk.session (F.files files.old) steps.old) →
+            Fed result base first taken rest.old.now rest.new.now more self.new.held
+            (now_of self.new.talk.said self.new.talk.session (F.files files.new) steps.new) }
+        ensures faults { AreCounted result (file_faults (F.faults files.old) (F.store_faults files.old))
+            (file_faults (F.faults files.new) (F.store_faults files.new)) }
+        ensures cut { (taken : List ℕ) → Holds taken self.old.held →
+            IsTakenUp result taken rest.old.now rest.new.now self.new.held }
+        ensures unasked { (taken more : List ℕ) → Holds taken self.old.held →
+            NamesNoFile ((taken ++ rest.old.now) ++ more) → files.new ≡ files.old }
+        ensures shorter { 0 < length rest.old.now → length rest.new.now < length rest.old.now }
+    {
+        while let Some((piece, behind)) = cut_at(*rest, b'\n') {
+            *rest = behind;
+            match self.end_line(files, steps, piece) {
+                Ok(false) => {}
+                Ok(true) => return Ok(true),
+                Err(fault) => return Err(fault),
+            }
+            if self.talk.said.is_long() {
+                return Ok(false);
+            }
+        }
+        let piece = *rest;
+        *rest = &[];
+        match self.held.add(piece) {
+            Ok(()) => Ok(false),
+            Err(_) => Err(SessionFault::OutOfMemory),
+        }
+    }
+
+    /// Handles the end of the input, which completes a line that is held.
+    pub(crate) fn feed_end<F: Files, L: Ledger>(
+        &mut self,
+        files: &mut F,
+        steps: &mut Steps<L>,
+    ) -> Result<(), SessionFault>
+        ensures told { (base : Base) (first : SessionTrace) (input : List ℕ) →
+            IsToldIf (any_loads_file input) base.files → Stands base first input self.old.held
+            (now_of self.old.talk.said self.old.talk.session (F.files files.old) steps.old) →
+            MatchResult result
+            (λ _. IsAt base (trace_on first input)
+            (now_of self.new.talk.said self.new.talk.session (F.files files.new) steps.new))
+            (λ fault. IsBroken fault base first (heard (lines_of input))
+            (now_of self.new.talk.said self.new.talk.session (F.files files.new) steps.new)) }
+        ensures faults { AreCounted result (file_faults (F.faults files.old) (F.store_faults files.old))
+            (file_faults (F.faults files.new) (F.store_faults files.new)) }
+        ensures unasked { (input : List ℕ) → Holds input self.old.held → NamesNoFile input → files.new ≡ files.old }
+    {
+        if self.held.is_empty() {
+            return Ok(());
+        }
+        match self.talk.reply(self.alloc, self.held.line(), files, steps) {
+            Ok(_) => Ok(()),
+            Err(fault) => Err(fault),
+        }
+    }
+
+    // Answers the held line, completed by a piece, and returns whether it is the last.
+    fn end_line<F: Files, L: Ledger>(
+        &mut self,
+        files: &mut F,
+        steps: &mut Steps<L>,
+        piece: &[u8],
+    ) -> Result<bool, SessionFault>
+        ensures told { (base : Base) (talk : SessionTrace) (part : List ℕ) → self.old.held ≡ readable part →
+            IsToldIf (loads_file_in (part ++ piece.now)) base.files → IsAt base talk
+            (now_of self.old.talk.said self.old.talk.session (F.files files.old) steps.old) →
+            MatchResult result
+            (λ done. (done ≡ is_last (part ++ piece.now)) × (self.new.held ≡ Some [])
+            × IsAt base (talk_with_answer talk (spec.line_answer talk.state (part ++ piece.now)) (part ++ piece.now))
+            (now_of self.new.talk.said self.new.talk.session (F.files files.new) steps.new))
+            (λ fault. IsBroken fault base talk ((part ++ piece.now) ∷ [])
+            (now_of self.new.talk.said self.new.talk.session (F.files files.new) steps.new)) }
+        ensures faults { AreCounted result (file_faults (F.faults files.old) (F.store_faults files.old))
+            (file_faults (F.faults files.new) (F.store_faults files.new)) }
+        ensures last { (part : List ℕ) → self.old.held ≡ readable part →
+            IfOk result (λ done. (done ≡ is_last (part ++ piece.now)) × (self.new.held ≡ Some [])) }
+        ensures unasked { (part : List ℕ) → self.old.held ≡ readable part →
+            names_file_in (part ++ piece.now) ≡ false → files.new ≡ files.old }
+    {
+        if self.held.is_empty() {
+            let done = self.talk.reply(self.alloc, short(piece), files, steps);
+            self.held.clear();
+            return done;
+        }
+        match self.held.add(piece) {
+            Ok(()) => {}
+            Err(_) => return Err(SessionFault::OutOfMemory),
+        }
+        let done = self.talk.reply(self.alloc, self.held.line(), files, steps);
+        self.held.clear();
+        done
+    }
+}
+
+// Returns the line, or `None` if it is too long.
+#[tactic(auto, unfolding(crate::specs::HeardLines::readable))]
+fn short(line: &[u8]) -> Option<&[u8]>
+    ensures is { option_copied result ≡ readable line.now }
+    ensures short { IfSome result (λ line. length line.now ≤ longest_line) }
+{
+    if line.len() > LONGEST_LINE {
+        return None;
+    }
+    Some(line)
+}
