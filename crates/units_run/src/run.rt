@@ -19,7 +19,7 @@ use crate::plan::Plan;
 use crate::status::Status;
 use crate::words_plan::make_plan;
 use reply::grant_law;
-use session::{SessionEnd, run_session};
+use session::{Listener, SessionEnd};
 use std::alloc::Global;
 use std::mem;
 use std::sync::ledger::Ledger;
@@ -83,10 +83,9 @@ pub fn units_main<S: Source, O: Sink, E: Sink, F: Files, L: Ledger>(
         },
         Ok(Plan::Check(plan)) => write_check(alloc, plan, out, steps),
         Ok(Plan::Opened(said, session)) => {
-            let mut said = said;
-            let mut session = session;
-            let end = run_session(alloc, &mut session, &mut said, src, out, err, files, steps);
-            mem::forget(session);
+            let mut listener = Listener::new(alloc, session, said);
+            let end = listener.answer_source(src, out, err, files, steps);
+            mem::forget(listener);
             status_of(end)
         }
         Ok(Plan::Columns(plan)) => plan.convert_column(alloc, src, out, err, steps),

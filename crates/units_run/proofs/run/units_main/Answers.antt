@@ -92,32 +92,32 @@ returns-in-Ok-Opened-clause-run g c =
     let before = outside_of (g.S.Source.left c.args.src.now) (g.O.Sink.written c.args.out.now)
     (g.E.Sink.written c.args.err.now) (g.F.Files.files c.args.files.now) (g.F.Files.faults c.args.files.now)
     (g.F.Files.store_faults c.args.files.now) c.args.steps.now in
-    let end = c.run_session-end.new in
+    let end = c.answer_source-end.new in
     let after = outside_of (g.S.Source.left end.src) (g.O.Sink.written end.out) (g.E.Sink.written end.err)
     (g.F.Files.files end.files) (g.F.Files.faults end.files) (g.F.Files.store_faults end.files) end.steps in
     let opened = c.in-Ok-Opened in
     let kind = rw opened.field-0-is at opened.ensures.kind in
-    let ended = c.run_session-end.ensures.run in
+    let ended = rw c.new-listener.ensures.talk at c.answer_source-end.ensures.run in
     let is = sym c.status_of.ensures in
     let opens : (OpensNone c.args.words.now c.args.vars.now c.status_of.result (g.F.Files.files c.args.files.now) → ⊥) =
-    session_opens _ _ _ opened.said opened.session c.run_session-end.result _ _ _ kind.1 is
+    session_opens _ _ _ opened.said opened.session c.answer_source-end.result _ _ _ kind.1 is
     (λ m s. rw opened.field-0-is at (opened.ensures.told m s)) in
     let read : (c.status_of.result ≡ ReadFault → CountRose (g.S.Source.faults c.args.src.now)
-    (g.S.Source.faults c.run_session-end.new.src)
-    ⊎ CountRose (g.F.Files.faults c.args.files.now) (g.F.Files.faults c.run_session-end.new.files)) = λ so.
+    (g.S.Source.faults c.answer_source-end.new.src)
+    ⊎ CountRose (g.F.Files.faults c.args.files.now) (g.F.Files.faults c.answer_source-end.new.files)) = λ so.
     subst
-    (λ (n : ℕ). CountRose (g.S.Source.faults c.args.src.now) (g.S.Source.faults c.run_session-end.new.src)
-    ⊎ CountRose n (g.F.Files.faults c.run_session-end.new.files))
-    opened.ensures.calm (ended.has_cause.read_cause (read_end c.run_session-end.result (is ∙ so))) in
+    (λ (n : ℕ). CountRose (g.S.Source.faults c.args.src.now) (g.S.Source.faults c.answer_source-end.new.src)
+    ⊎ CountRose n (g.F.Files.faults c.answer_source-end.new.files))
+    opened.ensures.calm (ended.has_cause.read_cause (read_end c.answer_source-end.result (is ∙ so))) in
     let write : (c.status_of.result ≡ WriteFault → CountRose (g.O.Sink.faults c.args.out.now)
-    (g.O.Sink.faults c.run_session-end.new.out)
-    ⊎ CountRose (g.E.Sink.faults c.args.err.now) (g.E.Sink.faults c.run_session-end.new.err)
-    ⊎ CountRose (g.F.Files.store_faults c.args.files.now) (g.F.Files.store_faults c.run_session-end.new.files)) = λ so.
+    (g.O.Sink.faults c.answer_source-end.new.out)
+    ⊎ CountRose (g.E.Sink.faults c.args.err.now) (g.E.Sink.faults c.answer_source-end.new.err)
+    ⊎ CountRose (g.F.Files.store_faults c.args.files.now) (g.F.Files.store_faults c.answer_source-end.new.files)) = λ so.
     subst
-    (λ (n : ℕ). CountRose (g.O.Sink.faults c.args.out.now) (g.O.Sink.faults c.run_session-end.new.out)
-    ⊎ CountRose (g.E.Sink.faults c.args.err.now) (g.E.Sink.faults c.run_session-end.new.err)
-    ⊎ CountRose n (g.F.Files.store_faults c.run_session-end.new.files))
-    opened.ensures.stores (ended.has_cause.write_cause (write_end c.run_session-end.result (is ∙ so))) in
+    (λ (n : ℕ). CountRose (g.O.Sink.faults c.args.out.now) (g.O.Sink.faults c.answer_source-end.new.out)
+    ⊎ CountRose (g.E.Sink.faults c.args.err.now) (g.E.Sink.faults c.answer_source-end.new.err)
+    ⊎ CountRose n (g.F.Files.store_faults c.answer_source-end.new.files))
+    opened.ensures.stores (ended.has_cause.write_cause (write_end c.answer_source-end.result (is ∙ so))) in
     record {
       files_after = λ m input s q.
           let want = plan_of c.args.words.now c.args.vars.now m in
@@ -131,23 +131,23 @@ returns-in-Ok-Opened-clause-run g c =
           (same_le _ _ opened.ensures.calm) (same_le _ _ opened.ensures.stores) in
           subst
           (λ (st : Status). IsLeftOf want (plan_course want m input) (plan_end want m input) st before after) is
-          (opened_run want talk.0 m input c.run_session-end.result before after talk.1
+          (opened_run want talk.0 m input c.answer_source-end.result before after talk.1
           (ended.run_if_known talk.0 input before (tells_needed _ _ input need q)
           (subst (IsToldIf (any_loads_file input)) (sym opened.ensures.kept)
           (session_told c.args.words.now input _ m session s)) talk.2));
       stated_ending = λ stated.
           taken_may_end _ (loads_file (command_line_of c.args.words.now)) _ true c.status_of.result kind.0 kind.1
           (subst (MayEnd true _ true) is
-          (session_may_end _ c.run_session-end.result (subst IsStated c.status_of.ensures stated)));
-      session_input_read = λ input q need done. ended.whole_run input q (done_end c.run_session-end.result (is ∙ done));
+          (session_may_end _ c.answer_source-end.result (subst IsStated c.status_of.ensures stated)));
+      session_input_read = λ input q need done. ended.whole_run input q (done_end c.answer_source-end.result (is ∙ done));
       column_input_read = λ input q column over. absurd (no_column c.args.words.now kind.1 column);
       read_fault = read;
       write_fault = write;
       too_long = λ so.
           subst
-          (λ (n : ℕ). TookMoreThan n (g.S.Source.taken c.args.src.now) (g.S.Source.taken c.run_session-end.new.src))
+          (λ (n : ℕ). TookMoreThan n (g.S.Source.taken c.args.src.now) (g.S.Source.taken c.answer_source-end.new.src))
           (session_most c.args.words.now kind.1)
-          (ended.has_cause.too_long (long_end c.run_session-end.result (is ∙ so)));
+          (ended.has_cause.too_long (long_end c.answer_source-end.result (is ∙ so)));
       complete = λ s f o e w.
           no_fault c.status_of.result (λ so. neither s f (read so)) (λ so. neither o (neither e w) (write so));
       files_unopened = λ none. absurd (opens none);
@@ -203,7 +203,7 @@ returns-in-Ok-Opened-clause-source g c = λ none.
     let kind = rw opened.field-0-is at opened.ensures.kind in
     absurd
     (session_opens c.args.words.now c.args.vars.now (g.F.Files.files c.args.files.now) opened.said opened.session
-    c.run_session-end.result c.status_of.result _ _ kind.1 (sym c.status_of.ensures)
+    c.answer_source-end.result c.status_of.result _ _ kind.1 (sym c.status_of.ensures)
     (λ m s. rw opened.field-0-is at (opened.ensures.told m s)) (takes_opens _ _ _ _ none))
 
 pub returns-in-Ok-Columns-clause-source : goal.returns-in-Ok-Columns-clause-source
@@ -227,7 +227,7 @@ returns-in-Ok-Opened-clause-unread g c = λ none.
     let kind = rw opened.field-0-is at opened.ensures.kind in
     absurd
     (session_opens c.args.words.now c.args.vars.now (g.F.Files.files c.args.files.now) opened.said opened.session
-    c.run_session-end.result c.status_of.result _ _ kind.1 (sym c.status_of.ensures)
+    c.answer_source-end.result c.status_of.result _ _ kind.1 (sym c.status_of.ensures)
     (λ m s. rw opened.field-0-is at (opened.ensures.told m s)) none)
 
 pub returns-in-Err-ReadFault-clause-run : goal.returns-in-Err-ReadFault-clause-run
@@ -334,17 +334,17 @@ pub returns-in-Ok-Opened-clause-order : goal.returns-in-Ok-Opened-clause-order
 returns-in-Ok-Opened-clause-order g c = λ m s.
     let opened = c.in-Ok-Opened in
     session_order (plan_of c.args.words.now c.args.vars.now m) m opened.said opened.session _ _ _ _
-    (rw opened.field-0-is at (opened.ensures.told m s)) c.run_session-end.ensures.order
+    (rw opened.field-0-is at (opened.ensures.told m s)) (rw c.new-listener.ensures.talk at c.answer_source-end.ensures.order)
 
 pub returns-in-Ok-Opened-clause-opened : goal.returns-in-Ok-Opened-clause-opened
 returns-in-Ok-Opened-clause-opened g c = λ m s.
     let opened = c.in-Ok-Opened in
     session_opening (plan_of c.args.words.now c.args.vars.now m) m opened.said opened.session _ _ _ _ _ _
-    (rw opened.field-0-is at (opened.ensures.told m s)) c.run_session-end.ensures.opening
+    (rw opened.field-0-is at (opened.ensures.told m s)) (rw c.new-listener.ensures.talk at c.answer_source-end.ensures.opening)
 
 pub returns-in-Ok-Opened-clause-unnamed : goal.returns-in-Ok-Opened-clause-unnamed
 returns-in-Ok-Opened-clause-unnamed g c = λ input q none names.
-    c.run_session-end.ensures.unasked input q names ∙ c.in-Ok-Opened.ensures.unloaded none
+    c.answer_source-end.ensures.unasked input q names ∙ c.in-Ok-Opened.ensures.unloaded none
 
 pub returns-in-Ok-Columns-clause-order : goal.returns-in-Ok-Columns-clause-order
 returns-in-Ok-Columns-clause-order g c = λ m s.
