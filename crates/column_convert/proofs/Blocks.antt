@@ -2,11 +2,12 @@
 use Rattle.std.proofs.Common.{◌≡◌, ◌∙◌, ◌++◌, ◌||◌, ◌-◌, ◌+◌, ◌<◌, ◌≤◌, ℕ, zero, suc, Bool, true, false, List, [], ◌∷◌}
 use Rattle.std.proofs.Common.{Some, None}
 use Rattle.std.proofs.Common.{refl, sym, ap, subst, length, append_assoc, arith}
-use Rattle.std.proofs.lemmas.List.{append-nil}
+use Rattle.std.proofs.lemmas.List.{append-nil, length_push}
 use Rattle.std.specs.Prelude.{IfOk, OnOk, Result, Ok, Err, Vec}
 use Rattle.std.specs.declared.alloc.AllocError.{AllocError}
 use Rattle.std.specs.declared.alloc.Global.{Global}
 use Rattle.std.specs.declared.option.Option.{Option}
+use Rattle.std.proofs.Math.Bool.{or_assoc}
 use Rattle.csv.specs.declared.writer.Writer.{Writer}
 use Rattle.deck.specs.Tables.{table}
 use Rattle.def_entry.specs.Tables.{Table}
@@ -104,19 +105,12 @@ or_last true b = refl
 or_last false true = refl
 or_last false false = refl
 
-or_assoc : (a b c : Bool) → (a || (b || c)) ≡ ((a || b) || c)
-or_assoc true b c = refl
-or_assoc false b c = refl
-
 pub refused_more : (done : List ColumnRow) (row : ColumnRow)
     → is_error_row (done ++ row ∷ []) ≡ (is_error_row done || row.cell_refused)
 refused_more [] row = sym (or_last false row.cell_refused)
 refused_more (d ∷ done) row =
-    ap (λ x. d.cell_refused || x) (refused_more done row) ∙ or_assoc d.cell_refused (is_error_row done) row.cell_refused
-
-pub length_more : (done : List ColumnRow) (row : ColumnRow) → length (done ++ row ∷ []) ≡ length done + 1
-length_more [] row = refl
-length_more (d ∷ done) row = let e : length (done ++ row ∷ []) ≡ length done + 1 = length_more done row in omega arith
+    ap (λ x. d.cell_refused || x) (refused_more done row)
+    ∙ sym (or_assoc d.cell_refused (is_error_row done) row.cell_refused)
 
 -- ---- the effect of one more row
 module _ (before after : Writer (Vec ℕ Global)) where
@@ -270,7 +264,7 @@ module _ (options : Options) (from to : List ℕ) (whole : Input) (most : ℕ) (
           ends = u.ends ∙ ap (λ n. input_after n left) one_less;
           text_is = grows ∙ ap Some (sym (text_of_more u.done row));
           refused_is = either ∙ ap (λ b. b || row.cell_refused) u.refused_is ∙ sym (refused_more u.done row);
-          count_is = ap (λ n. n + 1) u.count_is ∙ sym (length_more u.done row);
+          count_is = ap (λ n. n + 1) u.count_is ∙ sym (length_push u.done row);
           fits = omega arith;
           deck = same ∙ u.deck;
           follows = follows_both u.events (next_queries (table before.deck) options from to left) before now later old

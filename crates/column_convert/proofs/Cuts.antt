@@ -8,6 +8,7 @@ use Rattle.std.proofs.lemmas.List.{length-take-le}
 use Rattle.std.proofs.lemmas.List.Sums.{prefix_len-le-length}
 use Rattle.std.proofs.Math.ListN.{drop_of_length-le}
 use Rattle.std.proofs.lemmas.Bool.{cases_lt}
+use Rattle.std.proofs.Math.Bool.{and-false}
 use Rattle.units_io.specs.Blanks.{is_blank}
 use Rattle.frac128.specs.Decimals.{numeral_reading}
 use Rattle.frac128.specs.Numerals.{is_digit, numeral_len_of}
@@ -20,10 +21,6 @@ use Rattle.expr_tree.specs.Lexemes.{word_front, word_piece}
 use Rattle.expr_tree.specs.Names.{is_name, is_refused, is_word_byte, word_of}
 use Rattle.expr_tree.specs.Tokens.{Caret, Close, Head, Word}
 use Rattle.column_convert.proofs.Longest.{longest_same, opened_same, take_front, word_same}
-
-and_false : (b : Bool) → (b && false) ≡ false
-and_false true = refl
-and_false false = refl
 
 -- the lexeme at the front, chosen by tests of its first byte
 choose : (blank after_point number word : Bool) → Piece → Piece → Piece → Piece
@@ -50,7 +47,7 @@ mark_by two b = if two then lexeme_piece (Whole Caret) 2 else lexeme_piece (byte
 
 mark_same : (b : ℕ) (bs r : List ℕ) → mark_piece ((b ∷ bs) ++ 41 ∷ r) ≡ mark_piece (b ∷ bs)
 unfolding mark_by
-mark_same b [] r = ap (λ t. mark_by t b) (and_false (b == 42) ∙ sym (and_false (b == 42)))
+mark_same b [] r = ap (λ t. mark_by t b) (and-false (b == 42) ∙ sym (and-false (b == 42)))
 mark_same b (c ∷ cs) r = refl
 
 pub front_same : (an : Bool) (b : ℕ) (bs r : List ℕ) → first_piece an ((b ∷ bs) ++ 41 ∷ r) ≡ first_piece an (b ∷ bs)
@@ -93,7 +90,7 @@ mark_within n true b one h = h refl
 mark_within n false b one h = one
 
 two_stars : (b : ℕ) (bs : List ℕ) → ((b == 42) && (slice_index (b ∷ bs) 1 == 42)) ≡ true → 2 ≤ length (b ∷ bs)
-two_stars b [] h = let no : ((b == 42) && false) ≡ false = and_false (b == 42) in cc
+two_stars b [] h = let no : ((b == 42) && false) ≡ false = and-false (b == 42) in cc
 two_stars b (c ∷ cs) h = omega arith
 
 pub front_within : (an : Bool) (b : ℕ) (bs : List ℕ) → (first_piece an (b ∷ bs)).len ≤ length (b ∷ bs)

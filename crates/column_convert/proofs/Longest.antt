@@ -4,7 +4,7 @@ use Rattle.std.proofs.Common.{take, drop}
 use Rattle.std.proofs.Common.{refl, sym, ap, ◌∙◌, arith, inl, inr}
 use Rattle.std.specs.Prelude.{◌==◌, ◌&&◌, if◌then◌else◌, not}
 use Rattle.std.specs.List.{list_all, list_any, prefix_len}
-use Rattle.std.proofs.lemmas.Bool.{cases_lt}
+use Rattle.std.proofs.lemmas.Bool.{cases_lt, and_from, and_parts}
 use Rattle.std.proofs.lemmas.Bool.Decides.{nat_tests}
 use Rattle.frac128.specs.Numerals.{behind_sign, greatest_passing, is_digit, is_exponent_text, is_mantissa, prefix_until}
 use Rattle.frac128.specs.Numerals.{suffix_from}
@@ -14,13 +14,6 @@ use Rattle.expr_tree.specs.Lexemes.{has_paren}
 use Rattle.expr_tree.specs.Names.{is_word_byte}
 
 -- ---- a numeral contains no `)`
-pub and_parts : (x y : Bool) → (x && y) ≡ true → (x ≡ true) × (y ≡ true)
-and_parts true y h = (refl, h)
-and_parts false y h = absurd (cc)
-
-both_hold : (x y : Bool) → x ≡ true → y ≡ true → (x && y) ≡ true
-both_hold true y a b = b
-both_hold false y a b = absurd (cc)
 
 -- no byte of a numeral is a `)`
 other : ℕ → Bool
@@ -46,7 +39,7 @@ digits_other : (xs : List ℕ) → list_all is_digit xs ≡ true → list_all ot
 digits_other [] h = refl
 digits_other (x ∷ xs) h =
     let p = and_parts (is_digit x) (list_all is_digit xs) h in
-    both_hold (other x) (list_all other xs) (not_close x p.0) (digits_other xs p.1)
+    and_from (other x) (list_all other xs) (not_close x p.0) (digits_other xs p.1)
 
 -- one step of `parts_other`: if both parts of a text contain no `)`, the text contains none
 parts_by : (t : Bool) (x : ℕ) (xs before_xs from_xs : List ℕ)
@@ -56,7 +49,7 @@ parts_by : (t : Bool) (x : ℕ) (xs before_xs from_xs : List ℕ)
 parts_by true x xs before_xs from_xs rest a b = b
 parts_by false x xs before_xs from_xs rest a b =
     let p = and_parts (other x) (list_all other before_xs) a in
-    both_hold (other x) (list_all other xs) p.0 (rest p.1 b)
+    and_from (other x) (list_all other xs) p.0 (rest p.1 b)
 
 parts_other : (test : ℕ → Bool) (xs : List ℕ) → list_all other (prefix_until test xs) ≡ true
     → list_all other (suffix_from test xs) ≡ true
@@ -69,7 +62,7 @@ from_by : (t : Bool) (x : ℕ) (xs from_xs : List ℕ) → (t ≡ true → other
     → (list_all other (drop 1 from_xs) ≡ true → list_all other from_xs ≡ true)
     → list_all other (drop 1 (if t then x ∷ xs else from_xs)) ≡ true
     → list_all other (if t then x ∷ xs else from_xs) ≡ true
-from_by true x xs from_xs h rest k = both_hold (other x) (list_all other xs) (h refl) k
+from_by true x xs from_xs h rest k = and_from (other x) (list_all other xs) (h refl) k
 from_by false x xs from_xs h rest k = rest k
 
 from_other : (test : ℕ → Bool) → ((b : ℕ) → test b ≡ true → other b ≡ true) → (xs : List ℕ)
@@ -90,7 +83,7 @@ sign_front (x ∷ xs) h = by (is_sign_byte x) refl h
   where
     by : (t : Bool) → is_sign_byte x ≡ t → list_all other (if t then xs else x ∷ xs) ≡ true
         → list_all other (x ∷ xs) ≡ true
-    by true e k = both_hold (other x) (list_all other xs) (sign_other x e) k
+    by true e k = and_from (other x) (list_all other xs) (sign_other x e) k
     by false e k = k
 
 exponent_other : (xs : List ℕ) → is_exponent_text xs ≡ true → list_all other (drop 1 xs) ≡ true

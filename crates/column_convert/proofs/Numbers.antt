@@ -2,10 +2,11 @@
 use Rattle.std.proofs.Common.{◌≡◌, ◌<◌, ◌-◌, ℕ, zero, suc, Bool, true, false, List, [], ◌∷◌, length, map, take, drop}
 use Rattle.std.proofs.Common.{Ok}
 use Rattle.std.proofs.Common.{refl, ap, ◌∙◌, arith}
-use Rattle.std.specs.Prelude.{◌==◌, ◌&&◌, ◌||◌, if◌then◌else◌, nat_eq}
+use Rattle.std.specs.Prelude.{◌==◌, ◌&&◌, ◌||◌, if◌then◌else◌}
 use Rattle.std.specs.List.{list_all, list_any}
 use Rattle.std.proofs.lemmas.Bool.Decides.{nat_tests}
 use Rattle.std.proofs.lemmas.List.{take_all}
+use Rattle.std.proofs.lemmas.Bool.{and_parts, eqb-true}
 use Rattle.units_io.specs.Blanks.{is_blank}
 use Rattle.frac128.specs.Decimals.{Decimal, numeral_reading}
 use Rattle.frac128.specs.Numerals.{is_digit, is_exponent_text, is_mantissa, is_mark_byte, prefix_until, suffix_from}
@@ -18,7 +19,6 @@ use Rattle.expr_tree.specs.Lexemes.{mark_piece}
 use Rattle.expr_tree.specs.Lexemes.{lexeme_piece, numeral_lexeme, numeral_piece, word_front}
 use Rattle.expr_tree.specs.Names.{is_word_byte}
 use Rattle.expr_tree.specs.Tokens.{Minus, Numeral}
-use Rattle.column_convert.proofs.Longest.{and_parts}
 use Rattle.column_convert.proofs.Cuts.{forms}
 
 -- a numeral begins with a digit or a point
@@ -58,9 +58,6 @@ covered an p [] n h = ap (λ k. lexemes_from k an p []) h
 covered an p (x ∷ xs) zero h = absurd (omega arith)
 covered an p (x ∷ xs) (suc n) h = covered an (suc p) xs n (omega arith)
 
-same_number : (m n : ℕ) → nat_eq m n ≡ true → m ≡ n
-same_number m n h = grind (arith, nat_tests)
-
 some_number : (n : ℕ) → 0 < n → (n == 0) ≡ false
 some_number n h = grind (arith, nat_tests)
 
@@ -68,7 +65,7 @@ whole_piece : (text : List ℕ) (x : Decimal) → 0 < length text → is_numeral
     → numeral_reading text ≡ Ok x
     → numeral_piece text ≡ lexeme_piece (Whole (Numeral x)) (length text)
 whole_piece text x some is value =
-    let all : numeral_len_of text ≡ length text = same_number _ _ (numeral_len-whole text some ∙ is) in
+    let all : numeral_len_of text ≡ length text = eqb-true _ _ (numeral_len-whole text some ∙ is) in
     ap (λ n. if n == 0 then lexeme_piece Malformed 1 else lexeme_piece (numeral_lexeme (numeral_reading (take n text)))
     n) all
     ∙ (ap (λ b. if b then lexeme_piece Malformed 1 else lexeme_piece

@@ -1,6 +1,7 @@
 -- The effect of a read on the records left.
 use Rattle.std.proofs.Common.{◌≡◌, ◌∙◌, refl, sym, ap, inl, inr, ◌⊎◌, ℕ, zero, suc, ◌+◌, ◌<◌, ◌≤◌, arith, Bool}
 use Rattle.std.proofs.Common.{true, false, List, [], ◌∷◌, length, Option, Some, None, cond}
+use Rattle.std.proofs.lemmas.Option.{same_Some}
 use Rattle.csv.specs.Machine.{Read, ends_at_end, is_end, next_record, step}
 use Rattle.csv.specs.Reading.{NextIs, ReadRecord, ReadsNext, default_config, pending_of, reader_state, records_from}
 use Rattle.csv.specs.Reading.{records_next, source_of}
@@ -10,9 +11,6 @@ use Rattle.csv.specs.declared.parser.State.TheVariants as st
 use Rattle.csv.specs.declared.reader.Reader.{Reader}
 use Rattle.column_convert.specs.Records.{records_in, records_left}
 
-some-is : {A : Type 0} (x y : A) → Some x ≡ Some y → x ≡ y
-some-is x y e = cc
-
 -- reading a record takes a byte, unless the text is at its end
 Shrinks : List ℕ → Read → Type 0
 Shrinks xs p = (length p.2 < length xs) ⊎ ((p.1 ≡ st.StartRecord) × (p.2 ≡ []))
@@ -21,7 +19,7 @@ end_shrinks : (b : Bool) (fields : List (List ℕ)) (p : Read) → cond b (Some 
     → Shrinks [] p
 unfolding Shrinks
 end_shrinks true fields p is =
-    inr (ap (λ (q : Read). q.1) (sym (some-is _ p is)), ap (λ (q : Read). q.2) (sym (some-is _ p is)))
+    inr (ap (λ (q : Read). q.1) (sym (same_Some _ p is)), ap (λ (q : Read). q.2) (sym (same_Some _ p is)))
 end_shrinks false fields p is = cc
 
 shrinks_more : (c : ℕ) (rest : List ℕ) (p : Read) → Shrinks rest p → Shrinks (c ∷ rest) p
@@ -32,7 +30,7 @@ step_shrinks : (b : Bool) (c : ℕ) (rest : List ℕ) (now : Read) (later : Opti
     → (later ≡ Some p → Shrinks rest p) → cond b (Some now) later ≡ Some p → Shrinks (c ∷ rest) p
 unfolding Shrinks
 step_shrinks true c rest now later p same next is =
-    let left : p.2 ≡ rest = ap (λ (q : Read). q.2) (sym (some-is now p is)) ∙ same in
+    let left : p.2 ≡ rest = ap (λ (q : Read). q.2) (sym (same_Some now p is)) ∙ same in
     inl (rw left (omega arith))
 step_shrinks false c rest now later p same next is = shrinks_more c rest p (next is)
 

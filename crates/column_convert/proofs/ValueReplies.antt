@@ -8,6 +8,7 @@ use Rattle.def_entry.specs.Keys.{key}
 use Rattle.def_entry.specs.EntryReading.{is_semicolon}
 use Rattle.def_entry.specs.Tables.{Table, entry_at, is_present}
 use Rattle.std.specs.List.{list_any}
+use Rattle.std.proofs.lemmas.Bool.{cond-false}
 use Rattle.expr_tree.specs.ParseResult.{parse_of}
 use Rattle.expr_tree.specs.Syntax.{Syntax}
 use Rattle.expr_tree.specs.Words.{words_in}
@@ -39,11 +40,8 @@ valued_to table to g y next tree is =
     (text_tree table to g tree)
     ∙ ap (λ r. inquiry_after (AsksWords (words_in g) ∷ []) (as_answer r) (λ z. without_queries (next z))) is
 
-second : {T : Type 0} (b : Bool) (x y : T) → b ≡ false → cond b x y ≡ y
-second b x y is = ap (λ c. cond c x y) is
-
 second_by : {T U : Type 0} (k : T → U) (b : Bool) (x y : T) → b ≡ false → k (cond b x y) ≡ k y
-second_by k b x y is = ap k (second b x y is)
+second_by k b x y is = ap k (cond-false b x y is)
 
 -- a target that is neither a function nor a list
 module _ (table : Table) (options : Options) (to : List ℕ) where
@@ -53,7 +51,7 @@ module _ (table : Table) (options : Options) (to : List ℕ) where
       to
   unit_target plain single uncut =
       let one : conversion_target table to ≡ parts_or_unit (entry_at table (key kind.List to)) to =
-      second (is_present table (key kind.Func to)) _ _ plain in
+      cond-false (is_present table (key kind.Func to)) _ _ plain in
       let two : parts_or_unit (entry_at table (key kind.List to)) to ≡ parts_or_unit None to =
       ap (λ o. parts_or_unit o to) single in
       ap (converted_to table options to) one ∙ ap (converted_to table options to) two

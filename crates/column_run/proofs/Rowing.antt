@@ -1,8 +1,9 @@
 -- Rows given in blocks.
-use Rattle.std.proofs.Common.{◌≡◌, ◌<◌, ◌-◌, ◌++◌, ◌∷◌, ◌||◌, ◌∙◌, [], ℕ, zero, suc, Bool, true, false, List}
+use Rattle.std.proofs.Common.{◌≡◌, ◌<◌, ◌-◌, ◌++◌, ◌∷◌, ◌||◌, ◌∙◌, [], ℕ, zero, suc, Bool, false, List}
 use Rattle.std.proofs.Common.{refl, sym, ap, length, take, subst, append_assoc, arith}
 use Rattle.std.specs.declared.option.Option.{Option}
 use Rattle.std.proofs.lemmas.List.{append-nil}
+use Rattle.std.proofs.Math.Bool.{or_assoc}
 use Rattle.deck.specs.Tables.{table}
 use Rattle.def_entry.specs.Tables.{Table}
 use Rattle.live_table.specs.TableView.{IsAfterEvents, IsRightTable, Shown}
@@ -23,14 +24,11 @@ text_both [] ys = refl
 text_both (x ∷ xs) ys =
     ap (λ t. x.text ++ t) (text_both xs ys) ∙ sym (append_assoc x.text (text_of xs) (text_of ys))
 
-or_assoc : (a b c : Bool) → (a || (b || c)) ≡ ((a || b) || c)
-or_assoc true b c = refl
-or_assoc false b c = refl
-
 refused_both : (xs ys : List ColumnRow) → is_error_row (xs ++ ys) ≡ (is_error_row xs || is_error_row ys)
 refused_both [] ys = refl
 refused_both (x ∷ xs) ys =
-    ap (λ b. x.cell_refused || b) (refused_both xs ys) ∙ or_assoc x.cell_refused (is_error_row xs) (is_error_row ys)
+    ap (λ b. x.cell_refused || b) (refused_both xs ys)
+    ∙ sym (or_assoc x.cell_refused (is_error_row xs) (is_error_row ys))
 
 -- ---- the number of rows left
 rows_count : (t : Table) (options : Options) (from to : List ℕ) (i : Input)

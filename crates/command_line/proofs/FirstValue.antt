@@ -2,10 +2,10 @@
 use Rattle.std.proofs.Common.{◌≡◌, ◌∙◌, ◌⊎◌, inl, inr, refl, sym, ap, subst, ℕ, ◌<◌, Bool, true, false, cond, suc, zero}
 use Rattle.std.proofs.Common.{arith, List, []}
 use Rattle.std.proofs.Common.{◌∷◌, length, map, slice_index_or, Option, Some, None, option_map, Bor}
-use Rattle.std.specs.Prelude.{slice_get, ◌&&◌, ◌==◌, option_and_then}
+use Rattle.std.specs.Prelude.{slice_get, ◌==◌, option_and_then}
 use Rattle.std.specs.List.{All}
 use Rattle.std.specs.Str.{bytes_eq}
-use Rattle.std.proofs.lemmas.Bool.{not-true}
+use Rattle.std.proofs.lemmas.Bool.{not-true, and_parts}
 use Rattle.std.proofs.lemmas.Bool.Decides.{Decides-eqb}
 use Rattle.std.proofs.lemmas.List.{nil_from_length}
 use Rattle.std.proofs.lemmas.Slice.Eq.{bytes_eq-Decides}
@@ -130,16 +130,6 @@ accepted id text p (r ∷ rules) all some = elim some [
 
 -- ---- entries and rules combined
 
--- if a conjunction holds, so does its first part
-first_true : (a b : Bool) → (a && b) ≡ true → a ≡ true
-first_true true b e = refl
-first_true false b e = cc
-
--- if a conjunction holds, so does its second part
-second_true : (a b : Bool) → (a && b) ≡ true → b ≡ true
-second_true true b e = e
-second_true false b e = cc
-
 -- after a parse by a plain command, the parser of an argument accepts its first value
 pub first_accepted : (c : Command) (f : Found) (has_subcommand : Bool) (a : App) (id text : Text)
     (p : ValueParser) → app_of c ≡ a → a.top.is_plain ≡ true → HasParser id p a.top.rules
@@ -147,11 +137,11 @@ pub first_accepted : (c : Command) (f : Found) (has_subcommand : Bool) (a : App)
     → first_of id (rows_of f) ≡ Some text → Accepts false p text
 first_accepted c f has_subcommand a id text p is plain one_parser named parsed first =
     let fields : (app_of c).top.is_plain ≡ true = ap (λ (b : App). b.top.is_plain) is ∙ plain in
-    let none : (length (groups_of c) == 0) ≡ true = first_true _ _ fields in
+    let none : (length (groups_of c) == 0) ≡ true = (and_parts _ _ fields).0 in
     let no_groups : groups_of c ≡ [] =
     nil_from_length (groups_of c) ((Decides-eqb (length (groups_of c)) 0).0 none) in
     let no_globals : (out-Command c).has_globals ≡ false =
-    not-true _ (first_true _ _ (second_true _ _ (second_true _ _ fields))) in
+    not-true _ (and_parts _ _ (and_parts _ _ (and_parts _ _ fields).1).1).0 in
     let any = first_passes c f id text (parsed no_globals).values no_groups named
     (first_value-rows f id ∙ first) in
     accepted id text p a.top.rules one_parser

@@ -12,14 +12,15 @@ use Rattle.def_entry.specs.SameKeys.{is_same}
 use Rattle.def_entry.specs.declared.key.Key.{Key}
 use Rattle.gap_list.specs.Gaps.{without_gap}
 use Rattle.gap_list.proofs.SlotItems.{after_removed, before_removed}
+use Rattle.def_entry.proofs.SameKeys.{same_keys}
 use Rattle.deck_lines.specs.Readings.{entry_in}
 use Rattle.deck_lines.specs.declared.line.DeckLine.{DeckLine}
 use Rattle.deck.specs.Active.{active_lines}
 use Rattle.deck.specs.CoveredLines.{AreBelow, AreCovered, MayCover}
-use Rattle.deck.specs.Tables.{Definitions, active_definitions, definition_by, definitions_among, definitions_from, place_of}
+use Rattle.deck.specs.Tables.{Definitions, active_definitions, definition_by, definitions_among, definitions_from}
+use Rattle.deck.specs.Tables.{place_of}
 use Rattle.deck.specs.declared.settings.Settings.{Settings}
 use Rattle.deck.proofs.RemovedLine.{DefinesAt, moved, place_moved}
-use Rattle.deck.proofs.Sameness.{key_itself, same_key}
 use Rattle.deck.proofs.UncoveredKeys.{found-append, found_first}
 
 -- no definition is of the line at a place
@@ -68,8 +69,8 @@ apart_sym j k h = by (is_same j k) refl
   where
     by : (b : Bool) → is_same j k ≡ b → is_same j k ≡ false
     by true e =
-        let same : j ≡ k = same_key j k e in
-        absurd (never (sym (key_itself k) ∙ ap (is_same k) (sym same) ∙ h))
+        let same : j ≡ k = (same_keys j k).0 e in
+        absurd (never (sym ((same_keys k k).1 refl) ∙ ap (is_same k) (sym same) ∙ h))
       where
         never : true ≡ false → ⊥
         never g = cc
@@ -82,7 +83,8 @@ none_later place later earlier k apart h =
     by (lookup (is_same k) later) refl (ap (option_map (λ p. p.0)) (sym (found-append (is_same k) later earlier)) ∙ h)
   where
     by : (o : Option (ℕ × Entry)) → lookup (is_same k) later ≡ o
-        → option_map (λ p. p.0) (found_first o (lookup (is_same k) earlier)) ≡ Some place → lookup (is_same k) later ≡ None
+        → option_map (λ p. p.0) (found_first o (lookup (is_same k) earlier)) ≡ Some place
+        → lookup (is_same k) later ≡ None
     by None e f = e
     by (Some v) e f = absurd (found_elsewhere place later k v apart e (same_Some v.0 place f))
 
@@ -263,7 +265,8 @@ module _ (fs : List Bool) (lines : List DeckLine) (place : ℕ) (k : Key) (e : E
           elsewhere None g f apart = cc
           elsewhere (Some v) g f apart = found_elsewhere place split.earlier k v apart g (same_Some v.0 place f)
 
-  split : IsSplit place ((k, (place, e)) ∷ []) (definitions_among fs lines) (definitions_among (set fs place false) lines)
+  split : IsSplit place ((k, (place, e)) ∷ []) (definitions_among fs lines)
+      (definitions_among (set fs place false) lines)
   split = subst (λ b. IsSplit place (definition_by place b (Some (k, e))) (definitions_among fs lines)
       (definitions_among (set fs place false) lines)) active (among_split fs lines place k e same defines)
 
@@ -364,7 +367,8 @@ among_below fs lines =
     (below-reverse (0 + length lines) (definitions_from 0 fs lines) (from_below fs lines 0))
 
 -- known covered places, with one more line
-pub cover_more : (count : ℕ) (ds : Definitions) (covered rest : List (Option ℕ)) (k : Key) (e : Entry) (place : Option ℕ)
+pub cover_more : (count : ℕ) (ds : Definitions) (covered rest : List (Option ℕ)) (k : Key) (e : Entry)
+    (place : Option ℕ)
     → MayCover count ds (Some covered) → place ≡ place_of ds k → rest ≡ covered ++ place ∷ []
     → MayCover (count + 1) ((k, (count, e)) ∷ ds) (Some rest)
 cover_more count ds covered rest k e place are is more = (
@@ -405,7 +409,8 @@ pub cover_others : (count : ℕ) (d : Key × (ℕ × Entry)) (ds : Definitions) 
 cover_others count d ds None are = tt
 cover_others count d ds (Some covered) are = (are.0, are.1.1)
 
-pub active_below : (settings : Settings) (lines : List DeckLine) → AreBelow (length lines) (active_definitions settings lines)
+pub active_below : (settings : Settings) (lines : List DeckLine)
+    → AreBelow (length lines) (active_definitions settings lines)
 unfolding active_definitions
 active_below settings lines = among_below (active_lines settings lines) lines
 

@@ -2,10 +2,11 @@
 use Rattle.std.proofs.Common.{◌≡◌, ◌++◌, ◌∷◌, ◌&&◌, ◌||◌, [], List, Bool, true, false, cond, refl, sym, ap, ◌∙◌}
 use Rattle.std.proofs.Common.{append_assoc}
 use Rattle.std.specs.List.{filter}
+use Rattle.std.proofs.Math.Bool.{and-false}
 use Rattle.def_entry.specs.declared.key.Key.{Key}
 use Rattle.def_entry.specs.SameKeys.{is_key_among, is_same}
+use Rattle.def_entry.proofs.SameKeys.{same_keys}
 use Rattle.deck.specs.Changes.{AreOnce, each_once}
-use Rattle.deck.proofs.Sameness.{key_itself, same_key}
 
 -- a key is in two concatenated lists exactly if it is in one of them
 pub among-append : (ks ls : List Key) (k : Key) → is_key_among (ks ++ ls) k ≡ (is_key_among ks k || is_key_among ls k)
@@ -17,24 +18,19 @@ among-append (x ∷ ks) ls k = ap (λ b. is_same k x || b) (among-append ks ls k
     or_assoc true b c = refl
     or_assoc false b c = refl
 
--- a conjunction with `false` is `false`
-pub and_false : (b : Bool) → (b && false) ≡ false
-and_false true = refl
-and_false false = refl
-
 -- a key is in a filtered list exactly if it passes the test and is in the list
 pub among_filter : (p : Key → Bool) (ks : List Key) (k : Key)
     → is_key_among (filter p ks) k ≡ (p k && is_key_among ks k)
-among_filter p [] k = sym (and_false (p k))
+among_filter p [] k = sym (and-false (p k))
 among_filter p (x ∷ ks) k = by (among_filter p ks k) (p x) refl (is_same k x) refl
   where
     by : is_key_among (filter p ks) k ≡ (p k && is_key_among ks k) → (b : Bool) → p x ≡ b → (s : Bool) → is_same k x ≡ s
         → is_key_among (cond b (x ∷ filter p ks) (filter p ks)) k ≡ (p k && (s || is_key_among ks k))
     by ih true h true e = ap (λ s. s || is_key_among (filter p ks) k) e
-        ∙ sym (ap (λ b. b && true) (ap p (same_key k x e) ∙ h))
+        ∙ sym (ap (λ b. b && true) (ap p ((same_keys k x).0 e) ∙ h))
     by ih true h false e = ap (λ s. s || is_key_among (filter p ks) k) e ∙ ih
-    by ih false h true e = ih ∙ ap (λ b. b && is_key_among ks k) (ap p (same_key k x e) ∙ h)
-        ∙ sym (ap (λ b. b && true) (ap p (same_key k x e) ∙ h))
+    by ih false h true e = ih ∙ ap (λ b. b && is_key_among ks k) (ap p ((same_keys k x).0 e) ∙ h)
+        ∙ sym (ap (λ b. b && true) (ap p ((same_keys k x).0 e) ∙ h))
     by ih false h false e = ih
 
 -- filtering preserves that keys occur once
@@ -43,7 +39,7 @@ once_filter p [] h = tt
 once_filter p (x ∷ ks) h = by (p x) (once_filter p ks h.1)
   where
     by : (b : Bool) → AreOnce (filter p ks) → AreOnce (cond b (x ∷ filter p ks) (filter p ks))
-    by true ih = (among_filter p ks x ∙ ap (λ b. p x && b) h.0 ∙ and_false (p x), ih)
+    by true ih = (among_filter p ks x ∙ ap (λ b. p x && b) h.0 ∙ and-false (p x), ih)
     by false ih = ih
 
 -- if two lists share no key, and keys occur once in each, they do so in the concatenation
@@ -52,7 +48,7 @@ pub once-append : (ks ls : List Key) → AreOnce ks → AreOnce ls
 once-append [] ls h g apart = g
 once-append (x ∷ ks) ls h g apart = (
   among-append ks ls x ∙ ap (λ b. b || is_key_among ls x) h.0
-      ∙ apart x (ap (λ b. b || is_key_among ks x) (key_itself x)),
+      ∙ apart x (ap (λ b. b || is_key_among ks x) ((same_keys x x).1 refl)),
   once-append ks ls h.1 g (λ k e. apart k (later (is_same k x) (is_key_among ks k) e)),
 )
   where
@@ -66,7 +62,7 @@ among_each [] k = refl
 among_each (x ∷ ks) k = by (among_each ks k) (is_key_among ks x) refl
   where
     absorbed : (b : Bool) → is_same k x ≡ b → is_key_among ks x ≡ true → is_key_among ks k ≡ (b || is_key_among ks k)
-    absorbed true e h = ap (is_key_among ks) (same_key k x e) ∙ h
+    absorbed true e h = ap (is_key_among ks) ((same_keys k x).0 e) ∙ h
     absorbed false e h = refl
 
     by : is_key_among (each_once ks) k ≡ is_key_among ks k → (b : Bool) → is_key_among ks x ≡ b

@@ -1,8 +1,9 @@
 -- The blocks found by going back from a line are those of the lines that enclose it.
-use Rattle.std.proofs.Common.{◌≡◌, ◌&&◌, ℕ, zero, suc, List, [], ◌∷◌, ◌++◌, Bool, true, false, not, cond, Option, Some}
+use Rattle.std.proofs.Common.{◌≡◌, ℕ, zero, suc, List, [], ◌∷◌, ◌++◌, Bool, true, false, not, cond, Option, Some}
 use Rattle.std.proofs.Common.{None}
 use Rattle.std.proofs.Common.{is_some, refl, sym, ap, subst}
 use Rattle.std.specs.List.{list_all}
+use Rattle.std.proofs.lemmas.Bool.{and_from, not-true, not_from_false, and_parts}
 use Rattle.units_io.specs.NamedValues.{Pairs}
 use Rattle.def_lines.specs.Kinds as line
 use Rattle.def_lines.specs.Kinds.{Kind, kind_of}
@@ -14,25 +15,6 @@ use Rattle.deck.specs.EnclosingBlocks.{blocks_with, begins_block, skip_before, s
 use Rattle.deck.proofs.EnclosingBlocks.{active_at}
 
 -- ---- conjunctions
-and_first : (a b : Bool) → (a && b) ≡ true → a ≡ true
-and_first true b e = refl
-and_first false b e = cc
-
-and_second : (a b : Bool) → (a && b) ≡ true → b ≡ true
-and_second true b e = e
-and_second false b e = cc
-
-and_both : (a b : Bool) → a ≡ true → b ≡ true → (a && b) ≡ true
-and_both true b e f = f
-and_both false b e f = cc
-
-not_is : (b : Bool) → not b ≡ true → b ≡ false
-not_is true e = cc
-not_is false e = refl
-
-is_not : (b : Bool) → b ≡ false → not b ≡ true
-is_not true e = cc
-is_not false e = refl
 
 abbrev AllHold : List Bool → Type 0
 AllHold blocks = list_all (λ holds. holds) blocks ≡ true
@@ -44,7 +26,7 @@ module _ (blocks : ℕ → List Bool) where
       → AllHold (cond mark (blocks k) (blocks_with o ends blocks k))
       → AllHold (blocks (cond mark k (skip_before (is_some o) ends k)))
   hold_before true o ends k h = h
-  hold_before false (Some b) ends zero h = and_second b (list_all (λ holds. holds) (blocks 0)) h
+  hold_before false (Some b) ends zero h = (and_parts b (list_all (λ holds. holds) (blocks 0)) h).1
   hold_before false (Some b) ends (suc k) h = h
   hold_before false None true k h = h
   hold_before false None false k h = h
@@ -56,7 +38,7 @@ module _ (blocks : ℕ → List Bool) where
       → AllHold (cond mark (blocks k) (blocks_with o ends blocks k))
   hold_with true o ends k h own = h
   hold_with false (Some b) ends zero h own =
-      and_both b (list_all (λ holds. holds) (blocks 0)) (own refl b refl refl) h
+      and_from b (list_all (λ holds. holds) (blocks 0)) (own refl b refl refl) h
   hold_with false (Some b) ends (suc k) h own = h
   hold_with false None true k h own = h
   hold_with false None false k h own = h
@@ -66,7 +48,7 @@ module _ (blocks : ℕ → List Bool) where
       → AllHold (cond mark (blocks 0) (blocks_with o ends blocks 0)) → b ≡ true
   own_holds (Some c) ends b false u e h =
       let q : c ≡ b = some_same c b e in
-      subst (λ (x : Bool). x ≡ true) q (and_first c (list_all (λ holds. holds) (blocks 0)) h)
+      subst (λ (x : Bool). x ≡ true) q (and_parts c (list_all (λ holds. holds) (blocks 0)) h).0
     where
       some_same : (x y : Bool) → Some x ≡ Some y → x ≡ y
       some_same x y f = cc
@@ -134,17 +116,18 @@ module _ (settings : Settings) where
   enclosed : (earlier : List DeckLine) (x : DeckLine) → is_active_after settings earlier x ≡ true
       → (x.mark ≡ false) × ((holds : Bool) → Encloses settings earlier holds → holds ≡ true)
   enclosed earlier x e = (
-    not_is x.mark (and_first (not x.mark) (list_all (λ holds. holds) (enclosing_blocks settings earlier 0)) e),
+    not-true x.mark (and_parts (not x.mark) (list_all (λ holds. holds) (enclosing_blocks settings earlier 0)) e).0,
     λ holds q. encloser_holds q.inner q.line q.outer holds 0 q.lacks_mark q.begins q.inner_blocks_closed
         (subst (λ (ls : List DeckLine). AllHold (enclosing_blocks settings ls 0)) q.split_at_line
-        (and_second (not x.mark) (list_all (λ holds. holds) (enclosing_blocks settings earlier 0)) e)),
+        (and_parts (not x.mark) (list_all (λ holds. holds) (enclosing_blocks settings earlier 0)) e).1),
   )
 
   is_enclosed : (earlier : List DeckLine) (x : DeckLine)
       → (x.mark ≡ false) × ((holds : Bool) → Encloses settings earlier holds → holds ≡ true)
       → is_active_after settings earlier x ≡ true
   is_enclosed earlier x h =
-      and_both (not x.mark) (list_all (λ holds. holds) (enclosing_blocks settings earlier 0)) (is_not x.mark h.0)
+      and_from (not x.mark) (list_all (λ holds. holds) (enclosing_blocks settings earlier 0))
+      (not_from_false x.mark h.0)
       (all_hold earlier 0 (λ inner y outer holds e u b z.
       h.1 holds (record {
         inner = inner;

@@ -6,20 +6,20 @@ use Rattle.std.specs.List.{AllByRecursion, IsDistinct, filter}
 use Rattle.def_entry.specs.declared.key.Key.{Key}
 use Rattle.def_entry.specs.declared.key.Kind.{Kind}
 use Rattle.def_entry.specs.SameKeys.{is_key_among, is_same, is_same_kind}
+use Rattle.def_entry.proofs.SameKeys.{same_keys}
 use Rattle.deck.specs.Changes.{AreOnce, each_once}
 use Rattle.deck.specs.KeyLists.{of_kind}
 use Rattle.deck.specs.LastPlaces.{key_tally}
 use Rattle.deck.specs.Tables.{Table, is_present, keys_of}
 use Rattle.deck.proofs.KeyTallies.{among_keys_of}
 use Rattle.deck.proofs.DistinctKeys.{among_each, among_filter, once_each, once_filter}
-use Rattle.deck.proofs.Sameness.{key_itself, same_key}
 
 -- the comparison of two keys is symmetric
 pub flips : (x y : Key) → is_same x y ≡ is_same y x
 flips x y = both_ways (is_same x y) (is_same y x) (turned x y) (turned y x)
   where
     turned : (a b : Key) → is_same a b ≡ true → is_same b a ≡ true
-    turned a b e = ap (is_same b) (same_key a b e) ∙ key_itself b
+    turned a b e = ap (is_same b) ((same_keys a b).0 e) ∙ (same_keys b b).1 refl
 
 -- a key that is not among others differs from each of them
 none_of : (k : Key) (ks : List Key) → is_key_among ks k ≡ false → AllByRecursion (λ y. is_same k y ≡ false) ks
@@ -72,7 +72,7 @@ one_less x (k ∷ ks) once h = by (one_less x ks once.1) (is_same x k) refl h
         → (b || is_key_among ks x) ≡ true
         → suc (length ks) ≡ suc (length (cond (not (is_same x k)) (k ∷ others x ks) (others x ks)))
     by ih true e g =
-        ap (λ t. suc (length t)) (sym (all_others x ks (ap (is_key_among ks) (same_key x k e) ∙ once.0)))
+        ap (λ t. suc (length t)) (sym (all_others x ks (ap (is_key_among ks) ((same_keys x k).0 e) ∙ once.0)))
         ∙ sym (ap (λ b. suc (length (cond (not b) (k ∷ others x ks) (others x ks)))) e)
     by ih false e g = ap suc (ih g) ∙ sym (ap (λ b. suc (length (cond (not b) (k ∷ others x ks) (others x ks)))) e)
 
@@ -80,16 +80,18 @@ one_less x (k ∷ ks) once h = by (one_less x ks once.1) (is_same x k) refl h
 same_length : (xs ys : List Key) → AreOnce xs → AreOnce ys → ((k : Key) → is_key_among xs k ≡ is_key_among ys k)
     → length xs ≡ length ys
 same_length [] [] h g e = refl
-same_length [] (y ∷ ys) h g e = absurd (true≢false (sym (e y ∙ ap (λ b. b || is_key_among ys y) (key_itself y))))
+same_length [] (y ∷ ys) h g e =
+    absurd (true≢false (sym (e y ∙ ap (λ b. b || is_key_among ys y) ((same_keys y y).1 refl))))
 same_length (x ∷ xs) ys h g e =
     ap suc (same_length xs (others x ys) h.1 (once_filter (λ k. not (is_same x k)) ys g) rest)
-    ∙ sym (one_less x ys g (sym (e x) ∙ ap (λ b. b || is_key_among xs x) (key_itself x)))
+    ∙ sym (one_less x ys g (sym (e x) ∙ ap (λ b. b || is_key_among xs x) ((same_keys x x).1 refl)))
   where
     rest : (k : Key) → is_key_among xs k ≡ is_key_among (others x ys) k
     rest k = by (is_same x k) refl ∙ sym (among_filter (λ k. not (is_same x k)) ys k)
       where
         by : (b : Bool) → is_same x k ≡ b → is_key_among xs k ≡ (not (is_same x k) && is_key_among ys k)
-        by true s = ap (is_key_among xs) (sym (same_key x k s)) ∙ h.0 ∙ sym (ap (λ b. not b && is_key_among ys k) s)
+        by true s = ap (is_key_among xs) (sym ((same_keys x k).0 s)) ∙ h.0
+            ∙ sym (ap (λ b. not b && is_key_among ys k) s)
         by false s =
             sym (ap (λ b. b || is_key_among xs k) (flips k x ∙ s)) ∙ e k
             ∙ sym (ap (λ b. not b && is_key_among ys k) s)

@@ -14,6 +14,7 @@ use Rattle.def_entry.specs.declared.key.Key.{Key}
 use Rattle.def_entry.specs.declared.key.Kind.TheVariants as kind
 use Rattle.def_entry.specs.KeyOrder.{KeyOrderLaw, key_cmp}
 use Rattle.def_entry.specs.SameKeys.{is_key_among, is_same}
+use Rattle.def_entry.proofs.SameKeys.{same_keys}
 use Rattle.deck_lines.specs.Names.{is_numbered, key_numbered}
 use Rattle.deck_lines.specs.KeyNumbering.{IsNumbering}
 use Rattle.deck_lines.specs.Stores.{Store}
@@ -29,7 +30,6 @@ use Rattle.deck.proofs.KeyCounts.{distinct, flips}
 use Rattle.deck.proofs.DistinctKeys.{among_filter, once_filter}
 use Rattle.deck.proofs.NumberedKeys.{all_filter, all_keys, among_all, once_all}
 use Rattle.deck.proofs.PlacedDefinitions.{place_present}
-use Rattle.deck.proofs.Sameness.{key_itself}
 
 module _ (law : KeyOrderLaw) where
   -- if a key is not above a different key, it is below it
@@ -38,7 +38,7 @@ module _ (law : KeyOrderLaw) where
     where
       by : (o : Ordering) → key_cmp z y ≡ o → is_lt o ≡ false → ordering_reverse o ≡ Less
       by Less e h = absurd (true≢false h)
-      by Equal e h = absurd (true≢false (sym (ap (is_same y) (law.equal_keys z y e) ∙ key_itself y) ∙ apart))
+      by Equal e h = absurd (true≢false (sym (ap (is_same y) (law.equal_keys z y e) ∙ (same_keys y y).1 refl) ∙ apart))
       by Greater e h = refl
 
   all_below : (y : Key) (zs : List Key) → All (λ z. is_lt (key_cmp z y) ≡ false) zs

@@ -7,6 +7,7 @@ use Rattle.def_entry.specs.declared.key.Key.{Key}
 use Rattle.def_entry.specs.declared.key.Kind.{Kind}
 use Rattle.def_entry.specs.Entries.{Entry}
 use Rattle.def_entry.specs.SameKeys.{is_key_among, is_same, is_same_kind}
+use Rattle.def_entry.proofs.SameKeys.{same_keys}
 use Rattle.deck_lines.specs.ClosedBlocks.{AreBlocksClosed}
 use Rattle.deck_lines.specs.Marks.{plain_line}
 use Rattle.deck_lines.specs.Names.{Names, key_numbered, names_of_kind, with_key}
@@ -28,7 +29,6 @@ use Rattle.deck.proofs.OneMoreName.{key_kept, key_new, names_len}
 use Rattle.deck.proofs.LastPlaceSteps.{kind_at, last_extended, last_more, last_same, number_within}
 use Rattle.deck.proofs.PlacedDefinitions.{at_length, in_place}
 use Rattle.deck.proofs.PushedLine.{closed_push, placed_push}
-use Rattle.deck.proofs.Sameness.{same_key}
 
 -- the number of the appended line is the number of its key
 key_put : (store : Store) (x : DeckLine) (k : Key) (e : Entry) (n : KeyNumber) → entry_in x ≡ Some (k, e) →
@@ -163,7 +163,7 @@ module _ (d : Contents) (closed : AreBlocksClosed d.lines) (text : List ℕ) (k 
           → (is_key_among (k ∷ []) j ≡ true → ⊥) ↔ (entry_at (table d) j ≡ entry_at (table (with_line text d)) j)
       by j true h = (
         λ never. absurd (never (ap (λ b. b || false) h)),
-        λ same _. differs (ap (entry_at (table d)) (sym (same_key j k h)) ∙ same ∙ at_key j h),
+        λ same _. differs (ap (entry_at (table d)) (sym ((same_keys j k).0 h)) ∙ same ∙ at_key j h),
       )
       by j false h = (λ _. apart j h, λ _ m. true≢false (sym m ∙ ap (λ b. b || false) h))
 
@@ -175,5 +175,5 @@ module _ (d : Contents) (closed : AreBlocksClosed d.lines) (text : List ℕ) (k 
   }
     where
       by : (j : Key) (b : Bool) → is_same j k ≡ b → entry_at (table d) j ≡ entry_at (table (with_line text d)) j
-      by j true h = ap (entry_at (table d)) (same_key j k h) ∙ same ∙ sym (at_key j h)
+      by j true h = ap (entry_at (table d)) ((same_keys j k).0 h) ∙ same ∙ sym (at_key j h)
       by j false h = apart j h

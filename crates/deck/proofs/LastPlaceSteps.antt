@@ -11,6 +11,7 @@ use Rattle.def_entry.specs.declared.key.Kind.{Kind}
 use Rattle.def_entry.specs.Entries.{Entry}
 use Rattle.def_entry.specs.Keys.{key}
 use Rattle.def_entry.specs.SameKeys.{is_same, is_same_kind}
+use Rattle.def_entry.proofs.SameKeys.{same_keys}
 use Rattle.deck_lines.specs.Names.{IsOneToOne, Names, key_numbered, names_of_kind}
 use Rattle.deck_lines.specs.Readings.{entry_in}
 use Rattle.deck_lines.specs.declared.key_number.KeyNumber.{KeyNumber}
@@ -25,7 +26,7 @@ use Rattle.deck.proofs.KeyCounts.{count_same}
 use Rattle.deck.proofs.KindPlacing.{count_set}
 use Rattle.deck.proofs.OnePlace.{numbers_differ, other_place, own_place}
 use Rattle.deck.proofs.PlacedDefinitions.{place_present}
-use Rattle.deck.proofs.Sameness.{same_key, same_kind}
+use Rattle.deck.proofs.Sameness.{same_kind}
 
 -- the kind of a key is that of its number
 pub kind_at : (names : Names) (n : KeyNumber) (k : Key) → key_numbered names n ≡ Some k → k.kind ≡ n.kind
@@ -50,7 +51,7 @@ module _ (names : Names) (unique : IsOneToOne names) (ds : Definitions) (n : Key
 
       with_key : (j : Key) → key_numbered names m ≡ Some j → (b : Bool) → is_same j k ≡ b
           → place_at now m ≡ option_map (λ p. p.0) (cond b (Some (at, e)) (lookup (is_same j) ds))
-      with_key j h true f = ap (place_at now) (unique m n k (h ∙ ap Some (same_key j k f)) numbered)
+      with_key j h true f = ap (place_at now) (unique m n k (h ∙ ap Some ((same_keys j k).0 f)) numbered)
           ∙ own_place n (Some at) old now put room
       with_key j h false f = other (numbers_differ names n m k j numbered h f) ∙ before.place m
           ∙ ap (option_and_then (place_of ds)) h

@@ -5,11 +5,13 @@ use Rattle.std.proofs.Common.{Option, Some, None, option_map, slice_get}
 use Rattle.std.proofs.lemmas.Option.{same_Some, slice_get_within}
 use Rattle.std.specs.Map.{lookup}
 use Rattle.std.specs.Option.{is_some, option_and_then}
+use Rattle.std.proofs.lemmas.List.{take_at}
 use Rattle.def_entry.specs.declared.key.Key.{Key}
 use Rattle.def_entry.specs.declared.key.Kind.{Kind}
 use Rattle.def_entry.specs.Entries.{Entry}
 use Rattle.def_entry.specs.EntryReading.{SameTextLaw}
 use Rattle.def_entry.specs.SameKeys.{is_same, is_same_kind}
+use Rattle.def_entry.proofs.SameKeys.{same_keys}
 use Rattle.deck_lines.specs.ClosedBlocks.{AreBlocksClosed, blocks_after, blocks_past}
 use Rattle.deck_lines.specs.Names.{IsOneToOne, Names, key_numbered}
 use Rattle.deck_lines.specs.KeyNumbering.{IsNumbering}
@@ -28,13 +30,13 @@ use Rattle.deck.specs.declared.settings.Settings.{Settings}
 use Rattle.deck.proofs.ChangedKeys.{changed_at_places}
 use Rattle.deck.proofs.KeyTallies.{count_push}
 use Rattle.deck.proofs.RemovedLine.{blocks_stay}
-use Rattle.deck.proofs.MoreNumbers.{in_place_more, take_front}
+use Rattle.deck.proofs.MoreNumbers.{in_place_more}
 use Rattle.deck.proofs.KindPlacing.{count_other}
 use Rattle.deck.proofs.LastPlaceSteps.{kind_at}
 use Rattle.deck.proofs.OnePlace.{numbers_differ, other_place, own_place}
 use Rattle.deck.proofs.PlacedDefinitions.{at_length, in_place, place_present}
 use Rattle.deck.proofs.PushedLine.{placed_push}
-use Rattle.deck.proofs.Sameness.{key_itself, same_key, same_kind}
+use Rattle.deck.proofs.Sameness.{same_kind}
 
 -- a number that has a place is within the list
 pub place_within : (ps : List (Option ℕ)) (n p : ℕ) → place_in ps n ≡ Some p → n < length ps
@@ -54,7 +56,7 @@ module _ (names : Names) (unique : IsOneToOne names) (ds : Definitions) (n : Key
   there : place_at old n ≡ Some at
   there =
       before.place n ∙ ap (option_and_then (place_of ((k, (at, e)) ∷ ds))) numbered
-      ∙ ap (λ b. option_map (λ p. p.0) (cond b (Some (at, e)) (lookup (is_same k) ds))) (key_itself k)
+      ∙ ap (λ b. option_map (λ p. p.0) (cond b (Some (at, e)) (lookup (is_same k) ds))) ((same_keys k k).1 refl)
 
   pub number_room : n.number < length (places_of old n.kind)
   number_room = place_within (places_of old n.kind) n.number at there
@@ -68,9 +70,9 @@ module _ (names : Names) (unique : IsOneToOne names) (ds : Definitions) (n : Key
       with_key : (j : Key) → key_numbered names m ≡ Some j → (b : Bool) → is_same j k ≡ b
           → place_at now m ≡ place_of ds j
       with_key j h true f =
-          ap (place_at now) (unique m n k (h ∙ ap Some (same_key j k f)) numbered)
+          ap (place_at now) (unique m n k (h ∙ ap Some ((same_keys j k).0 f)) numbered)
           ∙ own_place n place old now put number_room ∙ is
-          ∙ ap (place_of ds) (sym (same_key j k f))
+          ∙ ap (place_of ds) (sym ((same_keys j k).0 f))
       with_key j h false f =
           other (numbers_differ names n m k j numbered h f) ∙ before.place m
           ∙ ap (option_and_then (place_of ((k, (at, e)) ∷ ds))) h
@@ -159,7 +161,8 @@ module _ (settings : Settings) (store : Store) (front : List DeckLine) (x : Deck
         (last_places.place n ∙ ap
         (option_and_then (place_of ((k, (length front, e)) ∷ active_definitions settings front))) at
         ∙ ap (λ b. option_map (λ p. p.0)
-        (cond b (Some (length front, e)) (lookup (is_same k) (active_definitions settings front)))) (key_itself k))
+        (cond b (Some (length front, e)) (lookup (is_same k) (active_definitions settings front))))
+        ((same_keys k k).1 refl))
 
     -- with the previous place stored at the number, the last places are those of the deck without the line
     pub indexed_less : (now : LastPlaces) (new : Store) → new.lines ≡ front → new.names ≡ store.names →
@@ -197,7 +200,8 @@ changed_less law settings lines front x k e o place uncovered is ds at last cove
         ap Some last
         ∙ sym (ap (λ (now : Definitions). place_of now k) ds
         ∙ ap (λ b. option_map (λ p. p.0)
-        (cond b (Some (length front, e)) (lookup (is_same k) (active_definitions settings front)))) (key_itself k))
+        (cond b (Some (length front, e)) (lookup (is_same k) (active_definitions settings front))))
+        ((same_keys k k).1 refl))
 
     others : (j : Key) → is_same j k ≡ false
         → entry_at (table_of (active_definitions settings lines)) j ≡ entry_at
@@ -215,7 +219,8 @@ last_at lines front x n is count = omega (arith, ap length is, count, length-app
 pub front_taken : (lines front : List DeckLine) (x : DeckLine) (n : ℕ) → lines ≡ front ++ x ∷ [] → n ≡ length lines
     → take (n - 1) lines ≡ front
 front_taken lines front x n is count =
-    ap (λ m. take m lines) (last_at lines front x n is count) ∙ ap (take (length front)) is ∙ take_front front (x ∷ [])
+    ap (λ m. take m lines) (last_at lines front x n is count) ∙ ap (take (length front)) is
+    ∙ take_at front (x ∷ []) (length front) refl
 
 -- the text that is returned is the text of the last line
 pub last_text : (lines stored : List DeckLine) (n : ℕ) (y : DeckLine) (text : List ℕ) → stored ≡ lines

@@ -1,17 +1,9 @@
 -- Collecting texts from lines, one line after another.
-use Rattle.std.proofs.Common.{◌≡◌, ◌++◌, ◌∷◌, ◌+◌, ◌<◌, ◌≤◌, [], ℕ, zero, suc, List, Bool, true, false, cond, length}
-use Rattle.std.proofs.Common.{drop, get_or, append_assoc, refl, sym, ap, ◌∙◌, arith}
-use Rattle.std.proofs.lemmas.List.{drop_all}
+use Rattle.std.proofs.Common.{◌≡◌, ◌++◌, ◌∷◌, ◌+◌, ◌<◌, ◌≤◌, [], ℕ, List, Bool, true, false, cond, length}
+use Rattle.std.proofs.Common.{drop, get_or, append_assoc, refl, sym, ap, ◌∙◌}
+use Rattle.std.proofs.lemmas.List.{drop_all, drop_more}
 use Rattle.deck_lines.specs.declared.line.DeckLine.{DeckLine}
 use Rattle.deck.specs.Messages.{texts_of_lines, where_true}
-
--- from an index on, the flags begin with the flag there
-flag_at : (fs : List Bool) (i : ℕ) → i < length fs → drop i fs ≡ get_or fs i false ∷ drop (i + 1) fs
-flag_at [] i h = absurd (omega arith)
-flag_at (f ∷ fs) zero h = refl
-flag_at (f ∷ fs) (suc i) h =
-    let next : suc (i + 1) ≡ suc i + 1 = omega arith in
-    flag_at fs i (omega arith) ∙ ap (λ j. get_or fs i false ∷ drop j (f ∷ fs)) next
 
 -- the texts of the lines, extended by those of the next line
 pub told_step : (say : DeckLine → List (List ℕ)) (fs : List Bool) (lines : List DeckLine) (i : ℕ) (x : DeckLine)
@@ -25,7 +17,7 @@ told_step say fs lines i x texts now whole h at e f =
     (texts_of_lines say rest)
     ∙ ap (λ t. texts ++ t) (by (get_or fs i false) rest)
     ∙ sym (ap (λ ls. texts ++ texts_of_lines say (where_true (get_or fs i false ∷ drop (i + 1) fs) ls)) at)
-    ∙ sym (ap (λ t. texts ++ texts_of_lines say (where_true t (drop i lines))) (flag_at fs i h)) ∙ e
+    ∙ sym (ap (λ t. texts ++ texts_of_lines say (where_true t (drop i lines))) (drop_more fs i false h)) ∙ e
   where
     by : (b : Bool) (rest : List DeckLine)
         → cond b (say x) [] ++ texts_of_lines say rest ≡ texts_of_lines say (cond b (x ∷ rest) rest)
@@ -41,9 +33,3 @@ told_all say fs lines i h = ap (λ ls. texts_of_lines say (where_true (drop i fs
     none : (gs : List Bool) → texts_of_lines say (where_true gs []) ≡ []
     none [] = refl
     none (g ∷ gs) = refl
-
--- reading a flag within the list does not depend on the default
-pub flag_read : (fs : List Bool) (i : ℕ) (f : Bool) → i < length fs → f ≡ get_or fs i f → f ≡ get_or fs i false
-flag_read [] i f h e = absurd (omega arith)
-flag_read (g ∷ fs) zero f h e = e
-flag_read (g ∷ fs) (suc i) f h e = flag_read fs i f (omega arith) e

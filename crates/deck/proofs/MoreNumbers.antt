@@ -6,6 +6,7 @@ use Rattle.std.specs.List.{list_any}
 use Rattle.std.specs.Str.{bytes_eq}
 use Rattle.std.specs.Map.{lookup}
 use Rattle.std.specs.Option.{option_and_then}
+use Rattle.std.proofs.lemmas.List.{take_at}
 use Rattle.def_entry.specs.declared.key.Key.{Key}
 use Rattle.def_entry.specs.declared.key.Kind.{Kind}
 use Rattle.def_entry.specs.declared.key.Kind.TheVariants as kind
@@ -233,15 +234,11 @@ last_behind old new settings last numbering h e =
     (key_stays old.names new.names each)
     (λ n k none some. unplaced old settings k numbering (key_fresh old.names new.names each n k none some))
 
--- the front of an appended list is the first list
-pub take_front : {A : Type 0} (xs ys : List A) → take (length xs) (xs ++ ys) ≡ xs
-take_front [] ys = refl
-take_front (x ∷ xs) ys = ap (λ t. x ∷ t) (take_front xs ys)
-
 -- the old lines are the front of the extended store
 pub front_kept : (old new : Store) (n : ℕ) → n ≡ length old.lines → Extends old new → take n new.lines ≡ old.lines
 front_kept old new n same e = ap (λ m. take m new.lines) same
-    ∙ ap (λ (s : Store). take (length old.lines) s.lines) e.lines_put ∙ take_front old.lines e.lines
+    ∙ ap (λ (s : Store). take (length old.lines) s.lines) e.lines_put
+    ∙ take_at old.lines e.lines (length old.lines) refl
 
 -- after a refusal removes the appended lines, the last places are still those of the store
 pub indexed_again : (old new store : Store) (settings : Settings) (last : LastPlaces) → IsNumbering old

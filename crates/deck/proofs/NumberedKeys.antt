@@ -6,6 +6,7 @@ use Rattle.std.proofs.lemmas.Bool.{and_parts}
 use Rattle.std.proofs.lemmas.Slice.Eq.{bytes_eq-Decides}
 use Rattle.std.specs.List.{filter, list_any}
 use Rattle.std.specs.Str.{bytes_eq}
+use Rattle.std.proofs.Math.Bool.{and-false}
 use Rattle.def_entry.specs.declared.key.Key.{Key}
 use Rattle.def_entry.specs.declared.key.Kind.{Kind}
 use Rattle.def_entry.specs.declared.key.Kind.TheVariants as kind
@@ -15,7 +16,7 @@ use Rattle.deck_lines.specs.Names.{IsOneToOne, Names, is_numbered, key_numbered,
 use Rattle.deck_lines.specs.declared.key_number.KeyNumber.{KeyNumber}
 use Rattle.deck.specs.Changes.{AreOnce}
 use Rattle.deck.specs.Numbers.{key_if, keys_where}
-use Rattle.deck.proofs.DistinctKeys.{among-append, and_false, once-append}
+use Rattle.deck.proofs.DistinctKeys.{among-append, once-append}
 use Rattle.deck.proofs.Sameness.{same_kind}
 
 -- the key number of a kind and an index
@@ -91,7 +92,7 @@ module _ (names : Names) where
 -- a key is among those of a kind exactly if it has this kind and one of its names
 pub among_kind : (a : Kind) (ns : List (List ℕ)) (k : Key)
     → is_key_among (map (key a) ns) k ≡ (is_same_kind k.kind a && list_any (bytes_eq k.name) ns)
-among_kind a [] k = sym (and_false (is_same_kind k.kind a))
+among_kind a [] k = sym (and-false (is_same_kind k.kind a))
 among_kind a (n ∷ ns) k = by (is_same_kind k.kind a) (among_kind a ns k)
   where
     by : (b : Bool) → is_key_among (map (key a) ns) k ≡ (b && list_any (bytes_eq k.name) ns)
@@ -164,7 +165,7 @@ once_kind : (a : Kind) (ns : List (List ℕ))
 once_kind a [] h = tt
 once_kind a (n ∷ ns) h = (
   among_kind a ns (key a n) ∙ ap (λ b. is_same_kind a a && b) (by (list_any (bytes_eq n) ns) refl)
-      ∙ and_false (is_same_kind a a),
+      ∙ and-false (is_same_kind a a),
   once_kind a ns (λ i j name e f. less i j (h (suc i) (suc j) name e f)),
 )
   where

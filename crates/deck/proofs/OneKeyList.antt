@@ -12,6 +12,7 @@ use Rattle.std.specs.List.Sorted.{IsStrictlySortedBy}
 use Rattle.std.specs.Ordering.{eq_by_cmp, is_eq, is_lt}
 use Rattle.std.specs.declared.cmp.Ordering.{Ordering}
 use Rattle.std.specs.declared.cmp.Ordering.TheVariants.{Less, Equal, Greater}
+use Rattle.std.proofs.lemmas.List.Kept.{IsStrictlySortedBy-filter}
 use Rattle.def_entry.specs.declared.key.Key.{Key}
 use Rattle.def_entry.specs.declared.key.Kind.{Kind}
 use Rattle.def_entry.specs.Entries.{Entry}
@@ -130,24 +131,12 @@ less_filter p k (y ∷ ks) h = by (less_filter p k ks h.1) (p y)
     by ih true = (h.0, ih)
     by ih false = ih
 
--- a filtered list of strictly sorted keys is strictly sorted
-order_filter : (p : Key → Bool) (ks : List Key) → IsStrictlySortedBy key_cmp ks
-    → IsStrictlySortedBy key_cmp (filter p ks)
-unfolding IsStrictlySortedBy
-order_filter p [] h = tt
-order_filter p (k ∷ ks) h = by (order_filter p ks h.1) (p k)
-  where
-    by : IsStrictlySortedBy key_cmp (filter p ks) → (b : Bool)
-        → IsStrictlySortedBy key_cmp (cond b (k ∷ filter p ks) (filter p ks))
-    by ih true = (less_filter p k ks h.0, ih)
-    by ih false = ih
-
 -- strictly sorted keys are those of `keys_holding` if they are the present keys whose names contain the text
 pub holding_found : (text : List ℕ) (table : Table) (ks : List Key) → IsStrictlySortedBy key_cmp ks
     → ((k : Key) → is_key_among ks k ≡ (is_present table k && has_substring k.name text)) → ks ≡ keys_holding text table
 holding_found text table ks order each =
     one_order ks (keys_holding text table) order
-    (order_filter (λ k. has_substring k.name text) (table_keys table) (in_order table))
+    (IsStrictlySortedBy-filter key_cmp (λ k. has_substring k.name text) (table_keys table) (in_order table))
     (λ k. each k ∙ turned (is_present table k) (has_substring k.name text)
     ∙ sym (among_filter (λ j. has_substring j.name text) (table_keys table) k
     ∙ ap (λ b. has_substring k.name text && b) ((are_keys table).key_membership k)))

@@ -5,13 +5,14 @@ use Rattle.std.proofs.lemmas.Option.{same_Some}
 use Rattle.def_entry.specs.declared.key.Key.{Key}
 use Rattle.def_entry.specs.declared.key.Kind.{Kind}
 use Rattle.def_entry.specs.SameKeys.{is_same, is_same_kind}
+use Rattle.def_entry.proofs.SameKeys.{same_keys}
 use Rattle.deck_lines.specs.Names.{Names, key_numbered}
 use Rattle.deck_lines.specs.declared.key_number.KeyNumber.{KeyNumber}
 use Rattle.deck.specs.KindPlaces.{place_in}
 use Rattle.deck.specs.LastPlaces.{place_at, places_of}
 use Rattle.deck.specs.declared.places.last_places.LastPlaces.{LastPlaces}
 use Rattle.deck.proofs.KindPlacing.{in_set_other, in_set_same}
-use Rattle.deck.proofs.Sameness.{key_itself, kind_itself, same_kind}
+use Rattle.deck.proofs.Sameness.{kind_itself, same_kind}
 
 module _ (n : KeyNumber) (place : Option ℕ) (old now : LastPlaces)
     (put : (kind : Kind)
@@ -46,5 +47,6 @@ pub numbers_differ : (names : Names) (n m : KeyNumber) (k j : Key) → key_numbe
     → key_numbered names m ≡ Some j
     → is_same j k ≡ false → m ≡ n → ⊥
 numbers_differ names n m k j numbered h apart same =
-    true≢false (sym (key_itself j) ∙ ap (is_same j) (same_Some j k (sym h ∙ ap (key_numbered names) same ∙ numbered))
+    true≢false (sym ((same_keys j j).1 refl)
+    ∙ ap (is_same j) (same_Some j k (sym h ∙ ap (key_numbered names) same ∙ numbered))
     ∙ apart)

@@ -10,6 +10,7 @@ use Rattle.std.specs.Option.{is_some, option_and_then}
 use Rattle.def_entry.specs.declared.key.Key.{Key}
 use Rattle.def_entry.specs.Entries.{Entry}
 use Rattle.def_entry.specs.SameKeys.{is_same}
+use Rattle.def_entry.proofs.SameKeys.{same_keys}
 use Rattle.deck_lines.specs.Readings.{entry_in}
 use Rattle.deck_lines.specs.Stores.{definition_at}
 use Rattle.deck_lines.specs.declared.line.DeckLine.{DeckLine}
@@ -19,7 +20,6 @@ use Rattle.deck.specs.Tables.{Definitions, active_definitions, definition_by, de
 use Rattle.deck.specs.Tables.{entry_at}
 use Rattle.deck.specs.Tables.{is_present, place_of, table_of}
 use Rattle.deck.specs.declared.settings.Settings.{Settings}
-use Rattle.deck.proofs.Sameness.{same_key}
 
 -- each definition is that of the line at its place
 abbrev pub EachInPlace : List DeckLine → Definitions → Type 0
@@ -74,7 +74,7 @@ found lines (d ∷ ds) h k v e = by (λ g. found lines ds h.1 k v g) (is_same k 
         definition_at lines v.0 ≡ Some (k, v.1)
     by ih true t g =
         subst (λ (w : ℕ × Entry). definition_at lines w.0 ≡ Some (k, w.1)) (same_Some d.1 v g)
-        (h.0 ∙ ap (λ j. Some (j, d.1.1)) (sym (same_key k d.0 t)))
+        (h.0 ∙ ap (λ j. Some (j, d.1.1)) (sym ((same_keys k d.0).0 t)))
     by ih false t g = ih g
 
 -- the definitions of the lines with these flags are in place

@@ -1,7 +1,7 @@
 -- Appending a line to a deck.
 use Rattle.std.proofs.Common.{◌≡◌, ◌++◌, ◌∷◌, ◌+◌, ◌&&◌, [], ℕ, suc, List, Bool, true, false, not, cond, length, refl}
 use Rattle.std.proofs.Common.{ap, ◌∙◌, arith, Some, None, reverse}
-use Rattle.std.proofs.lemmas.List.{reverse-append}
+use Rattle.std.proofs.lemmas.List.{reverse-append, nil_from_length}
 use Rattle.std.proofs.lemmas.Option.{same_Some}
 use Rattle.std.specs.Option.{option_and_then}
 use Rattle.units_io.specs.NamedValues.{Pairs}
@@ -94,15 +94,11 @@ holds_after locale (x ∷ lines) place bs cs e h =
     let p = and_then_pair (λ now. blocks_after now lines) (blocks_past bs x) cs e in
     holds_after locale lines (behind_line locale place x) p.0 cs p.2 (holds_past locale place bs p.0 x p.1 h)
 
--- a list of length 0 is empty
-no_length : {A : Type 0} (xs : List A) → length xs ≡ 0 → xs ≡ []
-no_length [] h = refl
-no_length (x ∷ xs) h = absurd (omega arith)
-
 -- after a closed deck no block is open
 none_around : (settings : Settings) (lines : List DeckLine) → AreBlocksClosed lines
     → (behind_lines settings.locale (start settings) lines).conditions ≡ []
-none_around settings lines closed = no_length _ (holds_after settings.locale lines (start settings) [] [] closed refl)
+none_around settings lines closed =
+    nil_from_length _ (holds_after settings.locale lines (start settings) [] [] closed refl)
 
 -- a line that defines a key has no mark
 pub plain_by : (x : DeckLine) (e : Key × Entry) → entry_in x ≡ Some e → x.mark ≡ false

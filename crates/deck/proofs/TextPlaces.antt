@@ -2,7 +2,7 @@
 use Rattle.std.proofs.Common.{◌≡◌, ◌∙◌, ◌+◌, ◌<◌, ◌||◌, ℕ, zero, suc, List, [], ◌∷◌, Bool, true, false}
 use Rattle.std.proofs.Common.{Option, Some, None, arith, get_or, is_some, length, length-take, nat_eq, refl, sym, ap}
 use Rattle.std.proofs.Common.{take}
-use Rattle.std.proofs.lemmas.Bool.{and_from}
+use Rattle.std.proofs.lemmas.Bool.{and_from, or_left, or_right}
 use Rattle.std.proofs.lemmas.Bool.Decides.{nat_tests}
 use Rattle.std.proofs.lemmas.List.{get_or-take}
 use Rattle.std.proofs.lemmas.Slice.Eq.{bytes_eq-Decides}
@@ -82,22 +82,14 @@ place_held (b ∷ bytes) text h =
         let found = later g in
         (suc found.0, one_on b bytes text found.0 found.1)
 
-or_first : (a b : Bool) → a ≡ true → (a || b) ≡ true
-or_first true b h = refl
-or_first false b h = cc
-
-or_second : (a b : Bool) → b ≡ true → (a || b) ≡ true
-or_second true b h = refl
-or_second false b h = h
-
 -- the bytes contain a text that occurs at some place
 held_at : (bytes text : List ℕ) (k : ℕ) → OccursAt bytes text k → has_substring bytes text ≡ true
 held_at [] text zero o = starts_first [] text o
 held_at [] text (suc k) o = absurd (omega (arith, o.fits))
 held_at (b ∷ bytes) text zero o =
-    or_first (starts_with nat_eq (b ∷ bytes) text) (has_substring bytes text) (starts_first (b ∷ bytes) text o)
+    or_left (starts_with nat_eq (b ∷ bytes) text) (has_substring bytes text) (starts_first (b ∷ bytes) text o)
 held_at (b ∷ bytes) text (suc k) o =
-    or_second (starts_with nat_eq (b ∷ bytes) text) (has_substring bytes text)
+    or_right (starts_with nat_eq (b ∷ bytes) text) (has_substring bytes text)
     (held_at bytes text k (one_back b bytes text k o))
 
 -- a search finds a text exactly if the bytes contain it

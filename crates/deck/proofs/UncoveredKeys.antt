@@ -8,6 +8,7 @@ use Rattle.def_entry.specs.declared.key.Kind.{Kind}
 use Rattle.def_entry.specs.Entries.{Entry}
 use Rattle.def_entry.specs.EntryReading.{SameTextLaw}
 use Rattle.def_entry.specs.SameKeys.{is_same, is_same_kind}
+use Rattle.def_entry.proofs.SameKeys.{same_keys}
 use Rattle.deck_lines.specs.Names.{key_numbered}
 use Rattle.deck_lines.specs.KeyNumbering.{IsNumbering}
 use Rattle.deck_lines.specs.Readings.{entry_in}
@@ -27,7 +28,6 @@ use Rattle.deck.proofs.ChangedKeys.{changed_at_places}
 use Rattle.deck.proofs.RemovedLine.{DefinesAt}
 use Rattle.deck.proofs.LastPlaceSteps.{last_alike}
 use Rattle.deck.proofs.PlacedDefinitions.{entry_found, in_place, in_place_by}
-use Rattle.deck.proofs.Sameness.{same_key}
 use Rattle.deck.proofs.LastRemoval.{last_less}
 
 -- the result of the first search, or that of the second if the first found nothing
@@ -103,7 +103,7 @@ places_stay settings lines place k e defines was j = by (is_same j k) refl
     by : (b : Bool) → is_same j k ≡ b
         → place_of (definitions_among (active_lines settings lines) lines) j ≡ place_of ((k, (place, e)) ∷ es) j
     by true h =
-        ap (place_of (definitions_among (active_lines settings lines) lines)) (same_key j k h) ∙ was
+        ap (place_of (definitions_among (active_lines settings lines) lines)) ((same_keys j k).0 h) ∙ was
         ∙ sym (ap (λ b. option_map (λ p. p.0) (cond b (Some (place, e)) (lookup (is_same j) es))) h)
     by false h =
         ap (option_map (λ p. p.0)) (sym (found_others (active_lines settings lines) lines 0 place k j e defines h))

@@ -4,7 +4,7 @@ use Rattle.std.proofs.Common.{eq-eqb, refl, sym, ap, ◌∙◌, arith, Some, Non
 use Rattle.std.specs.Prelude.{IfOk}
 use Rattle.std.proofs.lemmas.Bool.{eqb-true, false≢true}
 use Rattle.std.proofs.lemmas.Bool.Decides.{nat_tests}
-use Rattle.std.proofs.lemmas.List.{length-reverse}
+use Rattle.std.proofs.lemmas.List.{length-reverse, nil_from_length}
 use Rattle.std.proofs.lemmas.List.Sums.{sum_by-cons}
 use Rattle.std.proofs.lemmas.Option.{same_Some}
 use Rattle.std.specs.Option.{option_and_then}
@@ -51,18 +51,17 @@ none_open [] e = refl
 none_open (i ∷ items) e =
     absurd (omega (arith, length-reverse (i ∷ items), ap length (same_Some (reverse (i ∷ items)) [] e)))
 
--- a list of length 0 is empty
-no_items : (items : List Ending) → length items ≡ 0 → items ≡ []
-no_items [] e = refl
-no_items (i ∷ items) e = absurd (omega (arith, e))
-
 -- at the end, no block is open exactly if the lines are closed and within the limit on bytes
 pub at_end : (all : List DeckLine) (items : List Ending) (count room : ℕ) (empty : Bool) → empty ≡ eqb count 0
     → count ≡ length items →
     blocks_after (reverse items) [] ≡ blocks_after [] all → text_len [] + most_bytes ≡ text_len all + room →
     (empty ≡ true) ↔ (AreBlocksClosed all × (text_len all ≤ most_bytes))
 at_end all items count room empty e c h t = (
-  λ y. (sym h ∙ ap (λ bs. Some (reverse bs)) (no_items items (sym c ∙ eqb-true count 0 (sym e ∙ y))), omega (arith, t)),
+  λ y. (
+    sym h ∙ ap (λ bs. Some (reverse bs)) (nil_from_length items (sym c ∙ eqb-true count 0 (sym e ∙ y))),
+    omega
+        (arith, t),
+  ),
   λ r. e ∙ eq-eqb count 0 (c ∙ ap length (none_open items (h ∙ r.0))),
 )
 

@@ -2,9 +2,8 @@
 use Rattle.std.proofs.Common.{◌≡◌, ◌++◌, ◌∷◌, ◌+◌, ◌-◌, ◌<◌, ◌≤◌, ◌⊎◌, [], ℕ, zero, suc, List, length, take, drop, inl}
 use Rattle.std.proofs.Common.{inr, refl, sym, ap, ◌∙◌, arith, length-append, length-drop, length-take, Some, None}
 use Rattle.std.proofs.Common.{slice_get}
-use Rattle.std.proofs.lemmas.List.{append-nil, drop_all}
-use Rattle.std.proofs.lemmas.Option.{same_Some, slice_get_past}
-use Rattle.deck_lines.proofs.ListExchanges.{all_of}
+use Rattle.std.proofs.lemmas.List.{append-nil, drop_all, take_all}
+use Rattle.std.proofs.lemmas.Option.{same_Some, slice_get_past, slice_get_within}
 
 -- an item of two joined lists is an item of the first or of the second
 pub get_append : {A : Type 0} (xs ys : List A) (i : ℕ) (x : A) → slice_get (xs ++ ys) i ≡ Some x
@@ -21,17 +20,11 @@ get_take (suc n) [] i x e = cc
 get_take (suc n) (y ∷ xs) zero x e = e
 get_take (suc n) (y ∷ xs) (suc i) x e = get_take n xs i x e
 
--- the place of an item is within its list
-pub inside_got : {A : Type 0} (xs : List A) (i : ℕ) (x : A) → slice_get xs i ≡ Some x → i < length xs
-inside_got [] i x e = absurd (cc)
-inside_got (y ∷ xs) zero x e = omega arith
-inside_got (y ∷ xs) (suc i) x e = omega (arith, inside_got xs i x e)
-
 -- if two lists have the same item at two places, and the place in the first is within it, so is that in the second
 pub found_inside : {A : Type 0} (xs ys : List A) (i j : ℕ) → i < length xs → slice_get xs i ≡ slice_get ys j
     → j < length ys
 found_inside [] ys i j h e = absurd (omega arith)
-found_inside (x ∷ xs) ys zero j h e = inside_got ys j x (sym e)
+found_inside (x ∷ xs) ys zero j h e = slice_get_within ys j x (sym e)
 found_inside (x ∷ xs) ys (suc i) j h e = found_inside xs ys i j (omega arith) e
 
 -- there is an item at each place of a list
@@ -133,5 +126,5 @@ drop_found (y ∷ xs) (suc i) x e =
 -- inserting nothing at the end does not change a list
 pub exchanged_nothing : {A : Type 0} (xs : List A) (n : ℕ) → n ≡ length xs → take n xs ++ ([] ++ drop (n + 0) xs) ≡ xs
 exchanged_nothing xs n e =
-    ap (λ t. t ++ ([] ++ drop (n + 0) xs)) (all_of n xs (omega (arith, e)))
+    ap (λ t. t ++ ([] ++ drop (n + 0) xs)) (take_all n xs (omega (arith, e)))
     ∙ ap (λ t. xs ++ ([] ++ t)) (drop_all (n + 0) xs (omega (arith, e))) ∙ append-nil xs

@@ -35,13 +35,6 @@ one_at zero (y ∷ ys) x e =
     ap (λ t. t ∷ []) same
 one_at (suc n) (y ∷ ys) x e = one_at n ys x e
 
--- taking at least as many items as a list has gives the list
-pub all_of : {A : Type 0} (n : ℕ) (xs : List A) → length xs ≤ n → take n xs ≡ xs
-all_of zero [] h = refl
-all_of zero (x ∷ xs) h = absurd (omega arith)
-all_of (suc n) [] h = refl
-all_of (suc n) (x ∷ xs) h = ap (λ t. x ∷ t) (all_of n xs (omega arith))
-
 module _ (ls put : List Line) (ms more : List Bool) (at cut : ℕ) (each : length ms ≡ length ls)
     (with : length more ≡ length put) where
   -- marking lines after a replacement is the same as replacing marked lines

@@ -9,13 +9,10 @@ use Rattle.std.specs.Cmp.Lexicographic.{bytes_decides}
 use Rattle.std.proofs.lemmas.List.{map-append}
 use Rattle.std.proofs.lemmas.List.Quantifiers.{position-Some}
 use Rattle.std.proofs.lemmas.Option.{same_Some, slice_get-get_or, slice_get-map}
+use Rattle.std.proofs.lemmas.Slice.Eq.{bytes_eq-Decides}
 use Rattle.indexmap.specs.IndexSet.{insert_key}
 use Rattle.deck_lines.specs.Names.{with_name}
 use Rattle.deck_lines.specs.NumberedNames.{AreUpTo}
-
--- names that are tested as equal are equal
-pub same_name : (a b : List ℕ) → bytes_eq a b ≡ true → a ≡ b
-same_name a b h = (bytes_decides a b).0 h
 
 module _ {K : Type 0} (items : K → List ℕ) (name : List ℕ) where
   -- a name is among the names of keys exactly if a key has this name
@@ -47,7 +44,7 @@ name_found items name [] i e = absurd (cc)
 name_found items name (k ∷ ks) i e =
     let at = position-Some (λ a. bytes_eq name (items a)) (k ∷ ks) i k e in
     slice_get-map items (k ∷ ks) i ∙ ap (option_map items) (slice_get-get_or (k ∷ ks) i k at.0)
-    ∙ ap Some (sym (same_name name (items (get_or (k ∷ ks) i k)) at.1))
+    ∙ ap Some (sym ((bytes_eq-Decides name (items (get_or (k ∷ ks) i k))).0 at.1))
 
 -- the result of a lookup of a name
 pub number_seen : {K : Type 0} (items : K → List ℕ) (name : List ℕ) (ks : List K) (r : Option ℕ) (names : List (List ℕ))
@@ -68,7 +65,8 @@ longer_is_absent name most (x ∷ xs) short longer = by _ refl (longer_is_absent
     by : (b : Bool) → bytes_eq name x ≡ b → list_any (bytes_eq name) xs ≡ false
         → (bytes_eq name x || list_any (bytes_eq name) xs) ≡ false
     by true e rest =
-        let fits : length name ≤ most = subst (λ (n : List ℕ). length n ≤ most) (sym (same_name name x e)) short.0 in
+        let fits : length name ≤ most = subst (λ (n : List ℕ). length n ≤ most) (sym ((bytes_eq-Decides name x).0 e))
+        short.0 in
         absurd (omega arith)
     by false e rest = rw e rest
 
@@ -112,7 +110,7 @@ put_at name (x ∷ xs) = by (bytes_eq name x) refl (put_at name xs)
 
     by : (b : Bool) → bytes_eq name x ≡ b → slice_get (with_name name xs) (position_or_len (bytes_eq name) xs)
         ≡ Some name → At name x xs (bytes_eq name x)
-    by true e rest = subst (At name x xs) (sym e) (ap Some (sym (same_name name x e)))
+    by true e rest = subst (At name x xs) (sym e) (ap Some (sym ((bytes_eq-Decides name x).0 e)))
     by false e rest =
         subst (At name x xs) (sym e)
         (ap (slice_get (cond (list_any (bytes_eq name) xs) (x ∷ xs) (x ∷ xs ++ name ∷ [])))

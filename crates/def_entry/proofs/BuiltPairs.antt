@@ -4,7 +4,7 @@ use Rattle.std.proofs.Common.{false, not, length, Option, Some, None, refl, sym,
 use Rattle.std.proofs.Common.{append_assoc, length-append, true≢false}
 use Rattle.std.specs.List.{list_all}
 use Rattle.std.specs.Option.{is_some}
-use Rattle.std.proofs.lemmas.Bool.{eqb-true}
+use Rattle.std.proofs.lemmas.Bool.{eqb-true, not-true}
 use Rattle.std.proofs.lemmas.List.{append-nil}
 use Rattle.frac128.specs.Fraction.{Fraction}
 use Rattle.units_io.specs.Blanks.{is_blank}
@@ -21,7 +21,7 @@ use Rattle.def_entry.specs.PointGrammar.{NextPair, ends_number, pair_then}
 use Rattle.def_entry.specs.PointLists.{points_between, points_of_words, some_pairs}
 use Rattle.def_entry.specs.Steps.{◌>>=◌}
 use Rattle.def_entry.proofs.CutParts.{parts-none}
-use Rattle.def_entry.proofs.CutTexts.{cut-at, cut-lacks, not_true}
+use Rattle.def_entry.proofs.CutTexts.{cut-at, cut-lacks}
 use Rattle.def_entry.proofs.Fronts.{Parted, after_blanks-begun, stops}
 use Rattle.def_entry.proofs.PointRuns.{both, points-cut, points_in_runs}
 use Rattle.def_entry.proofs.WrittenIntervals.{bind_some}
@@ -61,10 +61,6 @@ pair-is x y found list e =
   where
     same : (ps qs : List Point) → ◌≡◌ {A = Option (List Point)} (Some ps) (Some qs) → ps ≡ qs
     same ps qs e = cc
-
--- `None` is not a list
-pub none_some : (list : List Point) → ◌≡◌ {A = Option (List Point)} None (Some list) → ⊥
-none_some list e = cc
 
 -- a number between blanks is a single word
 lone_words : (before x blanks : List ℕ) → list_all is_blank before ≡ true → Number x → list_all is_blank blanks ≡ true
@@ -243,4 +239,4 @@ number_by x clear some = record { word = (none_each x clear).0; clear = (none_ea
 
 -- the first byte of a text that does not start with a blank is not a blank
 pub begun_byte : (b : ℕ) (text : List ℕ) → is_begun (b ∷ text) ≡ true → is_blank b ≡ false
-begun_byte b text begun = not_true (is_blank b) begun
+begun_byte b text begun = not-true (is_blank b) begun

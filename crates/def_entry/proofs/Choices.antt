@@ -1,6 +1,7 @@
 -- The options of a function, read one by one.
-use Rattle.std.proofs.Common.{◌≡◌, ◌<◌, ◌≤◌, ◌+◌, ◌-◌, ◌&&◌, ℕ, suc, zero, List, Bool, true, false, cond, Option, Some}
+use Rattle.std.proofs.Common.{◌≡◌, ◌<◌, ◌≤◌, ◌+◌, ◌-◌, ℕ, suc, zero, List, Bool, true, false, cond, Option, Some}
 use Rattle.std.proofs.Common.{None, refl, sym, ap, ◌∙◌, arith}
+use Rattle.std.proofs.lemmas.Bool.{and_parts}
 use Rattle.def_lines.specs.Blanks.{after_blanks}
 use Rattle.def_entry.specs.declared.options.Choice.{Choice}
 use Rattle.def_entry.specs.declared.options.Choice.TheVariants.{Units, Domain, Range, NoError}
@@ -8,11 +9,6 @@ use Rattle.def_entry.specs.Options.{Options, begins_with_no_error, begins_with_o
 use Rattle.def_entry.specs.Options.{text_after_choice}
 use Rattle.def_entry.specs.Options.{with_choice, with_next_option}
 use Rattle.def_entry.specs.Steps.{◌>>=◌}
-
--- if a conjunction holds, so does its first test
-and_left : (a b : Bool) → (a && b) ≡ true → a ≡ true
-and_left true b e = refl
-and_left false b e = e
 
 -- the option with which a text starts, in terms of the tests of all options
 begins_by : (text : List ℕ) (choice : Choice) (u d r n : Bool) → begins_with_option Units text ≡ u
@@ -28,7 +24,7 @@ begins_by text choice false false true n eu ed er en e = let i : choice ≡ Rang
     ∙ er
 begins_by text choice false false false true eu ed er en e =
     let i : choice ≡ NoError = cc in
-    ap (λ x. begins_with_option x text) i ∙ and_left (begins_with_option NoError text) _ en
+    ap (λ x. begins_with_option x text) i ∙ (and_parts (begins_with_option NoError text) _ en).0
 begins_by text choice false false false false eu ed er en e = cc
 
 -- the option with which a text starts has its word at the front of the text

@@ -11,11 +11,6 @@ use Rattle.std.proofs.lemmas.List.Sums.{passes_at_first, prefix_len-le-length}
 use Rattle.std.proofs.Math.Seq.{drop-append-add, drop-cons, take-append_seam, take-length}
 use Rattle.def_entry.specs.Cuts.{cut_at, lacks}
 
--- a test that does not hold is false
-pub not_true : (b : Bool) → not b ≡ true → b ≡ false
-not_true true e = cc
-not_true false e = refl
-
 -- the first byte that passes a test comes after those that do not
 pub place-at : (p : ℕ → Bool) (front : List ℕ) (b : ℕ) (behind : List ℕ) → list_all (λ c. not (p c)) front ≡ true
     → p b ≡ true

@@ -3,7 +3,7 @@ use Rattle.std.proofs.Common.{◌≡◌, ◌<◌, ◌≤◌, ◌+◌, ◌∷◌,
 use Rattle.std.proofs.Common.{take, drop, reverse, refl, sym, ap, ◌∙◌, one-add}
 use Rattle.std.specs.List.{before_first, list_all, position_or_len}
 use Rattle.std.specs.Prelude.{nat_lt}
-use Rattle.std.proofs.lemmas.Bool.{and_parts, ltb-false}
+use Rattle.std.proofs.lemmas.Bool.{and_parts, ltb-false, not-true}
 use Rattle.std.proofs.lemmas.Bool.Decides.{Decides-ltb}
 use Rattle.std.proofs.lemmas.List.{append-nil, reverse-append, reverse-reverse, take-append-drop}
 use Rattle.std.proofs.lemmas.List.Sums.{passes_at_first}
@@ -17,7 +17,7 @@ use Rattle.def_lines.proofs.TrimmedTexts.{after_blanks-blank, after_blanks-word,
 use Rattle.def_lines.proofs.TrimmedTexts.{is_begun-after_blanks}
 use Rattle.def_lines.proofs.TrimmedTexts.{trimmed-begun, trimmed-blank}
 use Rattle.def_entry.specs.Headings.{stands_apart}
-use Rattle.def_entry.proofs.CutTexts.{front-clear, not_true, place-at}
+use Rattle.def_entry.proofs.CutTexts.{front-clear, place-at}
 
 -- the text is empty or starts with such a byte
 abbrev pub stops : (ℕ → Bool) → List ℕ → Bool
@@ -80,7 +80,7 @@ parted p text =
 -- skipping blanks does not change a text that does not start with a blank
 pub after_blanks-begun : (text : List ℕ) → is_begun text ≡ true → after_blanks text ≡ text
 after_blanks-begun [] begun = refl
-after_blanks-begun (b ∷ text) begun = after_blanks-word b text (not_true (is_blank b) begun)
+after_blanks-begun (b ∷ text) begun = after_blanks-word b text (not-true (is_blank b) begun)
 
 -- removing trailing blanks twice is the same as removing them once
 before_blanks-again : (text : List ℕ) → before_blanks (before_blanks text) ≡ before_blanks text
@@ -113,7 +113,7 @@ before_blanks-front (b ∷ word) text clear =
     go : (not (is_blank b) ≡ true) × (list_all (λ b. not (is_blank b)) word ≡ true)
         → (list_all (λ b. not (is_blank b)) word ≡ true → before_blanks (word ++ text) ≡ word ++ before_blanks text)
         → before_blanks ((b ∷ word) ++ text) ≡ (b ∷ word) ++ before_blanks text
-    go parts rest = before_blanks-word b (word ++ text) (not_true (is_blank b) parts.0) ∙ ap (λ t. b ∷ t) (rest parts.1)
+    go parts rest = before_blanks-word b (word ++ text) (not-true (is_blank b) parts.0) ∙ ap (λ t. b ∷ t) (rest parts.1)
 
 -- removing trailing blanks leaves a leading blank or nothing
 blank_stays : (b : ℕ) (text : List ℕ) → is_blank b ≡ true

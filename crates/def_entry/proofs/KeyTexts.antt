@@ -5,7 +5,7 @@ use Rattle.std.proofs.Common.{length-append, true≢false, Bor, MatchOption}
 use Rattle.std.specs.Prelude.{nat_lt, slice_index}
 use Rattle.std.specs.List.{list_all}
 use Rattle.std.specs.Str.{bytes_eq}
-use Rattle.std.proofs.lemmas.Bool.{and_from, and_parts, eq-eqb, eqb-true, ltb-true, ne_eqb}
+use Rattle.std.proofs.lemmas.Bool.{and_from, and_parts, eq-eqb, eqb-true, ltb-true, ne_eqb, true_from_ne_false}
 use Rattle.std.proofs.lemmas.List.{get_or-append_right}
 use Rattle.std.proofs.lemmas.List.Folds.{list_all_at}
 use Rattle.std.proofs.lemmas.Slice.Eq.{bytes_eq-Decides, strip_suffix_is}
@@ -35,11 +35,6 @@ odd_tests true true false d e h = absurd (true≢false (sym h))
 odd_tests true false c d e h = absurd (true≢false (sym h))
 odd_tests false b c d e h = absurd (true≢false (sym h))
 
--- what is not false is true
-not_false : (b : Bool) → (b ≡ false → ⊥) → b ≡ true
-not_false true f = refl
-not_false false f = absurd (f refl)
-
 -- a valid name is not empty, does not start with `!`, and consists of word bytes
 name_parts : (w : List ℕ) → is_name w ≡ true → (0 < length w) × ((slice_index w 0 == 33) ≡ false)
     × (list_all is_word_byte w ≡ true)
@@ -53,7 +48,8 @@ name_last : (w : List ℕ) → is_name w ≡ true → is_word_byte (last_byte w)
 name_last w h =
     let parts : (0 < length w) × ((slice_index w 0 == 33) ≡ false) × (list_all is_word_byte w ≡ true) =
     name_parts w h in
-    not_false _ (λ e. true≢false (sym parts.2 ∙ list_all_at is_word_byte w (length w - 1) 0 (omega (arith, parts.0)) e))
+    true_from_ne_false _ (λ e.
+    true≢false (sym parts.2 ∙ list_all_at is_word_byte w (length w - 1) 0 (omega (arith, parts.0)) e))
 
 -- the last byte of two texts is that of the second, if it is not empty
 pub last_behind : (w bs : List ℕ) → 0 < length bs → last_byte (w ++ bs) ≡ last_byte bs

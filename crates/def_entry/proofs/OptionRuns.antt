@@ -7,6 +7,7 @@ use Rattle.std.specs.Option.{is_some}
 use Rattle.std.proofs.lemmas.Bool.{and_parts}
 use Rattle.std.proofs.lemmas.List.{append-nil}
 use Rattle.std.proofs.lemmas.List.Elements.{filter_map-append}
+use Rattle.std.proofs.lemmas.Option.{some_pair_parts}
 use Rattle.units_io.specs.Blanks.{is_blank}
 use Rattle.def_lines.specs.Blanks.{after_blanks}
 use Rattle.def_lines.specs.Parts.{is_begun}
@@ -24,7 +25,7 @@ use Rattle.def_entry.specs.Options.{Options, choice_at, empty_options, most_opti
 use Rattle.def_entry.specs.Options.{text_after_choice}
 use Rattle.def_entry.specs.Options.{with_choice, with_next_option}
 use Rattle.def_entry.specs.Steps.{◌>>=◌}
-use Rattle.def_entry.proofs.WrittenIntervals.{bind_some, one_pair}
+use Rattle.def_entry.proofs.WrittenIntervals.{bind_some}
 use Rattle.def_entry.proofs.WrittenOptions.{Added, Fronted, added, after_blanks-front, begun-option, choice-at, fronted}
 use Rattle.def_entry.proofs.WrittenOptions.{has-ended, is_free, no-choice, value-at, value-is}
 
@@ -183,7 +184,7 @@ read-is (suc n) o text rest new e = go (choice_at (after_blanks text)) refl e (f
         → ReadFrom o text rest new)
         → ReadFrom o text rest new
     go None none e front next =
-        let pair : (o ≡ new) × (after_blanks text ≡ rest) = one_pair o new (after_blanks text) rest e in
+        let pair : (o ≡ new) × (after_blanks text ≡ rest) = some_pair_parts o new (after_blanks text) rest e in
         record {
           written = NoOption front.blanks;
           spelled = front.whole ∙ ap (λ t. front.blanks ++ t) pair.1;

@@ -2,15 +2,15 @@
 use Rattle.std.proofs.Common.{◌≡◌, ◌<◌, ◌≤◌, ◌++◌, ◌==◌, ℕ, List, [], ◌∷◌, Bool, true, false, cond, length, Option}
 use Rattle.std.proofs.Common.{Some, None, Ok, option_map, refl, sym, ap, ◌∙◌, subst, arith, append_assoc, length-append}
 use Rattle.std.specs.Prelude.{nat_le}
-use Rattle.std.proofs.lemmas.Bool.{leb-true, le-leb}
-use Rattle.std.proofs.lemmas.List.{append-nil}
+use Rattle.std.proofs.lemmas.Bool.{leb-true, le-leb, eqb-true}
+use Rattle.std.proofs.lemmas.List.{append-nil, nil_from_length}
 use Rattle.def_lines.specs.Blanks.{after_blanks}
 use Rattle.def_lines.specs.Parts.{is_begun}
 use Rattle.def_lines.specs.Words.{after_word, first_word, words_of}
 use Rattle.def_lines.proofs.WordLists.{is_begun-after_word, length-after_word, shorter-after_word}
 use Rattle.def_lines.proofs.WordLists.{words_of-after_blanks}
 use Rattle.def_lines.proofs.WordLists.{words_of-first}
-use Rattle.def_lines.proofs.TrimmedTexts.{empty-nil, is_begun-after_blanks}
+use Rattle.def_lines.proofs.TrimmedTexts.{is_begun-after_blanks}
 use Rattle.frac128.specs.Fraction.{Fraction}
 use Rattle.piecewise.specs.Lines.{Point}
 use Rattle.def_entry.specs.declared.fault.EntryFault.TheVariants.{BadTable}
@@ -149,12 +149,13 @@ shorter-pair (b ∷ text) behind behind' begun some from from' =
 pub pairs-nil : (front : List Point) (text : List ℕ) → (length text == 0) ≡ true
     → onto front (points_of_words (words_of text)) ≡ Some front
 pairs-nil front text none =
-    ap (λ t. onto front (points_of_words (words_of t))) (empty-nil text none)
+    ap (λ t. onto front (points_of_words (words_of t))) (nil_from_length text (eqb-true (length text) 0 none))
     ∙ ap (λ ws. onto front (points_of_words ws)) words_of-nil ∙ ap Some (append-nil front)
 
 -- blanks contain no words
 words_of-blanks : (text rest : List ℕ) → rest ≡ after_blanks text → (length rest == 0) ≡ true → words_of text ≡ []
-words_of-blanks text rest is none = sym (words_of-after_blanks text) ∙ ap words_of (sym is ∙ empty-nil rest none)
+words_of-blanks text rest is none = sym (words_of-after_blanks text)
+    ∙ ap words_of (sym is ∙ nil_from_length rest (eqb-true (length rest) 0 none))
     ∙ words_of-nil
 
 -- blanks do not contain the pair that is needed

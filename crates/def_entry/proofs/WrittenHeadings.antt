@@ -6,12 +6,13 @@ use Rattle.std.specs.Str.{bytes_eq}
 use Rattle.std.specs.List.{list_all}
 use Rattle.std.specs.Prelude.{nat_lt}
 use Rattle.std.proofs.lemmas.Bool.Decides.{Decides-ltb}
-use Rattle.std.proofs.lemmas.Bool.{and_from, and_parts, eqb-true, ltb-true}
+use Rattle.std.proofs.lemmas.Bool.{and_from, and_parts, eqb-true, ltb-true, not-true}
 use Rattle.std.proofs.lemmas.List.{take-append-drop}
 use Rattle.std.proofs.lemmas.List.Folds.{list_all-append}
 use Rattle.std.proofs.lemmas.Slice.Eq.{bytes_eq-Decides}
 use Rattle.std.proofs.Math.ListN.{drop_of_length-le}
 use Rattle.std.proofs.Math.Seq.{drop-append_seam, drop-cons}
+use Rattle.std.proofs.Math.Bool.{and-false}
 use Rattle.units_io.specs.Blanks.{is_blank}
 use Rattle.def_lines.specs.declared.directive.Directive.{Directive}
 use Rattle.def_lines.specs.declared.directive.Directive.TheVariants as directive
@@ -31,7 +32,6 @@ use Rattle.def_entry.specs.HeadingGrammar.{is_heading, is_lead, is_list_name, wi
 use Rattle.def_entry.specs.Headings.{Heading, definition_heading, ends_head, ends_in_minus, head_of_line}
 use Rattle.def_entry.specs.Headings.{has_bracket, heading_of as heading_by, is_opening, list_heading, stands_apart}
 use Rattle.def_entry.specs.EntryReading.{has_entry}
-use Rattle.def_entry.proofs.CutTexts.{not_true}
 use Rattle.def_entry.proofs.Fronts.{FirstWord, Parted, before-at, first-word, parted, stops, stops-apart}
 use Rattle.def_entry.proofs.KeyTexts.{last_behind, written_names}
 use Rattle.def_entry.proofs.WrittenOptions.{Fronted, after_blanks-front, fronted}
@@ -53,11 +53,6 @@ other head behind opened = record { kind = if opened then Func else UnitKind; na
 -- the heading of a list
 abbrev list_by : List ℕ → List ℕ → Heading
 list_by name text = record { kind = ListKind; name = name; text = text }
-
--- a conjunction with false is false
-and_no : (t : Bool) → (t && false) ≡ false
-and_no true = refl
-and_no false = refl
 
 -- a lead does not change the heading
 led : (l : LeadText) (rest : List ℕ) → is_lead l rest ≡ true → head_of_line (with_lead l rest) ≡ definition_heading rest
@@ -140,7 +135,7 @@ heading-written (UnitHeading l name behind) whole =
     led l (name ++ behind) c.0
     ∙ headed name behind c.1 apart.1
     ∙ ap (λ t. cond (t && stands_apart behind) (prefix name behind) (other name behind (has_bracket behind)))
-    (not_true (ends_in_minus name) a.1)
+    (not-true (ends_in_minus name) a.1)
     ∙ ap (other name behind) apart.0
 heading-written (PrefixHeading l name behind) whole =
     let a : ((is_lead l (name ++ (45 ∷ behind)) && is_head name) ≡ true) × (stands_apart behind ≡ true) =
@@ -163,7 +158,7 @@ heading-written (FuncHeading l name behind) whole =
     led l (name ++ behind) c.0
     ∙ headed name behind c.1 opened.1
     ∙ ap (λ t. cond (ends_in_minus name && t) (prefix name behind) (other name behind (has_bracket behind))) opened.0
-    ∙ ap (λ t. cond t (prefix name behind) (other name behind (has_bracket behind))) (and_no (ends_in_minus name))
+    ∙ ap (λ t. cond t (prefix name behind) (other name behind (has_bracket behind))) (and-false (ends_in_minus name))
     ∙ ap (other name behind) a.1
 heading-written (ListHeading before between name behind) whole =
     let y : List ℕ = between ++ (name ++ behind) in

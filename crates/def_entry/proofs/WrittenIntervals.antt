@@ -6,6 +6,7 @@ use Rattle.std.specs.Option.{is_some}
 use Rattle.std.specs.Prelude.{slice_index}
 use Rattle.std.proofs.lemmas.Bool.{and_parts, eqb-true}
 use Rattle.std.proofs.Math.Seq.{drop-append-add, take-append_seam}
+use Rattle.std.proofs.lemmas.Option.{some_pair_parts}
 use Rattle.def_lines.specs.Blanks.{trim_of}
 use Rattle.def_entry.specs.declared.entry.Bound.{Bound}
 use Rattle.def_entry.specs.declared.entry.Span.{Span}
@@ -27,12 +28,6 @@ pub mapped_some : {A B : Type 0} (f : A → B) (given : Option A) (y : B) → op
 mapped_some f None y e = cc
 mapped_some f (Some x) y e = let same : f x ≡ y = cc in (x, refl, same)
 
--- equal pairs have equal parts
-pub one_pair : {A B : Type 0} (a x : A) (b y : B) → ◌≡◌ {A = Option (A × B)} (Some (a, b)) (Some (x, y))
-    → (a ≡ x) × (b ≡ y)
-one_pair {A = A} {B = B} a x b y e = let p : (◌≡◌ {A = A × B} (a, b) (x, y)) =
-    ap (λ o. unwrap_or {T = A × B} o (a, b)) e in (ap (λ (q : A × B). q.0) p, ap (λ (q : A × B). q.1) p)
-
 -- a written opening bracket is read
 opened-at : (is_closed : Bool) (text : List ℕ) → opening_bracket (opening_byte is_closed ∷ text) ≡ Some
     (is_closed, text)
@@ -50,11 +45,11 @@ opened-is (b ∷ text) is_closed behind e = go (b == 91) (b == 40) refl refl e
         ≡ Some (is_closed, behind)
         → b ∷ text ≡ opening_byte is_closed ∷ behind
     go true t f g e =
-        let parts : (true ≡ is_closed) × (text ≡ behind) = one_pair true is_closed text behind e in
+        let parts : (true ≡ is_closed) × (text ≡ behind) = some_pair_parts true is_closed text behind e in
         let byte : b ≡ opening_byte true = eqb-true b 91 f in
         (λ i. byte i ∷ text) ∙ (λ i. opening_byte (parts.0 i) ∷ parts.1 i)
     go false true f g e =
-        let parts : (false ≡ is_closed) × (text ≡ behind) = one_pair false is_closed text behind e in
+        let parts : (false ≡ is_closed) × (text ≡ behind) = some_pair_parts false is_closed text behind e in
         let byte : b ≡ opening_byte false = eqb-true b 40 g in
         (λ i. byte i ∷ text) ∙ (λ i. opening_byte (parts.0 i) ∷ parts.1 i)
     go false false f g e = cc
@@ -145,7 +140,7 @@ some-both None high s rest behind e = cc
 some-both (Some l) None s rest behind e = cc
 some-both (Some l) (Some h) s rest behind e =
     let parts : (◌≡◌ {A = Span} (record { low = l; high = h }) s) × (behind ≡ rest) =
-    one_pair (record { low = l; high = h }) s behind rest e in
+    some_pair_parts (record { low = l; high = h }) s behind rest e in
     (ap Some parts.0, parts.1)
 
 -- an interval that is written is read

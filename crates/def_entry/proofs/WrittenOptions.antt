@@ -4,9 +4,10 @@ use Rattle.std.proofs.Common.{drop, codes, Option, Some, None, option_map, refl,
 use Rattle.std.specs.List.{list_all, starts_with}
 use Rattle.std.specs.Option.{is_some}
 use Rattle.std.specs.Prelude.{nat_eq}
-use Rattle.std.proofs.lemmas.Bool.{and_parts, eqb-true}
+use Rattle.std.proofs.lemmas.Bool.{and_parts, eqb-true, not-true}
 use Rattle.std.proofs.lemmas.List.{take-append-drop}
 use Rattle.std.proofs.lemmas.Slice.Eq.{bytes_eq-Decides}
+use Rattle.std.proofs.lemmas.Option.{some_pair_parts}
 use Rattle.units_io.specs.Blanks.{is_blank}
 use Rattle.def_lines.specs.Blanks.{after_blanks, trim_of}
 use Rattle.def_lines.specs.Parts.{is_begun}
@@ -26,8 +27,8 @@ use Rattle.def_entry.specs.Options.{units_at}
 use Rattle.def_entry.specs.Options.{with_choice}
 use Rattle.def_entry.specs.Steps.{◌>>=◌}
 use Rattle.def_entry.proofs.Choices.{begins-choice_at}
-use Rattle.def_entry.proofs.CutTexts.{cut-at, cut-is, not_true}
-use Rattle.def_entry.proofs.WrittenIntervals.{Interval, bind_some, interval-at, interval-is, mapped_some, one_pair}
+use Rattle.def_entry.proofs.CutTexts.{cut-at, cut-is}
+use Rattle.def_entry.proofs.WrittenIntervals.{Interval, bind_some, interval-at, interval-is, mapped_some}
 
 -- blanks
 
@@ -35,7 +36,7 @@ use Rattle.def_entry.proofs.WrittenIntervals.{Interval, bind_some, interval-at, 
 pub after_blanks-front : (blanks text : List ℕ) → list_all is_blank blanks ≡ true → is_begun text ≡ true
     → after_blanks (blanks ++ text) ≡ text
 after_blanks-front [] [] clear begun = refl
-after_blanks-front [] (b ∷ text) clear begun = after_blanks-word b text (not_true (is_blank b) begun)
+after_blanks-front [] (b ∷ text) clear begun = after_blanks-word b text (not-true (is_blank b) begun)
 after_blanks-front (b ∷ blanks) text clear begun =
     go (and_parts (is_blank b) (list_all is_blank blanks) clear) (after_blanks-front blanks text)
   where
@@ -180,12 +181,12 @@ pub value-at : (w : WrittenOption) (o : Options) (rest : List ℕ) → is_comple
 value-at (UnitsOption a b) o rest whole free =
     let clear : (lacks 59 a ≡ true) × (lacks 93 b ≡ true) = and_parts _ _ whole in
     let value : List ℕ = 91 ∷ (a ++ (59 ∷ (b ++ (93 ∷ rest)))) in
-    ap (λ t. cond t None (option_map (with_units o) (units_at value))) (not_true (is_some o.units) free)
+    ap (λ t. cond t None (option_map (with_units o) (units_at value))) (not-true (is_some o.units) free)
     ∙ ap (option_map (with_units o)) (units-at a b rest clear.0 clear.1)
 value-at (DomainOption i) o rest whole free =
     let value : (s : Span) × (span_of i ≡ Some s) = some_value (span_of i) (and_parts _ _ whole).1 in
     ap (λ t. cond t None (option_map (with_domain o) (interval_at (interval i rest))))
-    (not_true (is_some o.domain) free)
+    (not-true (is_some o.domain) free)
     ∙ ap (option_map (with_domain o)) (interval-at i rest value.0 whole value.1)
     ∙ ap (λ v. domain_set v) (sym value.1)
   where
@@ -193,14 +194,14 @@ value-at (DomainOption i) o rest whole free =
     domain_set v = Some (record o { domain = v }, rest)
 value-at (RangeOption i) o rest whole free =
     let value : (s : Span) × (span_of i ≡ Some s) = some_value (span_of i) (and_parts _ _ whole).1 in
-    ap (λ t. cond t None (option_map (with_range o) (interval_at (interval i rest)))) (not_true (is_some o.range) free)
+    ap (λ t. cond t None (option_map (with_range o) (interval_at (interval i rest)))) (not-true (is_some o.range) free)
     ∙ ap (option_map (with_range o)) (interval-at i rest value.0 whole value.1)
     ∙ ap (λ v. range_set v) (sym value.1)
   where
     range_set : Option Span → Option (Options × List ℕ)
     range_set v = Some (record o { range = v }, rest)
 value-at NoErrorOption o rest whole free =
-    ap (λ t. cond t None (Some (with_no_error o, rest))) (not_true o.no_error free)
+    ap (λ t. cond t None (Some (with_no_error o, rest))) (not-true o.no_error free)
 
 -- the written form of an option that is read
 pub record Added (text : List ℕ) (o new : Options) (rest : List ℕ) : Type 0 where
@@ -245,7 +246,7 @@ units-is text rest u e =
         let front : text ≡ 91 ∷ inside = byte-is 91 text inside first in
         let s : (inside ≡ a ++ (59 ∷ more)) × (lacks 59 a ≡ true) = cut-is 59 inside a more second in
         let t : (more ≡ b ++ (93 ∷ left)) × (lacks 93 b ≡ true) = cut-is 93 more b left third in
-        let pair : (units_by a b ≡ u) × (left ≡ rest) = one_pair (units_by a b) u left rest last in
+        let pair : (units_by a b ≡ u) × (left ≡ rest) = some_pair_parts (units_by a b) u left rest last in
         record {
           in_unit = a;
           out_unit = b;
@@ -368,7 +369,7 @@ value-is NoError text o new rest begins e =
     go true f e front = cc
     go false f e front =
         let pair : (with_no_error o ≡ new) × (text_after_choice NoError text ≡ rest) =
-        one_pair (with_no_error o) new (text_after_choice NoError text) rest e in
+        some_pair_parts (with_no_error o) new (text_after_choice NoError text) rest e in
         record {
           written = NoErrorOption;
           spelled = front ∙ ap (λ t. codes "noerror" ++ t) pair.1;

@@ -1,12 +1,13 @@
 -- Points are read the way they are written.
 use Rattle.std.proofs.Common.{◌≡◌, ◌≢◌, inl, inr, ◌<◌, ◌==◌, ◌&&◌, ◌||◌, ◌∷◌, [], ◌++◌, ℕ, zero, suc, List, Bool, true}
-use Rattle.std.proofs.Common.{false, not, cond, length, codes, Option, Some, None, refl, sym, ap, ◌∙◌, subst, arith}
+use Rattle.std.proofs.Common.{false, not, cond, length, codes, Some, None, refl, sym, ap, ◌∙◌, subst, arith}
 use Rattle.std.proofs.Common.{append_assoc, true≢false}
 use Rattle.std.specs.List.{list_all}
 use Rattle.std.specs.Option.{is_some}
 use Rattle.std.proofs.lemmas.Bool.{and_parts, eqb-true}
 use Rattle.std.proofs.lemmas.List.{append-nil}
 use Rattle.std.proofs.lemmas.List.Folds.{list_all-append}
+use Rattle.std.proofs.lemmas.Option.{none-some, same_Some}
 use Rattle.units_io.specs.Blanks.{is_blank}
 use Rattle.def_lines.specs.Blanks.{after_blanks}
 use Rattle.def_lines.specs.Parts.{is_begun}
@@ -21,14 +22,13 @@ use Rattle.def_entry.specs.PointGrammar.{ArePairs, AreWrittenPoints, PointsLaw, 
 use Rattle.def_entry.specs.PointGrammar.{NextPair, are_points, ends_number, is_number_text, is_pair_end, pair_end}
 use Rattle.def_entry.specs.PointGrammar.{point_values, points}
 use Rattle.def_entry.specs.PointLists.{behind_no_error, points_of}
-use Rattle.def_entry.specs.Steps.{◌>>=◌}
 use Rattle.def_entry.proofs.Fronts.{Parted, before-at, parted, stops, stops-apart}
 use Rattle.def_entry.proofs.PointRuns.{points_in_runs}
 use Rattle.def_entry.proofs.WrittenOptions.{Fronted, after_blanks-front, fronted, starts-is}
 use Rattle.def_entry.proofs.PairSteps.{Front, Number, apart_gap}
 use Rattle.def_entry.proofs.PairSteps.{front-parts}
 use Rattle.def_entry.proofs.PairSteps.{number_begun, pairs-read}
-use Rattle.def_entry.proofs.BuiltPairs.{Paired, Shorter, begun_byte, comma-none, is_end, lone-none, none_some}
+use Rattle.def_entry.proofs.BuiltPairs.{Paired, Shorter, begun_byte, comma-none, is_end, lone-none}
 use Rattle.def_entry.proofs.BuiltPairs.{number_by, pair-built, some_front}
 
 -- the pairs of a text whose first number was read are written that way
@@ -43,7 +43,7 @@ second-built before x rest list clear x_clear some stop e next = go (after_blank
         → ArePairs (before ++ (x ++ rest)) list
     alone gap text whole blank end =
         absurd
-        (none_some list
+        (none-some list
         (sym (ap (λ t. points_in_runs (before ++ (x ++ t))) whole
         ∙ lone-none before x gap text clear (number_by x x_clear some) blank end) ∙ e))
 
@@ -82,10 +82,6 @@ second-built before x rest list clear x_clear some stop e next = go (after_blank
     go [] f front = alone front.blanks [] (front.whole ∙ ap (λ t. front.blanks ++ t) f) front.clear refl
     go (b ∷ text) f front = by b text f (b == 44) refl front (parted ends_number (b ∷ text))
 
--- the list of no points is empty
-no_points : (list : List Point) → ◌≡◌ {A = Option (List Point)} (Some []) (Some list) → [] ≡ list
-no_points list e = cc
-
 -- pairs that are read are written that way
 pairs-built : (n : ℕ) (text : List ℕ) (list : List Point) → length text < n → points_in_runs text ≡ Some list
     → ArePairs text list
@@ -98,7 +94,7 @@ pairs-built (suc n) text list less e = go (after_blanks text) refl (fronted text
     by b rest f true g front part next =
         let mark : text ≡ front.blanks ++ (44 ∷ rest) = front.whole
         ∙ ap (λ t. front.blanks ++ t) (f ∙ ap (λ c. c ∷ rest) (eqb-true b 44 g)) in
-        absurd (none_some list (sym (ap points_in_runs mark ∙ comma-none front.blanks rest front.clear) ∙ e))
+        absurd (none-some list (sym (ap points_in_runs mark ∙ comma-none front.blanks rest front.clear) ∙ e))
     by b rest f false g front part next =
         let word : is_blank b ≡ false = begun_byte b rest (ap is_begun (sym f) ∙ is_begun-after_blanks text) in
         let whole : text ≡ front.blanks ++ (part.front ++ part.behind) = front.whole
@@ -116,8 +112,8 @@ pairs-built (suc n) text list less e = go (after_blanks text) refl (fronted text
           written_points = NoPair front.blanks;
           spelled_text = blanks;
           well_formed = front.clear;
-          values_same = ap Some (no_points list
-              (sym (ap points_in_runs blanks ∙ pairs-read (NoPair front.blanks) front.clear) ∙ e));
+          values_same = ap Some
+              (same_Some [] list (sym (ap points_in_runs blanks ∙ pairs-read (NoPair front.blanks) front.clear) ∙ e));
         }
     go (b ∷ rest) f front next = by b rest f (b == 44) refl front (parted ends_number (b ∷ rest)) next
 

@@ -3,8 +3,8 @@ use Rattle.std.proofs.Common.{◌≡◌, ◌≤◌, ◌++◌, ◌∷◌, [], ℕ
 use Rattle.std.proofs.Common.{◌+◌, one-add}
 use Rattle.std.proofs.Common.{if◌then◌else◌, Result, Ok, Err, OnOk, is_ok, ◌==◌, refl, sym, ap, ◌∙◌, arith}
 use Rattle.std.specs.List.{prefix_len}
-use Rattle.std.proofs.lemmas.List.{reverse-append}
-use Rattle.std.proofs.lemmas.Bool.Decides.{Decides-eqb}
+use Rattle.std.proofs.lemmas.List.{reverse-append, nil_from_length}
+use Rattle.std.proofs.lemmas.Bool.{eqb-true}
 use Rattle.units_io.specs.Blanks.{is_blank}
 use Rattle.def_lines.specs.Blanks.{after_blanks, before_blanks, trim_of}
 use Rattle.def_lines.specs.Parts.{is_begun}
@@ -120,30 +120,27 @@ trimmed-after_blanks (b ∷ bytes) behind = go (is_blank b) refl (trimmed-after_
         ∙ sym (trimmed-blank b (bytes ++ behind) e)
     go false e rest = ap (λ t. trim_of (t ++ behind)) (after_blanks-word b bytes e)
 
--- a text of length 0 is empty
-pub empty-nil : (text : List ℕ) → (length text == 0) ≡ true → text ≡ []
-empty-nil [] none = refl
-empty-nil (b ∷ text) none = let e : length (b ∷ text) ≡ 0 =
-    (Decides-eqb (length (b ∷ text)) 0).0 none in absurd (omega arith)
-
 -- bytes appended to an empty text lose their leading blanks
 pub put-first : {E : Type 0} (r : Result (Unit {0}) E) (old new part bytes : List ℕ) → (length old == 0) ≡ true
     → part ≡ after_blanks bytes → new ≡ (if is_ok r then old ++ part else old)
     → OnOk r ((behind : List ℕ) → trim_of (new ++ behind) ≡ trim_of (old ++ (bytes ++ behind)))
 put-first (Ok done) old new part bytes none from is = λ behind.
     ap (λ t. trim_of (t ++ behind))
-    (is ∙ ap (λ t. old ++ t) from ∙ ap (λ t. t ++ after_blanks bytes) (empty-nil old none))
+    (is ∙ ap (λ t. old ++ t) from ∙ ap (λ t. t ++ after_blanks bytes)
+    (nil_from_length old (eqb-true (length old) 0 none)))
     ∙ trimmed-after_blanks bytes behind
-    ∙ ap (λ t. trim_of (t ++ (bytes ++ behind))) (sym (empty-nil old none))
+    ∙ ap (λ t. trim_of (t ++ (bytes ++ behind))) (sym (nil_from_length old (eqb-true (length old) 0 none)))
 put-first (Err fault) old new part bytes none from is = tt
 
 -- a text started with such bytes does not start with a blank
 pub is_begun-put-first : (t : Bool) (old new part bytes : List ℕ) → (length old == 0) ≡ true → part ≡ after_blanks bytes
     → new ≡ (if t then old ++ part else old) → is_begun new ≡ true
 is_begun-put-first true old new part bytes none from is =
-    ap is_begun (is ∙ ap (λ t. old ++ t) from ∙ ap (λ t. t ++ after_blanks bytes) (empty-nil old none))
+    ap is_begun (is ∙ ap (λ t. old ++ t) from ∙ ap (λ t. t ++ after_blanks bytes)
+    (nil_from_length old (eqb-true (length old) 0 none)))
     ∙ is_begun-after_blanks bytes
-is_begun-put-first false old new part bytes none from is = ap is_begun (is ∙ empty-nil old none)
+is_begun-put-first false old new part bytes none from is =
+    ap is_begun (is ∙ nil_from_length old (eqb-true (length old) 0 none))
 
 -- appending to a text that does not start with a blank preserves this
 pub is_begun-put : (t : Bool) (old new bytes : List ℕ) → (length old == 0) ≡ false → is_begun old ≡ true

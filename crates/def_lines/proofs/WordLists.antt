@@ -5,10 +5,12 @@ use Rattle.std.proofs.Common.{sym, ap, ◌∙◌, arith, one-add, ◌==◌, leng
 use Rattle.std.specs.List.{list_any, position_or_len, slice_split, onto_first}
 use Rattle.units_io.specs.Blanks.{is_blank}
 use Rattle.std.specs.Str.{bytes_eq}
+use Rattle.std.proofs.lemmas.List.{nil_from_length}
+use Rattle.std.proofs.lemmas.Bool.{eqb-true}
 use Rattle.def_lines.specs.Blanks.{after_blanks}
 use Rattle.def_lines.specs.Parts.{is_begun}
 use Rattle.def_lines.specs.Words.{after_word, first_word, is_listed, nonempty, words_of}
-use Rattle.def_lines.proofs.TrimmedTexts.{after_blanks-blank, after_blanks-word, empty-nil, is_begun-after_blanks}
+use Rattle.def_lines.proofs.TrimmedTexts.{after_blanks-blank, after_blanks-word, is_begun-after_blanks}
 use Rattle.def_lines.proofs.TrimmedTexts.{length-after_blanks}
 
 -- the index of the first blank
@@ -137,7 +139,7 @@ is_listed-after_blanks text value = ap (λ ws. list_any (λ word. bytes_eq word 
 -- no value is listed in an empty text
 pub is_listed-none : (text value : List ℕ) → (length text == 0) ≡ true → is_listed text value ≡ false
 unfolding words_of
-is_listed-none text value none = ap (λ t. is_listed t value) (empty-nil text none)
+is_listed-none text value none = ap (λ t. is_listed t value) (nil_from_length text (eqb-true (length text) 0 none))
 
 -- a value is listed if it is the first word or one of the words after it
 pub is_listed-first : (text value : List ℕ) → is_begun text ≡ true → (length text == 0) ≡ false

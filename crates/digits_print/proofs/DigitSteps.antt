@@ -5,11 +5,11 @@ use Rattle.std.proofs.Common.{◌∙◌, lit<, inl, inr}
 use Rattle.std.specs.Ordering.{nat_cmp}
 use Rattle.std.proofs.lemmas.Bool.{cases_lt}
 use Rattle.std.proofs.lemmas.Nat.{div-mul-add, le-div, mod_below, mod-mul-add, mul-le}
-use Rattle.std.proofs.Math.Nat.{div-add-mod, mul-pos}
+use Rattle.std.proofs.Math.Nat.{div-add-mod, mul-pos, pow-succ'}
 use Rattle.frac128.specs.Nearest.{by_half}
 use Rattle.digits_print.specs.Nearest.{down, up}
 use Rattle.digits_print.specs.RatioRounding.{carry_of, first_power, rounded_at, rounding_of}
-use Rattle.digits_print.proofs.Scales.{IsScaled, scale_unique, scaled, ten_before, ten_some, ten_suc, ten_up}
+use Rattle.digits_print.proofs.Scales.{IsScaled, scale_unique, scaled, ten_before, ten_some, ten_up}
 
 -- at a scale at which the ratio has n digits before the point, rounding is determined by the quotient and the
 -- remainder
@@ -71,7 +71,7 @@ lengthened_more n top bottom number rest places digit next some is few e part sm
 }
   where
     power : (p : ℕ) → 10 ^ (p + 1) ≡ 10 * 10 ^ p
-    power p = let more : p + 1 ≡ suc p = omega arith in ap (λ v. 10 ^ v) more ∙ ten_suc p
+    power p = let more : p + 1 ≡ suc p = omega arith in ap (λ v. 10 ^ v) more ∙ pow-succ' 10 p
 
     value : (q b r t d s p u : ℕ) → q * b + r ≡ t * p → d * b + s ≡ 10 * r → u ≡ 10 * p → (q * 10 + d) * b + s ≡ t * u
     value q b r t d s p u whole step e = let left : (q * 10 + d) * b + s ≡ 10 * (q * b + r) = omega arith in left
@@ -120,7 +120,7 @@ lengthened_less n top bottom number rest places some is =
     omega arith
   where
     power : (p : ℕ) → 10 ^ (p + 1) ≡ 10 * 10 ^ p
-    power p = let more : p + 1 ≡ suc p = omega arith in ap (λ v. 10 ^ v) more ∙ ten_suc p
+    power p = let more : p + 1 ≡ suc p = omega arith in ap (λ v. 10 ^ v) more ∙ pow-succ' 10 p
 
     turn : (t p : ℕ) → t * (10 * p) ≡ 10 * (t * p)
     turn t p = omega arith
@@ -206,7 +206,7 @@ shortened_more n whole unit places some is high =
     }
   where
     power : (p : ℕ) → 10 ^ p * 10 ≡ 10 ^ (p + 1)
-    power p = let more : p + 1 ≡ suc p = omega arith in let ten = ten_suc p in let same =
+    power p = let more : p + 1 ≡ suc p = omega arith in let ten = pow-succ' 10 p in let same =
         ap (λ v. 10 ^ v) more in omega arith
 
 -- at most 38 places are cut off

@@ -1,11 +1,10 @@
 -- The layout of a decimal, determined by the power of ten of its first digit.
 use Rattle.std.proofs.Common.{◌≡◌, ◌<◌, ◌≤◌, ◌+◌, ◌-◌, ◌^◌, ℕ, ℤ, pos, negsuc, List, true, false, length, unsigned_abs}
-use Rattle.std.proofs.Common.{nat_lt, arith}
+use Rattle.std.proofs.Common.{arith}
 use Rattle.std.proofs.Common.{lit<, refl, sym, ap, subst, inl, inr}
 use Rattle.std.specs.Int.Signed.{lt_z}
 use Rattle.std.specs.Fmt.{decimal}
-use Rattle.std.proofs.lemmas.Bool.{cases_lt}
-use Rattle.std.proofs.lemmas.Bool.Decides.{nat_tests}
+use Rattle.std.proofs.lemmas.Bool.{cases_lt, le-ltb, lt-ltb}
 use Rattle.std.proofs.lemmas.Fmt.{decimal_is_IsNumeral_wide}
 use Rattle.std.proofs.lemmas.Int.{ints}
 use Rattle.std.proofs.lemmas.Int.Digits.{digits_value-lt}
@@ -13,19 +12,11 @@ use Rattle.digits_print.specs.Layout.{below_one, layout, plain_layout, scientifi
 use Rattle.digits_print.specs.Nearest.{HasDigits}
 use Rattle.digits_print.proofs.Scales.{ten_up}
 
--- the test for less is false for a number that is not less
-at_least : (k n : ℕ) → n ≤ k → nat_lt k n ≡ false
-at_least k n h = grind (arith, nat_tests)
-
--- the test for less is true for a smaller number
-less : (k n : ℕ) → k < n → nat_lt k n ≡ true
-less k n h = grind (arith, nat_tests)
-
 -- if the power is below -4, the layout is scientific
 pub layout_tiny : (n : ℕ) (ds : List ℕ) (power : ℤ) → lt_z power (negsuc 3) ≡ true
     → layout n ds power ≡ scientific ds power
 layout_tiny n ds (pos k) low = absurd (cc)
-layout_tiny n ds (negsuc k) low = rw (at_least k 4 (high k low)) refl
+layout_tiny n ds (negsuc k) low = rw (le-ltb k 4 (high k low)) refl
   where
     high : (k : ℕ) → lt_z (negsuc k) (negsuc 3) ≡ true → 4 ≤ k
     high k h = grind (arith, ints)
@@ -39,7 +30,7 @@ layout_small n ds (pos k) size is high low = absurd (no k low)
     no : (k : ℕ) → lt_z (pos k) (pos 0) ≡ true → ⊥
     no k h = grind (arith, ints)
 layout_small n ds (negsuc k) size is high low = let zeros : k ≡ size - 1 =
-    omega arith in rw (less k 4 (small k high)) (ap (below_one ds) zeros)
+    omega arith in rw (lt-ltb k 4 (small k high)) (ap (below_one ds) zeros)
   where
     small : (k : ℕ) → lt_z (negsuc k) (negsuc 3) ≡ false → k < 4
     small k h = grind (arith, ints)
@@ -48,14 +39,14 @@ layout_small n ds (negsuc k) size is high low = let zeros : k ≡ size - 1 =
 pub layout_plain : (n : ℕ) (ds : List ℕ) (power : ℤ) (size : ℕ) → size ≡ unsigned_abs power → lt_z power (pos 0) ≡ false
     → size < n
     → layout n ds power ≡ plain_layout ds (size + 1)
-layout_plain n ds (pos k) size is low high = rw (less k n (omega arith)) (ap (λ v. plain_layout ds (v + 1)) (sym is))
+layout_plain n ds (pos k) size is low high = rw (lt-ltb k n (omega arith)) (ap (λ v. plain_layout ds (v + 1)) (sym is))
 layout_plain n ds (negsuc k) size is low high = absurd (cc)
 
 -- if the power is at least the number of digits, the layout is scientific
 pub layout_large : (n : ℕ) (ds : List ℕ) (power : ℤ) (size : ℕ) → size ≡ unsigned_abs power → lt_z power (pos 0) ≡ false
     → n ≤ size
     → layout n ds power ≡ scientific ds power
-layout_large n ds (pos k) size is low high = rw (at_least k n (omega arith)) refl
+layout_large n ds (pos k) size is low high = rw (le-ltb k n (omega arith)) refl
 layout_large n ds (negsuc k) size is low high = absurd (cc)
 
 -- a number with n digits is written with at least n digits

@@ -11,14 +11,14 @@ use Rattle.std.proofs.lemmas.Bool.{cases_eq}
 use Rattle.std.proofs.lemmas.Bool.Decides.{nat_tests}
 use Rattle.std.proofs.lemmas.Int.{ints}
 use Rattle.std.proofs.lemmas.Nat.{div_below, le-div, mul-le, pow-add}
-use Rattle.std.proofs.Math.Nat.{mul-pos, mul-one}
+use Rattle.std.proofs.Math.Nat.{mul-pos, mul-one, mul_right_comm, pow-succ', eq_of_mul-eq-mul_right}
 use Rattle.frac128.specs.Decimals.{Decimal}
 use Rattle.frac128.specs.Nearest.{IsNearestWhole, NearestWholeLaw, by_half, nearest_whole}
 use Rattle.digits_print.specs.Nearest.{HasDigits, IsLessDecimal, IsNearest, IsPreferred, NoFarther, down, gap, up}
 use Rattle.digits_print.specs.RatioRounding.{NearestLaw, carry_of, rounded_at, rounding_of}
 use Rattle.digits_print.proofs.NearestWholes.{other_odd}
-use Rattle.digits_print.proofs.Products.{abs_diff-mul, cancelled, cancelled_le, scaled_lt, turned}
-use Rattle.digits_print.proofs.Scales.{IsScaled, down_some, ordered, scaled, shifted, ten_before, ten_some, ten_suc}
+use Rattle.digits_print.proofs.Products.{abs_diff-mul, cancelled_le, scaled_lt}
+use Rattle.digits_print.proofs.Scales.{IsScaled, down_some, ordered, scaled, shifted, ten_before, ten_some}
 use Rattle.digits_print.proofs.Scales.{ten_up, up_some}
 
 -- d is m steps of ten to the scale s
@@ -41,10 +41,11 @@ on_finer_grid d s t m k e on =
     products : (x ux dx m p us ds ut dt : ℕ) → x * ux * ds ≡ m * us * dx → us * dt ≡ p * (ut * ds) → 0 < ds
         → x * ux * dt ≡ m * p * ut * dx
     products x ux dx m p us ds ut dt on step some =
-        let left : x * ux * dt * ds ≡ m * us * dx * dt = turned (x * ux) dt ds ∙ ap (λ n. n * dt) on in
+        let left : x * ux * dt * ds ≡ m * us * dx * dt = mul_right_comm (x * ux) dt ds ∙ ap (λ n. n * dt) on in
         let right : m * p * ut * dx * ds ≡ m * dx * (p * (ut * ds)) = omega arith in
         let middle : m * us * dx * dt ≡ m * dx * (us * dt) = omega arith in
-        cancelled (x * ux * dt) (m * p * ut * dx) ds some (left ∙ middle ∙ ap (λ n. m * dx * n) step ∙ sym right)
+        eq_of_mul-eq-mul_right ds some (x * ux * dt) (m * p * ut * dx)
+        (left ∙ middle ∙ ap (λ n. m * dx * n) step ∙ sym right)
 
 -- a decimal is a multiple of each smaller power of ten
 on_grid_below : (d : Decimal) (s : ℤ) (k : ℕ) → d.scale ≡ s +ℤ pos k → IsOnGrid d s (d.coefficient * 10 ^ k)
@@ -58,7 +59,7 @@ gap_on a b d s m on =
     abs_diff-mul (a * down d.scale) (d.coefficient * up d.scale * b) (down s)
     ∙ sides (a * down d.scale * down s) (d.coefficient * up d.scale * b * down s) (a * down s * down d.scale)
     (m * (b * up s) * down d.scale)
-    (omega arith) (turned (d.coefficient * up d.scale) b (down s) ∙ ap (λ n. n * b) on.steps
+    (omega arith) (mul_right_comm (d.coefficient * up d.scale) b (down s) ∙ ap (λ n. n * b) on.steps
     ∙ gathered m (up s) (down d.scale) b)
     ∙ sym (abs_diff-mul (a * down s) (m * (b * up s)) (down d.scale))
   where
@@ -79,8 +80,8 @@ no_farther_on a b d e s m k on_d on_e h =
     products : (g f x y dd de ds : ℕ) → g * ds ≡ x * dd → f * ds ≡ y * de → x ≤ y → 0 < ds → g * de ≤ f * dd
     products g f x y dd de ds own other h some =
         let times : x * (dd * de) ≤ y * (dd * de) = mul-le x (dd * de) y (dd * de) h (omega arith) in
-        let left : g * de * ds ≡ x * (dd * de) = turned g de ds ∙ ap (λ n. n * de) own ∙ omega arith in
-        let right : f * dd * ds ≡ y * (dd * de) = turned f dd ds ∙ ap (λ n. n * dd) other ∙ omega arith in
+        let left : g * de * ds ≡ x * (dd * de) = mul_right_comm g de ds ∙ ap (λ n. n * de) own ∙ omega arith in
+        let right : f * dd * ds ≡ y * (dd * de) = mul_right_comm f dd ds ∙ ap (λ n. n * dd) other ∙ omega arith in
         cancelled_le (g * de) (f * dd) ds some (omega arith)
 
 -- if one decimal is no farther than another on the same grid, its steps are no farther either
@@ -94,8 +95,8 @@ steps_closer a b d e s m k on_d on_e h =
     products : (g f x y dd de ds : ℕ) → g * ds ≡ x * dd → f * ds ≡ y * de → g * de ≤ f * dd → 0 < dd → 0 < de → x ≤ y
     products g f x y dd de ds own other h some_d some_e =
         let times : g * de * ds ≤ f * dd * ds = mul-le (g * de) ds (f * dd) ds h (omega arith) in
-        let left : g * de * ds ≡ x * de * dd = turned g de ds ∙ ap (λ n. n * de) own ∙ omega arith in
-        let right : f * dd * ds ≡ y * de * dd = turned f dd ds ∙ ap (λ n. n * dd) other in
+        let left : g * de * ds ≡ x * de * dd = mul_right_comm g de ds ∙ ap (λ n. n * de) own ∙ omega arith in
+        let right : f * dd * ds ≡ y * de * dd = mul_right_comm f dd ds ∙ ap (λ n. n * dd) other in
         cancelled_le x y de some_e (cancelled_le (x * de) (y * de) dd some_d (omega arith))
 
 -- d is the decimal with n digits that equals m steps at s, for m of at most ten to the power n
@@ -172,7 +173,7 @@ same_decimal n m s d e k some own digits is same = by_case own.is
         at_steps zero is same =
             decimal_is d e (own_scale.1 ∙ sym same ∙ mul-one e.coefficient) (level d.scale s e.scale own_scale.2 is)
         at_steps (suc k) is same =
-            absurd (let big = wide k e.coefficient (10 ^ (n - 1)) (10 ^ suc k) digits.lower_bound (ten_suc k) in
+            absurd (let big = wide k e.coefficient (10 ^ (n - 1)) (10 ^ suc k) digits.lower_bound (pow-succ' 10 k) in
             let low =
             own_scale.0 in omega (arith, ten))
     by_case (inr next_scale) = at_steps k is same
@@ -189,7 +190,7 @@ same_decimal n m s d e k some own digits is same = by_case own.is
         at_steps (suc (suc k)) is same =
             absurd (let big =
             wider k e.coefficient (10 ^ (n - 1)) (10 ^ suc (suc k)) digits.lower_bound
-            (ten_suc (suc k) ∙ ap (λ v. 10 * v) (ten_suc k)) in let high =
+            (pow-succ' 10 (suc k) ∙ ap (λ v. 10 * v) (pow-succ' 10 k)) in let high =
             next_scale.0 in omega (arith, ten, ten_some (n - 1)))
 
 -- of two equally near decimals, the one with an even number of steps is preferred
@@ -205,7 +206,7 @@ preferred n m s d e some own digits is even odd = by_case own.is
     by_case (inr next_scale) = at_count (n - 1) refl
       where
         even_power : (j x : ℕ) → x ≡ 10 ^ suc j → x % 2 ≡ 0
-        even_power j x e = let ten = ten_suc j in omega arith
+        even_power j x e = let ten = pow-succ' 10 j in omega arith
 
         one_above : (x y z : ℤ) → x ≡ y +ℤ pos 1 → z ≡ y +ℤ pos 0 → x ≡ z +ℤ pos 1
         one_above x y z e f = omega (arith, ints)
@@ -274,7 +275,8 @@ at_scale law n a b s m d some some_b at near own = record {
         rescaled : (k p a b us ds ut dt : ℕ) → us * dt ≡ p * (ut * ds)
             → abs_diff (a * ds) (k * (b * us)) * dt ≡ abs_diff (a * dt) (k * p * (b * ut)) * ds
         rescaled k p a b us ds ut dt step =
-            abs_diff-mul (a * ds) (k * (b * us)) dt ∙ sides _ _ _ _ (turned a ds dt) (regrouped k p b us ds ut dt step)
+            abs_diff-mul (a * ds) (k * (b * us)) dt ∙ sides _ _ _ _ (mul_right_comm a ds dt)
+            (regrouped k p b us ds ut dt step)
             ∙ sym (abs_diff-mul (a * dt) (k * p * (b * ut)) ds)
 
         products : (l p x a b us ds ut dt : ℕ) → abs_diff (a * ds) (m * (b * us)) ≤ abs_diff (a * ds) (l * (b * us))
@@ -318,7 +320,7 @@ at_scale law n a b s m d some some_b at near own = record {
         by_steps k is (inl same) = inl (same_decimal n m s d e k some own digits is same)
         by_steps zero is (inr odd) =
             inr (preferred n m s d e some own digits is odd.0 (rw (mul-one e.coefficient) at odd.1))
-        by_steps (suc k) is (inr odd) = absurd (even e.coefficient (10 ^ suc k) (10 ^ k) (ten_suc k) odd.1)
+        by_steps (suc k) is (inr odd) = absurd (even e.coefficient (10 ^ suc k) (10 ^ k) (pow-succ' 10 k) odd.1)
     tie e digits h (inr below) =
         let less = finer e below.0 digits below.1 in
         let more = steps_closer a b e d e.scale e.coefficient (m * 10 ^ suc below.0) (on_own_grid e)

@@ -11,22 +11,6 @@ scaled_lt m n d h some = grind arith
 pub cancelled_le : (m n d : ℕ) → 0 < d → m * d ≤ n * d → m ≤ n
 cancelled_le m n d some h = grind arith
 
--- cancelling a factor preserves strict order
-pub cancelled_lt : (m n d : ℕ) → m * d < n * d → m < n
-cancelled_lt m n d h = grind arith
-
--- products with the same factor above 0 are equal only if the other factors are
-pub cancelled : (m n d : ℕ) → 0 < d → m * d ≡ n * d → m ≡ n
-cancelled m n d some h = grind arith
-
--- the last two factors of a product can be exchanged
-pub turned : (m n d : ℕ) → m * n * d ≡ m * d * n
-turned m n d = omega arith
-
--- a product of three factors is associative
-pub grouped : (m n d : ℕ) → m * n * d ≡ m * (n * d)
-grouped m n d = omega arith
-
 -- the distance from x to x + z is z
 abs_diff_up : (x z : ℕ) → abs_diff x (x + z) ≡ z
 abs_diff_up x z = omega arith

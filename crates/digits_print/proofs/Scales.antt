@@ -9,23 +9,19 @@ use Rattle.std.proofs.lemmas.Bool.Decides.{nat_tests}
 use Rattle.std.proofs.lemmas.Int.{ints}
 use Rattle.std.proofs.lemmas.Int.Digits.{all_below_base_digits_of, length-digits_of-le, number_digits_of, number_lt}
 use Rattle.std.proofs.lemmas.Nat.{le-div, mul-le, pow-add}
-use Rattle.std.proofs.Math.Nat.{div-add-mod, one-le-pow, pow-le-pow_right, pow-suc}
+use Rattle.std.proofs.Math.Nat.{div-add-mod, one-le-pow, pow-le-pow_right, lt_of_mul-lt-mul_right, pow-succ'}
 use Rattle.digits_print.specs.Nearest.{down, up}
 use Rattle.digits_print.specs.RatioRounding.{digit_count, first_power}
-use Rattle.digits_print.proofs.Products.{cancelled_le, cancelled_lt, scaled_lt}
+use Rattle.digits_print.proofs.Products.{cancelled_le, scaled_lt}
 
 -- a power of ten is above 0
 pub ten_some : (k : ℕ) → 0 < 10 ^ k
 ten_some k = one-le-pow k 10 (lit< tt)
 
--- the next power of ten is ten times as great
-pub ten_suc : (k : ℕ) → 10 ^ suc k ≡ 10 * 10 ^ k
-ten_suc k = pow-suc 10 k ∙ omega arith
-
 -- a power of ten above the first is ten times the one before it
 pub ten_before : (n : ℕ) → 0 < n → 10 ^ n ≡ 10 * 10 ^ (n - 1)
 ten_before zero h = absurd (omega arith)
-ten_before (suc m) h = let less : suc m - 1 ≡ m = omega arith in ten_suc m ∙ ap (λ v. 10 * 10 ^ v) (sym less)
+ten_before (suc m) h = let less : suc m - 1 ≡ m = omega arith in pow-succ' 10 m ∙ ap (λ v. 10 * 10 ^ v) (sym less)
 
 -- a higher power of ten is not smaller
 pub ten_up : (i k : ℕ) → i ≤ k → 10 ^ i ≤ 10 ^ k
@@ -203,7 +199,7 @@ first_scaled a b some_a some_b = elim (cases_lt a b) [
         let most : a * (w + 1) ≤ a * 10 ^ suc c = mul-le a (w + 1) a (10 ^ suc c) (omega arith) (omega arith) in
         let low' : 10 ^ 0 * (b * 1) ≤ a * 10 ^ suc c = omega arith in
         let high' : a * 10 ^ suc c < 10 ^ 1 * (b * 1) = let ten : a * 10 ^ suc c ≡ a * (10 * 10 ^ c) =
-        ap (λ v. a * v) (ten_suc c) in omega arith in
+        ap (λ v. a * v) (pow-succ' 10 c) in omega arith in
         let is : IsScaled 1 a b (negsuc c) = record { low = low'; high = high' } in
         is
 
@@ -261,7 +257,7 @@ lowered n a b x s some e first =
         let right : a * dx * ds ≡ a * ds * dx = omega arith in
         let ten : 10 * (b * ux) * ds ≡ 10 * (b * ux * ds) = omega arith in
         let whole : q * (b * us) * dx ≡ 10 * (p * (b * us) * dx) = ap (λ m. m * (b * us) * dx) e ∙ omega arith in
-        cancelled_lt (a * ds) (q * (b * us)) dx (omega arith)
+        lt_of_mul-lt-mul_right dx {m = (a * ds)} {n = (q * (b * us))} (omega arith)
 
 -- rounding uses the scale at which the ratio has n digits before the point
 pub scaled : (n a b : ℕ) → 0 < n → 0 < a → 0 < b → IsScaled n a b (first_power a b -ℤ pos (n - 1))

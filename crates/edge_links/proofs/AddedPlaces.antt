@@ -2,7 +2,7 @@
 use Rattle.std.proofs.Common.{◌≡◌, ℕ, suc, ◌+◌, ◌-◌, ◌<◌, false, List, [], ◌∷◌, ◌++◌, length, set, get_or, refl, sym}
 use Rattle.std.proofs.Common.{◌∙◌, ap, subst, arith, inl, inr, get_or-set_same, get_or-set_other, length-set}
 use Rattle.std.proofs.lemmas.Bool.{cases_eq}
-use Rattle.std.proofs.lemmas.List.{get_or_append_left, length-append}
+use Rattle.std.proofs.lemmas.List.{get_or_append_left, length-append, get_or_push, nil_from_length}
 use Rattle.std.proofs.Math.Seq.{get_or-append_seam}
 use Rattle.edge_links.specs.Changes.{IsBegun, with_both}
 use Rattle.edge_links.specs.Edges.{Edge, EdgeGraph}
@@ -10,7 +10,6 @@ use Rattle.edge_links.specs.Owners.{Owners, AreEdges, IsHead, owned_count, with_
 use Rattle.edge_links.specs.PlaceView.{edge_at, edges_below, graph_of, AreLinks}
 use Rattle.edge_links.specs.Times.{times}
 use Rattle.edge_links.proofs.OwnedCounts.{owned_more, owned_zero}
-use Rattle.edge_links.proofs.OneMorePlace.{at_end}
 use Rattle.edge_links.proofs.FirstEdges.{user, key_of, at_head, at_free, at_same, same_below}
 use Rattle.edge_links.proofs.OwnerChanges.{spare_grown}
 use Rattle.edge_links.proofs.WaitingPlaces.{down_at_end}
@@ -19,11 +18,6 @@ use Rattle.edge_links.proofs.WaitingPlaces.{down_at_end}
 graph_is : (n m : ℕ) (es ds : List Edge) (s r : ℕ) → n ≡ m → es ≡ ds → s ≡ r
     → ◌≡◌ {A = EdgeGraph} (record { nodes = n; edges = es; spare = s }) (record { nodes = m; edges = ds; spare = r })
 graph_is n m es ds s r e f g = λ i. record { nodes = e i; edges = f i; spare = g i }
-
--- a list of length 0 is empty
-no_list : (xs : List ℕ) → length xs ≡ 0 → xs ≡ []
-no_list [] e = refl
-no_list (x ∷ xs) e = cc
 
 -- place 0 is added
 module _ (s t : Owners) (nodes : List ℕ) (links : AreLinks s nodes) (begun : IsBegun s t) where
@@ -47,7 +41,7 @@ module _ (s t : Owners) (nodes : List ℕ) (links : AreLinks s nodes) (begun : I
   begun_shown = elim begun [
     | inl h ↦ ap (λ (x : Owners). graph_of x nodes) h
     | inr h ↦
-        let none : s.users ≡ [] = no_list s.users h.0 in
+        let none : s.users ≡ [] = nil_from_length s.users h.0 in
         let first : t.users ≡ 0 ∷ [] = ap (λ (x : Owners). x.users) h.1 ∙ ap (λ xs. xs ++ 0 ∷ []) none in
         graph_is _ _ _ _ _ _ refl
         (ap (λ m. edges_below t m) (ap length first)
@@ -89,7 +83,7 @@ module _ (s t : Owners) (nodes : List ℕ) (n v : ℕ) (e : AreEdges s.users s.k
       ∙ get_or_append_left s.names (v ∷ []) 0 p (let a = links.size in omega arith)
 
   u_new : user t n ≡ n
-  u_new = ap (λ xs. get_or xs n 0) us ∙ at_end s.users n (sym is)
+  u_new = ap (λ xs. get_or xs n 0) us ∙ get_or_push s.users n 0 n (sym is)
 
   old_at : (p : ℕ) → p < n → edge_at t p ≡ edge_at s p
   old_at p l =

@@ -1,7 +1,7 @@
 -- The number of occurrences of an edge.
-use Rattle.std.proofs.Common.{◌≡◌, ℕ, ◌+◌, ◌<◌, Bool, true, false, nat_eq, List, [], ◌∷◌, ◌++◌, refl, ap, arith, inl}
+use Rattle.std.proofs.Common.{◌≡◌, ℕ, ◌+◌, ◌<◌, nat_eq, List, [], ◌∷◌, ◌++◌, refl, ap, arith, inl}
 use Rattle.std.proofs.Common.{inr}
-use Rattle.std.proofs.lemmas.Bool.{cases_eq, cond-true, cond-false, eq-eqb, ne_eqb}
+use Rattle.std.proofs.lemmas.Bool.{cases_eq, cond-true, cond-false, eq-eqb, ne_eqb, and_from, and_left, and_right}
 use Rattle.std.specs.Prelude.{◌&&◌}
 use Rattle.edge_links.specs.Edges.{Edge, edge, edge_count}
 
@@ -13,25 +13,10 @@ count_append (e ∷ es) ds x y = plus _ _ _ _ (count_append es ds x y)
     plus : (a b d f : ℕ) → b ≡ d + f → a + b ≡ a + d + f
     plus a b d f h = omega arith
 
--- if two tests hold, their conjunction holds
-pub and_true : (x y : Bool) → x ≡ true → y ≡ true → x && y ≡ true
-and_true true y e f = f
-and_true false y e f = cc
-
--- a conjunction does not hold if its first test does not
-pub and_left : (x y : Bool) → x ≡ false → x && y ≡ false
-and_left true y e = cc
-and_left false y e = refl
-
--- a conjunction does not hold if its second test does not
-pub and_right : (x y : Bool) → y ≡ false → x && y ≡ false
-and_right true y e = e
-and_right false y e = refl
-
 -- an edge is counted once between its own nodes
 pub count_self : (a b : ℕ) → edge_count (edge a b ∷ []) a b ≡ 1
 count_self a b =
-    ap (λ k. k + 0) (cond-true (nat_eq a a && nat_eq b b) 1 0 (and_true _ _ (eq-eqb a a refl) (eq-eqb b b refl)))
+    ap (λ k. k + 0) (cond-true (nat_eq a a && nat_eq b b) 1 0 (and_from _ _ (eq-eqb a a refl) (eq-eqb b b refl)))
 
 -- an edge is not counted for another user
 pub count_other : (a b x y : ℕ) → (a ≡ x → ⊥) → edge_count (edge a b ∷ []) x y ≡ 0

@@ -1,7 +1,7 @@
 -- The edges at the first places.
-use Rattle.std.proofs.Common.{◌≡◌, ◌⊎◌, ℕ, zero, suc, ◌+◌, ◌<◌, Bool, true, false, nat_eq, [], ◌∷◌, ◌++◌}
+use Rattle.std.proofs.Common.{◌≡◌, ◌⊎◌, ℕ, zero, suc, ◌+◌, ◌<◌, nat_eq, [], ◌∷◌, ◌++◌}
 use Rattle.std.proofs.Common.{get_or, refl, sym, ◌∙◌, ap, arith, inl, inr}
-use Rattle.std.proofs.lemmas.Bool.{cases_eq, cond-true, cond-false, eq-eqb, ne_eqb}
+use Rattle.std.proofs.lemmas.Bool.{cases_eq, cond-true, cond-false, eq-eqb, ne_eqb, or_from, or_left, or_right}
 use Rattle.std.specs.Prelude.{◌||◌}
 use Rattle.edge_links.specs.Edges.{edge, edge_count}
 use Rattle.edge_links.specs.Owners.{Owners}
@@ -16,21 +16,6 @@ user s p = get_or s.users p 0
 abbrev pub key_of : Owners → ℕ → ℕ
 key_of s p = get_or s.keys p 0
 
--- a disjunction holds if its first test does
-or_left : (a b : Bool) → a ≡ true → a || b ≡ true
-or_left true b e = refl
-or_left false b e = cc
-
--- a disjunction holds if its second test does
-or_right : (a b : Bool) → b ≡ true → a || b ≡ true
-or_right true b e = refl
-or_right false b e = e
-
--- a disjunction does not hold if neither test does
-or_none : (a b : Bool) → a ≡ false → b ≡ false → a || b ≡ false
-or_none true b e f = cc
-or_none false b e f = f
-
 -- a head is not an edge
 pub at_head : (s : Owners) (p : ℕ) → user s p ≡ p → edge_at s p ≡ []
 at_head s p e = cond-true (nat_eq (user s p) p || nat_eq (user s p) 0) _ _ (or_left _ _ (eq-eqb (user s p) p e))
@@ -44,7 +29,7 @@ pub at_edge : (s : Owners) (p : ℕ) → (user s p ≡ p → ⊥) → (user s p 
     → edge_at s p ≡ edge (get_or s.names (user s p) 0) (get_or s.names (key_of s p) 0) ∷ []
 at_edge s p a b =
     cond-false (nat_eq (user s p) p || nat_eq (user s p) 0) _ _
-    (or_none _ _ (ne_eqb (user s p) p a) (ne_eqb (user s p) 0 b))
+    (or_from _ _ (ne_eqb (user s p) p a) (ne_eqb (user s p) 0 b))
 
 -- each place is an edge or is not
 pub by_edge : (s : Owners) (p : ℕ) → ((user s p ≡ p) ⊎ (user s p ≡ 0)) ⊎ ((user s p ≡ p → ⊥) × (user s p ≡ 0 → ⊥))

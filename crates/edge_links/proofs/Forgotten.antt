@@ -3,7 +3,7 @@ use Rattle.std.proofs.Common.{◌≡◌, ◌⊎◌, ℕ, zero, suc, ◌+◌, ◌
 use Rattle.std.proofs.Common.{length, map, Contains}
 use Rattle.std.proofs.Common.{get_or, refl, sym, ◌∙◌, ap, subst, arith, inl, inr}
 use Rattle.std.proofs.lemmas.Bool.{cond-true, cond-false, eq-eqb, ne_eqb}
-use Rattle.std.proofs.lemmas.List.{length-append}
+use Rattle.std.proofs.lemmas.List.{length-append, get_or_read}
 use Rattle.edge_links.specs.Edges.{Edge, edge_count}
 use Rattle.edge_links.specs.Changes.{IsParted}
 use Rattle.edge_links.specs.Owners.{Owners, AreEdges, IsHead}
@@ -19,7 +19,6 @@ use Rattle.edge_links.proofs.Membership.{contains_map, contains_origin, apart_ma
 use Rattle.edge_links.proofs.EdgeCounts.{count_other}
 use Rattle.edge_links.proofs.FirstEdges.{user, key_of, by_edge, at_none, at_free, at_edge, at_same, counts_same}
 use Rattle.edge_links.proofs.FirstEdges.{counts_none}
-use Rattle.edge_links.proofs.ListPuts.{read}
 use Rattle.edge_links.proofs.PlacePaths.{user_head, affected_down, affected_up, affected_there}
 
 -- the number of free places among the first n
@@ -51,7 +50,7 @@ module _ (s : Owners) (e : AreEdges s.users s.keys) (nodes : List ℕ) (links : 
   n = length s.users
 
   is_head : head ≡ get_or nodes key 0
-  is_head = read nodes key head there found
+  is_head = get_or_read nodes key head there found 0
 
   cut : IsParted (IsEdgeOfAffected s (get_or nodes key 0)) s t
   cut = subst (λ z. IsParted (IsEdgeOfAffected s z) s t) is_head parted

@@ -1,7 +1,6 @@
 -- A list with one number replaced, as a function.
 use Rattle.std.proofs.Common.{◌≡◌, ℕ, ◌<◌, List, length, set, get_or, sym, ◌∙◌, ap, subst, inl, inr, nat_eq}
 use Rattle.std.proofs.Common.{get_or-set_same, get_or-set_other}
-use Rattle.std.proofs.lemmas.List.{get_or_default}
 use Rattle.std.proofs.lemmas.Bool.{cond-true, cond-false, cases_eq, eq-eqb, ne_eqb}
 use Rattle.edge_links.specs.Rings.{update_at, IsRing}
 
@@ -25,10 +24,6 @@ set_put xs i v h j k = at k j
               ∙ (get_or-set_same xs i v 0 h ∙ sym (put_same (λ k. get_or xs k 0) i v k e))
           | inr ne ↦ get_or-set_other xs i k v 0 ne ∙ sym (put_other (λ k. get_or xs k 0) i v k ne)
         ]
-
--- the number read at an index within the list does not depend on the default
-pub read : (xs : List ℕ) (k x : ℕ) → k < length xs → x ≡ get_or xs k x → x ≡ get_or xs k 0
-read xs k x h e = e ∙ get_or_default xs k x 0 h
 
 -- equal lists, as functions, give the same ring
 pub as_lists : (n m : ℕ) (next prev owner next' prev' owner' : ℕ → ℕ) → n ≡ m → next' ≡ next → prev' ≡ prev

@@ -1,9 +1,8 @@
 -- One more place, which owns itself.
-use Rattle.std.proofs.Common.{◌≡◌, ℕ, ◌+◌, ◌<◌, List, [], ◌∷◌, ◌++◌, length, get_or, refl, sym, ◌∙◌, ap, subst, arith}
+use Rattle.std.proofs.Common.{◌≡◌, ℕ, ◌+◌, ◌<◌, [], ◌∷◌, ◌++◌, length, get_or, refl, sym, ◌∙◌, ap, subst, arith}
 use Rattle.std.proofs.Common.{inl, inr}
 use Rattle.std.proofs.lemmas.Bool.{cases_eq}
-use Rattle.std.proofs.lemmas.List.{get_or_append_left, length-append}
-use Rattle.std.proofs.Math.Seq.{get_or-append_seam}
+use Rattle.std.proofs.lemmas.List.{get_or_append_left, get_or_push, length_push}
 use Rattle.edge_links.specs.Columns.{Ring, no_ring, with_alone}
 use Rattle.edge_links.specs.Rings.{IsRing, AreRings}
 
@@ -60,14 +59,6 @@ grown n next prev owner next2 prev2 owner2 r sn sp so en ep eo = record {
       (λ f. absurd (f eo));
 }
 
--- the item appended to a list is at its former length
-pub at_end : (xs : List ℕ) (n : ℕ) → length xs ≡ n → get_or (xs ++ n ∷ []) n 0 ≡ n
-at_end xs n e = ap (λ k. get_or (xs ++ n ∷ []) k 0) (sym e) ∙ get_or-append_seam xs n [] 0
-
--- appending an item makes a list one longer
-longer : (xs : List ℕ) (n : ℕ) → length (xs ++ n ∷ []) ≡ length xs + 1
-longer xs n = length-append xs (n ∷ [])
-
 -- rings with one more place, which is alone, are rings
 pub grown_ring : (r : Ring) (n : ℕ) → AreRings r → n ≡ length r.owner → AreRings (with_alone r n)
 grown_ring r n are e =
@@ -76,11 +67,11 @@ grown_ring r n are e =
     let old : IsRing n (λ k. get_or r.next k 0) (λ k. get_or r.prev k 0) (λ k. get_or r.owner k 0) =
     subst (λ m. IsRing m (λ k. get_or r.next k 0) (λ k. get_or r.prev k 0) (λ k. get_or r.owner k 0))
     (sym e) are.ring in
-    let size : n + 1 ≡ length (r.owner ++ n ∷ []) = let a = longer r.owner n in omega arith in
+    let size : n + 1 ≡ length (r.owner ++ n ∷ []) = let a = length_push r.owner n in omega arith in
     record {
       sizes = (
-        let a = longer r.next n in let b = longer r.owner n in omega arith,
-        let a = longer r.prev n in let b = longer r.owner n in
+        let a = length_push r.next n in let b = length_push r.owner n in omega arith,
+        let a = length_push r.prev n in let b = length_push r.owner n in
             omega arith,
       );
       ring = subst (λ m. IsRing m (λ k. get_or (r.next ++ n ∷ []) k 0) (λ k. get_or (r.prev ++ n ∷ []) k 0)
@@ -90,7 +81,7 @@ grown_ring r n are e =
           (λ k. get_or (r.prev ++ n ∷ []) k 0) (λ k. get_or (r.owner ++ n ∷ []) k 0)
           old (λ p l. get_or_append_left r.next (n ∷ []) 0 p (omega arith))
           (λ p l. get_or_append_left r.prev (n ∷ []) 0 p (omega arith))
-          (λ p l. get_or_append_left r.owner (n ∷ []) 0 p (omega arith)) (at_end r.next n next_size)
-          (at_end r.prev n prev_size)
-          (at_end r.owner n (sym e)));
+          (λ p l. get_or_append_left r.owner (n ∷ []) 0 p (omega arith)) (get_or_push r.next n 0 n next_size)
+          (get_or_push r.prev n 0 n prev_size)
+          (get_or_push r.owner n 0 n (sym e)));
     }

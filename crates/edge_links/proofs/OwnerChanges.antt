@@ -2,9 +2,9 @@
 use Rattle.std.proofs.Common.{◌≡◌, ℕ, ◌+◌, ◌-◌, ◌^◌, ◌<◌, nat_eq, List, [], ◌∷◌, ◌++◌, length, set, get_or, sym, ◌∙◌}
 use Rattle.std.proofs.Common.{ap, subst, arith, ◌↔◌, inl, inr, get_or-set_same, get_or-set_other, length-set}
 use Rattle.std.proofs.lemmas.Bool.{cases_eq, cond-true, cond-false, eq-eqb, ne_eqb}
-use Rattle.std.proofs.lemmas.List.{get_or_append_left, length-append}
+use Rattle.std.proofs.lemmas.List.{get_or_append_left, length-append, get_or_push}
 use Rattle.edge_links.proofs.OwnedCounts.{owned_more, owned_less, owned_zero, owned_end, owned_le}
-use Rattle.edge_links.proofs.OneMorePlace.{by_new, at_end}
+use Rattle.edge_links.proofs.OneMorePlace.{by_new}
 use Rattle.edge_links.specs.Times.{times}
 use Rattle.edge_links.specs.Changes.{with_both}
 use Rattle.edge_links.specs.Owners.{Owners, AreEdges, ArePlaces, with_head}
@@ -113,8 +113,8 @@ grown_edges us ks n e a =
     λ p l. get_or_append_left us (n ∷ []) 0 p (omega arith) in
     let k_old : (p : ℕ) → p < n → get_or (ks ++ n ∷ []) p 0 ≡ get_or ks p 0 =
     λ p l. get_or_append_left ks (n ∷ []) 0 p (omega arith) in
-    let u_new : get_or (us ++ n ∷ []) n 0 ≡ n = at_end us n (sym e) in
-    let k_new : get_or (ks ++ n ∷ []) n 0 ≡ n = at_end ks n kn in
+    let u_new : get_or (us ++ n ∷ []) n 0 ≡ n = get_or_push us n 0 n (sym e) in
+    let k_new : get_or (ks ++ n ∷ []) n 0 ≡ n = get_or_push ks n 0 n kn in
     let low : (p : ℕ) → p < n → p < length us = λ p l. omega arith in
     let each : (P : ℕ → Type 0) → ((p : ℕ) → p < n → P p) → P n → (p : ℕ) → p < length (us ++ n ∷ []) → P p =
     λ P old new p l. by_new n P old new p (omega arith) in

@@ -1,5 +1,5 @@
 -- The users of the edges to a key.
-use Rattle.std.proofs.Common.{◌≡◌, ℕ, zero, suc, ◌+◌, ◌<◌, ◌≤◌, cond, nat_eq, List, [], ◌∷◌, ◌++◌, length, get_or, take}
+use Rattle.std.proofs.Common.{◌≡◌, ℕ, zero, suc, ◌+◌, ◌<◌, ◌≤◌, cond, nat_eq, List, [], ◌∷◌, ◌++◌, length, get_or}
 use Rattle.std.proofs.Common.{refl, sym, ◌∙◌, ap, subst, arith, inl, inr}
 use Rattle.std.proofs.lemmas.Bool.{cases_eq, cond-true, cond-false, eq-eqb, ne_eqb}
 use Rattle.edge_links.specs.Edges.{edge, edge_count}
@@ -123,10 +123,3 @@ module _ (s : Owners) (e : AreEdges s.users s.keys) (nodes : List ℕ) (links : 
       → AreUsers (edges_below s (length s.users)) key users
   are_users users h x = h x ∙ (sym (weighed_summed (has_user s x) places (length s.users) member_there) ∙ sym
       (below x (length s.users) (omega arith)))
-
--- a prefix as long as the list is the list
-pub all_taken : (xs : List ℕ) (i : ℕ) → length xs ≤ i → take i xs ≡ xs
-all_taken [] zero l = refl
-all_taken [] (suc i) l = refl
-all_taken (x ∷ xs) zero l = absurd (omega arith)
-all_taken (x ∷ xs) (suc i) l = ap (λ ys. x ∷ ys) (all_taken xs i (omega arith))

@@ -1,7 +1,7 @@
 -- Exchanges of lines, and back.
 use Rattle.std.proofs.Common.{◌≡◌, ◌++◌, ◌∷◌, ◌+◌, ◌-◌, ◌≤◌, [], ℕ, List, false, length, take, drop, refl, sym, ap}
 use Rattle.std.proofs.Common.{subst, ◌∙◌, arith, length-append, length-take}
-use Rattle.std.proofs.lemmas.List.{append-nil, drop_all}
+use Rattle.std.proofs.lemmas.List.{append-nil, drop_all, take_at}
 use Rattle.deck_lines.specs.ClosedBlocks.{AreBlocksClosed}
 use Rattle.deck_lines.specs.Exchangeable.{CanExchange}
 use Rattle.deck_lines.specs.Limits.{pass_limit}
@@ -12,17 +12,13 @@ use Rattle.deck.specs.Splices.{SpliceInverseLaw, after_splice, lines_from}
 use Rattle.deck.specs.declared.settings.Settings.{Settings}
 use Rattle.deck.specs.declared.splice.Splice.{Splice}
 
--- taking as many items as the first list has gives the first list
-pub take_front : {A : Type 0} (xs ys : List A) → take (length xs) (xs ++ ys) ≡ xs
-take_front [] ys = refl
-take_front (x ∷ xs) ys = ap (λ t. x ∷ t) (take_front xs ys)
-
 -- an exchange that cuts nothing at the end appends a line
 pub put_last : (n : ℕ) (xs : List DeckLine) (x : DeckLine) → n ≡ length xs
     → exchanged_lines n 0 (x ∷ []) xs ≡ xs ++ x ∷ []
 put_last n xs x e =
     ap (λ m. take m xs ++ (x ∷ drop (m + 0) xs)) e
-    ∙ ap (λ t. t ++ (x ∷ drop (length xs + 0) xs)) (sym (ap (take (length xs)) (append-nil xs)) ∙ take_front xs [])
+    ∙ ap (λ t. t ++ (x ∷ drop (length xs + 0) xs))
+    (sym (ap (take (length xs)) (append-nil xs)) ∙ take_at xs [] (length xs) refl)
     ∙ ap (λ t. xs ++ (x ∷ t)) (drop_all (length xs + 0) xs (omega arith))
 
 -- an exchange that cuts everything from a place on leaves the lines before it
@@ -30,7 +26,7 @@ pub cut_last : (at cut : ℕ) (xs ys zs : List DeckLine) → zs ≡ xs ++ ys →
     → exchanged_lines at cut [] zs ≡ xs
 cut_last at cut xs ys zs is here all =
     ap (λ t. take at zs ++ t) (drop_all (at + cut) zs (omega (arith, all))) ∙ append-nil (take at zs)
-    ∙ ap (λ n. take n zs) here ∙ ap (take (length xs)) is ∙ take_front xs ys
+    ∙ ap (λ n. take n zs) here ∙ ap (take (length xs)) is ∙ take_at xs ys (length xs) refl
 
 -- lines can be exchanged if the result is closed and within the limits
 pub can_exchange : (at cut : ℕ) (put lines given : List DeckLine) → at + cut ≤ length lines

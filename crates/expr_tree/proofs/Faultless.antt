@@ -3,6 +3,7 @@ use Rattle.std.proofs.Common.{◌≡◌, ◌≤◌, ◌-◌, ℕ, Bool, true, fa
 use Rattle.std.proofs.Common.{refl, sym, subst, ◌∙◌, arith}
 use Rattle.std.specs.Prelude.{if◌then◌else◌}
 use Rattle.std.proofs.lemmas.List.{append-nil}
+use Rattle.std.proofs.lemmas.Bool.{and_from}
 use Rattle.expr_tree.specs.declared.fault.ParseFault.{ParseFault}
 use Rattle.expr_tree.specs.declared.fault.ParseFault.TheVariants.{Syntax, NumeralTooLong}
 use Rattle.expr_tree.specs.Faults.{fault_from, first_fault, lexeme_fault, or_later, takes_numeral}
@@ -15,7 +16,6 @@ use Rattle.expr_tree.specs.Rules.{may, may_end_tokens, open_parens, opened_after
 use Rattle.expr_tree.specs.Tokens.{Token}
 use Rattle.expr_tree.proofs.Before.{Leaves, leaves-push, nothing-leaves}
 use Rattle.expr_tree.proofs.LexemeCuts.{fault_here, fault-left, fault_from-cons, may-stand}
-use Rattle.expr_tree.proofs.Fits.{both_hold}
 
 -- if `or_later` of two faults is `None`, both are `None`
 neither : (a b : Option ParseFault) → or_later a b ≡ None → (a ≡ None) × (b ≡ None)
@@ -52,7 +52,7 @@ fits_next before last k depth place len Blank xs l f r next =
     next before last k depth l (subst (λ ts. fault_from ts len xs ≡ None) (append-nil before) r)
 fits_next before last k depth place len (Whole t) xs l f r next =
     let stands : (may last k t ≡ true) × (depth ≤ 64) = may-stand last k depth place t f in
-    both_hold _ _ stands.0
+    and_from _ _ stands.0
     (next (before ++ t ∷ []) (state_after_token t last) (opened_after t k) (depth_after t last depth)
     (leaves-push before last k depth t l stands.0) r)
 fits_next before last k depth place len TooLong xs l f r next = absurd (too_long (takes_numeral last) place f)

@@ -1,18 +1,9 @@
 -- The tokens after a derivation, if all tokens fit.
-use Rattle.std.proofs.Common.{◌≡◌, ℕ, suc, ◌-◌, Bool, true, false, ◌&&◌, List, [], ◌∷◌, refl, subst, arith, eqb-true}
+use Rattle.std.proofs.Common.{◌≡◌, ℕ, suc, ◌-◌, true, List, [], ◌∷◌, refl, subst, arith, eqb-true}
+use Rattle.std.proofs.lemmas.Bool.{and_parts}
 use Rattle.expr_tree.specs.Rules.{WantsOperand, EndsOperand, EndsNumeral, tokens_fit}
 use Rattle.expr_tree.specs.Tokens.{Token, Numeral, Word, WordWithPower, Head, Root, Bar, Tilde, Open, Close}
 use Rattle.expr_tree.specs.Front.{stops, can_begin_operand, after_sum, after_atom}
-
--- if the conjunction of two tests holds, both tests hold
-pub and_parts_hold : (a b : Bool) → (a && b) ≡ true → (a ≡ true) × (b ≡ true)
-and_parts_hold true b e = (refl, e)
-and_parts_hold false b e = cc
-
--- if two tests hold, so does their conjunction
-pub both_hold : (a b : Bool) → a ≡ true → b ≡ true → (a && b) ≡ true
-both_hold true b e f = f
-both_hold false b e f = cc
 
 -- tokens that begin an operand and fit after an operand also fit where an operand is wanted
 pub begins_wanted : (k : ℕ) (ts : List Token) → can_begin_operand ts ≡ true → tokens_fit EndsOperand k ts ≡ true
@@ -57,5 +48,5 @@ pub closing : (k : ℕ) (r : List Token) → stops after_sum r ≡ true → toke
     → (s : List Token) × (r ≡ Close ∷ s) × (tokens_fit EndsOperand k s ≡ true)
 closing k [] h f = let none_open : suc k ≡ 0 = eqb-true (suc k) 0 f in absurd (omega arith)
 closing k (Close ∷ s) h f = let one_less : suc k - 1 ≡ k =
-    omega arith in (s, refl, subst (λ i. tokens_fit EndsOperand i s ≡ true) one_less (and_parts_hold _ _ f).1)
+    omega arith in (s, refl, subst (λ i. tokens_fit EndsOperand i s ≡ true) one_less (and_parts _ _ f).1)
 closing k (t ∷ s) h f = cc

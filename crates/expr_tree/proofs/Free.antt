@@ -1,5 +1,6 @@
 -- Without a binder a tree contains no argument.
-use Rattle.std.proofs.Common.{◌≡◌, ◌∙◌, refl, ap, Bool, false, ◌||◌, None, List}
+use Rattle.std.proofs.Common.{◌≡◌, ◌∙◌, refl, ap, false, None, List}
+use Rattle.std.proofs.lemmas.Bool.{or_from}
 use Rattle.expr_tree.specs.declared.operator.Sign.{Sign}
 use Rattle.expr_tree.specs.declared.operator.Sign.TheVariants as signs
 use Rattle.expr_tree.specs.Grammar.{Sum, SumOf, SumRest, NoTerm, NextTerm, Product, ProductOf, ProductRest, NoFactor}
@@ -15,10 +16,6 @@ use Rattle.expr_tree.specs.Syntax.{Syntax}
 use Rattle.expr_tree.specs.Tokens.{Token}
 use Rattle.expr_tree.specs.Arguments.{holds_argument, members_hold, factors_hold, terms_hold}
 
--- if two tests fail, so does their disjunction
-neither : (a b : Bool) → a ≡ false → b ≡ false → a || b ≡ false
-neither a b h k = ap (λ x. x || b) h ∙ k
-
 -- a sign adds no argument
 free-signed : (s : Sign) (e : Syntax) → holds_argument e ≡ false → holds_argument (signed_syntax s e) ≡ false
 free-signed signs.Plus e h = h
@@ -27,34 +24,34 @@ free-signed signs.Minus e h = h
 mutual
   free-sum : (d : Sum) → holds_argument (sum_tree None d) ≡ false
   free-sum (SumOf p NoTerm) = free-product p
-  free-sum (SumOf p (NextTerm s q qs)) = neither _ _ (free-product p) (neither _ _ (free-product q) (free-terms qs))
+  free-sum (SumOf p (NextTerm s q qs)) = or_from _ _ (free-product p) (or_from _ _ (free-product q) (free-terms qs))
 
   free-terms : (ps : SumRest) → terms_hold (terms None ps) ≡ false
   free-terms NoTerm = refl
-  free-terms (NextTerm s p ps) = neither _ _ (free-product p) (free-terms ps)
+  free-terms (NextTerm s p ps) = or_from _ _ (free-product p) (free-terms ps)
 
   free-product : (p : Product) → holds_argument (product_tree None p) ≡ false
   free-product (ProductOf j NoFactor) = free-juxtaposition j
   free-product (ProductOf j (NextFactor s k ks)) =
-      neither _ _ (free-juxtaposition j) (neither _ _ (free-juxtaposition k) (free-factors ks))
+      or_from _ _ (free-juxtaposition j) (or_from _ _ (free-juxtaposition k) (free-factors ks))
 
   free-factors : (js : ProductRest) → factors_hold (rest_factors None js) ≡ false
   free-factors NoFactor = refl
-  free-factors (NextFactor s j js) = neither _ _ (free-juxtaposition j) (free-factors js)
+  free-factors (NextFactor s j js) = or_from _ _ (free-juxtaposition j) (free-factors js)
 
   free-juxtaposition : (j : Juxtaposition) → holds_argument (juxtaposition_tree None j) ≡ false
   free-juxtaposition (Signed s j) = free-signed s _ (free-juxtaposition j)
   free-juxtaposition (JuxtapositionOf p NoPower) = free-power p
   free-juxtaposition (JuxtapositionOf p (NextPower q qs)) =
-      neither _ _ (free-power p) (neither _ _ (free-power q) (free-members qs))
+      or_from _ _ (free-power p) (or_from _ _ (free-power q) (free-members qs))
 
   free-members : (ps : JuxtapositionRest) → members_hold (members None ps) ≡ false
   free-members NoPower = refl
-  free-members (NextPower p ps) = neither _ _ (free-power p) (free-members ps)
+  free-members (NextPower p ps) = or_from _ _ (free-power p) (free-members ps)
 
   free-power : (p : Power) → holds_argument (power_tree None p) ≡ false
   free-power (Bare a) = free-atom a
-  free-power (Raised a e) = neither _ _ (free-atom a) (free-exponent e)
+  free-power (Raised a e) = or_from _ _ (free-atom a) (free-exponent e)
 
   free-exponent : (e : Exponent) → holds_argument (exponent_tree None e) ≡ false
   free-exponent (SignedExponent s e) = free-signed s _ (free-exponent e)

@@ -3,10 +3,9 @@ use Rattle.std.specs.Prelude.{if◌then◌else◌, is_err, is_ok, map}
 use Rattle.std.proofs.Common.{◌≡◌, ◌<◌, ◌≤◌, ◌+◌, ◌-◌, ℕ, zero, suc, Bool, true, false, List, [], ◌∷◌, ◌++◌, length}
 use Rattle.std.proofs.Common.{drop, take, Option, Some, None, Result, Ok, Err, refl, ap, sym, subst, ◌∙◌, append_assoc}
 use Rattle.std.proofs.Common.{add-zero, arith, nat_lt}
-use Rattle.std.proofs.lemmas.List.{append-nil, drop-drop, length-drop, map-append}
+use Rattle.std.proofs.lemmas.List.{append-nil, drop-drop, length-drop, map-append, take_rest}
 use Rattle.std.proofs.lemmas.Bool.{ltb-false}
 use Rattle.std.proofs.Math.ListN.{drop_of_length-le}
-use Rattle.std.proofs.Math.Seq.{take-length}
 use Rattle.expr_tree.specs.declared.fault.ParseFault.{ParseFault}
 use Rattle.expr_tree.specs.declared.fault.ParseFault.TheVariants.{Syntax, NestedTooDeep}
 use Rattle.expr_tree.specs.declared.lexeme.Lexeme.{Lexeme as MadeLexeme}
@@ -298,20 +297,16 @@ whole-read text before last open_parens depth after_numeral place r over ends = 
   fit = ap (tokens_fit WantsOperand 0) (sym (append-nil before)) ∙ r.leaves.fit [] ∙ ends;
 }
 
--- taking as many bytes as follow a place gives the rest of the text
-pub rest-is : (text : List ℕ) (place : ℕ) → take (length text - place) (drop place text) ≡ drop place text
-rest-is text place = ap (λ n. take n (drop place text)) (sym (length-drop place text)) ∙ take-length (drop place text)
-
 -- the piece at the front of these bytes is that at the front of the rest
 pub rest-front : (text : List ℕ) (place : ℕ) (after_numeral : Bool) (p : Piece)
     → p ≡ first_piece after_numeral (take (length text - place) (drop place text))
     → p ≡ first_piece after_numeral (drop place text)
-rest-front text place after_numeral p is = is ∙ ap (first_piece after_numeral) (rest-is text place)
+rest-front text place after_numeral p is = is ∙ ap (first_piece after_numeral) (take_rest text place)
 
 -- a length that is within these bytes is within the rest
 pub rest-within : (text : List ℕ) (place n : ℕ) → n ≤ length (take (length text - place) (drop place text))
     → n ≤ length (drop place text)
-rest-within text place n h = subst (λ (bs : List ℕ). n ≤ length bs) (rest-is text place) h
+rest-within text place n h = subst (λ (bs : List ℕ). n ≤ length bs) (take_rest text place) h
 
 -- the value after a push that does not fail
 pub value_after_push : {X E A : Type 0} (r : Result X E) (now pushed before : A)

@@ -2,11 +2,11 @@
 use Rattle.std.proofs.Common.{◌≡◌, ◌↔◌, ℕ, zero, suc, ◌+◌, ◌-◌, ◌<◌, true, List, [], ◌∷◌, take, Some, refl, sym, subst}
 use Rattle.std.proofs.Common.{arith, ltb-true}
 use Rattle.std.specs.Prelude.{slice_get}
+use Rattle.std.proofs.lemmas.Bool.{and_from, and_parts}
 use Rattle.expr_tree.specs.Rules.{After, WantsOperand, WantsHead, WantsOpen, WantsNumeral, EndsNumeral, EndsOperand}
 use Rattle.expr_tree.specs.Rules.{may, may_end_tokens, tokens_fit, opened_after, state_after_token}
 use Rattle.expr_tree.specs.Rules.{left_by, count_opens, count_closes, open_parens, MayStand, TokensMayEnd}
 use Rattle.expr_tree.specs.Tokens.{Token, Close}
-use Rattle.expr_tree.proofs.Fits.{and_parts_hold, both_hold}
 
 -- the number of open parentheses after tokens, if `k` were open before them
 abbrev still_open : ℕ → List Token → ℕ
@@ -45,7 +45,7 @@ stands : (last : After) (k : ℕ) (ts : List Token) → tokens_fit last k ts ≡
 stands last k [] h = (λ i t g. cc, subst (λ n. may_end_tokens last n ≡ true) (sym (none_more k)) h)
 stands last k (u ∷ ts) h =
     let e : (may last k u ≡ true) × (tokens_fit (state_after_token u last) (opened_after u k) ts ≡ true) =
-    and_parts_hold (may last k u) _ h in
+    and_parts (may last k u) _ h in
     let r : Stands (state_after_token u last) (opened_after u k) ts × Ends (state_after_token u last) (opened_after u k)
     ts =
     stands (state_after_token u last) (opened_after u k) ts e.1 in (
@@ -67,7 +67,7 @@ fits_from : (last : After) (k : ℕ) (ts : List Token) → Stands last k ts → 
 fits_from last k [] s e = subst (λ n. may_end_tokens last n ≡ true) (none_more k) e
 fits_from last k (u ∷ ts) s e =
     let m : may last k u ≡ true = subst (λ n. may last n u ≡ true) (none_more k) (s 0 u refl) in
-    both_hold (may last k u) _ m
+    and_from (may last k u) _ m
     (fits_from (state_after_token u last) (opened_after u k) ts
     (λ i t g. subst (λ n. may (left_by (state_after_token u last) (take i ts)) n t ≡ true)
     (sym (one_more last k u (take i ts) m))

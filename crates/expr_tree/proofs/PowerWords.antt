@@ -1,15 +1,11 @@
 -- Words with a power.
-use Rattle.std.proofs.Common.{◌≡◌, ◌<◌, ℕ, Bool, true, false, ◌&&◌, List, [], ◌∷◌, length, refl, arith}
+use Rattle.std.proofs.Common.{◌≡◌, ◌<◌, ℕ, true, List, [], ◌∷◌, length, arith}
+use Rattle.std.proofs.lemmas.Bool.{and_parts}
 use Rattle.expr_tree.specs.Names.{base, has_power, is_name, is_power_byte, last_byte}
-
--- if the conjunction of two tests holds, both tests hold
-both : (a b : Bool) → (a && b) ≡ true → (a ≡ true) × (b ≡ true)
-both true b h = (refl, h)
-both false b h = cc
 
 -- a word with a power ends in a digit from 2 to 9
 pub power-digit : (word : List ℕ) → has_power word ≡ true → is_power_byte (last_byte word) ≡ true
-power-digit word h = (both (is_power_byte (last_byte word)) (is_name (base word)) h).0
+power-digit word h = (and_parts (is_power_byte (last_byte word)) (is_name (base word)) h).0
 
 -- a word with a power is not empty
 pub power-some : (word : List ℕ) → has_power word ≡ true → 0 < length word

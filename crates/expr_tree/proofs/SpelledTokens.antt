@@ -1,5 +1,6 @@
 -- The tokens of a derivation fit.
 use Rattle.std.proofs.Common.{◌≡◌, ℕ, suc, ◌-◌, true, List, [], ◌∷◌, Option, refl, sym, subst, arith, lt-ltb}
+use Rattle.std.proofs.lemmas.Bool.{and_from}
 use Rattle.expr_tree.specs.Grammar.{Sum, SumOf, SumRest, NoTerm, NextTerm, Product, ProductOf, ProductRest, NoFactor}
 use Rattle.expr_tree.specs.Grammar.{NextFactor}
 use Rattle.expr_tree.specs.Grammar.{Juxtaposition, Signed, JuxtapositionOf, JuxtapositionRest, NoPower, NextPower}
@@ -15,7 +16,7 @@ use Rattle.expr_tree.specs.declared.operator.Scale.{Scale}
 use Rattle.expr_tree.specs.declared.operator.Scale.TheVariants.{Multiply, Divide}
 use Rattle.expr_tree.specs.declared.operator.Sign.{Sign}
 use Rattle.expr_tree.specs.declared.operator.Sign.TheVariants as signs
-use Rattle.expr_tree.proofs.Fits.{begins_ended, numeral_ended, both_hold}
+use Rattle.expr_tree.proofs.Fits.{begins_ended, numeral_ended}
 use Rattle.expr_tree.proofs.Stops.{power_begins}
 
 -- a sign fits if an operand is wanted
@@ -41,7 +42,7 @@ close_ended : (k : ℕ) (ts : List Token) → tokens_fit EndsOperand k ts ≡ tr
     → tokens_fit EndsOperand (suc k) (Close ∷ ts) ≡ true
 close_ended k ts h =
     let one_less : k ≡ suc k - 1 = omega arith in
-    both_hold _ _ (lt-ltb 0 (suc k) (omega arith)) (subst (λ i. tokens_fit EndsOperand i ts ≡ true) one_less h)
+    and_from _ _ (lt-ltb 0 (suc k) (omega arith)) (subst (λ i. tokens_fit EndsOperand i ts ≡ true) one_less h)
 
 mutual
   sum_fits : (d : Sum) (k : ℕ) (r : List Token) → tokens_fit EndsOperand k r ≡ true

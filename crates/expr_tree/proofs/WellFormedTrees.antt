@@ -1,5 +1,6 @@
 -- Tokens give well-formed trees.
-use Rattle.std.proofs.Common.{◌≡◌, ◌∙◌, ap, refl, Bool, true, false, ◌&&◌, if◌then◌else◌, List, Option, ℕ}
+use Rattle.std.proofs.Common.{◌≡◌, ◌∙◌, ap, refl, true, false, if◌then◌else◌, List, Option, ℕ}
+use Rattle.std.proofs.lemmas.Bool.{and_from}
 use Rattle.expr_tree.specs.declared.operator.Sign.{Sign}
 use Rattle.expr_tree.specs.declared.operator.Sign.TheVariants as signs
 use Rattle.expr_tree.specs.WellFormed.{are_formed, are_formed_factors, are_formed_terms, is_formed}
@@ -17,10 +18,6 @@ use Rattle.expr_tree.specs.Syntax.{Syntax}
 use Rattle.expr_tree.specs.Syntax as tree
 use Rattle.expr_tree.specs.Tokens.{Token}
 
--- if two tests hold, so does their conjunction
-both : (a b : Bool) → a ≡ true → b ≡ true → (a && b) ≡ true
-both a b g h = ap (λ x. x && b) g ∙ h
-
 -- a word is well formed
 formed-word : (binder : Option (List ℕ)) (w : List ℕ) → is_formed (word binder w) ≡ true
 formed-word binder w =
@@ -32,7 +29,7 @@ formed-call : (binder : Option (List ℕ)) (w : List ℕ) (e : Syntax) → is_fo
     → is_formed (call binder w e) ≡ true
 formed-call binder w e h =
     elim (is_binder binder w) as (λ b. is_formed (if b then argument_times e else tree.Call w e) ≡ true) [
-      | true ↦ both _ _ h refl
+      | true ↦ and_from _ _ h refl
       | false ↦ h
     ]
 
@@ -45,34 +42,35 @@ mutual
   formed-sum : (binder : Option (List ℕ)) (d : Sum) → is_formed (sum_tree binder d) ≡ true
   formed-sum binder (SumOf p NoTerm) = formed-product binder p
   formed-sum binder (SumOf p (NextTerm s q qs)) =
-      both _ _ (formed-product binder p) (both _ _ (formed-product binder q) (formed-terms binder qs))
+      and_from _ _ (formed-product binder p) (and_from _ _ (formed-product binder q) (formed-terms binder qs))
 
   formed-terms : (binder : Option (List ℕ)) (ps : SumRest) → are_formed_terms (terms binder ps) ≡ true
   formed-terms binder NoTerm = refl
-  formed-terms binder (NextTerm s p ps) = both _ _ (formed-product binder p) (formed-terms binder ps)
+  formed-terms binder (NextTerm s p ps) = and_from _ _ (formed-product binder p) (formed-terms binder ps)
 
   formed-product : (binder : Option (List ℕ)) (p : Product) → is_formed (product_tree binder p) ≡ true
   formed-product binder (ProductOf j NoFactor) = formed-juxtaposition binder j
   formed-product binder (ProductOf j (NextFactor s k ks)) =
-      both _ _ (formed-juxtaposition binder j) (both _ _ (formed-juxtaposition binder k) (formed-factors binder ks))
+      and_from _ _ (formed-juxtaposition binder j)
+      (and_from _ _ (formed-juxtaposition binder k) (formed-factors binder ks))
 
   formed-factors : (binder : Option (List ℕ)) (js : ProductRest) → are_formed_factors (rest_factors binder js) ≡ true
   formed-factors binder NoFactor = refl
-  formed-factors binder (NextFactor s j js) = both _ _ (formed-juxtaposition binder j) (formed-factors binder js)
+  formed-factors binder (NextFactor s j js) = and_from _ _ (formed-juxtaposition binder j) (formed-factors binder js)
 
   formed-juxtaposition : (binder : Option (List ℕ)) (j : Juxtaposition) → is_formed (juxtaposition_tree binder j) ≡ true
   formed-juxtaposition binder (Signed s j) = formed-signed s _ (formed-juxtaposition binder j)
   formed-juxtaposition binder (JuxtapositionOf p NoPower) = formed-power binder p
   formed-juxtaposition binder (JuxtapositionOf p (NextPower q qs)) =
-      both _ _ (formed-power binder p) (both _ _ (formed-power binder q) (formed-members binder qs))
+      and_from _ _ (formed-power binder p) (and_from _ _ (formed-power binder q) (formed-members binder qs))
 
   formed-members : (binder : Option (List ℕ)) (ps : JuxtapositionRest) → are_formed (members binder ps) ≡ true
   formed-members binder NoPower = refl
-  formed-members binder (NextPower p ps) = both _ _ (formed-power binder p) (formed-members binder ps)
+  formed-members binder (NextPower p ps) = and_from _ _ (formed-power binder p) (formed-members binder ps)
 
   formed-power : (binder : Option (List ℕ)) (p : Power) → is_formed (power_tree binder p) ≡ true
   formed-power binder (Bare a) = formed-atom binder a
-  formed-power binder (Raised a e) = both _ _ (formed-atom binder a) (formed-exponent binder e)
+  formed-power binder (Raised a e) = and_from _ _ (formed-atom binder a) (formed-exponent binder e)
 
   formed-exponent : (binder : Option (List ℕ)) (e : Exponent) → is_formed (exponent_tree binder e) ≡ true
   formed-exponent binder (SignedExponent s e) = formed-signed s _ (formed-exponent binder e)
@@ -82,7 +80,7 @@ mutual
   formed-atom binder (NumeralAtom n) = refl
   formed-atom binder (BarAtom n d) = refl
   formed-atom binder (WordAtom w) = formed-word binder w
-  formed-atom binder (PowerAtom w n) = both _ _ (formed-word binder w) refl
+  formed-atom binder (PowerAtom w n) = and_from _ _ (formed-word binder w) refl
   formed-atom binder (CallAtom w d) = formed-call binder w _ (formed-sum binder d)
   formed-atom binder (InverseAtom w d) = formed-sum binder d
   formed-atom binder (RootAtom kind d) = formed-sum binder d

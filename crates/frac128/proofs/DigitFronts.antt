@@ -4,6 +4,7 @@ use Rattle.std.proofs.Common.{take, length, get_or, add-one, subst, Some, None, 
 use Rattle.std.specs.Prelude.{◌||◌, if◌then◌else◌}
 use Rattle.std.specs.List.{list_all}
 use Rattle.std.proofs.lemmas.Int.{ints}
+use Rattle.std.proofs.lemmas.Bool.{and_parts}
 use Rattle.frac128.specs.declared.numeral_syntax.Kind.TheVariants.{Digit, Point, Mark, Sign, Other}
 use Rattle.frac128.specs.declared.numeral_syntax.Stage.{Stage}
 use Rattle.frac128.specs.declared.numeral_syntax.Stage.TheVariants.{Start, Whole, Pointed, Fraction, Marked, Signed}
@@ -14,7 +15,7 @@ use Rattle.frac128.specs.Numerals.{numeral_len_of}
 use Rattle.frac128.specs.Stages.{byte_kind, may_end, stage_after}
 use Rattle.frac128.proofs.Readings.{IsSplit}
 use Rattle.frac128.proofs.StageRuns.{IsReadTo, digit_no_mark, digit_no_point, read_end, read_more, read_start}
-use Rattle.frac128.proofs.WholeNumerals.{and_both_true, before_digits, digits_numeral, from_digits}
+use Rattle.frac128.proofs.WholeNumerals.{before_digits, digits_numeral, from_digits}
 
 -- the stage after `i` digits
 abbrev pub digits_stage : ℕ → Stage
@@ -36,7 +37,7 @@ all_more : (bytes : List ℕ) (i : ℕ) → list_all is_digit (take i bytes) ≡
 all_more [] i h low digit = absurd (omega arith)
 all_more (b ∷ bs) zero h low digit = rw digit refl
 all_more (b ∷ bs) (suc i) h low digit =
-    let parts = and_both_true (is_digit b) (list_all is_digit (take i bs)) h in
+    let parts = and_parts (is_digit b) (list_all is_digit (take i bs)) h in
     rw parts.0 (all_more bs i parts.1 (omega arith) digit)
 
 -- reading one more digit

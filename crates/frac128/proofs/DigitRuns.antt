@@ -7,13 +7,13 @@ use Rattle.std.specs.List.{list_all}
 use Rattle.std.proofs.lemmas.Bool.Decides.{nat_tests}
 use Rattle.std.proofs.lemmas.List.{at_drop_all, at_drop_more}
 use Rattle.std.proofs.Math.Nat.{le-mul_of_pos_right, zero-mul, mul-one, mul_assoc, pow-suc}
+use Rattle.std.proofs.lemmas.Bool.{le-leb, lt-leb}
 use Rattle.frac128.specs.Decimals.{coefficient_of, digits_of, end_zeros, exponent_size, is_zero_digit, most_exponent}
 use Rattle.frac128.specs.Decimals.{digits_number}
 use Rattle.frac128.specs.Decimals.{digits_without_zeros, short_coefficient}
 use Rattle.frac128.specs.Fraction.{most}
 use Rattle.frac128.specs.Numerals.{is_digit}
 use Rattle.frac128.proofs.Powers.{pow_some}
-use Rattle.frac128.proofs.Comparisons.{le-false, le-true}
 
 -- a number extended by one digit
 abbrev extend : ℕ → ℕ → ℕ
@@ -203,11 +203,11 @@ digit_rest bytes i n z is h other b =
 
 -- a coefficient that is too large gives `None`
 past : (c : ℕ) (p : ℕ × ℕ) → most < c → (if nat_le c most then Some p else None) ≡ None
-past c p h = rw (le-false c most h) refl
+past c p h = rw (lt-leb c most h) refl
 
 -- a coefficient that is not too large is the result
 pub small_coefficient_result : (c : ℕ) (p : ℕ × ℕ) → c ≤ most → (if nat_le c most then Some p else None) ≡ Some p
-small_coefficient_result c p h = rw (le-true c most h) refl
+small_coefficient_result c p h = rw (le-leb c most h) refl
 
 -- if the number with one more digit is too large, so is the coefficient
 pub collected_wide : (bytes : List ℕ) (i n z : ℕ) → IsCollected bytes i n z → i < length bytes

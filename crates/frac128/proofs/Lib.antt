@@ -1,5 +1,4 @@
 pub mod BinarySteps
-pub mod Comparisons
 pub mod ComputedRoots
 pub mod Coprime
 pub mod DigitFronts

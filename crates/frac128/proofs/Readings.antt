@@ -4,13 +4,13 @@ use Rattle.std.proofs.Common.{drop, Some, None}
 use Rattle.std.proofs.Common.{arith, refl, sym, ap, ◌∙◌}
 use Rattle.std.specs.Prelude.{if◌then◌else◌, ◌==◌, nat_le, Ok, Err}
 use Rattle.std.proofs.lemmas.Bool.Decides.{nat_tests}
+use Rattle.std.proofs.lemmas.Bool.{le-leb, lt-leb}
 use Rattle.frac128.specs.declared.numeral.NumeralFault.TheVariants.{TooLong}
 use Rattle.frac128.specs.Decimals.{coefficient_of, decimal_exponent, digits_of, end_zeros, exponent_part, exponent_size}
 use Rattle.frac128.specs.Decimals.{decimal_places, mantissa, most_exponent}
 use Rattle.frac128.specs.Decimals.{numeral_reading, short_coefficient}
 use Rattle.frac128.specs.Fraction.{most}
 use Rattle.frac128.specs.Numerals.{is_digit, is_mark_byte, is_numeral, prefix_until, suffix_from}
-use Rattle.frac128.proofs.Comparisons.{le-false, le-true}
 
 -- the front of a list before a member that passes a test is at most as long as the list
 pub before-le : (p : ℕ → Bool) (xs : List ℕ) → length (prefix_until p xs) ≤ length xs
@@ -102,7 +102,7 @@ read_long bytes m t c z is some wide =
     let short = is_shortened (nat_le (coefficient_of m) most) (c, z) (coefficient_of m, end_zeros m) some in
     let fits : nat_le (coefficient_of (mantissa bytes)) most ≡ true = rw (← is.m_is) short.0 in
     let long : nat_le (exponent_size (exponent_part bytes)) most_exponent ≡ false =
-    rw (← is.t_is) (le-false (exponent_size t) most_exponent (omega (arith, wide))) in
+    rw (← is.t_is) (lt-leb (exponent_size t) most_exponent (omega (arith, wide))) in
     rw (is.numeral, fits, long) refl
 
 -- if neither is too large, the result is computed from the parts
@@ -114,7 +114,7 @@ read_short bytes m t c z is some low =
     let short = is_shortened (nat_le (coefficient_of m) most) (c, z) (coefficient_of m, end_zeros m) some in
     let fits : nat_le (coefficient_of (mantissa bytes)) most ≡ true = rw (← is.m_is) short.0 in
     let near : nat_le (exponent_size (exponent_part bytes)) most_exponent ≡ true =
-    rw (← is.t_is) (le-true (exponent_size t) most_exponent low) in
+    rw (← is.t_is) (le-leb (exponent_size t) most_exponent low) in
     let c_is : c ≡ coefficient_of m = ap (λ p. p.0) short.1 in
     let z_is : z ≡ end_zeros m = ap (λ p. p.1) short.1 in
     rw (is.numeral, fits, near, c_is, z_is, is.m_is, is.t_is) refl

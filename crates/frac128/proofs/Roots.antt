@@ -4,9 +4,10 @@ use Rattle.std.proofs.Common.{unsigned_abs, arith}
 use Rattle.std.proofs.Common.{refl, sym, ap, subst, ◌∙◌}
 use Rattle.std.specs.Prelude.{int_lt, IsFalse, Ok, ◌&&◌, ◌==◌}
 use Rattle.std.specs.Int.{◌∣◌, IsGcd, int_pow}
-use Rattle.std.proofs.lemmas.Bool.{cases_order}
+use Rattle.std.proofs.lemmas.Bool.{cases_order, le-leb}
 use Rattle.std.proofs.lemmas.Int.{ints}
 use Rattle.std.proofs.Math.Nat.{pow-lt-pow_left, dvd-mul_left, pow-le-pow_right, pow-suc}
+use Rattle.std.proofs.Math.Bool.{and-true}
 use Rattle.frac128.specs.Fraction.{Fraction, most}
 use Rattle.frac128.specs.Powers.{power_fraction}
 use Rattle.frac128.specs.Roots.{IsRoot, IsRootAnswer, RootLaw}
@@ -16,7 +17,6 @@ use Rattle.frac128.proofs.Coprime.{coprime_is, coprime-dvd, is_coprime}
 use Rattle.frac128.proofs.Powers.{IsMade, pow-signed, pow_some}
 use Rattle.frac128.proofs.RootSearch.{pow-one, zero-pow}
 use Rattle.frac128.proofs.Signs.{abs-signed, signed_is}
-use Rattle.frac128.proofs.Comparisons.{and-true, le-true}
 
 -- the root of a number above 0 is above 0
 pub root_some : (m q b : ℕ) → 0 < q → m ^ q ≡ b → 0 < b → 0 < m
@@ -44,7 +44,7 @@ root_lowest m n q a b some first second h =
 fitting_ok : (s : Bool) (top bottom : ℕ) → top ≤ most → bottom ≤ most
     → fit_or_overflow (record { num = number_with_sign s top; den = bottom }) ≡ Ok
     (record { num = number_with_sign s top; den = bottom })
-fitting_ok s top bottom low high = rw (abs-signed s top, le-true top most low, le-true bottom most high) refl
+fitting_ok s top bottom low high = rw (abs-signed s top, le-leb top most low, le-leb bottom most high) refl
 
 -- if a number below 0 has only roots of odd degree, the sign of the power is that of the root
 odd_sign : (s : Bool) (q : ℕ) → (s ≡ true → q % 2 ≡ 0 → ⊥) → (s && (q % 2 == 1)) ≡ s

@@ -11,9 +11,10 @@ use Rattle.frac128.specs.Fraction.{Fraction, most}
 use Rattle.frac128.specs.declared.fault.FracFault.TheVariants.{Overflow}
 use Rattle.std.specs.Prelude.{Err, nat_le, ◌⊎◌, ◌^◌}
 use Rattle.std.proofs.Common.{inl, inr}
+use Rattle.std.proofs.lemmas.Bool.{lt-leb}
+use Rattle.std.proofs.Math.Bool.{and-false}
 use Rattle.frac128.specs.Sign.{number_with_sign, differ, signs_differ}
 use Rattle.frac128.specs.Steps.{fit_or_overflow, ratio, lowest_terms, fraction_product, fraction_quotient}
-use Rattle.frac128.proofs.Comparisons.{and-false, le-false}
 
 -- the magnitude of a signed number
 pub abs-signed : (s : Bool) (a : ℕ) → unsigned_abs (number_with_sign s a) ≡ a
@@ -119,9 +120,9 @@ times_is x y top bottom some_x some_y low =
 -- a fraction with a part of more than 128 bits does not fit
 pub wide_over : (s : Bool) (top bottom : ℕ) → (2 ^ 128 ≤ top) ⊎ (2 ^ 128 ≤ bottom)
     → fit_or_overflow (record { num = number_with_sign s top; den = bottom }) ≡ Err Overflow
-wide_over s top bottom (inl h) = rw (abs-signed s top, le-false top most (omega arith)) refl
+wide_over s top bottom (inl h) = rw (abs-signed s top, lt-leb top most (omega arith)) refl
 wide_over s top bottom (inr h) =
-    rw (le-false bottom most (omega arith), and-false (nat_le (unsigned_abs (number_with_sign s top)) most)) refl
+    rw (lt-leb bottom most (omega arith), and-false (nat_le (unsigned_abs (number_with_sign s top)) most)) refl
 
 -- if the product of two fractions is too wide, it overflows
 pub times_wide : (x y : Fraction) → 0 < x.den → 0 < y.den
@@ -133,13 +134,13 @@ times_wide x y some_x some_y wide = times_is x y _ _ some_x some_y (record { top
 -- a fraction whose numerator is too large does not fit
 pub top_over : (s : Bool) (top bottom : ℕ) → most < top
     → fit_or_overflow (record { num = number_with_sign s top; den = bottom }) ≡ Err Overflow
-top_over s top bottom h = rw (abs-signed s top, le-false top most h) refl
+top_over s top bottom h = rw (abs-signed s top, lt-leb top most h) refl
 
 -- a fraction whose denominator is too large does not fit
 pub bottom_over : (s : Bool) (top bottom : ℕ) → most < bottom
     → fit_or_overflow (record { num = number_with_sign s top; den = bottom }) ≡ Err Overflow
 bottom_over s top bottom h =
-    rw (le-false bottom most h, and-false (nat_le (unsigned_abs (number_with_sign s top)) most)) refl
+    rw (lt-leb bottom most h, and-false (nat_le (unsigned_abs (number_with_sign s top)) most)) refl
 
 -- no natural number is below 0
 pub not_below : (n : ℕ) → int_lt (pos n) (pos 0) ≡ false

@@ -7,6 +7,7 @@ use Rattle.std.specs.List.{list_all}
 use Rattle.std.proofs.lemmas.Bool.{cases_lt}
 use Rattle.std.proofs.lemmas.Bool.Decides.{nat_tests}
 use Rattle.std.proofs.lemmas.List.{drop_more, take_all}
+use Rattle.std.proofs.Math.Bool.{and-false}
 use Rattle.frac128.specs.declared.numeral_syntax.Kind.{Kind}
 use Rattle.frac128.specs.declared.numeral_syntax.Stage.{Stage}
 use Rattle.frac128.specs.declared.numeral_syntax.Stage.TheVariants.{Start, Whole, Pointed, Fraction, Marked, Signed}
@@ -16,7 +17,6 @@ use Rattle.frac128.specs.Numerals.{is_mark_byte, is_numeral}
 use Rattle.frac128.specs.Numerals.{is_point_byte}
 use Rattle.frac128.specs.Numerals.{are_digits, is_pointed, is_sign_byte, numeral_len_of}
 use Rattle.frac128.specs.Stages.{byte_kind, may_end, stage_after}
-use Rattle.frac128.proofs.Comparisons.{and-false}
 
 -- whether the bytes after a stage complete a numeral
 abbrev rest_of : Stage → List ℕ → Bool

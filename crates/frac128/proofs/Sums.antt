@@ -5,6 +5,7 @@ use Rattle.std.proofs.Common.{arith, refl, sym, ap, ◌∙◌}
 use Rattle.std.specs.Prelude.{int_lt, Ok, Err, if◌then◌else◌}
 use Rattle.std.specs.Int.{IsGcd}
 use Rattle.std.proofs.Math.Nat.{mul_comm, mul-div_cancel', mul-div_cancel_left, mul-pos, mul-zero, div-le_self}
+use Rattle.std.proofs.lemmas.Bool.{le-leb}
 use Rattle.frac128.specs.declared.fault.FracFault.{FracFault}
 use Rattle.frac128.specs.declared.fault.FracFault.TheVariants.{Overflow}
 use Rattle.frac128.specs.Divisors.{gcd, lcm}
@@ -17,7 +18,6 @@ use Rattle.frac128.proofs.Multiples.{lcm-left, lcm-right}
 use Rattle.frac128.proofs.QuotientLaws.{reduced_is}
 use Rattle.frac128.proofs.SumDivisors.{sum_shares}
 use Rattle.frac128.proofs.Signs.{abs-neg, abs-signed, differ-false, mul-signed, neg-times, signed_is}
-use Rattle.frac128.proofs.Comparisons.{le-true}
 
 -- the least common multiple divided by one denominator is the other one divided by the greatest common divisor
 pub lcm-div : (b d : ℕ) → 0 < b → 0 < d → (lcm b d / b ≡ d / gcd b d) × (lcm b d / d ≡ b / gcd b d)
@@ -87,14 +87,14 @@ fits_reduced z m top bottom =
     rw (
       reduced_is z m,
       abs-signed (int_lt z (pos 0)) (unsigned_abs z / g),
-      le-true (unsigned_abs z / g) most low,
-      le-true (m / g) most high,
+      le-leb (unsigned_abs z / g) most low,
+      le-leb (m / g) most high,
     ) refl
 
 -- a sum in range over a denominator in range is their ratio
 pub sum_over-ratio : (m : ℕ) (z : ℤ) → 0 < m → m ≤ most → unsigned_abs z ≤ most → ratio z (pos m) ≡ sum_over m z
 sum_over-ratio zero z some low h = absurd (omega arith)
-sum_over-ratio (suc m) z some low h = rw (fits_reduced z (suc m) h low, le-true (unsigned_abs z) most h) refl
+sum_over-ratio (suc m) z some low h = rw (fits_reduced z (suc m) h low, le-leb (unsigned_abs z) most h) refl
 
 -- if the multiple is out of range, the step fails
 joined-multiple : (step : ℤ → ℤ → ℤ) (m : ℕ) (l r : ℤ) (e : FracFault) → Err e ≡ within_bounds (pos m)

@@ -10,6 +10,7 @@ use Rattle.std.proofs.Math.Nat.{div-le_self, le-mul_of_pos_right, mul_comm, mul-
 use Rattle.std.proofs.Math.Nat.{mul-div_cancel'}
 use Rattle.std.proofs.Math.Nat.{dvd-mul_left_of_dvd, zero-mul, le_refl, one-dvd, pow-le-pow_right}
 use Rattle.std.proofs.lemmas.Nat.Gcd.{le_of_dvd}
+use Rattle.std.proofs.lemmas.Bool.{le-leb}
 use Rattle.frac128.specs.declared.fault.FracFault.{FracFault}
 use Rattle.frac128.specs.declared.fault.FracFault.TheVariants.{Overflow}
 use Rattle.frac128.specs.Decimals.{times_power}
@@ -21,7 +22,6 @@ use Rattle.frac128.proofs.Euclid.{gcd_is, gcd-mul, gcd_some}
 use Rattle.frac128.proofs.Lowest.{cross-lowest, lowest-cross, lowest_gcd, lowest_self, lowest_some}
 use Rattle.frac128.proofs.Powers.{pow_some}
 use Rattle.frac128.proofs.Signs.{bottom_over, ratio-signed, top_over}
-use Rattle.frac128.proofs.Comparisons.{le-true}
 
 -- powers of ten up to the exponent 38 are at most `10 ^ 38`
 pub ten_power : (k : ℕ) → k ≤ 38 → 10 ^ k ≤ 10 ^ 38
@@ -54,7 +54,7 @@ coprime_one a = coprime_is a 1 (one-dvd a, one-dvd 1, λ d p q. q)
 
 -- a whole number in range is its ratio to 1
 pub whole_ratio : (n : ℕ) → n ≤ most → ratio (pos n) (pos 1) ≡ Ok (whole (pos n))
-whole_ratio n h = ratio_low n 1 n 1 (lit< tt) (lowest_self n 1 (lit< tt) (coprime_one n)) ∙ rw (le-true n most h) refl
+whole_ratio n h = ratio_low n 1 n 1 (lit< tt) (lowest_self n 1 (lit< tt) (coprime_one n)) ∙ rw (le-leb n most h) refl
 
 -- a product with too large a power of ten overflows
 pub wide_up : (n k : ℕ) → 0 < n → (k ≤ 38 → ⊥) → ratio (pos (n * 10 ^ k)) (pos 1) ≡ Err Overflow

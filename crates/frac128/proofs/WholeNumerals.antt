@@ -7,6 +7,7 @@ use Rattle.std.specs.List.{list_all, list_any}
 use Rattle.std.proofs.lemmas.Bool.Decides.{nat_tests}
 use Rattle.std.proofs.lemmas.Int.{ints}
 use Rattle.std.proofs.Math.Nat.{le-mul_of_pos_right, zero-mul}
+use Rattle.std.proofs.lemmas.Bool.{and_parts}
 use Rattle.frac128.specs.Decimals.{Decimal, DigitsLaw, coefficient_of, decimal_places, digits_number, digits_of}
 use Rattle.frac128.specs.Decimals.{end_zeros}
 use Rattle.frac128.specs.Decimals.{value_of_decimal}
@@ -20,11 +21,6 @@ use Rattle.frac128.proofs.Readings.{IsSplit, read_short}
 use Rattle.frac128.proofs.StageRuns.{digit_no_mark, digit_no_point}
 use Rattle.frac128.proofs.TenPowers.{whole_ratio, zero_power}
 
--- if the conjunction of two tests holds, both tests hold
-pub and_both_true : (x y : Bool) → (x && y) ≡ true → (x ≡ true) × (y ≡ true)
-and_both_true true y h = (refl, h)
-and_both_true false y h = absurd (cc)
-
 -- all bytes are digits
 abbrev pub all : List ℕ → Type 0
 all bs = list_all is_digit bs ≡ true
@@ -34,7 +30,7 @@ pub before_digits : (test : ℕ → Bool) (bs : List ℕ) → ((b : ℕ) → is_
     → prefix_until test bs ≡ bs
 before_digits test [] none h = refl
 before_digits test (b ∷ bs) none h =
-    let parts = and_both_true (is_digit b) (list_all is_digit bs) h in
+    let parts = and_parts (is_digit b) (list_all is_digit bs) h in
     rw (none b parts.0) (ap (λ xs. b ∷ xs) (before_digits test bs none parts.1))
 
 -- if no digit passes a test, the rest of digits from the first byte that passes on is empty
@@ -42,7 +38,7 @@ pub from_digits : (test : ℕ → Bool) (bs : List ℕ) → ((b : ℕ) → is_di
     → suffix_from test bs ≡ []
 from_digits test [] none h = refl
 from_digits test (b ∷ bs) none h =
-    let parts = and_both_true (is_digit b) (list_all is_digit bs) h in
+    let parts = and_parts (is_digit b) (list_all is_digit bs) h in
     rw (none b parts.0) (from_digits test bs none parts.1)
 
 -- digits alone are a numeral
@@ -50,7 +46,7 @@ pub digits_numeral : (bs : List ℕ) → 0 < length bs → all bs → is_numeral
 digits_numeral [] some h = absurd (omega arith)
 digits_numeral (b ∷ bs) some h =
     let ds = b ∷ bs in
-    let parts = and_both_true (is_digit b) (list_all is_digit bs) h in
+    let parts = and_parts (is_digit b) (list_all is_digit bs) h in
     ap (λ xs. is_mantissa xs && is_exponent_text (suffix_from is_mark_byte ds))
     (before_digits is_mark_byte ds digit_no_mark h)
     ∙ ap (λ xs. is_mantissa ds && is_exponent_text xs) (from_digits is_mark_byte ds digit_no_mark h)

@@ -4,7 +4,7 @@ use Rattle.std.proofs.Common.{None, refl, sym, ◌∙◌, ap, subst, inl, inr, a
 use Rattle.std.specs.List.{slice_get}
 use Rattle.std.proofs.lemmas.List.{length-map}
 use Rattle.std.proofs.lemmas.List.Elements.{Contains-append_left, Contains-append_right}
-use Rattle.std.proofs.lemmas.Option.{slice_get-get_or}
+use Rattle.std.proofs.lemmas.Option.{slice_get-get_or, same_Some, slice_get_within}
 use Rattle.expr_tree.specs.declared.word_list.WordUse.{WordUse}
 use Rattle.def_entry.specs.declared.key.Key.{Key}
 use Rattle.def_entry.specs.Tables.{Table}
@@ -20,7 +20,7 @@ use Rattle.live_table.specs.ExploredNames.{dead_end_fault, fault_at}
 use Rattle.live_table.specs.Exploration.{AreAdded, AreGrown, AreListed, AreWritten, IsKnown, IsMore}
 use Rattle.live_table.specs.Sound.{AreNumberedNames}
 use Rattle.live_table.specs.TableContents.{Listed, key_at}
-use Rattle.live_table.proofs.Places.{element, get_lt, some_same}
+use Rattle.live_table.proofs.Places.{element}
 
 -- ---- lists that grow
 pub more_length : {A : Type 0} (xs ys : List A) → IsMore xs ys → length xs ≤ length ys
@@ -35,7 +35,7 @@ take_more xs ys zero m h = refl
 take_more [] ys (suc k) m h = absurd (omega arith)
 take_more (x ∷ xs) [] (suc k) m h = let e : None ≡ Some x = m 0 x refl in cc
 take_more (x ∷ xs) (y ∷ ys) (suc k) m h =
-    let e : y ≡ x = some_same y x (m 0 x refl) in
+    let e : y ≡ x = same_Some y x (m 0 x refl) in
     let t : take k ys ≡ take k xs = take_more xs ys k (λ i z q. m (suc i) z q) (omega arith) in
     λ i. e i ∷ t i
 
@@ -55,7 +55,11 @@ key_read ks n h = slice_get-get_or ks n _ h
 
 -- a key that is found is that of its number
 pub key_found : (ks : List Key) (n : ℕ) (k : Key) → slice_get ks n ≡ Some k → (n < length ks) × (k ≡ key_at ks n)
-key_found ks n k e = (get_lt ks n k e, some_same k (key_at ks n) (sym e ∙ key_read ks n (get_lt ks n k e)))
+key_found ks n k e = (
+  slice_get_within ks n k e,
+  same_Some k (key_at ks n)
+      (sym e ∙ key_read ks n (slice_get_within ks n k e)),
+)
 
 -- numbers have the same keys when keys are added
 pub key_same : (ks ls : List Key) (n : ℕ) → IsMore ks ls → n < length ks → key_at ls n ≡ key_at ks n
@@ -104,7 +108,7 @@ module _ (t : Table) (key later : ℕ → Key) (ends other : ℕ → Option Key 
 pub settled_within : (t : Table) (l : Listed) → AreNumberedNames t l → (n : ℕ) → IsSettled l.settled_flags n
     → n < length l.keys
 settled_within t l nodes n e =
-    let a : n < length l.settled_flags = get_lt l.settled_flags n true e in
+    let a : n < length l.settled_flags = slice_get_within l.settled_flags n true e in
     let b : length l.settled_flags ≡ length l.outcomes = ap length nodes.marks_right ∙ length-map l.outcomes _ in
     let c : length l.outcomes ≡ length l.keys = nodes.outcome_count in omega arith
 

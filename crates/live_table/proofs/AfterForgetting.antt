@@ -5,6 +5,7 @@ use Rattle.std.proofs.Common.{Option, Some, None, is_some, get_or, refl, sym, �
 use Rattle.std.specs.List.{slice_get}
 use Rattle.std.proofs.lemmas.Bool.{cases_Bool, true≢false}
 use Rattle.std.proofs.lemmas.List.{length-map}
+use Rattle.std.proofs.lemmas.Option.{same_Some}
 use Rattle.expr_tree.specs.declared.word_list.WordUse.{WordUse}
 use Rattle.def_entry.specs.declared.key.Key.{Key}
 use Rattle.def_entry.specs.Entries.{Entry}
@@ -48,7 +49,6 @@ use Rattle.live_table.specs.TableContents.{Listed, kept_of, key_at, shown_table}
 use Rattle.live_table.proofs.Edits.{edit_follows, left_in}
 use Rattle.live_table.proofs.OutcomesByKey.{key_settled, marked_at}
 use Rattle.live_table.proofs.OutcomesRemoved.{AreTaken, kept_left}
-use Rattle.live_table.proofs.Places.{some_same}
 
 -- ---- lists
 same_lists : {A : Type 0} (xs ys : List A) → length xs ≡ length ys
@@ -57,7 +57,7 @@ same_lists [] [] e h = refl
 same_lists [] (y ∷ ys) e h = absurd (omega (arith, e))
 same_lists (x ∷ xs) [] e h = absurd (omega (arith, e))
 same_lists (x ∷ xs) (y ∷ ys) e h =
-    let first : x ≡ y = some_same x y (h 0 (omega arith)) in
+    let first : x ≡ y = same_Some x y (h 0 (omega arith)) in
     let rest : xs ≡ ys = same_lists xs ys (omega (arith, e)) (λ n l. h (suc n) (omega (arith, l))) in
     λ i. first i ∷ rest i
 
@@ -77,7 +77,7 @@ flag_settled (b ∷ bs) (suc n) e = flag_settled bs n e
 -- a settled number is flagged
 pub settled_flag : (bs : List Bool) (n : ℕ) → IsSettled bs n → is_flagged bs n ≡ true
 settled_flag [] n e = cc
-settled_flag (b ∷ bs) zero e = some_same b true e
+settled_flag (b ∷ bs) zero e = same_Some b true e
 settled_flag (b ∷ bs) (suc n) e = settled_flag bs n e
 
 -- ---- the steps of words whose lookup does not change
@@ -176,7 +176,7 @@ module _ (before after : Contents) (l m : Listed) (g h : NameGraph) (r : ℕ) (k
               (closed n (flag_of n o e))).1
               ((affected_is n (flag_of n o e)).0 i)) ∙ a),
         )))
-    left_some n o (Some p) e d false a = some_same (Some p) (Some o) (sym (f.numbers_left.outcomes n p d) ∙ e)
+    left_some n o (Some p) e d false a = same_Some (Some p) (Some o) (sym (f.numbers_left.outcomes n p d) ∙ e)
 
     left_none : (n : ℕ) (y : Option Outcome) → slice_get l.outcomes n ≡ Some None → slice_get m.outcomes n ≡ Some y
         → (b : Bool)

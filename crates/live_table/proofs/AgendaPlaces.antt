@@ -8,7 +8,7 @@ use Rattle.std.specs.Option.{option_map, unwrap_or}
 use Rattle.std.specs.Prelude.{MatchOption, SomeIff}
 use Rattle.std.proofs.lemmas.Bool.{cases_eq, false_from_ne_true}
 use Rattle.std.proofs.lemmas.List.{take_all}
-use Rattle.std.proofs.lemmas.Option.{get_or_from_slice_get}
+use Rattle.std.proofs.lemmas.Option.{get_or_from_slice_get, same_Some, slice_get_within}
 use Rattle.std.proofs.lemmas.Cmp.{nat_eq_equiv}
 use Rattle.std.proofs.lemmas.Map.Keys.{IsDistinct-push}
 use Rattle.name_walk.specs.Faults.{is_on_path}
@@ -17,14 +17,14 @@ use Rattle.name_walk.proofs.Marks.{get_set_other, get_set_same}
 use Rattle.name_walk.proofs.Members.{member_on_path, on_path_member}
 use Rattle.live_table.specs.Agendas.{AreSamePlaces, IsPlaced}
 use Rattle.live_table.proofs.AddedNames.{push_more}
-use Rattle.live_table.proofs.Places.{get_last, get_lt, get_pushed, place_in, some_same}
+use Rattle.live_table.proofs.Places.{get_last, get_pushed, place_in}
 use Rattle.table_names.proofs.Members.{member_at}
 
 -- a place in a longer table was there before
 in_front : (places : List ℕ) (k m i : ℕ) → slice_get (places ++ replicate k 0) m ≡ Some (i + 1)
     → slice_get places m ≡ Some (i + 1)
 in_front [] zero m i e = cc
-in_front [] (suc k) zero i e = absurd (let z : 0 ≡ i + 1 = some_same 0 (i + 1) e in omega (arith, z))
+in_front [] (suc k) zero i e = absurd (let z : 0 ≡ i + 1 = same_Some 0 (i + 1) e in omega (arith, z))
 in_front [] (suc k) (suc m) i e = in_front [] k m i e
 in_front (p ∷ places) k zero i e = e
 in_front (p ∷ places) k (suc m) i e = in_front places k m i e
@@ -101,7 +101,7 @@ placed_put places numbers n kept k h new m = record {
     to : (q i : ℕ) → slice_get (set places n kept) q ≡ Some (i + 1) → slice_get (numbers ++ n ∷ []) i ≡ Some q
     to q i e = elim (cases_eq q n) [
       | inl s ↦
-          let own : kept ≡ i + 1 = some_same kept (i + 1)
+          let own : kept ≡ i + 1 = same_Some kept (i + 1)
           (sym (ap (slice_get (set places n kept)) s ∙ get_set_same places n kept h) ∙ e) in
           let last : i ≡ length numbers = omega (arith, own, k) in
           ap (slice_get (numbers ++ n ∷ [])) last ∙ (get_last numbers n ∙ ap Some (sym s))
@@ -131,7 +131,7 @@ placed_popped places numbers n h m = record {
     to : (q i : ℕ) → slice_get (set places n 0) q ≡ Some (i + 1) → slice_get numbers i ≡ Some q
     to q i e = elim (cases_eq q n) [
       | inl s ↦
-          let z : 0 ≡ i + 1 = some_same 0 (i + 1)
+          let z : 0 ≡ i + 1 = same_Some 0 (i + 1)
           (sym (ap (slice_get (set places n 0)) s ∙ get_set_same places n 0 h) ∙ e) in
           absurd (omega (arith, z))
       | inr ne ↦ elim (get_pushed numbers n i q ((m.places_match q i).0 (sym (get_set_other places n q 0 ne) ∙ e))) [
@@ -150,4 +150,4 @@ placed_popped places numbers n h m = record {
 -- a number that is there has room for its place
 pub place_kept : (places numbers : List ℕ) (n : ℕ) → IsPlaced places (numbers ++ n ∷ []) → n < length places
 place_kept places numbers n m =
-    get_lt places n (length numbers + 1) ((m.places_match n (length numbers)).1 (get_last numbers n))
+    slice_get_within places n (length numbers + 1) ((m.places_match n (length numbers)).1 (get_last numbers n))

@@ -1,8 +1,8 @@
 -- All names below a query are explored: each known name has a number, its steps and its looks.
-use Rattle.std.proofs.Common.{◌≡◌, ◌<◌, ◌||◌, ℕ, Bool, true, false, List, [], length, Option, Some, None, refl, ap}
+use Rattle.std.proofs.Common.{◌≡◌, ◌<◌, ◌||◌, ℕ, Bool, true, List, [], length, Option, Some, None, ap}
 use Rattle.std.proofs.Common.{inl, inr, arith, Contains}
 use Rattle.std.specs.List.{slice_get}
-use Rattle.std.proofs.lemmas.Bool.{or_cases}
+use Rattle.std.proofs.lemmas.Bool.{or_cases, or_left, or_right}
 use Rattle.def_entry.specs.Tables.{Table, is_present}
 use Rattle.name_walk.specs.declared.step.Step.TheVariants.{To}
 use Rattle.name_walk.specs.Faults.{is_on_path}
@@ -22,16 +22,6 @@ use Rattle.live_table.proofs.AddedNames.{known_within}
 is_flag : (o : Option Bool) → is_some_true o ≡ true → o ≡ Some true
 is_flag None e = cc
 is_flag (Some b) e = ap Some e
-
--- a disjunction holds if the first test does
-or_left : (a b : Bool) → a ≡ true → (a || b) ≡ true
-or_left true b e = refl
-or_left false b e = cc
-
--- a disjunction holds if the second test does
-or_right : (a b : Bool) → b ≡ true → (a || b) ≡ true
-or_right true b e = refl
-or_right false b e = e
 
 -- a number that is found to be known is known
 pub from_known : (l : Listed) (before list : List ℕ) (n : ℕ) → is_known l.settled_flags before list n ≡ true

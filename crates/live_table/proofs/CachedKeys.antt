@@ -2,6 +2,7 @@
 use Rattle.std.proofs.Common.{◌≡◌, ℕ, false, Option, Some, None, sym, ◌∙◌, ap}
 use Rattle.std.specs.FinMap as map_of
 use Rattle.std.specs.List.{slice_get}
+use Rattle.std.proofs.lemmas.Option.{same_Some}
 use Rattle.deck.specs.Decks.{Contents}
 use Rattle.deck.specs.Tables.{table as deck_table}
 use Rattle.def_entry.specs.declared.key.Key.{Key}
@@ -15,7 +16,6 @@ use Rattle.live_table.specs.TableContents.{Listed, kept_of, shown_table}
 use Rattle.live_table.proofs.AddedNames.{key_found}
 use Rattle.live_table.proofs.OutcomesByKey.{absent, kept_at}
 use Rattle.live_table.proofs.LastName.{not_there}
-use Rattle.live_table.proofs.Places.{some_same}
 
 module _ (table : Table) (l : Listed) (nodes : AreNumberedNames table l) (k : Key) where
   -- the outcome at the number of a key is stored for the key
@@ -23,7 +23,7 @@ module _ (table : Table) (l : Listed) (nodes : AreNumberedNames table l) (k : Ke
       → o ≡ map_of.get (kept_of l.keys l.outcomes) k
   stored_for_key n o e f =
       let p = key_found l.keys n k e in
-      some_same o (map_of.get (kept_of l.keys l.outcomes) k)
+      same_Some o (map_of.get (kept_of l.keys l.outcomes) k)
       (sym f ∙ (kept_at l.keys l.outcomes n nodes.numbers_apart p.0 nodes.outcome_count
       ∙ ap (λ (x : Key). Some (map_of.get (kept_of l.keys l.outcomes) x)) (sym p.1)))
 

@@ -3,6 +3,7 @@ use Rattle.std.proofs.Common.{◌≡◌, ◌+◌, ℕ, List, [], ◌∷◌, Bool
 use Rattle.std.proofs.Common.{reverse, Option, Some, None, Result, Ok, Err, refl, sym, ap, subst, ◌∙◌}
 use Rattle.std.specs.List.{AllByRecursion}
 use Rattle.std.proofs.lemmas.List.{reverse-append}
+use Rattle.std.proofs.lemmas.Option.{same_Some}
 use Rattle.def_lines.specs.Kinds as line
 use Rattle.def_lines.specs.Kinds.{Kind, kind_of}
 use Rattle.def_entry.specs.declared.fault.EntryFault.{EntryFault}
@@ -10,6 +11,7 @@ use Rattle.def_entry.specs.declared.key.Key.{Key}
 use Rattle.def_entry.specs.Entries.{Entry}
 use Rattle.def_entry.specs.EntryReading.{entry_of}
 use Rattle.def_entry.specs.SameKeys.{is_same}
+use Rattle.def_entry.proofs.SameKeys.{same_keys}
 use Rattle.deck_lines.specs.declared.line.DeckLine.{DeckLine}
 use Rattle.deck_lines.specs.Readings.{defined_by, entry_in, of_entry, reading_by, reading_of}
 use Rattle.deck.specs.Active.{active_lines}
@@ -17,14 +19,12 @@ use Rattle.deck.specs.Decks.{Contents}
 use Rattle.deck.specs.Tables.{Definitions, active_definitions, definition_by, definitions_from, entry_at, table}
 use Rattle.deck.specs.Tables.{table_of}
 use Rattle.table_names.specs.Kinds.{FitsKinds, may_say}
-use Rattle.table_names.proofs.KeyLists.{one_key}
 use Rattle.table_names.proofs.LineKinds.{line_says}
 use Rattle.name_walk.proofs.Lists.{all_append}
-use Rattle.live_table.proofs.Places.{some_same}
 
 -- ---- a line that defines a key has its entry
 of_line : (r : Result (Key × Entry) EntryFault) (p : Key × Entry) → defined_by (of_entry r) ≡ Some p → r ≡ Ok p
-of_line (Ok q) p e = ap Ok (some_same q p e)
+of_line (Ok q) p e = ap Ok (same_Some q p e)
 of_line (Err fault) p e = cc
 
 -- the definition of a reading is the entry of its text
@@ -95,8 +95,8 @@ found_fits (d ∷ ds) h k e q = by (found_fits ds h.1 k e) (is_same k d.0) refl
     by : (entry_at (table_of ds) k ≡ Some e → may_say k.kind e.what ≡ true) → (b : Bool) → is_same k d.0 ≡ b
         → may_say k.kind e.what ≡ true
     by rest true s =
-        let is : d.1.1 ≡ e = some_same d.1.1 e (sym (ap (λ b. cond b (Some d.1.1) (entry_at (table_of ds) k)) s) ∙ q) in
-        let key : k ≡ d.0 = one_key k d.0 s in
+        let is : d.1.1 ≡ e = same_Some d.1.1 e (sym (ap (λ b. cond b (Some d.1.1) (entry_at (table_of ds) k)) s) ∙ q) in
+        let key : k ≡ d.0 = (same_keys k d.0).0 s in
         subst (λ (x : Key). may_say x.kind e.what ≡ true) (sym key)
         (subst (λ (x : Entry). may_say d.0.kind x.what ≡ true) is h.0)
     by rest false s = rest (sym (ap (λ b. cond b (Some d.1.1) (entry_at (table_of ds) k)) s) ∙ q)

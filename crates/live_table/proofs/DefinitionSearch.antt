@@ -3,6 +3,7 @@ use Rattle.std.proofs.Common.{◌≡◌, ◌+◌, ◌<◌, ℕ, List, [], ◌∷
 use Rattle.std.proofs.Common.{inr, arith, length-append}
 use Rattle.std.specs.Borrow.{Bor}
 use Rattle.std.specs.List.{slice_get}
+use Rattle.std.proofs.lemmas.Option.{same_Some, slice_get_within}
 use Rattle.expr_tree.specs.declared.word_list.WordUse.{WordUse}
 use Rattle.def_entry.specs.declared.entry.What.{What as MadeWhat}
 use Rattle.def_entry.specs.declared.key.Key.{Key}
@@ -18,7 +19,7 @@ use Rattle.live_table.specs.Exploration.{AreGrown, AreListed, IsMore}
 use Rattle.live_table.specs.FoundDefinitions.{AreFoundByNumber, HasEntry}
 use Rattle.live_table.specs.TableContents.{Listed, key_at}
 use Rattle.live_table.proofs.AddedNames.{key_same}
-use Rattle.live_table.proofs.Places.{element, get_lt, get_pushed, some_same}
+use Rattle.live_table.proofs.Places.{element, get_pushed}
 
 -- the words of the definition of a key are those of the key
 pub said_words : (t : Table) (k : Key) (what : What) (us : List WordUse) (begins : PartStarts) → HasEntry t k what
@@ -27,7 +28,7 @@ said_words t k what us begins says m = record {
   words = m.words ∙ sym (ap entry_words says.1 ∙ ap what_words says.2);
   part_starts = λ e at p. m.part_starts p
       ∙ ap (λ (w : What). start_of w p) (sym says.2 ∙ ap (λ (x : Entry). x.what)
-      (some_same says.0 e (sym says.1 ∙ at)));
+      (same_Some says.0 e (sym says.1 ∙ at)));
 }
 
 -- ---- the state of processing the names
@@ -45,7 +46,7 @@ same_place : (list there : List ℕ) (i n : ℕ) → IsMore list there → i < l
     → slice_get list i ≡ Some n
 same_place list there i n more h at =
     let s = element list i h in
-    s.1 ∙ ap Some (some_same s.0 n (sym (more i s.0 s.1) ∙ at))
+    s.1 ∙ ap Some (same_Some s.0 n (sym (more i s.0 s.1) ∙ at))
 
 module _ (t : Table) (l m : Listed) (before list there : List ℕ) (ends more : List DeadEnd)
     (found : List (Bor MadeWhat)) (place n : ℕ) (what : Bor MadeWhat) (listed : AreListed t l before list)
@@ -60,15 +61,15 @@ module _ (t : Table) (l m : Listed) (before list there : List ℕ) (ends more : 
     | inr last ↦
         let here : slice_get list i ≡ Some n = (let e : i ≡ place = last.0 ∙ s.count in ap (slice_get list) e ∙ is) in
         subst (λ (p : ℕ × Bor MadeWhat). HasEntry t (key_at l.keys p.0) (what_view p.1.now))
-        (λ j. (some_same n k (sym here ∙ at) j, last.1 j)) says
+        (λ j. (same_Some n k (sym here ∙ at) j, last.1 j)) says
   ]
 
   enough : (i : ℕ) (w : Bor MadeWhat) → slice_get (found ++ what ∷ []) i ≡ Some w → i < length list
   enough i w got =
-      let a : i < length (found ++ what ∷ []) = get_lt (found ++ what ∷ []) i w got in
+      let a : i < length (found ++ what ∷ []) = slice_get_within (found ++ what ∷ []) i w got in
       let b : length (found ++ what ∷ []) ≡ length found + 1 = length-append found (what ∷ []) in
       let c : length found ≡ place = s.count in
-      let d : place < length list = get_lt list place n is in
+      let d : place < length list = slice_get_within list place n is in
       omega (arith, a, b, c, d)
 
   pub finding_next : IsFinding t m.keys there (found ++ what ∷ []) (place + 1)

@@ -5,7 +5,7 @@ use Rattle.std.proofs.Common.{Option, Some, refl, sym, ◌∙◌, ap, subst, inl
 use Rattle.std.specs.List.{slice_get}
 use Rattle.std.proofs.lemmas.Bool.{cases_Bool, true≢false}
 use Rattle.std.proofs.lemmas.List.{length-set}
-use Rattle.std.proofs.lemmas.Option.{slice_get-get_or}
+use Rattle.std.proofs.lemmas.Option.{slice_get-get_or, same_Some, slice_get_within}
 use Rattle.std.proofs.lemmas.List.Elements.{Contains-append_cases, Contains-append_left, Contains-append_right}
 use Rattle.def_entry.specs.declared.key.Key.{Key}
 use Rattle.def_entry.specs.SameKeys.{is_key_among}
@@ -23,7 +23,6 @@ use Rattle.live_table.specs.TableEdges.{is_flagged}
 use Rattle.live_table.specs.Forgotten.{AreFlaggedAnew, AreForgotten, CanForget, IsRest}
 use Rattle.live_table.specs.OutcomesLeft.{AreNumbersLeft, left_at_first, left_on}
 use Rattle.live_table.specs.TableContents.{Listed, key_at}
-use Rattle.live_table.proofs.Places.{get_lt, some_same}
 
 -- an empty change affects no name
 no_key : (g : NameGraph) (n : ℕ) → AreAffected g [] n → ⊥
@@ -139,10 +138,10 @@ module _ (t : Table) (k : Key) (l : Listed) (n : ℕ) (found : slice_get l.keys 
     (apart : (i j : ℕ) → i < length l.keys → j < length l.keys → key_at l.keys i ≡ key_at l.keys j → i ≡ j)
     (sizes : length l.entry_flags ≡ length l.keys) (b : Bool) (flag : b ≡ is_present t k) where
   there : n < length l.keys
-  there = get_lt l.keys n k found
+  there = slice_get_within l.keys n k found
 
   its_key : key_at l.keys n ≡ k
-  its_key = some_same (key_at l.keys n) k (sym (slice_get-get_or l.keys n _ there) ∙ found)
+  its_key = same_Some (key_at l.keys n) k (sym (slice_get-get_or l.keys n _ there) ∙ found)
 
   only : (i : ℕ) → i < length l.keys → Contains (k ∷ []) (key_at l.keys i) → i ≡ n
   only i s c = elim (member_cases (key_at l.keys i) k [] c) [
@@ -248,7 +247,7 @@ absent_forgotten t k l g few absent = none_forgotten t l g (k ∷ []) none few
 -- ---- keys in turn
 pub take_next : (ks : List Key) (i : ℕ) (k : Key) → slice_get ks i ≡ Some k → take (i + 1) ks ≡ take i ks ++ k ∷ []
 take_next [] i k e = cc
-take_next (x ∷ ks) zero k e = ap (λ (z : Key). z ∷ []) (some_same x k e)
+take_next (x ∷ ks) zero k e = ap (λ (z : Key). z ∷ []) (same_Some x k e)
 take_next (x ∷ ks) (suc i) k e = ap (λ n. take n (x ∷ ks)) (later i) ∙ ap (λ zs. x ∷ zs) (take_next ks i k e)
   where
     later : (i : ℕ) → suc i + 1 ≡ suc (i + 1)

@@ -11,6 +11,7 @@ use Rattle.std.proofs.lemmas.Bool.{false_from_ne_true}
 use Rattle.std.proofs.lemmas.List.{map-append}
 use Rattle.std.proofs.lemmas.List.Quantifiers.{position-Some}
 use Rattle.std.proofs.lemmas.Option.{slice_get-get_or, slice_get-map}
+use Rattle.std.proofs.lemmas.List.Elements.{All-tail}
 use Rattle.indexmap.specs.IndexSet.{insert_key}
 use Rattle.def_entry.specs.declared.key.Key.{Key}
 use Rattle.def_entry.specs.declared.key.Kind.{Kind}
@@ -24,15 +25,12 @@ use Rattle.live_table.specs.KeyIndex.{IsAdded, IsStoredKey, decoded_key, decoded
 all_head : {A : Type 0} (P : A → Type 0) (x : A) (xs : List A) → All P (x ∷ xs) → P x
 all_head P x xs h = h 0 x (omega arith)
 
-all_tail : {A : Type 0} (P : A → Type 0) (x : A) (xs : List A) → All P (x ∷ xs) → All P xs
-all_tail P x xs h = λ k d lt. h (suc k) d (omega arith)
-
 all_push : {A : Type 0} (P : A → Type 0) (xs : List A) (x : A) → All P xs → P x → (k : ℕ) (d : A)
     → k < length (xs ++ x ∷ []) → P (slice_index_or (xs ++ x ∷ []) k d)
 all_push P [] x h p zero d lt = p
 all_push P [] x h p (suc k) d lt = absurd (omega arith)
 all_push P (y ∷ xs) x h p zero d lt = all_head P y xs h
-all_push P (y ∷ xs) x h p (suc k) d lt = all_push P xs x (all_tail P y xs h) p k d (omega arith)
+all_push P (y ∷ xs) x h p (suc k) d lt = all_push P xs x (All-tail P y xs h) p k d (omega arith)
 
 -- ---- a key in the form of bytes
 -- kinds have the same number exactly if they are equal
@@ -80,7 +78,7 @@ module _ (room : ℕ) where
       (all_head (IsStoredKey room) s ss h).0 in
       let there : list_any (λ s. bytes_eq (key_bytes k) s.items) ss ≡ is_key_among (decoded_keys ss) k =
       among_stored ss k
-      (all_tail (IsStoredKey room) s ss h) in
+      (All-tail (IsStoredKey room) s ss h) in
       λ i. here i || there i
 
   -- a key is among the keys exactly if equal bytes are among theirs
@@ -92,7 +90,7 @@ module _ (room : ℕ) where
   pub too_long : (ss : List (SmallVec ℕ)) (k : Key) → All (IsStoredKey room) ss → room ≤ length k.name
       → is_key_among (decoded_keys ss) k ≡ false
   too_long [] k h le = refl
-  too_long (s ∷ ss) k h le = λ i. other i || too_long ss k (all_tail (IsStoredKey room) s ss h) le i
+  too_long (s ∷ ss) k h le = λ i. other i || too_long ss k (All-tail (IsStoredKey room) s ss h) le i
     where
       other : is_same k (decoded_key s.items) ≡ false
       other = false_from_ne_true (is_same k (decoded_key s.items))

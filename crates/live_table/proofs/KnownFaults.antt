@@ -6,6 +6,7 @@ use Rattle.std.specs.Prelude.{Result, Ok, Err, IfOk, Option, None}
 use Rattle.std.specs.declared.alloc.AllocError.{AllocError}
 use Rattle.std.specs.List.{slice_get}
 use Rattle.std.proofs.lemmas.Bool.{cases_eq}
+use Rattle.std.proofs.lemmas.Option.{slice_get_within}
 use Rattle.def_entry.specs.Tables.{Table}
 use Rattle.name_walk.specs.declared.step.Step.{Step}
 use Rattle.name_walk.specs.ClosedNames.{IsSettled}
@@ -31,7 +32,7 @@ use Rattle.live_table.specs.Sound.{AreNumberedNames}
 use Rattle.live_table.specs.TableContents.{Listed}
 use Rattle.live_table.proofs.AllExplored.{from_known}
 use Rattle.live_table.proofs.AddedNames.{more_length}
-use Rattle.live_table.proofs.Places.{element, get_lt}
+use Rattle.live_table.proofs.Places.{element}
 use Rattle.table_names.proofs.Members.{no_member}
 
 -- without findings nothing is claimed
@@ -81,7 +82,8 @@ later_both l m k a b = record { graph = b.graph ∙ a.graph; settled_stay = λ n
 still_settled : (ss : List Bool) (n m : ℕ) → IsSettled ss m → IsSettled (set ss n true) m
 still_settled ss n m e = elim (cases_eq m n) [
   | inl q ↦
-      ap (slice_get (set ss n true)) q ∙ get_set_same ss n true (get_lt ss n true (ap (slice_get ss) (sym q) ∙ e))
+      ap (slice_get (set ss n true)) q
+      ∙ get_set_same ss n true (slice_get_within ss n true (ap (slice_get ss) (sym q) ∙ e))
   | inr ne ↦ get_set_other ss n m true ne ∙ e
 ]
 

@@ -1,6 +1,7 @@
 -- The steps of a word, by its lead.
 use Rattle.std.proofs.Common.{◌≡◌, ◌<◌, ◌++◌, ℕ, true, List, [], ◌∷◌, length, Some, None, refl, sym, subst, inl, inr}
 use Rattle.std.proofs.Common.{Contains}
+use Rattle.std.proofs.lemmas.Option.{same_Some}
 use Rattle.expr_tree.specs.declared.word_list.WordUse.{WordUse}
 use Rattle.def_entry.specs.declared.key.Key.{Key}
 use Rattle.def_entry.specs.Tables.{Table, is_present}
@@ -16,7 +17,6 @@ use Rattle.live_table.specs.WordTargets.{IsLead, IsQueryLead, is_refused_lead, n
 use Rattle.live_table.specs.Looks.{AreLooksPut}
 use Rattle.live_table.specs.TableContents.{Listed, key_at}
 use Rattle.live_table.proofs.LookedKeys.{looks_put, one_step, two_steps}
-use Rattle.live_table.proofs.Places.{some_same}
 use Rattle.live_table.proofs.WrittenSteps.{first_present, one_present, refused_written, second_present, two_written}
 use Rattle.live_table.proofs.WrittenSteps.{unknown_written}
 use Rattle.table_names.proofs.Members.{member_cases, member_first, member_later, no_member}
@@ -69,10 +69,10 @@ module _ (t : Table) (keys : List Key) (u : WordUse) where
   steps_looked old new Nowhere s h e = cc
   steps_looked old new (One n) s h e =
       let w : WordSteps = record { first = step.To n; second = step.To n } in
-      subst (Put old new) (sym (some_same s w e)) (looks_put t keys u (n ∷ []) old new _ h.1 (one_step n))
+      subst (Put old new) (sym (same_Some s w e)) (looks_put t keys u (n ∷ []) old new _ h.1 (one_step n))
   steps_looked old new (Two n m) s h e =
       let w : WordSteps = record { first = step.To n; second = step.To m } in
-      subst (Put old new) (sym (some_same s w e)) (looks_put t keys u (n ∷ m ∷ []) old new _ h.1 (two_steps n m))
+      subst (Put old new) (sym (same_Some s w e)) (looks_put t keys u (n ∷ m ∷ []) old new _ h.1 (two_steps n m))
 
 -- ---- the steps of a word
 module _ (t : Table) (l : Listed) (before list : List ℕ) (ends : List DeadEnd) (u : WordUse) where
@@ -86,12 +86,12 @@ module _ (t : Table) (l : Listed) (before list : List ℕ) (ends : List DeadEnd)
   steps_written Nowhere s h known e = cc
   steps_written (One n) s h known e =
       let w : WordSteps = record { first = step.To n; second = step.To n } in
-      subst Written (sym (some_same s w e))
+      subst Written (sym (same_Some s w e))
       (two_written t l before list u ends n n (ForOne n h.0 h.1) (known n (member_first n n [] refl))
       (known n (member_first n n [] refl)))
   steps_written (Two n m) s h known e =
       let w : WordSteps = record { first = step.To n; second = step.To m } in
-      subst Written (sym (some_same s w e))
+      subst Written (sym (same_Some s w e))
       (two_written t l before list u ends n m (ForTwo n m h.0 h.1) (known n (member_first n n (m ∷ []) refl))
       (known m (member_later m n (m ∷ []) (member_first m m [] refl))))
 

@@ -3,7 +3,7 @@ use Rattle.std.proofs.Common.{◌≡◌, ◌+◌, ◌*◌, ◌<◌, ◌||◌, �
 use Rattle.std.proofs.Common.{List, [], ◌∷◌, length, Contains, Option, Some, None, is_some}
 use Rattle.std.proofs.Common.{nat_eq, get_or, refl, sym, ap, subst, ◌∙◌, inl, inr, arith}
 use Rattle.std.specs.List.{slice_get}
-use Rattle.std.proofs.lemmas.Option.{get_or_from_slice_get}
+use Rattle.std.proofs.lemmas.Option.{get_or_from_slice_get, same_Some, slice_get_within}
 use Rattle.std.proofs.lemmas.Bool.{and_parts, and_from, eq-eqb, eqb-true, or_cases, or_right, true≢false}
 use Rattle.expr_tree.specs.declared.word_list.WordUse.{WordUse}
 use Rattle.def_entry.specs.declared.key.Key.{Key}
@@ -53,7 +53,7 @@ use Rattle.live_table.specs.EvalInvariants.{asked_words, scene}
 use Rattle.live_table.proofs.DeckTables.{fits_kinds}
 use Rattle.live_table.proofs.OutcomesByKey.{key_settled, right_outcome, settled_within}
 use Rattle.live_table.proofs.Parts.{IsStepped, part_stands, word_at}
-use Rattle.live_table.proofs.Places.{element, get_lt, some_same}
+use Rattle.live_table.proofs.Places.{element}
 use Rattle.live_table.proofs.ToldWords.{IsLedBy, callee_from, callee_name, callee_when, is_its_callee, settled_from}
 use Rattle.live_table.proofs.ToldWords.{settled_to, to_first}
 
@@ -174,7 +174,7 @@ module _ (deck : Contents) (l : Listed) (asked : Asked) (is : IsSurrounding deck
       let g : get_or l.outcomes n found ≡ Some (outcome (table deck) (key n)) =
       get_or_from_slice_get l.outcomes n (Some (outcome (table deck) (key n))) found h in
       subst (λ (x : Scene). o ≡ outcome (table x.deck) (key_at x.keys n)) seen
-      (some_same o (outcome (table deck) (key n)) (sym there ∙ (at ∙ g)))
+      (same_Some o (outcome (table deck) (key n)) (sym there ∙ (at ∙ g)))
 
   module _ (n : ℕ) (hand : is_at_hand s n ≡ true) (x : Entry) (entry : entry_at (table deck) (key n) ≡ Some x) where
     pub holds_words : HoldsWords (holder_words s) n x.what
@@ -317,7 +317,7 @@ module _ (deck : Contents) (l : Listed) (asked : Asked) (is : IsSurrounding deck
 -- the place of a word that leads to names is small
 pub led_place : (s : Scene) (us : List WordUse) (k : ℕ) (xs : List Step) (j : ℕ) → k < length us
     → ((u : WordUse) → slice_get us k ≡ Some u → IsLedBy s u xs j) → 2 * j < length xs
-led_place s us k xs j within each = let e = to_first s us k xs j within each in get_lt xs (2 * j) (To e.0) e.1
+led_place s us k xs j within each = let e = to_first s us k xs j within each in slice_get_within xs (2 * j) (To e.0) e.1
 
 -- the queried name is at hand
 pub name_hand : (deck : Contents) (l : Listed) (n : ℕ) → is_at_hand (scene deck l (subject.Name n)) n ≡ true

@@ -7,10 +7,10 @@ use Rattle.std.specs.Prelude.{count_by}
 use Rattle.std.proofs.lemmas.Bool.{cases_eq}
 use Rattle.std.proofs.lemmas.List.{length-set, map-set}
 use Rattle.std.proofs.lemmas.List.Sums.{length-filter}
+use Rattle.std.proofs.lemmas.Option.{slice_get_within}
 use Rattle.name_walk.proofs.Marks.{get_set_other, get_set_same}
 use Rattle.tree_eval.specs.declared.outcome.Outcome.{Outcome}
 use Rattle.live_table.specs.OutcomesLeft.{AreNumbersLeft}
-use Rattle.live_table.proofs.Places.{get_lt}
 
 -- a flag that is cleared is one fewer
 fewer : (bs : List Bool) (n : ℕ) → slice_get bs n ≡ Some true → length (filter (λ b. b) (set bs n false)) + 1 ≡ length
@@ -38,7 +38,7 @@ module _ (settled : List Bool) (count rest n : ℕ) (outcomes : List (Option Out
   none_else m o e = elim (cases_eq m n) [
     | inr ne ↦ sym (get_set_other outcomes n m None ne) ∙ e
     | inl q ↦
-        let s : n < length outcomes = size (get_lt (set outcomes n None) m (Some o) e) q in
+        let s : n < length outcomes = size (slice_get_within (set outcomes n None) m (Some o) e) q in
         let z : Some None ≡ Some (Some o) = sym (get_set_same outcomes n None s)
         ∙ (ap (slice_get (set outcomes n None)) (sym q) ∙ e) in cc
   ]

@@ -5,6 +5,7 @@ use Rattle.std.specs.FinMap as map_of
 use Rattle.std.specs.List.{slice_get}
 use Rattle.std.specs.Ordering.{eq_by_cmp}
 use Rattle.std.proofs.lemmas.List.{length-map}
+use Rattle.std.proofs.lemmas.Option.{same_Some, slice_get_within}
 use Rattle.def_entry.specs.declared.key.Key.{Key}
 use Rattle.def_entry.specs.KeyOrder.{key_cmp}
 use Rattle.def_entry.proofs.SameKeys.{key_order}
@@ -19,7 +20,6 @@ use Rattle.live_table.specs.Sound.{AreNumberedNames}
 use Rattle.live_table.specs.States.{Kept}
 use Rattle.live_table.specs.TableContents.{Listed, kept_of, key_at, onto, shown_table}
 use Rattle.live_table.proofs.Outcomes.{equal_keys_tie, one_key}
-use Rattle.live_table.proofs.Places.{get_lt, some_same}
 
 -- keys of different numbers differ
 abbrev pub AreApart : List Key → Type 0
@@ -68,7 +68,7 @@ pub put_at : (ks : List Key) (os : List (Option Outcome)) (n : ℕ) (o : Outcome
 put_at [] os n o a h e = absurd (omega arith)
 put_at (k ∷ ks) [] n o a h e = cc
 put_at (k ∷ ks) (x ∷ os) zero o a h e =
-    ap (λ (y : Option Outcome). map_of.insert (onto k y (kept_of ks os)) k o) (sym (some_same x None e))
+    ap (λ (y : Option Outcome). map_of.insert (onto k y (kept_of ks os)) k o) (sym (same_Some x None e))
 put_at (k ∷ ks) (x ∷ os) (suc n) o a h e =
     ap (onto k x) (put_at ks os n o (apart_tail k ks a) (omega arith) e)
     ∙ onto_swapped (kept_of ks os) k (key_at ks n) x o (first_apart k ks a n (omega arith))
@@ -111,7 +111,7 @@ kept_at (k ∷ ks) (x ∷ os) (suc n) a h e =
 pub marked_at : (os : List (Option Outcome)) (n : ℕ) (o : Option Outcome) → slice_get os n ≡ Some o
     → slice_get (map is_some os) n ≡ Some (is_some o)
 marked_at [] n o e = cc
-marked_at (x ∷ os) zero o e = ap (λ (y : Option Outcome). Some (is_some y)) (some_same x o e)
+marked_at (x ∷ os) zero o e = ap (λ (y : Option Outcome). Some (is_some y)) (same_Some x o e)
 marked_at (x ∷ os) (suc n) o e = marked_at os n o e
 
 -- if the mark of a number is not set, it has no outcome
@@ -139,13 +139,13 @@ module _ (deck : Contents) (l : Listed) (r : ℕ) (nodes : AreNumberedNames (tab
 
   pub settled_within : (n : ℕ) → IsSettled l.settled_flags n → n < length l.keys
   settled_within n e =
-      let a : n < length l.settled_flags = get_lt l.settled_flags n true e in
+      let a : n < length l.settled_flags = slice_get_within l.settled_flags n true e in
       let b : length l.settled_flags ≡ length l.keys = settled_count in omega arith
 
   pub key_settled : (n : ℕ) → IsSettled l.settled_flags n
       → right_of.IsKeySettled (state_with_steps (shown_table deck l r) 0)
       (key_at l.keys n)
-  key_settled n e = some_same _ true (sym (mark_is n (settled_within n e)) ∙ e)
+  key_settled n e = same_Some _ true (sym (mark_is n (settled_within n e)) ∙ e)
 
   pub number_settled : (n : ℕ) → n < length l.keys → right_of.IsKeySettled (state_with_steps (shown_table deck l r) 0)
       (key_at l.keys n)

@@ -2,17 +2,9 @@
 use Rattle.std.proofs.Common.{◌≡◌, ◌⊎◌, ◌<◌, ℕ, zero, suc, List, [], ◌∷◌, ◌++◌, length, Some, refl, ap, inl, inr}
 use Rattle.std.proofs.Common.{arith, Contains}
 use Rattle.std.specs.List.{slice_get}
-use Rattle.std.proofs.lemmas.Option.{slice_get-get_or}
+use Rattle.std.proofs.lemmas.Option.{slice_get-get_or, same_Some}
 
 module _ {A : Type 0} where
-  pub some_same : (x y : A) → Some x ≡ Some y → x ≡ y
-  some_same x y e = cc
-
-  pub get_lt : (xs : List A) (n : ℕ) (x : A) → slice_get xs n ≡ Some x → n < length xs
-  get_lt [] n x e = cc
-  get_lt (y ∷ xs) zero x e = omega arith
-  get_lt (y ∷ xs) (suc n) x e = let a : n < length xs = get_lt xs n x e in omega arith
-
   pub element : (xs : List A) (k : ℕ) → k < length xs → (x : A) × (slice_get xs k ≡ Some x)
   element [] k h = absurd (omega arith)
   element (x ∷ xs) zero h = (x, refl)
@@ -30,7 +22,7 @@ module _ {A : Type 0} where
   -- an item of a list with one item appended was there before, or is the appended one
   pub get_pushed : (xs : List A) (y : A) (k : ℕ) (x : A) → slice_get (xs ++ y ∷ []) k ≡ Some x
       → (slice_get xs k ≡ Some x) ⊎ ((k ≡ length xs) × (y ≡ x))
-  get_pushed [] y zero x e = inr (refl, some_same y x e)
+  get_pushed [] y zero x e = inr (refl, same_Some y x e)
   get_pushed [] y (suc k) x e = cc
   get_pushed (z ∷ xs) y zero x e = inl e
   get_pushed (z ∷ xs) y (suc k) x e = elim (get_pushed xs y k x e) [ inl h ↦ inl h | inr h ↦ inr (ap suc h.0, h.1) ]

@@ -4,6 +4,7 @@ use Rattle.std.proofs.Common.{length, Option, Some, None, is_some, refl, sym, ap
 use Rattle.std.proofs.Common.{arith}
 use Rattle.std.proofs.lemmas.List.Elements.{Contains-append_right}
 use Rattle.std.specs.List.{slice_get}
+use Rattle.std.proofs.lemmas.Option.{same_Some}
 use Rattle.expr_tree.specs.declared.word_list.WordUse.{WordUse}
 use Rattle.def_entry.specs.declared.key.Key.{Key}
 use Rattle.def_entry.specs.Entries as what
@@ -38,7 +39,7 @@ use Rattle.live_table.specs.Sound.{IsSound}
 use Rattle.live_table.specs.TableContents.{Listed, key_at}
 use Rattle.live_table.specs.EvalInvariants.{AreSettledWords, IsSurrounding, scene}
 use Rattle.live_table.proofs.OutcomesByKey.{settled_within}
-use Rattle.live_table.proofs.Places.{element, some_same}
+use Rattle.live_table.proofs.Places.{element}
 use Rattle.live_table.proofs.SettleOne.{surrounded}
 use Rattle.live_table.proofs.NodeReports.{at_hand, key_settled_words, led_by, meaning_is, name_hand}
 use Rattle.live_table.proofs.ToldWords.{IsLedBy, first_same, not_both, not_callable, second_same, stands}
@@ -134,9 +135,9 @@ module _ (deck : Contents) (l : Listed) (asked : Asked) (is : IsSurrounding deck
   words_rank (v ∷ us) (x ∷ y ∷ xs) h =
       let first : IsLedBy s v (x ∷ y ∷ xs) 0 = led_by deck l asked is (v ∷ us) (x ∷ y ∷ xs) h 0 v refl in
       let e : step_rank l.callees (To first.n) ≡ step_rank l.callees x =
-      ap (step_rank l.callees) (sym (some_same x (To first.n) first.at_first)) in
+      ap (step_rank l.callees) (sym (same_Some x (To first.n) first.at_first)) in
       let f : step_rank l.callees (To first.m) ≡ step_rank l.callees y =
-      ap (step_rank l.callees) (sym (some_same y (To first.m) first.at_second)) in
+      ap (step_rank l.callees) (sym (same_Some y (To first.m) first.at_second)) in
       let w : rank_of_meaning (word_meaning (table deck) v) ≡ max (step_rank l.callees (To first.n))
       (step_rank l.callees (To first.m)) = word_rank v first.n first.m first.led in
       let r : greatest_rank (word_meaning (table deck)) us ≡ greatest_step_rank l.callees xs = words_rank us xs rest in

@@ -7,6 +7,7 @@ use Rattle.std.specs.List.{IsDistinct, slice_get}
 use Rattle.std.proofs.lemmas.Bool.{cases_eq, cases_lt, eq-eqb}
 use Rattle.std.proofs.lemmas.List.{get_or-set_other, get_or-set_same, length-set, take_all}
 use Rattle.std.proofs.lemmas.List.Elements.{Contains-push_cases}
+use Rattle.std.proofs.lemmas.Option.{same_Some, slice_get_within}
 use Rattle.def_entry.specs.declared.key.Key.{Key}
 use Rattle.def_entry.specs.Entries.{Entry}
 use Rattle.def_entry.specs.Tables.{Table, entry_at, is_present}
@@ -34,7 +35,6 @@ use Rattle.live_table.proofs.AddedNames.{grown_alone, grown_both, grown_none, in
 use Rattle.live_table.proofs.AddedNames.{more_length}
 use Rattle.live_table.proofs.AddedNames.{none_listed, take_more, written_more}
 use Rattle.live_table.proofs.LookedKeys.{looks_more}
-use Rattle.live_table.proofs.Places.{get_lt, some_same}
 
 -- ---- other steps of a name that is not settled
 steps_other : (g : Graph) (n m : ℕ) (v : List Step) → (m ≡ n → ⊥) → steps (set g n v) m ≡ steps g m
@@ -205,7 +205,7 @@ module _ (t : Table) (l m : Listed) (before here there : List ℕ) (ends more : 
   }
     where
       own : (callee : Callee) → slice_get (set m.callees n c) n ≡ Some callee → c ≡ callee
-      own callee is = some_same c callee (sym (get_set_same m.callees n c in_callees) ∙ is)
+      own callee is = same_Some c callee (sym (get_set_same m.callees n c in_callees) ∙ is)
 
 -- ---- written steps of a name stay written
 module _ (t : Table) (l m : Listed) (before here there : List ℕ) (ends more : List DeadEnd) (x : ℕ)
@@ -319,7 +319,7 @@ module _ (t : Table) (old now m : Listed) (before here list there : List ℕ) (e
       (same.steps x h ne) (same.callees x h ne) (same.looks x h ne) (s.gone x i)
 
   enough : place < length list
-  enough = get_lt list place n is
+  enough = slice_get_within list place n is
 
   taken : take (place + 1) there ≡ take place list ++ n ∷ []
   taken =

@@ -7,7 +7,7 @@ use Rattle.std.specs.List.{IsDistinct, slice_get}
 use Rattle.std.specs.Option.{is_none}
 use Rattle.std.proofs.lemmas.Bool.{cases_eq}
 use Rattle.std.proofs.lemmas.List.{length-set, map-set}
-use Rattle.std.proofs.lemmas.Option.{get_or_from_slice_get, slice_get-get_or}
+use Rattle.std.proofs.lemmas.Option.{get_or_from_slice_get, slice_get-get_or, same_Some, slice_get_within}
 use Rattle.expr_tree.specs.declared.word_list.WordUse.{WordUse}
 use Rattle.def_entry.specs.declared.key.Key.{Key}
 use Rattle.def_entry.specs.Entries.{Entry}
@@ -49,7 +49,7 @@ use Rattle.live_table.proofs.OutcomesByKey.{key_settled, no_outcome, number_sett
 use Rattle.live_table.proofs.New.{new_law}
 use Rattle.live_table.proofs.Events.{one_step}
 use Rattle.name_walk.proofs.Marks.{get_set_other, get_set_same}
-use Rattle.live_table.proofs.Places.{element, get_lt, some_same}
+use Rattle.live_table.proofs.Places.{element}
 use Rattle.live_table.proofs.NodeReports.{at_hand_settled, key_settled_words, led_by}
 use Rattle.live_table.proofs.ToldWords.{IsLedBy}
 
@@ -219,7 +219,7 @@ module _ (deck : Contents) (l : Listed) (r n : ℕ) (sound : IsSound deck l r) (
     set_there m e = elim (cases_eq m n) [
       | inl q ↦
           ap (slice_get (set l.settled_flags n true)) q ∙ get_set_same l.settled_flags n true
-          (get_lt l.settled_flags n false due.still_unsettled)
+          (slice_get_within l.settled_flags n false due.still_unsettled)
       | inr ne ↦ get_set_other l.settled_flags n m true ne ∙ e
     ]
 
@@ -251,13 +251,13 @@ module _ (deck : Contents) (l : Listed) (r n : ℕ) (sound : IsSound deck l r) (
 
     starts_of : (m : ℕ) → Known m → HasStartsOf (table deck) after m
     starts_of m (inl e) = subst (HasStartsOf (table deck) after) (sym e)
-        (λ x d entry at. subst (HasStarts x.what) (some_same c d (sym callee_there ∙ at)) (starts x entry))
+        (λ x d entry at. subst (HasStarts x.what) (same_Some c d (sym callee_there ∙ at)) (starts x entry))
     starts_of m (inr e) =
         λ x d entry at. sound.numbers.part_starts m e.1 x d entry (sym (get_set_other l.callees n m c e.0) ∙ at)
 
     rank_of : (m : ℕ) → Known m → HasRankOf (table deck) after m
     rank_of m (inl e) = subst (HasRankOf (table deck) after) (sym e)
-        (λ d at. subst (HasRank (key_meaning (table deck) the_key)) (some_same c d (sym callee_there ∙ at)) rank)
+        (λ d at. subst (HasRank (key_meaning (table deck) the_key)) (same_Some c d (sym callee_there ∙ at)) rank)
     rank_of m (inr e) = λ d at. sound.numbers.ranks m e.1 d (sym (get_set_other l.callees n m c e.0) ∙ at)
 
     looked_of : (m : ℕ) → Known m → HasLooksOf (table deck) l m

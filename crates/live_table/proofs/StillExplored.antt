@@ -3,6 +3,7 @@ use Rattle.std.proofs.Common.{◌≡◌, ◌⊎◌, ◌↔◌, ◌<◌, ℕ, tru
 use Rattle.std.proofs.Common.{inl, inr, Contains}
 use Rattle.std.specs.List.{slice_get}
 use Rattle.std.proofs.lemmas.Bool.{cases_eq}
+use Rattle.std.proofs.lemmas.Option.{same_Some, slice_get_within}
 use Rattle.def_entry.specs.declared.key.Key.{Key}
 use Rattle.def_entry.specs.Tables.{Table, is_present}
 use Rattle.name_walk.specs.ClosedNames.{IsSettled}
@@ -17,7 +18,7 @@ use Rattle.live_table.specs.Ranks.{with_rank}
 use Rattle.live_table.specs.Sound.{AreNumberedNames, HasStartsOf}
 use Rattle.live_table.specs.TableContents.{Listed}
 use Rattle.live_table.proofs.AddedNames.{grown_alone, key_same, none_listed}
-use Rattle.live_table.proofs.Places.{element, get_lt, some_same}
+use Rattle.live_table.proofs.Places.{element}
 use Rattle.live_table.proofs.ReachedNames.{still_written}
 use Rattle.table_names.proofs.Members.{no_member}
 
@@ -74,7 +75,7 @@ module _ (t : Table) (l : Listed) (n : ℕ) (o : Outcome) (rank : ℕ) (c : Call
     | inl q ↦
         ap (slice_get (set l.settled_flags n true)) q
         ∙ get_set_same l.settled_flags n true
-        (get_lt l.settled_flags n true (ap (slice_get l.settled_flags) (sym q) ∙ e))
+        (slice_get_within l.settled_flags n true (ap (slice_get l.settled_flags) (sym q) ∙ e))
     | inr ne ↦ get_set_other l.settled_flags n m true ne ∙ e
   ]
 
@@ -86,9 +87,9 @@ module _ (t : Table) (l : Listed) (n : ℕ) (o : Outcome) (rank : ℕ) (c : Call
   starts_after m h e callee entry is = elim (cases_eq m n) [
     | inl q ↦
         subst (HasStarts e.what)
-        (some_same (with_rank rank c) callee
+        (same_Some (with_rank rank c) callee
         (sym (ap (slice_get (set l.callees n (with_rank rank c))) q
-        ∙ get_set_same l.callees n (with_rank rank c) (get_lt l.callees n c at)) ∙ is))
+        ∙ get_set_same l.callees n (with_rank rank c) (slice_get_within l.callees n c at)) ∙ is))
         (h e c entry (ap (slice_get l.callees) q ∙ at))
     | inr ne ↦ h e callee entry (sym (get_set_other l.callees n m (with_rank rank c) ne) ∙ is)
   ]

@@ -2,6 +2,7 @@
 use Rattle.std.proofs.Common.{◌≡◌, ◌⊎◌, ℕ, List, [], ◌∷◌, Option, Some, None, refl, sym, ◌∙◌, ap, subst, inl, inr}
 use Rattle.std.specs.Prelude.{Result, Ok, Err, IfOk, OnErr, OnOk, option_map}
 use Rattle.std.specs.declared.alloc.AllocError.{AllocError}
+use Rattle.std.proofs.lemmas.Option.{same_Some}
 use Rattle.quantity.specs.Amount.{Amount}
 use Rattle.def_entry.specs.Tables.{Table}
 use Rattle.name_walk.specs.declared.step.Step.{Step}
@@ -27,7 +28,6 @@ use Rattle.live_table.specs.States.{Event}
 use Rattle.live_table.specs.Stops.{HoldsByName, IsCutStop, IsFaultBelow, IsNamedResult, IsStopFault}
 use Rattle.live_table.specs.TableContents.{Listed, key_at}
 use Rattle.live_table.proofs.QueryAnswers.{fault_answer, fault_query}
-use Rattle.live_table.proofs.Places.{some_same}
 use Rattle.live_table.proofs.QuerySequence.{query_answer}
 
 module _ {A : Type 0} (t : Table) (l : Listed) (ends : List DeadEnd) (fs : Faults)
@@ -130,7 +130,7 @@ module _ (t : Table) (l : Listed) (ends : List DeadEnd) (fs : Faults) where
       → IfOk r (λ f. (q : QueryFault) → IsStopFault t l ends fs stop q → q ≡ fault.Name f)
   below_named x stop e (Ok f) h =
       λ q is. let below = subst (λ (s : Stop). IsStopFault t l ends fs s q) e is in
-      below.query_fault ∙ ap fault.Name (some_same below.name f (sym below.fault_found ∙ h))
+      below.query_fault ∙ ap fault.Name (same_Some below.name f (sym below.fault_found ∙ h))
   below_named x stop e (Err z) h = h
 
 -- ---- a query that is cut before a word that leads nowhere

@@ -1,7 +1,7 @@
 -- Numbers for the keys that the lookup of a word tried.
 use Rattle.std.proofs.Common.{◌≡◌, ◌⊎◌, ◌↔◌, ◌-◌, ◌+◌, ◌<◌, ◌≤◌, ◌++◌, ◌∷◌, [], ℕ, zero, suc, cond, false, List, length}
 use Rattle.std.proofs.Common.{map, take, drop, Contains, refl, sym, ◌∙◌, ap, subst, inl, inr, arith}
-use Rattle.std.proofs.lemmas.List.{drop_all, length-drop, map-append, take-append-drop}
+use Rattle.std.proofs.lemmas.List.{drop_all, length-drop, map-append, take-append-drop, nil_from_length}
 use Rattle.std.proofs.lemmas.List.Elements.{Contains-append_left, Contains-append_right, Contains-push}
 use Rattle.std.proofs.lemmas.List.Elements.{Contains-push_cases, Contains-append_cases}
 use Rattle.expr_tree.specs.declared.word_list.WordKind.{WordKind}
@@ -185,10 +185,6 @@ found_by t u law w before tried kind text b k x f =
     (λ i. run (is_key_among (keys_of t)) (plan (k i) (x i))) ∙ law t u in
     subst (λ (p : List Key × Found). AreFound w p.0 tried p.1) (λ i. (b i, same i)) f
 
-none_there : (ks : List Key) → length ks ≡ 0 → ks ≡ []
-none_there [] e = refl
-none_there (k ∷ ks) e = absurd (omega (arith, e))
-
 module _ (t : Table) (u : WordUse) (w : Targets) (tried : List Key) (found : AreFound w [] tried (word_lookup t u))
   where
     targets_are : targets t u ≡ last_keys (target_count w) tried
@@ -205,7 +201,7 @@ module _ (t : Table) (u : WordUse) (w : Targets) (tried : List Key) (found : Are
 
     -- a word without targets leads nowhere
     pub none_found : target_count w ≡ 0 → targets t u ≡ []
-    none_found e = none_there (targets t u) (found.many ∙ e)
+    none_found e = nil_from_length (targets t u) (found.many ∙ e)
 
     -- the lead of a word of a query
     pub is_query_lead : (keys : List Key) (lead : Lead) → is_refused u.text ≡ false

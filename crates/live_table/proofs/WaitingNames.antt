@@ -5,6 +5,7 @@ use Rattle.std.specs.FinMap as map_of
 use Rattle.std.specs.Prelude.{if◌then◌else◌}
 use Rattle.std.proofs.lemmas.Bool.{cases_Bool, cases_lt, true≢false}
 use Rattle.std.proofs.lemmas.List.Elements.{Contains-append_left, Contains-push, Contains-push_cases}
+use Rattle.std.proofs.lemmas.Option.{slice_get_within}
 use Rattle.expr_tree.specs.declared.word_list.WordUse.{WordUse}
 use Rattle.def_entry.specs.declared.key.Key.{Key}
 use Rattle.def_entry.specs.Tables.{Table}
@@ -40,7 +41,6 @@ use Rattle.live_table.specs.TableContents.{Listed, kept_of, key_at, no_nodes}
 use Rattle.live_table.proofs.AfterForgetting.{flag_settled, settled_flag}
 use Rattle.live_table.proofs.AddedNames.{key_same, more_length}
 use Rattle.live_table.proofs.OutcomesByKey.{absent, key_settled, number_settled, settled_within}
-use Rattle.live_table.proofs.Places.{get_lt}
 
 -- ---- a name has its edges if it is settled and does not wait
 chosen : (b f : Bool) → (if b then false else f) ≡ true → (f ≡ true) × (b ≡ false)
@@ -236,7 +236,7 @@ module _ (deck : Contents) (l : Listed) (r n : ℕ) (sound : IsSound deck l r) (
         get_set_other l.settled_flags n m true (λ q. fresh (subst (IsSettled l.settled_flags) q was)) ∙ was
     settled_more m (inr e) =
         subst (IsSettled now) e
-        (get_set_same l.settled_flags n true (get_lt l.settled_flags n false due.still_unsettled))
+        (get_set_same l.settled_flags n true (slice_get_within l.settled_flags n false due.still_unsettled))
 
     -- the edges are still those of the other names
     pub waiting_edges : (o : Outcome) (c : Callee) → HasLateEdges deck (with_outcome n o c l) (waiting ++ n ∷ []) g

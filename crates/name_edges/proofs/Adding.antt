@@ -4,16 +4,16 @@ use Rattle.std.proofs.Common.{◌∷◌, ◌++◌, map}
 use Rattle.std.proofs.Common.{refl, sym, ◌∙◌, ap, inl, inr, arith}
 use Rattle.std.proofs.lemmas.Bool.{cases_eq, eq-eqb, ne_eqb}
 use Rattle.std.specs.Prelude.{◌&&◌}
+use Rattle.std.proofs.lemmas.Nat.{div-add-mod'}
 use Rattle.edge_links.specs.Edges.{Edge, edge, edge_count, SameEdges}
 use Rattle.name_edges.specs.Nodes.{edge_to, edges_to}
-use Rattle.name_edges.proofs.Halves.{node_of}
 use Rattle.edge_links.proofs.EdgeCounts.{count_append}
 use Rattle.name_edges.proofs.Linked.{one_other_key, one_other_user}
 use Rattle.name_edges.proofs.Nodes.{counted}
 
 -- the second node of a name is in range
 pub both_there : (k nodes : ℕ) → k < nodes / 2 → k * 2 + 1 < nodes
-both_there k nodes l = let e : nodes / 2 * 2 + nodes % 2 ≡ nodes = node_of nodes in omega (arith, l, e)
+both_there k nodes l = let e : nodes / 2 * 2 + nodes % 2 ≡ nodes = div-add-mod' nodes 2 in omega (arith, l, e)
 
 -- two counts of 0 add up to 0
 none_sum : (a b : ℕ) → a ≡ 0 → b ≡ 0 → a + b ≡ 0

@@ -13,10 +13,6 @@ node_name n r l = div-mul-add n 2 r l
 pub node_kind : (n r : ℕ) → r < 2 → (n * 2 + r) % 2 ≡ r
 node_kind n r l = mod-mul-add n 2 r l
 
--- each node is a node of its name
-pub node_of : (x : ℕ) → x / 2 * 2 + x % 2 ≡ x
-node_of x = div-add-mod' x 2
-
 -- a node is the node of a name with remainder r exactly if its half is the name and its remainder is r
 pub is_node : (x n r : ℕ) → r < 2 → nat_eq x (n * 2 + r) ≡ (nat_eq (x % 2) r && nat_eq (x / 2) n)
 is_node x n r l = elim (cases_eq x (n * 2 + r)) [
@@ -43,5 +39,5 @@ is_node x n r l = elim (cases_eq x (n * 2 + r)) [
     not_both : (x ≡ n * 2 + r → ⊥) → nat_eq (x % 2) r && nat_eq (x / 2) n ≡ false
     not_both ne = elim (cases_eq (x % 2) r) [
       | inr other ↦ none_left _ _ (ne_eqb (x % 2) r other)
-      | inl e ↦ none_right _ _ (ne_eqb (x / 2) n (λ f. ne (sym (node_of x) ∙ (λ i. f i * 2 + e i))))
+      | inl e ↦ none_right _ _ (ne_eqb (x / 2) n (λ f. ne (sym (div-add-mod' x 2) ∙ (λ i. f i * 2 + e i))))
     ]

@@ -2,12 +2,12 @@
 use Rattle.std.proofs.Common.{◌≡◌, ◌⊎◌, ℕ, ◌+◌, ◌<◌, ◌≤◌, List, [], ◌∷◌, ◌++◌, map, Contains, refl, sym, ◌∙◌, ap, subst}
 use Rattle.std.proofs.Common.{inl, inr, arith}
 use Rattle.std.proofs.Common.{cond, nat_eq, get_or, length, zero, suc, take}
-use Rattle.std.proofs.lemmas.Bool.{cases_eq, cond-true, cond-false, eq-eqb, ne_eqb}
-use Rattle.std.proofs.lemmas.List.{take_all}
+use Rattle.std.proofs.lemmas.Bool.{cases_eq, cond-true, cond-false, eq-eqb, ne_eqb, and_from, and_left, and_right}
+use Rattle.std.proofs.lemmas.List.{take_all, map_push}
 use Rattle.std.specs.Prelude.{◌&&◌}
 use Rattle.edge_links.specs.Edges.{Edge, edge, edge_count, SameEdges}
 use Rattle.edge_links.specs.Reach.{HasEdge}
-use Rattle.edge_links.proofs.EdgeCounts.{and_left, and_right, and_true, count_append}
+use Rattle.edge_links.proofs.EdgeCounts.{count_append}
 use Rattle.edge_links.proofs.Membership.{contains_cases, contains_first, contains_later, contains_none}
 use Rattle.name_edges.specs.Nodes.{edge_to}
 
@@ -17,7 +17,7 @@ one_count a b x y = cond (nat_eq a x && nat_eq b y) 1 0
 
 -- an edge is counted once between its own nodes
 pub one_self : (a b x y : ℕ) → a ≡ x → b ≡ y → one_count a b x y ≡ 1
-one_self a b x y e f = cond-true (nat_eq a x && nat_eq b y) 1 0 (and_true _ _ (eq-eqb a x e) (eq-eqb b y f))
+one_self a b x y e f = cond-true (nat_eq a x && nat_eq b y) 1 0 (and_from _ _ (eq-eqb a x e) (eq-eqb b y f))
 
 -- an edge is not counted from another user
 pub one_other_user : (a b x y : ℕ) → (a ≡ x → ⊥) → one_count a b x y ≡ 0
@@ -83,10 +83,6 @@ item_at [] n l = absurd (omega (arith, l))
 item_at (x ∷ keys) zero l = refl
 item_at (x ∷ keys) (suc n) l = item_at keys n (omega (arith, l))
 
--- the item at a place is a member
-pub item_in : (keys : List ℕ) (n : ℕ) → n < length keys → Contains keys (get_or keys n 0)
-item_in keys n l = (n, l, item_at keys n l)
-
 -- taking one more place appends the item at that place
 take_next : (keys : List ℕ) (n k : ℕ) → n < length keys → get_or keys n k ≡ k
     → take (n + 1) keys ≡ take n keys ++ k ∷ []
@@ -98,11 +94,6 @@ take_next (x ∷ keys) (suc n) k l e =
     one_later : (n : ℕ) → suc n + 1 ≡ suc (n + 1)
     one_later n = omega arith
 
--- mapping a list with one more item appends the image of that item
-map_behind : (f : ℕ → Edge) (keys : List ℕ) (k : ℕ) → map f (keys ++ k ∷ []) ≡ map f keys ++ f k ∷ []
-map_behind f [] k = refl
-map_behind f (x ∷ keys) k = ap (λ es. f x ∷ es) (map_behind f keys k)
-
 -- if edges to the first n keys are added, and then an edge to the next key, then edges to the first n + 1 keys are
 -- added
 pub one_linked : (r user : ℕ) (keys : List ℕ) (n : ℕ) → n < length keys → (old before now : List Edge) (x y : ℕ)
@@ -112,7 +103,7 @@ pub one_linked : (r user : ℕ) (keys : List ℕ) (n : ℕ) → n < length keys 
 one_linked r user keys n l old before now x y was is =
     sums _ _ _ _ _ _ is was
     (ap (λ es. edge_count es x y) (ap (map (edge_to r user)) (take_next keys n (get_or keys n 0) l (item_at keys n l))
-    ∙ map_behind (edge_to r user) (take n keys) (get_or keys n 0))
+    ∙ map_push (edge_to r user) (take n keys) (get_or keys n 0))
     ∙ count_append (map (edge_to r user) (take n keys)) (edge_to r user (get_or keys n 0) ∷ []) x y)
   where
     sums : (a b d f g h : ℕ) → a ≡ b + d → d ≡ f + g → h ≡ f + (b + 0) → a ≡ h + g

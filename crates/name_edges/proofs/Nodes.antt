@@ -4,6 +4,7 @@ use Rattle.std.proofs.Common.{refl, sym, ◌∙◌, ap, subst, inl, inr, arith}
 use Rattle.std.proofs.lemmas.Bool.{cases_eq}
 use Rattle.std.proofs.Math.Nat.{mod-lt}
 use Rattle.std.specs.Prelude.{◌&&◌}
+use Rattle.std.proofs.lemmas.Nat.{div-add-mod'}
 use Rattle.edge_links.specs.Edges.{Edge, edge, edge_count, EdgeGraph}
 use Rattle.edge_links.specs.Reach.{AreMarksCleared, HasEdge, NodeReaches, at_once, further}
 use Rattle.edge_links.specs.Reach as node
@@ -11,7 +12,7 @@ use Rattle.name_edges.specs.AffectedNames.{AreEdgesCut, ForgetsNames, IsAffected
 use Rattle.name_edges.specs.NameGraphs.{NameGraph}
 use Rattle.name_edges.specs.Nodes.{AreNodes, edges_to, name_graph}
 use Rattle.name_edges.proofs.Cutting.{IsBoth, cleared_on, cut_on, reached_before, reached_still, was_there}
-use Rattle.name_edges.proofs.Halves.{is_node, node_kind, node_name, node_of}
+use Rattle.name_edges.proofs.Halves.{is_node, node_kind, node_name}
 
 -- the number of a first node has remainder 0
 plain : (n : ℕ) → n * 2 + 0 ≡ n * 2
@@ -56,10 +57,10 @@ module _ (g : EdgeGraph) (nodes : AreNodes g) where
   -- the user of an edge is the first node of a name
   pub user_is : (x y : ℕ) → HasEdge g.edges x y → x ≡ x / 2 * 2
   user_is x y h = elim (cases_eq (x % 2) 0) [
-    | inl e ↦ sym (node_of x) ∙ (ap (λ r. x / 2 * 2 + r) e ∙ plain (x / 2))
+    | inl e ↦ sym (div-add-mod' x 2) ∙ (ap (λ r. x / 2 * 2 + r) e ∙ plain (x / 2))
     | inr ne ↦
         let one : x ≡ x / 2 * 2 + 1 =
-        sym (node_of x) ∙ ap (λ r. x / 2 * 2 + r) (only_one (x % 2) (mod_small x) ne) in
+        sym (div-add-mod' x 2) ∙ ap (λ r. x / 2 * 2 + r) (only_one (x % 2) (mod_small x) ne) in
         let z : edge_count g.edges x y ≡ 0 = ap (λ n. edge_count g.edges n y) one ∙ nodes.users (x / 2) y in
         absurd (omega (arith, h, z))
   ]

@@ -4,7 +4,7 @@ use Rattle.std.proofs.Common.{nat_eq, refl, sym, ◌∙◌, ap, inl, inr, None}
 use Rattle.std.specs.List.{AllByRecursion, IsDistinct, last_or}
 use Rattle.std.specs.Prelude.{option_map}
 use Rattle.std.proofs.lemmas.Bool.{cases_eq, eq-eqb, false_from_ne_true, ne_eqb}
-use Rattle.std.proofs.lemmas.List.{map-append}
+use Rattle.std.proofs.lemmas.List.{map_push}
 use Rattle.def_entry.specs.declared.key.Key.{Key}
 use Rattle.def_entry.specs.SameKeys.{SameKeysLaw, is_key_among, is_same}
 use Rattle.name_walk.specs.Faults.{from_name, is_on_path}
@@ -19,10 +19,6 @@ pub known_push :
     (known : ℕ → Bool) (p : List ℕ) (n : ℕ) → AllKnown known p → known n ≡ true → AllKnown known (p ++ n ∷ [])
 known_push known [] n ks k = (k, tt)
 known_push known (m ∷ p) n ks k = (ks.0, known_push known p n ks.1 k)
-
--- mapping numbers with one more appended appends its key
-pub map_push : (key : ℕ → Key) (p : List ℕ) (n : ℕ) → map key (p ++ n ∷ []) ≡ map key p ++ key n ∷ []
-map_push key p n = map-append key p (n ∷ [])
 
 -- the last key of a path is that of its last number
 pub same_last : (key : ℕ → Key) (p : List ℕ) → last_or None (map key p) ≡ option_map key (last_or None p)

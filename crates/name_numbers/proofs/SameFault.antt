@@ -6,6 +6,7 @@ use Rattle.std.specs.Option.{option_or}
 use Rattle.std.specs.Prelude.{option_map}
 use Rattle.std.specs.List.{last_or}
 use Rattle.std.proofs.lemmas.Bool.{cond-false, cond-true}
+use Rattle.std.proofs.lemmas.List.{map_push}
 use Rattle.expr_tree.specs.declared.word_list.WordUse.{WordUse}
 use Rattle.expr_tree.specs.Names.{is_refused}
 use Rattle.def_entry.specs.declared.key.Key.{Key}
@@ -30,7 +31,7 @@ use Rattle.table_names.proofs.Members.{member_cases, member_first, member_later,
 use Rattle.name_numbers.specs.FaultLaws.{NumberedFaultLaw}
 use Rattle.name_numbers.specs.NumberedNames.{AreNumbered, AreWords, LeadToKnown, fault_by_name}
 use Rattle.name_numbers.specs.NumberedNames.{ForOne, ForRefused, ForTwo, ForUnknown, IsWord}
-use Rattle.name_numbers.proofs.Paths.{AllKnown, known_push, map_push, same_chain, same_last, same_on}
+use Rattle.name_numbers.proofs.Paths.{AllKnown, known_push, same_chain, same_last, same_on}
 
 -- an option or else `None` is the option
 or_none : {A : Type 0} (o : Option A) → option_or o None ≡ o

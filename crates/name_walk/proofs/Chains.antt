@@ -1,7 +1,7 @@
 -- The chain of a cycle, as it is built.
 use Rattle.std.proofs.Common.{◌≡◌, ℕ, Bool, true, false, cond, ◌||◌, List, [], ◌∷◌, ◌++◌, refl, sym, ◌∙◌, ap, subst}
 use Rattle.std.proofs.Common.{inl, inr, nat_eq, append_assoc}
-use Rattle.std.proofs.lemmas.Bool.{eqb-true, eq-eqb, or_cases}
+use Rattle.std.proofs.lemmas.Bool.{eqb-true, eq-eqb, or_cases, or_parts}
 use Rattle.name_walk.specs.declared.traces.Frame.{Frame}
 use Rattle.name_walk.specs.Faults.{from_name, is_on_path}
 use Rattle.name_walk.specs.Traces.{path}
@@ -17,16 +17,6 @@ passed : {A : Type 0} (b e : Bool) (x y : A) → (b || e) ≡ false → cond b x
 passed true e x y h = cc
 passed false true x y h = cc
 passed false false x y h = refl
-
--- if neither of two tests holds, the first does not hold
-false_left : (b e : Bool) → (b || e) ≡ false → b ≡ false
-false_left true e h = h
-false_left false e h = refl
-
--- if neither of two tests holds, the second does not hold
-false_right : (b e : Bool) → (b || e) ≡ false → e ≡ false
-false_right true e h = cc
-false_right false e h = h
 
 module _ (again last : ℕ) where
   -- the names taken so far and the names from the remaining frames are together the wanted names; until the name
@@ -63,12 +53,12 @@ module _ (again last : ℕ) where
       other : nat_eq again f.name ≡ true → ⊥
       other q =
           let met : nat_eq f.name again ≡ true = eq-eqb f.name again (sym (eqb-true again f.name q)) in
-          let not : nat_eq f.name again ≡ false = false_right b (nat_eq f.name again) unmet in
+          let not : nat_eq f.name again ≡ false = (or_parts b (nat_eq f.name again) unmet).1 in
           cc
 
       still_ahead : is_on_path (path rest last) again ≡ true
       still_ahead = elim (or_cases b (is_on_path (path (f ∷ rest) last) again) h.ahead) [
-        | inl q ↦ absurd (let n : b ≡ false = false_left b (nat_eq f.name again) unmet in cc)
+        | inl q ↦ absurd (let n : b ≡ false = (or_parts b (nat_eq f.name again) unmet).0 in cc)
         | inr q ↦ elim (or_cases (nat_eq again f.name) (is_on_path (path rest last) again) q)
             [ inl o ↦ absurd (other o) | inr o ↦ o ]
       ]

@@ -3,7 +3,7 @@ use Rattle.std.proofs.Common.{◌≡◌, ℕ, Bool, List, [], ◌∷◌, ◌++�
 use Rattle.std.proofs.Common.{refl, sym, ◌∙◌, ap, subst, inl, inr, nat_eq, Contains, None}
 use Rattle.std.specs.List.{IsDistinct, slice_get, last_or}
 use Rattle.std.proofs.lemmas.Bool.{cond-true, cond-false, eq-eqb, ne_eqb}
-use Rattle.std.proofs.lemmas.Option.{slice_get_within}
+use Rattle.std.proofs.lemmas.Option.{slice_get_within, same_Some}
 use Rattle.std.proofs.lemmas.List.Elements.{Contains-append_right}
 use Rattle.name_walk.specs.declared.step.Step.{Step}
 use Rattle.name_walk.specs.declared.step.Step.TheVariants.{Nowhere, To}
@@ -17,16 +17,13 @@ use Rattle.name_walk.proofs.Distinct.{distinct_apart, distinct_back, split_at}
 use Rattle.name_walk.proofs.Trails.{all_faulty, dead_end_fault, follows_split, one_step, ring_fault}
 use Rattle.name_walk.proofs.Members.{member_cases, member_first, member_later, no_member}
 
-one_name : (a b : ℕ) → Some a ≡ Some b → a ≡ b
-one_name a b e = cc
-
 one_target : (a b : ℕ) → To a ≡ To b → a ≡ b
 one_target a b e = cc
 
 -- the last name of a list is a member of the list
 last_member : (ns : List ℕ) (e : ℕ) → last_or None ns ≡ Some e → Contains ns e
 last_member [] e h = absurd (cc)
-last_member (n ∷ []) e h = member_first e n [] (sym (one_name n e h))
+last_member (n ∷ []) e h = member_first e n [] (sym (same_Some n e h))
 last_member (n ∷ m ∷ ns) e h = member_later e n (m ∷ ns) (last_member (m ∷ ns) e h)
 
 -- the part of a list from a name on, if the name does not occur earlier
@@ -47,7 +44,7 @@ module _ (fs : Faults) where
   -- the last name of a way takes its last step
   last_goes : (n : ℕ) (ms : List ℕ) (x : Step) (e : ℕ) → FollowsFaults fs n ms x → last_or None (n ∷ ms) ≡ Some e
       → GoesBy fs e x
-  last_goes n [] x e h l = subst (λ (k : ℕ). GoesBy fs k x) (one_name n e l) h
+  last_goes n [] x e h l = subst (λ (k : ℕ). GoesBy fs k x) (same_Some n e l) h
   last_goes n (m ∷ ms) x e h l = last_goes m ms x e h.1 l
 
   -- each name of a way into a ring leads to a name

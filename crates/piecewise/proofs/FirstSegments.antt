@@ -15,6 +15,7 @@ use Rattle.piecewise.specs.Tables.{are_around, holds_x, holds_y, segments, x_at,
 use Rattle.piecewise.specs.Tables.{value_on}
 use Rattle.piecewise.specs.declared.fault.TableFault.TheVariants.{OutsideTable}
 use Rattle.std.proofs.lemmas.List.{get_or_default, get_or_read}
+use Rattle.std.proofs.lemmas.Bool.{and_right}
 use Rattle.piecewise.proofs.Neighbours.{AreNeighbours, and_both_hold, between-around, compared-reverse, drop-left}
 use Rattle.piecewise.proofs.Neighbours.{drop-right}
 
@@ -50,11 +51,6 @@ find-y_here points i p q y are around =
     ap (find (holds_y y)) (segments-left points i p q are)
     ∙ ap (λ b. cond b (Some (record { left_end = p; right_end = q })) (find (holds_y y) (segments (drop i points))))
     (between-around p.1 q.1 y ∙ around)
-
--- if the second test fails, so does the conjunction
-and-false : (a b : Bool) → b ≡ false → (a && b) ≡ false
-and-false true b h = h
-and-false false b h = refl
 
 -- an order that passes the test for less is `Less`
 less_is : (o : Ordering) → is_lt o ≡ true → o ≡ Less
@@ -163,7 +159,7 @@ find-x_more : (x : Fraction) (p q : Point) (points : List Point) → is_left x q
     → find (holds_x x) (segments (p ∷ q ∷ points)) ≡ find (holds_x x) (segments (q ∷ points))
 find-x_more x p q points left =
     ap (λ b. cond b (Some (record { left_end = p; right_end = q })) (find (holds_x x) (segments (q ∷ points))))
-    (and-false (is_le (order_of p.0 x)) (is_le (order_of x q.0)) (le-less x q.0 false left))
+    (and_right (is_le (order_of p.0 x)) (is_le (order_of x q.0)) (le-less x q.0 false left))
 
 -- if all x but the first are less than a number, no segment contains it
 find-x_past : (x : Fraction) (d : Point) (points : List Point)

@@ -6,6 +6,7 @@ use Rattle.std.specs.Cmp.Lexicographic.{nat_list_cmp_total}
 use Rattle.std.specs.FinMap.Entries.{below_all, find, is_sorted, same_entries}
 use Rattle.std.specs.List.{AllByRecursion as Each}
 use Rattle.std.proofs.lemmas.List.Elements.{All-from_recursion, All-head, All-tail, recursion_from_All}
+use Rattle.std.proofs.lemmas.Option.{same_Some}
 use Rattle.frac128.specs.Fraction.{Fraction, IsReduced}
 use Rattle.frac128.specs.Steps.{ReducedLaw}
 use Rattle.frac128.specs.Sign.{is_zero}
@@ -17,7 +18,7 @@ use Rattle.quantity.specs.declared.fault.ExponentFault.{ExponentFault}
 use Rattle.quantity.specs.declared.fault.ExponentFault.TheVariants.{Range, OutOfMemory}
 use Rattle.quantity.proofs.Copies.{all_fit, merged_nothing}
 use Rattle.quantity.proofs.Fractions.{kept, nothing, some_kept, sum_left, sum_reduced, sum_right, unwrap_kept, zero_is}
-use Rattle.quantity.proofs.OrderedPowers.{at, found_exponent, found_fault, kept_value, some_same}
+use Rattle.quantity.proofs.OrderedPowers.{at, found_exponent, found_fault, kept_value}
 use Rattle.quantity.proofs.MergedPowers.{IsStep, at-below, at-past, at_own, at_reduced, find-at, find-merged}
 use Rattle.quantity.proofs.MergedPowers.{sorted-merged}
 use Rattle.quantity.proofs.Ranges.{exponent_passes}
@@ -62,7 +63,7 @@ pub as_some : (x v : Fraction) → Some v ≡ as_exponent x → (v ≡ x) × (is
 as_some x v h = go (is_exponent x) h
   where
     go : (b : Bool) → Some v ≡ cond b (Some x) None → (v ≡ x) × (b ≡ true)
-    go true h = (some_same v x h, refl)
+    go true h = (same_Some v x h, refl)
     go false h = absurd (cc)
 
 -- if a fraction is not an exponent, it is out of range

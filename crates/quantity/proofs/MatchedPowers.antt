@@ -1,5 +1,5 @@
 -- Lists of powers that match.
-use Rattle.std.proofs.Common.{◌≡◌, refl, sym, ap, ap₂, subst, ◌∙◌, arith, Bool, true, false, cond, ◌&&◌, ◌==◌, T, ℕ, []}
+use Rattle.std.proofs.Common.{◌≡◌, refl, sym, ap, ap₂, subst, ◌∙◌, Bool, true, false, cond, ◌&&◌, ◌==◌, T, []}
 use Rattle.std.proofs.Common.{◌∷◌, map, Some, nat_eq, ◌↔◌}
 use Rattle.std.specs.Prelude.{unwrap_or}
 use Rattle.std.specs.Cmp.{first_so, second_so}
@@ -8,8 +8,9 @@ use Rattle.std.specs.FinMap as map_of
 use Rattle.std.specs.FinMap.Entries.{find, is_sorted, same_entries}
 use Rattle.std.specs.List.{AllByRecursion as Each}
 use Rattle.std.specs.Ordering.{int_eq}
-use Rattle.std.proofs.lemmas.Bool.Decides.{Decides-int_eq, nat_tests}
+use Rattle.std.proofs.lemmas.Bool.Decides.{Decides-int_eq}
 use Rattle.std.proofs.lemmas.List.Elements.{recursion_from_All}
+use Rattle.std.proofs.lemmas.Bool.{eqb-true, eq-eqb}
 use Rattle.frac128.specs.Fraction.{Fraction, negative_of}
 use Rattle.quantity.specs.Amount.{ConformLaw, conform, matches, same_fraction}
 use Rattle.quantity.specs.Exponents.{AreExponents, Exponents, IsPower, SameExponentsLaw, exponent_of}
@@ -19,24 +20,16 @@ use Rattle.quantity.proofs.OrderedPowers.{at}
 use Rattle.quantity.proofs.MergedPowers.{find-at, sorted-map}
 use Rattle.quantity.proofs.Names.{Name, by_bytes, is_name, same_name}
 
--- the equality test is true for a number and itself
-num_self : (n : ℕ) → (n == n) ≡ true
-num_self n = grind (arith, nat_tests)
-
--- numbers for which the equality test is true are equal
-num_is : (m n : ℕ) → (m == n) ≡ true → m ≡ n
-num_is m n h = grind (arith, nat_tests)
-
 -- fractions for which the equality test is true are equal
 same_is : (x y : Fraction) → same_fraction x y ≡ true → x ≡ y
 same_is x y h =
     let num : x.num ≡ y.num = (Decides-int_eq x.num y.num).0 (first_so _ _ h) in
-    let den : x.den ≡ y.den = num_is x.den y.den (second_so (int_eq x.num y.num) _ h) in
+    let den : x.den ≡ y.den = eqb-true x.den y.den (second_so (int_eq x.num y.num) _ h) in
     ap (λ n. record { num = n; den = x.den }) num ∙ ap (λ d. record { num = y.num; den = d }) den
 
 -- the equality test is true for a fraction and itself
 same_self : (x : Fraction) → same_fraction x x ≡ true
-same_self x = ap (λ b. b && (x.den == x.den)) ((Decides-int_eq x.num x.num).1 refl) ∙ num_self x.den
+same_self x = ap (λ b. b && (x.den == x.den)) ((Decides-int_eq x.num x.num).1 refl) ∙ eq-eqb x.den x.den refl
 
 -- the equality test is true for a name and itself
 name_self : (n : Name) → pointwise nat_eq n n ≡ true

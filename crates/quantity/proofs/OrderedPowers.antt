@@ -1,13 +1,14 @@
 -- Lists in order as the exponents that a function gives to names.
-use Rattle.std.proofs.Common.{◌≡◌, refl, sym, ap, subst, ◌∙◌, Bool, true, false, cond, not, ◌&&◌, ◌||◌, T, ℕ, List, []}
-use Rattle.std.proofs.Common.{◌∷◌, map, inl, inr, Option, None, Some, filter, ◌≤◌, unsigned_abs, nat_le, arith}
+use Rattle.std.proofs.Common.{◌≡◌, refl, sym, ap, subst, ◌∙◌, Bool, true, false, cond, not, ◌&&◌, ◌||◌, T, List, []}
+use Rattle.std.proofs.Common.{◌∷◌, map, inl, inr, Option, None, Some, filter, unsigned_abs, nat_le}
 use Rattle.std.specs.Prelude.{unwrap_or}
 use Rattle.std.specs.Cmp.{first_so, second_so}
 use Rattle.std.specs.Cmp.Lexicographic.{nat_list_cmp_total}
 use Rattle.std.specs.FinMap as map_of
 use Rattle.std.specs.FinMap.Entries.{find, is_sorted}
 use Rattle.std.specs.List.{AllByRecursion as Each, list_all, list_any}
-use Rattle.std.proofs.lemmas.Bool.Decides.{nat_tests}
+use Rattle.std.proofs.lemmas.Bool.{leb-true}
+use Rattle.std.proofs.lemmas.Option.{same_Some}
 use Rattle.frac128.specs.Fraction.{Fraction, IsReduced}
 use Rattle.frac128.specs.Sign.{is_zero}
 use Rattle.quantity.specs.Exponents.{IsExponent, IsPower, exponent_of, exponents_by, is_exponent}
@@ -107,17 +108,13 @@ listed_map f names es is lists = map_of.same_map nat_list_cmp_total same_name _ 
 
 -- ---- exponents out of range in the list and in the map
 
--- two values of the same option are equal
-pub some_same : (x v : Fraction) → Some x ≡ Some v → x ≡ v
-some_same x v e = cc
-
 -- a nonzero exponent that is found is the exponent
 pub kept_value : (e v : Fraction) → kept e ≡ Some v → e ≡ v
 kept_value e v = go (is_zero e)
   where
     go : (z : Bool) → cond z None (Some e) ≡ Some v → e ≡ v
     go true h = absurd (cc)
-    go false h = some_same e v h
+    go false h = same_Some e v h
 
 -- if each name passes a test, all names of a list pass it
 all_pass : (g : Name → Bool) (names : List Name) → ((q : Name) → g q ≡ true) → list_all g names ≡ true
@@ -147,7 +144,7 @@ found_exponent (e ∷ es) q v all is =
     go : (b : Bool) → cond b (Some e.1) (find by_bytes q es) ≡ Some v
         → (find by_bytes q es ≡ Some v → is_exponent v ≡ true)
         → is_exponent v ≡ true
-    go true is rest = subst (λ x. is_exponent x ≡ true) (some_same e.1 v is) (first_so _ _ all)
+    go true is rest = subst (λ x. is_exponent x ≡ true) (same_Some e.1 v is) (first_so _ _ all)
     go false is rest = rest is
 
 -- a power that a lookup finds in the rest of an ordered list is also found in the list
@@ -218,16 +215,12 @@ all_found (e ∷ es) sorted = (
   weaker _ _ es (λ d found. found_behind e es sorted d.0 d.1 found) (all_found es (second _ _ sorted)),
 )
 
--- the test for at most is true only for a number that is at most the other
-within : (m n : ℕ) → nat_le m n ≡ true → m ≤ n
-within m n h = grind (arith, nat_tests)
-
 -- a fraction in lowest terms that passes the range test is an exponent
 exponent_fits : (e : Fraction) → IsReduced e → is_exponent e ≡ true → IsExponent e
 exponent_fits e is h = record {
   exponent_reduced = is;
-  num_fits = within _ _ (first_so (nat_le (unsigned_abs e.num) 32767) (nat_le e.den 60) h);
-  den_fits = within _ _ (second_so (nat_le (unsigned_abs e.num) 32767) (nat_le e.den 60) h);
+  num_fits = leb-true _ _ (first_so (nat_le (unsigned_abs e.num) 32767) (nat_le e.den 60) h);
+  den_fits = leb-true _ _ (second_so (nat_le (unsigned_abs e.num) 32767) (nat_le e.den 60) h);
 }
 
 -- powers with the exponents that a function gives are powers of the program if they are in range
@@ -239,7 +232,7 @@ all_kept f names es is lists all = go es (all_found es lists.sorted) all
     some_is : (q : Name) (v : Fraction) (z : Bool) → is_zero (f q) ≡ z → cond z None (Some (f q)) ≡ Some v
         → is_zero v ≡ false
     some_is q v true e h = absurd (cc)
-    some_is q v false e h = ap is_zero (sym (some_same (f q) v h)) ∙ e
+    some_is q v false e h = ap is_zero (sym (same_Some (f q) v h)) ∙ e
 
     power : (e : Name × Fraction) → find by_bytes e.0 es ≡ Some e.1 → is_exponent e.1 ≡ true → IsPower e
     power e found fits =

@@ -1,9 +1,9 @@
 -- Powers with exponents in range, and powers appended to others.
-use Rattle.std.proofs.Common.{◌≡◌, refl, sym, ap, ap₂, ◌∙◌, arith, Bool, true, false, cond, ◌&&◌}
-use Rattle.std.proofs.Common.{ℕ, [], ◌∷◌, ◌++◌, ◌≤◌, IsFalse, unsigned_abs, nat_le, Err}
+use Rattle.std.proofs.Common.{◌≡◌, refl, sym, ap, ap₂, ◌∙◌, Bool, true, false, cond, ◌&&◌}
+use Rattle.std.proofs.Common.{[], ◌∷◌, ◌++◌, IsFalse, unsigned_abs, Err}
 use Rattle.std.specs.Cmp.{first_so, second_so}
-use Rattle.std.proofs.lemmas.Bool.Decides.{nat_tests}
 use Rattle.std.proofs.lemmas.List.{append-nil}
+use Rattle.std.proofs.lemmas.Bool.{le-leb}
 use Rattle.frac128.specs.Fraction.{Fraction, IsReduced}
 use Rattle.frac128.specs.Sign.{is_zero}
 use Rattle.quantity.specs.Exponents.{IsExponent, is_exponent}
@@ -15,13 +15,9 @@ use Rattle.quantity.proofs.Names.{Name}
 
 -- ---- exponents in range
 
--- the test for at most is true for a number that is at most the other
-within : (m n : ℕ) → m ≤ n → nat_le m n ≡ true
-within m n h = grind (arith, nat_tests)
-
 -- the range test is true for an exponent
 pub exponent_passes : (e : Fraction) → IsExponent e → is_exponent e ≡ true
-exponent_passes e is = ap₂ (λ a b. a && b) (within (unsigned_abs e.num) 32767 is.num_fits) (within e.den 60 is.den_fits)
+exponent_passes e is = ap₂ (λ a b. a && b) (le-leb (unsigned_abs e.num) 32767 is.num_fits) (le-leb e.den 60 is.den_fits)
 
 -- if all exponents are in range, so are they with one more that is in range
 pub all_push : (out : Powers) (p : Name × Fraction) → are_exponents out ≡ true → is_exponent p.1 ≡ true

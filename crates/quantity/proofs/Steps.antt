@@ -1,10 +1,12 @@
 -- The exponents of products, quotients and powers.
 use Rattle.std.proofs.Common.{◌≡◌, refl, sym, ap, ap₂, subst, ◌∙◌, Bool, true, false, cond, ◌||◌, ◌&&◌, nat_le, List}
-use Rattle.std.proofs.Common.{[], ◌∷◌, ◌++◌, ◌<◌, Option, None, Some, is_some, Ok, Err, IsTrue, IsFalse}
+use Rattle.std.proofs.Common.{◌<◌, Option, None, Some, is_some, Ok, Err, IsTrue, IsFalse}
 use Rattle.std.specs.Prelude.{unwrap_or}
 use Rattle.std.specs.FinMap as map_of
 use Rattle.std.specs.List.{list_all, list_any}
 use Rattle.std.proofs.lemmas.List.Elements.{All-from_recursion, recursion_from_All}
+use Rattle.std.proofs.lemmas.List.Folds.{list_any-append}
+use Rattle.std.proofs.lemmas.Bool.{or_parts}
 use Rattle.frac128.specs.Fraction.{Fraction, IsReduced, negative_of}
 use Rattle.frac128.specs.Steps.{ReducedLaw}
 use Rattle.quantity.specs.Answers.{AreThose, exponents_in_range}
@@ -98,27 +100,6 @@ absent m q none = go (map_of.get m q) (map_of.contains_key-keys m q ∙ none)
     go None h = refl
     go (Some v) h = absurd (cc)
 
--- a test holds for some name of two lists if and only if it does for some name of one of them
-any-append : (test : Name → Bool) (xs ys : List Name)
-    → list_any test (xs ++ ys) ≡ (list_any test xs || list_any test ys)
-any-append test [] ys = refl
-any-append test (x ∷ xs) ys = go (test x) (any-append test xs ys)
-  where
-    go : (b : Bool) → list_any test (xs ++ ys) ≡ (list_any test xs || list_any test ys)
-        → (b || list_any test (xs ++ ys)) ≡ ((b || list_any test xs) || list_any test ys)
-    go true h = refl
-    go false h = h
-
--- if a disjunction is false, its first part is false
-or_first : (a b : Bool) → (a || b) ≡ false → a ≡ false
-or_first true b h = absurd (cc)
-or_first false b h = refl
-
--- if a disjunction is false, its second part is false
-or_second : (a b : Bool) → (a || b) ≡ false → b ≡ false
-or_second true b h = absurd (cc)
-or_second false b h = h
-
 -- each exponent is in lowest terms
 pub exponent_reduced : (m : Exponents) (q : Name) → AreExponents m → IsReduced (exponent_of m q)
 exponent_reduced m q all =
@@ -156,14 +137,14 @@ total_gives : ReducedLaw → (step : Fraction → Fraction) (p o : Exponents) �
 total_gives law step p o is all all_o = record {
   reduced = λ q. sum_reduced law (exponent_of p q) (step (exponent_of o q)) (exponent_reduced p q all).den_positive
       (is.reduced _ (exponent_reduced o q all_o)).den_positive;
-  others = λ q none. others q (sym (any-append (is_name q) (map_of.keys p) (map_of.keys o)) ∙ none);
+  others = λ q none. others q (sym (list_any-append (is_name q) (map_of.keys p) (map_of.keys o)) ∙ none);
 }
   where
     others : (q : Name) → (list_any (is_name q) (map_of.keys p) || list_any (is_name q) (map_of.keys o)) ≡ false
         → total step p o q ≡ nothing
     others q none =
-        ap₂ (λ a b. exponent_sum a (step b)) (absent p q (or_first _ _ none))
-        (absent o q (or_second (list_any (is_name q) (map_of.keys p)) _ none))
+        ap₂ (λ a b. exponent_sum a (step b)) (absent p q (or_parts _ _ none).0)
+        (absent o q (or_parts (list_any (is_name q) (map_of.keys p)) _ none).1)
         ∙ ap (exponent_sum nothing) is.nothing ∙ sum_left law nothing nothing_reduced
 
 -- merged powers have these exponents

@@ -1,11 +1,11 @@
 -- The result of a division is a fraction if and only if it is the exact quotient.
-use Rattle.std.proofs.Common.{◌≡◌, ◌≢◌, ◌*◌, ◌<◌, ◌≤◌, ◌*ℤ◌, ◌&&◌, ℕ, ℤ, pos, negsuc, neg_ℤ, suc, zero, Bool, true}
+use Rattle.std.proofs.Common.{◌≡◌, ◌≢◌, ◌*◌, ◌<◌, ◌*ℤ◌, ◌&&◌, ℕ, ℤ, pos, negsuc, neg_ℤ, suc, zero, Bool, true}
 use Rattle.std.proofs.Common.{false}
 use Rattle.std.proofs.Common.{arith, refl, sym, ap, ap₂, subst, ◌∙◌}
 use Rattle.std.specs.Prelude.{int_lt, nat_le, unsigned_abs, Ok, Err, if◌then◌else◌}
-use Rattle.std.proofs.lemmas.Bool.Decides.{nat_tests}
 use Rattle.std.proofs.Math.IntN.{*ℤ-negsuc, neg_ℤ-neg_ℤ, pos-*ℤ-negsuc}
 use Rattle.std.proofs.Math.Nat.{mul-pos, mul-zero, mul_assoc, mul_comm}
+use Rattle.std.proofs.lemmas.Bool.{le-leb, leb-true, and_parts}
 use Rattle.frac128.specs.declared.fault.FracFault.TheVariants.{Overflow}
 use Rattle.frac128.specs.Fraction.{Fraction, IsFrac, IsReduced, SameValue, fits_most, most}
 use Rattle.frac128.specs.Sign.{differ, number_with_sign}
@@ -32,20 +32,6 @@ mul-twice z a b =
 mul-turned : (z : ℤ) (a b : ℕ) → z *ℤ pos a *ℤ pos b ≡ z *ℤ pos (b * a)
 mul-turned z a b = mul-twice z a b ∙ ap (λ j. z *ℤ pos j) (mul_comm a b)
 
-is-at-most : (m n : ℕ) → nat_le m n ≡ true → m ≤ n
-is-at-most m n h = grind (arith, nat_tests)
-
-at-most-is : (m n : ℕ) → m ≤ n → nat_le m n ≡ true
-at-most-is m n h = grind (arith, nat_tests)
-
-first-true : (a b : Bool) → (a && b) ≡ true → a ≡ true
-first-true true b h = refl
-first-true false b h = absurd (cc)
-
-second-true : (a b : Bool) → (a && b) ≡ true → b ≡ true
-second-true true b h = h
-second-true false b h = absurd (cc)
-
 -- a reduced fraction that fits is the result
 fitting-of : (r v : Fraction) → fit_or_overflow r ≡ Ok v → (fits_most r ≡ true) × (r ≡ v)
 fitting-of r v h = go (fits_most r) refl h
@@ -57,14 +43,14 @@ fitting-of r v h = go (fits_most r) refl h
 fraction-of : (r : Fraction) → IsReduced r → fits_most r ≡ true → IsFrac r
 fraction-of r is e = record {
   lowest_terms = is;
-  num_fits = is-at-most (unsigned_abs r.num) most (first-true _ (nat_le r.den most) e);
-  den_fits = is-at-most r.den most (second-true (nat_le (unsigned_abs r.num) most) _ e);
+  num_fits = leb-true (unsigned_abs r.num) most (and_parts _ (nat_le r.den most) e).0;
+  den_fits = leb-true r.den most (and_parts (nat_le (unsigned_abs r.num) most) _ e).1;
 }
 
 of-fraction : (v : Fraction) → IsFrac v → fit_or_overflow v ≡ Ok v
 of-fraction v is =
     ap (λ b. if b then Ok v else Err Overflow)
-    (ap₂ (λ a b. a && b) (at-most-is (unsigned_abs v.num) most is.num_fits) (at-most-is v.den most is.den_fits))
+    (ap₂ (λ a b. a && b) (le-leb (unsigned_abs v.num) most is.num_fits) (le-leb v.den most is.den_fits))
 
 module _ (law : ReducedLaw) (v : Fraction) where
   -- v is n over d in lowest terms, and fits

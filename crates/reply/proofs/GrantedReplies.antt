@@ -2,6 +2,7 @@
 use Rattle.std.proofs.Common.{◌≡◌, ◌∙◌, refl, sym, ap, ap₂, subst, ℕ, pos, Bool, true, false, true≢false, not}
 use Rattle.std.proofs.Common.{if◌then◌else◌, List, Option, Some, None, Result, Ok, Err}
 use Rattle.std.specs.List.{list_any}
+use Rattle.std.proofs.lemmas.Bool.{not-false}
 use Rattle.expr_tree.specs.Syntax.{Syntax}
 use Rattle.quantity.specs.Amount.{Amount}
 use Rattle.unit_list.specs.Amounts.{counts_in}
@@ -78,9 +79,6 @@ inverse-of (One z) x y may h = absurd (true≢false (sym may))
 inverse-of (Two z w) x y may h = absurd (true≢false (sym may))
 
 -- ---- by the meaning of the target
-not-false : (b : Bool) → not b ≡ false → b ≡ true
-not-false true e = refl
-not-false false e = absurd (true≢false e)
 
 module _ (table : Table) (options : Options) (to : List ℕ) (x : Amount) where
   abbrev function : Key

@@ -3,6 +3,7 @@ use Rattle.std.proofs.Common.{◌≡◌, ◌<◌, ◌++◌, ◌==◌, refl, ap, 
 use Rattle.std.proofs.Common.{List, [], ◌∷◌, Option, Some, None, option_map, Result, Ok, Err}
 use Rattle.std.specs.List.{AllByRecursion as Each, slice_split}
 use Rattle.std.specs.Result.{result_ok}
+use Rattle.std.proofs.lemmas.Option.{same_Some}
 use Rattle.units_io.specs.Outcomes.{◌>>=◌}
 use Rattle.frac128.specs.declared.fault.FracFault.{FracFault}
 use Rattle.frac128.specs.declared.numeral.NumeralFault.{NumeralFault}
@@ -36,9 +37,6 @@ use Rattle.def_entry.specs.EntryReading.{entry_of, what_in, what_of}
 use Rattle.def_entry.specs.Steps as option
 use Rattle.reply.proofs.PositiveSteps.{HasPositive, IsPositive, over-positive, value-positive}
 
-some-same : {A : Type 0} (x y : A) → Some x ≡ Some y → x ≡ y
-some-same x y e = cc
-
 -- ---- numbers
 abbrev IsPositiveIf : Option Fraction → Type 0
 IsPositiveIf o = (x : Fraction) → o ≡ Some x → 0 < x.den
@@ -47,12 +45,12 @@ none-positive : IsPositiveIf None
 none-positive x e = absurd (cc)
 
 positive-some : (r : Result Fraction FracFault) → IsPositive r → IsPositiveIf (result_ok r)
-positive-some (Ok x) h y e = h y (ap Ok (some-same x y e))
+positive-some (Ok x) h y e = h y (ap Ok (same_Some x y e))
 positive-some (Err fault) h y e = absurd (cc)
 
 positive-negated : (o : Option Fraction) → IsPositiveIf o → IsPositiveIf (option_map negative_of o)
 positive-negated None h y e = absurd (cc)
-positive-negated (Some x) h y e = subst (λ (z : Fraction). 0 < z.den) (some-same (negative_of x) y e) (h x refl)
+positive-negated (Some x) h y e = subst (λ (z : Fraction). 0 < z.den) (same_Some (negative_of x) y e) (h x refl)
 
 positive-either : (b : Bool) (o p : Option Fraction) → IsPositiveIf o → IsPositiveIf p
     → IsPositiveIf (if b then o else p)
@@ -101,7 +99,7 @@ no-points : ArePositiveIf None
 no-points points e = absurd (cc)
 
 some-points : (points : List Point) → Each HasPositive points → ArePositiveIf (Some points)
-some-points points h other e = subst (Each HasPositive) (some-same points other e) h
+some-points points h other e = subst (Each HasPositive) (same_Some points other e) h
 
 each-append : (front points : List Point) → Each HasPositive front → Each HasPositive points
     → Each HasPositive (front ++ points)

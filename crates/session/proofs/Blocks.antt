@@ -20,7 +20,7 @@ use Rattle.session.specs.SessionProgress.{Base, Begins, BreaksOff, IsAt, IsBefor
 use Rattle.session.specs.BetweenPieces.{Opens, WaitsForInput, TookAtLeast}
 use Rattle.session.specs.Sessions.{SessionState}
 use Rattle.session.specs.declared.session_output.Said.{Said}
-use Rattle.std.proofs.lemmas.Bool.Decides.{nat_tests}
+use Rattle.std.proofs.lemmas.Bool.{leb-false, leb-true}
 use Rattle.session.proofs.LineCuts.{take-front}
 use Rattle.session.proofs.HeardLines.{heard_more}
 
@@ -58,10 +58,6 @@ front_behind o mid out xs ys e f = (
   f.2 ∙ ap (λ p. known_append p (take f.0 ys)) e
       ∙ grown_twice o xs (take f.0 ys) ∙ ap (known_append o) (sym (take-append-add xs ys f.0)),
 )
-
--- a count that has not decreased since a later time has not decreased since an earlier one
-pub later_than : (a b c : ℕ) → a ≤ b → b ≤ c → a ≤ c
-later_than a b c h k = omega (arith, h, k)
 
 -- a count that rose since a later time also rose since an earlier one
 pub rose_since : (a b c : ℕ) → a ≤ b → CountRose b c → CountRose a c
@@ -284,12 +280,6 @@ open_part first input said session before opening after w o e f = record {
   files = (first.state.files, f ∙ opened_files first said session before opening w, inl refl);
 }
 
-le_from : (a b : ℕ) → nat_le a b ≡ true → a ≤ b
-le_from a b h = grind (arith, nat_tests)
-
-lt_from : (a b : ℕ) → nat_le a b ≡ false → b < a
-lt_from a b h = grind (arith, nat_tests)
-
 -- the bytes of another block are counted
 pub took_more : (total n before old new : ℕ) → TookAtLeast total before old → new ≡ min (old + n) (2 ^ 64 - 1)
     → TookAtLeast (total + n) before new
@@ -297,8 +287,8 @@ took_more total n before old new (inr e) h = inr (omega (arith, e, h))
 took_more total n before old new (inl e) h = by (nat_le (old + n) (2 ^ 64 - 1)) refl
   where
     by : (b : Bool) → nat_le (old + n) (2 ^ 64 - 1) ≡ b → TookAtLeast (total + n) before new
-    by true q = inl (omega (arith, e, h, le_from (old + n) (2 ^ 64 - 1) q))
-    by false q = inr (omega (arith, e, h, lt_from (old + n) (2 ^ 64 - 1) q))
+    by true q = inl (omega (arith, e, h, leb-true (old + n) (2 ^ 64 - 1) q))
+    by false q = inr (omega (arith, e, h, leb-false (old + n) (2 ^ 64 - 1) q))
 
 pub took_enough : (total most before after : ℕ) → TookAtLeast total before after → most < total
     → TookMoreThan most before after

@@ -1,8 +1,9 @@
 -- The cache affects only the answer to `:stats`.
-use Rattle.std.proofs.Common.{◌≡◌, ◌∙◌, ◌++◌, ◌||◌, refl, sym, ap, ap₂, subst, ℕ, Bool, true, false, true≢false, List}
+use Rattle.std.proofs.Common.{◌≡◌, ◌∙◌, ◌++◌, refl, sym, ap, ap₂, subst, ℕ, Bool, true, false, true≢false, List}
 use Rattle.std.proofs.Common.{[]}
 use Rattle.std.proofs.Common.{◌∷◌, Option, Some, None, Result, Ok, Err, if◌then◌else◌, length, nat_le}
 use Rattle.std.specs.List.{list_any}
+use Rattle.std.proofs.lemmas.Bool.{or_parts}
 use Rattle.def_entry.specs.declared.key.Key.{Key}
 use Rattle.def_entry.specs.Keys.{key_of}
 use Rattle.def_lines.specs.Blanks.{trim_of}
@@ -118,14 +119,6 @@ cache-law state cached reductions (command.Bad word) h =
 cache-law state cached reductions (command.Expression text) h =
     expression-cached state cached reductions state.session.pending_from text
 
-pub or-first : (a b : Bool) → (a || b) ≡ false → a ≡ false
-or-first true b h = absurd (true≢false h)
-or-first false b h = refl
-
-pub or-second : (a b : Bool) → (a || b) ≡ false → b ≡ false
-or-second true b h = absurd (true≢false h)
-or-second false b h = h
-
 -- the prompt does not depend on the cache
 prompt-cached : (state : State) (cached : Kept) (reductions : ℕ)
     → prompt (with_cache cached reductions state).session ≡ prompt state.session
@@ -167,5 +160,5 @@ cache-talk a b [] h d = d
 cache-talk a b (line ∷ lines) h d =
     cache-talk (talk_with_answer a (line_answer a.state line) line) (talk_with_answer b (line_answer b.state line) line)
     lines
-    (or-second (asks_stats (command_of line)) (list_any (λ line. asks_stats (command_of line)) lines) h)
-    (talk-line a b line (or-first (asks_stats (command_of line)) _ h) d)
+    (or_parts (asks_stats (command_of line)) (list_any (λ line. asks_stats (command_of line)) lines) h).1
+    (talk-line a b line (or_parts (asks_stats (command_of line)) _ h).0 d)

@@ -3,6 +3,7 @@ use Rattle.std.proofs.Common.{◌≡◌, ◌++◌, ◌∷◌, ◌||◌, ◌∙�
 use Rattle.std.proofs.Common.{append_assoc, Some, None, Option}
 use Rattle.std.specs.List.{list_any}
 use Rattle.std.proofs.lemmas.List.Folds.{list_any-append}
+use Rattle.std.proofs.Math.Bool.{or-false}
 use Rattle.def_entry.specs.Cuts.{cut_at, lacks}
 use Rattle.def_entry.proofs.CutTexts.{cut-is, cut-none}
 use Rattle.units_io.specs.FileMap.{FileMap}
@@ -23,10 +24,6 @@ heard-going (x ∷ xs) ys e = by (heard-going xs ys) (is_last x) e
         → (d || list_any is_last xs) ≡ false → x ∷ cond d [] (heard (xs ++ ys)) ≡ x ∷ (xs ++ heard ys)
     by ih true g = cc
     by ih false g = ap (λ t. x ∷ t) (ih g)
-
-or-false : (d : Bool) → (d || false) ≡ d
-or-false true = refl
-or-false false = refl
 
 module _ (taken : List ℕ) (going : list_any is_last (whole_lines taken) ≡ false) where
   -- the complete lines are heard, and then perhaps more

@@ -4,22 +4,17 @@ use Rattle.std.proofs.Common.{sym, ap, ◌∙◌}
 use Rattle.std.proofs.Common.{Option, Some, None, Ok, Err, OnOk, is_ok, arith, length-append}
 use Rattle.std.specs.Prelude.{nat_le, Result}
 use Rattle.std.proofs.lemmas.Bool.Decides.{nat_tests}
+use Rattle.std.proofs.lemmas.Bool.{le-leb, lt-leb}
 use Rattle.def_lines.specs.Words.{is_empty}
 use Rattle.session.specs.HeardLines.{readable}
 
-le_true : (a b : ℕ) → a ≤ b → nat_le a b ≡ true
-le_true a b h = grind (arith, nat_tests)
-
-le_false : (a b : ℕ) → b < a → nat_le a b ≡ false
-le_false a b h = grind (arith, nat_tests)
-
 pub readable_short : (line : List ℕ) → length line ≤ 65536 → readable line ≡ Some line
 unfolding readable
-readable_short line h = ap (λ b. cond b (Some line) None) (le_true (length line) 65536 h)
+readable_short line h = ap (λ b. cond b (Some line) None) (le-leb (length line) 65536 h)
 
 pub readable_long : (line : List ℕ) → 65536 < length line → readable line ≡ None
 unfolding readable
-readable_long line h = ap (λ b. cond b (Some line) None) (le_false (length line) 65536 h)
+readable_long line h = ap (λ b. cond b (Some line) None) (lt-leb (length line) 65536 h)
 
 short_or_long : (n : ℕ) → (b : Bool) → nat_le n 65536 ≡ b → cond b (n ≤ 65536) (65536 < n)
 short_or_long n true e = grind (arith, nat_tests)

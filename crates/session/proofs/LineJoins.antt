@@ -1,9 +1,8 @@
 -- The bytes of the lines are those of the input, and no other cut has these properties.
 use Rattle.std.proofs.Common.{◌≡◌, ◌==◌, ◌&&◌, ◌++◌, ◌∷◌, ◌∙◌, [], ℕ, List, Bool, true, false, cond, not, refl, sym}
-use Rattle.std.proofs.Common.{ap, ap₂, append_assoc, arith}
+use Rattle.std.proofs.Common.{ap, ap₂, append_assoc}
 use Rattle.std.specs.List.{list_all}
-use Rattle.std.proofs.lemmas.Bool.{and_parts}
-use Rattle.std.proofs.lemmas.Bool.Decides.{nat_tests}
+use Rattle.std.proofs.lemmas.Bool.{and_parts, eqb-true}
 use Rattle.std.proofs.lemmas.List.{append-nil}
 use Rattle.std.proofs.lemmas.List.Folds.{list_all-append}
 use Rattle.def_entry.specs.Cuts.{lacks}
@@ -13,9 +12,6 @@ use Rattle.session.proofs.LineCuts.{both, cut-append, cut-piece}
 
 abbrev bytes_of : Cut → List ℕ
 bytes_of cut = line_bytes cut.complete_lines ++ cut.open_line
-
-is_feed : (b : ℕ) → (b == 10) ≡ true → b ≡ 10
-is_feed b e = grind (arith, nat_tests)
 
 -- a cut loses none of the bytes
 pub joined_from : (part bytes : List ℕ) → bytes_of (cut_from part bytes) ≡ part ++ bytes
@@ -28,7 +24,7 @@ joined_from part (b ∷ bytes) = by (b == 10) refl (joined_from [] bytes) (joine
         bytes
     by true e ends goes =
         append_assoc part (10 ∷ line_bytes (cut_from [] bytes).complete_lines) (cut_from [] bytes).open_line
-        ∙ ap (λ t. part ++ 10 ∷ t) ends ∙ ap (λ n. part ++ n ∷ bytes) (sym (is_feed b e))
+        ∙ ap (λ t. part ++ 10 ∷ t) ends ∙ ap (λ n. part ++ n ∷ bytes) (sym (eqb-true b 10 e))
     by false e ends goes = goes ∙ append_assoc part (b ∷ []) bytes
 
 -- a part without a line feed, followed by another byte, has none

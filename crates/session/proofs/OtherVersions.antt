@@ -3,6 +3,7 @@ use Rattle.std.proofs.Common.{◌≡◌, ◌∙◌, ◌+◌, ◌++◌, refl, sym
 use Rattle.std.proofs.Common.{[]}
 use Rattle.std.proofs.Common.{◌∷◌, Option, Some, None, Result, Ok, Err, if◌then◌else◌, length, nat_le}
 use Rattle.std.specs.List.{list_any}
+use Rattle.std.proofs.lemmas.Bool.{or_parts}
 use Rattle.def_entry.specs.declared.key.Key.{Key}
 use Rattle.def_entry.specs.Keys.{key_of}
 use Rattle.def_lines.specs.Blanks.{trim_of}
@@ -24,7 +25,6 @@ use Rattle.session.specs.Steps.{line_answer}
 use Rattle.session.specs.Talks.{SessionTrace, talk_with_answer}
 use Rattle.session.specs.Versions.{Versions}
 use Rattle.session.specs.WatchQueries.{is_full}
-use Rattle.session.proofs.CacheEffects.{or-first, or-second}
 use Rattle.watch.specs.WatchViews.{Subject, watch_subject}
 
 module _ (state : State) (versions : Versions) where
@@ -148,5 +148,5 @@ versions-talk a b [] h d = d
 versions-talk a b (line ∷ lines) h d =
     versions-talk (talk_with_answer a (line_answer a.state line) line)
     (talk_with_answer b (line_answer b.state line) line) lines
-    (or-second (asks_undo_or_redo (command_of line)) (list_any (λ line. asks_undo_or_redo (command_of line)) lines) h)
-    (talk-line a b line (or-first (asks_undo_or_redo (command_of line)) _ h) d)
+    (or_parts (asks_undo_or_redo (command_of line)) (list_any (λ line. asks_undo_or_redo (command_of line)) lines) h).1
+    (talk-line a b line (or_parts (asks_undo_or_redo (command_of line)) _ h).0 d)

@@ -2,8 +2,8 @@
 use Rattle.std.proofs.Common.{MatchResult, inl, ◌≡◌, ◌++◌, [], ℕ, List, Bool, true, false, refl, sym, ap, subst, ◌∙◌}
 use Rattle.std.proofs.Common.{append_assoc, length, ◌==◌, Some, Result, Ok, Err}
 use Rattle.std.specs.declared.option.Option.{Option}
-use Rattle.std.proofs.lemmas.List.{append-nil}
-use Rattle.def_lines.proofs.TrimmedTexts.{empty-nil}
+use Rattle.std.proofs.lemmas.List.{append-nil, nil_from_length}
+use Rattle.std.proofs.lemmas.Bool.{eqb-true}
 use Rattle.units_io.specs.Bytes.{known_append, GrowsByFront}
 use Rattle.units_io.specs.Faults.{CountRose}
 use Rattle.units_io.specs.FileMap.{FileMap}
@@ -158,7 +158,7 @@ pub waits_behind : (first : SessionTrace) (taken block ready rest : List ℕ) (h
     start now
 waits_behind first taken block ready rest held session start now b none w =
     subst (λ t. WaitsForInput first (taken ++ t) held session start now)
-    (sym (b ∙ ap (λ t. ready ++ t) (empty-nil rest none) ∙ append-nil ready)) w
+    (sym (b ∙ ap (λ t. ready ++ t) (nil_from_length rest (eqb-true (length rest) 0 none)) ∙ append-nil ready)) w
 
 -- a waiting session was fed the end of its input, and the output for that is written
 module _ (first : SessionTrace) (input : List ℕ) (held : Option (List ℕ)) (session : SessionState) (start now : Outside)

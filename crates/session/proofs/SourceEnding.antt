@@ -1,8 +1,9 @@
 -- The ending of a session over a source.
 use Rattle.std.proofs.Common.{inl, inr, ◌≡◌, ◌≤◌, ◌⊎◌, ℕ, List, Bool}
 use Rattle.std.proofs.Common.{true, false, refl, ap, subst, ◌∙◌, arith}
-use Rattle.std.proofs.Common.{Some, None, Result, Ok, Err}
+use Rattle.std.proofs.Common.{Some, None, Result, Ok, Err, sym}
 use Rattle.std.specs.Prelude.{IsErrOf}
+use Rattle.std.proofs.lemmas.Option.{same_Some}
 use Rattle.units_io.specs.Faults.{CountRose}
 use Rattle.session.specs.Outside.{Outside, TookMoreThan}
 use Rattle.session.specs.Runs.{HasItsCause, end_after_feed, end_at_input_end, fault_end}
@@ -18,9 +19,6 @@ use Rattle.session.specs.declared.over_source.SessionEnd.TheVariants.{Done, NoMe
 use Rattle.session.specs.declared.over_source.SessionEnd.TheVariants.{InputTooLong}
 use Rattle.session.proofs.Blocks.{any_since, either_rose, of_two}
 use Rattle.session.proofs.BrokenAnswers.{left_by, left_whole}
-
-same_end : (x y : SessionEnd) → Some x ≡ Some y → y ≡ x
-same_end x y e = cc
 
 -- the output is a part, whether a store certainly did not fail or may have failed
 module _ (A : Type 0) (fed : Result A SessionFault) (first : SessionTrace) (input : List ℕ) (start after : Outside)
@@ -73,10 +71,11 @@ pub ended_by : (fed : Result Bool SessionFault) (ending : SessionEnd) (first : S
     → IsEnded (session_course first input) ending start after
 ended_by (Ok false) ending first input start after q part all rose stored = cc
 ended_by (Ok true) ending first input start after q part all rose stored =
-    subst (λ (x : SessionEnd). IsEnded (session_course first input) x start after) (same_end ending Done q) (all refl)
+    subst (λ (x : SessionEnd). IsEnded (session_course first input) x start after) (same_Some Done ending (sym q))
+    (all refl)
 ended_by (Err fault) ending first input start after q part all rose stored =
     subst (λ (x : SessionEnd). IsEnded (session_course first input) x start after)
-    (same_end ending (fault_end fault) q)
+    (same_Some (fault_end fault) ending (sym q))
     (by_fault Bool (Err fault) first input start after part fault refl rose stored)
 
 -- an ending over an equal input is one over this input

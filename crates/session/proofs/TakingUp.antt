@@ -4,8 +4,8 @@ use Rattle.std.proofs.Common.{Ok, Err, IfOk, Some, length}
 use Rattle.std.specs.Prelude.{Result}
 use Rattle.std.specs.declared.option.Option.{Option}
 use Rattle.std.specs.List.{list_any}
-use Rattle.std.proofs.lemmas.List.{append-nil}
-use Rattle.def_lines.proofs.TrimmedTexts.{empty-nil}
+use Rattle.std.proofs.lemmas.List.{append-nil, nil_from_length}
+use Rattle.std.proofs.lemmas.Bool.{eqb-true}
 use Rattle.session.specs.HeardLines.{NamesNoFile, heard, is_last, is_last_read, names_file_in, readable}
 use Rattle.session.specs.Input.{lines_of, whole_lines}
 use Rattle.session.specs.SessionProgress.{Holds, IsTakenUp}
@@ -33,7 +33,7 @@ pub holds_behind : (taken block ready rest : List ℕ) (held : Option (List ℕ)
     → (length rest == 0) ≡ true → Holds (taken ++ ready) held → Holds (taken ++ block) held
 holds_behind taken block ready rest held b none h =
     subst (λ t. Holds (taken ++ t) held)
-    (sym (b ∙ ap (λ t. ready ++ t) (empty-nil rest none) ∙ append-nil ready)) h
+    (sym (b ∙ ap (λ t. ready ++ t) (nil_from_length rest (eqb-true (length rest) 0 none)) ∙ append-nil ready)) h
 
 -- bytes of the rest of a block were fed
 module _ (taken block ready rest left : List ℕ) (held : Option (List ℕ)) (b : block ≡ ready ++ rest)

@@ -2,8 +2,8 @@
 use Rattle.std.proofs.Common.{◌≡◌, ◌++◌, ◌==◌, [], ℕ, List, Bool, true, false, Result, Ok, Err, IfOk, Some, refl, sym}
 use Rattle.std.proofs.Common.{ap, subst, ◌∙◌, arith, append_assoc, length, codes}
 use Rattle.std.specs.declared.option.Option.{Option}
-use Rattle.std.proofs.lemmas.List.{append-nil}
-use Rattle.def_lines.proofs.TrimmedTexts.{empty-nil}
+use Rattle.std.proofs.lemmas.List.{append-nil, nil_from_length}
+use Rattle.std.proofs.lemmas.Bool.{eqb-true}
 use Rattle.units_io.specs.FileMap.{no_files}
 use Rattle.deck.specs.Decks.{Contents}
 use Rattle.deck.specs.declared.settings.Settings.{Settings}
@@ -71,7 +71,7 @@ module _ (base : Base) (first : SessionTrace) (lines done rest : List ℕ) (b : 
       → Stands base first lines held now
   lines_done held now none s =
       subst (λ t. Stands base first t held now)
-      (sym (b ∙ ap (λ t. done ++ t) (empty-nil rest none) ∙ append-nil done)) s
+      (sym (b ∙ ap (λ t. done ++ t) (nil_from_length rest (eqb-true (length rest) 0 none)) ∙ append-nil done)) s
 
 -- the summary of a trial, unless memory ran out
 pub told_summary : {E : Type 0} (result : Result (List ℕ) E) (n bytes : ℕ) (table : Shown) (trial_session : Trial)

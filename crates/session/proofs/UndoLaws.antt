@@ -1,10 +1,9 @@
 -- An undo after an edit, and a load after a save.
-use Rattle.std.proofs.Common.{◌≡◌, ◌∙◌, ◌≤◌, refl, sym, ap, ℕ, true, false, true≢false, List, [], Option, Some}
-use Rattle.std.proofs.Common.{None, Result, Ok, Err, if◌then◌else◌, length, cond, arith}
-use Rattle.std.specs.Prelude.{nat_lt}
-use Rattle.std.proofs.lemmas.Bool.Decides.{nat_tests}
+use Rattle.std.proofs.Common.{◌≡◌, ◌∙◌, refl, sym, ap, ℕ, true, false, true≢false, List, [], Option, Some}
+use Rattle.std.proofs.Common.{None, Result, Ok, Err, if◌then◌else◌, length, cond}
 use Rattle.std.specs.Cmp.Lexicographic.{nat_list_cmp_total}
 use Rattle.std.specs.FinMap as map_of
+use Rattle.std.proofs.lemmas.Bool.{le-ltb}
 use Rattle.units_io.specs.FileMap.{FileMap, file_of, longest_file}
 use Rattle.quantity.proofs.Names.{is_itself}
 use Rattle.def_entry.specs.declared.key.Key.{Key}
@@ -100,15 +99,12 @@ undo-load state name deck made =
     (undone-made state (edit_result outcome name (dated_in state.session)) (notice_lines outcome) deck
     (versions_behind deck (dated_in state.session)) (ap (λ o. edit_result o name (dated_in state.session)) made) refl)
 
-not-less : (m n : ℕ) → n ≤ m → nat_lt m n ≡ false
-not-less m n h = grind (arith, nat_tests)
-
 -- the file of this name has the saved text
 file-there : (files : FileMap) (name : List ℕ) (d : Contents) → CanBeSaved d
     → file_of (files_saved (saved_file d) name files) name ≡ Some (saved_text d)
 file-there files name d can =
     ap (λ b. file_of (files_saved (if b then Err TooLong else Ok (saved_text d)) name files) name)
-    (not-less longest_file (length (saved_text d)) can.text_within_limit)
+    (le-ltb longest_file (length (saved_text d)) can.text_within_limit)
     ∙ map_of.get-insert nat_list_cmp_total files name (saved_text d) name
     ∙ ap (λ b. cond b (Some (saved_text d)) (map_of.get files name)) (is_itself name)
 

@@ -4,31 +4,28 @@ use Rattle.std.proofs.Common.{Some, None, refl, sym, ap, arith, append_assoc, le
 use Rattle.std.specs.List.{position, position_from}
 use Rattle.std.proofs.Math.Seq.{drop-append_seam, take-append_seam}
 use Rattle.std.proofs.lemmas.Iterator.Adapters.{position_from-zero}
+use Rattle.std.proofs.lemmas.Bool.{or_parts}
 use Rattle.def_entry.specs.declared.key.Key.{Key}
 use Rattle.def_entry.specs.SameKeys.{is_key_among, is_same}
+use Rattle.def_entry.proofs.SameKeys.{same_keys}
 use Rattle.table_names.specs.Faults.{cycle_chain}
-use Rattle.table_names.proofs.KeyLists.{off_longer, same_itself}
+use Rattle.table_names.proofs.KeyLists.{off_longer}
 use Rattle.survey.specs.PrefixFaults.{chain_from_key, turned_to}
-
--- if a disjunction is false, both of its parts are
-neither : (b c : Bool) → (b || c) ≡ false → (b ≡ false) × (c ≡ false)
-neither true c e = cc
-neither false c e = (refl, e)
 
 module _ (k : Key) where
   from_off : (i : ℕ) (xs : List Key) → is_key_among xs k ≡ false → position_from (is_same k) i xs ≡ None
   from_off i [] e = refl
   from_off i (x ∷ xs) e =
-      let h = neither (is_same k x) (is_key_among xs k) e in
+      let h = or_parts (is_same k x) (is_key_among xs k) e in
       ap (λ b. cond b (Some i) (position_from (is_same k) (i + 1) xs)) h.0 ∙ from_off (i + 1) xs h.1
 
   from_at : (i : ℕ) (front back : List Key) → is_key_among front k ≡ false
       → position_from (is_same k) i (front ++ k ∷ back) ≡ Some (i + length front)
   from_at i [] back e =
       let z : i ≡ i + 0 = omega arith in
-      ap (λ b. cond b (Some i) (position_from (is_same k) (i + 1) back)) (same_itself k) ∙ ap Some z
+      ap (λ b. cond b (Some i) (position_from (is_same k) (i + 1) back)) ((same_keys k k).1 refl) ∙ ap Some z
   from_at i (x ∷ front) back e =
-      let h = neither (is_same k x) (is_key_among front k) e in
+      let h = or_parts (is_same k x) (is_key_among front k) e in
       let z : (i + 1) + length front ≡ i + length (x ∷ front) = omega arith in
       ap (λ b. cond b (Some i) (position_from (is_same k) (i + 1) (front ++ k ∷ back))) h.0
       ∙ (from_at (i + 1) front back h.1 ∙ ap Some z)
@@ -43,7 +40,7 @@ module _ (k : Key) where
       → is_key_among (cycle_chain h path) k ≡ false
   chain_off h [] other e = ap (λ b. b || false) other
   chain_off h (x ∷ path) other e =
-      let p = neither (is_same k x) (is_key_among path k) e in
+      let p = or_parts (is_same k x) (is_key_among path k) e in
       go (is_same h x) p.0 p.1 (chain_off h path other p.1)
     where
       go : (b : Bool) → is_same k x ≡ false → is_key_among path k ≡ false → is_key_among (cycle_chain h path) k ≡ false
@@ -53,7 +50,7 @@ module _ (k : Key) where
           ∙ off_longer path h k behind (λ q. unlike q)
         where
           unlike : k ≡ h → ⊥
-          unlike q = let s : is_same k h ≡ true = ap (is_same k) (sym q) ∙ same_itself k in cc (s, other)
+          unlike q = let s : is_same k h ≡ true = ap (is_same k) (sym q) ∙ (same_keys k k).1 refl in cc (s, other)
       go false at behind rest = rest
 
   -- a chain that returns to the key before its end is turned to begin with the key

@@ -9,13 +9,14 @@ use Rattle.expr_tree.specs.declared.word_list.WordUse.{WordUse}
 use Rattle.def_entry.specs.declared.key.Key.{Key}
 use Rattle.def_entry.specs.SameKeys.{is_key_among, is_same}
 use Rattle.def_entry.specs.Tables.{Table, is_present}
+use Rattle.def_entry.proofs.SameKeys.{same_keys}
 use Rattle.table_names.specs.declared.fault.NameFault.{NameFault}
 use Rattle.table_names.specs.declared.fault.NameFault.TheVariants.{Unknown, Refused, Cycle}
 use Rattle.table_names.specs.ClosedKeys.{IsClosed}
 use Rattle.table_names.specs.FaultLaws.{IsKeyPath}
 use Rattle.table_names.specs.Faults.{cycle_chain, key_fault, name_fault, words_fault}
 use Rattle.table_names.specs.Words.{key_words}
-use Rattle.table_names.proofs.KeyLists.{off_longer, on_longer, one_key, same_itself}
+use Rattle.table_names.proofs.KeyLists.{off_longer, on_longer}
 use Rattle.table_names.proofs.Paths.{empty_is_path, key_words_closed, longer, path_fits_table, words_closed_key}
 use Rattle.survey.specs.PrefixFaults.{PrefixLaw, prefix_fault}
 use Rattle.survey.proofs.FaultSteps.{AreOpen, Barred, Fits, Lost, Open, Step, by_words, faulty_not_closed, fits_words}
@@ -57,10 +58,6 @@ front_longer : (path : List Key) (h x : Key) → front path ≡ Some x → front
 front_longer [] h x e = cc
 front_longer (y ∷ path) h x e = e
 
--- a test that does not hold is false
-off_from : (b : Bool) → (b ≡ true → ⊥) → b ≡ false
-off_from b h = false_from_ne_true b h
-
 module _ (table : Table) (k : Key) (k_open : IsClosed table k → ⊥) where
   -- a path that can be continued both after the key and without it
   record IsBoth (path : List Key) : Type 0 where
@@ -89,7 +86,7 @@ module _ (table : Table) (k : Key) (k_open : IsClosed table k → ⊥) where
   behind_open path none n on closed = go (is_same n k) refl on
     where
       go : (b : Bool) → is_same n k ≡ b → (b || is_key_among path n) ≡ true → ⊥
-      go true e h = k_open (subst (IsClosed table) (one_key n k e) closed)
+      go true e h = k_open (subst (IsClosed table) ((same_keys n k).0 e) closed)
       go false e h = none n h closed
 
   both_longer : (path : List Key) (h : Key) → IsBoth path → (h ≡ k → ⊥) → is_key_among path h ≡ false
@@ -97,7 +94,8 @@ module _ (table : Table) (k : Key) (k_open : IsClosed table k → ⊥) where
   both_longer path h b other off h_open = record {
     behind =
         longer table (k ∷ path) h b.behind
-        (ap (λ (x : Bool). x || is_key_among path h) (off_from (is_same h k) (λ e. other (one_key h k e))) ∙ off)
+        (ap (λ (x : Bool). x || is_key_among path h)
+        (false_from_ne_true (is_same h k) (λ e. other ((same_keys h k).0 e))) ∙ off)
         (open_present table h h_open);
     without = longer table path h b.without off (open_present table h h_open);
     off = off_longer path h k b.off (λ e. other (sym e));
@@ -133,7 +131,7 @@ module _ (table : Table) (k : Key) (k_open : IsClosed table k → ⊥) where
         → words_fault table (k ∷ path) words ≡ behind_by same on → words_fault table path words ≡ without_by on
         → Comes path words
     comes_by true on e o p q =
-        let hk : h ≡ k = one_key h k e in
+        let hk : h ≡ k = (same_keys h k).0 e in
         let off : on ≡ false = sym o ∙ (ap (is_key_among path) hk ∙ b.off) in (
           Cycle (k ∷ (path ++ k ∷ [])),
           p ∙ ap (λ (x : Key). Some (Cycle (k ∷ (path ++ x ∷ [])))) hk,
@@ -147,7 +145,8 @@ module _ (table : Table) (k : Key) (k_open : IsClosed table k → ⊥) where
         )
     comes_by false true e o p q =
         let other : is_same k h ≡ false =
-        off_from (is_same k h) (λ s. cc (e, ap (λ (x : Key). is_same x k) (sym (one_key k h s)) ∙ same_itself k)) in (
+        false_from_ne_true (is_same k h)
+        (λ s. cc (e, ap (λ (x : Key). is_same x k) (sym ((same_keys k h).0 s)) ∙ (same_keys k k).1 refl)) in (
           Cycle (cycle_chain h path),
           p,
           inl (
@@ -158,7 +157,8 @@ module _ (table : Table) (k : Key) (k_open : IsClosed table k → ⊥) where
           ),
         )
     comes_by false false e o p q =
-        go (below h (both_longer path h b (λ s. cc (e, ap (is_same h) (sym s) ∙ same_itself h)) o h_open) h_open)
+        go (below h (both_longer path h b (λ s. cc (e, ap (is_same h) (sym s) ∙ (same_keys h h).1 refl)) o h_open)
+        h_open)
       where
         go : Comes (path ++ h ∷ []) (key_words table h) → Comes path words
         go (f, is, inl r) = (f, p ∙ is, inl (r.0, q ∙ r.1, r.2))
@@ -229,7 +229,7 @@ module _ (table : Table) (k : Key) (k_open : IsClosed table k → ⊥) where
       then Some (Cycle (cycle_chain h ((y ∷ more) ++ k ∷ [])))
       else by_words table (((y ∷ more) ++ k ∷ []) ++ h ∷ []) h) ≡ Some g)
       × (prefix_fault k g ≡ Cycle (k ∷ ((y ∷ more) ++ k ∷ [])))) (sym s)
-      (go (is_same h h) (same_itself h) (subst (λ (y : Key). is_key_among (y ∷ more) k ≡ false) s off))
+      (go (is_same h h) ((same_keys h h).1 refl) (subst (λ (y : Key). is_key_among (y ∷ more) k ≡ false) s off))
     where
       go : (b : Bool) → b ≡ true → is_key_among (h ∷ more) k ≡ false
           → (g : NameFault) × ((if b || is_key_among (more ++ k ∷ []) h
@@ -253,7 +253,7 @@ module _ (table : Table) (k : Key) (k_open : IsClosed table k → ⊥) where
       → (same : Bool) → is_same h k ≡ same
       → IsSame (words_fault table (k ∷ []) (key_words table k)) (words_fault table [] (key_words table k))
   at_key there h h_open steps true e =
-      let hk : h ≡ k = one_key h k e in
+      let hk : h ≡ k = (same_keys h k).0 e in
       let b : IsBoth [] = alone there in
       let p : words_fault table (k ∷ []) (key_words table k) ≡ Some (Cycle (k ∷ (h ∷ []))) =
       steps (k ∷ []) b.behind (behind_open [] b.none_closed)
@@ -270,7 +270,8 @@ module _ (table : Table) (k : Key) (k_open : IsClosed table k → ⊥) where
       let b : IsBoth [] = alone there in
       let some : length (k ∷ []) ≤ length table = path_fits_table table (k ∷ []) b.behind in
       go (comes (length table - 1) (h ∷ []) (key_words table h)
-      (both_longer [] h b (λ s. cc (e, ap (is_same h) (sym s) ∙ same_itself h)) refl h_open) (has_step h h_open)
+      (both_longer [] h b (λ s. cc (e, ap (is_same h) (sym s) ∙ (same_keys h h).1 refl)) refl h_open)
+      (has_step h h_open)
       (omega arith))
     where
       p : IsBoth [] → words_fault table (k ∷ []) (key_words table k) ≡ words_fault table (k ∷ (h ∷ []))

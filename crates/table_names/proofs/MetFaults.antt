@@ -5,6 +5,7 @@ use Rattle.std.proofs.Common.{Contains, Option, Some, None, refl, sym, ◌∙◌
 use Rattle.std.specs.Option.{option_or}
 use Rattle.std.proofs.lemmas.Bool.{cond-false, cond-true}
 use Rattle.std.specs.List.{last_or}
+use Rattle.std.proofs.lemmas.Option.{same_Some}
 use Rattle.expr_tree.specs.declared.word_list.WordUse.{WordUse}
 use Rattle.expr_tree.specs.Names.{is_refused}
 use Rattle.def_entry.specs.declared.key.Key.{Key}
@@ -28,9 +29,6 @@ use Rattle.table_names.proofs.Lookups.{target_present}
 use Rattle.table_names.proofs.Members.{member_cases, member_first, member_later, no_member}
 use Rattle.table_names.proofs.OneFault.{fault_law}
 use Rattle.table_names.proofs.Paths.{empty_is_path, longer, path_fits_table}
-
-some_same : {A : Type 0} (x y : A) → Some x ≡ Some y → x ≡ y
-some_same x y e = cc
 
 none_some : {A : Type 0} (o : Option A) (x : A) → o ≡ None → o ≡ Some x → ⊥
 none_some o x e f = cc
@@ -226,7 +224,7 @@ module _ (table : Table) where
 
   one : (path : List Key) (words : List WordUse) (f g : NameFault) → IsKeyPath table path
       → Meets table path words f → Meets table path words g → f ≡ g
-  one path words f g p a b = some_same f g (sym (met a p) ∙ met b p)
+  one path words f g p a b = same_Some f g (sym (met a p) ∙ met b p)
 
   no_fault : (path : List Key) (words : List WordUse) → IsKeyPath table path
       → ((f : NameFault) → Meets table path words f → ⊥) → AreClean table path words

@@ -1,6 +1,7 @@
 -- Keys and words stand for their computed meanings.
 use Rattle.std.proofs.Common.{◌≡◌, ◌≢◌, ℕ, zero, suc, true, false, List, [], ◌∷◌, length, Contains, Option, Some, None}
 use Rattle.std.proofs.Common.{is_some, refl, sym, ◌∙◌, ap, subst, inl, inr}
+use Rattle.std.proofs.lemmas.Option.{same_Some}
 use Rattle.expr_tree.specs.declared.word_list.WordUse.{WordUse}
 use Rattle.def_entry.specs.declared.key.Key.{Key}
 use Rattle.def_entry.specs.declared.key.Kind.{Kind}
@@ -28,9 +29,6 @@ use Rattle.table_names.proofs.Paths.{closed_ending, closed_key_ending, ending_ke
 use Rattle.table_names.specs.StandsFor.{ByEntry, ByOneTarget, ByPrefixAndUnit, IsMeaning, StandsFor, WordStandsFor}
 use Rattle.table_names.specs.StandsForLaws.{IsName, StandsForLaw}
 use Rattle.table_names.proofs.TargetKinds.{target_no_list}
-
-some_same : {A : Type 0} (x y : A) → Some x ≡ Some y → x ≡ y
-some_same x y e = cc
 
 one_same : (n k : Key) → n ∷ [] ≡ k ∷ [] → n ≡ k
 one_same n k e = cc
@@ -85,7 +83,7 @@ module _ (table : Table) where
   mutual
     same : {n : Key} {m k : Meaning} → StandsFor table n m → StandsFor table n k → m ≡ k
     same {n} {m} {k} (ByEntry e means q stands says) (ByEntry f other r stand says_too) =
-        let same_entry : e ≡ f = some_same e f (sym q ∙ r) in
+        let same_entry : e ≡ f = same_Some e f (sym q ∙ r) in
         meaning_is means n.name e.what m says
         ∙ (entry_same means other n.name (Some e)
         (λ u i. same_word (stands u i) (stand u (subst (λ (x : Entry). Contains (what_words x.what) u) same_entry i)))

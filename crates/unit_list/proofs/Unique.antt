@@ -7,7 +7,7 @@ use Rattle.std.proofs.lemmas.Int.{ints}
 use Rattle.std.proofs.lemmas.List.{length-map}
 use Rattle.std.proofs.lemmas.List.Elements.{recursion_from_All}
 use Rattle.std.proofs.Math.Nat.{le_of_mul-le-mul_right, lt_of_mul-lt-mul_right, mul-le-mul_right}
-use Rattle.std.proofs.Math.Nat.{mul-lt-mul_of_pos_right, mul-pos}
+use Rattle.std.proofs.Math.Nat.{mul-lt-mul_of_pos_right, mul-pos, eq_of_mul-eq-mul_right}
 use Rattle.frac128.specs.Exact.{difference, product, sum}
 use Rattle.frac128.specs.Fraction.{Fraction, IsReduced, SameValue, whole}
 use Rattle.frac128.specs.Sign.{is_negative, magnitude, negated_if}
@@ -17,7 +17,7 @@ use Rattle.unit_list.specs.Counts.{total_of_counts}
 use Rattle.unit_list.specs.Splits.{last_of, nearest_to}
 use Rattle.unit_list.proofs.SignedCounts.{abs-neg, last_unit, map-plain, total-negated}
 use Rattle.unit_list.proofs.PlainCounts.{difference_value, unit_natural}
-use Rattle.unit_list.proofs.Values.{HasValue, cancelled, own_value, pos_same}
+use Rattle.unit_list.proofs.Values.{HasValue, own_value, pos_same}
 
 -- a fraction in lowest terms that is not below 0
 record IsPlain (x : Fraction) : Type 0 where
@@ -198,7 +198,7 @@ one_last : ReducedLaw → (k l : ℕ) (count other : Fraction) (is : IsPlain cou
     → is.num * k ≡ l * count.den → of.num * k ≡ l * other.den → count ≡ other
 one_last law k l count other is of some first second =
     let cross : is.num * other.den ≡ of.num * count.den =
-    cancelled _ _ k some (crossed is.num of.num count.den other.den first second) in
+    eq_of_mul-eq-mul_right k some _ _ (crossed is.num of.num count.den other.den first second) in
     let same : SameValue count other =
     ap (λ z. z *ℤ pos other.den) is.num_is ∙ ap pos cross ∙ ap (λ z. z *ℤ pos count.den) (sym of.num_is) in
     let unique = (law other.num other.den of.reduced.den_positive).2 in

@@ -59,10 +59,6 @@ reduced_value law a d some =
 pub own_value : (x : Fraction) (n : ℕ) → x.num ≡ pos n → 0 < x.den → HasValue x n x.den
 own_value x n is some = record { num = n; num_is = is; positive = some; same = refl }
 
--- a common factor above 0 can be cancelled
-pub cancelled : (x y k : ℕ) → 0 < k → x * k ≡ y * k → x ≡ y
-cancelled x y k some h = eq_of_mul-eq-mul_right k some x y h
-
 -- the quotient of two fractions with natural numerators, in lowest terms
 pub over_reduced : (x unit q : Fraction) (n c : ℕ) → x.num ≡ pos n → unit.num ≡ pos c → 0 < x.den → 0 < c
     → fraction_quotient x unit ≡ Ok q
@@ -98,7 +94,8 @@ over_value law x unit q a b c is c_is some_d some_c some_b h =
       num = raw.num;
       num_is = raw.num_is;
       positive = raw.positive;
-      same = cancelled _ _ x.den is.positive (crossed raw.num q.den is.num x.den unit.den raw.same is.same);
+      same = eq_of_mul-eq-mul_right x.den is.positive _ _
+          (crossed raw.num q.den is.num x.den unit.den raw.same is.same);
     }
   where
     crossed : (n e m k d : ℕ) → n * (k * c) ≡ m * d * e → m * b ≡ a * k → n * (b * c) * k ≡ a * d * e * k
@@ -236,7 +233,7 @@ minus_value law multiples x t r a b p e left is_x is_t some_b some_e left_is h =
     -- the difference of the numerators over the denominators
     plain : (xn xd tn td f g m d n rd : ℕ) → xd * f ≡ m → td * g ≡ m → 0 < m → d + tn * g ≡ xn * f → n * m ≡ d * rd
         → n * (xd * td) + tn * xd * rd ≡ xn * td * rd
-    plain xn xd tn td f g m d n rd first second some d_is n_is = cancelled _ _ m some (
+    plain xn xd tn td f g m d n rd first second some d_is n_is = (eq_of_mul-eq-mul_right m some _ _ (
         spread n (xd * td) (tn * xd * rd) m
         ∙ ap (λ z. z * (xd * td) + tn * xd * rd * m) n_is
         ∙ ap (λ z. d * rd * (xd * td) + tn * xd * rd * z) (sym second)
@@ -244,7 +241,7 @@ minus_value law multiples x t r a b p e left is_x is_t some_b some_e left_is h =
         ∙ ap (λ z. z * (rd * xd * td)) d_is
         ∙ turn xn f rd xd td
         ∙ ap (λ z. xn * td * rd * z) first
-        )
+        ))
       where
         spread : (n k s m : ℕ) → (n * k + s) * m ≡ n * m * k + s * m
         spread n k s m = omega arith
@@ -270,7 +267,7 @@ minus_value law multiples x t r a b p e left is_x is_t some_b some_e left_is h =
         ∙ turn_back xd td rd in
         let whole : a * e * rd * (xd * td) ≡ left * rd * (xd * td) + p * b * rd * (xd * td) =
         ap (λ z. z * rd * (xd * td)) (sym left_is) ∙ parted (p * b) rd (xd * td) in
-        cancelled _ _ (xd * td) (mul-pos some_x some_t) (same_sum _ _ _ (scaled ∙ whole))
+        (eq_of_mul-eq-mul_right (xd * td) (mul-pos some_x some_t) _ _ (same_sum _ _ _ (scaled ∙ whole)))
       where
         split : (n xd td rd : ℕ)
             → n * (b * e) * (xd * td) + p * b * rd * (xd * td) ≡ n * (xd * td) * (b * e) + p * td * (xd * rd * b)

@@ -4,6 +4,7 @@ use Rattle.std.proofs.Common.{refl}
 use Rattle.std.proofs.Common.{sym, ap, subst, codes, if◌then◌else◌, is_some, not, unwrap_or}
 use Rattle.std.specs.Prelude.{option_map}
 use Rattle.std.specs.Str.{bytes_eq}
+use Rattle.std.proofs.lemmas.Option.{none-some, same_Some}
 use Rattle.command_line.specs.Fields.{command_line_of}
 use Rattle.command_line.specs.AcceptedWords.{are_taken}
 use Rattle.command_line.specs.declared.fields.CommandLine.{CommandLine}
@@ -51,20 +52,14 @@ left_all course wanted WriteFault before after stated left = absurd stated
 left_all course wanted NoMemory before after stated left = absurd stated
 left_all course wanted InputTooLong before after stated left = absurd stated
 
-some_same : (a b : List ℕ) → Some a ≡ Some b → a ≡ b
-some_same a b e = ap (λ (o : Option (List ℕ)). unwrap_or o []) e
-
-none_some : (text : List ℕ) → None ≡ Some text → ⊥
-none_some text e = cc
-
 -- the content of a text that is given
 content_of : (t : Option (List ℕ)) (text : List ℕ) → option_map line_content t ≡ Some text
     → line_content (unwrap_or t []) ≡ text
-content_of None text e = absurd (none_some text e)
-content_of (Some t) text e = some_same (line_content t) text e
+content_of None text e = absurd (none-some text e)
+content_of (Some t) text e = same_Some (line_content t) text e
 
 is_there : (t : Option (List ℕ)) (text : List ℕ) → option_map line_content t ≡ Some text → is_some t ≡ true
-is_there None text e = absurd (none_some text e)
+is_there None text e = absurd (none-some text e)
 is_there (Some t) text e = refl
 
 -- a FROM without a column needs no input
@@ -100,12 +95,12 @@ module _ (line : CommandLine) (deck : Contents) (files : FileMap) (from to : Lis
     (one : bytes_eq to (codes "?") ≡ false) where
   work_converted : (f : Option (List ℕ)) → option_map line_content f ≡ Some from
       → work_by f line deck files ≡ plan_of_reply deck (asked_conversion (table deck) (options_of line) from to)
-  work_converted None e = absurd (none_some from e)
+  work_converted None e = absurd (none-some from e)
   work_converted (Some f) e =
       ap (λ (c : Option ℕ). from_plan c line (line_content f) (line_content (unwrap_or line.to [])) deck) column
       ∙ ap (λ (x : List ℕ).
       plan_of_reply deck (asked_for (table deck) (options_of line) x (line_content (unwrap_or line.to []))))
-      (some_same (line_content f) from e)
+      (same_Some (line_content f) from e)
       ∙ ap (λ (x : List ℕ). plan_of_reply deck (asked_for (table deck) (options_of line) from x))
       (content_of line.to to to_is)
       ∙ ap (plan_of_reply deck) (asked_converted (table deck) (options_of line) from to some one)

@@ -1,6 +1,6 @@
 -- The run of a plan.
 use Rattle.std.proofs.Common.{◌≡◌, ◌≤◌, ◌⊎◌, [], inl, inr, ℕ, List, Bool, true, false, Some, None, refl, sym, ap, subst}
-use Rattle.std.proofs.Common.{◌∙◌, ◌||◌, arith, unwrap_or}
+use Rattle.std.proofs.Common.{◌∙◌, ◌||◌, arith}
 use Rattle.std.specs.declared.option.Option.{Option}
 use Rattle.units_io.specs.Bytes.{known_append, GrowsByFront}
 use Rattle.units_io.specs.Faults.{CountRose}
@@ -9,6 +9,9 @@ use Rattle.units_io.specs.NamedValues.{Pairs}
 use Rattle.session.specs.HeardLines.{heard}
 use Rattle.session.specs.Input.{lines_of}
 use Rattle.std.proofs.lemmas.List.{append-nil}
+use Rattle.std.proofs.Math.Bool.{or-true}
+use Rattle.std.proofs.lemmas.Option.{same_Some}
+use Rattle.std.proofs.lemmas.Bool.{or_parts}
 use Rattle.session.specs.Outside.{GrowsAtLeast, Outside}
 use Rattle.session.specs.Sessions.{SessionState}
 use Rattle.session.specs.Talks.{SessionTrace}
@@ -30,7 +33,6 @@ use Rattle.units_run.specs.declared.plan.Plan.TheVariants.{Whole, Opened, Column
 use Rattle.units_run.specs.declared.status.Status.{Status}
 use Rattle.units_run.specs.declared.status.Status.TheVariants.{Done, Refused, Usage, NoFile, ReadFault, WriteFault}
 use Rattle.units_run.specs.declared.status.Status.TheVariants.{NoMemory, InputTooLong}
-use Rattle.units_run.proofs.WordPlans.{left_false, not_both, or_true}
 use Rattle.column_run.proofs.Writing.{grown_none}
 use Rattle.units_run.proofs.SessionFiles.{SeesFiles}
 
@@ -88,10 +90,6 @@ whole_run (plans.Whole run) files input said status before after stated planned 
 whole_run (plans.Opened talk) files input said status before after stated planned out err kept = absurd planned
 whole_run (plans.Columns work) files input said status before after stated planned out err kept = absurd planned
 
--- equal known files are equal
-files_same : (files same : FileMap) → Some files ≡ Some same → files ≡ same
-files_same files same e = ap (λ (o : Option FileMap). unwrap_or o files) e
-
 -- the plan of a session, which is opened
 pub opened_talk : (want : plans.Plan) (files : FileMap) (said : Said) (session : SessionState) (before now : Outside)
     → IsPlan want files (Opened said session) before.steps now.steps → now.out ≡ before.out → now.err ≡ before.err
@@ -114,7 +112,7 @@ opened_talk (plans.Opened first) files said session before now planned out err k
       out = planned.out;
       err = planned.err;
       session = planned.session;
-      files = kept ∙ told ∙ ap (when_told before.files) (files_same files first.state.files planned.files);
+      files = kept ∙ told ∙ ap (when_told before.files) (same_Some files first.state.files planned.files);
       steps = planned.steps;
     };
   },
@@ -297,7 +295,7 @@ pub session_opens : (words : List (List ℕ)) (vars : Pairs) (told : Option File
     → ((m : FileMap) → TellsIf (needs_definitions words) told m
     → IsPlan (plan_of words vars m) m (Opened said session) old new) → OpensNone words vars ending told → ⊥
 session_opens words vars told said session e ending old new opens is planned =
-    neither (not_both (opens_session words) opens)
+    neither (λ (e : opens_session words ≡ false). both_ways (opens_session words) e opens)
     (neither (λ file. file_end e (is ∙ file))
     (λ whole.
     none_opened (plan_of words vars whole.0) whole.0 said session old new whole.2 (planned whole.0 whole.1)))
@@ -305,7 +303,7 @@ session_opens words vars told said session e ending old new opens is planned =
 -- a run that reads no input opens no session
 pub takes_opens : (words : List (List ℕ)) (vars : Pairs) (ending : Status) (told : Option FileMap)
     → TakesNone words vars ending told → OpensNone words vars ending told
-takes_opens words vars ending told (inl none) = inl (left_false (opens_session words) (converts_column words) none)
+takes_opens words vars ending told (inl none) = inl (or_parts (opens_session words) (converts_column words) none).0
 takes_opens words vars ending told (inr none) = inr none
 
 -- a whole run cannot end with `Done` if its words lead to a session, because then there is no deck
@@ -316,7 +314,7 @@ no_session_done false column status h opens done = cc
 
 pub no_column_worked : (session column : Bool) (status : Status) → ((session || column) ≡ true → status ≡ NoFile)
     → column ≡ true → IsWorked status → ⊥
-no_column_worked session true status h converts worked = subst IsWorked (h (or_true session)) worked
+no_column_worked session true status h converts worked = subst IsWorked (h (or-true session)) worked
 no_column_worked session false status h converts worked = cc
 
 -- an ending that is neither a read fault nor a write fault is not a fault
@@ -329,9 +327,6 @@ no_fault ReadFault read write = absurd (read refl)
 no_fault WriteFault read write = absurd (write refl)
 no_fault NoMemory read write = tt
 no_fault InputTooLong read write = tt
-
-pub same_le : (n k : ℕ) → k ≡ n → n ≤ k
-same_le n k e = omega arith
 
 -- a sink to which bytes were written has grown by at least those bytes
 pub at_least : (before after : Option (List ℕ)) (bytes said : List ℕ) → said ≡ bytes → after ≡ known_append before said

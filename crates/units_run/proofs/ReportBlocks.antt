@@ -5,7 +5,8 @@ use Rattle.std.specs.declared.option.Option.{Option}
 use Rattle.std.specs.List.{cons_option}
 use Rattle.std.proofs.lemmas.Grind.{flat_map-append}
 use Rattle.std.proofs.lemmas.Bool.Decides.{nat_tests}
-use Rattle.std.proofs.lemmas.List.{append-nil, length-drop, take-append-drop, take_all}
+use Rattle.std.proofs.lemmas.List.{append-nil, take-append-drop, take_rest}
+use Rattle.std.proofs.lemmas.Bool.{true≢false}
 use Rattle.column_run.proofs.Writing.{front_all, front_behind, front_more, grown_none, grown_twice}
 use Rattle.def_entry.specs.declared.key.Key.{Key}
 use Rattle.def_lines.specs.Words.{is_empty}
@@ -39,15 +40,6 @@ some_both : (xs ys : List ℕ) → not (is_empty (xs ++ ys)) ≡ (not (is_empty 
 some_both [] ys = refl
 some_both (x ∷ xs) ys = refl
 
-true_false : true ≡ false → ⊥
-true_false is = cc
-
--- taking as many places as are left after the first n takes all of them
-places_behind : (n : ℕ) (places : List ℕ) → take (length places - n) (drop n places) ≡ drop n places
-places_behind n places =
-    let long : length (drop n places) ≡ length places - n = length-drop n places in
-    take_all (length places - n) (drop n places) (omega arith)
-
 -- a list of places whose length is 0 is empty
 pub no_places : (places : List ℕ) (none : Bool) → none ≡ (length places == 0) → none ≡ true → places ≡ []
 no_places [] none is e = refl
@@ -56,10 +48,10 @@ no_places (x ∷ places) none is e = absurd (grind (arith, nat_tests, is, e))
 -- the ending of a report, depending on whether it has any bytes
 pub reported : (bytes : List ℕ) (any : Bool) (before after : Option (List ℕ)) → any ≡ not (is_empty bytes)
     → after ≡ known_append before bytes → IsReportWritten bytes (if any then Refused else Done) before after
-reported [] true before after is all = absurd (true_false is)
+reported [] true before after is all = absurd (true≢false is)
 reported [] false before after is all = (refl, all)
 reported (b ∷ bytes) true before after is all = (refl, all)
-reported (b ∷ bytes) false before after is all = absurd (true_false (sym is))
+reported (b ∷ bytes) false before after is all = absurd (true≢false (sym is))
 
 module _ (deck : Contents) (options : Options) where
   -- the lines of the keys at some places, and the queries that are made for them
@@ -168,7 +160,7 @@ module _ (options : Options) (places head : List ℕ) (start : Option (List ℕ)
       underway_next left cleared after some behind none all either = record {
         front = front_further;
         written = u.written ++ further;
-        parts = parts_next ∙ ap (λ (ps : List ℕ). front_further ++ ps) (sym (behind ∙ places_behind n rest));
+        parts = parts_next ∙ ap (λ (ps : List ℕ). front_further ++ ps) (sym (behind ∙ take_rest rest n));
         out_is =
             all
             ∙ ap (λ (o : Option (List ℕ)). known_append o further) u.out_is

@@ -1,6 +1,7 @@
 -- Files and input that words do not need.
 use Rattle.std.proofs.Common.{◌≡◌, ◌&&◌, ◌||◌, ℕ, List, Bool, true, false, Option, Some, None, Result, Ok, Err}
 use Rattle.std.proofs.Common.{refl, sym, ap, subst, ◌∙◌, if◌then◌else◌, is_some, not}
+use Rattle.std.proofs.lemmas.Bool.{or_parts}
 use Rattle.units_io.specs.FileMap.{FileMap}
 use Rattle.units_io.specs.NamedValues.{Pairs}
 use Rattle.command_line.specs.Fields.{command_line_of}
@@ -16,7 +17,7 @@ use Rattle.units_run.specs.Needs.{is_column, is_session, loads_file, needs_files
 use Rattle.units_run.specs.Plans.{IsWhole, Plan, Whole, Opened, Columns}
 use Rattle.units_run.specs.Settings.{settings_of}
 use Rattle.units_run.specs.Work.{deck_plan, file_plan, from_plan, opened_over, plan_by, plan_of, plan_of_check, work_by}
-use Rattle.units_run.proofs.WordPlans.{left_false, plan_taken, plan_untaken, right_false}
+use Rattle.units_run.proofs.WordPlans.{plan_taken, plan_untaken}
 
 -- the plan of work that opens no session is the same over all files
 work_same : (from : Option (List ℕ)) (check : Bool) (line : CommandLine) (deck : Contents) (files others : FileMap)
@@ -41,7 +42,7 @@ plan_same : (trial : Option ℕ) (line : CommandLine) (settings : Settings) (fil
     → plan_by trial line settings files ≡ plan_by trial line settings others
 plan_same (Some rounds) line settings files others none = refl
 plan_same None line settings files others none =
-    deck_same line.file line settings files others (left_false _ _ none) (right_false _ _ none)
+    deck_same line.file line settings files others (or_parts _ _ none).0 (or_parts _ _ none).1
 
 files_by : (taken : Bool) (words : List (List ℕ)) (vars : Pairs) (files others : FileMap) → are_taken words ≡ taken
     → (taken && (loads_file (command_line_of words) || is_session (command_line_of words))) ≡ false
@@ -94,7 +95,7 @@ plan_whole : (trial : Option ℕ) (line : CommandLine) (settings : Settings) (fi
     → IsWhole (plan_by trial line settings files)
 plan_whole (Some rounds) line settings files none = tt
 plan_whole None line settings files none =
-    deck_whole line.file line settings files (left_false _ _ none) (right_false _ _ none)
+    deck_whole line.file line settings files (or_parts _ _ none).0 (or_parts _ _ none).1
 
 input_by : (taken : Bool) (words : List (List ℕ)) (vars : Pairs) (files : FileMap) → are_taken words ≡ taken
     → ((taken && is_session (command_line_of words)) || (taken && is_column (command_line_of words))) ≡ false

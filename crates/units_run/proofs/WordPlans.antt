@@ -1,7 +1,9 @@
 -- The plan of the words.
-use Rattle.std.proofs.Common.{◌≡◌, ◌&&◌, ◌||◌, inl, inr, ℕ, List, Bool, true, false, IfOk, Result, Ok, Err, Some, None, refl}
+use Rattle.std.proofs.Common.{◌≡◌, ◌&&◌, ◌||◌, inl, inr, ℕ, List, Bool, true, false, IfOk, Result, Ok, Err, Some, None}
+use Rattle.std.proofs.Common.{refl}
 use Rattle.std.proofs.Common.{ap, subst, sym, ◌∙◌, if◌then◌else◌, is_some, not}
 use Rattle.std.specs.declared.option.Option.{Option}
+use Rattle.std.proofs.lemmas.Bool.{both_ways, false_from_ne_true, or_parts}
 use Rattle.units_io.specs.FileMap.{FileMap}
 use Rattle.units_io.specs.NamedValues.{Pairs}
 use Rattle.command_line.specs.AcceptedWords.{are_taken}
@@ -60,22 +62,14 @@ none_failed n fault.TooLong known = refl
 none_failed n fault.ReadFailed known = absurd (known (inr refl))
 none_failed n fault.OutOfMemory known = refl
 
-pub left_false : (a b : Bool) → (a || b) ≡ false → a ≡ false
-left_false true b e = e
-left_false false b e = refl
-
-pub right_false : (a b : Bool) → (a || b) ≡ false → b ≡ false
-right_false true b e = cc
-right_false false b e = e
-
 -- if the words need no file, their command line loads none
 pub loads_needed : (words : List (List ℕ)) (line : CommandLine) → are_taken words ≡ true → line ≡ command_line_of words
     → needs_files words ≡ false → loads_file line ≡ false
 loads_needed words line taken read none =
     let read_line = command_line_of words in
     ap loads_file read
-    ∙ left_false (loads_file read_line) (is_session read_line)
-    (sym (ap (λ b. b && (loads_file read_line || is_session read_line)) taken) ∙ none)
+    ∙ (or_parts (loads_file read_line) (is_session read_line)
+    (sym (ap (λ b. b && (loads_file read_line || is_session read_line)) taken) ∙ none)).0
 
 -- if the words name no definition file, their command line loads none
 pub loads_named : (words : List (List ℕ)) (line : CommandLine) → are_taken words ≡ true → line ≡ command_line_of words
@@ -130,14 +124,14 @@ pub session_told : (words : List (List ℕ)) (input : List ℕ) (files : Option 
 session_told words input (Some told) m opens s = tt
 session_told words input None m opens s =
     and_false (opens_session words) (any_loads_file input) opens
-    (right_false (needs_definitions words) (opens_session words && any_loads_file input) s)
+    (or_parts (needs_definitions words) (opens_session words && any_loads_file input) s).1
 
 -- files that are known if one is fetched are known if the definition file is loaded
 pub definitions_told : (words : List (List ℕ)) (input : List ℕ) (files : Option FileMap) (m : FileMap)
     → TellsIf (fetches_file words input) files m → TellsIf (needs_definitions words) files m
 definitions_told words input files m s =
     tells_less (fetches_file words input) (needs_definitions words) files m
-    (left_false (needs_definitions words) (opens_session words && any_loads_file input)) s
+    (or_parts (needs_definitions words) (opens_session words && any_loads_file input) s).0
 
 -- a known value is known, needed or not
 pub tells_told : {X : Type 0} (needed : Bool) (o : Option X) (x : X) → o ≡ Some x → TellsIf needed o x
@@ -157,19 +151,11 @@ no_column words e f =
     let line = command_line_of words in
     both_none (are_taken words) (is_some line.trial) (is_some line.from) line.check (is_some line.column) e f
 
-pub false_by : (b : Bool) → (b ≡ true → ⊥) → b ≡ false
-false_by true h = absurd (h refl)
-false_by false h = refl
-
-pub not_both : (b : Bool) → b ≡ true → b ≡ false → ⊥
-not_both true e f = cc
-not_both false e f = cc
-
 -- the limit of the input of a session
 pub session_most : (words : List (List ℕ)) → opens_session words ≡ true → 4294967296 ≡ most_input words
 session_most words e =
     sym (ap (λ (b : Bool). if b then 16777216 else 4294967296)
-    (false_by (converts_column words) (no_column words e)))
+    (false_from_ne_true (converts_column words) (no_column words e)))
 
 pub column_most : (words : List (List ℕ)) → converts_column words ≡ true → 16777216 ≡ most_input words
 column_most words e = sym (ap (λ (b : Bool). if b then 16777216 else 4294967296) e)
@@ -179,10 +165,5 @@ pub no_lead : (words : List (List ℕ)) → are_taken words ≡ false → (opens
     → ⊥
 no_lead words untaken leads =
     let line = command_line_of words in
-    not_both (opens_session words || converts_column words) leads
-    (ap
-    (λ (b : Bool). (b && is_session line) || (b && is_column line)) untaken)
-
-pub or_true : (b : Bool) → (b || true) ≡ true
-or_true true = refl
-or_true false = refl
+    both_ways (opens_session words || converts_column words) (ap
+    (λ (b : Bool). (b && is_session line) || (b && is_column line)) untaken) leads

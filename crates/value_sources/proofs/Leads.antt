@@ -2,7 +2,7 @@
 use Rattle.std.proofs.Common.{◌≡◌, ◌-◌, ◌<◌, ◌≤◌, ◌∷◌, [], ℕ, zero, suc, List, length, drop, refl, sym, ◌∙◌}
 use Rattle.std.proofs.Common.{Bool, Some, true, ap, subst, arith}
 use Rattle.std.specs.Prelude.{if◌then◌else◌}
-use Rattle.std.proofs.lemmas.List.{drop_all, length-drop}
+use Rattle.std.proofs.lemmas.List.{drop_all, length-drop, nil_from_length}
 use Rattle.expr_tree.specs.declared.word_list.WordKind.{WordKind}
 use Rattle.expr_tree.specs.declared.word_list.WordKind.TheVariants as word_kind
 use Rattle.expr_tree.specs.declared.word_list.WordUse.{WordUse}
@@ -40,10 +40,6 @@ two_last ks i j d e =
     at_place ks i (omega (arith, d, e))
     ∙ ap (λ (xs : List Key). key_at_place ks i ∷ xs) (ap (λ (x : ℕ). drop x ks) d ∙ one_last ks j e)
 
-none_there : (ks : List Key) → length ks ≡ 0 → ks ≡ []
-none_there [] e = refl
-none_there (k ∷ ks) e = absurd (omega (arith, e))
-
 -- ---- the targets that a search among the keys of a table found, if none was tried before
 pub found_by : (t : Table) (u : WordUse) (law : LookupLaw) (w : Targets) (before tried : List Key) (kind : WordKind)
     (text : List ℕ)
@@ -69,7 +65,7 @@ module _ (t : Table) (u : WordUse) (w : Targets) (tried : List Key) (found : Are
 
 module _ (t : Table) (u : WordUse) (tried : List Key) where
   pub none_found : AreFound which.Nowhere [] tried (word_lookup t u) → targets t u ≡ []
-  none_found found = none_there (targets t u) found.many
+  none_found found = nil_from_length (targets t u) found.many
 
   pub one_found : AreFound which.Last [] tried (word_lookup t u) → (i : ℕ) → i ≡ length tried - 1
       → targets t u ≡ key_at_place tried i ∷ []

@@ -3,7 +3,7 @@ use Rattle.std.proofs.Common.{◌≡◌, ◌⊎◌, ◌++◌, ◌∷◌, ◌+◌
 use Rattle.std.proofs.Common.{true≢false, not, List}
 use Rattle.std.proofs.Common.{length, take, set, get_or, Contains, Option, Some, None, option_map, refl, sym, ap}
 use Rattle.std.proofs.Common.{subst, ◌∙◌}
-use Rattle.std.proofs.Common.{inl, inr, append_assoc, arith, cond, slice_get, nat_eq}
+use Rattle.std.proofs.Common.{inl, inr, append_assoc, arith, cond, slice_get}
 use Rattle.std.specs.List.{cons_option}
 use Rattle.std.specs.Option.{option_and_then}
 use Rattle.std.proofs.lemmas.Bool.{eq-eqb, eqb-true}
@@ -52,12 +52,6 @@ get_push (z ∷ xs) y (suc i) x e =
       | inl q ↦ inl q
       | inr q ↦ inr (ap suc q.0, q.1)
     ]
-
-eq_place : (a b : ℕ) → nat_eq a b ≡ true → a ≡ b
-eq_place a b e = eqb-true a b e
-
-same_place : (a : ℕ) → nat_eq a a ≡ true
-same_place a = eq-eqb a a refl
 
 same_bool : (a b : Bool) → (a ≡ true → b ≡ true) → (b ≡ true → a ≡ true) → a ≡ b
 same_bool true b f g = sym (f refl)
@@ -136,7 +130,7 @@ module _ (d : Contents) (depths places : List ℕ) (path : List Key) (is : IsPla
           let z : false ≡ true = ap (λ (p : Option ℕ). is_place p place) (sym q) ∙ h in cc
       forward (Some other) q h =
           let same : other ≡ place =
-          eq_place other place (ap (λ (p : Option ℕ). is_place p place) (sym q) ∙ h) in
+          eqb-true other place (ap (λ (p : Option ℕ). is_place p place) (sym q) ∙ h) in
           member_by n (get_or depths place 0) place e (q ∙ ap (λ (x : ℕ). Some x) same)
 
       backward : (i : ℕ) × (p : ℕ) × (slice_get places i ≡ Some p) × (last_place d.settings d.lines n ≡ Some p)
@@ -145,7 +139,7 @@ module _ (d : Contents) (depths places : List ℕ) (path : List Key) (is : IsPla
           let same : p ≡ place = same_Some p place (sym l ∙ e) in
           let here : slice_get places i ≡ Some place = at ∙ ap (λ (x : ℕ). Some x) same in
           ap (λ (x : ℕ). is_place (slice_get places x) place) (is.depths_are i place here)
-          ∙ (ap (λ (o : Option ℕ). is_place o place) here ∙ same_place place)
+          ∙ (ap (λ (o : Option ℕ). is_place o place) here ∙ eq-eqb place place refl)
 
   -- a key without a line is not on the path
   pub absent_is : (n : Key) → last_place d.settings d.lines n ≡ None → is_key_among path n ≡ false

@@ -1,6 +1,6 @@
 -- The steps of a walk.
-use Rattle.std.proofs.Common.{◌≡◌, ◌++◌, ◌∷◌, ◌+◌, [], ℕ, Bool, true, false, List, length, reverse, Contains, map, set}
-use Rattle.std.proofs.Common.{Option, Result, Ok, Err, IfOk, OnOk, arith, Some, None, refl, sym, ap, subst, ◌∙◌, inl, inr}
+use Rattle.std.proofs.Common.{◌≡◌, ◌++◌, ◌∷◌, ◌+◌, [], ℕ, Bool, true, false, List, reverse, Contains, map, set}
+use Rattle.std.proofs.Common.{Option, Result, Ok, Err, IfOk, Some, None, refl, sym, ap, subst, ◌∙◌, inl, inr}
 use Rattle.std.proofs.Common.{append_assoc}
 use Rattle.std.specs.List.{cons_option}
 use Rattle.std.proofs.lemmas.List.{append-nil, length-set, map-append, reverse-append}
@@ -206,21 +206,15 @@ marks_visited d marks rows m n place h e p = record {
 }
 
 -- ---- the results of calls
-pub on_ok : {A E P Q : Type 0} (r : Result A E) → (P → Q) → OnOk r P → OnOk r Q
-on_ok (Ok x) f p = f p
-on_ok (Err e) f p = p
 
 pub if_ok : {A E : Type 0} {P Q : A → Type 0} (r : Result A E) → ((x : A) → P x → Q x) → IfOk r P → IfOk r Q
 if_ok (Ok x) f p = f x p
 if_ok (Err e) f p = p
 
-pub none_left : {A : Type 0} (xs : List A) → length xs ≡ 0 → xs ≡ []
-none_left [] e = refl
-none_left (x ∷ xs) e = absurd (omega (arith, e))
-
 -- the place that is found for the key of a mention, given values equal to the marks and the place
 pub place_found : (d : Contents) (marks flags : List Bool) (rows : List Row) (p : Placed) (answer place : Option ℕ)
-    → AreMarked d marks rows → flags ≡ marks → IsPlacedRight d p → answer ≡ unmarked_place flags p.place → answer ≡ place
+    → AreMarked d marks rows → flags ≡ marks → IsPlacedRight d p → answer ≡ unmarked_place flags p.place
+    → answer ≡ place
     → IsUnvisitedPlace d (visited_keys rows) p.mention.target place
 place_found d marks flags rows p answer place h f sound found is =
     subst (λ (o : Option ℕ). IsUnvisitedPlace d (visited_keys rows) p.mention.target o)

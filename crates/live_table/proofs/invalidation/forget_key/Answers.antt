@@ -1,5 +1,6 @@
 use Rattle.std.proofs.Common.{◌≡◌, ◌∷◌, [], ℕ, List, Some, is_some, sym, ◌∙◌, ap, subst, arith}
 use Rattle.std.proofs.lemmas.Map.Made.{is_some-lookup}
+use Rattle.std.proofs.lemmas.Option.{slice_get_within}
 use Rattle.def_entry.specs.Keys.{key as key_named}
 use Rattle.def_entry.specs.SameKeys.{is_key_among, is_same}
 use Rattle.def_entry.specs.Tables.{is_present, keys_of}
@@ -12,7 +13,6 @@ use Rattle.live_table.specs.Forgotten.{AreForgotten}
 use Rattle.live_table.specs.OutcomesLeft.{AreNumbersLeft}
 use Rattle.live_table.specs.TableContents.{Listed, node_lists}
 use Rattle.live_table.proofs.Forgets.{absent_forgotten, flag_forgotten, one_forgotten}
-use Rattle.live_table.proofs.Places.{get_lt}
 use Rattle.live_table.proofs.invalidation.forget_key.Goals as goal
 use Rattle.live_table.proofs.invalidation.forget_key.Goals.{After-note}
 
@@ -28,7 +28,7 @@ returns-in_default c =
 
 pub note-requires : goal.note-requires
 note-requires c =
-    let h = get_lt c.args.nodes.now.keys c.in-Some.n _ c.in-Some.ensures.number in
+    let h = slice_get_within c.args.nodes.now.keys c.in-Some.n _ c.in-Some.ensures.number in
     let e = c.requires.flag_per_key in
     omega (arith, h, e)
 

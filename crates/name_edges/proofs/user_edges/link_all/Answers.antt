@@ -1,22 +1,23 @@
 use Rattle.std.proofs.Common.{◌∙◌, arith}
-use Rattle.name_edges.proofs.Linked.{all_linked, item_in, one_linked}
+use Rattle.std.proofs.lemmas.List.Elements.{Contains-get_or}
+use Rattle.name_edges.proofs.Linked.{all_linked, one_linked}
 use Rattle.name_edges.proofs.user_edges.link_all.Goals as goal
 
 pub overflow_mul-key : goal.overflow_mul-key
 overflow_mul-key c =
-    let h = c.requires.keys _ (item_in c.args.keys.now c.loop-key.key-index c.loop-key-test.true) in
+    let h = c.requires.keys _ (Contains-get_or c.args.keys.now c.loop-key.key-index 0 c.loop-key-test.true) in
     let f = c.requires.fits in
     omega (arith, h, f)
 
 pub overflow_add-key : goal.overflow_add-key
 overflow_add-key c =
-    let h = c.requires.keys _ (item_in c.args.keys.now c.loop-key.key-index c.loop-key-test.true) in
+    let h = c.requires.keys _ (Contains-get_or c.args.keys.now c.loop-key.key-index 0 c.loop-key-test.true) in
     let f = c.requires.fits in
     omega (arith, h, f)
 
 pub link-requires-clause-there : goal.link-requires-clause-there
 link-requires-clause-there c =
-    let h = c.requires.keys _ (item_in c.args.keys.now c.loop-key.key-index c.loop-key-test.true) in
+    let h = c.requires.keys _ (Contains-get_or c.args.keys.now c.loop-key.key-index 0 c.loop-key-test.true) in
     let u = c.requires.user in
     let n = c.loop-key.invariant.nodes in
     (omega (arith, u, n), omega (arith, h, n))

@@ -1,4 +1,7 @@
 use Rattle.std.proofs.Common.{◌≡◌, ◌∙◌, ◌⊎◌, ◌||◌, ℕ, Bool, Err, ap, false, inl, inr, refl, sym, subst, true}
+use Rattle.std.proofs.lemmas.Bool.{both_ways, false_from_ne_true, or_parts}
+use Rattle.std.proofs.Math.Bool.{or-true}
+use Rattle.std.proofs.Math.Nat.{le_of_eq}
 use Rattle.units_io.specs.Faults.{CountRose}
 use Rattle.session.specs.HeardLines.{any_loads_file}
 use Rattle.session.specs.Outside.{outside_of}
@@ -14,11 +17,11 @@ use Rattle.units_run.specs.declared.status.Status.TheVariants.{ReadFault, WriteF
 use Rattle.units_run.proofs.PlanRuns.{cut_run, memory_done, memory_long, memory_read, memory_write, unmade_run}
 use Rattle.units_run.proofs.SessionFiles.{plan_sees}
 use Rattle.session.proofs.Blocks.{of_two}
-use Rattle.units_run.proofs.WordPlans.{column_most, false_by, input_files, no_column, not_both, or_true, session_most}
-use Rattle.units_run.proofs.WordPlans.{definitions_told, left_false, right_false, session_told, tells_needed}
+use Rattle.units_run.proofs.WordPlans.{column_most, input_files, no_column, session_most}
+use Rattle.units_run.proofs.WordPlans.{definitions_told, session_told, tells_needed}
 use Rattle.units_run.proofs.PlanRuns.{done_end, long_end, may_end_stated, neither, no_column_worked, no_fault}
 use Rattle.units_run.proofs.PlanRuns.{no_session_done, no_write, none_converted, not_long, opened_run, opened_talk}
-use Rattle.units_run.proofs.PlanRuns.{plan_course, plan_end, read_end, same_le, session_may_end, session_opens}
+use Rattle.units_run.proofs.PlanRuns.{plan_course, plan_end, read_end, session_may_end, session_opens}
 use Rattle.units_run.proofs.PlanRuns.{taken_may_end, takes_opens, tells_stay, unread_run, whole_run, write_end}
 use Rattle.units_run.specs.Checks.{checked_report}
 use Rattle.units_run.proofs.GrantedRuns.{granted_by}
@@ -68,17 +71,15 @@ returns-in-Ok-Check-clause-run g c =
           (planned.ensures.kept ∙ tells_stay _ _ m s);
       stated_ending = λ stated.
           taken_may_end _ (loads_file (command_line_of c.args.words.now)) _ false c.write_check.result kind.0
-          (left_false (opens_session c.args.words.now) (converts_column c.args.words.now) kind.1)
+          (or_parts (opens_session c.args.words.now) (converts_column c.args.words.now) kind.1).0
           (worked_may_end _ c.write_check.result
           (check_worked report c.write_check.result _ _ ended.written stated));
       session_input_read = λ input q opens done.
           absurd
-          (not_both _ opens
-          (left_false (opens_session c.args.words.now) (converts_column c.args.words.now) kind.1));
+          (both_ways _ (or_parts (opens_session c.args.words.now) (converts_column c.args.words.now) kind.1).0 opens);
       column_input_read = λ input q column over.
           absurd
-          (not_both _ column
-          (right_false (opens_session c.args.words.now) (converts_column c.args.words.now) kind.1));
+          (both_ways _ (or_parts (opens_session c.args.words.now) (converts_column c.args.words.now) kind.1).1 column);
       read_fault = λ is. absurd (unread is);
       write_fault = λ is. inl (ended.write is);
       too_long = λ is. absurd (check_short report c.write_check.result _ _ ended.written is);
@@ -112,7 +113,8 @@ returns-in-Ok-Opened-clause-run g c =
     let write : (c.status_of.result ≡ WriteFault → CountRose (g.O.Sink.faults c.args.out.now)
     (g.O.Sink.faults c.answer_source-end.new.out)
     ⊎ CountRose (g.E.Sink.faults c.args.err.now) (g.E.Sink.faults c.answer_source-end.new.err)
-    ⊎ CountRose (g.F.Files.store_faults c.args.files.now) (g.F.Files.store_faults c.answer_source-end.new.files)) = λ so.
+    ⊎ CountRose (g.F.Files.store_faults c.args.files.now) (g.F.Files.store_faults c.answer_source-end.new.files)) =
+    λ so.
     subst
     (λ (n : ℕ). CountRose (g.O.Sink.faults c.args.out.now) (g.O.Sink.faults c.answer_source-end.new.out)
     ⊎ CountRose (g.E.Sink.faults c.args.err.now) (g.E.Sink.faults c.answer_source-end.new.err)
@@ -128,7 +130,7 @@ returns-in-Ok-Opened-clause-run g c =
           rw opened.field-0-is at (opened.ensures.told m (definitions_told c.args.words.now input _ m s)) in
           let talk =
           opened_talk want m opened.said opened.session before _ plan refl refl opened.ensures.kept (tells_stay _ _ m s)
-          (same_le _ _ opened.ensures.calm) (same_le _ _ opened.ensures.stores) in
+          (le_of_eq (sym opened.ensures.calm)) (le_of_eq (sym opened.ensures.stores)) in
           subst
           (λ (st : Status). IsLeftOf want (plan_course want m input) (plan_end want m input) st before after) is
           (opened_run want talk.0 m input c.answer_source-end.result before after talk.1
@@ -139,7 +141,8 @@ returns-in-Ok-Opened-clause-run g c =
           taken_may_end _ (loads_file (command_line_of c.args.words.now)) _ true c.status_of.result kind.0 kind.1
           (subst (MayEnd true _ true) is
           (session_may_end _ c.answer_source-end.result (subst IsStated c.status_of.ensures stated)));
-      session_input_read = λ input q need done. ended.whole_run input q (done_end c.answer_source-end.result (is ∙ done));
+      session_input_read = λ input q need done.
+          ended.whole_run input q (done_end c.answer_source-end.result (is ∙ done));
       column_input_read = λ input q column over. absurd (no_column c.args.words.now kind.1 column);
       read_fault = read;
       write_fault = write;
@@ -164,7 +167,7 @@ returns-in-Ok-Columns-clause-run g c =
           let want = plan_of c.args.words.now c.args.vars.now m in
           let need : needs_input c.args.words.now ≡ true =
           ap (λ (b : Bool). opens_session c.args.words.now || b) is_for.1
-          ∙ or_true (opens_session c.args.words.now) in
+          ∙ or-true (opens_session c.args.words.now) in
           let plan =
           rw columns.field-0-is at (columns.ensures.told m (definitions_told c.args.words.now input _ m s)) in
           let column = planned_column want m columns.plan c.args.steps.now _ plan in
@@ -176,7 +179,7 @@ returns-in-Ok-Columns-clause-run g c =
           (tells_needed _ _ input need q) column.2 (tells_stay _ _ m s));
       stated_ending = λ stated.
           taken_may_end _ (loads_file (command_line_of c.args.words.now)) _ false c.convert_column.result is_for.0
-          (false_by _ (λ opens. no_column c.args.words.now opens is_for.1))
+          (false_from_ne_true _ (λ opens. no_column c.args.words.now opens is_for.1))
           (worked_may_end _ c.convert_column.result (ended.ends stated));
       session_input_read = λ input q opens done. absurd (no_column c.args.words.now opens is_for.1);
       column_input_read = λ input q column over. ended.whole input q over;
@@ -195,7 +198,7 @@ returns-in-Ok-Columns-clause-run g c =
 pub returns-in-Ok-Opened-clause-unasked : goal.returns-in-Ok-Opened-clause-unasked
 returns-in-Ok-Opened-clause-unasked g c = λ none.
     let kind = rw c.in-Ok-Opened.field-0-is at c.in-Ok-Opened.ensures.kind in
-    absurd (not_both _ (input_files c.args.words.now kind.1) none)
+    absurd (both_ways _ none (input_files c.args.words.now kind.1))
 
 pub returns-in-Ok-Opened-clause-source : goal.returns-in-Ok-Opened-clause-source
 returns-in-Ok-Opened-clause-source g c = λ none.
@@ -213,8 +216,8 @@ returns-in-Ok-Columns-clause-source g c = λ none.
     let words = c.args.words.now in
     absurd
     (neither
-    (not_both (needs_input words)
-    (ap (λ (b : Bool). opens_session words || b) kind.1 ∙ or_true (opens_session words)))
+    (λ (e : needs_input words ≡ false). both_ways (needs_input words) e
+    (ap (λ (b : Bool). opens_session words || b) kind.1 ∙ or-true (opens_session words)))
     (neither (λ file. subst IsWorked file (c.convert_column.ensures.ends (subst IsStated (sym file) tt)))
     (λ whole.
     none_converted (plan_of words c.args.vars.now whole.0) whole.0 planned.plan _ _ whole.2
@@ -334,13 +337,15 @@ pub returns-in-Ok-Opened-clause-order : goal.returns-in-Ok-Opened-clause-order
 returns-in-Ok-Opened-clause-order g c = λ m s.
     let opened = c.in-Ok-Opened in
     session_order (plan_of c.args.words.now c.args.vars.now m) m opened.said opened.session _ _ _ _
-    (rw opened.field-0-is at (opened.ensures.told m s)) (rw c.new-listener.ensures.talk at c.answer_source-end.ensures.order)
+    (rw opened.field-0-is at (opened.ensures.told m s))
+    (rw c.new-listener.ensures.talk at c.answer_source-end.ensures.order)
 
 pub returns-in-Ok-Opened-clause-opened : goal.returns-in-Ok-Opened-clause-opened
 returns-in-Ok-Opened-clause-opened g c = λ m s.
     let opened = c.in-Ok-Opened in
     session_opening (plan_of c.args.words.now c.args.vars.now m) m opened.said opened.session _ _ _ _ _ _
-    (rw opened.field-0-is at (opened.ensures.told m s)) (rw c.new-listener.ensures.talk at c.answer_source-end.ensures.opening)
+    (rw opened.field-0-is at (opened.ensures.told m s))
+    (rw c.new-listener.ensures.talk at c.answer_source-end.ensures.opening)
 
 pub returns-in-Ok-Opened-clause-unnamed : goal.returns-in-Ok-Opened-clause-unnamed
 returns-in-Ok-Opened-clause-unnamed g c = λ input q none names.

@@ -1,6 +1,6 @@
 use Rattle.std.proofs.Common.{◌≡◌, ◌++◌, ◌+◌, ◌<◌, ◌≤◌, ◌∷◌, [], List, cond, length, get_or, drop, Some, slice_get, sym}
 use Rattle.std.proofs.Common.{ap, ◌∙◌, arith, false}
-use Rattle.std.proofs.lemmas.List.{append-nil}
+use Rattle.std.proofs.lemmas.List.{append-nil, get_or_read}
 use Rattle.def_lines.specs.Kinds.{kind_of}
 use Rattle.deck_lines.specs.declared.line.DeckLine.{DeckLine}
 use Rattle.deck_lines.proofs.ExchangedItems.{drop_found}
@@ -8,7 +8,7 @@ use Rattle.deck.specs.Active.{active_lines}
 use Rattle.deck.specs.Decks.{Contents}
 use Rattle.deck.specs.Messages.{message_in, message_of, texts_of_lines, where_true}
 use Rattle.deck.proofs.MarkedLines.{length-activity}
-use Rattle.deck.proofs.LineTexts.{flag_read, told_all, told_step}
+use Rattle.deck.proofs.LineTexts.{told_all, told_step}
 use Rattle.deck.proofs.deck.Deck.messages.Goals as goal
 
 pub line-requires : goal.line-requires
@@ -39,7 +39,7 @@ loop-i-preserved c =
     (drop_found lines c.loop-i.i x at) c.loop-i.invariant
     (c.in_ok-push_message.ensures
     ∙ ap (λ b. c.loop-i.texts ++ cond b (message_of (kind_of c.line.result.text.now)) [])
-    (flag_read c.in_ok-flags.flags.items c.loop-i.i c.index.result.now inside c.index.ensures))
+    (get_or_read c.in_ok-flags.flags.items c.loop-i.i c.index.result.now inside c.index.ensures false))
 
 pub returns : goal.returns
 returns c =

@@ -1,9 +1,8 @@
 use Rattle.std.proofs.Common.{◌≡◌, ℕ, ◌<◌, List, length, get_or, take, sym, ◌∙◌, ap, subst}
-use Rattle.std.proofs.lemmas.List.{take_more}
+use Rattle.std.proofs.lemmas.List.{take_more, get_or_read, take_all}
 use Rattle.edge_links.specs.Edges.{EdgeGraph, edge_count}
 use Rattle.edge_links.specs.Rings.{AreMembers}
-use Rattle.edge_links.proofs.ListPuts.{read}
-use Rattle.edge_links.proofs.Users.{has_user, user_put, stands_in, member_there, are_users, all_taken}
+use Rattle.edge_links.proofs.Users.{has_user, user_put, stands_in, member_there, are_users}
 use Rattle.edge_links.proofs.WeightedSums.{summed}
 use Rattle.edge_links.proofs.links.Links.edges_into.Goals as goal
 
@@ -12,7 +11,7 @@ members_of : (keys nodes items seen : List ℕ) (key head : ℕ) → key < lengt
     → AreMembers keys head items → AreMembers keys (get_or nodes key 0) seen
 members_of keys nodes items seen key head l e s m =
     subst (λ xs. AreMembers keys (get_or nodes key 0) xs) (sym s)
-    (subst (λ h. AreMembers keys h items) (read nodes key head l e) m)
+    (subst (λ h. AreMembers keys h items) (get_or_read nodes key head l e 0) m)
 
 pub user_of-user-requires : goal.user_of-user-requires
 user_of-user-requires c =
@@ -50,5 +49,5 @@ returns c x =
     there
     c.deref-place-items.result.now members
     c.loop-place.users (λ y. c.loop-place.invariant y ∙ ap (summed (has_user c.self.inside.places y))
-    (all_taken c.deref-place-items.result.now c.loop-place.place-index c.loop-place-test.false)) x
+    (take_all c.loop-place.place-index c.deref-place-items.result.now c.loop-place-test.false)) x
     ∙ ap (λ (g : EdgeGraph). edge_count g.edges x c.args.key) c.self.view_is

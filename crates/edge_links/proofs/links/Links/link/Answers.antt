@@ -1,7 +1,7 @@
 use Rattle.std.proofs.Common.{◌<◌, ◌∷◌, sym, ◌∙◌, ap, subst}
+use Rattle.std.proofs.lemmas.List.{get_or_read}
 use Rattle.edge_links.specs.Edges.{EdgeGraph, edge, edge_count}
 use Rattle.edge_links.proofs.FreePlaces.{linked_counts, linked_links}
-use Rattle.edge_links.proofs.ListPuts.{read}
 use Rattle.edge_links.proofs.links.Links.link.Goals as goal
 
 pub invariant_of-self : goal.invariant_of-self
@@ -11,8 +11,9 @@ invariant_of-self c =
     linked_links c.self.inside.places c.fill.new.self c.self.inside.nodes.items c.fill.ensures.edges c.self.invariant
     c.args.user c.args.key
     c.index-user.result.now c.index-key.result.now al bl
-    (read c.self.inside.nodes.items c.args.user c.index-user.result.now al c.index-user.ensures)
-    (read c.self.inside.nodes.items c.args.key c.index-key.result.now bl c.index-key.ensures) c.fill.ensures.filled
+    (get_or_read c.self.inside.nodes.items c.args.user c.index-user.result.now al c.index-user.ensures 0)
+    (get_or_read c.self.inside.nodes.items c.args.key c.index-key.result.now bl c.index-key.ensures 0)
+    c.fill.ensures.filled
 
 pub returns-clause-edges : goal.returns-clause-edges
 returns-clause-edges c x y =
@@ -21,6 +22,7 @@ returns-clause-edges c x y =
     linked_counts c.self.inside.places c.fill.new.self c.self.inside.nodes.items c.fill.ensures.edges c.self.invariant
     c.args.user c.args.key
     c.index-user.result.now c.index-key.result.now al bl
-    (read c.self.inside.nodes.items c.args.user c.index-user.result.now al c.index-user.ensures)
-    (read c.self.inside.nodes.items c.args.key c.index-key.result.now bl c.index-key.ensures) c.fill.ensures.filled x y
+    (get_or_read c.self.inside.nodes.items c.args.user c.index-user.result.now al c.index-user.ensures 0)
+    (get_or_read c.self.inside.nodes.items c.args.key c.index-key.result.now bl c.index-key.ensures 0)
+    c.fill.ensures.filled x y
     ∙ ap (λ (g : EdgeGraph). edge_count (edge c.args.user c.args.key ∷ g.edges) x y) c.self.view_is

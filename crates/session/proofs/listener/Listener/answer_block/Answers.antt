@@ -1,5 +1,6 @@
 use Rattle.std.proofs.Common.{◌++◌, refl, sym, ◌∙◌, arith}
-use Rattle.session.proofs.Blocks.{either_rose, later_than, rose_from, rose_since, same_input, stands}
+use Rattle.std.proofs.Math.Nat.{le_trans}
+use Rattle.session.proofs.Blocks.{either_rose, rose_from, rose_since, same_input, stands}
 use Rattle.session.proofs.SourceEnding.{done_by, fed_cause, goes_on, write_cause}
 use Rattle.session.proofs.FetchFaultCounts.{same_fault_count}
 use Rattle.session.proofs.HeardLines.{told_input}
@@ -27,8 +28,10 @@ returns-in_default-clause-run g c = λ was is. record {
   run_if_known = λ first taken more start t fetches stores w.
       let p = c.loop-rest.invariant.waits first taken more start was.input_left is.input_left t w in
       let s = stands first (taken ++ p.0) _ _ _ _ p.2 c.clear.new.self c.clear.ensures.out c.clear.ensures.err in
-      part_written first taken c.args.block.now p.0 c.loop-rest.rest.now c.feed_block-fed.new.rest.now more p.1 _ _ _ _ p.2
-      c.feed_block-fed.result _ c.feed_block-fed.new.self.talk.said _ _ (c.feed_block-fed.ensures.told _ first (taken ++ p.0) more
+      part_written first taken c.args.block.now p.0 c.loop-rest.rest.now c.feed_block-fed.new.rest.now more p.1 _ _ _ _
+      p.2
+      c.feed_block-fed.result _ c.feed_block-fed.new.self.talk.said _ _
+      (c.feed_block-fed.ensures.told _ first (taken ++ p.0) more
       (told_input _ _ start.files (same_input taken c.args.block.now p.0 c.loop-rest.rest.now more p.1) t) s)
       c.write.ensures.out c.write.ensures.err
       (λ failed. rose_from _ _ _ _ stores c.loop-rest.invariant.stores_later
@@ -46,8 +49,10 @@ returns-in-Some-clause-run g c = λ was is. record {
   run_if_known = λ first taken more start t fetches stores w.
       let p = c.loop-rest.invariant.waits first taken more start was.input_left is.input_left t w in
       let s = stands first (taken ++ p.0) _ _ _ _ p.2 c.clear.new.self c.clear.ensures.out c.clear.ensures.err in
-      ended_written first taken c.args.block.now p.0 c.loop-rest.rest.now c.feed_block-fed.new.rest.now more p.1 _ _ _ _ p.2
-      c.feed_block-fed.result _ c.feed_block-fed.new.self.talk.said _ _ (c.feed_block-fed.ensures.told _ first (taken ++ p.0) more
+      ended_written first taken c.args.block.now p.0 c.loop-rest.rest.now c.feed_block-fed.new.rest.now more p.1 _ _ _ _
+      p.2
+      c.feed_block-fed.result _ c.feed_block-fed.new.self.talk.said _ _
+      (c.feed_block-fed.ensures.told _ first (taken ++ p.0) more
       (told_input _ _ start.files (same_input taken c.args.block.now p.0 c.loop-rest.rest.now more p.1) t) s)
       c.in-Some.end
       c.in-Some.ensures c.in-Ok.ensures.whole.0 c.in-Ok.ensures.whole.1
@@ -73,14 +78,15 @@ loop-rest-preserved g c = record {
         c.feed_block-fed.ensures.faults.fetches_counted,
     c.loop-rest.invariant.fetches_later,
   );
-  stores_later = later_than _ _ _ c.loop-rest.invariant.stores_later c.feed_block-fed.ensures.faults.stores_grow;
-  out_later = later_than _ _ _ c.loop-rest.invariant.out_later c.write.ensures.out_later;
-  err_later = later_than _ _ _ c.loop-rest.invariant.err_later c.write.ensures.err_later;
+  stores_later = le_trans c.loop-rest.invariant.stores_later c.feed_block-fed.ensures.faults.stores_grow;
+  out_later = le_trans c.loop-rest.invariant.out_later c.write.ensures.out_later;
+  err_later = le_trans c.loop-rest.invariant.err_later c.write.ensures.err_later;
   out_grows = grows_again _ _ _ c.loop-rest.invariant.out_grows (front_grows _ _ _ c.write.ensures.out);
   err_grows = grows_again _ _ _ c.loop-rest.invariant.err_grows (front_grows _ _ _ c.write.ensures.err);
   holds = λ taken h.
       let p = c.loop-rest.invariant.holds taken h in
-      holds_on taken c.args.block.now p.0 c.loop-rest.rest.now c.feed_block-fed.new.rest.now _ p.1 c.feed_block-fed.result
+      holds_on taken c.args.block.now p.0 c.loop-rest.rest.now c.feed_block-fed.new.rest.now _ p.1
+      c.feed_block-fed.result
       (c.feed_block-fed.ensures.cut (taken ++ p.0) p.2) (goes_on c.feed_block-fed.result c.in_default-end_of.ensures);
   unasked = λ taken more h none.
       let p = c.loop-rest.invariant.holds taken h in
@@ -91,7 +97,8 @@ loop-rest-preserved g c = record {
       let p = c.loop-rest.invariant.waits first taken more start was is t w in
       let s = stands first (taken ++ p.0) _ _ _ _ p.2 c.clear.new.self c.clear.ensures.out c.clear.ensures.err in
       waits_on first taken c.args.block.now p.0 c.loop-rest.rest.now c.feed_block-fed.new.rest.now more p.1 _ _ _ _ p.2
-      c.feed_block-fed.result _ c.feed_block-fed.new.self.talk.said _ _ (c.feed_block-fed.ensures.told _ first (taken ++ p.0) more
+      c.feed_block-fed.result _ c.feed_block-fed.new.self.talk.said _ _
+      (c.feed_block-fed.ensures.told _ first (taken ++ p.0) more
       (told_input _ _ start.files (same_input taken c.args.block.now p.0 c.loop-rest.rest.now more p.1) t) s)
       c.in-Ok.ensures.whole.0 c.in-Ok.ensures.whole.1 (goes_on c.feed_block-fed.result c.in_default-end_of.ensures);
 }
@@ -117,8 +124,10 @@ returns-in_default-clause-cut g c = λ taken h done. cc
 pub returns-in-Some-clause-cut : goal.returns-in-Some-clause-cut
 returns-in-Some-clause-cut g c = λ taken h done.
     let p = c.loop-rest.invariant.holds taken h in
-    block_last taken c.args.block.now p.0 c.loop-rest.rest.now c.feed_block-fed.new.rest.now _ p.1 c.feed_block-fed.result
-    (c.feed_block-fed.ensures.cut (taken ++ p.0) p.2) (done_by c.feed_block-fed.result c.in-Some.end c.in-Some.ensures done)
+    block_last taken c.args.block.now p.0 c.loop-rest.rest.now c.feed_block-fed.new.rest.now _ p.1
+    c.feed_block-fed.result
+    (c.feed_block-fed.ensures.cut (taken ++ p.0) p.2)
+    (done_by c.feed_block-fed.result c.in-Some.end c.in-Some.ensures done)
 
 pub returns-clause-cut : goal.returns-clause-cut
 returns-clause-cut g c = λ taken h.

@@ -1,6 +1,7 @@
 use Rattle.std.proofs.Common.{◌++◌, [], inl, take, refl, sym, ap, arith, Some, ◌∙◌}
+use Rattle.std.proofs.Math.Nat.{le_trans}
 use Rattle.session.specs.Worlds.{source_of}
-use Rattle.session.proofs.Blocks.{all_heard, cut_part, heard_by, later_than, loses_from_known, no_rest, none_left}
+use Rattle.session.proofs.Blocks.{all_heard, cut_part, heard_by, loses_from_known, no_rest, none_left}
 use Rattle.session.proofs.Blocks.{output_cut_short}
 use Rattle.session.proofs.Blocks.{bytes_rejoined, rose_since, took_enough, took_more}
 use Rattle.session.proofs.SourceEnding.{cause_since, ended_at, length_cause, memory_cause, read_cause}
@@ -65,7 +66,7 @@ returns-then-n-eq0-clause-run g c =
           ((c.answer_end.ensures.run old new).run_if_known first p.0 start
           (told_input _ _ start.files
           (all_heard input p.0 p.1 p.2 (none_left _ p.1 p.3 (c.in-Ok-take.ensures.end c.if-n-eq0.true))) t)
-          (later_than _ _ _ ff c.loop-total.invariant.later) (later_than _ _ _ fs c.loop-total.invariant.stores_later)
+          (le_trans ff c.loop-total.invariant.later) (le_trans fs c.loop-total.invariant.stores_later)
           p.4);
       whole_run = λ input q h d.
           let p = c.loop-total.invariant.holds input q h in
@@ -96,12 +97,13 @@ returns-in-Some-clause-run g c =
           ended_at first _ input c.in-Some.end start _ (bytes_rejoined input p.0 p.1 _ lost.0 p.2 lost.2)
           ((c.in-Some.ensures.run old new).run_if_known first p.0 lost.0 start
           (told_input _ _ start.files (bytes_rejoined input p.0 p.1 _ lost.0 p.2 lost.2) t)
-          (later_than _ _ _ ff c.loop-total.invariant.later) (later_than _ _ _ fs c.loop-total.invariant.stores_later)
+          (le_trans ff c.loop-total.invariant.later) (le_trans fs c.loop-total.invariant.stores_later)
           p.4);
       whole_run = λ input q h d.
           let p = c.loop-total.invariant.holds input q h in
           let lost = loses_from_known _ _ p.1 (take c.in-Ok-take.n c.take.new.buf) p.3 c.in-Ok-take.ensures.bytes in
-          heard_by input p.0 (take c.in-Ok-take.n c.take.new.buf) lost.0 _ (bytes_rejoined input p.0 p.1 _ lost.0 p.2 lost.2)
+          heard_by input p.0 (take c.in-Ok-take.n c.take.new.buf) lost.0 _
+          (bytes_rejoined input p.0 p.1 _ lost.0 p.2 lost.2)
           lost.1
           (c.in-Some.ensures.cut p.0 p.4 d);
       has_cause = cause_since c.in-Some.end first_seen _ _ _ _ _ _ _ _ _ c.loop-total.invariant.out_later
@@ -134,11 +136,11 @@ loop-total-preserved g c =
     (g.S.Source.faults c.take.new.self) in
     let behind = c.in_default-answer_block.ensures.run old new in
     record {
-      later = later_than _ _ _ c.loop-total.invariant.later behind.counts_later.fetches;
-      stores_later = later_than _ _ _ c.loop-total.invariant.stores_later behind.counts_later.stores;
+      later = le_trans c.loop-total.invariant.later behind.counts_later.fetches;
+      stores_later = le_trans c.loop-total.invariant.stores_later behind.counts_later.stores;
       earlier = omega (arith, c.in-Ok-take.ensures.cause.count_grows, c.loop-total.invariant.earlier);
-      out_later = later_than _ _ _ c.loop-total.invariant.out_later behind.counts_later.out;
-      err_later = later_than _ _ _ c.loop-total.invariant.err_later behind.counts_later.err;
+      out_later = le_trans c.loop-total.invariant.out_later behind.counts_later.out;
+      err_later = le_trans c.loop-total.invariant.err_later behind.counts_later.err;
       out_grows = grows_again _ _ _ c.loop-total.invariant.out_grows behind.grows.out;
       err_grows = grows_again _ _ _ c.loop-total.invariant.err_grows behind.grows.err;
       holds = λ input q h.
@@ -157,7 +159,8 @@ loop-total-preserved g c =
           (names_none_at _ _ (bytes_rejoined input p.0 p.1 _ lost.0 p.2 lost.2) none)
           ∙ c.loop-total.invariant.unasked input q h none;
       room = (omega (arith, c.loop-total.invariant.room.0), omega (arith, c.loop-total.invariant.room.1));
-      counted = took_more c.loop-total.total c.in-Ok-take.n _ _ _ c.loop-total.invariant.counted c.in-Ok-take.ensures.count;
+      counted = took_more c.loop-total.total c.in-Ok-take.n _ _ _ c.loop-total.invariant.counted
+          c.in-Ok-take.ensures.count;
       stands = λ first input start q t at.
           let p = c.loop-total.invariant.stands first input start q t at in
           let lost = loses_from_known _ _ p.1 (take c.in-Ok-take.n c.take.new.buf) p.3 c.in-Ok-take.ensures.bytes in (
@@ -177,7 +180,8 @@ pub returns-then-n-eq0-clause-unasked : goal.returns-then-n-eq0-clause-unasked
 returns-then-n-eq0-clause-unasked g c = λ input q h none.
     let p = c.loop-total.invariant.holds input q h in
     c.answer_end.ensures.unasked p.0 p.4
-    (names_none_at _ _ (all_heard input p.0 p.1 p.2 (none_left _ p.1 p.3 (c.in-Ok-take.ensures.end c.if-n-eq0.true))) none)
+    (names_none_at _ _ (all_heard input p.0 p.1 p.2 (none_left _ p.1 p.3 (c.in-Ok-take.ensures.end c.if-n-eq0.true)))
+    none)
     ∙ c.loop-total.invariant.unasked input q h none
 
 pub returns-in-Some-clause-unasked : goal.returns-in-Some-clause-unasked

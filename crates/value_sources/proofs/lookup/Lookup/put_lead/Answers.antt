@@ -1,4 +1,5 @@
 use Rattle.std.proofs.Common.{◌≡◌, ◌++◌, ◌∷◌, [], Contains, refl, subst, sym, true}
+use Rattle.std.proofs.lemmas.Result.{on_ok_weaker}
 use Rattle.def_entry.specs.declared.key.Key.{Key}
 use Rattle.deck.specs.Tables.{is_present, table}
 use Rattle.value_sources.specs.declared.word_keys.Lead.{Lead}
@@ -8,7 +9,6 @@ use Rattle.value_sources.specs.StoredMentions.{placed_list}
 use Rattle.value_sources.specs.Uses.{use_at}
 use Rattle.value_sources.proofs.Lists.{member_first, member_later}
 use Rattle.value_sources.proofs.Stored.{both_pushed}
-use Rattle.value_sources.proofs.Walking.{on_ok}
 use Rattle.value_sources.proofs.lookup.Lookup.put_lead.Goals as goal
 
 pub returns-in_ok-mention-in-Two : goal.returns-in_ok-mention-in-Two
@@ -20,7 +20,7 @@ returns-in_ok-mention-in-Two c =
     let k = c.in-Two.unit in
     let before = placed_list d c.args.mentions.now.items in
     let now = placed_list d c.put_mention-in-Two-2.new.mentions.items in
-    on_ok c.put_mention-in-Two-2.result
+    on_ok_weaker c.put_mention-in-Two-2.result
     (λ e. subst
     (λ (w : Lead). ((x : Key) → Contains (lead_keys w) x → is_present (table d) x ≡ true)
     → now ≡ before ++ placed_to d l.depth (use_at l.site u) (lead_keys w))

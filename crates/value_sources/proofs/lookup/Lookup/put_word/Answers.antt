@@ -1,4 +1,5 @@
 use Rattle.std.proofs.Common.{◌≡◌, ◌++◌, ℕ, Contains, List, Some, ap, subst, sym, ◌∙◌}
+use Rattle.std.proofs.lemmas.Result.{on_ok_weaker}
 use Rattle.def_entry.specs.declared.key.Key.{Key}
 use Rattle.def_entry.specs.Keys.{key}
 use Rattle.deck.specs.Tables.{is_present, last_place, table}
@@ -9,7 +10,6 @@ use Rattle.value_sources.specs.StoredMentions.{placed_list}
 use Rattle.value_sources.specs.Uses.{use_at}
 use Rattle.value_sources.proofs.Leads.{named_by}
 use Rattle.value_sources.proofs.Stored.{named_placed}
-use Rattle.value_sources.proofs.Walking.{on_ok}
 use Rattle.value_sources.proofs.lookup.Lookup.put_word.Goals as goal
 
 pub returns-in-Some : goal.returns-in-Some
@@ -23,7 +23,7 @@ returns-in-Some c =
     ap (λ (w : List ℕ). last_place d.settings d.lines (key k w)) (sym c.text.ensures) ∙ found in
     let led = named_by d u c.lookup_law.ensures k c.text.result.now c.in-Some.place
     (c.first_kind.ensures ∙ ap first_kind c.kind.ensures) c.text.ensures found in
-    on_ok c.put_mention.result
+    on_ok_weaker c.put_mention.result
     (λ e. e d ∙ ap (λ (ps : List Placed). placed_list d c.args.mentions.now.items ++ ps)
     (named_placed d c.args.location u c.named_mention.result k c.in-Some.place (targets (table d) u)
     c.named_mention.ensures placed led))
@@ -34,7 +34,7 @@ returns c =
     let d = c.args.self.now.deck.now in
     let u = c.args.word.now in
     let led : targets (table d) u ≡ lead_keys c.in_ok-lead.lead = c.in_ok-lead.ensures in
-    on_ok c.put_lead.result
+    on_ok_weaker c.put_lead.result
     (λ f. f (λ n i. (c.targets_are_present.ensures (is_present (table d)) u.kind u.text n
     (subst (λ (ks : List Key). Contains ks n) (sym led) i)).1)
     ∙ ap (λ (ks : List Key). placed_list d c.args.mentions.now.items ++ placed_to d c.args.location.depth

@@ -1,8 +1,8 @@
 use Rattle.std.proofs.Common.{◌≡◌, List, ap, sym, ◌∙◌, arith, drop, take, length}
+use Rattle.std.proofs.lemmas.List.{take_all}
 use Rattle.def_lines.specs.declared.line.Line.{Line}
 use Rattle.deck_lines.specs.Limits.{bytes_in}
 use Rattle.deck_lines.specs.Marks.{with_marks}
-use Rattle.deck_lines.proofs.ListExchanges.{all_of}
 use Rattle.deck_lines.proofs.MarkLimits.{bytes_behind, marks_len, marks_take, within_took}
 use Rattle.deck_lines.proofs.store.line_list.LineList.truncate.Goals as goal
 
@@ -12,7 +12,7 @@ returns-then-len c =
     ap length (sym c.self.view_is) ∙ marks_len c.self.inside.lines c.self.inside.marks.listed
     c.self.invariant.mark_count
     in
-    sym (all_of c.args.len c.args.self.now (omega (arith, long, c.len.ensures, c.if-len.true)))
+    sym (take_all c.args.len c.args.self.now (omega (arith, long, c.len.ensures, c.if-len.true)))
 
 pub texts_len-requires-clause-within : goal.texts_len-requires-clause-within
 texts_len-requires-clause-within c =
