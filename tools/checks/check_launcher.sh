@@ -95,9 +95,9 @@ expect 'no release' 126 '' 'units: no program is built from these sources; tools
 expect 'a build without a toolchain' 127 '' '*no command rt*' 'one/tools/build.sh'
 expect 'a build of no program' 2 '' '*no such program*' 'one/tools/build.sh frac128'
 fake_rt 'exit 1'
-expect 'a proof that fails' 126 '' '*units_io was not proved*build.log*' "PATH=\$PATH:$folder/rt one/tools/build.sh"
+expect 'a proof that fails' 126 '' '*general_lemmas was not proved*build.log*' "PATH=\$PATH:$folder/rt one/tools/build.sh"
 fake_rt "if [ \$1 = run ]; then cp $program out/units; : > out/units.stamp; fi"
-expect 'a build' 0 '' '*units_io is proved (1 of *units is proved*' "PATH=\$PATH:$folder/rt one/tools/build.sh"
+expect 'a build' 0 '' '*general_lemmas is proved (1 of *units is proved*' "PATH=\$PATH:$folder/rt one/tools/build.sh"
 expect 'the built program' 0 "$answer" '' "one/bin/units $yard"
 expect 'a build of what is built' 0 '' '*already built*' "PATH=\$PATH:$folder/rt one/tools/build.sh"
 echo '// an edit' >> one/crates/units_run/src/run.rt

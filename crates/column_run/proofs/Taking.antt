@@ -1,13 +1,8 @@
 -- Bytes that are read and counted.
-use Rattle.std.proofs.Common.{◌≡◌, ◌+◌, ◌++◌, ◌-◌, ◌^◌, ◌≤◌, ◌∙◌, ℕ, List, [], min, length, take, length-append}
+use Rattle.std.proofs.Common.{◌≡◌, ◌+◌, ◌++◌, ◌-◌, ◌^◌, ◌≤◌, ℕ, List, min, length, take, length-append}
 use Rattle.std.proofs.Common.{length-take, ap, subst, sym, arith}
-use Rattle.std.proofs.lemmas.List.{append-nil}
 use Rattle.session.specs.BetweenPieces.{TookAtLeast}
 use Rattle.session.proofs.Blocks.{took_more}
-
--- if nothing is left of an input, all of it was read
-pub ended_input : (input taken rest : List ℕ) → input ≡ taken ++ rest → rest ≡ [] → taken ≡ input
-ended_input input taken rest p q = sym (p ∙ ap (λ t. taken ++ t) q ∙ append-nil taken)
 
 module _ (items buf new : List ℕ) (n : ℕ) (is : new ≡ items ++ take n buf) (within : n ≤ length buf) where
   longer : length new ≡ length items + n

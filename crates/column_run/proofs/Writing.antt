@@ -1,9 +1,10 @@
 -- Bytes written block by block.
-use Rattle.std.proofs.Common.{◌≡◌, ◌+◌, ◌++◌, ◌∷◌, ◌∙◌, [], ℕ, suc, List, length, take, Some, None}
+use Rattle.std.proofs.Common.{◌≡◌, ◌+◌, ◌++◌, ◌∙◌, [], ℕ, List, length, take, Some, None}
 use Rattle.std.proofs.Common.{refl, sym, ap, subst, arith, append_assoc, length-append}
 use Rattle.std.specs.declared.option.Option.{Option}
 use Rattle.std.proofs.lemmas.List.{append-nil, take-append-le, take_all}
 use Rattle.units_io.specs.Bytes.{known_append, GrowsByFront}
+use Rattle.general_lemmas.proofs.Parts.{take-append-add}
 
 pub grown_twice : (o : Option (List ℕ)) (xs ys : List ℕ) → known_append (known_append o xs) ys ≡ known_append o
     (xs ++ ys)
@@ -26,12 +27,6 @@ front_more o out xs more ys is f = subst (GrowsByFront o out) (sym is) (
   omega (arith, f.1, length-append xs more),
   f.2 ∙ ap (known_append o) (sym (take-append-le f.0 xs more f.1)),
 )
-
-take-append-add : (xs ys : List ℕ) (n : ℕ) → take (length xs + n) (xs ++ ys) ≡ xs ++ take n ys
-take-append-add [] ys n = let z : 0 + n ≡ n = omega arith in ap (λ k. take k ys) z
-take-append-add (x ∷ xs) ys n =
-    let z : suc (length xs) + n ≡ suc (length xs + n) = omega arith in
-    ap (λ k. take k (x ∷ (xs ++ ys))) z ∙ ap (λ t. x ∷ t) (take-append-add xs ys n)
 
 -- a front of the bytes that come after others is a front of both
 pub front_behind : (o mid out : Option (List ℕ)) (xs ys : List ℕ) → mid ≡ known_append o xs → GrowsByFront mid out ys

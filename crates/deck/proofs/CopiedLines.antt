@@ -1,5 +1,5 @@
 -- Copying lines one after another.
-use Rattle.std.proofs.Common.{◌≡◌, ◌++◌, ◌∷◌, ◌+◌, ◌-◌, ◌<◌, ◌≤◌, [], ℕ, zero, suc, List, Bool, false, length, take}
+use Rattle.std.proofs.Common.{◌≡◌, ◌++◌, ◌∷◌, ◌+◌, ◌-◌, ◌<◌, [], ℕ, zero, suc, List, Bool, false, length, take}
 use Rattle.std.proofs.Common.{drop, get_or, append_assoc, length-take, refl, sym, ap, subst, ◌∙◌, arith, Option, Some}
 use Rattle.std.proofs.Common.{None, option_map, slice_get}
 use Rattle.std.proofs.lemmas.Bool.Decides.{nat_tests}
@@ -17,6 +17,7 @@ use Rattle.deck_lines.specs.Readings.{entry_in}
 use Rattle.deck_lines.specs.Stores.{definition_at}
 use Rattle.deck_lines.specs.declared.line.DeckLine.{DeckLine}
 use Rattle.deck_lines.proofs.Entries.{text_in}
+use Rattle.general_lemmas.proofs.Places.{take_at}
 
 -- if a copy and the remaining items make up the whole list, so they do after one more item is copied
 pub copied_step : {A : Type 0} (xs rest now copy whole : List A) (x : A) → xs ≡ x ∷ rest → now ≡ copy ++ x ∷ []
@@ -39,15 +40,6 @@ in_front (suc n) [] i x less e = e
 in_front (suc n) (y ∷ xs) zero x less e = e
 in_front (suc n) (y ∷ xs) (suc i) x less e = in_front n xs i x (omega (arith, less)) e
 
--- the front of a list that is one item longer ends with that item
-pub front_more : {A : Type 0} (xs : List A) (i : ℕ) (x : A) → slice_get xs i ≡ Some x
-    → take (i + 1) xs ≡ take i xs ++ x ∷ []
-front_more [] i x e = absurd (cc)
-front_more (y ∷ ys) zero x e = ap (λ t. t ∷ []) (same_Some y x e)
-front_more (y ∷ ys) (suc i) x e =
-    let next : suc i + 1 ≡ suc (i + 1) = omega arith in
-    ap (λ j. take j (y ∷ ys)) next ∙ ap (λ t. y ∷ t) (front_more ys i x e)
-
 -- if all lines are within the limits, so is each front of them
 pub front_within : (xs : List DeckLine) (n : ℕ) → pass_limit xs ≡ false → pass_limit (take n xs) ≡ false
 unfolding pass_limit
@@ -58,13 +50,13 @@ front_within xs n e =
 pub room_more : (lines copy : List DeckLine) (i : ℕ) (x : DeckLine) → copy ≡ take i lines → slice_get lines i ≡ Some x
     → pass_limit lines ≡ false → pass_limit (copy ++ x ∷ []) ≡ false
 room_more lines copy i x e at within =
-    subst (λ t. pass_limit t ≡ false) (front_more lines i x at ∙ ap (λ t. t ++ x ∷ []) (sym e))
+    subst (λ t. pass_limit t ≡ false) (take_at lines i x at ∙ ap (λ t. t ++ x ∷ []) (sym e))
     (front_within lines (i + 1) within)
 
 -- after one more line is copied, the copy is the front that is one line longer
 pub copied_more : (lines copy now : List DeckLine) (i : ℕ) (x : DeckLine) → copy ≡ take i lines
     → slice_get lines i ≡ Some x → now ≡ copy ++ x ∷ [] → now ≡ take (i + 1) lines
-copied_more lines copy now i x e at h = h ∙ ap (λ t. t ++ x ∷ []) e ∙ sym (front_more lines i x at)
+copied_more lines copy now i x e at h = h ∙ ap (λ t. t ++ x ∷ []) e ∙ sym (take_at lines i x at)
 
 -- the definition of a line is determined by its text, its key and its `what`
 pub defined_by_parts : (lines : List DeckLine) (place : ℕ) (x : DeckLine) (k : Key) (what : MadeWhat) (e : Entry)

@@ -27,8 +27,9 @@ use Rattle.deck.specs.declared.settings.Settings.{Settings}
 use Rattle.deck.proofs.ChangedKeys.{not_defined}
 use Rattle.deck.proofs.OneMoreName.{key_kept, key_new, names_len}
 use Rattle.deck.proofs.LastPlaceSteps.{kind_at, last_extended, last_more, last_same, number_within}
-use Rattle.deck.proofs.PlacedDefinitions.{at_length, in_place}
+use Rattle.deck.proofs.PlacedDefinitions.{in_place}
 use Rattle.deck.proofs.PushedLine.{closed_push, placed_push}
+use Rattle.general_lemmas.proofs.Places.{at_length}
 
 -- the number of the appended line is the number of its key
 key_put : (store : Store) (x : DeckLine) (k : Key) (e : Entry) (n : KeyNumber) → entry_in x ≡ Some (k, e) →

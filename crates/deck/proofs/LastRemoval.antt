@@ -34,9 +34,10 @@ use Rattle.deck.proofs.MoreNumbers.{in_place_more}
 use Rattle.deck.proofs.KindPlacing.{count_other}
 use Rattle.deck.proofs.LastPlaceSteps.{kind_at}
 use Rattle.deck.proofs.OnePlace.{numbers_differ, other_place, own_place}
-use Rattle.deck.proofs.PlacedDefinitions.{at_length, in_place, place_present}
+use Rattle.deck.proofs.PlacedDefinitions.{in_place, place_present}
 use Rattle.deck.proofs.PushedLine.{placed_push}
 use Rattle.deck.proofs.Sameness.{same_kind}
+use Rattle.general_lemmas.proofs.Places.{at_length}
 
 -- a number that has a place is within the list
 pub place_within : (ps : List (Option ℕ)) (n p : ℕ) → place_in ps n ≡ Some p → n < length ps

@@ -28,12 +28,7 @@ use Rattle.deck.specs.declared.places.last_places.LastPlaces.{LastPlaces}
 use Rattle.deck.specs.declared.settings.Settings.{Settings}
 use Rattle.deck.proofs.LastPlaceSteps.{last_extended}
 use Rattle.deck.proofs.PlacedDefinitions.{in_place}
-
--- an item keeps its place when a list is extended
-pub get_more : {A : Type 0} (xs ys : List A) (i : ℕ) (x : A) → slice_get xs i ≡ Some x → slice_get (xs ++ ys) i ≡ Some x
-get_more [] ys i x h = cc
-get_more (y ∷ xs) ys zero x h = h
-get_more (y ∷ xs) ys (suc i) x h = get_more xs ys i x h
+use Rattle.general_lemmas.proofs.Places.{get_left}
 
 -- if some item of a list passes a test, so does some item of an extension of the list
 any_more : (p : List ℕ → Bool) (xs ys : List (List ℕ)) → list_any p xs ≡ true → list_any p (xs ++ ys) ≡ true
@@ -59,7 +54,7 @@ module _ (new : List ℕ) (names : List (List ℕ)) where
     where
       by : (b : Bool) → slice_get (cond b names (names ++ new ∷ [])) i ≡ Some name
       by true = h
-      by false = get_more names (new ∷ []) i name h
+      by false = get_left names (new ∷ []) i name h
 
   name_among : (p : List ℕ → Bool) → list_any p names ≡ true → list_any p (with_name new names) ≡ true
   name_among p h = by (list_any (bytes_eq new) names)
@@ -172,7 +167,7 @@ definition_more xs ys place e h = by (slice_get xs place) refl h
     by : (o : Option DeckLine) → slice_get xs place ≡ o → option_and_then entry_in o ≡ Some e
         → option_and_then entry_in (slice_get (xs ++ ys) place) ≡ Some e
     by None q g = cc
-    by (Some x) q g = ap (option_and_then entry_in) (get_more xs ys place x q) ∙ g
+    by (Some x) q g = ap (option_and_then entry_in) (get_left xs ys place x q) ∙ g
 
 -- definitions stay in place when lines are appended
 pub in_place_more : (xs ys : List DeckLine) (ds : Definitions) → AreInPlace xs ds → AreInPlace (xs ++ ys) ds

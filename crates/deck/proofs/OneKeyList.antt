@@ -10,8 +10,7 @@ use Rattle.std.specs.FinMap.Entries.{below_all}
 use Rattle.std.specs.List.{AllByRecursion, filter, list_any}
 use Rattle.std.specs.List.Sorted.{IsStrictlySortedBy}
 use Rattle.std.specs.Ordering.{eq_by_cmp, is_eq, is_lt}
-use Rattle.std.specs.declared.cmp.Ordering.{Ordering}
-use Rattle.std.specs.declared.cmp.Ordering.TheVariants.{Less, Equal, Greater}
+use Rattle.std.specs.declared.cmp.Ordering.TheVariants.{Less, Equal}
 use Rattle.std.proofs.lemmas.List.Kept.{IsStrictlySortedBy-filter}
 use Rattle.def_entry.specs.declared.key.Key.{Key}
 use Rattle.def_entry.specs.declared.key.Kind.{Kind}
@@ -28,17 +27,12 @@ use Rattle.deck.proofs.KeyTallies.{among_keys_of}
 use Rattle.deck.proofs.KeyCounts.{counted}
 use Rattle.deck.proofs.DistinctKeys.{among_filter}
 use Rattle.deck.proofs.TextPlaces.{holds_nothing}
+use Rattle.general_lemmas.proofs.Orders.{less_is}
 
 -- a proof of `T b` shows that `b` is true
 told : (b : Bool) → T b → b ≡ true
 told true h = refl
 told false h = absurd h
-
--- an ordering for which `is_lt` is true is `Less`
-less : (o : Ordering) → is_lt o ≡ true → o ≡ Less
-less Less e = refl
-less Equal e = cc
-less Greater e = cc
 
 -- a key that is below all entries is less than the key of each
 all_below :
@@ -47,7 +41,7 @@ all_below :
 all_below k [] below = tt
 all_below k (e ∷ es) below =
     let parts = and_parts (is_lt (key_cmp k e.0)) (below_all key_cmp k es) below in
-    (less (key_cmp k e.0) parts.0, all_below k es parts.1)
+    (less_is (key_cmp k e.0) parts.0, all_below k es parts.1)
 
 -- the keys of sorted entries are sorted
 sorted :

@@ -11,8 +11,8 @@ use Rattle.def_entry.specs.Keys.{key}
 use Rattle.def_entry.specs.SameKeys.{is_same_kind}
 use Rattle.deck_lines.specs.Names.{Names, is_numbered, key_numbered, names_of_kind, with_key, with_name, with_names}
 use Rattle.deck_lines.specs.declared.key_number.KeyNumber.{KeyNumber}
-use Rattle.deck.proofs.MoreNumbers.{get_more}
 use Rattle.deck.proofs.Sameness.{same_kind}
+use Rattle.general_lemmas.proofs.Places.{get_left}
 
 -- if the names of one kind are replaced, those of the other kinds stay
 names_with : (names : Names) (a b : Kind) (these : List (List ℕ))
@@ -71,7 +71,7 @@ module _ (names : Names) (k : Key) where
       kept b None h f = cc
       kept true (Some y) h f = ap (option_map (key n.kind)) h ∙ f
       kept false (Some y) h f = ap (option_map (key n.kind))
-          (get_more (names_of_kind names n.kind) (k.name ∷ []) n.number y h)
+          (get_left (names_of_kind names n.kind) (k.name ∷ []) n.number y h)
           ∙ f
 
       by : (b : Bool) → is_same_kind n.kind k.kind ≡ b → key_numbered (with_key names k) n ≡ Some j

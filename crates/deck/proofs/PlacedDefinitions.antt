@@ -1,6 +1,6 @@
 -- The definitions of a deck are those of the lines at their places.
 use Rattle.std.proofs.Common.{◌≡◌, ◌++◌, ◌∷◌, ◌+◌, [], ℕ, List, Bool, true, false, cond, length, refl, sym, ap, subst}
-use Rattle.std.proofs.Common.{◌∙◌, arith, append_assoc, Option, Some, None, length-append, option_map, slice_get}
+use Rattle.std.proofs.Common.{◌∙◌, arith, append_assoc, Option, Some, None, length-append, option_map}
 use Rattle.std.proofs.Common.{reverse}
 use Rattle.std.proofs.lemmas.List.{reverse-append}
 use Rattle.std.proofs.lemmas.Option.{same_Some}
@@ -20,6 +20,7 @@ use Rattle.deck.specs.Tables.{Definitions, active_definitions, definition_by, de
 use Rattle.deck.specs.Tables.{entry_at}
 use Rattle.deck.specs.Tables.{is_present, place_of, table_of}
 use Rattle.deck.specs.declared.settings.Settings.{Settings}
+use Rattle.general_lemmas.proofs.Places.{at_length}
 
 -- each definition is that of the line at its place
 abbrev pub EachInPlace : List DeckLine → Definitions → Type 0
@@ -38,11 +39,6 @@ each-reverse lines [] h = tt
 each-reverse lines (d ∷ ds) h =
     subst (EachInPlace lines) (sym (reverse-append (d ∷ []) ds))
     (each-append lines (reverse ds) (d ∷ []) (each-reverse lines ds h.1) (h.0, tt))
-
--- the item at the length of the first part of a list is the first item of the second part
-pub at_length : {A : Type 0} (xs : List A) (y : A) (ys : List A) → slice_get (xs ++ y ∷ ys) (length xs) ≡ Some y
-at_length [] y ys = refl
-at_length (x ∷ xs) y ys = at_length xs y ys
 
 -- the definition of a line is in place
 one_in_place : (lines : List DeckLine) (place : ℕ) (active : Bool) (o : Option (Key × Entry))

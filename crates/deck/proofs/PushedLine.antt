@@ -14,7 +14,7 @@ use Rattle.deck.specs.Active.{behind_kind, outer_flags, start}
 use Rattle.deck_lines.specs.Blocks.{role_of, same_ending}
 use Rattle.deck_lines.specs.ClosedBlocks.{blocks_without, blocks_past_role, blocks_past, blocks_after, AreBlocksClosed}
 use Rattle.deck_lines.specs.Readings.{defined_by, entry_in, reading_by, reading_of}
-use Rattle.deck_lines.proofs.ClosedFile.{after-append, and_then_pair}
+use Rattle.deck_lines.proofs.ClosedFile.{after-append}
 use Rattle.deck.specs.Tables.{active_definitions, definition_by, definitions_from}
 use Rattle.deck.proofs.LastPlaceSteps.{from-append}
 use Rattle.deck.proofs.MarkedLines.{length-activity}
@@ -23,6 +23,7 @@ use Rattle.deck_lines.specs.declared.line.Ending.{Ending}
 use Rattle.deck_lines.specs.declared.line.Ending.TheVariants.{ByLocale, ByVar, ByUtf8}
 use Rattle.deck_lines.specs.declared.line.Role.TheVariants.{Inside}
 use Rattle.deck.specs.declared.settings.Settings.{Settings}
+use Rattle.general_lemmas.proofs.Options.{and_then_pair}
 
 -- the flags of concatenated lines are those of the first part and then those of the second part in the state after the
 -- first

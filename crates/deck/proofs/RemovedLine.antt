@@ -3,7 +3,7 @@ use Rattle.std.proofs.Common.{◌≡◌, ◌++◌, ◌∷◌, ◌+◌, ◌<◌, 
 use Rattle.std.proofs.Common.{map, set, take, drop, reverse, refl, sym, ap, subst, ◌∙◌, arith, Option, Some, None}
 use Rattle.std.proofs.Common.{option_map, slice_get}
 use Rattle.std.proofs.lemmas.Bool.Decides.{nat_tests}
-use Rattle.std.proofs.lemmas.List.{map-append, reverse-append}
+use Rattle.std.proofs.lemmas.List.{map-append}
 use Rattle.std.proofs.lemmas.Option.{same_Some, slice_get_within}
 use Rattle.std.specs.Map.{lookup}
 use Rattle.std.specs.Option.{option_and_then}
@@ -33,14 +33,7 @@ use Rattle.deck.proofs.KindPlacing.{count_mapped, in_mapped}
 use Rattle.deck.proofs.MarkedLines.{length-activity}
 use Rattle.deck.proofs.PlacedDefinitions.{in_place}
 use Rattle.deck.proofs.PushedLine.{inside, plain_by}
-
--- mapping a reversed list gives the reversed image
-map_reverse : {A B : Type 0} (f : A → B) (xs : List A) → map f (reverse xs) ≡ reverse (map f xs)
-map_reverse f [] = refl
-map_reverse f (x ∷ xs) =
-    ap (map f) (reverse-append (x ∷ []) xs) ∙ map-append f (reverse xs) (x ∷ [])
-    ∙ ap (λ ys. ys ++ f x ∷ []) (map_reverse f xs)
-    ∙ sym (reverse-append (f x ∷ []) (map f xs))
+use Rattle.general_lemmas.proofs.Parts.{map-reverse}
 
 -- the list without the item at a place
 abbrev pub dropped : {A : Type 0} → ℕ → List A → List A
@@ -234,7 +227,7 @@ module _ (settings : Settings) (lines : List DeckLine) (place : ℕ) (e : Key ×
       (length-activity settings.locale (start settings) lines)))
       ∙ ap (λ g. reverse (moved g (definitions_from 0 (set (active_lines settings lines) place false) lines)))
       (zero_plus place)
-      ∙ sym (map_reverse (λ d. (d.0, (without_gap place d.1.0, d.1.1)))
+      ∙ sym (map-reverse (λ d. (d.0, (without_gap place d.1.0, d.1.1)))
       (definitions_from 0 (set (active_lines settings lines) place false) lines))
     where
       zero_plus : (m : ℕ) → 0 + m ≡ m

@@ -10,7 +10,6 @@ use Rattle.deck_lines.specs.KeyNumbering.{IsNumbering}
 use Rattle.deck_lines.specs.Stores.{Store}
 use Rattle.deck_lines.specs.declared.key_number.KeyNumber.{KeyNumber}
 use Rattle.deck_lines.specs.declared.line.DeckLine.{DeckLine}
-use Rattle.deck_lines.proofs.ListExchanges.{parts_of}
 use Rattle.deck.specs.Changes.{IsTableChange}
 use Rattle.deck.specs.Decks.{Contents}
 use Rattle.deck.specs.LastPlaces.{AreLast, IsIndexed}
@@ -22,6 +21,7 @@ use Rattle.deck.specs.declared.splice.Splice.{Splice}
 use Rattle.deck.proofs.MoreNumbers.{unplaced}
 use Rattle.deck.proofs.LastPlaceSteps.{last_extended}
 use Rattle.deck.proofs.NumberedKeys.{position}
+use Rattle.general_lemmas.proofs.Parts.{parts_of}
 
 -- the first `at` items of a spliced list are those of the old list
 front_of : {A : Type 0} (at : ℕ) (xs ys : List A) → at ≤ length xs → take at (take at xs ++ ys) ≡ take at xs

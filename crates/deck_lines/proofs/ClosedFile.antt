@@ -1,6 +1,6 @@
 -- The deck of a file is closed.
 use Rattle.std.proofs.Common.{◌≡◌, ◌++◌, ◌∷◌, [], ℕ, zero, suc, List, Bool, true, false, cond, map, refl, ap, ◌∙◌}
-use Rattle.std.proofs.Common.{Option, Some, None, codes, Result, Ok, Err}
+use Rattle.std.proofs.Common.{Some, None, codes, Result, Ok, Err}
 use Rattle.std.proofs.lemmas.Option.{same_Some}
 use Rattle.std.specs.Bool.{⊤}
 use Rattle.std.specs.Option.{option_and_then}
@@ -31,12 +31,7 @@ use Rattle.deck_lines.specs.declared.line.Ending.{Ending}
 use Rattle.deck_lines.specs.declared.line.Ending.TheVariants.{ByLocale, ByVar, ByUtf8}
 use Rattle.deck_lines.specs.declared.line.Role.{Role}
 use Rattle.deck_lines.specs.declared.line.Role.TheVariants.{Opens, Closes, Inside}
-
--- if `option_and_then` has a value, so does its option
-pub and_then_pair : {A B : Type 0} (f : A → Option B) (o : Option A) (y : B) → option_and_then f o ≡ Some y
-    → (x : A) × (o ≡ Some x) × (f x ≡ Some y)
-and_then_pair f None y e = cc
-and_then_pair f (Some x) y e = (x, refl, e)
+use Rattle.general_lemmas.proofs.Options.{and_then_pair}
 
 -- an end line closes the same block if more blocks are open around it
 closed_more : (e : Ending) (bs cs ds : List Ending) → blocks_without e bs ≡ Some cs

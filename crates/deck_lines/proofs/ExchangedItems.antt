@@ -3,7 +3,7 @@ use Rattle.std.proofs.Common.{◌≡◌, ◌++◌, ◌∷◌, ◌+◌, ◌-◌, 
 use Rattle.std.proofs.Common.{inr, refl, sym, ap, ◌∙◌, arith, length-append, length-drop, length-take, Some, None}
 use Rattle.std.proofs.Common.{slice_get}
 use Rattle.std.proofs.lemmas.List.{append-nil, drop_all, take_all}
-use Rattle.std.proofs.lemmas.Option.{same_Some, slice_get_past, slice_get_within}
+use Rattle.std.proofs.lemmas.Option.{slice_get_past, slice_get_within}
 
 -- an item of two joined lists is an item of the first or of the second
 pub get_append : {A : Type 0} (xs ys : List A) (i : ℕ) (x : A) → slice_get (xs ++ ys) i ≡ Some x
@@ -11,14 +11,6 @@ pub get_append : {A : Type 0} (xs ys : List A) (i : ℕ) (x : A) → slice_get (
 get_append [] ys i x e = inr (i, e)
 get_append (y ∷ xs) ys zero x e = inl e
 get_append (y ∷ xs) ys (suc i) x e = get_append xs ys i x e
-
--- the item at a place of the front of a list is the item at that place of the list
-pub get_take : {A : Type 0} (n : ℕ) (xs : List A) (i : ℕ) (x : A) → slice_get (take n xs) i ≡ Some x
-    → slice_get xs i ≡ Some x
-get_take zero xs i x e = cc
-get_take (suc n) [] i x e = cc
-get_take (suc n) (y ∷ xs) zero x e = e
-get_take (suc n) (y ∷ xs) (suc i) x e = get_take n xs i x e
 
 -- if two lists have the same item at two places, and the place in the first is within it, so is that in the second
 pub found_inside : {A : Type 0} (xs ys : List A) (i j : ℕ) → i < length xs → slice_get xs i ≡ slice_get ys j
@@ -114,14 +106,6 @@ module _ {A : Type 0} (xs ys : List A) (at cut : ℕ) (h : at + cut ≤ length x
         length-take at xs,
         length-drop (at + cut) xs,
       )
-
--- the rest of a list from a place on is the item there followed by the items after it
-pub drop_found : {A : Type 0} (xs : List A) (i : ℕ) (x : A) → slice_get xs i ≡ Some x → drop i xs ≡ x ∷ drop (i + 1) xs
-drop_found [] i x e = absurd (cc)
-drop_found (y ∷ xs) zero x e = ap (λ z. z ∷ xs) (same_Some y x e)
-drop_found (y ∷ xs) (suc i) x e =
-    let next : suc (i + 1) ≡ suc i + 1 = omega arith in
-    drop_found xs i x e ∙ ap (λ j. x ∷ drop j (y ∷ xs)) next
 
 -- inserting nothing at the end does not change a list
 pub exchanged_nothing : {A : Type 0} (xs : List A) (n : ℕ) → n ≡ length xs → take n xs ++ ([] ++ drop (n + 0) xs) ≡ xs

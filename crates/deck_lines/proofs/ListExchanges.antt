@@ -7,24 +7,7 @@ use Rattle.deck_lines.specs.Limits.{bytes_in, most_bytes, most_lines}
 use Rattle.deck_lines.specs.Marks.{with_marks}
 use Rattle.deck_lines.specs.Within.{IsWithin}
 use Rattle.deck_lines.proofs.MarkLimits.{marks_append, marks_bytes, marks_drop, marks_take}
-
--- a list consists of the items before a range, those in the range and those after it
-pub parts_of : {A : Type 0} (at cut : ℕ) (xs : List A) → at + cut ≤ length xs
-    → take at xs ++ (take cut (drop at xs) ++ drop (at + cut) xs) ≡ xs
-parts_of zero cut xs h = ap (λ n. take cut xs ++ drop n xs) (zero_plus cut) ∙ two cut xs
-  where
-    zero_plus : (n : ℕ) → 0 + n ≡ n
-    zero_plus n = omega arith
-
-    two : {A : Type 0} (n : ℕ) (ys : List A) → take n ys ++ drop n ys ≡ ys
-    two zero ys = refl
-    two (suc n) [] = refl
-    two (suc n) (y ∷ ys) = ap (λ t. y ∷ t) (two n ys)
-parts_of (suc at) cut [] h = absurd (omega arith)
-parts_of (suc at) cut (x ∷ xs) h =
-    let next : suc at + cut ≡ suc (at + cut) = omega arith in
-    ap (λ n. x ∷ (take at xs ++ (take cut (drop at xs) ++ drop n (x ∷ xs)))) next
-    ∙ ap (λ t. x ∷ t) (parts_of at cut xs (omega arith))
+use Rattle.general_lemmas.proofs.Parts.{parts_of}
 
 -- the range of length 1 at a place has only the item there
 pub one_at : {A : Type 0} (place : ℕ) (xs : List A) (x : A) → slice_get xs place ≡ Some x

@@ -9,8 +9,9 @@ use Rattle.deck_lines.specs.Limits.{pass_limit, text_len}
 use Rattle.deck_lines.specs.Marks.{line_without_mark, mark_of, with_marks}
 use Rattle.deck_lines.specs.Within.{IsWithin}
 use Rattle.deck_lines.specs.declared.line.DeckLine.{DeckLine}
-use Rattle.deck_lines.proofs.ListExchanges.{long, marks_exchange, parts_of}
+use Rattle.deck_lines.proofs.ListExchanges.{long, marks_exchange}
 use Rattle.deck_lines.proofs.MarkLimits.{marks_drop, marks_len, marks_on, marks_take}
+use Rattle.general_lemmas.proofs.Parts.{parts_of}
 
 -- lines within the limits are at most 100,000 lines
 pub few_lines : (lines : List DeckLine) → pass_limit lines ≡ false → length lines ≤ 100000

@@ -1,6 +1,6 @@
 -- Names and their numbers.
 use Rattle.std.proofs.Common.{◌≡◌, ◌++◌, ◌∷◌, ◌+◌, ◌||◌, [], ℕ, zero, suc, List, Bool, true, false, true≢false, not}
-use Rattle.std.proofs.Common.{cond, length, map, refl, sym, ap, subst, ◌∙◌, inl, inr, ◌⊎◌, arith, Option, Some, None}
+use Rattle.std.proofs.Common.{cond, length, map, refl, sym, ap, subst, ◌∙◌, inl, inr, arith, Option, Some, None}
 use Rattle.std.proofs.Common.{option_map, slice_get, get_or, ◌<◌, ◌≤◌}
 use Rattle.std.specs.Prelude.{MatchOption, is_some}
 use Rattle.std.specs.List.{list_any, position, position_or_len}
@@ -13,6 +13,7 @@ use Rattle.std.proofs.lemmas.Slice.Eq.{bytes_eq-Decides}
 use Rattle.indexmap.specs.IndexSet.{insert_key}
 use Rattle.deck_lines.specs.Names.{with_name}
 use Rattle.deck_lines.specs.NumberedNames.{AreUpTo}
+use Rattle.general_lemmas.proofs.Places.{get_pushed}
 
 module _ {K : Type 0} (items : K → List ℕ) (name : List ℕ) where
   -- a name is among the names of keys exactly if a key has this name
@@ -150,14 +151,6 @@ kept_at name names i x e = by (list_any (bytes_eq name) names)
 abbrev pub IsDistinct : List (List ℕ) → Type 0
 IsDistinct names = (i j : ℕ) (x : List ℕ) → slice_get names i ≡ Some x → slice_get names j ≡ Some x → i ≡ j
 
--- an item of names with one more appended is one of the others, or it is the new name at the end
-behind_all : (xs : List (List ℕ)) (y : List ℕ) (i : ℕ) (x : List ℕ) → slice_get (xs ++ y ∷ []) i ≡ Some x
-    → (slice_get xs i ≡ Some x) ⊎ ((i ≡ length xs) × (y ≡ x))
-behind_all [] y zero x e = inr (refl, same_Some y x e)
-behind_all [] y (suc i) x e = absurd (cc)
-behind_all (z ∷ xs) y zero x e = inl e
-behind_all (z ∷ xs) y (suc i) x e = elim (behind_all xs y i x e) [ inl h ↦ inl h | inr h ↦ inr (ap suc h.0, h.1) ]
-
 -- no name is at two places after one more name is added
 pub distinct_put : (name : List ℕ) (names : List (List ℕ)) → IsDistinct names → IsDistinct (with_name name names)
 distinct_put name names once = by (list_any (bytes_eq name) names) refl
@@ -168,7 +161,7 @@ distinct_put name names once = by (list_any (bytes_eq name) names) refl
 
     by : (b : Bool) → list_any (bytes_eq name) names ≡ b → IsDistinct (cond b names (names ++ name ∷ []))
     by true e = once
-    by false e = λ i j x p q. elim (behind_all names name i x p) [
-      | inl a ↦ elim (behind_all names name j x q) [ inl b ↦ once i j x a b | inr b ↦ absurd (new e i x a b.1) ]
-      | inr a ↦ elim (behind_all names name j x q) [ inl b ↦ absurd (new e j x b a.1) | inr b ↦ a.0 ∙ sym b.0 ]
+    by false e = λ i j x p q. elim (get_pushed names name i x p) [
+      | inl a ↦ elim (get_pushed names name j x q) [ inl b ↦ once i j x a b | inr b ↦ absurd (new e i x a b.1) ]
+      | inr a ↦ elim (get_pushed names name j x q) [ inl b ↦ absurd (new e j x b a.1) | inr b ↦ a.0 ∙ sym b.0 ]
     ]

@@ -21,9 +21,10 @@ use Rattle.deck_lines.specs.declared.line.DeckLine.{DeckLine}
 use Rattle.deck_lines.specs.declared.store.definitions.Definition.{Definition}
 use Rattle.deck_lines.specs.declared.store.definitions.Definitions.{Definitions}
 use Rattle.deck_lines.proofs.DefinitionsByNumber.{defined_with_more, definition_at_place}
-use Rattle.deck_lines.proofs.ExchangedItems.{get_append, get_drop, get_take}
+use Rattle.deck_lines.proofs.ExchangedItems.{get_append, get_drop}
 use Rattle.deck_lines.proofs.Keys.{found_key, one_to_one}
 use Rattle.deck_lines.proofs.NameNumbers.{found_is_any}
+use Rattle.general_lemmas.proofs.Places.{get_take}
 
 -- making room does not change the definitions
 pub defined_same : (d room : Definitions) (said : List (Option (Key × Entry)))

@@ -23,10 +23,10 @@ use Rattle.expr_tree.specs.ParseResult.{fault_or_tree, parse_of}
 use Rattle.expr_tree.specs.TokenReading.{tree_of}
 use Rattle.expr_tree.specs.Syntax.{Syntax}
 use Rattle.expr_tree.specs.Tokens.{Token, Head, Word, Caret}
-use Rattle.def_entry.proofs.CutTexts.{front-clear}
 use Rattle.deck_save.specs.SavedLines.{is_line_byte}
 use Rattle.deck_save.proofs.PlainBytes.{all_both, all_stay, stays_by}
 use Rattle.deck_save.proofs.Numerals.{longest_stays}
+use Rattle.general_lemmas.proofs.Parts.{front-clear}
 
 -- a lexeme that may occur in an expression
 abbrev is_sound : Lexeme → Bool

@@ -2,7 +2,7 @@
 use Rattle.std.proofs.Common.{◌≡◌, ◌+◌, ◌++◌, ◌∷◌, [], ◌≤◌, ℕ, suc, List, Bool, true, false, if◌then◌else◌, cond}
 use Rattle.std.proofs.Common.{length, map, reverse, Option, Some, None, refl, sym, ap, ◌∙◌, arith, true≢false}
 use Rattle.std.specs.Option.{is_some}
-use Rattle.std.proofs.lemmas.List.{map-append, reverse-append}
+use Rattle.std.proofs.lemmas.List.{map-append}
 use Rattle.def_lines.specs.Blanks.{trim_of}
 use Rattle.def_lines.specs.Kinds as line
 use Rattle.def_lines.specs.Kinds.{Kind as LineKind, kind_of}
@@ -20,6 +20,7 @@ use Rattle.deck.specs.declared.settings.Settings.{Settings}
 use Rattle.deck_save.proofs.LoadedLines.{plain_lines}
 use Rattle.deck_save.proofs.ReadLines.{number_behind}
 use Rattle.deck_save.proofs.SavedTexts.{AreGiving, plain_entry, saved_gives}
+use Rattle.general_lemmas.proofs.Parts.{map-reverse}
 
 -- the definitions of the lines whose flag is true, in order
 
@@ -47,14 +48,6 @@ stripped place (active ∷ flags) (x ∷ lines) =
     map-append (λ (p : Key × (ℕ × Entry)). (p.0, p.1.1)) (definition_by place active (entry_in x))
     (definitions_from (place + 1) flags lines)
     ∙ (λ i. one_stripped place active (entry_in x) i ++ stripped (place + 1) flags lines i)
-
-map-reverse : {A B : Type 0} (f : A → B) (xs : List A) → map f (reverse xs) ≡ reverse (map f xs)
-map-reverse f [] = refl
-map-reverse f (x ∷ xs) =
-    ap (map f) (reverse-append (x ∷ []) xs)
-    ∙ map-append f (reverse xs) (x ∷ [])
-    ∙ ap (λ t. t ++ f x ∷ []) (map-reverse f xs)
-    ∙ sym (reverse-append (f x ∷ []) (map f xs))
 
 pub table_entries : (settings : Settings) (lines : List DeckLine)
     → table_of (active_definitions settings lines) ≡ reverse

@@ -17,10 +17,11 @@ use Rattle.def_entry.specs.Numbers.{numeral_value, parted_value, quotient_value,
 use Rattle.def_entry.specs.Numbers.{value_read}
 use Rattle.def_entry.specs.Steps.{◌>>=◌}
 use Rattle.def_entry.proofs.CutTexts.{cut-is}
-use Rattle.def_entry.proofs.WrittenIntervals.{bind_some, mapped_some}
+use Rattle.def_entry.proofs.WrittenIntervals.{bind_some}
 use Rattle.deck_save.specs.SavedLines.{is_line_byte}
 use Rattle.deck_save.proofs.PlainBytes.{all_both}
 use Rattle.deck_save.proofs.Numerals.{numeral_stays}
+use Rattle.general_lemmas.proofs.Options.{mapped_some}
 
 value_stays : (text : List ℕ) (x : Fraction) → numeral_value text ≡ Some x → list_all is_line_byte text ≡ true
 value_stays text x is = numeral_stays text (go (is_numeral text) refl is)

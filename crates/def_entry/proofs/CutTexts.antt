@@ -2,7 +2,7 @@
 use Rattle.std.proofs.Common.{◌≡◌, ◌<◌, ◌-◌, ◌&&◌, ◌≤◌, ◌+◌, ◌==◌, ℕ, suc, List, [], ◌∷◌, ◌++◌, Bool, true, false, not}
 use Rattle.std.proofs.Common.{cond, length, take, drop, get_or, Option, Some, None, option_map, unwrap_or, refl, sym}
 use Rattle.std.proofs.Common.{ap, ◌∙◌, arith, one-add, add-one, length-append, true≢false}
-use Rattle.std.specs.List.{list_all, position, position_or_len, prefix_len}
+use Rattle.std.specs.List.{list_all, position, position_or_len}
 use Rattle.std.specs.Prelude.{nat_lt, slice_index}
 use Rattle.std.proofs.lemmas.Bool.{and_parts, eqb-true, ltb-false}
 use Rattle.std.proofs.lemmas.Bool.Decides.{Decides-ltb, Decides-eqb}
@@ -10,6 +10,7 @@ use Rattle.std.proofs.lemmas.List.{get_or-append_right, take-append-drop}
 use Rattle.std.proofs.lemmas.List.Sums.{passes_at_first, prefix_len-le-length}
 use Rattle.std.proofs.Math.Seq.{drop-append-add, drop-cons, take-append_seam, take-length}
 use Rattle.def_entry.specs.Cuts.{cut_at, lacks}
+use Rattle.general_lemmas.proofs.Parts.{front-clear}
 
 -- the first byte that passes a test comes after those that do not
 pub place-at : (p : ℕ → Bool) (front : List ℕ) (b : ℕ) (behind : List ℕ) → list_all (λ c. not (p c)) front ≡ true
@@ -54,19 +55,6 @@ cut-at mark front behind clear =
     ap (option_map {U = List ℕ × List ℕ} (λ n. (take n text, drop (n + 1) text)))
     (position-at (λ b. b == mark) front mark behind clear ((Decides-eqb mark mark).1 refl))
     ∙ (λ i. Some (take-append_seam front (mark ∷ behind) i, drop-append-add front (mark ∷ behind) 1 i))
-
--- the text before the first byte that passes has no such byte
-pub front-clear : (q : ℕ → Bool) (text : List ℕ) → list_all q (take (prefix_len q text) text) ≡ true
-front-clear q [] = refl
-front-clear q (b ∷ text) = go (q b) refl (front-clear q text)
-  where
-    go : (t : Bool) → q b ≡ t → list_all q (take (prefix_len q text) text) ≡ true
-        → list_all q (take (prefix_len q (b ∷ text)) (b ∷ text)) ≡ true
-    go true e rest =
-        ap (λ t. list_all q (take (cond t (1 + prefix_len q text) 0) (b ∷ text))) e
-        ∙ ap (λ n. list_all q (take n (b ∷ text))) (one-add (prefix_len q text))
-        ∙ (λ i. e i && rest i)
-    go false e rest = ap (λ t. list_all q (take (cond t (1 + prefix_len q text) 0) (b ∷ text))) e
 
 -- a text is the texts around the first byte that passes
 pub record Around (p : ℕ → Bool) (text : List ℕ) (n : ℕ) : Type 0 where

@@ -17,7 +17,8 @@ use Rattle.def_lines.proofs.TrimmedTexts.{after_blanks-blank, after_blanks-word,
 use Rattle.def_lines.proofs.TrimmedTexts.{is_begun-after_blanks}
 use Rattle.def_lines.proofs.TrimmedTexts.{trimmed-begun, trimmed-blank}
 use Rattle.def_entry.specs.Headings.{stands_apart}
-use Rattle.def_entry.proofs.CutTexts.{front-clear, place-at}
+use Rattle.def_entry.proofs.CutTexts.{place-at}
+use Rattle.general_lemmas.proofs.Parts.{front-clear}
 
 -- the text is empty or starts with such a byte
 abbrev pub stops : (ℕ → Bool) → List ℕ → Bool

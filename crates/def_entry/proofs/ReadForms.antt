@@ -29,6 +29,7 @@ use Rattle.def_entry.proofs.Meanings.{list_trees, meaning}
 use Rattle.def_entry.proofs.WrittenForms.{Formed, brackets, form-at, form-is, parts-at, parts-is, some-text, target-at}
 use Rattle.def_entry.proofs.WrittenForms.{target-is, text-some}
 use Rattle.def_entry.proofs.WrittenNames.{valid_name_goes_on}
+use Rattle.general_lemmas.proofs.Bytes.{ne_bytes_eq}
 
 -- a text with a first byte is not empty
 cons_some : (b : ℕ) (text : List ℕ) → b ∷ text ≢ []
@@ -39,14 +40,6 @@ body-at : (text body : List ℕ) → text ≡ body → text ≢ []
     → body_in text ≡ (entry_tree None body >>= (λ tree. Ok (Body tree)))
 body-at [] body e some = absurd (some refl)
 body-at (b ∷ text) body e some = ap (λ t. entry_tree None t >>= (λ tree. Ok (Body tree))) e
-
--- the equality test is false for different texts
-other_bytes : (text word : List ℕ) → text ≢ word → bytes_eq text word ≡ false
-other_bytes text word other = go (bytes_eq text word) refl
-  where
-    go : (t : Bool) → bytes_eq text word ≡ t → t ≡ false
-    go true e = absurd (other ((bytes_eq-Decides text word).0 e))
-    go false e = refl
 
 -- the trees of parts are those of the trimmed parts
 parts-trees : (pieces : List (List ℕ)) → entry_trees pieces ≡ list_trees (map trim_of pieces)
@@ -100,8 +93,8 @@ written-what kind.Unit name text PrimitiveForm good is = ap unit_in is
 written-what kind.Unit name text DimensionlessForm good is = ap unit_in is
 written-what kind.Unit name text (BodyForm body) good is =
     ap (λ t. cond t (Ok Primitive) (cond (bytes_eq text (codes "!dimensionless")) (Ok Dimensionless) (body_in text)))
-    (other_bytes text (codes "!") is.2)
-    ∙ ap (λ t. cond t (Ok Dimensionless) (body_in text)) (other_bytes text (codes "!dimensionless") is.3)
+    (ne_bytes_eq text (codes "!") is.2)
+    ∙ ap (λ t. cond t (Ok Dimensionless) (body_in text)) (ne_bytes_eq text (codes "!dimensionless") is.3)
     ∙ body-at text body is.0 is.1
 written-what kind.Prefix name text (BodyForm body) good is = body-at text body is.0 is.1
 written-what kind.Func name text (FunctionForm parameter form) good is =

@@ -29,6 +29,7 @@ use Rattle.def_entry.proofs.WrittenHeadings.{heading-written, headings, opened_n
 use Rattle.def_entry.proofs.WrittenNames.{NamesOf, Names, NoName, BadNameOf, bad-name, lacks-name, names-of}
 use Rattle.def_entry.proofs.WrittenNames.{what-named}
 use Rattle.def_entry.proofs.ReadForms.{FormOf, InForm, NoForm, form-of, written-what}
+use Rattle.general_lemmas.proofs.Results.{err-ok, same_Err}
 
 -- the text of a function starts with a bracket
 
@@ -60,14 +61,6 @@ headed-is line h is = ap head_of_line is.spelled_line ∙ heading-written is.wri
 
 -- the result for a heading
 
--- a fault is not a result
-err_apart : {A : Type 0} (x : A) (f : EntryFault) → ◌≡◌ {A = Result A EntryFault} (Err f) (Ok x) → ⊥
-err_apart x f e = cc
-
--- equal faults of results are equal
-same_fault : {A : Type 0} (f g : EntryFault) → ◌≡◌ {A = Result A EntryFault} (Err f) (Err g) → f ≡ g
-same_fault f g e = cc
-
 -- a form is never read as a bad form
 never-form : (name : List ℕ) (form : WrittenForm) → meaning name form ≡ Err BadForm → ⊥
 never-form name form e = go (form-points name form)
@@ -79,7 +72,7 @@ never-form name form e = go (form-points name form)
     parse x e = cc
 
     go : FormPoints name form → ⊥
-    go (HasNone never f) = table (same_fault BadTable BadForm (sym f ∙ e))
+    go (HasNone never f) = table (same_Err BadTable BadForm (sym f ∙ e))
     go (Has has) = let faulty : Faulty (expressions name form) BadForm =
         (runs-meaning name form has).err BadForm e in parse faulty.of faulty.is
 
@@ -202,7 +195,7 @@ entries line entry = (λ k e. (to k e, entry-at line k e), λ x. (fault_to x, li
     to k e given = go (read-of (head_of_line line) (opened-headed line (head_of_line line) headed))
       where
         go : ReadOf (head_of_line line) → IsEntry line k e
-        go (Fails x is f) = absurd (err_apart (k, e) x (sym (ap (λ w. w >>= entry_with (head_of_line line)) f) ∙ given))
+        go (Fails x is f) = absurd (err-ok x (k, e) (sym (ap (λ w. w >>= entry_with (head_of_line line)) f) ∙ given))
         go (Gives good form is what says f) =
             let same : (key (head_of_line line).kind (head_of_line line).name ≡ k)
             × (record { text = (head_of_line line).text; what = what } ≡ e) =
@@ -226,13 +219,12 @@ entries line entry = (λ k e. (to k e, entry-at line k e), λ x. (fault_to x, li
       where
         go : ReadOf (head_of_line line) → HasFault line x
         go (Gives good form is what says f) =
-            absurd (err_apart (
+            absurd (err-ok x (
               key (head_of_line line).kind (head_of_line line).name,
               record { text = (head_of_line line).text; what = what },
-            ) x
-            (sym given ∙ ap (λ w. w >>= entry_with (head_of_line line)) f))
+            ) (sym given ∙ ap (λ w. w >>= entry_with (head_of_line line)) f))
         go (Fails y is f) =
-            let same : y ≡ x = same_fault y x (sym (ap (λ w. w >>= entry_with (head_of_line line)) f) ∙ given) in
+            let same : y ≡ x = same_Err y x (sym (ap (λ w. w >>= entry_with (head_of_line line)) f) ∙ given) in
             record {
               heading = head_of_line line;
               line_has_heading = headed;
@@ -243,6 +235,6 @@ entries line entry = (λ k e. (to k e, entry-at line k e), λ x. (fault_to x, li
 pub one_entry : OneEntryLaw
 one_entry = record {
   entries = λ line k l e f is other. same_pair k l e f (sym (entry-at line k e is) ∙ entry-at line l f other);
-  faults = λ line x y is other. same_fault x y (sym (line-fault line x is) ∙ line-fault line y other);
-  entry_or_fault = λ line k e x is other. err_apart (k, e) x (sym (line-fault line x other) ∙ entry-at line k e is);
+  faults = λ line x y is other. same_Err x y (sym (line-fault line x is) ∙ line-fault line y other);
+  entry_or_fault = λ line k e x is other. err-ok x (k, e) (sym (line-fault line x other) ∙ entry-at line k e is);
 }

@@ -22,12 +22,6 @@ pub bind_some : {A B : Type 0} (given : Option A) (step : A → Option B) (y : B
 bind_some None step y e = cc
 bind_some (Some x) step y e = (x, refl, e)
 
--- if the image of an option is present, it is the image of a value
-pub mapped_some : {A B : Type 0} (f : A → B) (given : Option A) (y : B) → option_map f given ≡ Some y
-    → (x : A) × (given ≡ Some x) × (f x ≡ y)
-mapped_some f None y e = cc
-mapped_some f (Some x) y e = let same : f x ≡ y = cc in (x, refl, same)
-
 -- a written opening bracket is read
 opened-at : (is_closed : Bool) (text : List ℕ) → opening_bracket (opening_byte is_closed ∷ text) ≡ Some
     (is_closed, text)

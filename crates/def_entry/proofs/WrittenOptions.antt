@@ -28,7 +28,8 @@ use Rattle.def_entry.specs.Options.{with_choice}
 use Rattle.def_entry.specs.Steps.{◌>>=◌}
 use Rattle.def_entry.proofs.Choices.{begins-choice_at}
 use Rattle.def_entry.proofs.CutTexts.{cut-at, cut-is}
-use Rattle.def_entry.proofs.WrittenIntervals.{Interval, bind_some, interval-at, interval-is, mapped_some}
+use Rattle.def_entry.proofs.WrittenIntervals.{Interval, bind_some, interval-at, interval-is}
+use Rattle.general_lemmas.proofs.Options.{mapped_some}
 
 -- blanks
 

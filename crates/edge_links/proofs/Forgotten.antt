@@ -15,11 +15,12 @@ use Rattle.edge_links.specs.PlaceReach as place
 use Rattle.edge_links.specs.Times.{times}
 use Rattle.edge_links.proofs.OwnedCounts.{owned_zero}
 use Rattle.edge_links.proofs.FreePlaces.{same_heads}
-use Rattle.edge_links.proofs.Membership.{contains_map, contains_origin, apart_map}
+use Rattle.edge_links.proofs.Membership.{contains_origin, apart_map}
 use Rattle.edge_links.proofs.EdgeCounts.{count_other}
 use Rattle.edge_links.proofs.FirstEdges.{user, key_of, by_edge, at_none, at_free, at_edge, at_same, counts_same}
 use Rattle.edge_links.proofs.FirstEdges.{counts_none}
 use Rattle.edge_links.proofs.PlacePaths.{user_head, affected_down, affected_up, affected_there}
+use Rattle.general_lemmas.proofs.Members.{map_member}
 
 -- the number of free places among the first n
 abbrev pub frees : (ℕ → ℕ) → ℕ → ℕ
@@ -210,8 +211,8 @@ module _ (s : Owners) (e : AreEdges s.users s.keys) (nodes : List ℕ) (links : 
 
       affected_named : (x : ℕ) → IsAffectedNode old key x → Contains (map name calls.places) x
       affected_named x f = let h = affected_there s e nodes links key x there f in
-          subst (λ z. Contains (map name calls.places) z) h.1 (contains_map name (get_or nodes x 0) calls.places
-          ((calls.marks_affected (get_or nodes x 0)).1 (
+          subst (λ z. Contains (map name calls.places) z) h.1
+          (map_member name calls.places (get_or nodes x 0) ((calls.marks_affected (get_or nodes x 0)).1 (
             h.0,
             subst (λ z. place.IsAffectedPlace s z (get_or nodes x 0)) (sym is_head)
                 (affected_down s e nodes links key x f),

@@ -8,7 +8,7 @@ use Rattle.edge_links.specs.Changes.{IsFreed, IsParted, HasUser, HasKey}
 use Rattle.edge_links.specs.Owners.{Owners, AreEdges, Waits, IsHead}
 use Rattle.edge_links.specs.WaitingStack.{AreApart}
 use Rattle.edge_links.specs.PlaceReach.{IsEdge, PlaceReaches, at_once, further, IsAffectedPlace, IsEdgeOfAffected}
-use Rattle.edge_links.proofs.Membership.{contains_none, contains_first, contains_later, contains_cases}
+use Rattle.general_lemmas.proofs.Members.{no_member, member_first, member_later, member_cases}
 
 -- the head of the user of a place
 abbrev pub user : Owners → ℕ → ℕ
@@ -135,9 +135,9 @@ module _ (old : Owners) (old_edges : AreEdges old.users old.keys) (key : ℕ) (n
                 f.1,
                 o.2,
                 elim o.3 [
-                  | inl i ↦ inl (contains_later (user old p) x u.done i)
+                  | inl i ↦ inl (member_later (user old p) x u.done i)
                   | inr q ↦ elim (still (user old p) q)
-                      [ inl e ↦ inl (contains_first (user old p) x u.done e) | inr r ↦ inr r ]
+                      [ inl e ↦ inl (member_first (user old p) x u.done e) | inr r ↦ inr r ]
                 ],
               )
           | inr m ↦ elim (both p l) [
@@ -152,7 +152,7 @@ module _ (old : Owners) (old_edges : AreEdges old.users old.keys) (key : ℕ) (n
                   w.1,
                   apart,
                   elim (cases_eq (user s p) x) [
-                    | inl e ↦ inl (contains_first (user old p) x u.done (sym m.0 ∙ (sym (su p) ∙ e)))
+                    | inl e ↦ inl (member_first (user old p) x u.done (sym m.0 ∙ (sym (su p) ∙ e)))
                     | inr nu ↦ elim w.3 [
                       | inl e ↦ absurd (nu e)
                       | inr e ↦ inr (subst (λ y. Waits v y) (su p ∙ m.0) (user_waits p l w.2 e nu))
@@ -240,7 +240,7 @@ module _ (old : Owners) (old_edges : AreEdges old.users old.keys) (key : ℕ) (n
           | inl q ↦
               let was_set : get_or (set s0.waits x false) y false ≡ true =
               ap (λ b. get_or b y false) (sym (t_waits ∙ popped.2)) ∙ q in
-              elim (contains_cases y x u.done i) [
+              elim (member_cases y x u.done i) [
                 | inl e ↦ still_set (subst (λ z. get_or (set s0.waits x false) z false ≡ true) e was_set)
                 | inr j ↦ u.idle y j (before y was_set)
               ]
@@ -251,7 +251,7 @@ module _ (old : Owners) (old_edges : AreEdges old.users old.keys) (key : ℕ) (n
               w.1 in omega arith in
               let was : (user s p ≡ x → ⊥) × (user t p ≡ user s p) × (key_of t p ≡ key_of s p) = uncut p lo w.2 in
               let ks : key_of s p ≡ x = sym was.2 ∙ w.2.1 in
-              elim (contains_cases y x u.done i) [
+              elim (member_cases y x u.done i) [
                 | inl e ↦ was.0 (sym was.1 ∙ (w.3 ∙ e))
                 | inr j ↦ elim (u.each p lo) [
                   | inl o ↦ absurd (x_facts.2 (sym ks ∙ (sk p ∙ o.1)))
@@ -274,13 +274,13 @@ module _ (old : Owners) (old_edges : AreEdges old.users old.keys) (key : ℕ) (n
       done = x ∷ u.done;
       each = each2;
       out_user = λ p l h i.
-          let w = live_was p l h in elim (contains_cases (user v p) x u.done i)
+          let w = live_was p l h in elim (member_cases (user v p) x u.done i)
           [ inl e ↦ w.3 (su p ∙ (sym w.0 ∙ e)) | inr j ↦ u.out_user p l w.2 (subst (λ y. Contains u.done y) w.0 j) ];
       out_key = λ p l h i.
-          let w = live_was p l h in elim (contains_cases (key_of v p) x u.done i)
+          let w = live_was p l h in elim (member_cases (key_of v p) x u.done i)
           [ inl e ↦ w.4 (sk p ∙ (sym w.1 ∙ e)) | inr j ↦ u.out_key p l w.2 (subst (λ y. Contains u.done y) w.1 j) ];
       reached = λ y h. elim h [
-        | inl i ↦ elim (contains_cases y x u.done i) [
+        | inl i ↦ elim (member_cases y x u.done i) [
           | inl e ↦ u.reached y (inr (subst (λ z. Waits s0 z) (sym e) popped.1))
           | inr j ↦
               u.reached y (inl j)
@@ -292,15 +292,15 @@ module _ (old : Owners) (old_edges : AreEdges old.users old.keys) (key : ℕ) (n
             ∙ cond-true (nat_eq (name y) (name x)) false (now (name y)) (eq-eqb (name y) (name x) e)
         | inr ne ↦ cleared_x (name y)
             ∙ (cond-false (nat_eq (name y) (name x)) false (now (name y)) (ne_eqb (name y) (name x) ne)
-            ∙ u.cleared y (elim (contains_cases y x u.done i) [ inl e ↦ absurd (ne (ap name e)) | inr j ↦ j ]))
+            ∙ u.cleared y (elim (member_cases y x u.done i) [ inl e ↦ absurd (ne (ap name e)) | inr j ↦ j ]))
       ];
       kept = λ m n. cleared_x m ∙ (cond-false (nat_eq m (name x)) false (now m)
-          (ne_eqb m (name x) (λ e. n x (contains_first x x u.done refl) (sym e)))
-          ∙ u.kept m (λ y i. n y (contains_later y x u.done i)));
+          (ne_eqb m (name x) (λ e. n x (member_first x x u.done refl) (sym e)))
+          ∙ u.kept m (λ y i. n y (member_later y x u.done i)));
       begun = elim u.begun [
-        | inl i ↦ inl (contains_later key x u.done i)
+        | inl i ↦ inl (member_later key x u.done i)
         | inr q ↦ elim (still key q)
-            [ inl e ↦ inl (contains_first key x u.done e) | inr r ↦ inr r ]
+            [ inl e ↦ inl (member_first key x u.done e) | inr r ↦ inr r ]
       ];
       apart = (λ i. u.idle x i popped.1, u.apart);
       idle = idle_new;
@@ -317,10 +317,10 @@ module _ (old : Owners) (old_edges : AreEdges old.users old.keys) (key : ℕ) (n
     size = ap length us;
     done = [];
     each = λ p m. inr (ap (λ xs. get_or xs p 0) us, ap (λ xs. get_or xs p 0) ks);
-    out_user = λ p m w i. absurd (contains_none (user s p) i);
-    out_key = λ p m w i. absurd (contains_none (key_of s p) i);
+    out_user = λ p m w i. absurd (no_member (user s p) i);
+    out_key = λ p m w i. absurd (no_member (key_of s p) i);
     reached = λ x w. elim w [
-      | inl i ↦ absurd (contains_none x i)
+      | inl i ↦ absurd (no_member x i)
       | inr j ↦ elim ((q x).0 j) [
         | inl k ↦ absurd (let f = idle x in cc)
         | inr e ↦ (
@@ -331,11 +331,11 @@ module _ (old : Owners) (old_edges : AreEdges old.users old.keys) (key : ℕ) (n
         )
       ]
     ];
-    cleared = λ x i. absurd (contains_none x i);
+    cleared = λ x i. absurd (no_member x i);
     kept = λ x n. refl;
     begun = inr ((q key).1 (inr refl));
     apart = tt;
-    idle = λ x i. absurd (contains_none x i);
+    idle = λ x i. absurd (no_member x i);
     calls = called;
   }
 

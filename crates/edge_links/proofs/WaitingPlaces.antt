@@ -4,8 +4,8 @@ use Rattle.std.proofs.Common.{get_or, Contains, Option, Some, None, ◌↔◌}
 use Rattle.std.proofs.Common.{refl, sym, ◌∙◌, ap, subst, inl, inr, arith, get_or-set_same, get_or-set_other, length-set}
 use Rattle.std.proofs.lemmas.Bool.{cases_eq, false_from_ne_true}
 use Rattle.std.proofs.lemmas.List.{get_or_append_left, length-append}
-use Rattle.edge_links.proofs.Membership.{contains_none, contains_first, contains_later, contains_cases}
 use Rattle.edge_links.specs.WaitingStack.{AreApart, IsChain, AreWaiting, waiting_count}
+use Rattle.general_lemmas.proofs.Members.{no_member, member_first, member_later, member_cases}
 
 -- setting a link outside a chain does not change the chain
 chain_set : (behind : List (Option ℕ)) (x : ℕ) (v top : Option ℕ) (xs : List ℕ) → (Contains xs x → ⊥)
@@ -16,9 +16,9 @@ chain_set behind x v top (y ∷ xs) off h =
     let l : y < length (set behind x v) = let s = length-set behind x v in omega arith in (
       h.0,
       l,
-      chain_set behind x v (get_or (set behind x v) y None) xs (λ i. off (contains_later x y xs i))
+      chain_set behind x v (get_or (set behind x v) y None) xs (λ i. off (member_later x y xs i))
           (subst (λ (o : Option ℕ). IsChain behind o xs)
-          (sym (get_or-set_other behind x y v None (λ e. off (contains_first x y xs (sym e))))) h.2),
+          (sym (get_or-set_other behind x y v None (λ e. off (member_first x y xs (sym e))))) h.2),
     )
 
 -- a place that is not waiting can be pushed
@@ -41,14 +41,14 @@ pushed q behind top x w l new =
       );
       flags_of_places = λ y. elim (cases_eq y x) [
         | inl e ↦ (
-          λ _. contains_first y x w.places e,
+          λ _. member_first y x w.places e,
           λ _. ap (λ k. get_or (set q x true) k false) e
               ∙ get_or-set_same q x true false l,
         )
         | inr ne ↦ (
-          λ h. contains_later y x w.places ((w.flags_of_places y).0 (sym (get_or-set_other q x y true false ne) ∙ h)),
+          λ h. member_later y x w.places ((w.flags_of_places y).0 (sym (get_or-set_other q x y true false ne) ∙ h)),
           λ i. get_or-set_other q x y true false ne
-              ∙ (w.flags_of_places y).1 (elim (contains_cases y x w.places i) [ inl e ↦ absurd (ne e) | inr j ↦ j ]),
+              ∙ (w.flags_of_places y).1 (elim (member_cases y x w.places i) [ inl e ↦ absurd (ne e) | inr j ↦ j ]),
         )
       ];
       apart = (off, w.apart);
@@ -59,7 +59,7 @@ pub nothing : (q : List Bool) (behind : List (Option ℕ)) (x : ℕ) → AreWait
 nothing q behind x w = none w.places w.stack_chain (w.flags_of_places x).0
   where
     none : (xs : List ℕ) → IsChain behind None xs → (get_or q x false ≡ true → Contains xs x) → get_or q x false ≡ false
-    none [] c f = false_from_ne_true _ (λ e. contains_none x (f e))
+    none [] c f = false_from_ne_true _ (λ e. no_member x (f e))
     none (y ∷ xs) c f = absurd (let e : None ≡ Some y = c.0 in cc)
 
 -- the top of the stack can be popped
@@ -76,7 +76,7 @@ popped q behind top x after w t a = go w.places w.stack_chain w.flags_of_places 
         let e : x ≡ y = let z : Some x ≡ Some y = sym t ∙ c.0 in cc in
         let n : x < length behind = subst (λ k. k < length behind) (sym e) c.1 in
         let l : x < length q = let s = w.size in omega arith in
-        let on_it : get_or q x false ≡ true = (f x).1 (contains_first x y xs e) in
+        let on_it : get_or q x false ≡ true = (f x).1 (member_first x y xs e) in
         let g : after ≡ get_or behind y None = a ∙ ap (λ k. get_or behind k None) e in (
           n,
           l,
@@ -93,9 +93,9 @@ popped q behind top x after w t a = go w.places w.stack_chain w.flags_of_places 
                 λ i. absurd (p.0 (subst (λ j. Contains xs j) (d ∙ e) i)),
               )
               | inr ne ↦ (
-                λ h. elim (contains_cases k y xs ((f k).0 (sym (get_or-set_other q x k false false ne) ∙ h)))
+                λ h. elim (member_cases k y xs ((f k).0 (sym (get_or-set_other q x k false false ne) ∙ h)))
                     [ inl d ↦ absurd (ne (d ∙ sym e)) | inr i ↦ i ],
-                λ i. get_or-set_other q x k false false ne ∙ (f k).1 (contains_later k y xs i),
+                λ i. get_or-set_other q x k false false ne ∙ (f k).1 (member_later k y xs i),
               )
             ];
             apart = p.1;
@@ -169,7 +169,7 @@ none_waiting = record {
   size = refl;
   places = [];
   stack_chain = refl;
-  flags_of_places = λ x. (λ h. absurd (no_flag x h), λ i. absurd (contains_none x i));
+  flags_of_places = λ x. (λ h. absurd (no_flag x h), λ i. absurd (no_member x i));
   apart = tt;
 }
   where

@@ -1,5 +1,5 @@
 -- Sums, products and juxtapositions, which are read one part after another.
-use Rattle.std.proofs.Common.{◌≡◌, ℕ, true, false, not, List, [], ◌∷◌, ◌++◌, Option, Some, None, is_none, refl, sym}
+use Rattle.std.proofs.Common.{◌≡◌, ℕ, true, false, not, List, [], ◌∷◌, ◌++◌, Option, None, is_none, refl, sym}
 use Rattle.std.proofs.Common.{◌∙◌, ap, subst}
 use Rattle.expr_tree.specs.declared.operator.Scale.{Scale}
 use Rattle.expr_tree.specs.declared.operator.Scale.TheVariants.{Multiply, Divide}
@@ -23,11 +23,7 @@ use Rattle.expr_tree.specs.Syntax as tree
 use Rattle.expr_tree.specs.Tokens.{Token, Plus, Minus, Star, Slash, Close}
 use Rattle.expr_tree.specs.Trees.{factors_syntax, members, terms}
 use Rattle.expr_tree.proofs.PartLists.{AreRead, PartRule, all_read, begun, gone_on}
-
--- an option that passes `is_none` is `None`
-no_some : {A : Type 0} (o : Option A) → is_none o ≡ true → o ≡ None
-no_some None h = refl
-no_some (Some x) h = cc
+use Rattle.general_lemmas.proofs.Options.{none_is}
 
 -- sums
 
@@ -73,7 +69,7 @@ one_term b k x y e p n =
 pub terms_begun : (b : Option (List ℕ)) (k : ℕ) (x y : List Token) (e : Syntax) (read : List (Sign × Syntax))
     → ProductAt b k x e y
     → (first_sign y ≡ None → ⊥) → read ≡ (signs.Plus, e) ∷ [] → TermsRead b k x y read
-terms_begun b k x y e read p n are = begun (sums b) k x y e read p (λ h. n (no_some (first_sign y) h)) are
+terms_begun b k x y e read p n are = begun (sums b) k x y e read p (λ h. n (none_is (first_sign y) h)) are
 
 -- a product after a sign is the next term
 pub next_term : (b : Option (List ℕ)) (k : ℕ) (x y y' z : List Token) (s : Sign) (e : Syntax)
@@ -155,7 +151,7 @@ one_factor b k x y e p n =
 pub factors_begun : (b : Option (List ℕ)) (k : ℕ) (x y : List Token) (e : Syntax) (read : List (Scale × Syntax))
     → JuxtapositionAt b k x e y
     → (first_scale y ≡ None → ⊥) → read ≡ (Multiply, e) ∷ [] → FactorsRead b k x y read
-factors_begun b k x y e read p n are = begun (products b) k x y e read p (λ h. n (no_some (first_scale y) h)) are
+factors_begun b k x y e read p n are = begun (products b) k x y e read p (λ h. n (none_is (first_scale y) h)) are
 
 -- a juxtaposition after a `*` or `/` is the next factor
 pub next_factor : (b : Option (List ℕ)) (k : ℕ) (x y y' z : List Token) (s : Scale) (e : Syntax)

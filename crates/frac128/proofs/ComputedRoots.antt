@@ -16,6 +16,7 @@ use Rattle.frac128.specs.declared.fault.FracFault.TheVariants.{NoExactRoot}
 use Rattle.frac128.proofs.Powers.{IsMade}
 use Rattle.frac128.proofs.Roots.{abs-pow, le-pow, root_by, root_law}
 use Rattle.frac128.proofs.Signs.{not_below}
+use Rattle.general_lemmas.proofs.Options.{not_chosen}
 
 -- a number that `find` gives passes the test
 found_passes : (test : ℕ → Bool) (xs : List ℕ) (x : ℕ) → find test xs ≡ Some x → test x ≡ true
@@ -27,18 +28,13 @@ found_passes test (y ∷ ys) x is = go (test y) refl is (λ rest. found_passes t
     go true passes is rest = let same : y ≡ x = cc in ap test (sym same) ∙ passes
     go false fails is rest = rest is
 
--- if `find` gives `None`, the first number fails and the search in the rest gives `None`
-failed : (b : Bool) (x : ℕ) (rest : Option ℕ) → cond b (Some x) rest ≡ None → (b ≡ false) × (rest ≡ None)
-failed true x rest none = absurd (cc)
-failed false x rest none = (refl, none)
-
 -- if the search from `n` down gives `None`, no number up to `n` passes
 none_passes : (test : ℕ → Bool) (n m : ℕ) → m ≤ n → find test (down_from n) ≡ None → test m ≡ false
-none_passes test zero m low none = let same : m ≡ 0 = omega arith in ap test same ∙ (failed (test 0) 0 None none).0
+none_passes test zero m low none = let same : m ≡ 0 = omega arith in ap test same ∙ (not_chosen (test 0) 0 None none).0
 none_passes test (suc n) m low none = elim (cases_eq m (suc n)) [
-  | inl same ↦ ap test same ∙ (failed (test (suc n)) (suc n) (find test (down_from n)) none).0
+  | inl same ↦ ap test same ∙ (not_chosen (test (suc n)) (suc n) (find test (down_from n)) none).0
   | inr other ↦ none_passes test n m (omega (arith, other))
-      (failed (test (suc n)) (suc n) (find test (down_from n)) none).1
+      (not_chosen (test (suc n)) (suc n) (find test (down_from n)) none).1
 ]
 
 -- ---- the law

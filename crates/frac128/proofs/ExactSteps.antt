@@ -2,23 +2,22 @@
 use Rattle.std.proofs.Common.{◌≡◌, ◌*◌, ◌/◌, ◌<◌, ◌+ℤ◌, ◌-ℤ◌, ◌*ℤ◌, ℕ, ℤ, pos, negsuc, neg_ℤ, suc, zero, Bool, true}
 use Rattle.std.proofs.Common.{false, arith, refl}
 use Rattle.std.proofs.Common.{sym, ap, ◌∙◌}
-use Rattle.std.specs.Prelude.{◌&&◌, int_lt, unsigned_abs, Ok, Err, if◌then◌else◌}
+use Rattle.std.specs.Prelude.{◌&&◌, Ok, Err, if◌then◌else◌}
 use Rattle.std.specs.Int.{◌∣◌}
 use Rattle.std.proofs.lemmas.Int.{ints}
 use Rattle.std.proofs.Math.IntN.{*ℤ-negsuc, *ℤ-zero, *ℤ_comm, neg_ℤ-neg_ℤ, pos-*ℤ-negsuc, suc_ℤ-*ℤ}
-use Rattle.std.proofs.Math.Nat.{mul-div_cancel', mul-pos, mul-zero, mul_assoc, mul_comm}
+use Rattle.std.proofs.Math.Nat.{mul-div_cancel', mul-pos, mul-zero, mul_comm}
 use Rattle.frac128.specs.declared.fault.FracFault.TheVariants.{Overflow}
 use Rattle.frac128.specs.Divisors.{gcd, lcm}
 use Rattle.frac128.specs.Exact.{ExactStepsLaw, difference, sum}
 use Rattle.frac128.specs.Fraction.{Fraction, SameValue, fits_most, negative_of}
-use Rattle.frac128.specs.Sign.{differ, number_with_sign}
 use Rattle.frac128.specs.Steps.{fit_or_overflow, lowest_terms, ratio}
 use Rattle.frac128.specs.Sums.{in_range, step_over, minus, numerator_over, plus}
 use Rattle.frac128.proofs.Euclid.{gcd_is}
 use Rattle.frac128.proofs.Multiples.{lcm-times}
 use Rattle.frac128.proofs.QuotientLaws.{reduced-value}
-use Rattle.frac128.proofs.Signs.{mul-signed, neg-times, signed_is}
 use Rattle.frac128.proofs.Sums.{lcm-div, minus-negated}
+use Rattle.general_lemmas.proofs.Integers.{neg-times, mul-twice}
 
 -- if a step over a multiple has a result, this is the reduced quotient
 joined_ok : (step : ℤ → ℤ → ℤ) (m : ℕ) (l r : ℤ) (y : Fraction) → step_over step m l r ≡ Ok y
@@ -41,21 +40,6 @@ fitting_ok x y h = by_test (fits_most x) h
     by_test : (b : Bool) → (if b then Ok x else Err Overflow) ≡ Ok y → y ≡ x
     by_test true e = cc
     by_test false e = absurd (cc)
-
--- multiplying by two numbers is multiplying by their product
-mul-twice : (z : ℤ) (a b : ℕ) → z *ℤ pos a *ℤ pos b ≡ z *ℤ pos (a * b)
-mul-twice z a b =
-    let s = int_lt z (pos 0) in
-    let n = unsigned_abs z in
-    ap (λ k. k *ℤ pos a *ℤ pos b) (signed_is z) ∙ ap (λ k. k *ℤ pos b) (mul-signed s false n a)
-    ∙ mul-signed (differ s false) false (n * a) b
-    ∙ plain s (n * a * b) ∙ ap (number_with_sign (differ s false)) (mul_assoc n a b)
-    ∙ sym (ap (λ k. k *ℤ pos (a * b)) (signed_is z) ∙ mul-signed s false n (a * b))
-  where
-    plain : (s : Bool) (k : ℕ) → number_with_sign (differ (differ s false) false) k ≡ number_with_sign (differ s false)
-        k
-    plain true k = refl
-    plain false k = refl
 
 -- multiplication distributes over a sum
 mul-sum : (y z : ℤ) (g : ℕ) → (y +ℤ z) *ℤ pos g ≡ (y *ℤ pos g) +ℤ (z *ℤ pos g)

@@ -4,7 +4,7 @@ use Rattle.std.proofs.Common.{not, arith, refl}
 use Rattle.std.proofs.Common.{sym, ap, ◌∙◌, unsigned_abs}
 use Rattle.std.specs.Prelude.{int_lt, int_div}
 use Rattle.std.proofs.lemmas.Int.{ints, unsigned_abs-mul}
-use Rattle.std.proofs.Math.IntN.{*ℤ_comm, neg_ℤ-neg_ℤ, pos-*ℤ-negsuc, negsuc-*ℤ-pos}
+use Rattle.std.proofs.Math.IntN.{*ℤ_comm, pos-*ℤ-negsuc, negsuc-*ℤ-pos}
 use Rattle.std.proofs.Math.Nat.{zero-div, mul-zero, zero-mul, mul-pos}
 use Rattle.frac128.specs.Divisors.{gcd, IsLowest, IsWide}
 use Rattle.frac128.specs.Fraction.{Fraction, most}
@@ -60,18 +60,6 @@ pub neg-signed : (s : Bool) (a : ℕ) → neg_ℤ (number_with_sign s a) ≡ num
 neg-signed false a = refl
 neg-signed true zero = refl
 neg-signed true (suc a) = refl
-
--- negation keeps the magnitude
-pub abs-neg : (z : ℤ) → unsigned_abs (neg_ℤ z) ≡ unsigned_abs z
-abs-neg (pos zero) = refl
-abs-neg (pos (suc n)) = refl
-abs-neg (negsuc n) = refl
-
--- negating a product is negating its first factor
-pub neg-times : (z : ℤ) (k : ℕ) → neg_ℤ (z *ℤ pos k) ≡ neg_ℤ z *ℤ pos k
-neg-times (pos zero) k = rw (zero-mul k) refl
-neg-times (pos (suc n)) k = refl
-neg-times (negsuc n) k = neg_ℤ-neg_ℤ (pos (suc n * k))
 
 -- the ratio of a signed number and a number above 0
 pub ratio-signed : (s : Bool) (a b top bottom : ℕ) → 0 < b → IsLowest a b top bottom

@@ -17,7 +17,8 @@ use Rattle.frac128.proofs.Euclid.{gcd_is}
 use Rattle.frac128.proofs.Multiples.{lcm-left, lcm-right}
 use Rattle.frac128.proofs.QuotientLaws.{reduced_is}
 use Rattle.frac128.proofs.SumDivisors.{sum_shares}
-use Rattle.frac128.proofs.Signs.{abs-neg, abs-signed, differ-false, mul-signed, neg-times, signed_is}
+use Rattle.frac128.proofs.Signs.{abs-signed, differ-false, mul-signed, signed_is}
+use Rattle.general_lemmas.proofs.Integers.{abs-neg, neg-times}
 
 -- the least common multiple divided by one denominator is the other one divided by the greatest common divisor
 pub lcm-div : (b d : ℕ) → 0 < b → 0 < d → (lcm b d / b ≡ d / gcd b d) × (lcm b d / d ≡ b / gcd b d)

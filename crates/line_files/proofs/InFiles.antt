@@ -17,11 +17,11 @@ use Rattle.deck_lines.specs.declared.line.Block.{Block}
 use Rattle.deck_lines.specs.declared.line.DeckLine.{DeckLine}
 use Rattle.deck_lines.specs.declared.line.Role.{Role}
 use Rattle.deck_lines.specs.declared.line.Role.TheVariants.{Closes, Inside, Opens}
-use Rattle.line_files.proofs.Members.{member_first, member_later}
-use Rattle.line_files.proofs.Members.{all_append}
 use Rattle.line_files.specs.FileLines.{FileLine, file_lines, in_file, include_lines, line_lines, lines_below}
 use Rattle.line_files.specs.FileLines.{lines_of_answer, rest_lines}
 use Rattle.line_files.specs.Laws.{IsLineOf, IsInItsFile}
+use Rattle.general_lemmas.proofs.Members.{member_first, member_later}
+use Rattle.general_lemmas.proofs.Properties.{all_append}
 
 -- a block has the number of one of these lines
 abbrev IsOpenedIn : List Line → Block → Type 0

@@ -1,5 +1,4 @@
 mod InFiles
-mod Members
 mod Naming
 mod Passing
 mod SameLines

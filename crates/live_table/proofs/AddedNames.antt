@@ -11,9 +11,7 @@ use Rattle.def_entry.specs.Tables.{Table}
 use Rattle.name_walk.specs.declared.step.Step.{Step}
 use Rattle.name_walk.specs.declared.step.Step.TheVariants.{Nowhere, To}
 use Rattle.name_walk.specs.ClosedNames.{IsSettled}
-use Rattle.name_walk.proofs.Lists.{nothing_twice}
 use Rattle.table_names.specs.declared.fault.NameFault.{NameFault}
-use Rattle.table_names.proofs.Members.{member_at, member_first, member_later, no_member}
 use Rattle.name_numbers.specs.NumberedNames.{AreWords, ForOne, ForRefused, ForTwo, ForUnknown, IsWord}
 use Rattle.live_table.specs.declared.dead_end.DeadEnd.{DeadEnd}
 use Rattle.live_table.specs.ExploredNames.{dead_end_fault, fault_at}
@@ -21,6 +19,8 @@ use Rattle.live_table.specs.Exploration.{AreAdded, AreGrown, AreListed, AreWritt
 use Rattle.live_table.specs.Sound.{AreNumberedNames}
 use Rattle.live_table.specs.TableContents.{Listed, key_at}
 use Rattle.live_table.proofs.Places.{element}
+use Rattle.general_lemmas.proofs.Members.{no_member, member_first, member_later, member_at}
+use Rattle.general_lemmas.proofs.Properties.{nothing_twice}
 
 -- ---- lists that grow
 pub more_length : {A : Type 0} (xs ys : List A) → IsMore xs ys → length xs ≤ length ys

@@ -37,7 +37,6 @@ use Rattle.table_names.specs.Words.{key_words}
 use Rattle.table_names.proofs.AffectedKeys.{affected_law}
 use Rattle.table_names.proofs.UnchangedKeys.{unaffected_law}
 use Rattle.table_names.proofs.KeyLists.{among_member, member_among}
-use Rattle.table_names.proofs.Members.{member_first, member_later}
 use Rattle.live_table.specs.Callees.{HasRank}
 use Rattle.live_table.specs.Calls.{IsAcceptedEdit}
 use Rattle.live_table.specs.TableEdges.{HasEdges, IsLinked, is_flagged}
@@ -49,6 +48,7 @@ use Rattle.live_table.specs.TableContents.{Listed, kept_of, key_at, shown_table}
 use Rattle.live_table.proofs.Edits.{edit_follows, left_in}
 use Rattle.live_table.proofs.OutcomesByKey.{key_settled, marked_at}
 use Rattle.live_table.proofs.OutcomesRemoved.{AreTaken, kept_left}
+use Rattle.general_lemmas.proofs.Members.{member_first, member_later}
 
 -- ---- lists
 same_lists : {A : Type 0} (xs ys : List A) → length xs ≡ length ys

@@ -12,13 +12,14 @@ use Rattle.std.proofs.lemmas.Option.{get_or_from_slice_get, same_Some, slice_get
 use Rattle.std.proofs.lemmas.Cmp.{nat_eq_equiv}
 use Rattle.std.proofs.lemmas.Map.Keys.{IsDistinct-push}
 use Rattle.name_walk.specs.Faults.{is_on_path}
-use Rattle.name_walk.proofs.Lists.{distinct_front, distinct_last, nothing_twice}
-use Rattle.name_walk.proofs.Marks.{get_set_other, get_set_same}
+use Rattle.name_walk.proofs.Lists.{distinct_last}
 use Rattle.name_walk.proofs.Members.{member_on_path, on_path_member}
 use Rattle.live_table.specs.Agendas.{AreSamePlaces, IsPlaced}
 use Rattle.live_table.proofs.AddedNames.{push_more}
-use Rattle.live_table.proofs.Places.{get_last, get_pushed, place_in}
-use Rattle.table_names.proofs.Members.{member_at}
+use Rattle.live_table.proofs.Places.{get_last, place_in}
+use Rattle.general_lemmas.proofs.Places.{get_pushed, get_set_same, get_set_other}
+use Rattle.general_lemmas.proofs.Members.{member_at}
+use Rattle.general_lemmas.proofs.Properties.{nothing_twice, distinct_front}
 
 -- a place in a longer table was there before
 in_front : (places : List ℕ) (k m i : ℕ) → slice_get (places ++ replicate k 0) m ≡ Some (i + 1)

@@ -9,7 +9,6 @@ use Rattle.name_walk.specs.Faults.{is_on_path}
 use Rattle.name_walk.specs.Steps.{steps}
 use Rattle.name_walk.proofs.Members.{member_on_path, on_path_member}
 use Rattle.table_names.specs.Words.{key_words}
-use Rattle.table_names.proofs.Members.{no_member}
 use Rattle.name_numbers.specs.NumberedNames.{AreWords}
 use Rattle.live_table.specs.declared.dead_end.DeadEnd.{DeadEnd}
 use Rattle.live_table.specs.ExploredNames.{AreExplored, fault_at}
@@ -17,6 +16,7 @@ use Rattle.live_table.specs.Exploration.{AreAllExplored, IsKnown, is_known, is_s
 use Rattle.live_table.specs.Sound.{AreNumberedNames, HasLooksIfLed, HasStartsOf}
 use Rattle.live_table.specs.TableContents.{Listed, key_at}
 use Rattle.live_table.proofs.AddedNames.{known_within}
+use Rattle.general_lemmas.proofs.Members.{no_member}
 
 -- a mark that is set is present
 is_flag : (o : Option Bool) → is_some_true o ≡ true → o ≡ Some true

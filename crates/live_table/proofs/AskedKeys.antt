@@ -13,7 +13,6 @@ use Rattle.table_names.specs.Leads.{Reaches}
 use Rattle.table_names.specs.Reach.{key_reach}
 use Rattle.table_names.specs.Words.{key_words}
 use Rattle.table_names.proofs.ClosedLaws.{closed_law}
-use Rattle.table_names.proofs.Members.{member_cases, member_first, member_later, no_member}
 use Rattle.table_names.proofs.ReachedKeys.{reach_law}
 use Rattle.deck.specs.Tables.{table}
 use Rattle.name_numbers.specs.NumberedNames.{LeadToKnown}
@@ -32,6 +31,7 @@ use Rattle.live_table.proofs.GrownLive.{key_query}
 use Rattle.live_table.proofs.Queries.{are_marks, asked_fault, asked_none, is_kept, reached_settled}
 use Rattle.live_table.proofs.Stages.{AreAllStages, AreStages, IsSettledAfter, Stages, explored_there, known_there}
 use Rattle.live_table.proofs.Stages.{same_start, sound_there}
+use Rattle.general_lemmas.proofs.Members.{no_member, member_first, member_later, member_cases}
 
 -- a closed key reaches exactly the keys in its list
 key_reached : (t : Table) (k : Key) → IsClosed t k → (n : Key) → Contains (k ∷ key_reach t k) n ↔

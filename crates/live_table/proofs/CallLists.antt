@@ -8,7 +8,6 @@ use Rattle.def_entry.specs.Tables.{Table, is_present}
 use Rattle.table_names.specs.Faults.{key_fault}
 use Rattle.table_names.specs.Reach.{key_reach}
 use Rattle.table_names.proofs.KeyLists.{among_member}
-use Rattle.table_names.proofs.Members.{member_first, member_later}
 use Rattle.deck.specs.Changes.{ChangedLaw, changed_keys}
 use Rattle.deck.specs.KeyLists.{TableKeysLaw, table_keys}
 use Rattle.deck.specs.Tables.{table}
@@ -28,6 +27,7 @@ use Rattle.live_table.specs.CallLists.{CallListLaw}
 use Rattle.live_table.specs.CallLists.{Unapply, IsCall, IsKeptSince, RefusedEdit, SettleAll, Value, all_events}
 use Rattle.live_table.specs.CallLists.{events_in}
 use Rattle.live_table.specs.CallLists.{has_answer, is_complete, last_shown, last_steps}
+use Rattle.general_lemmas.proofs.Members.{member_first, member_later}
 
 -- the law of the kinds of the keys of a deck
 pub deck_kinds_law : DeckKindsLaw

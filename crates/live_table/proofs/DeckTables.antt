@@ -20,7 +20,7 @@ use Rattle.deck.specs.Tables.{Definitions, active_definitions, definition_by, de
 use Rattle.deck.specs.Tables.{table_of}
 use Rattle.table_names.specs.Kinds.{FitsKinds, may_say}
 use Rattle.table_names.proofs.LineKinds.{line_says}
-use Rattle.name_walk.proofs.Lists.{all_append}
+use Rattle.general_lemmas.proofs.Properties.{all_append}
 
 -- ---- a line that defines a key has its entry
 of_line : (r : Result (Key × Entry) EntryFault) (p : Key × Entry) → defined_by (of_entry r) ≡ Some p → r ≡ Ok p

@@ -11,7 +11,6 @@ use Rattle.def_entry.specs.Entries.{Entry, What}
 use Rattle.def_entry.specs.Tables.{Table}
 use Rattle.def_entry.specs.Views.{what_view}
 use Rattle.table_names.specs.Words.{entry_words, what_words}
-use Rattle.table_names.proofs.Members.{member_at}
 use Rattle.live_table.specs.declared.callee.PartStarts.{PartStarts}
 use Rattle.live_table.specs.declared.dead_end.DeadEnd.{DeadEnd}
 use Rattle.live_table.specs.Callees.{AreEntryWords, AreKeyWords, start_of}
@@ -19,7 +18,9 @@ use Rattle.live_table.specs.Exploration.{AreGrown, AreListed, IsMore}
 use Rattle.live_table.specs.FoundDefinitions.{AreFoundByNumber, HasEntry}
 use Rattle.live_table.specs.TableContents.{Listed, key_at}
 use Rattle.live_table.proofs.AddedNames.{key_same}
-use Rattle.live_table.proofs.Places.{element, get_pushed}
+use Rattle.live_table.proofs.Places.{element}
+use Rattle.general_lemmas.proofs.Places.{get_pushed}
+use Rattle.general_lemmas.proofs.Members.{member_at}
 
 -- the words of the definition of a key are those of the key
 pub said_words : (t : Table) (k : Key) (what : What) (us : List WordUse) (begins : PartStarts) → HasEntry t k what

@@ -16,12 +16,10 @@ use Rattle.name_walk.specs.NewlyClosed.{AreNewlyClosed, AreOrdered, IsReached}
 use Rattle.name_walk.specs.Steps.{Graph, LeadsTo, NameReaches, at_once, further, steps}
 use Rattle.name_walk.proofs.ClosedPaths.{closed_law_holds}
 use Rattle.name_walk.proofs.Lists.{all_at}
-use Rattle.name_walk.proofs.Marks.{get_set_other, get_set_same}
 use Rattle.tree_eval.specs.declared.outcome.Outcome.{Outcome}
 use Rattle.table_names.specs.declared.fault.NameFault.{NameFault}
 use Rattle.table_names.specs.ClosedKeys.{IsClosed}
 use Rattle.table_names.specs.Words.{key_words}
-use Rattle.table_names.proofs.Members.{member_first, member_later, no_member}
 use Rattle.name_numbers.specs.FaultLaws.{NumberedFaultLaw}
 use Rattle.name_numbers.specs.NumberedNames.{AreWords, ForOne, ForRefused, ForTwo, ForUnknown, IsWord, LeadToKnown}
 use Rattle.name_numbers.specs.NumberedNames.{fault_by_name}
@@ -32,6 +30,8 @@ use Rattle.live_table.specs.ExploredNames.{AreExplored, fault_at}
 use Rattle.live_table.specs.Looks.{AreLooks}
 use Rattle.live_table.specs.Sound.{AreNumberedNames, HasLooksOf, HasStartsOf, IsFaithful}
 use Rattle.live_table.specs.TableContents.{Listed, Looks, key_at, looks_of}
+use Rattle.general_lemmas.proofs.Places.{get_set_same, get_set_other}
+use Rattle.general_lemmas.proofs.Members.{no_member, member_first, member_later}
 
 -- ---- steps that all lead somewhere are those of their words, whatever the dead ends
 module _ (t : Table) (key : ℕ → Key) (one other : ℕ → Option Key → NameFault) where

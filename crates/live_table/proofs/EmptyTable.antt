@@ -5,11 +5,11 @@ use Rattle.name_walk.specs.declared.step.Step.TheVariants.{To}
 use Rattle.def_entry.specs.declared.key.Key.{Key}
 use Rattle.def_entry.specs.KeyOrder.{key_cmp}
 use Rattle.deck.specs.Decks.{Contents}
-use Rattle.table_names.proofs.Members.{no_member}
 use Rattle.live_table.specs.Right.{IsKeySettled}
 use Rattle.live_table.specs.TableView.{state_with_steps}
 use Rattle.live_table.specs.Sound.{IsSound}
 use Rattle.live_table.specs.TableContents.{Listed, no_nodes, shown_table}
+use Rattle.general_lemmas.proofs.Members.{no_member}
 
 module _ (deck : Contents) where
   none_settled : (n : Key) → IsKeySettled (state_with_steps (shown_table deck no_nodes 0) 0) n → ⊥

@@ -20,13 +20,14 @@ use Rattle.table_names.proofs.AffectedKeys.{affected_law}
 use Rattle.table_names.proofs.ClosedLaws.{closed_law}
 use Rattle.table_names.proofs.UnchangedKeys.{unaffected_law}
 use Rattle.table_names.proofs.KeyLists.{among_member, member_among}
-use Rattle.table_names.proofs.Members.{member_cases, member_later}
 use Rattle.table_names.proofs.ReachedKeys.{reach_law}
 use Rattle.deck.specs.Changes.{changed_keys}
 use Rattle.live_table.specs.Right.{IsKeySettled, IsRight, RightLaw}
 use Rattle.live_table.specs.States.{AsksKey, AsksWords, Becomes, CanBe, Event, EventOrderLaw, TableState}
 use Rattle.live_table.specs.States.{after_edit, after_event, after_query, with_settled}
 use Rattle.live_table.proofs.Outcomes.{left_in, left_out, put_in}
+use Rattle.general_lemmas.proofs.Members.{member_later, member_cases}
+use Rattle.general_lemmas.proofs.Options.{none_is}
 
 -- ---- the names that a query settles
 -- closed keys that have entries, with all keys that they reach
@@ -111,11 +112,6 @@ query_right : (s : TableState) (keys : List Key) (b : Bool) → (b ≡ true → 
     → IsRight (after_query b keys s)
 query_right s keys true whole h = grown_right s keys (whole refl) h
 query_right s keys false whole h = h
-
--- an option that is found to be `None` is `None`
-pub none_is : {A : Type 0} (o : Option A) → is_none o ≡ true → o ≡ None
-none_is None e = refl
-none_is (Some x) e = cc
 
 -- ---- the outcomes that an edit leaves
 left_some : (b : Bool) (o : Option Outcome) → is_some (cond b o None) ≡ true → (b ≡ true) × (is_some o ≡ true)

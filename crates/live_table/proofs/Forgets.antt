@@ -1,6 +1,6 @@
 -- Forgetting keys in turn.
-use Rattle.std.proofs.Common.{◌≡◌, ◌⊎◌, ◌+◌, ◌<◌, ◌≤◌, ℕ, zero, suc, Bool, true, false, List, [], ◌∷◌, ◌++◌, length}
-use Rattle.std.proofs.Common.{take, set, Contains}
+use Rattle.std.proofs.Common.{◌≡◌, ◌⊎◌, ◌<◌, ◌≤◌, ℕ, Bool, true, false, List, [], ◌∷◌, ◌++◌, length}
+use Rattle.std.proofs.Common.{set, Contains}
 use Rattle.std.proofs.Common.{Option, Some, refl, sym, ◌∙◌, ap, subst, inl, inr, arith}
 use Rattle.std.specs.List.{slice_get}
 use Rattle.std.proofs.lemmas.Bool.{cases_Bool, true≢false}
@@ -15,14 +15,14 @@ use Rattle.name_edges.specs.AffectedNames.{AreAffected, AreEdgesCut, ForgetsName
 use Rattle.name_edges.specs.NameGraphs.{NameGraph}
 use Rattle.name_edges.proofs.Cutting.{affected_by_both, affected_by_one, cleared_on, cut_on, in_alone}
 use Rattle.name_numbers.specs.EdgeLaws.{AreNumbersOf}
-use Rattle.name_walk.proofs.Marks.{get_set_other, get_set_same}
 use Rattle.table_names.proofs.KeyLists.{among_member, member_among}
-use Rattle.table_names.proofs.Members.{member_at, member_cases, member_first, no_member}
 use Rattle.tree_eval.specs.declared.outcome.Outcome.{Outcome}
 use Rattle.live_table.specs.TableEdges.{is_flagged}
 use Rattle.live_table.specs.Forgotten.{AreFlaggedAnew, AreForgotten, CanForget, IsRest}
 use Rattle.live_table.specs.OutcomesLeft.{AreNumbersLeft, left_at_first, left_on}
 use Rattle.live_table.specs.TableContents.{Listed, key_at}
+use Rattle.general_lemmas.proofs.Places.{get_set_same, get_set_other}
+use Rattle.general_lemmas.proofs.Members.{no_member, member_first, member_cases, member_at}
 
 -- an empty change affects no name
 no_key : (g : NameGraph) (n : ℕ) → AreAffected g [] n → ⊥
@@ -245,13 +245,6 @@ absent_forgotten t k l g few absent = none_forgotten t l g (k ∷ []) none few
     ]
 
 -- ---- keys in turn
-pub take_next : (ks : List Key) (i : ℕ) (k : Key) → slice_get ks i ≡ Some k → take (i + 1) ks ≡ take i ks ++ k ∷ []
-take_next [] i k e = cc
-take_next (x ∷ ks) zero k e = ap (λ (z : Key). z ∷ []) (same_Some x k e)
-take_next (x ∷ ks) (suc i) k e = ap (λ n. take n (x ∷ ks)) (later i) ∙ ap (λ zs. x ∷ zs) (take_next ks i k e)
-  where
-    later : (i : ℕ) → suc i + 1 ≡ suc (i + 1)
-    later i = omega arith
 
 -- a table that has forgotten keys meets the precondition of forgetting again
 pub can_forget : (t : Table) (keys : List Key) (l m : Listed) (g h : NameGraph) → AreForgotten t keys l m g h

@@ -4,11 +4,11 @@ use Rattle.std.proofs.Common.{sym, ◌∙◌, subst, inl, inr, arith, Contains}
 use Rattle.std.specs.List.{slice_get}
 use Rattle.std.proofs.lemmas.Bool.{cases_Bool, cond-false, cond-true}
 use Rattle.name_walk.specs.Faults.{is_on_path}
-use Rattle.name_walk.proofs.Lists.{take_at}
 use Rattle.name_walk.proofs.Members.{on_path_member}
 use Rattle.std.proofs.lemmas.List.{take_all}
 use Rattle.std.proofs.lemmas.List.Elements.{Contains-append_left, Contains-push, Contains-push_cases}
-use Rattle.table_names.proofs.Members.{no_member}
+use Rattle.general_lemmas.proofs.Places.{take_at}
+use Rattle.general_lemmas.proofs.Members.{no_member}
 
 -- the first of these numbers are gathered
 abbrev pub IsGathering : List ℕ → List ℕ → List ℕ → ℕ → Type 0

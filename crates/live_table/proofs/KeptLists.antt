@@ -1,6 +1,5 @@
 -- The stored names are those of the list.
-use Rattle.std.proofs.Common.{◌≡◌, ◌⊎◌, ◌↔◌, Bool, true, false, cond, not, List, [], ◌∷◌, ◌++◌, Contains, Option, Some}
-use Rattle.std.proofs.Common.{None}
+use Rattle.std.proofs.Common.{◌≡◌, ◌⊎◌, ◌↔◌, Bool, true, false, cond, not, List, [], ◌∷◌, ◌++◌, Contains}
 use Rattle.std.proofs.Common.{is_none, refl, sym, ◌∙◌, ap, subst, inl, inr}
 use Rattle.std.specs.List.{filter}
 use Rattle.std.proofs.lemmas.List.Elements.{Contains-append_cases, Contains-append_left, Contains-append_right}
@@ -14,7 +13,6 @@ use Rattle.table_names.specs.Reach.{key_reach, reach}
 use Rattle.table_names.specs.Words.{key_words}
 use Rattle.table_names.proofs.AffectedKeys.{affected_law}
 use Rattle.table_names.proofs.ClosedLaws.{closed_law}
-use Rattle.table_names.proofs.Members.{member_cases, member_first, member_later, no_member}
 use Rattle.table_names.proofs.ReachedKeys.{reach_law}
 use Rattle.deck.specs.Changes.{changed_keys}
 use Rattle.live_table.specs.KeptNames.{IsKeptBy, table_after}
@@ -24,6 +22,8 @@ use Rattle.live_table.specs.States.{after_query}
 use Rattle.live_table.proofs.Events.{right_law}
 use Rattle.live_table.proofs.KeptNames.{kept_law}
 use Rattle.live_table.specs.KeptLists.{KeptListLaw, kept_by, kept_list}
+use Rattle.general_lemmas.proofs.Members.{no_member, member_first, member_later, member_cases}
+use Rattle.general_lemmas.proofs.Options.{none_is}
 
 -- ---- members of a filtered list
 passed : {A : Type 0} (p : A → Bool) (xs : List A) (x : A) → Contains (filter p xs) x → Contains xs x × (p x ≡ true)
@@ -51,9 +51,6 @@ passes p (y ∷ ys) x i t = by (λ j. passes p ys x j t) (p y) refl (member_case
     by rest false e (inr j) = rest j
 
 -- ---- truth values
-none_is : {A : Type 0} (o : Option A) → is_none o ≡ true → o ≡ None
-none_is None e = refl
-none_is (Some x) e = cc
 
 not_true : (b : Bool) → not b ≡ true → b ≡ true → ⊥
 not_true true e f = cc

@@ -11,15 +11,16 @@ use Rattle.table_names.specs.Leads.{Reaches, WordsReach}
 use Rattle.table_names.specs.Reach.{key_reach, reach}
 use Rattle.table_names.specs.Words.{key_words}
 use Rattle.table_names.proofs.ClosedLaws.{closed_law}
-use Rattle.table_names.proofs.Members.{member_cases, member_first, member_later}
 use Rattle.table_names.proofs.ReachedKeys.{reach_law}
 use Rattle.live_table.specs.KeptNames.{IsKeptBy, IsKeptByAll, StoredNamesLaw, table_after}
 use Rattle.live_table.specs.Right.{IsKeySettled, IsRight}
 use Rattle.live_table.specs.States.{AllCanBe, AsksKey, AsksWords, Becomes, CanBe, Event, TableState, after_all}
 use Rattle.live_table.specs.States.{after_event}
 use Rattle.live_table.specs.States.{after_query}
-use Rattle.live_table.proofs.Events.{AreWhole, free, key_whole, new_in, none_is, old_in, old_or_new, one_step, parts}
+use Rattle.live_table.proofs.Events.{AreWhole, free, key_whole, new_in, old_in, old_or_new, one_step, parts}
 use Rattle.live_table.proofs.Events.{right_law, stays_in, words_whole}
+use Rattle.general_lemmas.proofs.Members.{member_first, member_later, member_cases}
+use Rattle.general_lemmas.proofs.Options.{none_is}
 
 -- ---- a query
 module _ (s : TableState) (keys : List Key) (h : IsRight s) (Closed : Type 0) (Reached : Key → Type 0)

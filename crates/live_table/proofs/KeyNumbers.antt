@@ -7,13 +7,13 @@ use Rattle.std.proofs.lemmas.Map.Made.{is_some-lookup}
 use Rattle.def_entry.specs.declared.key.Key.{Key}
 use Rattle.def_entry.specs.SameKeys.{is_key_among, is_same}
 use Rattle.def_entry.specs.Tables.{Table, is_present, keys_of}
-use Rattle.table_names.proofs.Members.{map_same, member_first, member_later}
 use Rattle.live_table.specs.declared.nodes.Nodes.{Nodes}
 use Rattle.live_table.specs.Exploration.{AreAdded, IsMore, IsNameAdded}
 use Rattle.live_table.specs.KeyNumbers.{AreFlagged, IsExtension, IsNumbered}
 use Rattle.live_table.specs.TableContents.{Listed, key_at, node_lists}
 use Rattle.live_table.proofs.AddedNames.{added_none, key_same, more_length, push_more}
 use Rattle.live_table.proofs.LastName.{named_added, not_there}
+use Rattle.general_lemmas.proofs.Members.{member_first, member_later, map_same}
 
 -- ---- the data that do not change
 pub kept_same : (keys : List Key) (a b : Nodes) → node_lists b ≡ node_lists a → b.gathered ≡ a.gathered

@@ -18,7 +18,6 @@ use Rattle.name_walk.specs.NewlyClosed.{IsReached}
 use Rattle.name_walk.specs.Steps.{Graph, LeadsTo, NameReaches, at_once, further, steps}
 use Rattle.name_walk.specs.Trails.{Faults}
 use Rattle.name_walk.specs.Walks.{IsWalked, fault_view}
-use Rattle.name_walk.proofs.Marks.{get_set_other, get_set_same}
 use Rattle.tree_eval.specs.declared.outcome.Outcome.{Outcome}
 use Rattle.name_numbers.specs.NumberedNames.{LeadToKnown}
 use Rattle.live_table.specs.declared.callee.Callee.{Callee}
@@ -33,7 +32,8 @@ use Rattle.live_table.specs.TableContents.{Listed}
 use Rattle.live_table.proofs.AllExplored.{from_known}
 use Rattle.live_table.proofs.AddedNames.{more_length}
 use Rattle.live_table.proofs.Places.{element}
-use Rattle.table_names.proofs.Members.{no_member}
+use Rattle.general_lemmas.proofs.Places.{get_set_same, get_set_other}
+use Rattle.general_lemmas.proofs.Members.{no_member}
 
 -- without findings nothing is claimed
 pub known_nothing : FindingsLaw → (l : Listed) (names : List ℕ) (f : WalkFindings) → IsNothing f

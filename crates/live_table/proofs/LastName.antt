@@ -19,7 +19,6 @@ use Rattle.tree_eval.specs.declared.outcome.Outcome.{Outcome}
 use Rattle.table_names.specs.Meanings.{key_meaning}
 use Rattle.table_names.specs.Words.{key_words}
 use Rattle.table_names.proofs.KeyLists.{among_member}
-use Rattle.table_names.proofs.Members.{member_at}
 use Rattle.name_numbers.specs.NumberedNames.{AreWords}
 use Rattle.live_table.specs.declared.callee.Callee.{Callee}
 use Rattle.live_table.specs.declared.dead_end.DeadEnd.{DeadEnd}
@@ -31,6 +30,7 @@ use Rattle.live_table.specs.TableContents.{Listed, Looks, kept_of, key_at, looks
 use Rattle.live_table.proofs.Flags.{count_push}
 use Rattle.live_table.proofs.AddedNames.{key_read, key_same, push_more, same_words, settled_within}
 use Rattle.live_table.proofs.LookedKeys.{looks_more}
+use Rattle.general_lemmas.proofs.Members.{member_at}
 
 -- a new name has no outcome
 nothing_kept : (ks : List Key) (os : List (Option Outcome)) (k : Key) → length os ≡ length ks

@@ -19,7 +19,7 @@ use Rattle.live_table.specs.TableContents.{Listed, key_at}
 use Rattle.live_table.proofs.LookedKeys.{looks_put, one_step, two_steps}
 use Rattle.live_table.proofs.WrittenSteps.{first_present, one_present, refused_written, second_present, two_written}
 use Rattle.live_table.proofs.WrittenSteps.{unknown_written}
-use Rattle.table_names.proofs.Members.{member_cases, member_first, member_later, no_member}
+use Rattle.general_lemmas.proofs.Members.{no_member, member_first, member_later, member_cases}
 
 -- ---- targets
 -- the lead of a word of an entry is that of a word of a query

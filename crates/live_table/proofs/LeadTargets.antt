@@ -8,7 +8,7 @@ use Rattle.live_table.specs.Exploration.{IsKnown, IsMore}
 use Rattle.live_table.specs.WordTargets.{numbers}
 use Rattle.live_table.specs.TableContents.{Listed}
 use Rattle.live_table.proofs.AddedNames.{in_more, push_more}
-use Rattle.table_names.proofs.Members.{member_cases, member_first, member_later, no_member}
+use Rattle.general_lemmas.proofs.Members.{no_member, member_first, member_later, member_cases}
 
 -- the numbers on the agenda stay there
 pub put_more : (list there : List ℕ) (n : ℕ) → there ≡ cond (is_on_path list n) list (list ++ n ∷ [])

@@ -24,13 +24,13 @@ use Rattle.name_walk.specs.Steps.{LeadsTo, steps}
 use Rattle.table_names.specs.ClosedKeys.{IsClosed}
 use Rattle.table_names.specs.Leads.{LooksAt, WordsLeadTo}
 use Rattle.table_names.specs.Words.{key_words}
-use Rattle.table_names.proofs.Members.{member_cases, member_first, member_later}
 use Rattle.live_table.specs.TableEdges.{HasLateEdges, is_linked}
 use Rattle.live_table.specs.Sound.{HasLooksOf, IsSound}
 use Rattle.live_table.specs.TableContents.{Listed, Looks, key_at, looks_of, numbers_in}
 use Rattle.live_table.proofs.AfterForgetting.{settled_flag}
 use Rattle.live_table.proofs.OutcomesByKey.{key_settled, settled_within}
 use Rattle.live_table.proofs.WaitingNames.{dead_end, linked_facts, linked_where, not_waiting, number_of_lead}
+use Rattle.general_lemmas.proofs.Members.{member_first, member_later, member_cases}
 
 -- the names to which the steps of a settled name lead
 pub target_within : (deck : Contents) (l : Listed) (r : ℕ) (sound : IsSound deck l r) (n : ℕ)

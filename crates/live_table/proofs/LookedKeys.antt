@@ -8,12 +8,12 @@ use Rattle.def_entry.specs.Tables.{Table}
 use Rattle.name_walk.specs.declared.step.Step.{Step}
 use Rattle.name_walk.specs.declared.step.Step.TheVariants.{Nowhere, To}
 use Rattle.table_names.specs.Leads.{looked_keys}
-use Rattle.table_names.proofs.Members.{member_cases, member_first, no_member, member_later}
 use Rattle.live_table.specs.Exploration.{IsMore}
 use Rattle.live_table.specs.WordTargets.{AreTargets}
 use Rattle.live_table.specs.Looks.{AllLead, AreLooks, AreLooksPut, IsSeen, WordsLookAt}
 use Rattle.live_table.specs.TableContents.{key_at}
 use Rattle.live_table.proofs.AddedNames.{key_same, more_length}
+use Rattle.general_lemmas.proofs.Members.{no_member, member_first, member_later, member_cases}
 
 -- without words there are no keys at which they look
 pub looks_none : (t : Table) (keys : List Key) (xs : List Step) (ns : List ℕ) → xs ≡ [] → ns ≡ []

@@ -21,7 +21,7 @@ use Rattle.live_table.specs.TableView.{IsAfterEvents, IsCutOff, IsRightTable, Sh
 use Rattle.live_table.specs.States.{AsksKey, Event}
 use Rattle.live_table.proofs.QuerySequence.{cut_both, follows_both, follows_none, steps_rise}
 use Rattle.live_table.proofs.SettleCounts.{shown_counts}
-use Rattle.name_walk.proofs.Lists.{drop_at, take_at}
+use Rattle.general_lemmas.proofs.Places.{drop_at, take_at}
 
 -- ---- a single key
 pub list_asks_nothing : (k : Key) → k.kind ≡ kind.List → key_queries (k ∷ []) ≡ []

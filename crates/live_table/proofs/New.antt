@@ -14,11 +14,11 @@ use Rattle.def_entry.proofs.SameKeys.{key_order, same_keys}
 use Rattle.tree_eval.specs.declared.outcome.Outcome.{Outcome}
 use Rattle.table_names.specs.Meanings.{outcome}
 use Rattle.table_names.proofs.KeyLists.{among_member, member_among}
-use Rattle.table_names.proofs.Members.{member_first, member_later}
 use Rattle.live_table.specs.New.{AreNew, NewLaw}
 use Rattle.live_table.specs.Right.{IsKeySettled, IsRight}
 use Rattle.live_table.specs.States.{Kept, TableState, with_outcomes, with_settled}
 use Rattle.live_table.proofs.Outcomes.{inserted, left_out, one_key, put_in}
+use Rattle.general_lemmas.proofs.Members.{member_first, member_later}
 
 -- an option that is not empty, and has no other value, has this value
 some_of : (o : Option Outcome) (x : Outcome) → is_some o ≡ true → ((y : Outcome) → o ≡ Some y → y ≡ x) → o ≡ Some x

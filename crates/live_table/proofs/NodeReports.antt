@@ -35,7 +35,6 @@ use Rattle.table_names.specs.Words.{entry_words, key_words, what_words}
 use Rattle.table_names.proofs.ClosedLaws.{closed_law}
 use Rattle.table_names.proofs.MeaningKinds.{kind_law}
 use Rattle.table_names.proofs.Meanings.{closed_meaning_law}
-use Rattle.table_names.proofs.Members.{member_at, member_first}
 use Rattle.name_numbers.specs.NumberedNames.{IsWord}
 use Rattle.name_numbers.specs.NumberedNames as word
 use Rattle.live_table.specs.declared.callee.Callee.{Callee as KeptCallee}
@@ -56,6 +55,7 @@ use Rattle.live_table.proofs.Parts.{IsStepped, part_stands, word_at}
 use Rattle.live_table.proofs.Places.{element}
 use Rattle.live_table.proofs.ToldWords.{IsLedBy, callee_from, callee_name, callee_when, is_its_callee, settled_from}
 use Rattle.live_table.proofs.ToldWords.{settled_to, to_first}
+use Rattle.general_lemmas.proofs.Members.{member_first, member_at}
 
 -- a settled number is at hand
 pub at_hand_settled : (deck : Contents) (l : Listed) → AreNumberedNames (table deck) l

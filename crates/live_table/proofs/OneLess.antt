@@ -8,9 +8,9 @@ use Rattle.std.proofs.lemmas.Bool.{cases_eq}
 use Rattle.std.proofs.lemmas.List.{length-set, map-set}
 use Rattle.std.proofs.lemmas.List.Sums.{length-filter}
 use Rattle.std.proofs.lemmas.Option.{slice_get_within}
-use Rattle.name_walk.proofs.Marks.{get_set_other, get_set_same}
 use Rattle.tree_eval.specs.declared.outcome.Outcome.{Outcome}
 use Rattle.live_table.specs.OutcomesLeft.{AreNumbersLeft}
+use Rattle.general_lemmas.proofs.Places.{get_set_same, get_set_other}
 
 -- a flag that is cleared is one fewer
 fewer : (bs : List Bool) (n : ℕ) → slice_get bs n ≡ Some true → length (filter (λ b. b) (set bs n false)) + 1 ≡ length

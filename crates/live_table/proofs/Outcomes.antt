@@ -9,8 +9,8 @@ use Rattle.def_entry.specs.KeyOrder.{key_cmp}
 use Rattle.def_entry.specs.Tables.{Table}
 use Rattle.def_entry.proofs.SameKeys.{key_order}
 use Rattle.table_names.specs.Meanings.{outcome}
-use Rattle.table_names.proofs.Members.{member_cases, member_first, member_later, no_member}
 use Rattle.live_table.specs.States.{Kept, with_outcomes}
+use Rattle.general_lemmas.proofs.Members.{no_member, member_first, member_later, member_cases}
 
 -- equal keys compare as equal
 pub equal_keys_tie : (k l : Key) → k ≡ l → eq_by_cmp key_cmp k l ≡ true

@@ -13,11 +13,11 @@ use Rattle.tree_eval.specs.declared.holder.Part.{Part}
 use Rattle.tree_eval.specs.declared.holder.Part.TheVariants as part
 use Rattle.tree_eval.specs.Entries.{function_words, part_words, words_if}
 use Rattle.tree_eval.specs.Expansion.{inverted_word}
-use Rattle.tree_eval.proofs.Places.{get_left, get_right}
 use Rattle.table_names.specs.declared.fault.NameFault.{NameFault}
 use Rattle.table_names.specs.Words.{what_words}
 use Rattle.name_numbers.specs.NumberedNames.{AreWords, IsWord}
 use Rattle.live_table.specs.Callees.{start_of}
+use Rattle.general_lemmas.proofs.Places.{get_left, get_right}
 
 -- ---- the words of a part come after those of the parts before it
 from_zero : (ws : List WordUse) (k : ℕ) (u : WordUse) → slice_get ws k ≡ Some u → slice_get ws (0 + k) ≡ Some u

@@ -1,8 +1,8 @@
 -- The items at the places of lists.
-use Rattle.std.proofs.Common.{◌≡◌, ◌⊎◌, ◌<◌, ℕ, zero, suc, List, [], ◌∷◌, ◌++◌, length, Some, refl, ap, inl, inr}
+use Rattle.std.proofs.Common.{◌≡◌, ◌<◌, ℕ, zero, suc, List, [], ◌∷◌, ◌++◌, length, Some, refl, ap}
 use Rattle.std.proofs.Common.{arith, Contains}
 use Rattle.std.specs.List.{slice_get}
-use Rattle.std.proofs.lemmas.Option.{slice_get-get_or, same_Some}
+use Rattle.std.proofs.lemmas.Option.{slice_get-get_or}
 
 module _ {A : Type 0} where
   pub element : (xs : List A) (k : ℕ) → k < length xs → (x : A) × (slice_get xs k ≡ Some x)
@@ -18,11 +18,3 @@ module _ {A : Type 0} where
   pub get_last : (xs : List A) (y : A) → slice_get (xs ++ y ∷ []) (length xs) ≡ Some y
   get_last [] y = refl
   get_last (x ∷ xs) y = get_last xs y
-
-  -- an item of a list with one item appended was there before, or is the appended one
-  pub get_pushed : (xs : List A) (y : A) (k : ℕ) (x : A) → slice_get (xs ++ y ∷ []) k ≡ Some x
-      → (slice_get xs k ≡ Some x) ⊎ ((k ≡ length xs) × (y ≡ x))
-  get_pushed [] y zero x e = inr (refl, same_Some y x e)
-  get_pushed [] y (suc k) x e = cc
-  get_pushed (z ∷ xs) y zero x e = inl e
-  get_pushed (z ∷ xs) y (suc k) x e = elim (get_pushed xs y k x e) [ inl h ↦ inl h | inr h ↦ inr (ap suc h.0, h.1) ]

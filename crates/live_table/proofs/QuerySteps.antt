@@ -7,7 +7,6 @@ use Rattle.std.proofs.lemmas.List.{append_assoc}
 use Rattle.expr_tree.specs.declared.word_list.WordUse.{WordUse}
 use Rattle.def_entry.specs.Tables.{Table}
 use Rattle.name_walk.specs.declared.step.Step.{Step}
-use Rattle.name_walk.proofs.Lists.{take_at}
 use Rattle.live_table.specs.declared.dead_end.DeadEnd.{DeadEnd}
 use Rattle.live_table.specs.declared.word_targets.Lead.{Lead}
 use Rattle.live_table.specs.declared.word_targets.Lead.TheVariants.{Refused, Nowhere, One, Two}
@@ -20,6 +19,7 @@ use Rattle.live_table.specs.TableContents.{Listed}
 use Rattle.live_table.proofs.AddedNames.{added_both, added_none, grown_none, written_more}
 use Rattle.live_table.proofs.LeadSteps.{steps_written}
 use Rattle.live_table.proofs.WrittenSteps.{written_behind, written_none}
+use Rattle.general_lemmas.proofs.Places.{take_at}
 
 -- ---- the state of the loop over words
 pub record IsStepping (t : Table) (old now : Listed) (before here list : List ℕ) (us : List WordUse) (xs : List Step)

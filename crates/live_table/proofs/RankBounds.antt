@@ -27,7 +27,6 @@ use Rattle.table_names.specs.Leads.{targets}
 use Rattle.table_names.specs.Meanings.{key_meaning, outcome, word_meaning}
 use Rattle.table_names.specs.Words.{entry_words, key_words, what_words}
 use Rattle.table_names.proofs.ClosedLaws.{closed_law}
-use Rattle.table_names.proofs.Members.{member_later}
 use Rattle.name_numbers.proofs.Ranks.{rank_law}
 use Rattle.live_table.specs.declared.callee.Callee.{Callee as KeptCallee}
 use Rattle.live_table.specs.declared.surroundings.Asked.{Asked}
@@ -43,6 +42,7 @@ use Rattle.live_table.proofs.Places.{element}
 use Rattle.live_table.proofs.SettleOne.{surrounded}
 use Rattle.live_table.proofs.NodeReports.{at_hand, key_settled_words, led_by, meaning_is, name_hand}
 use Rattle.live_table.proofs.ToldWords.{IsLedBy, first_same, not_both, not_callable, second_same, stands}
+use Rattle.general_lemmas.proofs.Members.{member_later}
 
 -- ---- by the entry
 alias_rank : (name : List ℕ) (m : Meaning) → is_callee (alias name m) ≡ true

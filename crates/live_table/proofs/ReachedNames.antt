@@ -15,12 +15,10 @@ use Rattle.name_walk.specs.declared.step.Step.{Step}
 use Rattle.name_walk.specs.declared.step.Step.TheVariants.{To}
 use Rattle.name_walk.specs.ClosedNames.{IsSettled}
 use Rattle.name_walk.specs.Steps.{Graph, steps}
-use Rattle.name_walk.proofs.Lists.{all_at, take_at}
-use Rattle.name_walk.proofs.Marks.{get_set_other, get_set_same}
+use Rattle.name_walk.proofs.Lists.{all_at}
 use Rattle.name_walk.proofs.DoneNames.{settled_law_holds}
 use Rattle.name_walk.proofs.Members.{take_member}
 use Rattle.table_names.specs.Words.{key_words}
-use Rattle.table_names.proofs.Members.{member_at, member_cases, no_member}
 use Rattle.name_numbers.specs.NumberedNames.{AreWords}
 use Rattle.live_table.specs.declared.callee.Callee.{Callee}
 use Rattle.live_table.specs.declared.dead_end.DeadEnd.{DeadEnd}
@@ -35,6 +33,8 @@ use Rattle.live_table.proofs.AddedNames.{grown_alone, grown_both, grown_none, in
 use Rattle.live_table.proofs.AddedNames.{more_length}
 use Rattle.live_table.proofs.AddedNames.{none_listed, take_more, written_more}
 use Rattle.live_table.proofs.LookedKeys.{looks_more}
+use Rattle.general_lemmas.proofs.Places.{take_at, get_set_same, get_set_other}
+use Rattle.general_lemmas.proofs.Members.{no_member, member_cases, member_at}
 
 -- ---- other steps of a name that is not settled
 steps_other : (g : Graph) (n m : ℕ) (v : List Step) → (m ≡ n → ⊥) → steps (set g n v) m ≡ steps g m

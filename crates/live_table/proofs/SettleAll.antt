@@ -16,7 +16,7 @@ use Rattle.live_table.specs.TableView.{Shown}
 use Rattle.live_table.specs.Sound.{IsSound}
 use Rattle.live_table.specs.States.{Kept, with_outcomes}
 use Rattle.live_table.specs.TableContents.{Listed, key_at, shown_table}
-use Rattle.name_walk.proofs.Lists.{drop_at, take_at}
+use Rattle.general_lemmas.proofs.Places.{drop_at, take_at}
 
 -- ---- outcomes inserted in turn
 with_more : (t : Table) (ks : List Key) (k : Key) (m : Kept)

@@ -27,7 +27,6 @@ use Rattle.table_names.specs.Meanings.{key_meaning, outcome}
 use Rattle.table_names.specs.Reach.{key_reach}
 use Rattle.table_names.specs.Words.{key_words}
 use Rattle.table_names.proofs.ClosedLaws.{closed_law}
-use Rattle.table_names.proofs.Members.{member_cases, member_first, no_member}
 use Rattle.table_names.proofs.ReachedKeys.{reach_law}
 use Rattle.live_table.specs.declared.callee.Callee.{Callee}
 use Rattle.live_table.specs.declared.surroundings.Asked.TheVariants.{Name}
@@ -48,10 +47,11 @@ use Rattle.live_table.proofs.Flags.{count_set}
 use Rattle.live_table.proofs.OutcomesByKey.{key_settled, no_outcome, number_settled, put_at}
 use Rattle.live_table.proofs.New.{new_law}
 use Rattle.live_table.proofs.Events.{one_step}
-use Rattle.name_walk.proofs.Marks.{get_set_other, get_set_same}
 use Rattle.live_table.proofs.Places.{element}
 use Rattle.live_table.proofs.NodeReports.{at_hand_settled, key_settled_words, led_by}
 use Rattle.live_table.proofs.ToldWords.{IsLedBy}
+use Rattle.general_lemmas.proofs.Places.{get_set_same, get_set_other}
+use Rattle.general_lemmas.proofs.Members.{no_member, member_first, member_cases}
 
 -- outcomes that are right do not depend on the counts
 pub right_anyhow : (deck : Contents) (l : Listed) (r q : ℕ) → IsRightTable (shown_table deck l r)

@@ -7,7 +7,6 @@ use Rattle.std.proofs.lemmas.Option.{same_Some, slice_get_within}
 use Rattle.def_entry.specs.declared.key.Key.{Key}
 use Rattle.def_entry.specs.Tables.{Table, is_present}
 use Rattle.name_walk.specs.ClosedNames.{IsSettled}
-use Rattle.name_walk.proofs.Marks.{get_set_other, get_set_same}
 use Rattle.tree_eval.specs.declared.outcome.Outcome.{Outcome}
 use Rattle.live_table.specs.declared.callee.Callee.{Callee}
 use Rattle.live_table.specs.declared.dead_end.DeadEnd.{DeadEnd}
@@ -20,7 +19,8 @@ use Rattle.live_table.specs.TableContents.{Listed}
 use Rattle.live_table.proofs.AddedNames.{grown_alone, key_same, none_listed}
 use Rattle.live_table.proofs.Places.{element}
 use Rattle.live_table.proofs.ReachedNames.{still_written}
-use Rattle.table_names.proofs.Members.{no_member}
+use Rattle.general_lemmas.proofs.Places.{get_set_same, get_set_other}
+use Rattle.general_lemmas.proofs.Members.{no_member}
 
 -- about no names nothing is claimed
 pub none_explored : (t : Table) (l : Listed) (names : List ℕ) (ends : List DeadEnd) → names ≡ []

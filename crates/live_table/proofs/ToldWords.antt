@@ -29,12 +29,12 @@ use Rattle.table_names.specs.Leads.{targets}
 use Rattle.table_names.specs.Meanings.{key_meaning, outcome, word_meaning}
 use Rattle.table_names.proofs.Lookups.{target_present}
 use Rattle.table_names.proofs.MeaningKinds.{kind_law}
-use Rattle.table_names.proofs.Members.{member_first}
 use Rattle.live_table.specs.Scenes.{IsLed, Scene, callee_at, callee_in, has_callee}
 use Rattle.live_table.specs.Scenes.{is_callee, is_settled, number_means, word_means}
 use Rattle.live_table.specs.TableContents.{key_at}
 use Rattle.live_table.proofs.DeckTables.{fits_kinds}
 use Rattle.live_table.proofs.Places.{element}
+use Rattle.general_lemmas.proofs.Members.{member_first}
 
 -- ---- marks
 pub settled_from : (settled : List Bool) (n : ℕ) → unwrap_or (slice_get settled n) false ≡ true → IsSettled settled n

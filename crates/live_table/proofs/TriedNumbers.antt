@@ -15,9 +15,7 @@ use Rattle.name_lookup.specs.Order.{plan}
 use Rattle.name_lookup.specs.Plans.{Found, run}
 use Rattle.name_lookup.specs.Targets.{AreFound, last_keys, target_count}
 use Rattle.name_walk.specs.Faults.{is_on_path}
-use Rattle.name_walk.proofs.Lists.{take_at}
 use Rattle.table_names.specs.Leads.{LookupLaw, looked_keys, targets, word_lookup}
-use Rattle.table_names.proofs.Members.{member_cases, member_first, member_later, no_member}
 use Rattle.name_numbers.proofs.NewKeys.{key_in, number_in}
 use Rattle.live_table.specs.declared.word_targets.Lead.{Lead}
 use Rattle.live_table.specs.declared.word_targets.Lead.TheVariants.{Refused, Nowhere, One, Two}
@@ -29,6 +27,8 @@ use Rattle.live_table.specs.TableContents.{Listed, key_at}
 use Rattle.live_table.proofs.GatheredNumbers.{put_one}
 use Rattle.live_table.proofs.AddedNames.{added_both, added_none, key_read, key_same, more_length, none_listed}
 use Rattle.live_table.proofs.KeyNumbers.{numbered_push, within_push}
+use Rattle.general_lemmas.proofs.Places.{take_at}
+use Rattle.general_lemmas.proofs.Members.{no_member, member_first, member_later, member_cases}
 
 -- ---- keys that are not targets
 -- at the start no number is gathered

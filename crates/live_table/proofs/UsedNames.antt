@@ -7,9 +7,9 @@ use Rattle.std.proofs.lemmas.List.Elements.{Contains-append_left, Contains-push,
 use Rattle.name_walk.specs.declared.step.Step.{Step}
 use Rattle.name_walk.specs.declared.step.Step.TheVariants.{Nowhere, To}
 use Rattle.name_walk.specs.Faults.{is_on_path}
-use Rattle.name_walk.proofs.Lists.{take_at}
 use Rattle.live_table.proofs.GatheredNumbers.{put_one}
-use Rattle.table_names.proofs.Members.{no_member}
+use Rattle.general_lemmas.proofs.Places.{take_at}
+use Rattle.general_lemmas.proofs.Members.{no_member}
 
 -- numbers to which steps lead
 abbrev pub AreUsed : List ℕ → List Step → Type 0

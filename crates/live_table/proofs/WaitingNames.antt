@@ -18,7 +18,6 @@ use Rattle.name_walk.specs.declared.step.Step.TheVariants.{To}
 use Rattle.name_walk.specs.ClosedNames.{IsSettled}
 use Rattle.name_walk.specs.Faults.{is_on_path}
 use Rattle.name_walk.specs.Steps.{steps}
-use Rattle.name_walk.proofs.Marks.{get_set_other, get_set_same}
 use Rattle.name_walk.proofs.Members.{member_on_path, on_path_member}
 use Rattle.table_names.specs.declared.fault.NameFault.{NameFault}
 use Rattle.table_names.specs.declared.fault.NameFault.TheVariants.{Unknown}
@@ -26,7 +25,6 @@ use Rattle.table_names.specs.ClosedKeys.{IsClosed}
 use Rattle.table_names.specs.Leads.{WordsLeadTo}
 use Rattle.table_names.specs.Words.{key_words}
 use Rattle.table_names.proofs.ClosedLaws.{closed_law}
-use Rattle.table_names.proofs.Members.{member_cases, member_first, member_later, no_member}
 use Rattle.tree_eval.specs.declared.outcome.Outcome.{Outcome}
 use Rattle.live_table.specs.declared.callee.Callee.{Callee}
 use Rattle.live_table.specs.declared.dead_end.DeadEnd.{DeadEnd}
@@ -41,6 +39,8 @@ use Rattle.live_table.specs.TableContents.{Listed, kept_of, key_at, no_nodes}
 use Rattle.live_table.proofs.AfterForgetting.{flag_settled, settled_flag}
 use Rattle.live_table.proofs.AddedNames.{key_same, more_length}
 use Rattle.live_table.proofs.OutcomesByKey.{absent, key_settled, number_settled, settled_within}
+use Rattle.general_lemmas.proofs.Places.{get_set_same, get_set_other}
+use Rattle.general_lemmas.proofs.Members.{no_member, member_first, member_later, member_cases}
 
 -- ---- a name has its edges if it is settled and does not wait
 chosen : (b f : Bool) → (if b then false else f) ≡ true → (f ≡ true) × (b ≡ false)

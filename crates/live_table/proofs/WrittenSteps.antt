@@ -9,10 +9,8 @@ use Rattle.expr_tree.specs.Names.{is_refused}
 use Rattle.def_entry.specs.declared.key.Key.{Key}
 use Rattle.def_entry.specs.Tables.{Table, is_present}
 use Rattle.table_names.proofs.Lookups.{target_present}
-use Rattle.table_names.proofs.Members.{member_first, member_later, member_cases, no_member}
 use Rattle.name_walk.specs.declared.step.Step.{Step}
 use Rattle.name_walk.specs.declared.step.Step.TheVariants.{Nowhere, To}
-use Rattle.name_walk.proofs.Lists.{take_at}
 use Rattle.table_names.specs.declared.fault.NameFault.{NameFault}
 use Rattle.table_names.specs.Leads.{targets}
 use Rattle.name_numbers.specs.NumberedNames.{AreWords, ForRefused, ForUnknown, IsWord}
@@ -23,6 +21,8 @@ use Rattle.live_table.specs.TableContents.{Listed, key_at}
 use Rattle.live_table.specs.Looks.{AllLead, AreLooks}
 use Rattle.live_table.proofs.AddedNames.{added_both, known_within, written_more}
 use Rattle.live_table.proofs.LookedKeys.{lead_left, lead_right, looks_behind, looks_more}
+use Rattle.general_lemmas.proofs.Places.{take_at}
+use Rattle.general_lemmas.proofs.Members.{no_member, member_first, member_later, member_cases}
 
 -- ---- one word after others
 words_behind : (t : Table) (key : ℕ → Key) (ends : ℕ → Option Key → NameFault) (us vs : List WordUse)

@@ -8,8 +8,8 @@ use Rattle.std.specs.Prelude.{◌&&◌}
 use Rattle.edge_links.specs.Edges.{Edge, edge, edge_count, SameEdges}
 use Rattle.edge_links.specs.Reach.{HasEdge}
 use Rattle.edge_links.proofs.EdgeCounts.{count_append}
-use Rattle.edge_links.proofs.Membership.{contains_cases, contains_first, contains_later, contains_none}
 use Rattle.name_edges.specs.Nodes.{edge_to}
+use Rattle.general_lemmas.proofs.Members.{no_member, member_first, member_later, member_cases}
 
 -- 1 if the edge from a to b is that from x to y, or else 0
 abbrev pub one_count : ℕ → ℕ → ℕ → ℕ → ℕ
@@ -32,12 +32,12 @@ edges_from : (user : ℕ) (keys : List ℕ) (x y : ℕ) → HasEdge (map (edge u
 edges_from user [] x y h = absurd (omega (arith, h))
 edges_from user (k ∷ keys) x y h = elim (cases_eq (one_count user k x y) 0) [
   | inl z ↦
-      let r = edges_from user keys x y (rest _ _ z h) in (r.0, contains_later y k keys r.1)
+      let r = edges_from user keys x y (rest _ _ z h) in (r.0, member_later y k keys r.1)
   | inr some ↦ elim (cases_eq user x) [
     | inr ne ↦ absurd (some (one_other_user user k x y ne))
     | inl e ↦ elim (cases_eq k y) [
       | inr ne ↦ absurd (some (one_other_key user k x y ne))
-      | inl f ↦ (sym e, contains_first y k keys (sym f))
+      | inl f ↦ (sym e, member_first y k keys (sym f))
     ]
   ]
 ]
@@ -47,8 +47,8 @@ edges_from user (k ∷ keys) x y h = elim (cases_eq (one_count user k x y) 0) [
 
 -- there is an edge to each of the keys
 edges_to : (user : ℕ) (keys : List ℕ) (y : ℕ) → Contains keys y → HasEdge (map (edge user) keys) user y
-edges_to user [] y i = absurd (contains_none y i)
-edges_to user (k ∷ keys) y i = elim (contains_cases y k keys i) [
+edges_to user [] y i = absurd (no_member y i)
+edges_to user (k ∷ keys) y i = elim (member_cases y k keys i) [
   | inl e ↦ some _ _ (one_self user k user y refl (sym e))
   | inr j ↦ more _ _ (edges_to user keys y j)
 ]

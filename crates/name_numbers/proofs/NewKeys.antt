@@ -15,11 +15,11 @@ use Rattle.table_names.specs.declared.fault.NameFault.{NameFault}
 use Rattle.table_names.specs.ClosedKeys.{AreClosed, IsClosed}
 use Rattle.table_names.specs.ClosedLaws.{ClosedWordLaw}
 use Rattle.table_names.specs.Leads.{Reaches, WordsReach}
-use Rattle.table_names.proofs.Members.{member_cases, member_first, member_later, no_member}
 use Rattle.name_numbers.specs.NumberedNames.{AreNumbered, AreWords, LeadToKnown}
 use Rattle.name_numbers.specs.SettlingLaws.{AreMarks, AreNewKeys, SettlingLaw}
 use Rattle.name_numbers.proofs.Paths.{AllKnown, distinct_keys}
 use Rattle.name_numbers.proofs.Reached.{key_reached, key_way, known_reached, number_below, number_reached}
+use Rattle.general_lemmas.proofs.Members.{no_member, member_first, member_later, member_cases}
 
 -- the key of a member of some numbers is a member of their keys
 pub key_in : (key : ℕ → Key) (ns : List ℕ) (n : ℕ) → Contains ns n → Contains (map key ns) (key n)

@@ -15,9 +15,9 @@ use Rattle.table_names.specs.ClosedKeys.{AreClosed, IsClosed, WordLeadsInto}
 use Rattle.table_names.specs.ClosedLaws.{ClosedWordLaw}
 use Rattle.table_names.specs.Leads.{Reaches, WordsLeadTo, WordsReach, at_once, further, targets}
 use Rattle.table_names.specs.Words.{key_words}
-use Rattle.table_names.proofs.Members.{member_cases, member_first, member_later, no_member}
 use Rattle.name_numbers.specs.NumberedNames.{AreNumbered, AreWords, LeadToKnown}
 use Rattle.name_numbers.specs.NumberedNames.{ForOne, ForRefused, ForTwo, ForUnknown, IsWord}
+use Rattle.general_lemmas.proofs.Members.{no_member, member_first, member_later, member_cases}
 
 module _ (table : Table) (key : ℕ → Key) (dead_end : ℕ → Option Key → NameFault) where
   -- ---- one word, and its two steps

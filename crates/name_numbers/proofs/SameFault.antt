@@ -27,16 +27,12 @@ use Rattle.table_names.specs.Faults as names
 use Rattle.table_names.specs.Faults.{Deeper, cycle_chain, target_fault, targets_fault, word_fault}
 use Rattle.table_names.specs.Leads.{targets}
 use Rattle.table_names.specs.Words.{key_words}
-use Rattle.table_names.proofs.Members.{member_cases, member_first, member_later, no_member}
 use Rattle.name_numbers.specs.FaultLaws.{NumberedFaultLaw}
 use Rattle.name_numbers.specs.NumberedNames.{AreNumbered, AreWords, LeadToKnown, fault_by_name}
 use Rattle.name_numbers.specs.NumberedNames.{ForOne, ForRefused, ForTwo, ForUnknown, IsWord}
 use Rattle.name_numbers.proofs.Paths.{AllKnown, known_push, same_chain, same_last, same_on}
-
--- an option or else `None` is the option
-or_none : {A : Type 0} (o : Option A) → option_or o None ≡ o
-or_none None = refl
-or_none (Some x) = refl
+use Rattle.general_lemmas.proofs.Members.{no_member, member_first, member_later, member_cases}
+use Rattle.general_lemmas.proofs.Options.{or_none}
 
 module _ (same_keys : SameKeysLaw) (table : Table) (key : ℕ → Key) (dead_end : ℕ → Option Key → NameFault)
     (g : Graph) (known : ℕ → Bool) (numbered : AreNumbered table key dead_end g known) where

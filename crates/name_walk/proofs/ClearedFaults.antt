@@ -6,8 +6,8 @@ use Rattle.std.proofs.lemmas.Bool.{cases_eq}
 use Rattle.std.proofs.lemmas.List.{drop_all, drop_more}
 use Rattle.name_walk.specs.declared.trail.FaultyStep.{FaultyStep}
 use Rattle.name_walk.specs.Trails.{Faults, IsFaulty}
-use Rattle.name_walk.proofs.Marks.{get_set_other}
-use Rattle.name_walk.proofs.Members.{member_cases, no_member}
+use Rattle.general_lemmas.proofs.Places.{get_set_other}
+use Rattle.general_lemmas.proofs.Members.{no_member, member_cases}
 
 -- each name that is still known to have a fault is among the remaining names
 pub record IsClearing (es : List ℕ) (fs hs : Faults) (i : ℕ) : Type 0 where

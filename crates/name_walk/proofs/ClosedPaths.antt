@@ -10,8 +10,10 @@ use Rattle.name_walk.specs.Paths.{IsNamePath}
 use Rattle.name_walk.specs.Faults.{at_name, at_step, is_on_path, name_fault_within, steps_fault}
 use Rattle.name_walk.specs.Steps.{Graph, InRange, LeadsTo, NameReaches, at_once, further, steps}
 use Rattle.name_walk.proofs.Faults.{empty_path, path_length, path_push}
-use Rattle.name_walk.proofs.Lists.{all_at, all_map, all_none, none_from, not_chosen, on-push_false, or_none}
-use Rattle.name_walk.proofs.Members.{no_member, on_path_member}
+use Rattle.name_walk.proofs.Lists.{all_at, all_map, all_none, none_from, on-push_false}
+use Rattle.name_walk.proofs.Members.{on_path_member}
+use Rattle.general_lemmas.proofs.Options.{or_none, not_chosen}
+use Rattle.general_lemmas.proofs.Members.{no_member}
 
 -- reaching is transitive
 pub reaches_on : {g : Graph} {n x m : ℕ} → NameReaches g n x → NameReaches g x m → NameReaches g n m

@@ -4,8 +4,9 @@ use Rattle.std.proofs.Common.{inl, inr, nat_eq, Contains, None, Option, Some}
 use Rattle.std.specs.List.{AllByRecursion, IsDistinct, last_or}
 use Rattle.std.proofs.lemmas.Bool.{eqb-false, ne_eqb}
 use Rattle.std.proofs.lemmas.List.Elements.{Contains-append_right}
-use Rattle.name_walk.proofs.Lists.{all_append, all_at}
-use Rattle.name_walk.proofs.Members.{member_cases, member_first, member_later, no_member}
+use Rattle.name_walk.proofs.Lists.{all_at}
+use Rattle.general_lemmas.proofs.Properties.{all_append}
+use Rattle.general_lemmas.proofs.Members.{no_member, member_first, member_later, member_cases}
 
 -- a property of each member holds for all members
 pub all_from : {A : Type 0} (P : A → Type 0) (xs : List A) → ((x : A) → Contains xs x → P x) → AllByRecursion P xs

@@ -12,7 +12,7 @@ use Rattle.name_walk.specs.SettledLaws.{SettledLaw}
 use Rattle.name_walk.specs.Steps.{Graph, LeadsTo, NameReaches, at_once, further, steps}
 use Rattle.name_walk.proofs.ClosedPaths.{ends_longer}
 use Rattle.name_walk.proofs.Lists.{all_map_in}
-use Rattle.name_walk.proofs.Members.{member_cases, no_member}
+use Rattle.general_lemmas.proofs.Members.{no_member, member_cases}
 
 -- a name that is done stays done after one more name is closed
 pub done_more : (s : List Bool) (names : List ℕ) (n m : ℕ) → IsDone s names m → IsDone s (names ++ n ∷ []) m

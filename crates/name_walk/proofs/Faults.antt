@@ -14,8 +14,9 @@ use Rattle.name_walk.specs.Faults.{Cycle, NameFault, at_name, at_step, from_name
 use Rattle.name_walk.specs.Faults.{steps_fault}
 use Rattle.name_walk.specs.Steps.{Graph, InRange, StayInGraph, steps}
 use Rattle.name_walk.specs.Lists.{first_some}
-use Rattle.name_walk.proofs.Lists.{first_same, nothing_twice}
+use Rattle.name_walk.proofs.Lists.{first_same}
 use Rattle.name_walk.proofs.Members.{member_on_path, on_path_member}
+use Rattle.general_lemmas.proofs.Properties.{nothing_twice}
 
 -- a path has no more names than the graph
 pub path_length : (g : Graph) (p : List ℕ) → IsNamePath g p → length p ≤ length g

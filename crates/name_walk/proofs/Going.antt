@@ -22,13 +22,17 @@ use Rattle.name_walk.proofs.ClosedPaths.{any_depth, into_map, name_closed, reach
 use Rattle.name_walk.proofs.Faults.{empty_path, name_is, path_push}
 use Rattle.name_walk.proofs.Links.{AreDone, AreLinked, are_done_more, head, head_more, frame, last_path, linked_more}
 use Rattle.name_walk.proofs.Links.{linked_pop, linked_push, linked_reach, path_more, head_member, name_member}
-use Rattle.name_walk.proofs.Lists.{all_append, all_at, all_front, all_map, distinct_front}
-use Rattle.name_walk.proofs.Lists.{distinct_last, or_none, take_at}
+use Rattle.name_walk.proofs.Lists.{all_at, all_map}
+use Rattle.name_walk.proofs.Lists.{distinct_last}
 use Rattle.name_walk.proofs.Marks.{AreMarked, marked_pop, marked_push, other_mark}
 use Rattle.name_walk.proofs.WalkOrder.{either_new, ordering_close, ordering_enter}
 use Rattle.name_walk.proofs.PendingFault.{enter_pending, fault_pending, leave_pending, pass_pending, pending}
 use Rattle.name_walk.proofs.DoneNames.{done_closed}
-use Rattle.name_walk.proofs.Members.{member_at, member_cases, member_on_path, no_member, on_path_member}
+use Rattle.name_walk.proofs.Members.{member_on_path, on_path_member}
+use Rattle.general_lemmas.proofs.Places.{take_at}
+use Rattle.general_lemmas.proofs.Properties.{all_append, all_front, distinct_front}
+use Rattle.general_lemmas.proofs.Options.{or_none}
+use Rattle.general_lemmas.proofs.Members.{no_member, member_cases, member_at}
 
 -- the place of each frame can be passed
 abbrev pub HaveRoom : List Frame → Type 0

@@ -11,7 +11,7 @@ use Rattle.name_walk.specs.Steps.{Graph, NameReaches, at_once, further, steps}
 use Rattle.name_walk.proofs.ClosedPaths.{into_map}
 use Rattle.name_walk.proofs.Lists.{all_map}
 use Rattle.name_walk.proofs.DoneNames.{done_more}
-use Rattle.name_walk.proofs.Members.{member_at, member_cases, member_first, member_later, no_member}
+use Rattle.general_lemmas.proofs.Members.{no_member, member_first, member_later, member_cases, member_at}
 
 -- the outermost name of a path
 abbrev pub head : List Frame → ℕ → ℕ

@@ -1,6 +1,6 @@
 -- Lists, and paths as lists of distinct names.
-use Rattle.std.proofs.Common.{◌≡◌, ◌+◌, ℕ, zero, suc, Bool, true, false, cond, List, [], ◌∷◌, ◌++◌, take, drop}
-use Rattle.std.proofs.Common.{Option, Some, None, nat_eq, refl, sym, ◌∙◌, ap, subst, inl, inr, arith, Contains}
+use Rattle.std.proofs.Common.{◌≡◌, ℕ, zero, suc, false, List, [], ◌∷◌, ◌++◌, take}
+use Rattle.std.proofs.Common.{Option, Some, None, nat_eq, refl, sym, ◌∙◌, ap, inl, inr, Contains}
 use Rattle.std.specs.List.{AllByRecursion, IsDistinct, slice_get}
 use Rattle.std.specs.Option.{option_or}
 use Rattle.std.proofs.lemmas.Bool.{or_from, ne_eqb, eqb-false}
@@ -8,7 +8,8 @@ use Rattle.std.proofs.lemmas.List.Folds.{list_any-append}
 use Rattle.std.proofs.lemmas.List.Elements.{All-contains, All-from_recursion, Contains-push}
 use Rattle.name_walk.specs.Faults.{is_on_path}
 use Rattle.name_walk.specs.Lists.{first_some}
-use Rattle.name_walk.proofs.Members.{member_cases, member_first, member_later, no_member}
+use Rattle.general_lemmas.proofs.Options.{or_none, none_first, none_second}
+use Rattle.general_lemmas.proofs.Members.{no_member, member_first, member_later, member_cases}
 
 -- ---- properties of all elements
 pub all_map : {A : Type 0} (P Q : A → Type 0) → ((x : A) → P x → Q x) → (xs : List A) → AllByRecursion P xs
@@ -27,17 +28,6 @@ all_map_in P Q (x ∷ xs) f h =
 pub all_at : {A : Type 0} (P : A → Type 0) (xs : List A) (x : A) → AllByRecursion P xs → Contains xs x → P x
 all_at P xs x h i = All-contains P xs x (All-from_recursion P xs h) i
 
--- a property of all members of two lists holds for both lists together
-pub all_append : {A : Type 0} (P : A → Type 0) (xs ys : List A) → AllByRecursion P xs → AllByRecursion P ys
-    → AllByRecursion P (xs ++ ys)
-all_append P [] ys h k = k
-all_append P (x ∷ xs) ys h k = (h.0, all_append P xs ys h.1 k)
-
--- a property of all members of two joined lists holds for the first list
-pub all_front : {A : Type 0} (P : A → Type 0) (xs ys : List A) → AllByRecursion P (xs ++ ys) → AllByRecursion P xs
-all_front P [] ys h = tt
-all_front P (x ∷ xs) ys h = (h.0, all_front P xs ys h.1)
-
 -- ---- elements
 -- a number that is not a member, and is not the appended number, is not a member afterwards
 pub on-push_false : (ks : List ℕ) (x k : ℕ) → is_on_path ks k ≡ false → (k ≡ x → ⊥)
@@ -46,35 +36,8 @@ on-push_false ks x k h ne = list_any-append (nat_eq k) ks (x ∷ [])
     ∙ or_from _ _ h (or_from (nat_eq k x) false (ne_eqb k x ne) refl)
 
 -- ---- parts
-pub drop_at : {A : Type 0} (xs : List A) (i : ℕ) (v : A) → slice_get xs i ≡ Some v → drop i xs ≡ v ∷ drop (i + 1) xs
-drop_at [] i v e = cc
-drop_at (x ∷ xs) zero v e = let f : x ≡ v = cc in ap (λ y. y ∷ xs) f
-drop_at (x ∷ xs) (suc i) v e =
-    let f : suc (i + 1) ≡ suc i + 1 = omega arith in subst (λ j. drop i xs ≡ v ∷ drop j (x ∷ xs)) f (drop_at xs i v e)
-
--- taking one more place appends the element at that place
-pub take_at : {A : Type 0} (xs : List A) (i : ℕ) (v : A) → slice_get xs i ≡ Some v
-    → take (i + 1) xs ≡ take i xs ++ v ∷ []
-take_at [] i v e = cc
-take_at (x ∷ xs) zero v e = let f : x ≡ v = cc in ap (λ y. y ∷ []) f
-take_at (x ∷ xs) (suc i) v e =
-    let f : suc (i + 1) ≡ suc i + 1 = omega arith in
-    subst (λ j. take j (x ∷ xs) ≡ x ∷ take i xs ++ v ∷ []) f (ap (λ ys. x ∷ ys) (take_at xs i v e))
 
 -- ---- the first result
-pub or_none : {A : Type 0} (o : Option A) → option_or o None ≡ o
-or_none None = refl
-or_none (Some x) = refl
-
--- if neither of two options has a value, the first has none
-pub none_first : {A : Type 0} (a b : Option A) → option_or a b ≡ None → a ≡ None
-none_first None b e = refl
-none_first (Some x) b e = cc
-
--- if neither of two options has a value, the second has none
-pub none_second : {A : Type 0} (a b : Option A) → option_or a b ≡ None → b ≡ None
-none_second None b e = e
-none_second (Some x) b e = cc
 
 -- if a list has no first result, no member has a result
 pub all_none : {A B : Type 0} (f : A → Option B) (xs : List A) → first_some f xs ≡ None
@@ -114,21 +77,7 @@ first_at f (z ∷ xs) (suc i) x y e g h =
     ap (λ o. option_or o (first_some f xs)) (none_first (f z) (first_some f (take i xs)) e)
     ∙ first_at f xs i x y (none_second (f z) (first_some f (take i xs)) e) g h
 
--- a choice is `None` only if the test is false and the alternative is `None`
-pub not_chosen : {A : Type 0} (b : Bool) (x : A) (o : Option A) → cond b (Some x) o ≡ None → (b ≡ false) × (o ≡ None)
-not_chosen true x o e = cc
-not_chosen false x o e = (refl, e)
-
 -- ---- distinct numbers
-pub nothing_twice : IsDistinct nat_eq []
-unfolding IsDistinct
-nothing_twice = tt
-
--- the front of a list of distinct members is distinct
-pub distinct_front : (xs ys : List ℕ) → IsDistinct nat_eq (xs ++ ys) → IsDistinct nat_eq xs
-unfolding IsDistinct
-distinct_front [] ys h = tt
-distinct_front (x ∷ xs) ys h = (all_front (λ y. nat_eq x y ≡ false) xs ys h.0, distinct_front xs ys h.1)
 
 -- the last of distinct members is not among the others
 pub distinct_last : (xs : List ℕ) (n : ℕ) → IsDistinct nat_eq (xs ++ n ∷ []) → Contains xs n → ⊥

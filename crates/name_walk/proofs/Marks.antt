@@ -1,6 +1,6 @@
 -- Marks, and the names that have one.
-use Rattle.std.proofs.Common.{◌≡◌, ◌⊎◌, ◌↔◌, ℕ, zero, suc, ◌<◌, List, [], ◌∷◌, ◌++◌, length, set, Some, refl, sym, ◌∙◌}
-use Rattle.std.proofs.Common.{ap, subst, inl, inr, arith, length-set, Contains}
+use Rattle.std.proofs.Common.{◌≡◌, ◌⊎◌, ◌↔◌, ℕ, ◌<◌, List, [], ◌∷◌, ◌++◌, length, set, Some, sym, ◌∙◌}
+use Rattle.std.proofs.Common.{ap, subst, inl, inr, length-set, Contains}
 use Rattle.std.specs.List.{slice_get}
 use Rattle.std.proofs.lemmas.Bool.{cases_eq}
 use Rattle.std.proofs.lemmas.Option.{slice_get_within}
@@ -8,21 +8,7 @@ use Rattle.std.proofs.lemmas.List.Elements.{Contains-append_left, Contains-push,
 use Rattle.name_walk.specs.declared.mark.Mark.{Mark}
 use Rattle.name_walk.specs.declared.mark.Mark.TheVariants.{Open}
 use Rattle.name_walk.specs.Traces.{AreEntered}
-
--- setting a place of a list sets the element there
-pub get_set_same : {A : Type 0} (xs : List A) (i : ℕ) (v : A) → i < length xs → slice_get (set xs i v) i ≡ Some v
-get_set_same [] i v h = absurd (omega arith)
-get_set_same (x ∷ xs) zero v h = refl
-get_set_same (x ∷ xs) (suc i) v h = get_set_same xs i v (omega arith)
-
--- setting a place of a list does not change other places
-pub get_set_other : {A : Type 0} (xs : List A) (i j : ℕ) (v : A) → (j ≡ i → ⊥)
-    → slice_get (set xs i v) j ≡ slice_get xs j
-get_set_other [] i j v h = refl
-get_set_other (x ∷ xs) zero zero v h = absurd (h refl)
-get_set_other (x ∷ xs) zero (suc j) v h = refl
-get_set_other (x ∷ xs) (suc i) zero v h = refl
-get_set_other (x ∷ xs) (suc i) (suc j) v h = get_set_other xs i j v (λ e. h (ap suc e))
+use Rattle.general_lemmas.proofs.Places.{get_set_same, get_set_other}
 
 -- the names with one mark are those of a list
 abbrev pub AreMarked : Mark → List Mark → List ℕ → Type 0

@@ -15,7 +15,7 @@ use Rattle.name_walk.proofs.Going.{HaveRoom, IsGoing, begin, cycle, dead_end, en
 use Rattle.name_walk.proofs.Going.{name_there, ordering_after, pass}
 use Rattle.name_walk.proofs.Links.{frame}
 use Rattle.name_walk.proofs.Weights.{enter_less, leave_less, weight}
-use Rattle.name_walk.proofs.Members.{member_at}
+use Rattle.general_lemmas.proofs.Members.{member_at}
 
 -- a visit is at a step of a name
 abbrev pub IsGoingAt : Graph → List Bool → ℕ → List ℕ → Trace → ℕ → ℕ → Type 0

@@ -13,8 +13,8 @@ use Rattle.name_walk.specs.Traces.{Trace, path, with_frame, without_frames}
 use Rattle.name_walk.specs.Trails.{Faults}
 use Rattle.name_walk.proofs.Distinct.{distinct_apart}
 use Rattle.name_walk.proofs.Links.{path_more, name_member}
-use Rattle.name_walk.proofs.Marks.{get_set_other, get_set_same}
-use Rattle.name_walk.proofs.Members.{member_first, member_later}
+use Rattle.general_lemmas.proofs.Places.{get_set_same, get_set_other}
+use Rattle.general_lemmas.proofs.Members.{member_first, member_later}
 
 -- recording the fault of another name does not change the records of some names
 noted_still : (fs : Faults) (n : ℕ) (v : Option FaultyStep) (ending : Ending) (x : Step) (ns : List ℕ)

@@ -18,10 +18,11 @@ use Rattle.name_walk.specs.Trails.{AreFindings, AreTrails, EndsAt, Faults, Follo
 use Rattle.name_walk.specs.Trails.{IsTrail}
 use Rattle.name_walk.proofs.Distinct.{distinct_append, distinct_apart, distinct_back, last_back, split_at}
 use Rattle.name_walk.proofs.Links.{AreLinked, head}
-use Rattle.name_walk.proofs.Lists.{distinct_front}
 use Rattle.name_walk.proofs.Trails.{all_faulty, follows_join, follows_same, follows_split}
-use Rattle.name_walk.proofs.Members.{member_cases, member_first, member_later, member_on_path, member_or, no_member}
+use Rattle.name_walk.proofs.Members.{member_on_path, member_or}
 use Rattle.name_walk.proofs.Members.{on_path_member}
+use Rattle.general_lemmas.proofs.Properties.{distinct_front}
+use Rattle.general_lemmas.proofs.Members.{no_member, member_first, member_later, member_cases}
 
 two_same : {A : Type 0} (a b : A) → Some (Some a) ≡ Some (Some b) → a ≡ b
 two_same a b e = cc

@@ -9,7 +9,7 @@ use Rattle.name_walk.specs.declared.traces.Frame.{Frame}
 use Rattle.name_walk.specs.Faults.{NameFault, at_name, at_step, name_fault_within, steps_fault}
 use Rattle.name_walk.specs.Traces.{path}
 use Rattle.name_walk.specs.Steps.{Graph, steps}
-use Rattle.name_walk.proofs.Lists.{drop_at}
+use Rattle.general_lemmas.proofs.Places.{drop_at}
 
 module _ (g : Graph) where
   abbrev pub pending : List ℕ → List Frame → ℕ → ℕ → Option NameFault

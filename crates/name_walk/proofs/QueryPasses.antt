@@ -18,10 +18,12 @@ use Rattle.name_walk.specs.Traces.{IsIdle, Trace, trace_with_names, without_orde
 use Rattle.name_walk.specs.Visits.{AreOrdering, IsBetween, IsFaultless, IsMarkFound}
 use Rattle.name_walk.proofs.ClosedPaths.{name_closed}
 use Rattle.name_walk.proofs.Faults.{empty_path}
-use Rattle.name_walk.proofs.Lists.{first_at, first_push, or_none, take_at}
+use Rattle.name_walk.proofs.Lists.{first_at, first_push}
 use Rattle.name_walk.proofs.WalkOrder.{ordering_start}
 use Rattle.name_walk.proofs.DoneNames.{done_below, done_closed}
-use Rattle.name_walk.proofs.Members.{no_member}
+use Rattle.general_lemmas.proofs.Places.{take_at}
+use Rattle.general_lemmas.proofs.Options.{or_none}
+use Rattle.general_lemmas.proofs.Members.{no_member}
 
 -- these steps of a query have no fault, they reach the names that were closed, and each leads to a name that is done
 pub record ArePassed (g : Graph) (s : List Bool) (query : List Step) (t : Trace) : Type 0 where

@@ -15,7 +15,7 @@ use Rattle.name_walk.specs.Steps.{Graph}
 use Rattle.name_walk.specs.Trails.{AreFindings, AreTrails, EndsAt, Faults, FollowsFaults, GoesBy, IsFaulty, IsTrail}
 use Rattle.name_walk.proofs.Distinct.{distinct_apart, distinct_back, split_at}
 use Rattle.name_walk.proofs.Trails.{all_faulty, dead_end_fault, follows_split, one_step, ring_fault}
-use Rattle.name_walk.proofs.Members.{member_cases, member_first, member_later, no_member}
+use Rattle.general_lemmas.proofs.Members.{no_member, member_first, member_later, member_cases}
 
 one_target : (a b : ℕ) → To a ≡ To b → a ≡ b
 one_target a b e = cc

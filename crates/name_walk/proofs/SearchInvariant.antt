@@ -30,13 +30,16 @@ use Rattle.name_walk.proofs.Going.{HaveRoom}
 use Rattle.name_walk.proofs.Links.{AreDone, AreLinked, are_done_more, frame, head, head_more, last_path}
 use Rattle.name_walk.proofs.Links.{linked_more, linked_pop, linked_push, linked_reach, path_more, head_member}
 use Rattle.name_walk.proofs.Links.{name_member}
-use Rattle.name_walk.proofs.Lists.{all_append, all_at, all_front, all_map}
-use Rattle.name_walk.proofs.Lists.{distinct_front, distinct_last, take_at}
+use Rattle.name_walk.proofs.Lists.{all_at, all_map}
+use Rattle.name_walk.proofs.Lists.{distinct_last}
 use Rattle.name_walk.proofs.Marks.{entered_again, entered_in}
 use Rattle.name_walk.proofs.PathFaults.{PathEnds, noted_faulty, path_findings, path_trails, still_faulty}
 use Rattle.name_walk.proofs.DoneNames.{done_closed}
 use Rattle.name_walk.proofs.SearchMarks.{AreMarks, marks_clear, marks_close, marks_enter}
-use Rattle.name_walk.proofs.Members.{member_at, member_on_path, member_or, no_member, on_path_member}
+use Rattle.name_walk.proofs.Members.{member_on_path, member_or, on_path_member}
+use Rattle.general_lemmas.proofs.Places.{take_at}
+use Rattle.general_lemmas.proofs.Properties.{all_append, all_front, distinct_front}
+use Rattle.general_lemmas.proofs.Members.{no_member, member_at}
 
 -- the path, whose frames have the places of the steps by which it goes on
 pub record IsOnTrail (g : Graph) (s : List Bool) (start : ℕ) (os : List ℕ) (frames : List Frame) (name place : ℕ)

@@ -10,7 +10,8 @@ use Rattle.name_walk.specs.declared.mark.Mark.TheVariants.{Closed, OnPath, Open}
 use Rattle.name_walk.specs.Findings.{CanClear}
 use Rattle.name_walk.specs.Traces.{AreEntered}
 use Rattle.name_walk.specs.Trails.{Faults, IsFaulty}
-use Rattle.name_walk.proofs.Marks.{entered_again, entered_in, entered_push, get_set_other, get_set_same}
+use Rattle.name_walk.proofs.Marks.{entered_again, entered_in, entered_push}
+use Rattle.general_lemmas.proofs.Places.{get_set_same, get_set_other}
 
 -- the mark of the name at which one was put, and of any other
 set_mark : (ms : List Mark) (n : ℕ) (v : Mark) (k : ℕ) (w : Mark) → n < length ms → slice_get (set ms n v) k ≡ Some w

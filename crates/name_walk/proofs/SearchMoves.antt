@@ -25,7 +25,8 @@ use Rattle.name_walk.proofs.SearchInvariant.{IsSeeking, close_clear, fault_clear
 use Rattle.name_walk.proofs.SearchInvariant.{seek_enter, seek_fault, seek_finish}
 use Rattle.name_walk.proofs.SearchInvariant.{seek_leave, seek_pass, seek_there}
 use Rattle.name_walk.proofs.Weights.{enter_less, leave_less, pass_less, weight}
-use Rattle.name_walk.proofs.Members.{member_at, member_on_path}
+use Rattle.name_walk.proofs.Members.{member_on_path}
+use Rattle.general_lemmas.proofs.Members.{member_at}
 
 -- a search is at a step of a name
 abbrev pub IsSeekingAt : Graph → List Bool → ℕ → Trace → Trace → Faults → ℕ → ℕ → Type 0

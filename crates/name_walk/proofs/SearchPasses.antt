@@ -17,10 +17,12 @@ use Rattle.name_walk.specs.Traces.{Trace}
 use Rattle.name_walk.specs.Trails.{AreFindings, AreTrails, EndsAt, Faults, FollowsFaults, IsFaulty, IsTrail}
 use Rattle.name_walk.proofs.ClosedPaths.{name_closed}
 use Rattle.name_walk.proofs.Faults.{empty_path}
-use Rattle.name_walk.proofs.Lists.{first_push, take_at}
+use Rattle.name_walk.proofs.Lists.{first_push}
 use Rattle.name_walk.proofs.QueryPasses.{fault_next}
 use Rattle.name_walk.proofs.Trails.{dead_end_fault, is_closed, ring_fault}
-use Rattle.name_walk.proofs.Members.{no_member, take_member}
+use Rattle.name_walk.proofs.Members.{take_member}
+use Rattle.general_lemmas.proofs.Places.{take_at}
+use Rattle.general_lemmas.proofs.Members.{no_member}
 
 -- the fault of a name that has one
 pub record HasFault (g : Graph) (n : ℕ) : Type 0 where

@@ -18,7 +18,7 @@ use Rattle.name_walk.specs.Traces.{IsIdle, Trace}
 use Rattle.name_walk.specs.Trails.{AreFindings, Faults, IsFaulty, IsFirst}
 use Rattle.name_walk.proofs.ClosedPaths.{any_depth, ends_longer, into_map}
 use Rattle.name_walk.proofs.Lists.{all_map, all_map_in}
-use Rattle.name_walk.proofs.Members.{no_member}
+use Rattle.general_lemmas.proofs.Members.{no_member}
 
 -- a name that is not in the graph has no steps
 no_steps : (g : Graph) (n : ℕ) → length g ≤ n → steps g n ≡ []

@@ -16,10 +16,13 @@ use Rattle.name_walk.specs.Steps.{Graph, LeadsTo, NameReaches, at_once, steps}
 use Rattle.name_walk.specs.Trails.{AreFindings, Faults, FollowsFaults, GoesBy, IsFaulty, IsFirst}
 use Rattle.name_walk.proofs.ClosedPaths.{name_closed, reaches_on}
 use Rattle.name_walk.proofs.Faults.{name_is}
-use Rattle.name_walk.proofs.Lists.{all_at, distinct_front, distinct_last, first_at}
-use Rattle.name_walk.proofs.Lists.{none_from, or_none}
+use Rattle.name_walk.proofs.Lists.{all_at, distinct_last, first_at}
+use Rattle.name_walk.proofs.Lists.{none_from}
 use Rattle.name_walk.proofs.DoneNames.{done_closed}
-use Rattle.name_walk.proofs.Members.{member_at, member_cases, member_on_path, no_member, on_path_member, take_member}
+use Rattle.name_walk.proofs.Members.{member_on_path, on_path_member, take_member}
+use Rattle.general_lemmas.proofs.Properties.{distinct_front}
+use Rattle.general_lemmas.proofs.Options.{or_none}
+use Rattle.general_lemmas.proofs.Members.{no_member, member_cases, member_at}
 
 some_same : {A : Type 0} (a b : A) → Some (Some a) ≡ Some (Some b) → a ≡ b
 some_same a b e = cc

@@ -14,10 +14,11 @@ use Rattle.name_walk.specs.Faults.{is_on_path}
 use Rattle.name_walk.specs.Steps.{Graph, LeadsTo}
 use Rattle.name_walk.specs.Traces.{AreOpen}
 use Rattle.name_walk.specs.Visits.{AreOrdering}
-use Rattle.name_walk.proofs.Lists.{nothing_twice}
 use Rattle.name_walk.proofs.Marks.{entered_again, entered_in, entered_push, marked_push, marked_same, other_mark}
 use Rattle.name_walk.proofs.DoneNames.{ordered_push}
-use Rattle.name_walk.proofs.Members.{no_member, on_path_member}
+use Rattle.name_walk.proofs.Members.{on_path_member}
+use Rattle.general_lemmas.proofs.Properties.{nothing_twice}
+use Rattle.general_lemmas.proofs.Members.{no_member}
 
 -- a property of the names of a list and of one more name holds for all of them
 pub either_new : {P : ℕ → Type 0} (xs : List ℕ) (x : ℕ) → ((n : ℕ) → Contains xs n → P n) → P x → (n : ℕ)

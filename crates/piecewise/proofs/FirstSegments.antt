@@ -18,6 +18,7 @@ use Rattle.std.proofs.lemmas.List.{get_or_default, get_or_read}
 use Rattle.std.proofs.lemmas.Bool.{and_right}
 use Rattle.piecewise.proofs.Neighbours.{AreNeighbours, and_both_hold, between-around, compared-reverse, drop-left}
 use Rattle.piecewise.proofs.Neighbours.{drop-right}
+use Rattle.general_lemmas.proofs.Orders.{less_is}
 
 -- the segments from the left neighbour on start with the segment of the neighbours
 pub segments-left : (points : List Point) (i : ℕ) (p q : Point) → AreNeighbours points i p q
@@ -51,12 +52,6 @@ find-y_here points i p q y are around =
     ap (find (holds_y y)) (segments-left points i p q are)
     ∙ ap (λ b. cond b (Some (record { left_end = p; right_end = q })) (find (holds_y y) (segments (drop i points))))
     (between-around p.1 q.1 y ∙ around)
-
--- an order that passes the test for less is `Less`
-less_is : (o : Ordering) → is_lt o ≡ true → o ≡ Less
-less_is Less h = refl
-less_is Equal h = absurd (cc)
-less_is Greater h = absurd (cc)
 
 -- the test for at most is the negation of the test for less with the numbers exchanged
 le-less : (a b : Fraction) (t : Bool) → is_lt (order_of b a) ≡ not t → is_le (order_of a b) ≡ t

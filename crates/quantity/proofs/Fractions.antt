@@ -1,6 +1,6 @@
 -- Exponents in lowest terms.
 use Rattle.std.proofs.Common.{◌≡◌, refl, sym, ap, subst, ◌∙◌, arith, ◌<◌, ◌*◌, Bool, true, false, cond, ℕ, ℤ, pos}
-use Rattle.std.proofs.Common.{negsuc, suc, zero, neg_ℤ, ◌+ℤ◌, ◌*ℤ◌, unsigned_abs, Option, Some, None, IsFalse, ◌==◌}
+use Rattle.std.proofs.Common.{negsuc, suc, zero, ◌+ℤ◌, ◌*ℤ◌, unsigned_abs, Option, Some, None, IsFalse, ◌==◌}
 use Rattle.std.specs.Int.{IsGcd}
 use Rattle.std.specs.Prelude.{unwrap_or}
 use Rattle.std.proofs.lemmas.Bool.Decides.{nat_tests}
@@ -10,6 +10,7 @@ use Rattle.frac128.specs.Fraction.{Fraction, IsReduced, SameValue, negative_of, 
 use Rattle.frac128.specs.Steps.{ReducedLaw, lowest_terms}
 use Rattle.frac128.specs.Sign.{is_zero}
 use Rattle.quantity.specs.Exponents.{exponent_product, exponent_sum}
+use Rattle.general_lemmas.proofs.Integers.{abs-neg}
 
 -- the exponent of a name that is absent
 abbrev pub nothing : Fraction
@@ -26,12 +27,6 @@ nothing_reduced = record { den_positive = omega arith; coprime = (dvd-zero 1, dv
 -- each whole number is in lowest terms
 pub whole_reduced : (n : ℤ) → IsReduced (whole n)
 whole_reduced n = record { den_positive = omega arith; coprime = (one-dvd (unsigned_abs n), dvd_refl 1, λ d p q. q) }
-
--- negating a number preserves its magnitude
-pub abs-neg : (n : ℤ) → unsigned_abs (neg_ℤ n) ≡ unsigned_abs n
-abs-neg (pos zero) = refl
-abs-neg (pos (suc n)) = refl
-abs-neg (negsuc n) = refl
 
 -- negating a fraction preserves lowest terms
 pub negated_reduced : (e : Fraction) → IsReduced e → IsReduced (negative_of e)

@@ -21,7 +21,7 @@ use Rattle.quantity.specs.declared.factor.Factor.{Factor}
 use Rattle.quantity.specs.declared.factor.Factor.TheVariants.{Plain, Inverse}
 use Rattle.quantity.specs.declared.fault.ExponentFault.{ExponentFault}
 use Rattle.quantity.specs.declared.fault.ExponentFault.TheVariants.{Range, OutOfMemory}
-use Rattle.quantity.proofs.Fractions.{abs-neg, kept, negated_reduced, negated_zero, nothing, product_reduced}
+use Rattle.quantity.proofs.Fractions.{kept, negated_reduced, negated_zero, nothing, product_reduced}
 use Rattle.quantity.proofs.Fractions.{product_zero, sum_left, sum_reduced, nothing_reduced}
 use Rattle.quantity.proofs.OrderedPowers.{GivesNames, Lists, all_kept, exponent_of-exponents_by, listed_map}
 use Rattle.quantity.proofs.OrderedPowers.{listed_range}
@@ -30,6 +30,7 @@ use Rattle.quantity.proofs.MergedPowers.{IsStep, at_reduced, find-merged, sorted
 use Rattle.quantity.proofs.Names.{Name, is_name}
 use Rattle.quantity.proofs.Single.{IsListOf}
 use Rattle.quantity.proofs.ScaledPowers.{find-scaled, sorted-scaled}
+use Rattle.general_lemmas.proofs.Integers.{abs-neg}
 
 -- ---- the result of `exponents_in_range`
 

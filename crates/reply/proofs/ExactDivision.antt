@@ -2,31 +2,15 @@
 use Rattle.std.proofs.Common.{◌≡◌, ◌≢◌, ◌*◌, ◌<◌, ◌*ℤ◌, ◌&&◌, ℕ, ℤ, pos, negsuc, neg_ℤ, suc, zero, Bool, true}
 use Rattle.std.proofs.Common.{false}
 use Rattle.std.proofs.Common.{arith, refl, sym, ap, ap₂, subst, ◌∙◌}
-use Rattle.std.specs.Prelude.{int_lt, nat_le, unsigned_abs, Ok, Err, if◌then◌else◌}
+use Rattle.std.specs.Prelude.{nat_le, unsigned_abs, Ok, Err, if◌then◌else◌}
 use Rattle.std.proofs.Math.IntN.{*ℤ-negsuc, neg_ℤ-neg_ℤ, pos-*ℤ-negsuc}
-use Rattle.std.proofs.Math.Nat.{mul-pos, mul-zero, mul_assoc, mul_comm}
+use Rattle.std.proofs.Math.Nat.{mul-pos, mul-zero, mul_comm}
 use Rattle.std.proofs.lemmas.Bool.{le-leb, leb-true, and_parts}
 use Rattle.frac128.specs.declared.fault.FracFault.TheVariants.{Overflow}
 use Rattle.frac128.specs.Fraction.{Fraction, IsFrac, IsReduced, SameValue, fits_most, most}
-use Rattle.frac128.specs.Sign.{differ, number_with_sign}
 use Rattle.frac128.specs.Steps.{ReducedLaw, fit_or_overflow, lowest_terms, ratio}
-use Rattle.frac128.proofs.Signs.{mul-signed, neg-times, signed_is}
 use Rattle.reply.specs.Quotients.{QuotientLaw}
-
--- two factors above 0 as one
-mul-twice : (z : ℤ) (a b : ℕ) → z *ℤ pos a *ℤ pos b ≡ z *ℤ pos (a * b)
-mul-twice z a b =
-    let s = int_lt z (pos 0) in
-    let n = unsigned_abs z in
-    ap (λ k. k *ℤ pos a *ℤ pos b) (signed_is z) ∙ ap (λ k. k *ℤ pos b) (mul-signed s false n a)
-    ∙ mul-signed (differ s false) false (n * a) b
-    ∙ plain s (n * a * b) ∙ ap (number_with_sign (differ s false)) (mul_assoc n a b)
-    ∙ sym (ap (λ k. k *ℤ pos (a * b)) (signed_is z) ∙ mul-signed s false n (a * b))
-  where
-    plain : (s : Bool) (k : ℕ) → number_with_sign (differ (differ s false) false) k ≡ number_with_sign (differ s false)
-        k
-    plain true k = refl
-    plain false k = refl
+use Rattle.general_lemmas.proofs.Integers.{neg-times, mul-twice}
 
 -- two factors above 0 as one, in the other order
 mul-turned : (z : ℤ) (a b : ℕ) → z *ℤ pos a *ℤ pos b ≡ z *ℤ pos (b * a)

@@ -44,10 +44,11 @@ use Rattle.reply.specs.Replies.{as_conversion, comparison_reply, conversion_repl
 use Rattle.reply.specs.Targets.{conversion_target, parts_of, parts_or_unit}
 use Rattle.reply.specs.TextValues.{IsValueOf}
 use Rattle.reply.specs.Trees.{trees_in}
-use Rattle.reply.proofs.InquiryResults.{answer_after, join-answers, no-ok, of-value, of-values, ok-same, one-value}
+use Rattle.reply.proofs.InquiryResults.{answer_after, join-answers, of-value, of-values, one-value}
 use Rattle.reply.proofs.InquiryResults.{split-answers, value-of, values-of}
 use Rattle.reply.proofs.ListConversions.{of-counts, split-of}
 use Rattle.reply.proofs.UnitConversions.{conversion-of, none-to-zero, of-conversion}
+use Rattle.general_lemmas.proofs.Results.{same_Ok, err-ok}
 
 -- ---- a target that is a function has one
 function-present : (table : Table) (to : List ℕ) → conversion_target table to ≡ Function
@@ -102,17 +103,17 @@ module _ (table : Table) (options : Options) (to : List ℕ) (x : Amount) where
         → as_answer (by_names fault w) ≡ Ok y → ConvertsToFunction table to x y
     by-key y None names (Ok q) evaluates h =
         let is = inverse-of (key_meaning table function) x y (kinds.keys table fits function present names)
-        (evaluates ∙ ap Ok (ok-same q y h)) in
+        (evaluates ∙ ap Ok (same_Ok q y h)) in
         record { names = names; function = is.function; function_meaning = is.meaning; evaluates = is.evaluates }
-    by-key y None names (Err fault) evaluates h = absurd (no-ok _ y h)
-    by-key y (Some fault) names w evaluates h = absurd (no-ok _ y h)
+    by-key y None names (Err fault) evaluates h = absurd (err-ok _ y h)
+    by-key y (Some fault) names w evaluates h = absurd (err-ok _ y h)
 
   converts-of : QuotientLaw → KindLaw → FitsKinds table → (t : Target) → conversion_target table to ≡ t
       → (c : Conversion)
       → (converted_to table options to t x).answer ≡ Ok c → is_granted c ≡ true → ConvertsTo table options to t x c
   converts-of law kinds fits Function is c h g =
       let s = split-answers (single_query (AsksKey function) (inverse_answer table to x)) inverse c h in
-      subst (ConvertsTo table options to Function x) (ok-same (Inverse s.0) c s.2)
+      subst (ConvertsTo table options to Function x) (same_Ok (Inverse s.0) c s.2)
       (by-key kinds fits (function-present table to is) s.0 (key_fault table function) refl
       (inverse_at (key_meaning table function) x) refl s.1)
   converts-of law kinds fits (Parts list) is c h g =

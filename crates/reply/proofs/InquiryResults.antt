@@ -19,14 +19,7 @@ use Rattle.reply.specs.Inquiries.{◌>>=◌, Inquiry, as_answer, inquiry_after, 
 use Rattle.reply.specs.Inquiries.{worths}
 use Rattle.reply.specs.TextValues.{AreValuesOf, IsValueOf}
 use Rattle.reply.specs.Trees.{as_parsed, tree_in, trees_in}
-
--- two equal results have equal values
-pub ok-same : {A E : Type 0} (x y : A) → ◌≡◌ {A = Result A E} (Ok x) (Ok y) → x ≡ y
-ok-same x y e = cc
-
--- a fault is not a value
-pub no-ok : {A E : Type 0} (fault : E) (y : A) → ◌≡◌ {A = Result A E} (Err fault) (Ok y) → ⊥
-no-ok fault y e = cc
+use Rattle.general_lemmas.proofs.Results.{same_Ok, err-ok}
 
 -- ---- one step after another
 abbrev pub bound : {A B E : Type 0} → Result A E → (A → Result B E) → Result B E
@@ -38,7 +31,7 @@ module _ {A B E : Type 0} (first : Result A E) (step : A → Result B E) (y : B)
     where
       go : (r : Result A E) → first ≡ r → bound r step ≡ Ok y → (x : A) × (first ≡ Ok x) × (step x ≡ Ok y)
       go (Ok x) e h = (x, e, h)
-      go (Err fault) e h = absurd (no-ok fault y h)
+      go (Err fault) e h = absurd (err-ok fault y h)
 
 -- the result of two inquiries, by that of the first
 abbrev pub answer_after : {A B : Type 0} → Inquiry A → (A → Inquiry B) → Result A ReplyFault → Result B ReplyFault
@@ -51,7 +44,7 @@ module _ {A B : Type 0} (first : Inquiry A) (next : A → Inquiry B) (y : B) whe
       go : (r : Result A ReplyFault) → first.answer ≡ r → answer_after first next r ≡ Ok y
           → (x : A) × (first.answer ≡ Ok x) × ((next x).answer ≡ Ok y)
       go (Ok x) e h = (x, e, h)
-      go (Err fault) e h = absurd (no-ok fault y h)
+      go (Err fault) e h = absurd (err-ok fault y h)
 
   pub join-answers : (x : A) → first.answer ≡ Ok x → (next x).answer ≡ Ok y → (first >>= next).answer ≡ Ok y
   join-answers x e h = ap (answer_after first next) e ∙ h
@@ -69,10 +62,10 @@ module _ (table : Table) (text : List ℕ) (x : Amount) where
     tree = tree;
     parses = parses;
     names = names;
-    evaluates = evaluates ∙ ap Ok (ok-same q x h);
+    evaluates = evaluates ∙ ap Ok (same_Ok q x h);
   }
-  by-tree tree parses None names (Err fault) evaluates h = absurd (no-ok _ x h)
-  by-tree tree parses (Some fault) names result evaluates h = absurd (no-ok _ x h)
+  by-tree tree parses None names (Err fault) evaluates h = absurd (err-ok _ x h)
+  by-tree tree parses (Some fault) names result evaluates h = absurd (err-ok _ x h)
 
   pub value-of : (text_worth table text).answer ≡ Ok x → IsValueOf table text x
   value-of h = go (parse_of None text) refl h
@@ -80,7 +73,7 @@ module _ (table : Table) (text : List ℕ) (x : Amount) where
       go : (p : Result Syntax ParseFault) → parse_of None text ≡ p → answer_for p ≡ Ok x → IsValueOf table text x
       go (Ok tree) parses h =
           by-tree tree parses (name_fault table (words_in tree)) refl (value (expansion table tree) None) refl h
-      go (Err fault) parses h = absurd (no-ok _ x h)
+      go (Err fault) parses h = absurd (err-ok _ x h)
 
   pub of-tree : (v : IsValueOf table text x) → (tree_value table v.tree).answer ≡ Ok x
   of-tree v = ap₂ (λ fault result. as_answer (by_names fault result)) v.names v.evaluates
@@ -91,7 +84,7 @@ module _ (table : Table) (text : List ℕ) (x : Amount) where
 -- a text has one value
 pub one-value : (table : Table) (text : List ℕ) (x y : Amount) → IsValueOf table text x → IsValueOf table text y
     → x ≡ y
-one-value table text x y v w = ok-same x y (sym (of-value table text x v) ∙ of-value table text y w)
+one-value table text x y v w = same_Ok x y (sym (of-value table text x v) ∙ of-value table text y w)
 
 -- ---- the values of texts
 module _ (table : Table) where
@@ -101,19 +94,19 @@ module _ (table : Table) where
   pub values-of : (texts : List (List ℕ)) (trees : List Syntax) (units : List Amount) → trees_in texts ≡ Ok trees
       → (worths table trees).answer ≡ Ok units → AreValuesOf table texts units
   values-of [] trees units e h =
-      let none : [] ≡ trees = ok-same [] trees e in
+      let none : [] ≡ trees = same_Ok [] trees e in
       let nothing : [] ≡ units =
-      ok-same [] units (ap (λ ts. (worths table ts).answer) none ∙ h) in
+      same_Ok [] units (ap (λ ts. (worths table ts).answer) none ∙ h) in
       subst (AreValuesOf table []) nothing tt
   values-of (text ∷ texts) trees units e h =
       let read = split-steps (tree_in text) (λ tree. bound (trees_in texts) (λ ts. Ok (tree ∷ ts))) trees e in
       let rest = split-steps (trees_in texts) (λ ts. Ok (read.0 ∷ ts)) trees read.2 in
-      let is : read.0 ∷ rest.0 ≡ trees = ok-same (read.0 ∷ rest.0) trees rest.2 in
+      let is : read.0 ∷ rest.0 ≡ trees = same_Ok (read.0 ∷ rest.0) trees rest.2 in
       let first = split-answers (tree_value table read.0) (λ x. worths table rest.0 >>= onto x) units
       (ap (λ ts. (worths table ts).answer) is ∙ h) in
       let further = split-answers (worths table rest.0) (onto first.0) units first.2 in
       subst (AreValuesOf table (text ∷ texts)) {x = first.0 ∷ further.0}
-      (ok-same (first.0 ∷ further.0) units further.2) (
+      (same_Ok (first.0 ∷ further.0) units further.2) (
         value-of table text first.0
             (join-answers (without_queries (tree_in text)) (tree_value table) first.0 read.0 read.1 first.1),
         values-of texts rest.0 further.0 rest.1 further.1,

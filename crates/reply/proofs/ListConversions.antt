@@ -15,7 +15,7 @@ use Rattle.unit_list.specs.Splits.{number_counts}
 use Rattle.reply.specs.declared.conversion.Conversion.{Conversion}
 use Rattle.reply.specs.declared.conversion.Conversion.TheVariants.{Split}
 use Rattle.reply.specs.Conversions.{is_granted, split_conversion}
-use Rattle.reply.proofs.InquiryResults.{no-ok, ok-same}
+use Rattle.general_lemmas.proofs.Results.{same_Ok, err-ok}
 
 -- ---- no element passes a test if none has the first place
 module _ {A : Type 0} (test : A → Bool) where
@@ -78,11 +78,11 @@ module _ (round : Bool) (x : Amount) (units : List Amount) where
       go None a None b (Ok counted) e h = record {
         conformable = all-pass (λ unit. conform x.exponents unit.exponents) units a;
         positive = all-pass (λ unit. is_positive unit.value) units b;
-        counted = e ∙ ap Ok (ok-same counted counts h);
+        counted = e ∙ ap Ok (same_Ok counted counts h);
       }
-      go None a None b (Err fault) e h = absurd (no-ok _ counts h)
-      go None a (Some k) b r e h = absurd (no-ok _ counts h)
-      go (Some k) a q b r e h = absurd (no-ok _ counts h)
+      go None a None b (Err fault) e h = absurd (err-ok _ counts h)
+      go None a (Some k) b r e h = absurd (err-ok _ counts h)
+      go (Some k) a q b r e h = absurd (err-ok _ counts h)
 
   pub of-counts : (counts : List Fraction) → HasCounts counts → counts_in round x units ≡ Ok counts
   unfolding counts_in
@@ -105,9 +105,9 @@ module _ (round : Bool) (x : Amount) (units : List Amount) where
         go : (r : Result (List Fraction) SplitFault) → counts_in round x units ≡ r
             → split_conversion x list units r ≡ Ok c → IsCounts
         go (Ok counts) e h =
-            record { counts = counts; has = counts-of counts e; same = ok-same (Split list counts) c h }
+            record { counts = counts; has = counts-of counts e; same = same_Ok (Split list counts) c h }
         go (Err (split.NotConformable place)) e h =
-            absurd (true≢false (sym (ap is_granted (ok-same _ c h) ∙ g)))
-        go (Err (split.ListUnitNotPositive place)) e h = absurd (no-ok _ c h)
-        go (Err (split.Number fault)) e h = absurd (no-ok _ c h)
-        go (Err split.OutOfMemory) e h = absurd (no-ok _ c h)
+            absurd (true≢false (sym (ap is_granted (same_Ok _ c h) ∙ g)))
+        go (Err (split.ListUnitNotPositive place)) e h = absurd (err-ok _ c h)
+        go (Err (split.Number fault)) e h = absurd (err-ok _ c h)
+        go (Err split.OutOfMemory) e h = absurd (err-ok _ c h)

@@ -22,16 +22,14 @@ use Rattle.frac128.proofs.Multiples.{lcm-times}
 use Rattle.piecewise.specs.Lines.{Point, on_line, swapped_point}
 use Rattle.piecewise.specs.Tables.{Segment, holds_y, segments, value_on, x_at, x_on}
 use Rattle.quantity.specs.Powers.{power_of_root, rational_power}
+use Rattle.general_lemmas.proofs.Results.{same_Ok}
 
 -- the denominator of a result, if there is one, is above 0
 abbrev pub IsPositive : {E : Type 0} → Result Fraction E → Type 0
 IsPositive r = (x : Fraction) → r ≡ Ok x → 0 < x.den
 
-ok-same : {A E : Type 0} (x y : A) → ◌≡◌ {A = Result A E} (Ok x) (Ok y) → x ≡ y
-ok-same x y e = cc
-
 pub ok-positive : {E : Type 0} (x : Fraction) → 0 < x.den → IsPositive {E = E} (Ok x)
-ok-positive x h y e = subst (λ (z : Fraction). 0 < z.den) (ok-same x y e) h
+ok-positive x h y e = subst (λ (z : Fraction). 0 < z.den) (same_Ok x y e) h
 
 pub err-positive : {E : Type 0} (fault : E) → IsPositive (Err fault)
 err-positive fault y e = absurd (cc)

@@ -15,7 +15,8 @@ use Rattle.reply.specs.Conversions.{conversion_between, is_granted, linear_conve
 use Rattle.reply.specs.Grants.{AreFactors, IsBackFactor, IsUnitConversion}
 use Rattle.reply.specs.Quotients.{QuotientLaw}
 use Rattle.reply.specs.Ratios.{inverse_ratio, ratio_of, reciprocal_ratio}
-use Rattle.reply.proofs.InquiryResults.{bound, no-ok, ok-same, split-steps}
+use Rattle.reply.proofs.InquiryResults.{bound, split-steps}
+use Rattle.general_lemmas.proofs.Results.{same_Ok, err-ok}
 
 -- ---- the two quotients of two numbers
 zero-is : (z : ℤ) → (unsigned_abs z == 0) ≡ true → z ≡ pos 0
@@ -32,9 +33,9 @@ module _ (law : QuotientLaw) (x y : Fraction) where
   back-of : (zero : Bool) → is_zero x ≡ zero → (q : Result Fraction FracFault) → fraction_quotient y x ≡ q
       → (b : Option Fraction)
       → back_by zero q ≡ Ok b → IsBackFactor x y b
-  back-of true e q is b h = subst (IsBackFactor x y) (ok-same None b h) e
-  back-of false e (Ok w) is b h = subst (IsBackFactor x y) (ok-same (Some w) b h) ((law y x w).0 is)
-  back-of false e (Err fault) is b h = absurd (no-ok fault b h)
+  back-of true e q is b h = subst (IsBackFactor x y) (same_Ok None b h) e
+  back-of false e (Ok w) is b h = subst (IsBackFactor x y) (same_Ok (Some w) b h) ((law y x w).0 is)
+  back-of false e (Err fault) is b h = absurd (err-ok fault b h)
 
   -- a divisor is not 0
   not-zero : (w : Fraction) → fraction_quotient y x ≡ Ok w → is_zero x ≡ false
@@ -56,14 +57,14 @@ module _ (law : QuotientLaw) (x y : Fraction) where
       go : (f : Result Fraction FracFault) → fraction_quotient x y ≡ f → (b : Result (Option Fraction) FracFault)
           → inverse_ratio x y ≡ b → ratio_by f b ≡ Ok r → AreFactors x y r
       go (Ok f) e (Ok b) is h =
-          let same : (record { forward = f; back = b }) ≡ r = ok-same _ r h in
+          let same : (record { forward = f; back = b }) ≡ r = same_Ok _ r h in
           record {
             forward = (law x y r.forward).0 (e ∙ ap (λ (s : Ratio). Ok s.forward) same);
             back_factor = subst (λ (s : Ratio). IsBackFactor x y s.back) same
                 (back-of (is_zero x) refl (fraction_quotient y x) refl b is);
           }
-      go (Ok f) e (Err fault) is h = absurd (no-ok fault r h)
-      go (Err fault) e b is h = absurd (no-ok fault r h)
+      go (Ok f) e (Err fault) is h = absurd (err-ok fault r h)
+      go (Err fault) e b is h = absurd (err-ok fault r h)
 
   of-factors : (r : Ratio) → AreFactors x y r → ratio_of x y ≡ Ok r
   of-factors r q = ap₂ ratio_by ((law x y r.forward).1 q.forward) (of-back r.back q.back_factor)
@@ -81,16 +82,16 @@ module _ (law : QuotientLaw) (strict : Bool) (x y : Amount) where
     linear-of : conform x.exponents y.exponents ≡ true → (q : Result Ratio FracFault) → ratio_of x.value y.value ≡ q
         → linear_conversion q ≡ Ok c → IsUnitConversion strict x y c
     linear-of conforming (Ok r) e h =
-        subst (IsUnitConversion strict x y) (ok-same (Linear r) c h)
+        subst (IsUnitConversion strict x y) (same_Ok (Linear r) c h)
         (record { conformable = conforming; factors = factors-of law x.value y.value r e })
-    linear-of conforming (Err fault) e h = absurd (no-ok _ c h)
+    linear-of conforming (Err fault) e h = absurd (err-ok _ c h)
 
     reciprocal-of : conform x.exponents y.exponents ≡ false → are_reciprocal x.exponents y.exponents ≡ true
         → strict ≡ false → (q : Result Ratio FracFault) → reciprocal_ratio x.value y.value ≡ q
         → reciprocal_conversion q ≡ Ok c → IsUnitConversion strict x y c
     reciprocal-of unlike opposite lenient (Ok r) e h =
         let inverse = split-steps (fraction_quotient (whole (pos 1)) x.value) (λ i. ratio_of i y.value) r e in
-        subst (IsUnitConversion strict x y) (ok-same (Reciprocal r) c h) (
+        subst (IsUnitConversion strict x y) (same_Ok (Reciprocal r) c h) (
           lenient,
           record {
             unlike = unlike;
@@ -100,11 +101,11 @@ module _ (law : QuotientLaw) (strict : Bool) (x y : Amount) where
             factors = factors-of law inverse.0 y.value r inverse.2;
           },
         )
-    reciprocal-of unlike opposite lenient (Err fault) e h = absurd (no-ok _ c h)
+    reciprocal-of unlike opposite lenient (Err fault) e h = absurd (err-ok _ c h)
 
     not-unlike : {A : Type 0} → ◌≡◌ {A = Result Conversion ReplyFault} (Ok (NonConforming x y)) (Ok c)
         → is_granted c ≡ true → A
-    not-unlike h g = absurd (true≢false (sym (ap is_granted (ok-same (NonConforming x y) c h) ∙ g)))
+    not-unlike h g = absurd (true≢false (sym (ap is_granted (same_Ok (NonConforming x y) c h) ∙ g)))
 
     pub conversion-of : conversion_between strict x y ≡ Ok c → is_granted c ≡ true → IsUnitConversion strict x y c
     conversion-of h g =

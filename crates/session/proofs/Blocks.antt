@@ -1,6 +1,6 @@
 -- A session between the blocks of its input.
-use Rattle.std.proofs.Common.{nat_le, min, ◌^◌, inl, inr, ◌≡◌, ◌++◌, ◌∷◌, ◌+◌, ◌-◌, ◌<◌, ◌≤◌, ◌⊎◌, [], ℕ}
-use Rattle.std.proofs.Common.{suc, List, Bool, true, false, length, take, refl, sym, ap, subst, ◌∙◌, arith}
+use Rattle.std.proofs.Common.{nat_le, min, ◌^◌, inl, inr, ◌≡◌, ◌++◌, ◌+◌, ◌-◌, ◌<◌, ◌≤◌, ◌⊎◌, [], ℕ}
+use Rattle.std.proofs.Common.{List, Bool, true, false, length, take, refl, sym, ap, subst, ◌∙◌, arith}
 use Rattle.std.proofs.Common.{append_assoc, length-append, Some, None}
 use Rattle.std.specs.declared.option.Option.{Option}
 use Rattle.std.specs.List.{list_any}
@@ -23,6 +23,7 @@ use Rattle.session.specs.declared.session_output.Said.{Said}
 use Rattle.std.proofs.lemmas.Bool.{leb-false, leb-true}
 use Rattle.session.proofs.LineCuts.{take-front}
 use Rattle.session.proofs.HeardLines.{heard_more}
+use Rattle.general_lemmas.proofs.Parts.{take-append-add}
 
 pub grown_twice : (o : Option (List ℕ)) (xs ys : List ℕ) → known_append (known_append o xs) ys ≡ known_append o
     (xs ++ ys)
@@ -42,12 +43,6 @@ front_more o out xs ys b f = subst (GrowsByFront o out) (sym b.1) (
   f.2
       ∙ ap (known_append o) (sym (take-append-le f.0 xs b.0 f.1)),
 )
-
-take-append-add : (xs ys : List ℕ) (n : ℕ) → take (length xs + n) (xs ++ ys) ≡ xs ++ take n ys
-take-append-add [] ys n = let z : 0 + n ≡ n = omega arith in ap (λ k. take k ys) z
-take-append-add (x ∷ xs) ys n =
-    let z : suc (length xs) + n ≡ suc (length xs + n) = omega arith in
-    ap (λ k. take k (x ∷ (xs ++ ys))) z ∙ ap (λ t. x ∷ t) (take-append-add xs ys n)
 
 -- a front of the bytes that come after others is a front of both
 front_behind : (o mid out : Option (List ℕ)) (xs ys : List ℕ) → mid ≡ known_append o xs → GrowsByFront mid out ys
@@ -295,10 +290,6 @@ pub took_enough : (total most before after : ℕ) → TookAtLeast total before a
 took_enough total most before after (inl e) h = inl (omega (arith, e, h))
 took_enough total most before after (inr e) h = inr e
 
-pub bytes_rejoined : (input taken rest bytes more : List ℕ) → input ≡ taken ++ rest → rest ≡ bytes ++ more
-    → (taken ++ bytes) ++ more ≡ input
-bytes_rejoined input taken rest bytes more p q = append_assoc taken bytes more ∙ ap (λ t. taken ++ t) (sym q) ∙ sym p
-
 module _ (first : SessionTrace) (taken : List ℕ) (held : Option (List ℕ)) (session : SessionState)
     (before now : Outside)
     (w : WaitsForInput first taken held session before now) where
@@ -317,14 +308,5 @@ pub heard_by : (input taken bytes more : List ℕ) (left : Option (List ℕ)) �
 heard_by input taken bytes more left all q last =
     inr (ap (λ t. list_any is_last (whole_lines t)) (taken_is input (taken ++ bytes) more left (sym all) q) ∙ last)
 
--- the input was read to its end
-pub all_heard : (input taken rest : List ℕ) → input ≡ taken ++ rest → rest ≡ [] → taken ≡ input
-all_heard input taken rest p z = sym (p ∙ ap (λ t. taken ++ t) z ∙ append-nil taken)
-
 pub rose_from : (first a b c : ℕ) → first ≤ a → a ≤ b → CountRose b c → CountRose first c
 rose_from first a b c e h r = omega (arith, e, h, r)
-
--- if nothing is left, nothing is left after any bytes of it
-pub no_rest : (rest bytes more : List ℕ) → rest ≡ bytes ++ more → rest ≡ [] → more ≡ []
-no_rest rest [] more e z = sym e ∙ z
-no_rest rest (b ∷ bytes) more e z = absurd (omega (arith, ap length (sym e ∙ z)))

@@ -34,6 +34,7 @@ use Rattle.deck.specs.declared.settings.Settings.{Settings}
 use Rattle.session.specs.TextDecks.{FitsDeck, line_feeds, text_deck}
 use Rattle.session.proofs.LogicalSizes.{logical_room, room}
 use Rattle.deck_lines.specs.Readings.{Reading, Stands, Defines, Includes, Faulty, reading_of}
+use Rattle.general_lemmas.proofs.Results.{err-ok}
 
 -- the size of a line: its bytes, and a constant for the line itself
 abbrev pub size : DeckLine → ℕ
@@ -185,9 +186,6 @@ text_made name text settings has =
 same_deck : (x y : Contents) (outcome : Result Contents DeckFault) → outcome ≡ Ok x → outcome ≡ Ok y → y ≡ x
 same_deck x y outcome a b = cc
 
-no_fault : (x : Contents) (fault : DeckFault) → Ok x ≡ Err fault → ⊥
-no_fault x fault is = cc
-
 -- a text that has room has no other deck
 pub made_is : (name text : List ℕ) (settings : Settings) (deck : Contents) → FitsDeck text
     → after_text text name settings ≡ Ok deck → deck ≡ text_deck name text settings
@@ -198,4 +196,4 @@ pub made_always : (name text : List ℕ) (settings : Settings) (fault : DeckFaul
     → (fault ≡ OutOfMemory → ⊥) → IsLoadResult (after_text text name settings) (Err fault) → ⊥
 made_always name text settings fault has memory (inl is) = memory is
 made_always name text settings fault has memory (inr is) =
-    no_fault (text_deck name text settings) fault (sym (text_made name text settings has) ∙ is)
+    err-ok fault (text_deck name text settings) (sym (sym (text_made name text settings has) ∙ is))

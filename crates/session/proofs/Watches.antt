@@ -1,5 +1,5 @@
 -- Watched conversions, and the queries that are made for them.
-use Rattle.std.proofs.Common.{◌≡◌, ◌==◌, ◌+◌, ◌++◌, ◌∷◌, [], ℕ, List, Option, Bool, false, Ok, Err, map, refl, sym, ap}
+use Rattle.std.proofs.Common.{◌≡◌, ◌==◌, ◌+◌, ◌++◌, ◌∷◌, [], ℕ, List, Option, Bool, false, map, refl, sym, ap}
 use Rattle.std.proofs.Common.{subst, ◌∙◌, arith, length}
 use Rattle.std.specs.Prelude.{Result}
 use Rattle.std.specs.declared.alloc.AllocError.{AllocError}
@@ -49,10 +49,6 @@ not_full watches room = by (length (map subject_of watches)) (length-map watches
   where
     by : (n : ℕ) → n ≡ length watches → (n == 1000) ≡ false
     by n e = grind (arith, nat_tests, room, e)
-
--- a success is not an error
-pub no_fault : {A E : Type 0} (x : A) (fault : E) → Ok x ≡ Err fault → ⊥
-no_fault x fault e = cc
 
 module _ (options : Options) (pending : Option (List ℕ)) (versions : Versions) (m : FileMap) (old new : Shown)
     (watches now : List Watch) (s : Subject) (reply : LineReply) (n k : ℕ) where

@@ -26,9 +26,9 @@ use Rattle.table_names.proofs.ClosedLaws.{closed_law}
 use Rattle.table_names.proofs.EndingWays.{words_end}
 use Rattle.table_names.proofs.KeyLists.{off_longer}
 use Rattle.table_names.proofs.Lookups.{target_present}
-use Rattle.table_names.proofs.Members.{member_first, member_later}
 use Rattle.table_names.proofs.OneFault.{fault_law}
 use Rattle.table_names.proofs.Paths.{closed_ending, ending_closed, key_words_closed, longer, no_fault, words_closed_key}
+use Rattle.general_lemmas.proofs.Members.{member_first, member_later}
 
 -- a step to a fault: a word that leads nowhere, a name that is refused, or a key that is not closed
 pub data Step (table : Table) : Type 0 where

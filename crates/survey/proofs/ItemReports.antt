@@ -7,7 +7,7 @@ use Rattle.std.specs.List.{flat_map, slice_get}
 use Rattle.live_table.specs.TableView.{IsAfterEvents, IsCutOff, IsRightTable, Shown}
 use Rattle.live_table.specs.States.{Event}
 use Rattle.live_table.proofs.QuerySequence.{cut_both, follows_both, follows_none}
-use Rattle.name_walk.proofs.Lists.{drop_at, take_at}
+use Rattle.general_lemmas.proofs.Places.{drop_at, take_at}
 
 -- the lines of the first items were appended to some bytes, and their queries were made
 pub record IsUnderway {A : Type 0} (line : A → List ℕ) (asks : A → List Event) (items : List A) (i : ℕ)

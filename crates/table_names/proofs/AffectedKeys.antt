@@ -13,10 +13,10 @@ use Rattle.table_names.specs.Reach.{key_looked_keys, key_reach}
 use Rattle.table_names.specs.Words.{key_words}
 use Rattle.table_names.proofs.KeyLists.{among_member, member_among}
 use Rattle.table_names.proofs.Lookups.{target_looked}
-use Rattle.table_names.proofs.Members.{any_cases, any_member, flat_cases, flat_member, member_cases, member_first}
-use Rattle.table_names.proofs.Members.{member_later}
 use Rattle.table_names.proofs.Paths.{key_words_closed}
 use Rattle.table_names.proofs.ReachedKeys.{reach_law, reached_on}
+use Rattle.general_lemmas.proofs.Members.{member_first, member_later, member_cases, any_member, any_cases, flat_member}
+use Rattle.general_lemmas.proofs.Members.{flat_cases}
 
 -- each reached key is looked at by one of the words, or by a key that they reach
 reached_looked :

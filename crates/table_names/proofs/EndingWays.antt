@@ -1,6 +1,6 @@
 -- Words and keys from which every descent ends.
-use Rattle.std.proofs.Common.{◌≡◌, ◌≢◌, ℕ, zero, suc, Bool, true, false, cond, List, [], ◌∷◌, ◌++◌}
-use Rattle.std.proofs.Common.{Contains, Option, Some, None, refl}
+use Rattle.std.proofs.Common.{◌≡◌, ◌≢◌, ℕ, zero, suc, false, List, [], ◌∷◌, ◌++◌}
+use Rattle.std.proofs.Common.{Contains, None}
 use Rattle.expr_tree.specs.declared.word_list.WordUse.{WordUse}
 use Rattle.expr_tree.specs.Names.{is_refused}
 use Rattle.def_entry.specs.declared.key.Key.{Key}
@@ -12,11 +12,7 @@ use Rattle.table_names.specs.Faults.{key_fault_within, target_fault, targets_fau
 use Rattle.table_names.specs.Leads.{Reaches, WordsLeadTo, WordsReach, at_once, further, targets}
 use Rattle.table_names.specs.Words.{key_words}
 use Rattle.table_names.proofs.Members.{first_none}
-
--- a conditional is `None` only if the test is false and the alternative is `None`
-not_chosen : {A : Type 0} (b : Bool) (x : A) (o : Option A) → cond b (Some x) o ≡ None → (b ≡ false) × (o ≡ None)
-not_chosen true x o e = cc
-not_chosen false x o e = (refl, e)
+use Rattle.general_lemmas.proofs.Options.{not_chosen}
 
 module _ (table : Table) where
   -- every descent from the key ends within this many keys

@@ -22,9 +22,9 @@ use Rattle.table_names.specs.Words.{entry_words, key_words, what_words}
 use Rattle.table_names.proofs.EndingWays.{EndsWithin, into_others}
 use Rattle.table_names.proofs.LineKinds.{line_says}
 use Rattle.table_names.proofs.Lookups.{target_present}
-use Rattle.table_names.proofs.Members.{member_first, member_later}
 use Rattle.table_names.proofs.Paths.{present_key_ending}
 use Rattle.table_names.proofs.TargetKinds.{AreTargets, are_targets, inverse_target}
+use Rattle.general_lemmas.proofs.Members.{member_first, member_later}
 
 -- a unit or a prefix is not a function
 no_function : (k : Kind) → (is_same_kind k kind.Unit || is_same_kind k kind.Prefix) ≡ true

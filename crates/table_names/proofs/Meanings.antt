@@ -20,8 +20,8 @@ use Rattle.table_names.specs.Meanings.{ClosedMeaningLaw, entry_meaning, key_mean
 use Rattle.table_names.specs.Meanings.{meaning_within, one_meaning, targets_meaning, word_meaning_by}
 use Rattle.table_names.specs.Words.{entry_words, what_words}
 use Rattle.table_names.proofs.EndingWays.{EndsWithin}
-use Rattle.table_names.proofs.Members.{map_same, member_at, no_member}
 use Rattle.table_names.proofs.Paths.{closed_key_ending, present_key_ending}
+use Rattle.general_lemmas.proofs.Members.{no_member, member_at, map_same}
 
 -- a word of one of the trees of a function is a word of the function
 module _ (d : FunctionDef) (u : WordUse) where

@@ -26,17 +26,13 @@ use Rattle.table_names.specs.Meets.{InOtherWords, MeetKeys, Meets, NextKey, Next
 use Rattle.table_names.specs.MeetsLaws.{MeetsLaw}
 use Rattle.table_names.specs.Words.{key_words}
 use Rattle.table_names.proofs.Lookups.{target_present}
-use Rattle.table_names.proofs.Members.{member_cases, member_first, member_later, no_member}
 use Rattle.table_names.proofs.OneFault.{fault_law}
 use Rattle.table_names.proofs.Paths.{empty_is_path, longer, path_fits_table}
+use Rattle.general_lemmas.proofs.Members.{no_member, member_first, member_later, member_cases}
+use Rattle.general_lemmas.proofs.Options.{none_first}
 
 none_some : {A : Type 0} (o : Option A) (x : A) → o ≡ None → o ≡ Some x → ⊥
 none_some o x e f = cc
-
--- if neither of two options has a value, the first has none
-none_left : {A : Type 0} (o p : Option A) → option_or o p ≡ None → o ≡ None
-none_left None p e = refl
-none_left (Some z) p e = cc
 
 module _ (table : Table) where
   -- the fault of the words in the entry of a target
@@ -111,7 +107,7 @@ module _ (table : Table) where
         (some_keys path u (targets table u) f (met_keys ks p (target_present table u))))
     met {path} {words} {f} (InOtherWords {u = u} {us = us} c ms) p =
         of_word path u us None p
-        (none_left (here path u) (words_fault table path []) (sym (in_order path u [] p) ∙ clean c p))
+        (none_first (here path u) (words_fault table path []) (sym (in_order path u [] p) ∙ clean c p))
         ∙ met ms p
 
     met_keys : {path ns : List Key} {f : NameFault} → MeetKeys table path ns f → IsKeyPath table path → ArePresent ns
@@ -124,7 +120,7 @@ module _ (table : Table) where
         ∙ met ms (longer table path n p off (there n (member_first n n ns refl))))
     met_keys {path} (InOtherKeys {n = n} {ns = ns} c ks) p there =
         ap (λ x. option_or x (at_keys path ns))
-        (none_left (target_fault table deep path n) None
+        (none_first (target_fault table deep path n) None
         (clean_keys c p (λ m i. there m (alone m n ns i))))
         ∙ met_keys ks p (λ m i. there m (member_later m n ns i))
       where

@@ -9,8 +9,8 @@ use Rattle.table_names.specs.Reach.{ReachLaw, reach_within}
 use Rattle.table_names.specs.Words.{key_words}
 use Rattle.table_names.proofs.EndingWays.{AreEnding, ends_below}
 use Rattle.table_names.proofs.Lookups.{target_present}
-use Rattle.table_names.proofs.Members.{flat_cases, flat_member, member_cases, member_first, member_later, no_member}
 use Rattle.table_names.proofs.Paths.{closed_ending}
+use Rattle.general_lemmas.proofs.Members.{no_member, member_first, member_later, member_cases, flat_member, flat_cases}
 
 -- the keys that the words of a reached key reach are reached
 pub reached_on :

@@ -24,11 +24,11 @@ use Rattle.table_names.proofs.EndingWays.{EndsWithin, into_others}
 use Rattle.table_names.proofs.Lookups.{target_present}
 use Rattle.table_names.proofs.MeaningKinds.{kind_law}
 use Rattle.table_names.proofs.Meanings.{closed_meaning_law, entry_same}
-use Rattle.table_names.proofs.Members.{member_cases, member_first, member_later, no_member}
 use Rattle.table_names.proofs.Paths.{closed_ending, closed_key_ending, ending_key_closed}
 use Rattle.table_names.specs.StandsFor.{ByEntry, ByOneTarget, ByPrefixAndUnit, IsMeaning, StandsFor, WordStandsFor}
 use Rattle.table_names.specs.StandsForLaws.{IsName, StandsForLaw}
 use Rattle.table_names.proofs.TargetKinds.{target_no_list}
+use Rattle.general_lemmas.proofs.Members.{no_member, member_first, member_later, member_cases}
 
 one_same : (n k : Key) → n ∷ [] ≡ k ∷ [] → n ≡ k
 one_same n k e = cc

@@ -15,7 +15,7 @@ use Rattle.name_lookup.specs.Candidates.{prefix_candidates, prefix_candidates_wi
 use Rattle.name_lookup.specs.Plurals.{singulars}
 use Rattle.tree_eval.specs.Expansion.{inverted_word}
 use Rattle.table_names.specs.Leads.{targets}
-use Rattle.table_names.proofs.Members.{member_cases, no_member}
+use Rattle.general_lemmas.proofs.Members.{no_member, member_cases}
 
 -- the key is not a list
 abbrev pub IsNoList : Key → Type 0

@@ -17,8 +17,8 @@ use Rattle.table_names.proofs.EndingWays.{AreEnding, EndsWithin}
 use Rattle.table_names.proofs.KeyLists.{member_among}
 use Rattle.table_names.proofs.Lookups.{same_lookup}
 use Rattle.table_names.proofs.Meanings.{enough, entry_same, meaning_at}
-use Rattle.table_names.proofs.Members.{map_same}
 use Rattle.table_names.proofs.Paths.{closed_key_ending, ending_key_closed}
+use Rattle.general_lemmas.proofs.Members.{map_same}
 
 module _ (before after : Table) (keys : List Key) (changed : AreChanged before after keys) where
   abbrev IsUnaffected : Key → Type 0

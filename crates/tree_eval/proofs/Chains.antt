@@ -1,5 +1,5 @@
 -- The loop over the members of a chain.
-use Rattle.std.proofs.Common.{◌≡◌, ◌<◌, ◌≤◌, ◌+◌, ◌*◌, ℕ, zero, suc, List, [], ◌∷◌, ◌++◌, Option, Some, Ok, Err}
+use Rattle.std.proofs.Common.{◌≡◌, ◌<◌, ◌≤◌, ◌+◌, ◌*◌, ℕ, suc, List, [], ◌∷◌, ◌++◌, Option, Some, Ok, Err}
 use Rattle.std.proofs.Common.{drop, length, refl, sym, ap, ◌∙◌, subst, arith, length-append}
 use Rattle.std.specs.Prelude.{slice_get}
 use Rattle.std.proofs.Math.ListN.{drop_of_length-le}
@@ -20,13 +20,7 @@ use Rattle.tree_eval.specs.Value.{chain_value, value}
 use Rattle.tree_eval.proofs.StepBinds.{fault_first}
 use Rattle.tree_eval.proofs.Places.{left_stands, right_stands}
 use Rattle.tree_eval.proofs.Weight.{weight, weight_links}
-
--- the rest of a list from a place on is the item there and the rest from the next place on
-get_drop : {A : Type 0} (xs : List A) (i : ℕ) (x : A) → slice_get xs i ≡ Some x → drop i xs ≡ x ∷ drop (i + 1) xs
-get_drop [] i x e = cc
-get_drop (y ∷ xs) zero x e = let p : y ≡ x = cc in ap (λ z. z ∷ xs) p
-get_drop (y ∷ xs) (suc i) x e =
-    let n : suc i + 1 ≡ suc (i + 1) = omega arith in get_drop xs i x e ∙ ap (λ k. x ∷ drop k (y ∷ xs)) (sym n)
+use Rattle.general_lemmas.proofs.Places.{drop_at}
 
 -- two steps in turn are one step that makes both
 in_two : (r : Worth) (f g : Amount → Worth) → (r >>= (λ w. f w >>= g)) ≡ (r >>= f >>= g)
@@ -44,7 +38,7 @@ pub record IsRunning (means : WordUse → Meaning) (us : List WordUse) (place : 
 -- the first member of a chain
 module _ (all : List (Step × Syntax)) {o : Step × Syntax} (is : slice_get all 0 ≡ Some o) where
   split_first : all ≡ o ∷ drop 1 all
-  split_first = get_drop all 0 o is
+  split_first = drop_at all 0 o is
 
   words_first : words_of_members all ≡ words_in o.1 ++ words_of_members (drop 1 all)
   words_first = ap words_of_members split_first
@@ -98,7 +92,7 @@ module _ {means : WordUse → Meaning} {us : List WordUse} {place : ℕ} {all : 
   -- a further member
   module _ {o : Step × Syntax} (is : slice_get all i ≡ Some o) where
     split : drop i all ≡ o ∷ drop (i + 1) all
-    split = get_drop all i o is
+    split = drop_at all i o is
 
     words_here : words_of_members (drop i all) ≡ words_in o.1 ++ words_of_members (drop (i + 1) all)
     words_here = ap words_of_members split

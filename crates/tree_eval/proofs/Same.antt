@@ -17,7 +17,7 @@ use Rattle.tree_eval.specs.Expansion.{call_expansion, called_word, expand, expan
 use Rattle.tree_eval.specs.Expansion.{inverted_word}
 use Rattle.tree_eval.specs.Expansion.{expanded_meaning, member_links, plain_word, scale_step, sign_step, term_links}
 use Rattle.tree_eval.specs.Laws.{Agree}
-use Rattle.tree_eval.proofs.Places.{get_left, get_right}
+use Rattle.general_lemmas.proofs.Places.{get_left, get_right}
 
 module _ (m n : WordUse → Meaning) where
   agree_left : (ws vs : List WordUse) → Agree m n (ws ++ vs) → Agree m n ws

@@ -1,13 +1,12 @@
 -- The counts of a number with a sign.
-use Rattle.std.proofs.Common.{◌≡◌, ◌<◌, ◌*◌, ◌*ℤ◌, ◌+ℤ◌, ℕ, ℤ, pos, negsuc, neg_ℤ, suc, zero, unsigned_abs, arith, refl}
+use Rattle.std.proofs.Common.{◌≡◌, ◌<◌, ◌*◌, ◌*ℤ◌, ◌+ℤ◌, ℕ, ℤ, pos, negsuc, neg_ℤ, unsigned_abs, arith, refl}
 use Rattle.std.proofs.Common.{sym, ap, subst, ◌∙◌}
 use Rattle.std.specs.Prelude.{Bool, true, false, List, [], ◌∷◌, length, map, All, int_lt}
 use Rattle.std.proofs.lemmas.Int.{ints}
 use Rattle.std.proofs.lemmas.List.{length-map}
 use Rattle.std.proofs.lemmas.List.Elements.{All-head, All-map, All-tail, All-weaker}
 use Rattle.std.specs.Int.{IsGcd}
-use Rattle.std.proofs.Math.IntN.{neg_ℤ-+ℤ, neg_ℤ-neg_ℤ}
-use Rattle.std.proofs.Math.Nat.{zero-mul}
+use Rattle.std.proofs.Math.IntN.{neg_ℤ-+ℤ}
 use Rattle.frac128.specs.Divisors.{LcmLaw}
 use Rattle.frac128.specs.Fraction.{Fraction, IsReduced, SameValue, negative_of, whole}
 use Rattle.frac128.specs.Steps.{ReducedLaw, fraction_quotient, lowest_terms}
@@ -18,18 +17,7 @@ use Rattle.frac128.specs.Sign.{is_negative, magnitude, negated_if}
 use Rattle.unit_list.specs.Splits.{counts_of, last_of, nearest_to, rounded_if}
 use Rattle.unit_list.proofs.PlainCounts.{AreCounts, counts_are, first_part_succeeds, ok_same, unit_natural}
 use Rattle.unit_list.proofs.Values.{over_reduced, own_value, times_value}
-
--- the negative of a product is the product with the negative
-neg-times : (z : ℤ) (k : ℕ) → neg_ℤ (z *ℤ pos k) ≡ neg_ℤ z *ℤ pos k
-neg-times (pos zero) k = rw (zero-mul k) refl
-neg-times (pos (suc n)) k = refl
-neg-times (negsuc n) k = neg_ℤ-neg_ℤ (pos (suc n * k))
-
--- negating a number preserves its magnitude
-pub abs-neg : (z : ℤ) → unsigned_abs (neg_ℤ z) ≡ unsigned_abs z
-abs-neg (pos zero) = refl
-abs-neg (pos (suc n)) = refl
-abs-neg (negsuc n) = refl
+use Rattle.general_lemmas.proofs.Integers.{abs-neg, neg-times}
 
 -- the sum of negated counts is the negative of their sum
 pub total-negated : (counts units : List Fraction) → All IsUnit units

@@ -15,9 +15,10 @@ use Rattle.frac128.specs.Steps.{ReducedLaw}
 use Rattle.unit_list.specs.Counts.{AreGreatest, IsGreatest, IsUnit, UniqueLaw, magnitude_quotient, split_number}
 use Rattle.unit_list.specs.Counts.{total_of_counts}
 use Rattle.unit_list.specs.Splits.{last_of, nearest_to}
-use Rattle.unit_list.proofs.SignedCounts.{abs-neg, last_unit, map-plain, total-negated}
+use Rattle.unit_list.proofs.SignedCounts.{last_unit, map-plain, total-negated}
 use Rattle.unit_list.proofs.PlainCounts.{difference_value, unit_natural}
 use Rattle.unit_list.proofs.Values.{HasValue, own_value, pos_same}
+use Rattle.general_lemmas.proofs.Integers.{abs-neg}
 
 -- a fraction in lowest terms that is not below 0
 record IsPlain (x : Fraction) : Type 0 where

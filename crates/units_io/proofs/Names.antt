@@ -10,6 +10,7 @@ use Rattle.std.specs.Str.{bytes_eq}
 use Rattle.std.proofs.lemmas.Slice.Eq.{bytes_eq-Decides}
 use Rattle.indexmap.specs.IndexMap.{insert_entry}
 use Rattle.units_io.specs.NamedValues.{Pairs, named_value, with_value, Sets, HasNoName, HasDistinctNames, pairs_of}
+use Rattle.general_lemmas.proofs.Bytes.{ne_bytes_eq}
 
 -- names for which the test is false are different
 differ : (name other : List ℕ) → bytes_eq name other ≡ false → other ≢ name
@@ -19,14 +20,6 @@ differ name other differs same = let both : true ≡ false = sym ((bytes_eq-Deci
 -- bytes for which the test is true are the same list
 same : (name other : List ℕ) → bytes_eq name other ≡ true → name ≡ other
 same name other is = (bytes_eq-Decides name other).0 is
-
--- the test is false for different names
-apart : (name other : List ℕ) → other ≢ name → bytes_eq name other ≡ false
-apart name other differs = by _ refl
-  where
-    by : (b : Bool) → bytes_eq name other ≡ b → bytes_eq name other ≡ false
-    by true is = absurd (differs (sym (same name other is)))
-    by false is = is
 
 -- if a name is not found, no pair has it
 HasNoName-from_value_of : (pairs : Pairs) (name : List ℕ) → named_value pairs name ≡ None → HasNoName pairs name
@@ -52,7 +45,8 @@ pub with_value-new : (pairs : Pairs) (name value : List ℕ) → HasNoName pairs
     → with_value pairs name value ≡ pairs ++ (name, value) ∷ []
 with_value-new [] name value none = refl
 with_value-new (pair ∷ pairs) name value none =
-    ap (λ b. cond b ((pair.0, value) ∷ pairs) (pair ∷ with_value pairs name value)) (apart name pair.0 none.0)
+    ap (λ b. cond b ((pair.0, value) ∷ pairs) (pair ∷ with_value pairs name value))
+    (ne_bytes_eq name pair.0 (λ e. none.0 (sym e)))
     ∙ ap (λ (ps : Pairs). pair ∷ ps) (with_value-new pairs name value none.1)
 
 -- the results of lookups after a value is set
@@ -68,7 +62,7 @@ with_value-Sets (pair ∷ pairs) name value other = by _ _ refl refl (with_value
     by true true is found later = rw (is, same name pair.0 is, found) refl
     by true false is found later = rw (is, same name pair.0 is, found) refl
     by false true is found later =
-        rw (is, found, apart other name (λ e. differ name pair.0 is (sym (e ∙ same other pair.0 found)))) refl
+        rw (is, found, ne_bytes_eq other name (λ e. differ name pair.0 is (sym (sym e ∙ same other pair.0 found)))) refl
     by false false is found later = rw (is, found) later
 
 -- setting the value of another name leaves a name absent

@@ -27,7 +27,7 @@ use Rattle.table_names.specs.Leads.{targets}
 use Rattle.table_names.specs.Meanings.{expansion, key_meaning, targets_meaning, word_meaning}
 use Rattle.live_table.specs.Answers.{by_names, value_in}
 use Rattle.value_sources.specs.FailedSteps.{are_function, is_function_kind, is_function_word, value_of_tree}
-use Rattle.value_sources.proofs.Lists.{member_cases, member_first, no_member}
+use Rattle.general_lemmas.proofs.Members.{no_member, member_first, member_cases}
 
 -- the value of an evaluation, if it has one
 abbrev pub worth_value : Worth → Option Amount

@@ -1,6 +1,5 @@
 pub mod FunctionWords
 pub mod Leads
-pub mod Lists
 pub mod LoopSteps
 pub mod Marking
 pub mod Members

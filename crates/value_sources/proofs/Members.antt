@@ -13,9 +13,9 @@ use Rattle.value_sources.specs.declared.resolution.Resolution.TheVariants.{Prefi
 use Rattle.value_sources.specs.Mentions.{Mention, mention_by, mentions, mentions_to}
 use Rattle.value_sources.specs.Rows.{first_mentions}
 use Rattle.value_sources.specs.Uses.{Use, key_uses, use_words}
-use Rattle.value_sources.proofs.Lists.{any_cases, any_member, flat_cases, flat_member, map_cases, map_member}
-use Rattle.value_sources.proofs.Lists.{member_cases, no_member}
 use Rattle.value_sources.proofs.Words.{key_words_are, words_at}
+use Rattle.general_lemmas.proofs.Members.{no_member, member_cases, any_member, any_cases, map_member, map_cases}
+use Rattle.general_lemmas.proofs.Members.{flat_member, flat_cases}
 
 -- some mention of a list leads to the key
 abbrev pub LeadOn : List Mention → Key → Type 0

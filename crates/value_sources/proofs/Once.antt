@@ -8,11 +8,11 @@ use Rattle.def_entry.specs.declared.key.Key.{Key}
 use Rattle.def_entry.specs.SameKeys.{is_same}
 use Rattle.def_entry.specs.Tables.{Table}
 use Rattle.def_entry.proofs.SameKeys.{same_keys}
-use Rattle.value_sources.proofs.Lists.{member_cases, member_first, member_later, no_member}
 use Rattle.value_sources.specs.Mentions.{Mention}
 use Rattle.value_sources.specs.Rows.{AreRows, AreRowsOf, Finished, Visited, Skipped, Row, visited_keys}
 use Rattle.value_sources.proofs.Members.{is_among_of}
 use Rattle.value_sources.proofs.Reached.{keys_visited}
+use Rattle.general_lemmas.proofs.Members.{no_member, member_first, member_later, member_cases}
 
 -- a key that equals none of some keys is not found among them
 apart : (n : Key) (ks : List Key) → ((k : Key) → Contains ks k → n ≡ k → ⊥)
@@ -31,7 +31,8 @@ module _ (table : Table) where
   keys_new Finished n i j = no_member n i
   keys_new (Skipped p rest) n i j = keys_new rest n i j
   keys_new (Visited {before = before} {m = m} {n = k} {rows = rows} e new rest) n i j =
-      elim (member_cases n k (visited_keys rows) (subst (λ (ks : List Key). Contains ks n) (keys_visited m k rows e) i)) [
+      elim (member_cases n k (visited_keys rows) (subst (λ (ks : List Key). Contains ks n) (keys_visited m k rows e) i))
+          [
         | inl q ↦ absurd (true≢false (sym (is_among_of before k (subst (Contains before) q j)) ∙ new))
         | inr h ↦ keys_new rest n h (Contains-append_left before (k ∷ []) n j)
       ]

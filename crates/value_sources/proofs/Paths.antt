@@ -23,18 +23,13 @@ use Rattle.value_sources.specs.Mentions.{Mention, mentions}
 use Rattle.value_sources.specs.Rows.{AreRows, AreRowsOf, Row, Skipped, Visited, first_mentions, visited_key}
 use Rattle.value_sources.specs.Uses.{key_uses}
 use Rattle.value_sources.specs.PlacedMentions.{IsFound}
-use Rattle.value_sources.proofs.Lists.{member_first, member_later}
 use Rattle.value_sources.proofs.Members.{among_is, is_among_of}
 use Rattle.value_sources.proofs.Placing.{no_entry, one_key, place_in_deck}
 use Rattle.value_sources.proofs.Walking.{entry_found, first_found}
+use Rattle.general_lemmas.proofs.Places.{get_take}
+use Rattle.general_lemmas.proofs.Members.{member_first, member_later}
 
 -- ---- items of lists
-get_take : {A : Type 0} (n : ℕ) (xs : List A) (i : ℕ) (x : A) → slice_get (take n xs) i ≡ Some x
-    → slice_get xs i ≡ Some x
-get_take zero xs i x e = cc
-get_take (suc n) [] i x e = cc
-get_take (suc n) (y ∷ xs) zero x e = e
-get_take (suc n) (y ∷ xs) (suc i) x e = get_take n xs i x e
 
 member_take : {A : Type 0} (n : ℕ) (xs : List A) (x : A) → Contains (take n xs) x → Contains xs x
 member_take {A = A} n xs x (i, l, e) =

@@ -27,6 +27,7 @@ use Rattle.deck.specs.Tables.{entry_at}
 use Rattle.deck.specs.Tables.{is_present, last_place, place_of, table, table_of}
 use Rattle.value_sources.specs.PlacedMentions.{target_place}
 use Rattle.value_sources.specs.Visits.{IsUnvisitedPlace, MarksVisits, is_marked, unmarked_place}
+use Rattle.general_lemmas.proofs.Places.{at_length}
 
 -- each definition that a key finds is that of the line at its place
 abbrev AreInPlace : List DeckLine → Definitions → Type 0
@@ -50,11 +51,6 @@ each-reverse lines [] h = tt
 each-reverse lines (d ∷ ds) h =
     subst (EachInPlace lines) (sym (reverse-append (d ∷ []) ds))
     (each-append lines (reverse ds) (d ∷ []) (each-reverse lines ds h.1) (h.0, tt))
-
--- the item after a list is at the place that is the length of the list
-at_length : {A : Type 0} (xs : List A) (y : A) (ys : List A) → slice_get (xs ++ y ∷ ys) (length xs) ≡ Some y
-at_length [] y ys = refl
-at_length (x ∷ xs) y ys = at_length xs y ys
 
 -- the definition of a single line is in place
 one_in_place : (lines : List DeckLine) (place : ℕ) (active : Bool) (o : Option (Key × Entry))

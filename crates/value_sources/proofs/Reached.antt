@@ -9,12 +9,12 @@ use Rattle.def_entry.specs.declared.key.Key.{Key}
 use Rattle.def_entry.specs.Tables.{Table}
 use Rattle.table_names.specs.Leads.{WordsLeadTo, WordsReach, at_once, further}
 use Rattle.table_names.specs.Words.{key_words}
-use Rattle.value_sources.proofs.Lists.{member_cases, member_first, member_later, no_member}
 use Rattle.value_sources.specs.Mentions.{Mention, mentions}
 use Rattle.value_sources.specs.Rows.{AreRows, AreRowsOf, Finished, Visited, Skipped, Row, is_skipped, visited_keys}
 use Rattle.value_sources.specs.Rows.{visited_row}
 use Rattle.value_sources.proofs.Members.{LeadOn, among_is, entry_cases, entry_member, first_cases, first_member}
 use Rattle.value_sources.specs.Uses.{key_uses}
+use Rattle.general_lemmas.proofs.Members.{no_member, member_first, member_later, member_cases}
 
 -- a key that the words of a reached key lead to is reached
 onward : {table : Table} {words : List WordUse} {n m : Key} → WordsReach table words n

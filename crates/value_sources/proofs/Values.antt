@@ -29,7 +29,7 @@ use Rattle.table_names.specs.Meanings.{word_meaning}
 use Rattle.table_names.specs.Words.{entry_words, what_words}
 use Rattle.live_table.specs.Answers.{by_names, table_answer}
 use Rattle.value_sources.specs.Values.{ValueLaw, named_unit, syntax_by, syntax_in}
-use Rattle.value_sources.proofs.Lists.{member_first}
+use Rattle.general_lemmas.proofs.Members.{member_first}
 
 worth_back : (r : Worth) → r ≡ worth_in (stored_outcome r)
 worth_back (Ok q) = refl

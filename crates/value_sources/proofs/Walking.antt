@@ -22,10 +22,10 @@ use Rattle.value_sources.specs.Rows.{visited_key, visited_keys, visited_row}
 use Rattle.value_sources.specs.Uses.{Use, key_uses, uses_at}
 use Rattle.value_sources.specs.Visits.{IsUnvisitedPlace, unmarked_place}
 use Rattle.value_sources.specs.Walks.{AreMarked, IsUnderway}
-use Rattle.value_sources.proofs.Lists.{flat_cases, map_cases, map_member, member_first, member_later}
 use Rattle.value_sources.proofs.Members.{entry_cases, first_cases}
 use Rattle.value_sources.proofs.Marking.{marked_next}
 use Rattle.value_sources.proofs.Placing.{unvisited}
+use Rattle.general_lemmas.proofs.Members.{member_first, member_later, map_member, map_cases, flat_cases}
 
 -- the keys that rows and one more row visit
 keys_push : (rows : List Row) (r : Row)

@@ -1,7 +1,8 @@
 use Rattle.std.proofs.Common.{◌++◌, ◌∙◌, List, ℕ, Some, inl, length, take, sym, ap, arith}
-use Rattle.session.proofs.Blocks.{bytes_rejoined, loses_from_known, no_rest, none_left, rose_since, took_enough}
-use Rattle.column_run.proofs.Taking.{ended_input, took_bytes}
+use Rattle.session.proofs.Blocks.{loses_from_known, none_left, rose_since, took_enough}
+use Rattle.column_run.proofs.Taking.{took_bytes}
 use Rattle.column_run.proofs.input.take_all.Goals as goal
+use Rattle.general_lemmas.proofs.Parts.{front_whole, rejoined, no_rest}
 
 pub loop-src-init : goal.loop-src-init
 loop-src-init g c = record {
@@ -20,7 +21,7 @@ returns-then-n-eq0-clause-told g c = λ input q.
     let p = c.loop-src.invariant.stands input q in
     let lost = loses_from_known _ _ p.0 (take c.in-Ok.n c.take.new.buf) p.2 c.in-Ok.ensures.bytes in
     let none = none_left _ p.0 p.2 (c.in-Ok.ensures.end c.if-n-eq0.true) in
-    (ended_input input c.loop-src.text.items p.0 p.1 none, lost.1 ∙ ap Some (no_rest _ _ _ lost.2 none))
+    (front_whole input c.loop-src.text.items p.0 p.1 none, lost.1 ∙ ap Some (no_rest _ _ _ lost.2 none))
 
 pub loop-src-preserved : goal.loop-src-preserved
 loop-src-preserved g c =
@@ -34,7 +35,7 @@ loop-src-preserved g c =
           let p = c.loop-src.invariant.stands input q in
           let lost = loses_from_known _ _ p.0 (take c.in-Ok.n c.take.new.buf) p.2 c.in-Ok.ensures.bytes in (
             lost.0,
-            sym (bytes_rejoined input c.loop-src.text.items p.0 (take c.in-Ok.n c.take.new.buf) lost.0 p.1 lost.2)
+            sym (rejoined input c.loop-src.text.items p.0 (take c.in-Ok.n c.take.new.buf) lost.0 p.1 lost.2)
                 ∙ ap (λ (t : List ℕ). t ++ lost.0) (sym put.items),
             lost.1,
           );

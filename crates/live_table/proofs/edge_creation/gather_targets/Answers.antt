@@ -4,7 +4,7 @@ use Rattle.name_walk.specs.declared.step.Step.{Step}
 use Rattle.name_walk.specs.declared.step.Step.TheVariants.{Nowhere}
 use Rattle.live_table.proofs.UsedNames.{AreUsed, all_used, none_used, one_used}
 use Rattle.live_table.proofs.edge_creation.gather_targets.Goals as goal
-use Rattle.table_names.proofs.Members.{member_at}
+use Rattle.general_lemmas.proofs.Members.{member_at}
 
 pub loop-step-init : goal.loop-step-init
 loop-step-init c =

@@ -10,7 +10,7 @@ use Rattle.live_table.proofs.ReachedNames.{IsExploring, at_end, explored_next, e
 use Rattle.live_table.proofs.ReachedNames.{exploring_start, stay_next}
 use Rattle.live_table.proofs.exploration.explore.Goals as goal
 use Rattle.live_table.proofs.exploration.explore.Goals.{After-entry, After-make_room}
-use Rattle.table_names.proofs.Members.{member_at}
+use Rattle.general_lemmas.proofs.Members.{member_at}
 
 pub loop-n-init : goal.loop-n-init
 loop-n-init c = (

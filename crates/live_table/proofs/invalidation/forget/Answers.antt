@@ -3,11 +3,12 @@ use Rattle.std.proofs.lemmas.List.{take_all}
 use Rattle.std.proofs.lemmas.Option.{slice_get-get_or}
 use Rattle.def_entry.specs.declared.key.Key.{Key}
 use Rattle.deck.specs.Tables.{table}
-use Rattle.table_names.proofs.Members.{no_member}
 use Rattle.live_table.specs.Forgotten.{AreForgotten}
 use Rattle.live_table.specs.TableContents.{node_lists}
-use Rattle.live_table.proofs.Forgets.{can_forget, forgotten_on, none_forgotten, take_next}
+use Rattle.live_table.proofs.Forgets.{can_forget, forgotten_on, none_forgotten}
 use Rattle.live_table.proofs.invalidation.forget.Goals as goal
+use Rattle.general_lemmas.proofs.Places.{take_at}
+use Rattle.general_lemmas.proofs.Members.{no_member}
 
 pub loop-key-init : goal.loop-key-init
 loop-key-init c =
@@ -22,7 +23,7 @@ forget_key-requires c =
 
 pub loop-key-preserved : goal.loop-key-preserved
 loop-key-preserved c =
-    let next = take_next c.args.keys.now c.loop-key.key-index c.key-item.result
+    let next = take_at c.args.keys.now c.loop-key.key-index c.key-item.result
     (slice_get-get_or c.args.keys.now c.loop-key.key-index c.key-item.result (omega arith)
     ∙ ap Some (sym c.key-item.is)) in
     subst (λ (ks : List Key). AreForgotten (table c.args.deck.now) ks (node_lists c.args.nodes.now)

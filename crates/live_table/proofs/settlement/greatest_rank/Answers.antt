@@ -2,7 +2,7 @@ use Rattle.std.proofs.Common.{◌<◌, Some, ap, ◌∙◌, length, arith}
 use Rattle.std.proofs.lemmas.Option.{slice_get-get_or}
 use Rattle.name_walk.specs.declared.step.Step.TheVariants.{Nowhere, To}
 use Rattle.live_table.proofs.settlement.greatest_rank.Goals as goal
-use Rattle.table_names.proofs.Members.{member_at}
+use Rattle.general_lemmas.proofs.Members.{member_at}
 
 pub step_rank-requires : goal.step_rank-requires
 step_rank-requires c = λ m e.

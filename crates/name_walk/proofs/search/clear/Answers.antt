@@ -2,7 +2,7 @@ use Rattle.std.proofs.Common.{◌+◌, ◌<◌, ◌≤◌, ℕ, List, length, ar
 use Rattle.std.proofs.lemmas.Option.{slice_get-get_or}
 use Rattle.name_walk.proofs.ClearedFaults.{IsClearing, clearing_end, clearing_next}
 use Rattle.name_walk.proofs.search.clear.Goals as goal
-use Rattle.name_walk.proofs.Members.{member_at}
+use Rattle.general_lemmas.proofs.Members.{member_at}
 
 pub index_mut-requires : goal.index_mut-requires
 index_mut-requires c =

@@ -12,7 +12,7 @@ use Rattle.name_walk.specs.Trails.{Faults}
 use Rattle.name_walk.proofs.SearchPasses.{faulty_names, passed_faulty, passed_names, passed_next, passed_none}
 use Rattle.name_walk.proofs.SearchPasses.{passed_nowhere, passed_whole}
 use Rattle.name_walk.proofs.search.search_query.Goals as goal
-use Rattle.name_walk.proofs.Members.{member_at}
+use Rattle.general_lemmas.proofs.Members.{member_at}
 
 read : {A : Type 0} (xs : List A) (i : ℕ) (d : A) {x : A} → i < length xs → get_or xs i d ≡ x → slice_get xs i ≡ Some x
 read xs i d l e = slice_get-get_or xs i d l ∙ ap Some e

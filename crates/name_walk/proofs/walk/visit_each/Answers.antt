@@ -10,7 +10,7 @@ use Rattle.name_walk.specs.Steps.{Graph, StayInGraph}
 use Rattle.name_walk.specs.Walks.{fault_view}
 use Rattle.name_walk.proofs.QueryPasses.{all_passed, fault_next, found_closed, next_done, next_visit, passed_start}
 use Rattle.name_walk.proofs.walk.visit_each.Goals as goal
-use Rattle.name_walk.proofs.Members.{member_at}
+use Rattle.general_lemmas.proofs.Members.{member_at}
 
 read : {A : Type 0} (xs : List A) (i : ℕ) (d : A) {x : A} → i < length xs → get_or xs i d ≡ x → slice_get xs i ≡ Some x
 read xs i d l e = slice_get-get_or xs i d l ∙ ap Some e

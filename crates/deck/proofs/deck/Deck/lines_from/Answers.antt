@@ -2,10 +2,10 @@ use Rattle.std.proofs.Common.{◌≡◌, ◌≤◌, ◌+◌, ◌++◌, List, Som
 use Rattle.std.proofs.Common.{slice_get}
 use Rattle.std.proofs.lemmas.List.{append-nil, drop-take, drop_all}
 use Rattle.deck_lines.specs.declared.line.DeckLine.{DeckLine}
-use Rattle.deck_lines.proofs.ExchangedItems.{drop_found}
 use Rattle.deck.specs.Decks.{Contents}
 use Rattle.deck.proofs.CopiedLines.{copied_step, in_front, with_text}
 use Rattle.deck.proofs.deck.Deck.lines_from.Goals as goal
+use Rattle.general_lemmas.proofs.Places.{drop_at}
 
 pub overflow_add-place : goal.overflow_add-place
 overflow_add-place c =
@@ -26,7 +26,7 @@ loop-place-preserved c =
     (ap (λ (d : Contents). slice_get d.lines place) (sym c.self.view_is)
     ∙ with_text c.self.inside.store.lines place _ c.in_ok-text.text c.line.ensures.is c.in_ok-text.ensures) in
     copied_step (drop place range) (drop (place + 1) range) c.push.new.self c.loop-place.copies
-    (drop c.args.at range) line (drop_found range place line at) c.in_ok-push.ensures.ok c.loop-place.invariant
+    (drop c.args.at range) line (drop_at range place line at) c.in_ok-push.ensures.ok c.loop-place.invariant
 
 pub returns : goal.returns
 returns c =

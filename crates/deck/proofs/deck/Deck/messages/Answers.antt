@@ -3,13 +3,13 @@ use Rattle.std.proofs.Common.{ap, ◌∙◌, arith, false}
 use Rattle.std.proofs.lemmas.List.{append-nil, get_or_read}
 use Rattle.def_lines.specs.Kinds.{kind_of}
 use Rattle.deck_lines.specs.declared.line.DeckLine.{DeckLine}
-use Rattle.deck_lines.proofs.ExchangedItems.{drop_found}
 use Rattle.deck.specs.Active.{active_lines}
 use Rattle.deck.specs.Decks.{Contents}
 use Rattle.deck.specs.Messages.{message_in, message_of, texts_of_lines, where_true}
 use Rattle.deck.proofs.MarkedLines.{length-activity}
 use Rattle.deck.proofs.LineTexts.{told_all, told_step}
 use Rattle.deck.proofs.deck.Deck.messages.Goals as goal
+use Rattle.general_lemmas.proofs.Places.{drop_at}
 
 pub line-requires : goal.line-requires
 line-requires c =
@@ -36,7 +36,7 @@ loop-i-preserved c =
     let at : slice_get lines c.loop-i.i ≡ Some x =
     ap (λ (d : Contents). slice_get d.lines c.loop-i.i) (sym c.self.view_is) ∙ c.line.ensures.is in
     told_step message_in c.in_ok-flags.flags.items lines c.loop-i.i x c.loop-i.texts c.push_message.new.texts _ inside
-    (drop_found lines c.loop-i.i x at) c.loop-i.invariant
+    (drop_at lines c.loop-i.i x at) c.loop-i.invariant
     (c.in_ok-push_message.ensures
     ∙ ap (λ b. c.loop-i.texts ++ cond b (message_of (kind_of c.line.result.text.now)) [])
     (get_or_read c.in_ok-flags.flags.items c.loop-i.i c.index.result.now inside c.index.ensures false))

@@ -1,9 +1,9 @@
 use Rattle.std.proofs.Common.{◌++◌, ◌∷◌, ◌+◌, [], List, ℕ, drop, take, sym, ap, subst, ◌∙◌, arith}
 use Rattle.units_io.specs.NamedValues.{HasDistinctNames, HasNoName, Pairs}
 use Rattle.units_io.proofs.Names.{HasNoName-before}
-use Rattle.deck.proofs.CopiedLines.{front_more}
 use Rattle.deck.proofs.SettingChanges.{by_place}
 use Rattle.deck.proofs.deck.setting_change.all_but_last.Goals as goal
+use Rattle.general_lemmas.proofs.Places.{take_at}
 
 pub push-requires : goal.push-requires
 push-requires c =
@@ -23,6 +23,6 @@ loop-i-preserved c =
       c.in_ok-push.ensures.ok
           ∙ ap (λ (n : List ℕ). c.loop-i.copies ++ (n, c.in_ok-value.value) ∷ []) c.in_ok-name.ensures
           ∙ ap (λ (v : List ℕ). c.loop-i.copies ++ (c.in-Some.name.now, v) ∷ []) c.in_ok-value.ensures
-          ∙ ap (λ (ps : Pairs). ps ++ p ∷ []) c.loop-i.invariant.0 ∙ sym (front_more all i p (sym c.in-Some.ensures)),
+          ∙ ap (λ (ps : Pairs). ps ++ p ∷ []) c.loop-i.invariant.0 ∙ sym (take_at all i p (sym c.in-Some.ensures)),
       omega (arith, c.loop-i-test.true),
     )

@@ -2,9 +2,9 @@ use Rattle.std.proofs.Common.{◌++◌, ◌∷◌, ◌+◌, [], List, drop, refl
 use Rattle.std.proofs.lemmas.List.{append-nil, drop_all}
 use Rattle.deck_lines.specs.declared.line.DeckLine.{DeckLine}
 use Rattle.deck.specs.Active.{Surroundings, activity, is_active}
-use Rattle.deck_lines.proofs.ExchangedItems.{drop_found}
 use Rattle.deck.proofs.MarkedLines.{activity_step}
 use Rattle.deck.proofs.force.flags.flags_in_force.Goals as goal
+use Rattle.general_lemmas.proofs.Places.{drop_at}
 
 pub line-line-requires : goal.line-line-requires
 line-line-requires c = omega (arith, c.loop-place-test.true, c.len-place-end.ensures)
@@ -27,7 +27,7 @@ loop-place-preserved c =
     ∙ ap (λ (s : Surroundings). (c.loop-place.flags.items ++ is_active c.loop-place.around line ∷ [])
     ++ activity locale s rest) (c.in_ok-pass.ensures line.number)
     ∙ activity_step locale c.loop-place.around (drop c.loop-place.place lines) rest c.loop-place.flags.items _ line
-    (drop_found lines c.loop-place.place line c.line-line.ensures) c.loop-place.invariant
+    (drop_at lines c.loop-place.place line c.line-line.ensures) c.loop-place.invariant
 
 pub returns : goal.returns
 returns c =

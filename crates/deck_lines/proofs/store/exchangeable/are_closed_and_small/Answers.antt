@@ -7,8 +7,9 @@ use Rattle.deck_lines.specs.Origins.{exchanged_lines}
 use Rattle.deck_lines.specs.declared.line.BorrowedLine.{BorrowedLine}
 use Rattle.deck_lines.specs.declared.line.DeckLine.{DeckLine}
 use Rattle.deck_lines.proofs.Exchangeable.{at_end, blocks_more, not_closed, texts_more, too_long}
-use Rattle.deck_lines.proofs.ExchangedItems.{drop_found, exchanged_len}
+use Rattle.deck_lines.proofs.ExchangedItems.{exchanged_len}
 use Rattle.deck_lines.proofs.store.exchangeable.are_closed_and_small.Goals as goal
+use Rattle.general_lemmas.proofs.Places.{drop_at}
 
 -- the deck line of a borrowed line
 abbrev lent_line : BorrowedLine → DeckLine
@@ -29,7 +30,7 @@ loop-place-preserved c =
     let after : List DeckLine = exchanged_lines c.args.at c.args.cut c.args.put.now c.args.store.now.lines in
     let i = c.loop-place.place in
     let line : DeckLine = lent_line c.line_at-line.result in
-    let there = drop_found after i line c.line_at-line.ensures in
+    let there = drop_at after i line c.line_at-line.ensures in
     let before = reverse c.loop-place.endings.items in
     let now = reverse c.pass_line.new.endings.items in
     record {
@@ -47,7 +48,7 @@ returns-then-room-len c =
     let line : DeckLine = lent_line c.line_at-line.result in (
       λ t. absurd (false≢true t),
       λ h. absurd (too_long after (drop i after) (drop (i + 1) after) line
-          (drop_found after i line c.line_at-line.ensures) (length line.text) c.loop-place.room refl
+          (drop_at after i line c.line_at-line.ensures) (length line.text) c.loop-place.room refl
           c.loop-place.invariant.room c.if-room-len.true h.1),
     )
 
@@ -59,7 +60,7 @@ returns-then-not-passes c =
     let now = reverse c.pass_line.new.endings.items in (
       λ t. absurd (false≢true t),
       λ h. absurd (not_closed after (drop i after) (drop (i + 1) after) line
-          (drop_found after i line c.line_at-line.ensures) (reverse c.loop-place.endings.items)
+          (drop_at after i line c.line_at-line.ensures) (reverse c.loop-place.endings.items)
           c.loop-place.invariant.closed
           (c.in_ok-passes.ensures line.number ∙ ap (λ b. cond b (Some now) None) c.if-not-passes.true) h.0),
     )

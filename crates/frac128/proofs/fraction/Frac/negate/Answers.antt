@@ -2,8 +2,8 @@ use Rattle.std.proofs.Common.{◌≡◌, ◌-ℤ◌, ℕ, ℤ, pos, neg_ℤ, uns
 use mir.Syntax.{w128}
 use Rattle.std.proofs.lemmas.Int.{ints, to_z-of_z}
 use Rattle.frac128.specs.Fraction.{IsFrac}
-use Rattle.frac128.proofs.Signs.{abs-neg}
 use Rattle.frac128.proofs.fraction.Frac.negate.Goals as goal
+use Rattle.general_lemmas.proofs.Integers.{abs-neg}
 
 -- subtracting from 0 keeps the magnitude
 abs-minus : (z : ℤ) → unsigned_abs (pos 0 -ℤ z) ≡ unsigned_abs z

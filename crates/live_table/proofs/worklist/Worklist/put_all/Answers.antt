@@ -2,7 +2,7 @@ use Rattle.std.proofs.Common.{get_or, arith}
 use Rattle.std.proofs.lemmas.Option.{slice_get-get_or}
 use Rattle.live_table.proofs.GatheredNumbers.{gathered_all, gathering_next, gathering_start}
 use Rattle.live_table.proofs.worklist.Worklist.put_all.Goals as goal
-use Rattle.table_names.proofs.Members.{member_at}
+use Rattle.general_lemmas.proofs.Members.{member_at}
 
 pub loop-n-init : goal.loop-n-init
 loop-n-init c = gathering_start c.args.self.now c.args.numbers.now

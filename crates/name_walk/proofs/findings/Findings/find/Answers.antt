@@ -2,7 +2,7 @@ use Rattle.std.proofs.Common.{ℕ, List, subst, sym, Contains}
 use Rattle.name_walk.specs.Findings.{AreFromQuery, AreRight, WalkFindings}
 use Rattle.name_walk.proofs.StableFindings.{nothing_consistent, nothing_right}
 use Rattle.name_walk.proofs.findings.Findings.find.Goals as goal
-use Rattle.name_walk.proofs.Members.{no_member}
+use Rattle.general_lemmas.proofs.Members.{no_member}
 
 pub search_from-requires-clause-net : goal.search_from-requires-clause-net
 search_from-requires-clause-net c = c.requires.net

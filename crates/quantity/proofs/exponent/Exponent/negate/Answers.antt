@@ -2,8 +2,8 @@ use Rattle.std.proofs.Common.{◌≡◌, ◌-ℤ◌, ℕ, ℤ, pos, neg_ℤ, uns
 use mir.Syntax.{w32}
 use Rattle.std.proofs.lemmas.Int.{ints, to_z-of_z}
 use Rattle.quantity.specs.Exponents.{IsExponent}
-use Rattle.quantity.proofs.Fractions.{abs-neg}
 use Rattle.quantity.proofs.exponent.Exponent.negate.Goals as goal
+use Rattle.general_lemmas.proofs.Integers.{abs-neg}
 
 -- subtracting from 0 preserves the magnitude
 abs-minus : (z : ℤ) → unsigned_abs (pos 0 -ℤ z) ≡ unsigned_abs z

@@ -1,14 +1,15 @@
 use Rattle.std.proofs.Common.{◌++◌, [], inl, take, refl, sym, ap, arith, Some, ◌∙◌}
 use Rattle.std.proofs.Math.Nat.{le_trans}
 use Rattle.session.specs.Worlds.{source_of}
-use Rattle.session.proofs.Blocks.{all_heard, cut_part, heard_by, loses_from_known, no_rest, none_left}
+use Rattle.session.proofs.Blocks.{cut_part, heard_by, loses_from_known, none_left}
 use Rattle.session.proofs.Blocks.{output_cut_short}
-use Rattle.session.proofs.Blocks.{bytes_rejoined, rose_since, took_enough, took_more}
+use Rattle.session.proofs.Blocks.{rose_since, took_enough, took_more}
 use Rattle.session.proofs.SourceEnding.{cause_since, ended_at, length_cause, memory_cause, read_cause}
 use Rattle.session.proofs.SinkGrowth.{grows_again, same_grows}
 use Rattle.session.proofs.HeardLines.{told_input}
 use Rattle.session.proofs.TakingUp.{names_none_at}
 use Rattle.session.proofs.listener.Listener.answer_blocks.Goals as goal
+use Rattle.general_lemmas.proofs.Parts.{front_whole, rejoined, no_rest}
 
 pub loop-total-init : goal.loop-total-init
 loop-total-init g c = record {
@@ -62,10 +63,10 @@ returns-then-n-eq0-clause-run g c =
       run_if_known = λ first input start q t ff fs at.
           let p = c.loop-total.invariant.stands first input start q t at in
           ended_at first p.0 input c.answer_end.result start _
-          (all_heard input p.0 p.1 p.2 (none_left _ p.1 p.3 (c.in-Ok-take.ensures.end c.if-n-eq0.true)))
+          (front_whole input p.0 p.1 p.2 (none_left _ p.1 p.3 (c.in-Ok-take.ensures.end c.if-n-eq0.true)))
           ((c.answer_end.ensures.run old new).run_if_known first p.0 start
           (told_input _ _ start.files
-          (all_heard input p.0 p.1 p.2 (none_left _ p.1 p.3 (c.in-Ok-take.ensures.end c.if-n-eq0.true))) t)
+          (front_whole input p.0 p.1 p.2 (none_left _ p.1 p.3 (c.in-Ok-take.ensures.end c.if-n-eq0.true))) t)
           (le_trans ff c.loop-total.invariant.later) (le_trans fs c.loop-total.invariant.stores_later)
           p.4);
       whole_run = λ input q h d.
@@ -94,16 +95,16 @@ returns-in-Some-clause-run g c =
       run_if_known = λ first input start q t ff fs at.
           let p = c.loop-total.invariant.stands first input start q t at in
           let lost = loses_from_known _ _ p.1 (take c.in-Ok-take.n c.take.new.buf) p.3 c.in-Ok-take.ensures.bytes in
-          ended_at first _ input c.in-Some.end start _ (bytes_rejoined input p.0 p.1 _ lost.0 p.2 lost.2)
+          ended_at first _ input c.in-Some.end start _ (rejoined input p.0 p.1 _ lost.0 p.2 lost.2)
           ((c.in-Some.ensures.run old new).run_if_known first p.0 lost.0 start
-          (told_input _ _ start.files (bytes_rejoined input p.0 p.1 _ lost.0 p.2 lost.2) t)
+          (told_input _ _ start.files (rejoined input p.0 p.1 _ lost.0 p.2 lost.2) t)
           (le_trans ff c.loop-total.invariant.later) (le_trans fs c.loop-total.invariant.stores_later)
           p.4);
       whole_run = λ input q h d.
           let p = c.loop-total.invariant.holds input q h in
           let lost = loses_from_known _ _ p.1 (take c.in-Ok-take.n c.take.new.buf) p.3 c.in-Ok-take.ensures.bytes in
           heard_by input p.0 (take c.in-Ok-take.n c.take.new.buf) lost.0 _
-          (bytes_rejoined input p.0 p.1 _ lost.0 p.2 lost.2)
+          (rejoined input p.0 p.1 _ lost.0 p.2 lost.2)
           lost.1
           (c.in-Some.ensures.cut p.0 p.4 d);
       has_cause = cause_since c.in-Some.end first_seen _ _ _ _ _ _ _ _ _ c.loop-total.invariant.out_later
@@ -148,7 +149,7 @@ loop-total-preserved g c =
           let lost = loses_from_known _ _ p.1 (take c.in-Ok-take.n c.take.new.buf) p.3 c.in-Ok-take.ensures.bytes in (
             p.0 ++ take c.in-Ok-take.n c.take.new.buf,
             lost.0,
-            sym (bytes_rejoined input p.0 p.1 _ lost.0 p.2 lost.2),
+            sym (rejoined input p.0 p.1 _ lost.0 p.2 lost.2),
             lost.1,
             c.in_default-answer_block.ensures.cut p.0 p.4,
           );
@@ -156,7 +157,7 @@ loop-total-preserved g c =
           let p = c.loop-total.invariant.holds input q h in
           let lost = loses_from_known _ _ p.1 (take c.in-Ok-take.n c.take.new.buf) p.3 c.in-Ok-take.ensures.bytes in
           c.answer_block.ensures.unasked p.0 lost.0 p.4
-          (names_none_at _ _ (bytes_rejoined input p.0 p.1 _ lost.0 p.2 lost.2) none)
+          (names_none_at _ _ (rejoined input p.0 p.1 _ lost.0 p.2 lost.2) none)
           ∙ c.loop-total.invariant.unasked input q h none;
       room = (omega (arith, c.loop-total.invariant.room.0), omega (arith, c.loop-total.invariant.room.1));
       counted = took_more c.loop-total.total c.in-Ok-take.n _ _ _ c.loop-total.invariant.counted
@@ -166,10 +167,10 @@ loop-total-preserved g c =
           let lost = loses_from_known _ _ p.1 (take c.in-Ok-take.n c.take.new.buf) p.3 c.in-Ok-take.ensures.bytes in (
             p.0 ++ take c.in-Ok-take.n c.take.new.buf,
             lost.0,
-            sym (bytes_rejoined input p.0 p.1 _ lost.0 p.2 lost.2),
+            sym (rejoined input p.0 p.1 _ lost.0 p.2 lost.2),
             lost.1,
             behind.waits_on first p.0 lost.0 start
-                (told_input _ _ start.files (bytes_rejoined input p.0 p.1 _ lost.0 p.2 lost.2) t) p.4,
+                (told_input _ _ start.files (rejoined input p.0 p.1 _ lost.0 p.2 lost.2) t) p.4,
           );
     }
 
@@ -180,7 +181,7 @@ pub returns-then-n-eq0-clause-unasked : goal.returns-then-n-eq0-clause-unasked
 returns-then-n-eq0-clause-unasked g c = λ input q h none.
     let p = c.loop-total.invariant.holds input q h in
     c.answer_end.ensures.unasked p.0 p.4
-    (names_none_at _ _ (all_heard input p.0 p.1 p.2 (none_left _ p.1 p.3 (c.in-Ok-take.ensures.end c.if-n-eq0.true)))
+    (names_none_at _ _ (front_whole input p.0 p.1 p.2 (none_left _ p.1 p.3 (c.in-Ok-take.ensures.end c.if-n-eq0.true)))
     none)
     ∙ c.loop-total.invariant.unasked input q h none
 
@@ -189,7 +190,7 @@ returns-in-Some-clause-unasked g c = λ input q h none.
     let p = c.loop-total.invariant.holds input q h in
     let lost = loses_from_known _ _ p.1 (take c.in-Ok-take.n c.take.new.buf) p.3 c.in-Ok-take.ensures.bytes in
     c.answer_block.ensures.unasked p.0 lost.0 p.4
-    (names_none_at _ _ (bytes_rejoined input p.0 p.1 _ lost.0 p.2 lost.2) none)
+    (names_none_at _ _ (rejoined input p.0 p.1 _ lost.0 p.2 lost.2) none)
     ∙ c.loop-total.invariant.unasked input q h none
 
 pub returns-clause-unasked : goal.returns-clause-unasked

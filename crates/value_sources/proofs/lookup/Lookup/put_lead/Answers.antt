@@ -7,9 +7,9 @@ use Rattle.value_sources.specs.Leads.{lead_keys}
 use Rattle.value_sources.specs.PlacedMentions.{placed_to}
 use Rattle.value_sources.specs.StoredMentions.{placed_list}
 use Rattle.value_sources.specs.Uses.{use_at}
-use Rattle.value_sources.proofs.Lists.{member_first, member_later}
 use Rattle.value_sources.proofs.Stored.{both_pushed}
 use Rattle.value_sources.proofs.lookup.Lookup.put_lead.Goals as goal
+use Rattle.general_lemmas.proofs.Members.{member_first, member_later}
 
 pub returns-in_ok-mention-in-Two : goal.returns-in_ok-mention-in-Two
 returns-in_ok-mention-in-Two c =

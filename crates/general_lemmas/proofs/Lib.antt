@@ -1,0 +1,9 @@
+pub mod Bytes
+pub mod Integers
+pub mod Members
+pub mod Options
+pub mod Orders
+pub mod Parts
+pub mod Places
+pub mod Properties
+pub mod Results
