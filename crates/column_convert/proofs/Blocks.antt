@@ -14,7 +14,6 @@ use Rattle.def_entry.specs.Tables.{Table}
 use Rattle.live_table.specs.TableView.{IsAfterEvents, IsCutOff, IsRightTable, Shown}
 use Rattle.live_table.specs.States.{Event}
 use Rattle.live_table.proofs.QuerySequence.{cut_both, follows_both, follows_none}
-use Rattle.live_table.proofs.Runs.{run_law}
 use Rattle.reply.specs.declared.options.Options.{Options}
 use Rattle.column_convert.specs.Blocks.{BlocksLaw, block_of, first_records, input_after, is_error_row, text_of}
 use Rattle.column_convert.specs.Inputs.{Input, rest_of_input}
@@ -162,14 +161,6 @@ module _ (options : Options) (from to : List ℕ) (whole : Input) (most : ℕ) (
 
   module _ (left : Input) (count : ℕ) (refused : Bool) (text : Option (List ℕ)) (now : Shown) (new : ℕ)
       (u : IsUnderway left count refused text now new) where
-    -- memory ran out between two rows
-    pub stopped : IsCutOff (queries (table before.deck) options from to (first_records most whole)) before now old new
-    stopped =
-        subst (λ (es : List Event). IsCutOff es before now old new) (sym u.asks)
-        (run_law.cut_between u.events (queries (table before.deck) options from to (first_records (most - count) left))
-        before
-        now old new u.deck u.follows)
-
     -- as many rows are written as are wanted
     pub rows_when_full : most ≤ count → (rows (table before.deck) options from to (first_records most whole) ≡ u.done)
         × (queries (table before.deck) options from to (first_records most whole) ≡ u.events)

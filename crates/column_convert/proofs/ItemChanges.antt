@@ -1,21 +1,9 @@
 -- A list with another item at a place, built item by item.
-use Rattle.std.proofs.Common.{◌≡◌, ◌∙◌, ◌<◌, ◌≤◌, ◌+◌, ℕ, List, [], ◌∷◌, ◌++◌, drop, get_or, length, sym, ap, arith}
+use Rattle.std.proofs.Common.{◌≡◌, ◌∙◌, ◌<◌, ℕ, List, [], ◌∷◌, get_or, length, sym, arith}
 use Rattle.std.proofs.Common.{zero, suc, Some, None}
 use Rattle.std.specs.Prelude.{slice_set}
 use Rattle.csv.specs.Records.{field_at}
-use Rattle.std.proofs.lemmas.List.{append-nil, append_assoc, drop_all, drop_more, get_or-set_other}
-
-module _ {X : Type 0} (all : List X) where
-  -- the items so far and those left are still all the items after one more
-  pub one_more : (done more : List X) (i : ℕ) (d : X) → i < length all → more ≡ done ++ get_or all i d ∷ []
-      → done ++ drop i all ≡ all → more ++ drop (i + 1) all ≡ all
-  one_more done more i d lt is h =
-      ap (λ xs. xs ++ drop (i + 1) all) is
-      ∙ (append_assoc done (get_or all i d ∷ []) (drop (i + 1) all)
-      ∙ (ap (λ xs. done ++ xs) (sym (drop_more all i d lt)) ∙ h))
-
-  pub none_left : (done : List X) (i : ℕ) → length all ≤ i → done ++ drop i all ≡ all → done ≡ all
-  none_left done i le h = sym (append-nil done) ∙ (ap (λ xs. done ++ xs) (sym (drop_all i all le)) ∙ h)
+use Rattle.std.proofs.lemmas.List.{get_or-set_other}
 
 get_or_at : (fields : List (List ℕ)) (i : ℕ) (kept : List ℕ) → field_at fields i ≡ Some kept
     → get_or fields i [] ≡ kept

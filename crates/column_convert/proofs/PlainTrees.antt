@@ -1,8 +1,7 @@
 -- FROM and TO as plain trees.
 use Rattle.std.proofs.Common.{◌≡◌, ℕ, Bool, true, false, not, if◌then◌else◌, List, refl, subst}
-use Rattle.std.specs.Prelude.{codes, pos, IfOk, IsTrue, None, Option, Some, Result, Ok, Err, is_some}
+use Rattle.std.specs.Prelude.{codes, pos, None, Option, Some, Ok, is_some}
 use Rattle.std.specs.List.{list_any}
-use Rattle.std.specs.declared.alloc.AllocError.{AllocError}
 use Rattle.def_entry.specs.declared.key.Kind.TheVariants as kind
 use Rattle.def_entry.specs.Entries.{Entry}
 use Rattle.def_entry.specs.Keys.{key}
@@ -11,7 +10,7 @@ use Rattle.def_entry.specs.Tables.{Table, entry_at, is_present}
 use Rattle.def_lines.specs.Blanks.{trim_of}
 use Rattle.expr_tree.specs.ParseResult.{parse_of}
 use Rattle.expr_tree.specs.Syntax.{Syntax}
-use Rattle.column_convert.specs.CachedValues.{ArePlain, HasProduct, HasProducts, IsParsedAs, are_plain}
+use Rattle.column_convert.specs.CachedValues.{ArePlain, HasProducts, IsParsedAs, are_plain}
 use Rattle.column_convert.specs.Products.{IsFactor}
 
 -- neither is a function, and TO is not a list
@@ -62,13 +61,3 @@ plain_of table from to name f g is plain has tree to_tree = record {
   factor = factor_of from f tree.tree has;
   to_tree = subst (λ (n : List ℕ). parse_of None n ≡ Ok g) is to_tree.tree;
 }
-
--- both products exist, checked one after the other
-pub products_of : (from : List ℕ) (r : Result Bool AllocError) → HasProduct false from
-    → IfOk r (λ has. IsTrue has → HasProduct true from) → IfOk r (λ has. IsTrue has → HasProducts from)
-products_of from (Err e) above below = tt
-products_of from (Ok has) above below = λ is negative. go negative (below is)
-  where
-    go : (negative : Bool) → HasProduct true from → HasProduct negative from
-    go true h = h
-    go false h = above

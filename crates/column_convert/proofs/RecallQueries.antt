@@ -1,5 +1,5 @@
 -- The queries for FROM and TO before a number is converted.
-use Rattle.std.proofs.Common.{◌≡◌, ◌≤◌, ◌-◌, ◌^◌, ◌∙◌, ℕ, List, [], ◌∷◌, sym, ap, subst}
+use Rattle.std.proofs.Common.{◌≡◌, ◌≤◌, ◌-◌, ◌^◌, ◌∙◌, ℕ, List, [], ◌∷◌, sym, subst}
 use Rattle.std.specs.Prelude.{IfOk, IfSome, IsErrAnd, Option, Some, None, Result, Ok, Err, true, is_some}
 use Rattle.std.specs.declared.alloc.AllocError.{AllocError}
 use Rattle.def_lines.specs.Blanks.{trim_of}
@@ -148,11 +148,6 @@ module _ (options : Options) (from to number : List ℕ) (n : Signed) (s : IsSig
     -- the cell from the remembered values
     module _ (memory : Memory) (cell : Cell) (h : IsRememberedCell options memory from to number n cell)
         (known : IsRemembered b from to memory) where
-      pub cell_known : cell ≡ cell_of (number_reply (table a.deck) options from to number)
-      cell_known =
-          (h b known s).0
-          ∙ ap (λ (d : Contents). cell_of (number_reply (table d) options from to number)) deck
-
       pub queries_known : IsAfterEvents (number_queries (table a.deck) options from to number) a b o m
       queries_known =
           begun_follows _ a b o m (begun options number s) b m

@@ -37,17 +37,6 @@ unfolding IsDistinct
 distinct [] h = tt
 distinct (k ∷ ks) h = (none_of k ks h.0, distinct ks h.1)
 
--- a key that differs from each of the others is not among them
-not_among : (k : Key) (ks : List Key) → AllByRecursion (λ y. is_same k y ≡ false) ks → is_key_among ks k ≡ false
-not_among k [] h = refl
-not_among k (x ∷ ks) h = ap (λ b. b || is_key_among ks k) h.0 ∙ not_among k ks h.1
-
--- distinct keys occur once each
-pub once_distinct : (ks : List Key) → IsDistinct is_same ks → AreOnce ks
-unfolding IsDistinct
-once_distinct [] h = tt
-once_distinct (k ∷ ks) h = (not_among k ks h.0, once_distinct ks h.1)
-
 -- the keys other than a given one
 abbrev others : Key → List Key → List Key
 others x ks = filter (λ k. not (is_same x k)) ks

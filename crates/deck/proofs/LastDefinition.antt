@@ -19,14 +19,13 @@ use Rattle.deck_lines.specs.declared.line.DeckLine.{DeckLine}
 use Rattle.deck.specs.Changes.{IsChange}
 use Rattle.deck.specs.Decks.{Contents}
 use Rattle.deck.specs.Edits.{with_line}
-use Rattle.deck.specs.KindPlaces.{HasSamePlaces}
 use Rattle.deck.specs.LastPlaces.{AreLast, IsIndexed, places_of}
 use Rattle.deck.specs.Tables.{Definitions, Table, active_definitions, entry_at, place_of, table, table_of}
 use Rattle.deck.specs.declared.places.last_places.LastPlaces.{LastPlaces}
 use Rattle.deck.specs.declared.settings.Settings.{Settings}
 use Rattle.deck.proofs.ChangedKeys.{not_defined}
 use Rattle.deck.proofs.OneMoreName.{key_kept, key_new, names_len}
-use Rattle.deck.proofs.LastPlaceSteps.{kind_at, last_extended, last_more, last_same, number_within}
+use Rattle.deck.proofs.LastPlaceSteps.{kind_at, last_extended, last_more, number_within}
 use Rattle.deck.proofs.PlacedDefinitions.{in_place}
 use Rattle.deck.proofs.PushedLine.{closed_push, placed_push}
 use Rattle.general_lemmas.proofs.Places.{at_length}
@@ -129,17 +128,6 @@ indexed_pushed settings store new x k e last now n place is at defines numbering
     (told store new x n place is at number)
     (λ a. put a ∙ ap (λ p. cond (is_same_kind a n.kind) (set (places_of last a) n.number (Some p)) (places_of last a))
     at))
-
--- other last places with the same places are also those of the store
-pub indexed_same : (store : Store) (settings : Settings) (old now : LastPlaces)
-    → ((a : Kind) → HasSamePlaces (places_of old a) (places_of now a)) →
-    IsIndexed store settings old → IsIndexed store settings now
-indexed_same store settings old now same before =
-    record {
-      blocks_closed = before.blocks_closed;
-      places =
-          last_same store.names (active_definitions settings store.lines) old now before.places same;
-    }
 
 module _ (d : Contents) (closed : AreBlocksClosed d.lines) (text : List ℕ) (k : Key) (e : Entry)
     (defines : entry_in (plain_line 0 text) ≡ Some (k, e)) where

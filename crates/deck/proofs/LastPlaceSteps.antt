@@ -157,14 +157,6 @@ by_step flags lines i f x same h p q =
     ∙ ap (λ ds. ds ++ definitions_among (take i flags) (take i lines))
     (reverse-append (definition_by i f (entry_in x)) [] ∙ one_back i f (entry_in x))
 
--- last places with the same places stay valid
-pub last_same : (names : Names) (ds : Definitions) (old now : LastPlaces) → AreLast names ds old
-    → ((kind : Kind) → HasSamePlaces (places_of old kind) (places_of now kind)) → AreLast names ds now
-last_same names ds old now before same = record {
-  place = λ n. (same n.kind).place n.number ∙ before.place n;
-  count = λ kind. (same kind).count ∙ before.count kind;
-}
-
 -- last places stay valid for definitions that give each key the same place
 pub last_alike : (names : Names) (ds es : Definitions) (last : LastPlaces)
     → ((k : Key) → place_of ds k ≡ place_of es k) → AreLast names ds last → AreLast names es last

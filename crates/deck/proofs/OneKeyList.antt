@@ -114,17 +114,6 @@ one_key_list table keys are =
     one_order keys (table_keys table) are.sorted_keys (in_order table)
     (λ k. are.key_membership k ∙ sym ((are_keys table).key_membership k))
 
--- if all keys of a list are greater than a key, so are those of a filtered list
-less_filter : (p : Key → Bool) (k : Key) (ks : List Key) → AllByRecursion (λ y. key_cmp k y ≡ Less) ks
-    → AllByRecursion (λ y. key_cmp k y ≡ Less) (filter p ks)
-less_filter p k [] h = tt
-less_filter p k (y ∷ ks) h = by (less_filter p k ks h.1) (p y)
-  where
-    by : AllByRecursion (λ x. key_cmp k x ≡ Less) (filter p ks) → (b : Bool)
-        → AllByRecursion (λ x. key_cmp k x ≡ Less) (cond b (y ∷ filter p ks) (filter p ks))
-    by ih true = (h.0, ih)
-    by ih false = ih
-
 -- strictly sorted keys are those of `keys_holding` if they are the present keys whose names contain the text
 pub holding_found : (text : List ℕ) (table : Table) (ks : List Key) → IsStrictlySortedBy key_cmp ks
     → ((k : Key) → is_key_among ks k ≡ (is_present table k && has_substring k.name text)) → ks ≡ keys_holding text table

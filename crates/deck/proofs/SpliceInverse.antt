@@ -1,6 +1,6 @@
 -- The result of a splice, and its inverse.
 use Rattle.std.proofs.Common.{◌≡◌, ◌++◌, ◌∷◌, ◌+◌, ◌≤◌, [], ℕ, zero, suc, List, Bool, true, false, length, take, drop}
-use Rattle.std.proofs.Common.{refl, sym, ap, subst, ◌∙◌, arith, Some, None, Ok, option_map}
+use Rattle.std.proofs.Common.{refl, sym, ap, subst, ◌∙◌, arith, Some, None, option_map}
 use Rattle.def_entry.specs.declared.key.Key.{Key}
 use Rattle.def_entry.specs.Keys.{key}
 use Rattle.deck_lines.specs.ClosedBlocks.{AreBlocksClosed}
@@ -10,11 +10,9 @@ use Rattle.deck_lines.specs.KeyNumbering.{IsNumbering}
 use Rattle.deck_lines.specs.Stores.{Store}
 use Rattle.deck_lines.specs.declared.key_number.KeyNumber.{KeyNumber}
 use Rattle.deck_lines.specs.declared.line.DeckLine.{DeckLine}
-use Rattle.deck.specs.Changes.{IsTableChange}
-use Rattle.deck.specs.Decks.{Contents}
 use Rattle.deck.specs.LastPlaces.{AreLast, IsIndexed}
-use Rattle.deck.specs.Splices.{IsSpliced, SpliceInverseLaw, spliced_lines}
-use Rattle.deck.specs.Tables.{active_definitions, table_of}
+use Rattle.deck.specs.Splices.{SpliceInverseLaw, spliced_lines}
+use Rattle.deck.specs.Tables.{active_definitions}
 use Rattle.deck.specs.declared.places.last_places.LastPlaces.{LastPlaces}
 use Rattle.deck.specs.declared.settings.Settings.{Settings}
 use Rattle.deck.specs.declared.splice.Splice.{Splice}
@@ -88,41 +86,3 @@ indexed_read old new settings last numbering more lines wider before = record {
       where
         never : None ≡ Some k → ⊥
         never q = cc
-
--- the last places after a splice are those of the spliced lines
-pub indexed_spliced : (s : Splice) (d : Contents) (store now : Store) (last : LastPlaces) → store.lines ≡ d.lines
-    → now.lines ≡ spliced_lines s store.lines → now.names ≡ store.names →
-    AreBlocksClosed (spliced_lines s d.lines)
-    → AreLast store.names (active_definitions s.settings (spliced_lines s d.lines)) last
-    → IsIndexed now s.settings last
-indexed_spliced s d store now last same put names closed places =
-    let lines : now.lines ≡ spliced_lines s d.lines = put ∙ ap (spliced_lines s) same in
-    record {
-      blocks_closed = subst AreBlocksClosed (sym lines) closed;
-      places = subst (λ ls. AreLast now.names (active_definitions s.settings ls) last) (sym lines)
-          (subst (λ (ns : Names). AreLast ns (active_definitions s.settings (spliced_lines s d.lines)) last)
-          (sym names) places);
-    }
-
--- the result of a splice: the deck, the keys that it changes, and its inverse
-pub spliced : (s : Splice) (d : Contents) (settings : Settings) (notices : List (List ℕ))
-    (lines before now gone : List DeckLine) (count : ℕ) (keys : List Key) →
-    record { lines = lines; settings = settings; notices = notices } ≡ d → before ≡ lines → now ≡ spliced_lines s before
-    → gone ≡ take s.cut (drop s.at before) → count ≡ length s.put →
-    IsTableChange (table_of (active_definitions settings lines))
-    (table_of (active_definitions s.settings (spliced_lines s lines)))
-    keys →
-    IsSpliced s d (record { lines = now; settings = s.settings; notices = notices })
-    (Ok (keys, record { at = s.at; cut = count; put = gone; settings = settings }))
-spliced s d settings notices lines before now gone count keys view same put went counted changed =
-    let is : now ≡ spliced_lines s lines = put ∙ ap (spliced_lines s) same in
-    let with_lines : List DeckLine → Contents = λ ls. record { lines = ls; settings = s.settings; notices = notices } in
-    let back : ℕ → List DeckLine → Splice = λ n ls. record { at = s.at; cut = n; put = ls; settings = settings } in
-    subst (λ (e : Contents). IsSpliced s e (record { lines = now; settings = s.settings; notices = notices })
-    (Ok (keys, record { at = s.at; cut = count; put = gone; settings = settings }))) view (
-      ap with_lines is,
-      subst (λ (ls : List DeckLine). IsTableChange (table_of (active_definitions settings lines))
-          (table_of (active_definitions s.settings ls)) keys) (sym is) changed,
-      ap (λ n. back n gone) counted
-          ∙ ap (back (length s.put)) (went ∙ ap (λ (ls : List DeckLine). take s.cut (drop s.at ls)) same),
-    )

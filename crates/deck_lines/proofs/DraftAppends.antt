@@ -89,18 +89,12 @@ load_leads from to before after excerpt (Err fault) b put e =
 -- a load leads from the blocks before its excerpt to those after it if a failure leaves the store unchanged
 pub one_leads : (from to : List Ending) (before after : Draft) (excerpt : Excerpt) (r : Result (Unit {0}) LoadFault)
     → blocks_after from excerpt.lines ≡ Some to →
-    IsExcerptPut before excerpt r after → OnErr r (after.store ≡ before.store) → Leads from to before.store after.store r
+    IsExcerptPut before excerpt r after → OnErr r (after.store ≡ before.store)
+    → Leads from to before.store after.store r
 one_leads from to before after excerpt (Ok u) b put e =
     record { lines = excerpt.lines; lines_put = ap (λ (d : Draft). d.store) put.0; blocks_lead = b }
 one_leads from to before after excerpt (Err fault) b put e =
     let stayed = same_extends before.store after.store e in
-    record { lines = stayed.lines; lines_put = stayed.lines_put; blocks_lead = tt }
-
--- a failure that leaves the store unchanged leads from any blocks to any others
-pub none_leads : (from to : List Ending) (before after : Store) (fault : LoadFault) → after ≡ before
-    → Leads from to before after (Err fault)
-none_leads from to before after fault e =
-    let stayed = same_extends before after e in
     record { lines = stayed.lines; lines_put = stayed.lines_put; blocks_lead = tt }
 
 -- lines that lead to some blocks, followed by lines that lead on from there, lead to the last blocks
@@ -139,8 +133,3 @@ closed_behind before after (Err fault) h = tt
 pub extended : (before after : Draft) (excerpt : Excerpt) → after ≡ draft_with_excerpt before excerpt
     → Extends before.store after.store
 extended before after excerpt e = record { lines = excerpt.lines; lines_put = ap (λ (d : Draft). d.store) e }
-
--- a load that leads from some blocks to others extends the store
-pub leads_extends : (from to : List Ending) (before after : Store) (r : Result (Unit {0}) LoadFault)
-    → Leads from to before after r → Extends before after
-leads_extends from to before after r h = record { lines = h.lines; lines_put = h.lines_put }

@@ -19,12 +19,6 @@ found_inside [] ys i j h e = absurd (omega arith)
 found_inside (x ∷ xs) ys zero j h e = slice_get_within ys j x (sym e)
 found_inside (x ∷ xs) ys (suc i) j h e = found_inside xs ys i j (omega arith) e
 
--- there is an item at each place of a list
-pub never_none : {A : Type 0} (xs : List A) (i : ℕ) → i < length xs → slice_get xs i ≡ None → ⊥
-never_none [] i h e = omega arith
-never_none (x ∷ xs) zero h e = cc
-never_none (x ∷ xs) (suc i) h e = never_none xs i (omega arith) e
-
 -- the item at a place of the rest of a list is that many places further in the list
 pub at_drop : {A : Type 0} (n : ℕ) (xs : List A) (i : ℕ) → slice_get (drop n xs) i ≡ slice_get xs (n + i)
 at_drop zero xs i = ap (slice_get xs) (zero_plus i)

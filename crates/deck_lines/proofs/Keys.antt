@@ -105,7 +105,3 @@ pub key_one_to_one : (names room more : Names) (k : Key) → room ≡ names → 
 key_one_to_one names room more k p q one =
     subst IsOneToOne (sym q)
     (one_to_one room (Some (k, record { text = []; what = Primitive })) (subst IsOneToOne (sym p) one))
-
--- the same names extend each other
-pub same_extended : (names more : Names) → more ≡ names → IsExtended names more
-same_extended names more p n l e = ap (λ (t : Names). key_numbered t n) p ∙ e

@@ -4,7 +4,7 @@ use Rattle.std.proofs.Common.{length, map, take, drop, reverse, refl, append_ass
 use Rattle.std.proofs.Common.{length-take, None, Some, option_map, slice_get}
 use Rattle.std.specs.Prelude.{nat_le}
 use Rattle.std.proofs.lemmas.Bool.Decides.{nat_tests}
-use Rattle.std.proofs.lemmas.List.{length-map, reverse-append}
+use Rattle.std.proofs.lemmas.List.{reverse-append}
 use Rattle.std.proofs.lemmas.Option.{same_Some, slice_get-map}
 use Rattle.std.proofs.lemmas.List.Sums.{sum_by-append, sum_by-cons, sum_by-take-drop}
 use Rattle.def_lines.specs.declared.line.Line.{Line}
@@ -186,13 +186,6 @@ marks_pop ls ls' ms ms' l m into into' all p q h e is =
 pub marks_on : (put : List DeckLine) → with_marks (map line_without_mark put) (map mark_of put) ≡ put
 marks_on [] = refl
 marks_on (l ∷ put) = ap (λ t. l ∷ t) (marks_on put)
-
--- lines without their marks have as many bytes as with them
-pub bytes_on : (put : List DeckLine) → bytes_in (map line_without_mark put) ≡ text_len put
-bytes_on put =
-    let each : length (map mark_of put) ≡ length (map line_without_mark put) = length-map put mark_of
-    ∙ sym (length-map put line_without_mark) in
-    sym (marks_bytes (map line_without_mark put) (map mark_of put) each) ∙ ap text_len (marks_on put)
 
 -- a place within a list has an item
 pub item_inside : {A : Type 0} → (xs : List A) (place : ℕ) → place < length xs → None ≡ slice_get xs place → ⊥

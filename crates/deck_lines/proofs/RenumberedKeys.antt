@@ -1,11 +1,10 @@
 -- New numbers for the keys that lines define.
 use Rattle.std.proofs.Common.{◌≡◌, ◌++◌, ◌∷◌, ◌+◌, ◌<◌, [], ℕ, suc, List, map, take, drop, get_or, length}
-use Rattle.std.proofs.Common.{refl, sym, ap, subst, ◌∙◌, arith, Option, Some, None, option_map, slice_get}
+use Rattle.std.proofs.Common.{refl, sym, ap, subst, ◌∙◌, arith, Option, Some, None, option_map}
 use Rattle.std.specs.Option.{option_and_then}
 use Rattle.std.proofs.lemmas.List.{append-nil, drop_all, length-map, map-append, take_all, take_more}
 use Rattle.std.proofs.lemmas.Option.{same_Some, slice_get-get_or}
 use Rattle.def_entry.specs.Entries.{Entry, What}
-use Rattle.def_entry.specs.Keys.{key}
 use Rattle.def_entry.specs.Views.{what_view}
 use Rattle.def_entry.specs.declared.key.Key.{Key}
 use Rattle.deck_lines.specs.StoredDefinitions.{AreDefined, HoldsDefinitions, IsDefined, all_with_numbers}
@@ -13,7 +12,7 @@ use Rattle.deck_lines.specs.StoredDefinitions.{keyed_definition, seen_definition
 use Rattle.deck_lines.specs.StoredDefinitions.{with_number}
 use Rattle.deck_lines.specs.Loads.{with_definitions}
 use Rattle.deck_lines.specs.Marks.{plain_line}
-use Rattle.deck_lines.specs.Names.{IsExtended, IsOneToOne, Names, key_numbered, names_of_kind, no_names, with_key}
+use Rattle.deck_lines.specs.Names.{IsExtended, IsOneToOne, Names, key_numbered, no_names}
 use Rattle.deck_lines.specs.NumberedKeys.{names_in}
 use Rattle.deck_lines.specs.Readings.{entry_in}
 use Rattle.deck_lines.specs.Renumberings.{AreNumbers, IsRenumbering, names_after}
@@ -91,33 +90,6 @@ module _ (names more : Names) (lines : List DeckLine) (i : ℕ) (inside : i < le
   -- no key has two numbers after one more key is numbered
   pub unique_more : IsOneToOne names → IsOneToOne more
   unique_more one = subst IsOneToOne (sym put) (one_to_one names (definition_at lines i) one)
-
--- the key that a line defines, given the name at its number
-pub key_named : (names : Names) (n : KeyNumber) (o : Option (Key × Entry)) (name : List ℕ)
-    → Some (key_numbered names n) ≡ option_map keyed o → Some name ≡ slice_get (names_of_kind names n.kind) n.number
-    → option_map (λ (d : Key × Entry). d.0) o ≡ Some (key n.kind name)
-key_named names n None name e at = absurd (cc)
-key_named names n (Some d) name e at =
-    sym (same_Some (key_numbered names n) (Some d.0) e) ∙ ap (option_map (key n.kind)) (sym at)
-
--- the number of the key that a line defines has a name
-pub is_named : (names : Names) (n : KeyNumber) (o : Option (Key × Entry))
-    → Some (key_numbered names n) ≡ option_map keyed o → None ≡ slice_get (names_of_kind names n.kind) n.number → ⊥
-is_named names n None e at = cc
-is_named names n (Some d) e at =
-    let none : option_map (key n.kind) None ≡ Some d.0 =
-    ap (option_map (key n.kind)) at ∙ same_Some (key_numbered names n) (Some d.0) e in cc
-
--- a number for the key of a line is a number for its definition
-pub definition_put : (names : Names) (o : Option (Key × Entry)) (k : Key)
-    → option_map (λ (d : Key × Entry). d.0) o ≡ Some k → with_key names k ≡ with_definition names o
-definition_put names None k e = absurd (cc)
-definition_put names (Some d) k e = ap (with_key names) (sym (same_Some d.0 k e))
-
-pub number_put : (o : Option (Key × Entry)) (k : Key) → option_map (λ (d : Key × Entry). d.0) o ≡ Some k
-    → Some (Some k) ≡ option_map keyed o
-number_put None k e = absurd (cc)
-number_put (Some d) k e = ap (λ t. Some (Some t)) (sym (same_Some d.0 k e))
 
 module _ (names more : Names) where
   numbered_one : (n : Option KeyNumber) (d : Option Definition) (s : Option (Key × Entry))

@@ -21,10 +21,6 @@ pub all_both : (p : ℕ → Bool) (front behind : List ℕ) → list_all p front
     → list_all p (front ++ behind) ≡ true
 all_both p front behind first second = list_all-append p front behind ∙ and_from _ _ first second
 
-pub all_parts : (p : ℕ → Bool) (front behind : List ℕ) → list_all p (front ++ behind) ≡ true
-    → (list_all p front ≡ true) × (list_all p behind ≡ true)
-all_parts p front behind all = and_parts _ _ (sym (list_all-append p front behind) ∙ all)
-
 pub all_reversed : (p : ℕ → Bool) (text : List ℕ) → list_all p text ≡ true → list_all p (reverse text) ≡ true
 all_reversed p [] clear = refl
 all_reversed p (b ∷ text) clear =

@@ -1,6 +1,6 @@
 -- Forms are read the way they are written.
 use Rattle.std.proofs.Common.{◌≡◌, ◌≢◌, ◌==◌, ◌||◌, ◌∷◌, [], ℕ, List, Bool, true, false, cond, codes}
-use Rattle.std.proofs.Common.{map, Option, Some, None, Result, Ok, Err, refl, sym, ap, ◌∙◌, subst}
+use Rattle.std.proofs.Common.{map, Option, Some, None, Ok, Err, refl, sym, ap, ◌∙◌, subst}
 use Rattle.std.specs.Str.{bytes_eq}
 use Rattle.std.specs.List.{slice_split}
 use Rattle.std.proofs.lemmas.Bool.{eqb-true}
@@ -8,12 +8,11 @@ use Rattle.std.proofs.lemmas.Slice.Eq.{bytes_eq-Decides}
 use Rattle.units_io.specs.Outcomes.{◌>>=◌}
 use Rattle.def_lines.specs.Blanks.{trim_of}
 use Rattle.expr_tree.specs.Names.{is_name}
-use Rattle.def_entry.specs.declared.fault.EntryFault.{EntryFault}
 use Rattle.def_entry.specs.declared.fault.EntryFault.TheVariants.{BadForm}
 use Rattle.def_entry.specs.declared.key.Kind.{Kind}
 use Rattle.def_entry.specs.declared.key.Kind.TheVariants as kind
 use Rattle.def_entry.specs.Cuts.{cut_at}
-use Rattle.def_entry.specs.Entries.{What, Primitive, Dimensionless, Body, Alias, ListOf}
+use Rattle.def_entry.specs.Entries.{Primitive, Dimensionless, Body, Alias, ListOf}
 use Rattle.def_entry.specs.EntryGrammar.{HasFurtherName, Parameter, Target}
 use Rattle.def_entry.specs.FormGrammar.{IsBracketed, IsSpelledAs, IsTarget}
 use Rattle.def_entry.specs.FormGrammar.{WrittenForm, PrimitiveForm, DimensionlessForm, BodyForm, FunctionForm}
@@ -47,10 +46,6 @@ parts-trees [] = refl
 parts-trees (piece ∷ pieces) =
     ap (λ rest. entry_tree None (trim_of piece) >>= (λ tree. rest >>= (λ trees. Ok (tree ∷ trees))))
     (parts-trees pieces)
-
--- the definition of a list, given the text of its parts
-abbrev list_of : List ℕ → Result What EntryFault
-list_of text = entry_trees (slice_split is_semicolon text) >>= (λ trees. Ok (ListOf trees))
 
 -- a list is read from its parts
 list-at : (text : List ℕ) (parts : List (List ℕ)) → parts ≡ map trim_of (slice_split is_semicolon text) → text ≢ []

@@ -35,23 +35,6 @@ text-some (b ∷ text) bare e = let same : b ∷ text ≡ bare = cc in (same, λ
     cons_some : (c : ℕ) (t : List ℕ) → c ∷ t ≡ [] → ⊥
     cons_some c t e = cc
 
--- a text that is absent is empty
-pub text-none : (text : List ℕ) → some_text text ≡ None → text ≡ []
-text-none [] e = refl
-text-none (b ∷ text) e = cc
-
--- a text in brackets is cut at the closing bracket
-pub bracketed : (open_byte close_byte : ℕ) (inner text inside behind : List ℕ) → text ≡ open_byte ∷ inner
-    → IsBracketed open_byte close_byte text inside behind
-    → cut_at close_byte inner ≡ Some (inside, behind)
-bracketed open_byte close_byte inner text inside behind e is =
-    let same : inner ≡ inside ++ (close_byte ∷ behind) =
-    tail_is open_byte inner (inside ++ (close_byte ∷ behind)) (sym e ∙ is.text_in_brackets) in
-    ap (cut_at close_byte) same ∙ cut-at close_byte inside behind is.clear
-  where
-    tail_is : (b : ℕ) (s t : List ℕ) → b ∷ s ≡ b ∷ t → s ≡ t
-    tail_is b s t e = cc
-
 -- a text that is cut at the closing bracket is written in brackets
 pub brackets : (open_byte close_byte b : ℕ) (inner inside behind : List ℕ) → b ≡ open_byte
     → cut_at close_byte inner ≡ Some (inside, behind)

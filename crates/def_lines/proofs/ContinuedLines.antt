@@ -1,28 +1,11 @@
 -- Lines that continue.
-use Rattle.std.proofs.Common.{◌≡◌, ◌++◌, ◌∷◌, [], ℕ, List, false, cond, ◌+◌, map, refl, sym, ap, ◌∙◌, append_assoc}
+use Rattle.std.proofs.Common.{◌≡◌, ◌++◌, ◌∷◌, [], ℕ, List, false, cond, ◌+◌, map, sym, ap, ◌∙◌}
 use Rattle.std.proofs.lemmas.List.{append-nil}
 use Rattle.def_lines.specs.declared.line.Line.{Line}
 use Rattle.def_lines.specs.Blanks.{trim_of}
 use Rattle.def_lines.specs.Lines.{continuation, ends_with, front_of_line, numbered_lines, physical_lines, with_front}
 use Rattle.def_lines.specs.Lines.{without_comment}
 use Rattle.def_lines.specs.Lines.{trimmed_line}
-
--- joining two texts in turn joins their concatenation
-pub joined-joined : (n m : ℕ) (front text : List ℕ) (lines : List Line)
-    → with_front n front (with_front m text lines) ≡ with_front n (front ++ text) lines
-joined-joined n m front text [] = refl
-joined-joined n m front text (line ∷ lines) =
-    ap (λ (t : List ℕ). record { number = n; text = t } ∷ lines) (sym (append_assoc front text line.text))
-
--- two texts that are trimmed alike, whatever text follows, make the same lines
-pub trimmed-joined : (n : ℕ) (a b : List ℕ) → ((behind : List ℕ) → trim_of (a ++ behind) ≡ trim_of (b ++ behind))
-    → (lines : List Line)
-    → map trimmed_line (with_front n a lines) ≡ map trimmed_line (with_front n b lines)
-trimmed-joined n a b same [] =
-    ap (λ (t : List ℕ). record { number = n; text = t } ∷ [])
-    (ap trim_of (sym (append-nil a)) ∙ same [] ∙ ap trim_of (append-nil b))
-trimmed-joined n a b same (line ∷ lines) =
-    ap (λ (t : List ℕ). record { number = n; text = t } ∷ map trimmed_line lines) (same line.text)
 
 -- the line that ends with these bytes
 pub line-ended : (number : ℕ) (line : Line) (old new bytes : List ℕ) → line.number ≡ number → line.text ≡ trim_of new

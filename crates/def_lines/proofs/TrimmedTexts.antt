@@ -141,10 +141,3 @@ is_begun-put-first true old new part bytes none from is =
     ∙ is_begun-after_blanks bytes
 is_begun-put-first false old new part bytes none from is =
     ap is_begun (is ∙ nil_from_length old (eqb-true (length old) 0 none))
-
--- appending to a text that does not start with a blank preserves this
-pub is_begun-put : (t : Bool) (old new bytes : List ℕ) → (length old == 0) ≡ false → is_begun old ≡ true
-    → new ≡ (if t then old ++ bytes else old) → is_begun new ≡ true
-is_begun-put t [] new bytes some begun is = cc
-is_begun-put true (b ∷ old) new bytes some begun is = ap is_begun is ∙ begun
-is_begun-put false (b ∷ old) new bytes some begun is = ap is_begun is ∙ begun

@@ -48,16 +48,6 @@ pub record IsLengthened (n top bottom number rest places : ℕ) : Type 0 where
   pub part : rest < bottom
   pub below : number < 10 ^ n
 
--- the quotient and its remainder start the digits of a ratio
-pub lengthened_start : (n top bottom : ℕ) → 0 < bottom → top / bottom < 10 ^ n
-    → IsLengthened n top bottom (top / bottom) (top % bottom) 0
-lengthened_start n top bottom some low =
-    let whole : bottom * (top / bottom) + top % bottom ≡ top = div-add-mod top bottom in
-    record { value = start bottom (top / bottom) (top % bottom) top whole; part = omega arith; below = low }
-  where
-    start : (b q r t : ℕ) → b * q + r ≡ t → q * b + r ≡ t * 10 ^ 0
-    start b q r t e = omega arith
-
 -- one more digit of the remainder makes the number one place longer
 pub lengthened_more : (n top bottom number rest places digit next : ℕ) → 0 < n
     → IsLengthened n top bottom number rest places
@@ -159,14 +149,6 @@ pub record IsShortened (n whole unit places : ℕ) : Type 0 where
   pub power : unit ≡ 10 ^ places
   pub some : 0 < places
   pub least : 10 ^ (n - 1) ≤ whole / unit
-
--- ten is the first unit by which a number that is too long is cut
-pub shortened_start : (n whole : ℕ) → 0 < n → 10 ^ n ≤ whole → IsShortened n whole 10 1
-shortened_start n whole some high = record {
-  power = refl;
-  some = lit< tt;
-  least = le-div (10 ^ (n - 1)) whole 10 (lit< tt) (omega (arith, ten_before n some));
-}
 
 -- the unit is at most a tenth of the whole number if more than n digits are left
 pub shortened_wide : (n whole unit : ℕ) → 0 < n → 0 < unit → 10 ^ n ≤ whole / unit → 10 ^ (n - 1) * (unit * 10) ≤ whole

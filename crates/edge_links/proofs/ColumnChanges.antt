@@ -25,17 +25,6 @@ pub rings_at : (side : Side) (c : Columns) (top : Option ℕ) → AreLinked c to
 rings_at User c top l = l.users
 rings_at Key c top l = l.keys
 
--- the ring of a side is as long as the names
-pub size_at : (side : Side) (c : Columns) (top : Option ℕ) → AreLinked c top
-    → length (ring_of side c).owner ≡ length c.names
-size_at User c top l = l.users_size
-size_at Key c top l = l.keys_size
-
--- replacing a ring does not change the names
-pub names_kept : (side : Side) (c : Columns) (r : Ring) → (with_ring side c r).names ≡ c.names
-names_kept User c r = refl
-names_kept Key c r = refl
-
 -- columns with a ring replaced by one of the same length are linked
 pub relinked : (side : Side) (c : Columns) (top : Option ℕ) (r : Ring) → AreLinked c top → AreRings r
     → length r.owner ≡ length (ring_of side c).owner → AreLinked (with_ring side c r) top

@@ -1,5 +1,5 @@
 -- A loop that removes places.
-use Rattle.std.proofs.Common.{◌≡◌, ℕ, ◌<◌, length, set, get_or, refl, sym, ◌∙◌, ap, subst, arith}
+use Rattle.std.proofs.Common.{◌≡◌, ℕ, ◌<◌, length, set, get_or, sym, ◌∙◌, ap, subst, arith}
 use Rattle.std.proofs.Common.{◌⊎◌, inl, inr, get_or-set_same, get_or-set_other, length-set}
 use Rattle.std.proofs.lemmas.Bool.{cases_eq}
 use Rattle.edge_links.specs.Changes.{IsFreed}
@@ -16,10 +16,6 @@ pub record IsCutting (Test : ℕ → Type 0) (old new : Owners) : Type 0 where
 -- the places with one of them made free
 abbrev pub freed : Owners → ℕ → Owners
 freed s p = record s { users = set s.users p 0; keys = set s.keys p 0 }
-
--- at the start nothing has changed
-pub cutting_start : (Test : ℕ → Type 0) (s : Owners) → IsCutting Test s s
-cutting_start Test s = record { size = refl; names = refl; each = λ p l. inr (refl, refl) }
 
 -- one more place that satisfies the test becomes free
 pub cutting_next :

@@ -121,9 +121,6 @@ module _ (old : Owners) (old_edges : AreEdges old.users old.keys) (key : ℕ) (n
         let a = (cut_users p (in_s p l)).1 (λ h. nu h.1)
         in (v_waits (user s p)).1 (inr (p, in_t p l, (ne, a.1 ∙ e), a.0))
 
-    done2 : List ℕ
-    done2 = x ∷ u.done
-
     each2 : (p : ℕ) → p < length old.users → IsOut old v (x ∷ u.done) p ⊎ IsSame old v p
     each2 p l =
         elim (u.each p l) [

@@ -52,9 +52,6 @@ module _ (s : Owners) (e : AreEdges s.users s.keys) (nodes : List ℕ) (links : 
   is_head : IsHead s head
   is_head = (links.places key there).0
 
-  key_head_is : key_of s head ≡ head
-  key_head_is = (e.heads head is_head.0).0 is_head.1
-
   one_more : (t : ℕ) → t ≡ 1 → (v : ℕ) → many t v ≡ v
   one_more zero h v = cc
   one_more (suc zero) h v = omega arith

@@ -1,8 +1,7 @@
 -- Steps that were made, and the steps back.
 use Rattle.std.proofs.Common.{◌≡◌, ◌⊎◌, inl, inr, ◌++◌, ◌∷◌, ◌+◌, ◌-◌, ◌≤◌, [], ℕ, List, Bool, true, false, cond}
-use Rattle.std.proofs.Common.{length, take, refl, sym, ap, subst, ◌∙◌, arith, length-append, Option, Some, Result, Ok}
+use Rattle.std.proofs.Common.{length, refl, sym, ap, subst, ◌∙◌, arith, length-append, Option, Some, Result, Ok}
 use Rattle.std.proofs.Common.{Err}
-use Rattle.std.proofs.lemmas.List.{append-nil, drop_all}
 use Rattle.std.specs.Option.{option_and_then}
 use Rattle.def_lines.specs.Blanks.{trim_of}
 use Rattle.def_lines.specs.Kinds.{Kind, kind_of}
@@ -22,17 +21,17 @@ use Rattle.deck.specs.Decks.{Contents}
 use Rattle.deck.specs.Edits.{after_define, by_entry, with_line}
 use Rattle.deck.specs.Splices.{SpliceInverseLaw, after_splice, inverse_splice, lines_from}
 use Rattle.deck.specs.Tables.{last_place}
-use Rattle.deck.specs.LineRemoval.{CanUndefine, IsLastText, place_of_key, without_last}
+use Rattle.deck.specs.LineRemoval.{CanUndefine, place_of_key}
 use Rattle.deck.specs.declared.fault.DeckFault.TheVariants.{BadLine}
 use Rattle.deck.specs.declared.settings.Settings.{Settings}
 use Rattle.deck.specs.declared.splice.Splice.{Splice}
 use Rattle.edit_history.specs.Steps.{CanStep, IsLastDefined, after_step, splice_of}
 use Rattle.edit_history.specs.Versions.{Version, deck_of_version, version_of}
 use Rattle.edit_history.specs.declared.step.Step.{Step}
-use Rattle.edit_history.specs.declared.step.Step.TheVariants.{Define, Undefine}
+use Rattle.edit_history.specs.declared.step.Step.TheVariants.{Undefine}
 use Rattle.edit_history.proofs.Defining.{accepted_as, defined_is}
 use Rattle.edit_history.proofs.Exchanges.{exchange_step}
-use Rattle.edit_history.proofs.Stepping.{can_exchange, can_go_back, cut_last, lines_back, put_last, splice}
+use Rattle.edit_history.proofs.Stepping.{can_exchange, can_go_back, cut_last, lines_back, splice}
 
 -- a version with these parts
 abbrev pub version : List DeckLine → Settings → Version
@@ -113,14 +112,6 @@ module _ (text : List ℕ) (bare : trim_of text ≡ text) (covered : Option ℕ)
     pub undefine_again : after_step (Undefine covered) (version_of new) ≡ version_of old
     undefine_again = version_by _ old.lines new.settings old.settings cut (ap (λ (d : Contents). d.settings) new_is)
 
-    pub defined : IsMade (Define text) (Undefine covered) old new
-    defined = record {
-      made = new_is ∙ sym (ap (λ (ls : List DeckLine). record old { lines = ls })
-          (put_last (length old.lines) old.lines (plain_line 0 text) refl));
-      can = can_undefine;
-      again = undefine_again;
-    }
-
 -- lines of kinds that have an entry are definitions or unit lists
 entry_kinds : (kind : Kind) → has_entry kind ≡ true → (kind ≡ line.Definition) ⊎ (kind ≡ line.UnitList)
 entry_kinds line.Definition h = inl refl
@@ -182,56 +173,3 @@ can_take uncovered old last =
           ∙ ap (λ (s : Settings). last_place s last.earlier_version.lines p.0.0)
           (sym (ap (λ (v : Version). v.settings) last.text_is_last));
     }
-
--- the last line was removed, and the step back appends it again
-pub undefined : (uncovered : Option ℕ) (text : List ℕ) (old new : Contents) → IsLastDefined uncovered (version_of old)
-    → new ≡ without_last old
-    → IsLastText text old → AreBlocksClosed old.lines → pass_limit old.lines ≡ false
-    → IsMade (Undefine uncovered) (Define text) old new
-undefined uncovered text old new last taken text_is closed within = record {
-  made = taken ∙ sym (ap (λ (ls : List DeckLine). record old { lines = ls })
-      (ap (λ t. take (length old.lines - 1) old.lines ++ t)
-      (drop_all (length old.lines - 1 + 1) old.lines (omega arith))
-      ∙ append-nil (take (length old.lines - 1) old.lines)));
-  can = subst (λ t. CanStep (Define t) (version_of new)) (sym same)
-      (subst (CanStep (Define last.text)) (sym there)
-      (record {
-        splice = can_exchange (length before.lines) 0 (x ∷ []) before.lines old.lines (omega arith) put closed
-            within;
-        step_right = last.definition;
-      }));
-  again =
-      ap (λ t. after_step (Define t) (version_of new)) same ∙ ap (after_step (Define last.text)) there
-      ∙ version_by _ old.lines before.settings old.settings put
-      (sym (ap (λ (v : Version). v.settings) last.text_is_last));
-}
-  where
-    before : Version
-    before = last.earlier_version
-
-    x : DeckLine
-    x = plain_line 0 last.text
-
-    lines : old.lines ≡ before.lines ++ x ∷ []
-    lines = ap (λ (v : Version). v.lines) last.text_is_last
-
-    same : text ≡ last.text
-    same = text_is before.lines x lines
-
-    put : exchanged_lines (length before.lines) 0 (x ∷ []) before.lines ≡ old.lines
-    put = put_last (length before.lines) before.lines x refl ∙ sym lines
-
-    one_more : length old.lines ≡ length before.lines + 1
-    one_more = omega (arith, ap length lines, length-append before.lines (x ∷ []))
-
-    front : take (length old.lines - 1) old.lines ≡ before.lines
-    front =
-        sym (append-nil (take (length old.lines - 1) old.lines))
-        ∙ ap (λ t. take (length old.lines - 1) old.lines ++ t)
-        (sym (drop_all (length old.lines - 1 + 1) old.lines (omega arith)))
-        ∙ cut_last (length old.lines - 1) 1 before.lines (x ∷ []) old.lines lines (omega (arith, one_more))
-        (omega (arith, one_more))
-
-    there : version_of new ≡ before
-    there = ap version_of taken ∙ version_by _ before.lines old.settings before.settings front
-        (ap (λ (v : Version). v.settings) last.text_is_last)

@@ -1,9 +1,7 @@
 -- Steps that change one setting.
-use Rattle.std.proofs.Common.{◌≡◌, ◌-◌, ◌∷◌, [], ℕ, suc, List, false, length, take, refl, sym, ap, subst, ◌∙◌, arith}
+use Rattle.std.proofs.Common.{◌≡◌, [], ℕ, List, false, refl, sym, ap, subst, ◌∙◌, arith}
 use Rattle.std.proofs.Common.{Ok}
-use Rattle.std.proofs.Common.{None, slice_get}
 use Rattle.std.specs.Prelude.{Result}
-use Rattle.units_io.specs.NamedValues.{Pairs}
 use Rattle.deck_lines.specs.ClosedBlocks.{AreBlocksClosed}
 use Rattle.deck_lines.specs.Limits.{pass_limit}
 use Rattle.deck.specs.Decks.{Contents}
@@ -22,37 +20,8 @@ use Rattle.edit_history.proofs.GoingBack.{IsMade, version_by}
 use Rattle.edit_history.proofs.Noting.{LeadsBack, same_deck}
 use Rattle.edit_history.proofs.Stepping.{can_exchange}
 
-pub puts_variable : (name value : List ℕ) (from to : Settings) → with_variable from name value ≡ to
-    → PutsSettings (Set (name, value)) from to
-puts_variable name value from to is = record {
-  splice = λ v e. ap (λ (s : Settings). settings_splice (with_variable s name value)) e ∙ ap settings_splice is;
-  step_right = λ v. tt;
-}
-
-pub takes_last : (from to : Settings) → without_last_variable from ≡ to → PutsSettings UnsetLast from to
-takes_last from to is = record {
-  splice = λ v e. ap (λ (s : Settings). settings_splice (without_last_variable s)) e ∙ ap settings_splice is;
-  step_right = λ v. tt;
-}
-
-pub puts_locale : (locale : List ℕ) (from to : Settings) → with_locale from locale ≡ to
-    → PutsSettings (Locale locale) from to
-puts_locale locale from to is = record {
-  splice = λ v e. ap (λ (s : Settings). settings_splice (with_locale s locale)) e ∙ ap settings_splice is;
-  step_right = λ v. tt;
-}
-
 pub puts_nothing : (from to : Settings) → from ≡ to → PutsSettings Nothing from to
 puts_nothing from to is = record { splice = λ v e. ap settings_splice (e ∙ is); step_right = λ v. tt }
-
--- a list without a last variable is unchanged by removing the last one
-pub no_last : (vars : Pairs) → slice_get vars (length vars - 1) ≡ None → take (length vars - 1) vars ≡ vars
-no_last [] e = refl
-no_last (p ∷ []) e = cc
-no_last (p ∷ q ∷ vars) e =
-    let at : length (p ∷ q ∷ vars) - 1 ≡ suc (length (q ∷ vars) - 1) = omega arith in
-    ap (λ n. take n (p ∷ q ∷ vars)) at
-    ∙ ap (λ (ps : Pairs). p ∷ ps) (no_last (q ∷ vars) (ap (λ n. slice_get (p ∷ q ∷ vars) n) (sym at) ∙ e))
 
 -- after a change of settings, a step that puts the previous settings leads back
 pub leads_back : (back : Step) (settings : Settings) (before after : Contents)

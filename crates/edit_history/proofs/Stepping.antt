@@ -1,5 +1,5 @@
 -- Exchanges of lines, and back.
-use Rattle.std.proofs.Common.{◌≡◌, ◌++◌, ◌∷◌, ◌+◌, ◌-◌, ◌≤◌, [], ℕ, List, false, length, take, drop, refl, sym, ap}
+use Rattle.std.proofs.Common.{◌≡◌, ◌++◌, ◌+◌, ◌-◌, ◌≤◌, [], ℕ, List, false, length, take, drop, refl, sym, ap}
 use Rattle.std.proofs.Common.{subst, ◌∙◌, arith, length-append, length-take}
 use Rattle.std.proofs.lemmas.List.{append-nil, drop_all, take_at}
 use Rattle.deck_lines.specs.ClosedBlocks.{AreBlocksClosed}
@@ -11,15 +11,6 @@ use Rattle.deck.specs.Decks.{Contents}
 use Rattle.deck.specs.Splices.{SpliceInverseLaw, after_splice, lines_from}
 use Rattle.deck.specs.declared.settings.Settings.{Settings}
 use Rattle.deck.specs.declared.splice.Splice.{Splice}
-
--- an exchange that cuts nothing at the end appends a line
-pub put_last : (n : ℕ) (xs : List DeckLine) (x : DeckLine) → n ≡ length xs
-    → exchanged_lines n 0 (x ∷ []) xs ≡ xs ++ x ∷ []
-put_last n xs x e =
-    ap (λ m. take m xs ++ (x ∷ drop (m + 0) xs)) e
-    ∙ ap (λ t. t ++ (x ∷ drop (length xs + 0) xs))
-    (sym (ap (take (length xs)) (append-nil xs)) ∙ take_at xs [] (length xs) refl)
-    ∙ ap (λ t. xs ++ (x ∷ t)) (drop_all (length xs + 0) xs (omega arith))
 
 -- an exchange that cuts everything from a place on leaves the lines before it
 pub cut_last : (at cut : ℕ) (xs ys zs : List DeckLine) → zs ≡ xs ++ ys → at ≡ length xs → at + cut ≡ length zs

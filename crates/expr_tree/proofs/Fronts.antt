@@ -3,8 +3,8 @@ use Rattle.std.proofs.Common.{◌≡◌, ℕ, suc, true, false, List, [], ◌∷
 use Rattle.frac128.specs.Decimals.{Decimal}
 use Rattle.expr_tree.specs.declared.operator.Sign.{Sign}
 use Rattle.expr_tree.specs.declared.operator.Sign.TheVariants as signs
-use Rattle.expr_tree.specs.Front.{IsFront, JuxtapositionAt, PowerAt, ExponentAt, AtomAt, IsSumInParens, first_sign}
-use Rattle.expr_tree.specs.Front.{first_caret, first_denominator, stops, can_begin_operand, after_sum, after_power}
+use Rattle.expr_tree.specs.Front.{IsFront, JuxtapositionAt, PowerAt, ExponentAt, AtomAt, IsSumInParens}
+use Rattle.expr_tree.specs.Front.{first_caret, first_denominator, stops, after_sum, after_power}
 use Rattle.expr_tree.specs.Front.{after_atom}
 use Rattle.expr_tree.specs.Grammar.{Signed, Bare, Raised, SignedExponent, ExponentOf, NumeralAtom, BarAtom, WordAtom}
 use Rattle.expr_tree.specs.Grammar.{PowerAtom, CallAtom, InverseAtom, RootAtom, GroupAtom}
@@ -12,7 +12,7 @@ use Rattle.expr_tree.specs.Grammar.{sign_token, sum, sum_tree, atom, word, call,
 use Rattle.expr_tree.specs.Rules.{WantsOperand, EndsOperand, EndsNumeral, tokens_fit}
 use Rattle.expr_tree.specs.Syntax.{Syntax}
 use Rattle.expr_tree.specs.Syntax as tree
-use Rattle.expr_tree.specs.Tokens.{Token, Numeral, Word, WordWithPower, Head, Root, Plus, Minus, Star, Slash, Bar}
+use Rattle.expr_tree.specs.Tokens.{Token, Numeral, Word, WordWithPower, Head, Root, Plus, Minus, Bar}
 use Rattle.expr_tree.specs.Tokens.{Caret, Tilde, Open, Close}
 use Rattle.expr_tree.proofs.Fits.{ended_stops}
 use Rattle.expr_tree.specs.declared.operator.RootKind.{RootKind}
@@ -205,19 +205,6 @@ sign_wants k s x y is h = go s (fit_as k x _ is h)
 pub caret_wants : (k : ℕ) (x y : List Token) → x ≡ Caret ∷ y → tokens_fit EndsOperand k x ≡ true
     → tokens_fit WantsOperand k y ≡ true
 caret_wants k x y is h = subst (λ z. tokens_fit EndsOperand k z ≡ true) is h
-
--- if an operand is wanted and the first token is not a sign, that token begins an operand
-pub no_sign_begins : (k : ℕ) (x : List Token) → tokens_fit WantsOperand k x ≡ true → first_sign x ≡ None
-    → can_begin_operand x ≡ true
-no_sign_begins k [] h n = cc
-no_sign_begins k (Plus ∷ x) h n = cc
-no_sign_begins k (Minus ∷ x) h n = cc
-no_sign_begins k (Star ∷ x) h n = cc
-no_sign_begins k (Slash ∷ x) h n = cc
-no_sign_begins k (Bar ∷ x) h n = cc
-no_sign_begins k (Caret ∷ x) h n = cc
-no_sign_begins k (Close ∷ x) h n = cc
-no_sign_begins k (t ∷ x) h n = refl
 
 -- a sum followed by its `)` is closed
 pub closed_front : (b : Option (List ℕ)) (k : ℕ) (x y z : List Token) (e : Syntax)

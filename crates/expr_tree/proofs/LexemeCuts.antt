@@ -24,7 +24,7 @@ use Rattle.expr_tree.specs.Rules.{deepens, depth_after, left_by, may, may_end_to
 use Rattle.expr_tree.specs.Rules.{tokens_fit}
 use Rattle.expr_tree.specs.TokenViews.{seen_lexeme, seen_piece, token_view}
 use Rattle.expr_tree.specs.Tokens.{Token}
-use Rattle.expr_tree.proofs.Before.{Leaves, leaves-push, nothing-leaves}
+use Rattle.expr_tree.proofs.Before.{Leaves, leaves-push}
 
 -- the bytes that a lexeme covers are skipped
 pub past-covered : (covered : ℕ) (after_numeral : Bool) (place : ℕ) (text : List ℕ)
@@ -102,11 +102,6 @@ pub record IsRead (text : List ℕ) (before : List Token) (last : After) (open_p
   pub shallow : depth ≤ 65
   pub tokens_are : tokens text ≡ before ++ tokens_in (ahead text after_numeral place)
   pub fault_is : first_fault text ≡ fault_from before (length text) (ahead text after_numeral place)
-
--- at the start nothing has been read
-pub nothing-read : (text : List ℕ) → IsRead text [] WantsOperand 0 0 false 0
-nothing-read text =
-    record { leaves = nothing-leaves; within = omega arith; shallow = omega arith; tokens_are = refl; fault_is = refl }
 
 -- the fault of a lexeme, given the tokens before it
 pub fault_here : List Token → ℕ → Lexeme → Option ParseFault

@@ -48,15 +48,6 @@ pub record Standing (ts : List Made) (at : ℕ) (t : Token) : Type 0 where
   pub within : at < length ts
   pub is : tokens_from ts at ≡ t ∷ tokens_from ts (at + 1)
 
--- if an operand is wanted, there is a token
-pub wanted : (ts : List Made) (at k : ℕ) → tokens_fit WantsOperand k (tokens_from ts at) ≡ true → at < length ts
-wanted ts at k h = go (ahead ts at)
-  where
-    go : Ahead ts at → at < length ts
-    go (nothing e) = let f : tokens_fit WantsOperand k [] ≡ true = subst (λ y. tokens_fit WantsOperand k y ≡ true) e h
-        in cc
-    go (something l t e) = l
-
 -- a sign that is the first token is at the place
 pub sign_stands : (ts : List Made) (at : ℕ) (s : Sign) → first_sign (tokens_from ts at) ≡ Some s
     → Standing ts at (sign_token s)

@@ -7,8 +7,8 @@ use Rattle.expr_tree.specs.Grammar.{InverseAtom, RootAtom, GroupAtom}
 use Rattle.expr_tree.specs.Grammar.{sum_rest, product_rest, juxtaposition_rest, power, exponent_tokens, atom}
 use Rattle.expr_tree.specs.Front.{stops, can_begin_operand, after_sum, after_product, after_juxtaposition, after_power}
 use Rattle.expr_tree.specs.Front.{after_atom}
-use Rattle.expr_tree.specs.Tokens.{Token, Numeral, Word, WordWithPower, Head, Root, Plus, Minus, Bar, Caret, Tilde}
-use Rattle.expr_tree.specs.Tokens.{Open, Close}
+use Rattle.expr_tree.specs.Tokens.{Token, Plus, Minus, Bar, Caret}
+use Rattle.expr_tree.specs.Tokens.{Close}
 use Rattle.expr_tree.specs.declared.operator.Scale.TheVariants.{Multiply, Divide}
 use Rattle.expr_tree.specs.declared.operator.Sign.TheVariants as signs
 
@@ -45,18 +45,6 @@ begins_power [] h = cc
 begins_power (Caret ∷ r) h = cc
 begins_power (Bar ∷ r) h = cc
 begins_power (t ∷ r) h = refl
-
--- what begins an operand may not follow a juxtaposition
-pub begins_juxtaposition : (r : List Token) → can_begin_operand r ≡ true → stops after_juxtaposition r ≡ true → ⊥
-begins_juxtaposition [] b h = cc
-begins_juxtaposition (Numeral n ∷ r) b h = cc
-begins_juxtaposition (Word w ∷ r) b h = cc
-begins_juxtaposition (WordWithPower w d ∷ r) b h = cc
-begins_juxtaposition (Head w ∷ r) b h = cc
-begins_juxtaposition (Root n ∷ r) b h = cc
-begins_juxtaposition (Tilde ∷ r) b h = cc
-begins_juxtaposition (Open ∷ r) b h = cc
-begins_juxtaposition (t ∷ r) b h = cc
 
 -- the terms of a sum may follow a product
 pub sum_rest_stops : (ps : SumRest) (r : List Token) → stops after_sum r ≡ true

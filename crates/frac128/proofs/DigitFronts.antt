@@ -1,16 +1,15 @@
 -- Digits at the front of a numeral.
-use Rattle.std.proofs.Common.{◌≡◌, ◌+◌, ◌-◌, ◌<◌, ◌+ℤ◌, ◌-ℤ◌, ℕ, suc, zero, pos, Bool, true, false, List, [], ◌∷◌}
+use Rattle.std.proofs.Common.{◌≡◌, ◌+◌, ◌-◌, ◌<◌, ℕ, suc, zero, Bool, true, false, List, [], ◌∷◌}
 use Rattle.std.proofs.Common.{take, length, get_or, add-one, subst, Some, None, arith, refl, sym, ap, ◌∙◌}
 use Rattle.std.specs.Prelude.{◌||◌, if◌then◌else◌}
 use Rattle.std.specs.List.{list_all}
-use Rattle.std.proofs.lemmas.Int.{ints}
 use Rattle.std.proofs.lemmas.Bool.{and_parts}
 use Rattle.frac128.specs.declared.numeral_syntax.Kind.TheVariants.{Digit, Point, Mark, Sign, Other}
 use Rattle.frac128.specs.declared.numeral_syntax.Stage.{Stage}
 use Rattle.frac128.specs.declared.numeral_syntax.Stage.TheVariants.{Start, Whole, Pointed, Fraction, Marked, Signed}
 use Rattle.frac128.specs.declared.numeral_syntax.Stage.TheVariants.{Exponent}
 use Rattle.frac128.specs.Decimals.{decimal_places}
-use Rattle.frac128.specs.Numerals.{greatest_passing, is_digit, is_mark_byte, is_numeral, is_point_byte, is_sign_byte}
+use Rattle.frac128.specs.Numerals.{is_digit, is_mark_byte, is_point_byte, is_sign_byte}
 use Rattle.frac128.specs.Numerals.{numeral_len_of}
 use Rattle.frac128.specs.Stages.{byte_kind, may_end, stage_after}
 use Rattle.frac128.proofs.Readings.{IsSplit}
@@ -79,11 +78,6 @@ digits_end bytes (suc i) is low other stops some =
     none false false false true d_is h = refl
     none false false false false d_is h = refl
 
--- if all bytes are digits, the longest numeral has all of them
-pub digits_all : (bytes : List ℕ) (i : ℕ) → IsDigitsTo bytes i → i ≡ length bytes → i ≡ numeral_len_of bytes
-digits_all bytes i is all =
-    is.read.longest ∙ ap (λ n. greatest_passing (λ n. is_numeral (take n bytes)) n) all
-
 -- after one more digit at a stage at which a numeral may end, the stage is the same and the longest numeral ends there
 pub ended_more : (bytes : List ℕ) (i : ℕ) (s : Stage) (len : ℕ) → IsReadTo bytes i s len → i < length bytes
     → is_digit (get_or bytes i 0) ≡ true → may_end s ≡ true → IsReadTo bytes (i + 1) s (i + 1)
@@ -113,7 +107,3 @@ digits_split bytes some h = record {
 -- digits alone have no digits after a point
 pub digits_places : (bytes : List ℕ) → list_all is_digit bytes ≡ true → 0 ≡ decimal_places bytes
 digits_places bytes h = sym (ap (λ xs. length xs - 1) (from_digits is_point_byte bytes digit_no_point h))
-
--- the scale of digits alone is the number of zeros at their end
-pub digits_scale : (z : ℕ) → pos z ≡ pos 0 -ℤ pos 0 +ℤ pos z
-digits_scale z = omega (arith, ints)

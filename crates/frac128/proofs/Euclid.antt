@@ -62,6 +62,3 @@ gcd_some a b h = above (gcd a b) refl
         let none : 0 ≡ b = dvd_antisymm (subst (λ g. g ∣ b) e (gcd_is a b).1) (dvd-zero b) in
         absurd (omega arith)
     above (suc g) e = omega arith
-
--- the facts for the loop that makes Euclid's steps
-pub ruleset euclid = (gcd_step, gcd_zero, gcd_some)

@@ -87,16 +87,6 @@ module _ {A : Type 0} where
           ap (λ i. get_or new i d) same ∙ swapped.0 d ∙ ap (λ i. get_or old i d) e
           ∙ before.others place d (omega arith) (omega (arith, inside)) ∙ ap (λ i. get_or items i d) (sym same)
 
-  -- no item is moved at the start
-  pub moved_none : (gaps : List ℕ) (from : ℕ) (slots : List A) → AreMoved gaps from from slots slots
-  moved_none gaps from slots items le filled = filled
-
-  -- one more item is moved
-  pub moved_more : (gaps : List ℕ) (from place : ℕ) (old mid new : List A) → AreMoved gaps from place old mid
-      → AreMoved gaps place (place + 1) mid new → AreMoved gaps from (place + 1) old new
-  moved_more gaps from place old mid new first next items le filled =
-      next items le (first items (omega (arith, le)) filled)
-
   -- lists of one length with the same items are equal
   alike : (xs ys : List A) → length xs ≡ length ys
       → ((k : ℕ) (d : A) → k < length xs → get_or xs k d ≡ get_or ys k d) → xs ≡ ys
@@ -114,7 +104,8 @@ module _ {A : Type 0} where
   fill_end gaps items slots count filled e le =
       let len : length (take count slots) ≡ count = length-take count slots ∙ omega (arith, le) in
       alike (take count slots) items (len ∙ sym e)
-      (λ k d less. get_or-take count slots k d (omega (arith, less, len)) ∙ filled.filled k d (omega (arith, less, len)))
+      (λ k d less. get_or-take count slots k d (omega (arith, less, len))
+      ∙ filled.filled k d (omega (arith, less, len)))
 
   -- the first slots have all items, if the gaps start at the first place that is moved
   pub moved_all : (low high gap : ℕ) (gaps : List ℕ) (old new : List A) (len : ℕ) → AreIncreasing low (gap ∷ gaps)

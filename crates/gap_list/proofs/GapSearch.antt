@@ -30,18 +30,15 @@ behind_more low [] k d slot h lt le = absurd (omega (arith, lt))
 behind_more low (gap ∷ gaps) zero d slot h lt le = (omega (arith, le), h.1)
 behind_more low (gap ∷ gaps) (suc k) d slot h lt le = behind_more (gap + 1) gaps k d slot h.1 (omega (arith, lt)) le
 
--- no gap is after the last one
-pub none_behind : (low : ℕ) (gaps : List ℕ) → AreIncreasing low (drop (length gaps) gaps)
-none_behind low [] = tt
-none_behind low (gap ∷ gaps) = none_behind low gaps
-
 -- an item before all gaps is in the slot with the number of its place
-pub slot_before_all : (low place : ℕ) (gaps : List ℕ) → AreIncreasing low gaps → place < low → slot_at gaps place ≡ place
+pub slot_before_all : (low place : ℕ) (gaps : List ℕ) → AreIncreasing low gaps → place < low
+    → slot_at gaps place ≡ place
 slot_before_all low place [] h lt = refl
 slot_before_all low place (gap ∷ gaps) h lt =
     by (slot_before_all (gap + 1) place gaps h.1 (omega (arith, h.0, lt))) (nat_lt place gap) refl
   where
-    by : slot_at gaps place ≡ place → (b : Bool) → nat_lt place gap ≡ b → slot_at gaps (cond b place (place + 1)) ≡ place
+    by : slot_at gaps place ≡ place → (b : Bool) → nat_lt place gap ≡ b
+        → slot_at gaps (cond b place (place + 1)) ≡ place
     by rest true e = rest
     by rest false e = absurd (grind (arith, nat_tests, e, h.0, lt))
 
@@ -164,7 +161,8 @@ place_past_gaps low (gap ∷ gaps) zero d slot h lt less =
 place_past_gaps low (gap ∷ gaps) (suc k) d slot h lt less =
     let far : gap + 1 + k ≤ get_or gaps k d = least (gap + 1) gaps k d h.1 (omega (arith, lt)) in
     let rest : gap + 1 ≤ place_without gaps slot = place_least (gap + 1) slot gaps h.1 (omega (arith, far, less)) in
-    let one : without_gap gap (place_without gaps slot) + 1 ≡ place_without gaps slot = grind (arith, nat_tests, rest) in
+    let one : without_gap gap (place_without gaps slot) + 1 ≡ place_without gaps slot =
+    grind (arith, nat_tests, rest) in
     let others : place_without gaps slot + suc k ≡ place_without (drop (suc k) gaps) slot =
     place_past_gaps (gap + 1) gaps k d slot h.1 (omega (arith, lt)) less in
     omega (arith, one, others)
@@ -178,8 +176,3 @@ place_up_to_gap low (gap ∷ gaps) zero d slot h lt le =
     place_before_all gap slot (gap ∷ gaps) (same, h.1) le
 place_up_to_gap low (gap ∷ gaps) (suc k) d slot h lt le =
     place_up_to_gap (gap + 1) gaps k d slot h.1 (omega (arith, lt)) le
-
--- no gap is counted after the last one
-pub place_of_none : (gaps : List ℕ) (slot : ℕ) → place_without (drop (length gaps) gaps) slot ≡ slot
-place_of_none [] slot = refl
-place_of_none (gap ∷ gaps) slot = place_of_none gaps slot

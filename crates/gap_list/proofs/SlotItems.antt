@@ -148,16 +148,6 @@ gaps_with_one low high place (gap ∷ gaps) h le lt =
         let more : gap + 1 ≤ place + 1 = grind (arith, nat_tests, e) in
         (h.0, rest more)
 
--- the number of gaps grows by one
-pub length-with_gap : (place : ℕ) (gaps : List ℕ) → length (with_gap place gaps) ≡ length gaps + 1
-length-with_gap place [] = omega arith
-length-with_gap place (gap ∷ gaps) = by (length-with_gap (place + 1) gaps) (nat_lt place gap)
-  where
-    by : length (with_gap (place + 1) gaps) ≡ length gaps + 1 → (b : Bool)
-        → length (cond b (place ∷ gap ∷ gaps) (gap ∷ with_gap (place + 1) gaps)) ≡ length (gap ∷ gaps) + 1
-    by rest true = omega arith
-    by rest false = omega (arith, rest)
-
 module _ {A : Type 0} where
   -- an item is appended after another one is removed
   remove-push : (xs : List A) (gap : ℕ) (x : A) → gap < length xs → remove (xs ++ x ∷ []) gap ≡ remove xs gap ++ x ∷ []

@@ -1,24 +1,21 @@
 -- The files of lines, line by line.
-use Rattle.std.proofs.Common.{◌≡◌, ◌++◌, ℕ, zero, suc, Bool, true, false, List, [], ◌∷◌, map, reverse, refl, sym, ap}
+use Rattle.std.proofs.Common.{◌≡◌, ◌++◌, ℕ, zero, suc, List, [], ◌∷◌, map, refl, sym, ap}
 use Rattle.std.proofs.Common.{◌∙◌}
 use Rattle.std.proofs.Common.{Option, Some, None, Result, Ok, Err, OnOk, IfSome, ◌-◌, subst, arith}
 use Rattle.std.specs.Map.Iter.{TakesFirst}
-use Rattle.std.proofs.lemmas.List.{append-nil, append_assoc, map-append, reverse-append}
+use Rattle.std.proofs.lemmas.List.{append-nil, append_assoc, map-append}
 use Rattle.units_io.specs.FileMap.{FileMap, file_of}
 use Rattle.units_io.specs.FetchResults.{answer_of}
 use Rattle.units_io.specs.declared.files.FetchFault.{FetchFault}
 use Rattle.units_io.specs.declared.files.FetchFault.TheVariants.{Absent, TooLong, Failed, OutOfMemory}
 use Rattle.def_lines.specs.declared.line.Line.{Line}
-use Rattle.deck_lines.specs.Excerpts.{Included, blocks_behind_line, blocks_behind_role, closes_innermost}
-use Rattle.deck_lines.specs.Excerpts.{missing_end, role_excerpt}
+use Rattle.deck_lines.specs.Excerpts.{Included, blocks_behind_line}
+use Rattle.deck_lines.specs.Excerpts.{missing_end}
 use Rattle.deck_lines.specs.Includes.{included_below, included_by, included_name, of_answer}
-use Rattle.deck_lines.specs.Readings.{Defines, Faulty, Includes, Reading, Stands, reading_of}
+use Rattle.deck_lines.specs.Readings.{Includes, reading_of}
 use Rattle.deck_lines.specs.declared.line.Block.{Block}
-use Rattle.deck_lines.specs.declared.line.Role.{Role}
-use Rattle.deck_lines.specs.declared.line.Role.TheVariants.{Closes, Inside, Opens}
-use Rattle.line_files.specs.FileLines.{FileLine, all_in_file, file_names, in_file, include_lines, line_lines}
+use Rattle.line_files.specs.FileLines.{FileLine, file_names, in_file, include_lines, line_lines}
 use Rattle.line_files.specs.FileLines.{lines_above, lines_below, lines_of_answer, lines_of_line, rest_lines}
-use Rattle.line_files.specs.Steps.{role_in}
 
 -- the file of each missing end line is the file of its block
 ends_named : (file : List ℕ) (blocks : List Block)
@@ -55,44 +52,6 @@ module _ (included : List ℕ → Included) (below : List ℕ → List FileLine)
       ∙ ap (λ ls. mid ++ file_names (rest_lines included below file blocks ls)) (sym h)
       ∙ so_far
   file_passed ys mid whole after (Err e) h so_far named = named
-
-  role_named : (line : Line) (role : Role)
-      → file_names (all_in_file file (role_excerpt file blocks line role)) ≡ file ∷ []
-  role_named line (Opens ending) = refl
-  role_named line Inside = refl
-  role_named line (Closes ending) = by (closes_innermost ending blocks) refl
-    where
-      by : (b : Bool) → closes_innermost ending blocks ≡ b
-          → file_names (all_in_file file (role_excerpt file blocks line (Closes ending))) ≡ file ∷ []
-      by true e = rw e refl
-      by false e = rw e refl
-
-  -- a line that includes no file adds one line of its file
-  pub plain_named : (line : Line) (reading : Reading) (role : Role) → role_in reading ≡ Some role
-      → file_names (line_lines included below file blocks line reading) ≡ file ∷ []
-  plain_named line (Stands own) role e = role_named line own
-  plain_named line (Defines entry) role e = refl
-  plain_named line (Faulty text) role e = refl
-  plain_named line (Includes name) role e = cc
-
-  pub plain_behind : (line : Line) (reading : Reading) (role : Role) → role_in reading ≡ Some role
-      → blocks_behind_line blocks line reading ≡ blocks_behind_role blocks line.number role
-  plain_behind line (Stands own) role e = ap (λ r. blocks_behind_role blocks line.number (unwrapped r)) e
-    where
-      unwrapped : Option Role → Role
-      unwrapped (Some r) = r
-      unwrapped None = own
-  plain_behind line (Defines entry) role e = ap (λ r. blocks_behind_role blocks line.number (unwrapped r)) e
-    where
-      unwrapped : Option Role → Role
-      unwrapped (Some r) = r
-      unwrapped None = Inside
-  plain_behind line (Faulty text) role e = ap (λ r. blocks_behind_role blocks line.number (unwrapped r)) e
-    where
-      unwrapped : Option Role → Role
-      unwrapped (Some r) = r
-      unwrapped None = Inside
-  plain_behind line (Includes name) role e = cc
 
 -- the files of an include line are its own file, and then those of the lines of the included file
 pub include_named : (files : FileMap) (depth : ℕ) (name file : List ℕ) (line : Line)
@@ -176,9 +135,3 @@ line_taken lines rest o line h e = rw e at h
 -- if no line is taken, no line is left
 pub none_taken : (lines rest : List Line) (o : Option Line) → TakesFirst (λ y. y) lines o rest → o ≡ None → lines ≡ []
 none_taken lines rest o h e = (rw e at h).0
-
--- the innermost block, which is the last one, comes first in the reversed list
-pub last_first : (all blocks : List Block) (block : Block) (file : List ℕ) → all ≡ blocks ++ block ∷ []
-    → map (λ (b : Block). file) (reverse all) ≡ file ∷ map (λ (b : Block). file) (reverse blocks)
-last_first all blocks block file e = ap (λ bs. map (λ (b : Block). file) (reverse bs)) e
-    ∙ ap (map (λ (b : Block). file)) (reverse-append blocks (block ∷ []))

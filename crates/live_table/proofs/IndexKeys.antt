@@ -1,9 +1,9 @@
 -- Keys in the form of bytes, by number.
 use Rattle.smallvec.specs.SmallVec.{SmallVec}
-use Rattle.std.proofs.Common.{◌≡◌, ◌<◌, ◌≤◌, ◌||◌, ◌&&◌, ℕ, zero, suc, Bool, true, false, not, cond, eqb, List, []}
+use Rattle.std.proofs.Common.{◌≡◌, ◌≤◌, ◌||◌, ◌&&◌, ℕ, suc, Bool, true, false, not, cond, eqb, List, []}
 use Rattle.std.proofs.Common.{◌∷◌, ◌++◌, length, Option, Some, None, is_some, option_map, refl, sym, ◌∙◌, ap, subst}
 use Rattle.std.proofs.Common.{arith, get_or}
-use Rattle.std.specs.Prelude.{MatchBool, MatchOption, slice_index_or}
+use Rattle.std.specs.Prelude.{MatchBool, MatchOption}
 use Rattle.std.specs.List.{All, list_any, position, slice_get}
 use Rattle.std.specs.Str.{bytes_eq}
 use Rattle.std.specs.Cmp.Lexicographic.{bytes_decides}
@@ -24,13 +24,6 @@ use Rattle.live_table.specs.KeyIndex.{IsAdded, IsStoredKey, decoded_key, decoded
 -- ---- properties of all items
 all_head : {A : Type 0} (P : A → Type 0) (x : A) (xs : List A) → All P (x ∷ xs) → P x
 all_head P x xs h = h 0 x (omega arith)
-
-all_push : {A : Type 0} (P : A → Type 0) (xs : List A) (x : A) → All P xs → P x → (k : ℕ) (d : A)
-    → k < length (xs ++ x ∷ []) → P (slice_index_or (xs ++ x ∷ []) k d)
-all_push P [] x h p zero d lt = p
-all_push P [] x h p (suc k) d lt = absurd (omega arith)
-all_push P (y ∷ xs) x h p zero d lt = all_head P y xs h
-all_push P (y ∷ xs) x h p (suc k) d lt = all_push P xs x (All-tail P y xs h) p k d (omega arith)
 
 -- ---- a key in the form of bytes
 -- kinds have the same number exactly if they are equal
@@ -115,32 +108,9 @@ module _ (room : ℕ) where
       ∙ (ap (option_map (λ (s : SmallVec ℕ). decoded_key s.items)) (slice_get-get_or ss n none p.0)
       ∙ ap Some (told k w (get_or ss n none).items e p.1))
 
-  -- keys that fit fit into more room
-  pub more_room : (later : ℕ) (ss : List (SmallVec ℕ)) → All (IsStoredKey room) ss → room ≤ later
-      → All (IsStoredKey later) ss
-  more_room later ss h le = λ k d lt. wider (slice_index_or ss k d) (h k d lt)
-    where
-      wider : (s : SmallVec ℕ) → IsStoredKey room s → IsStoredKey later s
-      wider s p = (p.0, omega (arith, p.1, le))
-
 -- ---- one more key
 module _ (room : ℕ) (ss more : List (SmallVec ℕ)) (k : Key) (v : SmallVec ℕ) (h : All (IsStoredKey room) ss)
     (is : v.items ≡ key_bytes k) (put : more ≡ insert_key (λ a b. bytes_eq a.items b.items) ss v) where
-  -- the additional key fits if there is room for it
-  pub stored_more : (later : ℕ) → room ≤ later → length v.items ≤ later → All (IsStoredKey later) more
-  stored_more later le fits =
-      subst (All (IsStoredKey later)) (sym put) (by (list_any (λ s. bytes_eq v.items s.items) ss))
-    where
-      before : All (IsStoredKey later) ss
-      before = more_room room later ss h le
-
-      own : IsStoredKey later v
-      own = (ap (λ (s : List ℕ). key_bytes (decoded_key s)) is ∙ (ap key_bytes (read_back k) ∙ sym is), fits)
-
-      by : (b : Bool) → All (IsStoredKey later) (cond b ss (ss ++ v ∷ []))
-      by true = before
-      by false = all_push (IsStoredKey later) ss v before own
-
   -- these are the keys, with the additional one if it is new
   abbrev AreThose : Bool → Type 0
   AreThose b = MatchBool b

@@ -1,8 +1,8 @@
 -- The edges of settled names after the first waiting name gets its own.
-use Rattle.std.proofs.Common.{◌≡◌, ◌⊎◌, ◌↔◌, ◌<◌, ◌≤◌, ℕ, Bool, true, List, [], ◌∷◌, ◌++◌}
+use Rattle.std.proofs.Common.{◌≡◌, ◌⊎◌, ◌↔◌, ◌<◌, ◌≤◌, ℕ, Bool, true, List, ◌∷◌, ◌++◌}
 use Rattle.std.proofs.Common.{length, map, max, Contains}
 use Rattle.std.proofs.Common.{Some, get_or, refl, sym, ◌∙◌, ap, subst, inl, inr, arith}
-use Rattle.std.specs.Prelude.{Err, Ok, OnErr, Result, Vec, drop, slice_index_or}
+use Rattle.std.specs.Prelude.{Err, Ok, OnErr, Result, Vec}
 use Rattle.std.specs.declared.alloc.Global.{Global}
 use Rattle.std.proofs.lemmas.Option.{slice_get-get_or}
 use Rattle.std.proofs.lemmas.Bool.{cases_eq}
@@ -179,8 +179,3 @@ module _ (law : LinkingLaw) (deck : Contents) (l : Listed) (r n : ℕ) (g h : Na
 pub looks_at : (looks : Looks) (n : ℕ) (v : Vec ℕ Global) → n < length looks → v ≡ get_or looks n v
     → v.items ≡ looks_of looks n
 looks_at looks n v l e = sym (ap numbers_in (slice_get-get_or looks n v l ∙ ap Some (sym e)))
-
--- a list that is not empty is its first item and the others
-pub first_of : (ns : List ℕ) (n : ℕ) → 0 < length ns → n ≡ slice_index_or ns 0 n → ns ≡ n ∷ drop 1 ns
-first_of [] n some e = absurd (omega (arith, some))
-first_of (m ∷ ns) n some e = λ i. sym e i ∷ ns

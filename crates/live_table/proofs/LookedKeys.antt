@@ -15,18 +15,6 @@ use Rattle.live_table.specs.TableContents.{key_at}
 use Rattle.live_table.proofs.AddedNames.{key_same, more_length}
 use Rattle.general_lemmas.proofs.Members.{no_member, member_first, member_later, member_cases}
 
--- without words there are no keys at which they look
-pub looks_none : (t : Table) (keys : List Key) (xs : List Step) (ns : List ℕ) → xs ≡ [] → ns ≡ []
-    → AreLooks t keys [] xs ns
-looks_none t keys xs ns e f =
-    subst (λ (p : List Step × List ℕ). AreLooks t keys [] p.0 p.1) (λ i. (sym e i, sym f i)) (record {
-      seen_in_table = λ m i. absurd (no_member m i);
-      words_look = λ k. (
-        λ (u, i, j). absurd (no_member u i),
-        λ (m, i, e). absurd (elim i [ inl j ↦ no_member (To m) j | inr j ↦ no_member m j ]),
-      );
-    })
-
 -- the keys of numbers do not change when keys are added
 module _ (ks ls : List Key) (more : IsMore ks ls) (xs : List Step) (ns : List ℕ)
     (inside : (m : ℕ) → Contains xs (To m) → m < length ks) (within : (m : ℕ) → Contains ns m → m < length ks) where

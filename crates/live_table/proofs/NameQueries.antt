@@ -1,10 +1,10 @@
 -- Queries of all names, in turn.
-use Rattle.std.proofs.Common.{◌≡◌, ◌+◌, ◌≤◌, ℕ, zero, suc, Bool, true, false, List, [], ◌∷◌, ◌++◌, map, take, drop}
-use Rattle.std.proofs.Common.{length, if◌then◌else◌}
+use Rattle.std.proofs.Common.{◌≡◌, ◌+◌, ℕ, zero, suc, Bool, true, false, List, [], ◌∷◌, ◌++◌, map, take, drop}
+use Rattle.std.proofs.Common.{if◌then◌else◌}
 use Rattle.std.proofs.Common.{Option, Some, refl, sym, ◌∙◌, ap, subst, arith, ◌||◌}
 use Rattle.std.specs.Prelude.{Result, Ok, Err, OnErr, OnOk}
 use Rattle.std.specs.List.{slice_get}
-use Rattle.std.proofs.lemmas.List.{append-nil, map-append, take-append-drop, drop_all}
+use Rattle.std.proofs.lemmas.List.{map-append, take-append-drop}
 use Rattle.std.proofs.lemmas.List.Elements.{filter-append}
 use Rattle.std.specs.declared.alloc.AllocError.{AllocError}
 use Rattle.def_entry.specs.declared.key.Key.{Key}
@@ -19,7 +19,7 @@ use Rattle.live_table.specs.QueryEffects.{IsAsked}
 use Rattle.live_table.specs.Calls.{AreQueries, is_name_kind, key_queries, names_among}
 use Rattle.live_table.specs.TableView.{IsAfterEvents, IsCutOff, IsRightTable, Shown, state_with_steps}
 use Rattle.live_table.specs.States.{AsksKey, Event}
-use Rattle.live_table.proofs.QuerySequence.{cut_both, follows_both, follows_none, steps_rise}
+use Rattle.live_table.proofs.QuerySequence.{cut_both, follows_both, steps_rise}
 use Rattle.live_table.proofs.SettleCounts.{shown_counts}
 use Rattle.general_lemmas.proofs.Places.{drop_at, take_at}
 
@@ -94,19 +94,7 @@ pub record IsAsking (keys : List Key) (i : ℕ) (before now : Shown) (old new : 
   pub deck : now.deck ≡ before.deck
   pub follows : IsAfterEvents (key_queries (take i keys)) before now old new
 
--- at the start no key has been queried
-pub asking_start : (keys : List Key) (s : Shown) (n : ℕ) → IsRightTable s → IsAsking keys 0 s s n n
-asking_start keys s n right = record { deck = refl; follows = follows_none s n right }
-
 module _ (keys : List Key) (i : ℕ) (before now : Shown) (old new : ℕ) (s : IsAsking keys i before now old new) where
-  pub asking_done : length keys ≤ i → IsAfterEvents (key_queries keys) before now old new
-  asking_done h = subst (λ (ks : List Key). IsAfterEvents (key_queries ks) before now old new) all s.follows
-    where
-      all : take i keys ≡ keys
-      all =
-          sym (append-nil (take i keys))
-          ∙ (ap (λ ks. take i keys ++ ks) (sym (drop_all i keys h)) ∙ take-append-drop i keys)
-
   module _ (k : Key) (at : slice_get keys i ≡ Some k) (later : Shown) (last : ℕ) where
     pub asking_next : later.deck ≡ now.deck → IsAfterEvents (key_queries (k ∷ [])) now later new last
         → IsAsking keys (i + 1) before later old last

@@ -22,9 +22,9 @@ use Rattle.tree_eval.specs.declared.holder.Holder.{Holder}
 use Rattle.tree_eval.specs.declared.holder.Holder.TheVariants.{Of, Query}
 use Rattle.tree_eval.specs.declared.holder.Part.{Part}
 use Rattle.tree_eval.specs.declared.outcome.Outcome.{Outcome}
-use Rattle.tree_eval.specs.Entries.{meaning_of, rank_of_meaning}
+use Rattle.tree_eval.specs.Entries.{meaning_of}
 use Rattle.tree_eval.specs.Environment.{HasTarget, HoldsWords, IsFunction}
-use Rattle.tree_eval.specs.Expansions.{Callee, callable_name, rank_of}
+use Rattle.tree_eval.specs.Expansions.{Callee, callable_name}
 use Rattle.tree_eval.specs.Expansion.{inverted_word}
 use Rattle.table_names.specs.declared.fault.NameFault.{NameFault}
 use Rattle.table_names.specs.declared.fault.NameFault.TheVariants.{Unknown}
@@ -234,9 +234,6 @@ module _ (deck : Contents) (l : Listed) (asked : Asked) (is : IsSurrounding deck
         by None q h = cc
         by (Some x) q h = callee_name (word_meaning (table deck)) (key n).name x.what (callee_at s n)
             (sym (meaning_is n callee_hand x q) ∙ callee_is)
-
-    pub callee_ranked : (c : KeptCallee) → slice_get l.callees n ≡ Some c → c.rank ≡ rank_of (callee_at s n)
-    callee_ranked c at = is.numbers.ranks n callee_settled c at ∙ ap rank_of_meaning callee_is
 
     pub is_function : (x : Entry) → entry_at (table deck) (key n) ≡ Some x
         → IsFunction (holder_words s) (word_means s) n (callee_at s n) x.what

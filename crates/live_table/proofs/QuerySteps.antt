@@ -16,9 +16,9 @@ use Rattle.live_table.specs.WordTargets.{IsQueryLead, is_refused_lead, numbers, 
 use Rattle.live_table.specs.QueryWords.{AreCutAt, IsDeadEnd}
 use Rattle.live_table.specs.Sound.{AreNumberedNames}
 use Rattle.live_table.specs.TableContents.{Listed}
-use Rattle.live_table.proofs.AddedNames.{added_both, added_none, grown_none, written_more}
+use Rattle.live_table.proofs.AddedNames.{added_both, grown_none, written_more}
 use Rattle.live_table.proofs.LeadSteps.{steps_written}
-use Rattle.live_table.proofs.WrittenSteps.{written_behind, written_none}
+use Rattle.live_table.proofs.WrittenSteps.{written_behind}
 use Rattle.general_lemmas.proofs.Places.{take_at}
 
 -- ---- the state of the loop over words
@@ -26,15 +26,6 @@ pub record IsStepping (t : Table) (old now : Listed) (before here list : List �
     (i : ℕ) : Type 0 where
   pub added : (ends : List DeadEnd) → AreAdded t old now before here list ends ends
   pub written : AreWritten t now before list [] (take i us) xs
-
--- at the start there are no steps
-pub stepping_start : (t : Table) (l : Listed) (before list : List ℕ) (us : List WordUse) (xs : List Step)
-    → AreNumberedNames t l
-    → AreListed t l before list → xs ≡ [] → IsStepping t l l before list list us xs 0
-stepping_start t l before list us xs nodes right e = record {
-  added = λ ends. added_none t l before list ends ends nodes right (λ i x q. q);
-  written = written_none t l before list [] xs e;
-}
 
 -- a turn of the loop: one more word was looked up, and its targets were put on the agenda
 pub record IsTurn (t : Table) (old now m : Listed) (before here list there : List ℕ) (us : List WordUse)

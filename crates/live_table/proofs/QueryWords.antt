@@ -1,22 +1,18 @@
 -- The name fault of a query that is cut before a word that leads nowhere.
-use Rattle.std.proofs.Common.{◌≡◌, ◌-◌, ◌++◌, ◌∷◌, [], ℕ, Bool, true, false, cond, List, length, Option, Some, None}
-use Rattle.std.proofs.Common.{option_map, refl, sym, ◌∙◌, ap}
+use Rattle.std.proofs.Common.{◌≡◌, ◌-◌, ◌++◌, ◌∷◌, [], Bool, true, false, cond, List, length, Option, Some, None}
+use Rattle.std.proofs.Common.{refl, sym, ◌∙◌, ap}
 use Rattle.std.specs.Option.{option_or}
 use Rattle.expr_tree.specs.declared.word_list.WordUse.{WordUse}
 use Rattle.expr_tree.specs.Names.{is_refused}
 use Rattle.def_entry.specs.declared.key.Key.{Key}
 use Rattle.def_entry.specs.Tables.{Table}
-use Rattle.name_walk.specs.declared.step.Step.{Step}
-use Rattle.name_numbers.specs.NumberedNames.{fault_by_name}
 use Rattle.table_names.specs.declared.fault.NameFault.{NameFault}
 use Rattle.table_names.specs.declared.fault.NameFault.TheVariants.{Refused, Unknown}
 use Rattle.table_names.specs.Faults.{Deeper, first_some, key_fault_within, name_fault, targets_fault, word_fault}
 use Rattle.table_names.specs.Leads.{targets}
 use Rattle.live_table.specs.declared.dead_end.DeadEnd.{DeadEnd}
-use Rattle.live_table.specs.QueryEffects.{IsClosing, IsNamedFault, fault_in}
-use Rattle.live_table.specs.ExploredNames.{dead_end_fault, fault_at}
+use Rattle.live_table.specs.ExploredNames.{dead_end_fault}
 use Rattle.live_table.specs.QueryWords.{IsDeadEnd, fault_before}
-use Rattle.live_table.specs.TableContents.{Listed, key_at}
 
 -- ---- the first of two lists
 or_assoc : {A : Type 0} (a b c : Option A) → option_or (option_or a b) c ≡ option_or a (option_or b c)
@@ -53,17 +49,3 @@ cut_words t front rest u end d = sym (first_of_both f front (u ∷ rest) ∙ ap 
     own : first_some f (u ∷ rest) ≡ Some (dead_end_fault (Some end) None)
     own = ap (λ (o : Option NameFault). option_or o (first_some f rest))
         (its_fault t (key_fault_within t (length t - 0)) u end d)
-
--- ---- the result of a walk of the words before it
-module _ (t : Table) (l : Listed) (ends : List DeadEnd) (query : List Step) (end : DeadEnd) where
-  pub faulty_before : (f : NameFault) → IsNamedFault t l ends query f
-      → fault_before (fault_in t l ends query) end ≡ Some f
-  faulty_before f w =
-      ap (λ (o : Option NameFault). fault_before o end)
-      (ap (option_map (fault_by_name t (key_at l.keys) (fault_at ends))) w.is_fault ∙ ap Some (sym w.by_name))
-
-  pub closing_before : (f : NameFault) (order : List ℕ) → IsClosing l query order → f ≡ dead_end_fault (Some end) None
-      → fault_before (fault_in t l ends query) end ≡ Some f
-  closing_before f order w e =
-      ap (λ (o : Option NameFault). fault_before o end)
-      (ap (option_map (fault_by_name t (key_at l.keys) (fault_at ends))) w.query_has_no_fault) ∙ ap Some (sym e)

@@ -62,12 +62,6 @@ said_rank means name (what.Function d) e = refl
 said_rank means name (what.Table d) e = refl
 said_rank means name (what.Alias target) e = alias_rank name (means (inverted_word target)) e
 
--- a meaning that is not a function has rank 0
-pub no_rank : (m : Meaning) → (outcome_of m ≡ outcomes.Callable → ⊥) → rank_of_meaning m ≡ 0
-no_rank (One x) h = refl
-no_rank (Two x y) h = refl
-no_rank (Callee f) h = absurd (h refl)
-
 -- a meaning whose outcome is `Callable` is a function
 pub callable_meaning : (m : Meaning) → outcome_of m ≡ outcomes.Callable → is_callee m ≡ true
 callable_meaning (One x) h = absurd (not_callable (value x None) h)

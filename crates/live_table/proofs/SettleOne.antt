@@ -1,13 +1,13 @@
 -- A name that is due is settled: its outcome is stored, and the nodes stay sound.
 use Rattle.std.proofs.Common.{◌≡◌, ◌⊎◌, ◌+◌, ◌-◌, ◌^◌, ◌<◌, min, ℕ, Bool, true, false, List, []}
-use Rattle.std.proofs.Common.{◌∷◌, set, length, Contains, Some, is_some, get_or, sym, ◌∙◌}
+use Rattle.std.proofs.Common.{◌∷◌, set, length, Contains, Some, is_some, sym, ◌∙◌}
 use Rattle.std.proofs.Common.{ap, subst, inl, inr, arith}
 use Rattle.std.specs.FinMap as map_of
 use Rattle.std.specs.List.{IsDistinct, slice_get}
 use Rattle.std.specs.Option.{is_none}
 use Rattle.std.proofs.lemmas.Bool.{cases_eq}
 use Rattle.std.proofs.lemmas.List.{length-set, map-set}
-use Rattle.std.proofs.lemmas.Option.{get_or_from_slice_get, slice_get-get_or, same_Some, slice_get_within}
+use Rattle.std.proofs.lemmas.Option.{slice_get-get_or, same_Some, slice_get_within}
 use Rattle.expr_tree.specs.declared.word_list.WordUse.{WordUse}
 use Rattle.def_entry.specs.declared.key.Key.{Key}
 use Rattle.def_entry.specs.Entries.{Entry}
@@ -74,13 +74,6 @@ function_surrounded deck l r sound n e = record {
   is_right = right_anyhow deck l r 0 sound.is_right;
   subject = at_hand_settled deck l sound.numbers (right_anyhow deck l r 0 sound.is_right) n e;
 }
-
--- the data of a function do not change except for its rank
-pub put_is : (l : Listed) (n : ℕ) (o : Outcome) (rank : ℕ) (found : Callee) → found ≡ get_or l.callees n found
-    → (c : Callee) → slice_get l.callees n ≡ Some c
-    → with_outcome n o (with_rank rank found) l ≡ with_outcome n o (with_rank rank c) l
-put_is l n o rank found at c e =
-    ap (λ (x : Callee). with_outcome n o (with_rank rank x) l) (at ∙ get_or_from_slice_get l.callees n c found e)
 
 -- ---- by name: a closed key that leads only to settled names
 module _ (s : Shown) (k : Key) (right : IsRightTable s) (there : is_present (table s.deck) k ≡ true)

@@ -1,7 +1,7 @@
 -- Numbers for the keys that the lookup of a word tried.
 use Rattle.std.proofs.Common.{◌≡◌, ◌⊎◌, ◌↔◌, ◌-◌, ◌+◌, ◌<◌, ◌≤◌, ◌++◌, ◌∷◌, [], ℕ, zero, suc, cond, false, List, length}
 use Rattle.std.proofs.Common.{map, take, drop, Contains, refl, sym, ◌∙◌, ap, subst, inl, inr, arith}
-use Rattle.std.proofs.lemmas.List.{drop_all, length-drop, map-append, take-append-drop, nil_from_length}
+use Rattle.std.proofs.lemmas.List.{drop_all, map-append, take-append-drop, nil_from_length}
 use Rattle.std.proofs.lemmas.List.Elements.{Contains-append_left, Contains-append_right, Contains-push}
 use Rattle.std.proofs.lemmas.List.Elements.{Contains-push_cases, Contains-append_cases}
 use Rattle.expr_tree.specs.declared.word_list.WordKind.{WordKind}
@@ -21,24 +21,16 @@ use Rattle.live_table.specs.declared.word_targets.Lead.{Lead}
 use Rattle.live_table.specs.declared.word_targets.Lead.TheVariants.{Refused, Nowhere, One, Two}
 use Rattle.live_table.specs.declared.dead_end.DeadEnd.{DeadEnd}
 use Rattle.live_table.specs.Exploration.{AreAdded, AreGrown, AreListed, IsMore}
-use Rattle.live_table.specs.WordTargets.{AreGathered, AreTargets, IsLead, IsQueryLead, LeadsToKeys}
+use Rattle.live_table.specs.WordTargets.{AreGathered, AreTargets, IsLead, LeadsToKeys}
 use Rattle.live_table.specs.Sound.{AreNumberedNames}
 use Rattle.live_table.specs.TableContents.{Listed, key_at}
 use Rattle.live_table.proofs.GatheredNumbers.{put_one}
-use Rattle.live_table.proofs.AddedNames.{added_both, added_none, key_read, key_same, more_length, none_listed}
+use Rattle.live_table.proofs.AddedNames.{added_both, key_read, key_same, more_length, none_listed}
 use Rattle.live_table.proofs.KeyNumbers.{numbered_push, within_push}
 use Rattle.general_lemmas.proofs.Places.{take_at}
 use Rattle.general_lemmas.proofs.Members.{no_member, member_first, member_later, member_cases}
 
 -- ---- keys that are not targets
--- at the start no number is gathered
-pub gathered_start : (keys others : List Key) (old : List ℕ) → others ≡ [] → AreGathered keys others old old
-gathered_start keys others old e = record {
-  own_numbers = [];
-  numbers_are = e;
-  own_in_table = λ m i. absurd (no_member m i);
-  looks_merged = λ m. (λ i. inl i, λ h. elim h [ inl i ↦ i | inr z ↦ absurd (no_member m z) ]);
-}
 
 -- gathered keys stay gathered when keys are added
 gathered_more : (ks ls others : List Key) (old new : List ℕ) → IsMore ks ls → AreGathered ks others old new
@@ -91,10 +83,6 @@ abbrev pub AddsNames : Table → Listed → Listed → Type 0
 AddsNames t l m = (before list : List ℕ) (ends : List DeadEnd) → AreListed t l before list
     → AreAdded t l m before list list ends ends
 
--- no name is added
-adds_none : (t : Table) (l : Listed) → AreNumberedNames t l → AddsNames t l l
-adds_none t l nodes before list ends right = added_none t l before list ends ends nodes right (λ i x e. e)
-
 -- two additions of names are one
 pub adds_both : (t : Table) (l m k : Listed) → AddsNames t l m → AddsNames t m k → AddsNames t l k
 adds_both t l m k a b before list ends right =
@@ -118,14 +106,6 @@ pub record AreFirstGathered (t : Table) (l m : Listed) (tried : List Key) (old n
   where
     pub added : AddsNames t l m
     pub gathered : AreGathered m.keys (take place tried) old new
-
--- at the start no key is gathered
-pub first_start : (t : Table) (l : Listed) (tried : List Key) (old : List ℕ) → AreNumberedNames t l
-    → AreFirstGathered t l l tried old old 0
-first_start t l tried old nodes = record {
-  added = adds_none t l nodes;
-  gathered = gathered_start l.keys [] old refl;
-}
 
 -- the next key is gathered
 pub first_next : (t : Table) (l m k : Listed) (tried : List Key) (old now mid next : List ℕ) (place n : ℕ)
@@ -190,26 +170,9 @@ module _ (t : Table) (u : WordUse) (w : Targets) (tried : List Key) (found : Are
     targets_are : targets t u ≡ last_keys (target_count w) tried
     targets_are = found.targets ∙ ap (last_keys (target_count w)) (sym found.looks_appended)
 
-    -- there are as many keys as targets
-    pub enough : target_count w ≤ length tried
-    enough =
-        let a : length (targets t u) ≡ target_count w = found.many in
-        let b : length (targets t u) ≡ length (last_keys (target_count w) tried) = ap length targets_are in
-        let c : length (last_keys (target_count w) tried) ≡ length tried - (length tried - target_count w) =
-        length-drop (length tried - target_count w) tried in
-        omega (arith, a, b, c)
-
     -- a word without targets leads nowhere
     pub none_found : target_count w ≡ 0 → targets t u ≡ []
     none_found e = nil_from_length (targets t u) (found.many ∙ e)
-
-    -- the lead of a word of a query
-    pub is_query_lead : (keys : List Key) (lead : Lead) → is_refused u.text ≡ false
-        → LeadsToKeys keys (last_keys (target_count w) tried) lead → IsQueryLead t keys u lead
-    is_query_lead keys Refused fine led = absurd led
-    is_query_lead keys Nowhere fine led = (fine, targets_are ∙ led.0, led.1)
-    is_query_lead keys (One n) fine led = (fine, targets_are ∙ led.0, led.1)
-    is_query_lead keys (Two n m) fine led = (fine, targets_are ∙ led.0, led.1)
 
     -- ---- the targets and the other keys
     module _ (ks ls : List Key) (more : IsMore ks ls) (old mid new : List ℕ) (ns : List ℕ)

@@ -47,17 +47,6 @@ written_behind t l before list ends us vs xs ys a b = record {
       [ inl j ↦ a.dead_ends_within n j | inr j ↦ b.dead_ends_within n j ];
 }
 
--- without words there are no steps
-pub written_none : (t : Table) (l : Listed) (before list : List ℕ) (ends : List DeadEnd) (xs : List Step) → xs ≡ []
-    → AreWritten t l before list ends [] xs
-written_none t l before list ends xs e =
-    subst (AreWritten t l before list ends []) (sym e)
-    (record {
-      words = tt;
-      targets = λ n i. absurd (no_member (To n) i);
-      dead_ends_within = λ n i. absurd (no_member (Nowhere n) i);
-    })
-
 -- ---- the state of the loop over words
 pub record IsPutting (t : Table) (old now : Listed) (before here list : List ℕ) (ends more : List DeadEnd)
     (gathered : List ℕ) (us : List WordUse) (xs : List Step) (i : ℕ) : Type 0 where

@@ -53,10 +53,6 @@ as_often r user [] x k = refl
 as_often r user (j ∷ keys) x k =
     λ i. cond (same_user user x i && same_key r j k i) 1 0 + as_often r user keys x k i
 
--- the number of a first node has remainder 0
-plain : (n : ℕ) → n * 2 ≡ n * 2 + 0
-plain n = omega arith
-
 -- no second node is a first node
 odd_even : (j k : ℕ) → j * 2 + 1 ≡ k * 2 + 0 → ⊥
 odd_even j k e = omega (arith, e)

@@ -11,7 +11,7 @@ use Rattle.edge_links.specs.Reach as node
 use Rattle.name_edges.specs.AffectedNames.{AreEdgesCut, ForgetsNames, IsAffectedName, Needs}
 use Rattle.name_edges.specs.NameGraphs.{NameGraph}
 use Rattle.name_edges.specs.Nodes.{AreNodes, edges_to, name_graph}
-use Rattle.name_edges.proofs.Cutting.{IsBoth, cleared_on, cut_on, reached_before, reached_still, was_there}
+use Rattle.name_edges.proofs.Cutting.{IsBoth, cleared_on, cut_on, reached_before, reached_still}
 use Rattle.name_edges.proofs.Halves.{is_node, node_kind, node_name}
 
 -- the number of a first node has remainder 0
@@ -182,16 +182,6 @@ module _ (g : EdgeGraph) (nodes : AreNodes g) (key : ℕ) (mid new : List Edge)
 
   cut_both : AreEdgesCut Either g.edges new
   cut_both = cut_on First Second Either both_nodes g.edges mid new cut_first cut_second
-
-  -- no second node is a user afterwards
-  pub users_after : (x y : ℕ) → edge_count new (x * 2 + 1) y ≡ 0
-  users_after x y = elim (cases_eq (edge_count new (x * 2 + 1) y) 0) [
-    | inl e ↦ e
-    | inr some ↦
-        let h : HasEdge g.edges (x * 2 + 1) y = was_there Either g.edges new cut_both (x * 2 + 1) y
-        (omega (arith, some)) in
-        absurd (let z = nodes.users x y in omega (arith, h, z))
-  ]
 
   between : (r : ℕ) → r < 2 → AreEdgesCut (IsAffectedName (name_graph g) key) (edges_to r g.edges) (edges_to r new)
   between r l = record {

@@ -1,6 +1,6 @@
 -- The names of a path, whose faults are recorded from the last name up.
-use Rattle.std.proofs.Common.{◌≡◌, ℕ, ◌+◌, ◌<◌, List, [], ◌∷◌, ◌++◌, length, set, Option, Some, refl, sym, ◌∙◌, ap}
-use Rattle.std.proofs.Common.{subst, arith, nat_eq, append_assoc, length-append, length-set, Contains}
+use Rattle.std.proofs.Common.{◌≡◌, ℕ, ◌<◌, List, [], ◌∷◌, ◌++◌, length, set, Option, Some, refl, sym, ◌∙◌, ap}
+use Rattle.std.proofs.Common.{subst, nat_eq, append_assoc, length-set, Contains}
 use Rattle.std.proofs.lemmas.List.Elements.{Contains-append_left}
 use Rattle.std.specs.List.{IsDistinct, slice_get}
 use Rattle.name_walk.specs.declared.step.Step.{Step}
@@ -41,22 +41,6 @@ pub record IsNoting (old now : Trace) (fs hs : Faults) (last : ℕ) (last_step :
 module _ (old : Trace) (fs : Faults) (last : ℕ) (x : Step) (last_ending : Ending)
     (once : IsDistinct nat_eq (path old.frames last))
     (there : (n : ℕ) → Contains (path old.frames last) n → n < length fs) where
-  pub noting_start : IsNoting old old fs fs last x last_ending last x last_ending
-  noting_start = record {
-    below = [];
-    whole = append_nil (path old.frames last);
-    noted = tt;
-    others = λ n i. refl;
-    size = refl;
-    step_is = refl;
-    ending_is = refl;
-    traces = refl;
-  }
-    where
-      append_nil : (xs : List ℕ) → xs ++ [] ≡ xs
-      append_nil [] = refl
-      append_nil (y ∷ xs) = ap (λ ys. y ∷ ys) (append_nil xs)
-
   module _ (now : Trace) (hs : Faults) (name : ℕ) (step : Step) (ending : Ending)
       (h : IsNoting old now fs hs last x last_ending name step ending) where
     here_member : Contains (path old.frames last) name
@@ -117,17 +101,3 @@ module _ (old : Trace) (fs : Faults) (last : ℕ) (x : Step) (last_ending : Endi
 
       pub noting_others : (n : ℕ) → (Contains (path old.frames last) n → ⊥) → slice_get noted_now n ≡ slice_get fs n
       noting_others n out = others_one n (λ i. out (subst (λ (ns : List ℕ). Contains ns n) whole_is i))
-
-      pub noting_size : length noted_now ≡ length fs
-      noting_size = size_one
-
-      pub noting_traces : now ≡ without_frames old
-      noting_traces = ap (λ (fs : List Frame). record now { frames = fs }) top ∙ h.traces
-
--- one frame less
-pub frames_less : (now later : Trace) (frame : Frame) → now ≡ with_frame later frame
-    → length later.frames < length now.frames
-frames_less now later frame e =
-    subst (λ (t : Trace). length later.frames < length t.frames) (sym e)
-    (let l : length (later.frames ++ frame ∷ []) ≡ length later.frames + 1 = length-append later.frames (frame ∷ []) in
-    omega arith)

@@ -321,12 +321,6 @@ module _ (g : Graph) (s : List Bool) (net : IsConsistentGraph g s) (start : ℕ)
   module _ (fs hs : Faults) (ms : List Mark) (es os : List ℕ) (frames : List Frame) (name place : ℕ)
       (go : IsSeeking g s start old ms es os fs frames name place) (x : Step) (ending : Ending)
       (at : slice_get (steps g name) place ≡ Some x) (is : IsEnding ms fs name x ending) where
-    path_there : (n : ℕ) → Contains (path frames name) n → n < length fs
-    path_there n i =
-        let l : n < length g = go.way.is_path.names_in_graph n (member_on_path (path frames name) n i) in
-        let k : length g ≤ length fs = go.faults_size in
-        omega arith
-
     path_once : IsDistinct nat_eq (path frames name)
     path_once = go.way.is_path.names_differ
 

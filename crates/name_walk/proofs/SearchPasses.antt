@@ -6,7 +6,6 @@ use Rattle.std.proofs.lemmas.List.{take_all}
 use Rattle.std.proofs.lemmas.List.Elements.{Contains-append_left, Contains-push}
 use Rattle.name_walk.specs.declared.step.Step.{Step}
 use Rattle.name_walk.specs.declared.step.Step.TheVariants.{Nowhere, To}
-use Rattle.name_walk.specs.ClosedNames.{IsDone}
 use Rattle.name_walk.specs.Faults.{Cycle, DeadEnd, NameFault, at_step, from_name, name_fault_within, steps_fault}
 use Rattle.name_walk.specs.Findings.{AreFromQuery, IsFirstFaulty}
 use Rattle.name_walk.specs.Nets.{IsConsistentGraph}
@@ -136,20 +135,3 @@ module _ (g : Graph) (s : List Bool) (net : IsConsistentGraph g s) where
       -- if all steps are passed, the query has no fault
       pub passed_whole : length query ≤ i → steps_fault g [] query ≡ None
       passed_whole end = subst (λ (xs : List Step). steps_fault g [] xs ≡ None) (take_all i query end) p.none
-
--- a name that is known to have a fault needs no search
-pub searched_faulty : (g : Graph) (s : List Bool) (t : Trace) (fs : Faults) (n : ℕ) → IsBetween g s t fs
-    → IsFaulty fs n → IsSearched g s n t t fs fs true
-searched_faulty g s t fs n b f = record {
-  state_between = b;
-  more = record { order_grows = λ k i. i; faults_grow = λ k h. h; names = λ k i. inl i };
-  decision = f;
-}
-
-pub searched_sound : (g : Graph) (s : List Bool) (t : Trace) (fs : Faults) (n : ℕ) → IsBetween g s t fs
-    → IsDone s t.order n → IsSearched g s n t t fs fs false
-searched_sound g s t fs n b d = record {
-  state_between = b;
-  more = record { order_grows = λ k i. i; faults_grow = λ k h. h; names = λ k i. inl i };
-  decision = d;
-}

@@ -27,9 +27,6 @@ use Rattle.general_lemmas.proofs.Members.{no_member, member_cases, member_at}
 some_same : {A : Type 0} (a b : A) → Some (Some a) ≡ Some (Some b) → a ≡ b
 some_same a b e = cc
 
-to_same : (a b : ℕ) → To a ≡ To b → a ≡ b
-to_same a b e = cc
-
 -- a name with a step is in the graph
 pub has_steps : (g : Graph) (n i : ℕ) (x : Step) → slice_get (steps g n) i ≡ Some x → n < length g
 has_steps [] n i x e = cc

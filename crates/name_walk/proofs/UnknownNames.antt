@@ -1,7 +1,7 @@
 -- Added names, about which nothing is known.
 use Rattle.std.proofs.Common.{◌≡◌, ◌⊎◌, ℕ, zero, suc, ◌+◌, ◌-◌, ◌<◌, ◌≤◌, Bool, List, [], ◌∷◌, ◌++◌, length, take}
 use Rattle.std.proofs.Common.{replicate}
-use Rattle.std.proofs.Common.{Some, None, refl, sym, ◌∙◌, ap, subst, inl, inr, arith, length-append, Contains}
+use Rattle.std.proofs.Common.{Some, refl, sym, ◌∙◌, ap, subst, inl, inr, arith, length-append, Contains}
 use Rattle.std.specs.List.{slice_get}
 use Rattle.std.proofs.lemmas.List.{length-replicate, take_all}
 use Rattle.std.proofs.lemmas.Option.{slice_get_within}
@@ -101,15 +101,6 @@ marks_longer n t l = record {
 
 pub faults_same : (fs : Faults) → AreFaultsCovered fs fs
 faults_same fs = record { new_faults = λ n c e. e; old_faults = λ n c e. e; fault_list_grows = omega arith }
-
-pub faults_longer : (n : ℕ) (fs : Faults) → length fs ≤ n
-    → AreFaultsCovered fs (take n fs ++ replicate (n - length fs) None)
-faults_longer n fs l = record {
-  new_faults = λ k c e. elim (of_longer None fs n k (Some c) l e) [ inl q ↦ q | inr q ↦ absurd (cc) ];
-  old_faults = λ k c e. in_longer None fs n k (Some c) l e;
-  fault_list_grows = let b : length (take n fs ++ replicate (n - length fs) None) ≡ n = longer_length None fs n l in
-      omega arith;
-}
 
 -- ---- what is known after names are added
 module _ (old new : Trace) (fs hs : Faults) (m : AreMarksCovered old new) (f : AreFaultsCovered fs hs) where

@@ -75,9 +75,6 @@ as_none x h = go (is_exponent x) h
     go false h = refl
 
 module _ (law : ReducedLaw) (factor : Factor) where
-  abbrev step : Fraction → Fraction
-  step = exponent_in factor
-
   is : IsStep (exponent_in factor)
   is = factor_step factor
 

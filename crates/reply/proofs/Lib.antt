@@ -9,14 +9,12 @@ mod GrantedTexts
 mod GrantedReplies
 mod InquiryResults
 mod ListConversions
-mod TextTrees
 mod PositivePoints
 mod PositiveSteps
 mod PositiveValues
 mod ReplyResults
 pub mod Runs
 mod SoundExpansions
-mod Targets
 mod ToldFaults
 mod TreeWorths
 mod UnitConversions

@@ -165,11 +165,6 @@ module _ (law : ReducedLaw) where
   gives-root kind x = gives-then (worth_of_number (ratio (pos 1) (pos (degree kind)))) _
       (λ exponent e. gives-power x exponent)
 
-  gives-in_unit : (name : List ℕ) (unit x : Amount) → GivesPositive (in_unit_of name unit x)
-  gives-in_unit name unit x =
-      gives-if (conform x.exponents unit.exponents) (worth_of_number (fraction_quotient x.value unit.value)) _
-      (gives-number (fraction_quotient x.value unit.value) (over-positive law x.value unit.value)) (gives-err _)
-
   -- ---- values
   mutual
     pub gives-value : (e : Expanded) (a : Option Amount) → IsSound e → HasDenominatorIf a → GivesPositive (value e a)

@@ -101,12 +101,3 @@ module _ {A : Type 0} (seen : A → List Amount) (t : Table) (trees : List Synta
   underway-stopped rest values u =
       subst (λ (w : Inquiry (List Amount)). IsCutOff w.events a b n m) (sym u.whole)
       (run_law.cut_between u.events (worths t rest).events a b n m u.deck u.follows)
-
-  -- all trees have values
-  pub underway-done : (v : A) → IsUnderway t trees [] (seen v) a b n m → IsInquired seen (worths t trees) (Ok v) a b n m
-  underway-done v u =
-      subst (λ (w : Inquiry (List Amount)). IsInquired seen w (Ok v) a b n m) (sym u.whole) (
-        ap Ok (append-nil (seen v)),
-        subst (λ (es : List Event). IsAfterEvents es a b n m) (sym (append-nil u.events))
-            u.follows,
-      )

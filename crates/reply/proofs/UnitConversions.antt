@@ -135,13 +135,6 @@ module _ (law : QuotientLaw) (strict : Bool) (x y : Amount) where
   of-conversion (NonConforming p q) h = absurd h
 
 module _ (strict : Bool) (x y : Amount) where
-  pub conversion-granted : (c : Conversion) → IsUnitConversion strict x y c → is_granted c ≡ true
-  conversion-granted (Linear r) h = refl
-  conversion-granted (Reciprocal r) h = refl
-  conversion-granted (Inverse z) h = refl
-  conversion-granted (Split list counts) h = refl
-  conversion-granted (NonConforming p q) h = absurd h
-
   -- there is no conversion to a quantity of the value 0
   pub none-to-zero : y.value.num ≡ pos 0 → (c : Conversion) → IsUnitConversion strict x y c → ⊥
   none-to-zero zero (Linear r) h = h.factors.forward.divisor zero

@@ -34,9 +34,6 @@ module _ (table : Table) where
   ends_more zero n h = absurd h
   ends_more (suc k) n h = λ u i. into_others (EndsWithin k) (EndsWithin (suc k)) u (λ m t. ends_more k m) (h u i)
 
-  pub words_more : (k : ℕ) (words : List WordUse) → AreEnding k words → AreEnding (suc k) words
-  words_more k words h u i = into_others (EndsWithin k) (EndsWithin (suc k)) u (λ m t. ends_more k m) (h u i)
-
   pub ends_below : (k : ℕ) (words : List WordUse) (n : Key) → AreEnding k words → WordsLeadTo table words n
       → EndsWithin k n
   ends_below k words n h l = (h l.0 l.1).into n l.2

@@ -15,7 +15,7 @@ use Rattle.tree_eval.specs.Expansions.{Meaning}
 use Rattle.tree_eval.specs.Expansion.{expand}
 use Rattle.tree_eval.specs.Operands.{chain, links, with_worth, words_of_members}
 use Rattle.units_io.specs.Outcomes.{◌>>=◌}
-use Rattle.tree_eval.specs.Steps.{Worth, step_worth, one}
+use Rattle.tree_eval.specs.Steps.{Worth, step_worth}
 use Rattle.tree_eval.specs.Value.{chain_value, value}
 use Rattle.tree_eval.proofs.StepBinds.{fault_first}
 use Rattle.tree_eval.proofs.Places.{left_stands, right_stands}
@@ -155,14 +155,3 @@ module _ {means : WordUse → Meaning} {us : List WordUse} {place : ℕ} {all : 
     end_place =
         let z : length (words_of_members (drop i all)) ≡ 0 = ap (λ y. length (words_of_members y)) none_left in
         omega (arith, running.places, z)
-
--- a chain without members has the value 1
-pub empty_worth : (means : WordUse → Meaning) (all : List (Step × Syntax)) (a : Option Amount) → length all ≡ 0
-    → value (chain means all) a ≡ Ok one
-empty_worth means [] a h = refl
-empty_worth means (o ∷ os) a h = cc
-
--- a chain without members has no words
-pub empty_words : (all : List (Step × Syntax)) → length all ≡ 0 → length (words_of_members all) ≡ 0
-empty_words [] h = refl
-empty_words (o ∷ os) h = cc

@@ -1,5 +1,5 @@
 -- Steps that may have a fault, by the results of calls.
-use Rattle.std.proofs.Common.{◌≡◌, Result, Ok, Err, ◌∙◌, ap}
+use Rattle.std.proofs.Common.{◌≡◌, Result, Err, ◌∙◌, ap}
 use Rattle.tree_eval.specs.declared.fault.EvalFault.{EvalFault}
 use Rattle.tree_eval.specs.declared.fault.EvalFault.TheVariants.{Value, OutOfMemory}
 use Rattle.tree_eval.specs.declared.fault.ValueFault.{ValueFault}
@@ -12,9 +12,3 @@ pub fault_first : {A B C D : Type 0} (view : A → B) (seen : D → C) (e : Eval
     → w ≡ (r >>= k) → GivesWorth view (Err e) r → GivesWorth seen (Err e) w
 fault_first view seen (Value f) r k w p h = p ∙ ap (λ x. x >>= k) h
 fault_first view seen OutOfMemory r k w p h = tt
-
--- if the first step has a result, the whole continues with it
-pub then : {A B C : Type 0} (view : A → B) (x : A) (r : Result B ValueFault) (k : B → Result C ValueFault)
-    (w : Result C ValueFault)
-    → w ≡ (r >>= k) → GivesWorth view (Ok x) r → w ≡ k (view x)
-then view x r k w p h = p ∙ ap (λ y. y >>= k) h

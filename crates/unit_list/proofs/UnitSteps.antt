@@ -34,17 +34,6 @@ pub record IsCounting (negative : Bool) (units : List Amount) (all : Result (Lis
     (rest : Fraction) (done : List Fraction) : Type 0 where
   pub same : behind done (signed_counts negative (counts_of rest (map number_of (drop i units)))) ≡ all
 
--- no counts so far, followed by other counts, are the other counts
-behind_none : (counts : Result (List Fraction) FracFault) → behind [] counts ≡ counts
-behind_none (Ok counts) = refl
-behind_none (Err fault) = refl
-
--- at the start there are no counts so far, and the whole number remains
-pub counting_start : (negative : Bool) (units : List Amount) (x : Fraction)
-    → IsCounting negative units (signed_counts negative (counts_of x (map number_of units))) 0 x []
-counting_start negative units x =
-    record { same = behind_none (signed_counts negative (counts_of x (map number_of units))) }
-
 -- the units from an index on that is not the last one
 more_units : (units : List Amount) (i : ℕ) (d : Amount) → i + 1 < length units
     → map number_of (drop i units) ≡ number_of (get_or units i d) ∷ number_of (get_or units (i + 1) d)

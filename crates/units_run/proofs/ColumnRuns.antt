@@ -105,15 +105,6 @@ column_left want work m input status before left out err files same fetches stor
     (λ (f : Option FileMap). IsConverted (column_run work m input).output (column_run work m input).status status before
     (outside_of left out err f fetches stores steps)) (sym kept) converts)
 
--- if all the work was done, the run over the column finished
-pub over_worked : (end : ColumnEnd) → IsWorked (column_status end) → is_over end ≡ true
-over_worked column.Done w = refl
-over_worked column.Refused w = refl
-over_worked column.ReadFault w = absurd w
-over_worked column.WriteFault w = absurd w
-over_worked column.NoMemory w = absurd w
-over_worked column.InputTooLong w = absurd w
-
 module _ (work : ColumnWork) (plan : ColumnPlan) (n now : ℕ) (at : IsColumn work plan n now) where
   abbrev task : ColumnTask
   task = plan.task

@@ -11,7 +11,7 @@ use Rattle.session.specs.Input.{lines_of}
 use Rattle.std.proofs.lemmas.List.{append-nil}
 use Rattle.std.proofs.Math.Bool.{or-true}
 use Rattle.std.proofs.lemmas.Option.{same_Some}
-use Rattle.std.proofs.lemmas.Bool.{or_parts}
+use Rattle.std.proofs.lemmas.Bool.{both_ways, or_parts}
 use Rattle.session.specs.Outside.{GrowsAtLeast, Outside}
 use Rattle.session.specs.Sessions.{SessionState}
 use Rattle.session.specs.Talks.{SessionTrace}

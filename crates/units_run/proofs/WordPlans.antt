@@ -11,7 +11,7 @@ use Rattle.command_line.specs.Fields.{command_line_of}
 use Rattle.command_line.specs.Usage.{usage_text}
 use Rattle.command_line.specs.declared.fields.CommandLine.{CommandLine}
 use Rattle.deck.specs.Decks.{Contents}
-use Rattle.deck.specs.FileLoads.{IsLoaded, MayFail, fetch_faults_after}
+use Rattle.deck.specs.FileLoads.{IsLoaded, MayFail}
 use Rattle.deck.specs.declared.fault.DeckFault.{DeckFault}
 use Rattle.deck.specs.declared.fault.DeckFault.TheVariants as fault
 use Rattle.session.specs.HeardLines.{any_loads_file}
@@ -50,26 +50,6 @@ deck_missing {E} outcome fault line name m (Ok plan) n known (inl may) planned =
 deck_missing {E} outcome fault line name m (Ok plan) n known (inr is) planned =
     subst (λ (o : Result Contents DeckFault). IsPlanned {E = E} (file_plan line name o m) m (Ok plan) n n) (sym is)
     planned
-
--- if there is no deck, no fetch failed
-pub none_failed : (n : ℕ) (fault : DeckFault) → (MayFail fault → ⊥)
-    → fetch_faults_after {T = Contents} n (Err fault) ≡ n
-none_failed n (fault.BadLine reason) known = refl
-none_failed n fault.NoSuchKey known = refl
-none_failed n fault.DeckFull known = refl
-none_failed n fault.Absent known = refl
-none_failed n fault.TooLong known = refl
-none_failed n fault.ReadFailed known = absurd (known (inr refl))
-none_failed n fault.OutOfMemory known = refl
-
--- if the words need no file, their command line loads none
-pub loads_needed : (words : List (List ℕ)) (line : CommandLine) → are_taken words ≡ true → line ≡ command_line_of words
-    → needs_files words ≡ false → loads_file line ≡ false
-loads_needed words line taken read none =
-    let read_line = command_line_of words in
-    ap loads_file read
-    ∙ (or_parts (loads_file read_line) (is_session read_line)
-    (sym (ap (λ b. b && (loads_file read_line || is_session read_line)) taken) ∙ none)).0
 
 -- if the words name no definition file, their command line loads none
 pub loads_named : (words : List (List ℕ)) (line : CommandLine) → are_taken words ≡ true → line ≡ command_line_of words
@@ -132,11 +112,6 @@ pub definitions_told : (words : List (List ℕ)) (input : List ℕ) (files : Opt
 definitions_told words input files m s =
     tells_less (fetches_file words input) (needs_definitions words) files m
     (or_parts (needs_definitions words) (opens_session words && any_loads_file input) s).0
-
--- a known value is known, needed or not
-pub tells_told : {X : Type 0} (needed : Bool) (o : Option X) (x : X) → o ≡ Some x → TellsIf needed o x
-tells_told needed (Some told) x e = cc
-tells_told needed None x e = cc
 
 -- words that lead to a session do not lead to a column
 both_none : (taken trial from check column : Bool) → (taken && (not trial && not (from || check))) ≡ true

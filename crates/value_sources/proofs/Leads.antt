@@ -34,12 +34,6 @@ one_last ks i e =
     at_place ks i (omega (arith, e)) ∙ ap (λ (xs : List Key). key_at_place ks i ∷ xs)
     (drop_all (suc i) ks (omega (arith, e)))
 
-two_last : (ks : List Key) (i j : ℕ) → suc i ≡ j → suc j ≡ length ks → drop i ks ≡ key_at_place ks i ∷ key_at_place ks j
-    ∷ []
-two_last ks i j d e =
-    at_place ks i (omega (arith, d, e))
-    ∙ ap (λ (xs : List Key). key_at_place ks i ∷ xs) (ap (λ (x : ℕ). drop x ks) d ∙ one_last ks j e)
-
 -- ---- the targets that a search among the keys of a table found, if none was tried before
 pub found_by : (t : Table) (u : WordUse) (law : LookupLaw) (w : Targets) (before tried : List Key) (kind : WordKind)
     (text : List ℕ)
@@ -73,13 +67,6 @@ module _ (t : Table) (u : WordUse) (tried : List Key) where
       let h : 1 ≤ length tried = enough t u which.Last tried found in
       targets_are t u which.Last tried found
       ∙ (ap (λ (x : ℕ). drop x tried) (sym e) ∙ one_last tried i (omega (arith, h, e)))
-
-  pub two_found : AreFound which.LastTwo [] tried (word_lookup t u) → (i j : ℕ) → i ≡ length tried - 2
-      → j ≡ length tried - 1 → targets t u ≡ key_at_place tried i ∷ key_at_place tried j ∷ []
-  two_found found i j e f =
-      let h : 2 ≤ length tried = enough t u which.LastTwo tried found in
-      targets_are t u which.LastTwo tried found
-      ∙ (ap (λ (x : ℕ). drop x tried) (sym e) ∙ two_last tried i j (omega (arith, h, e, f)) (omega (arith, h, e, f)))
 
 -- ---- the first key that is tried
 -- a key that is present is the target of a plan that tries it first

@@ -16,7 +16,7 @@ use Rattle.deck.specs.Tables.{is_present, last_place, table}
 use Rattle.value_sources.specs.declared.mention.Location.{Location}
 use Rattle.value_sources.specs.declared.mention.StoredMention.{StoredMention}
 use Rattle.value_sources.specs.declared.resolution.Resolution.{Resolution}
-use Rattle.value_sources.specs.declared.resolution.Resolution.TheVariants.{Name, Plural, Prefix, PrefixedUnit, Unknown}
+use Rattle.value_sources.specs.declared.resolution.Resolution.TheVariants.{Name, Plural, Prefix, PrefixedUnit}
 use Rattle.value_sources.specs.declared.row.Row.{Row as StoredRow}
 use Rattle.value_sources.specs.declared.site.Site.{Site}
 use Rattle.value_sources.specs.Mentions.{mention_by, mention_text, sole_resolution}
@@ -109,18 +109,6 @@ pub row_pushed : (d : Contents) (before now : List StoredRow) (r : StoredRow) �
 row_pushed d before now r e = ap (rows_in d) e ∙ map-append (row_in d) before (r ∷ [])
 
 -- ---- the mentions of a word that leads nowhere, to one key, or to a prefix and a unit
-pub unknown_pushed : (d : Contents) (l : Location) (u : WordUse) (m : StoredMention) (before now : List Placed)
-    → m ≡ record { location = l; word = Some u.text; word_kind = u.kind; resolution = Unknown; place = None }
-    → now ≡ before ++ placed_in d m ∷ []
-    → now ≡ before ++ placed_to d l.depth (use_at l.site u) []
-unknown_pushed d l u m before now is pushed =
-    pushed ∙ ap (λ (x : StoredMention). before ++ placed_in d x ∷ []) is
-
-pub sole_pushed : (d : Contents) (l : Location) (u : WordUse) (n : Key) (m : StoredMention) (before now : List Placed)
-    → placed_in d m ≡ with_place d (mention_by (sole_resolution u n) l.depth (use_at l.site u) n)
-    → now ≡ before ++ placed_in d m ∷ []
-    → now ≡ before ++ placed_to d l.depth (use_at l.site u) (n ∷ [])
-sole_pushed d l u n m before now is pushed = pushed ∙ ap (λ (p : Placed). before ++ p ∷ []) is
 
 pub both_pushed : (d : Contents) (l : Location) (u : WordUse) (n k : Key) (a b : StoredMention)
     (place other : Option ℕ) (before mid now : List Placed)
