@@ -1,6 +1,6 @@
 //! A file system without files.
 
-ghost use Rattle.std.specs.Prelude.{◌≡◌};
+ghost use Rattle.std.specs.Prelude.{◌≡◌, ⊤};
 
 use std::alloc::Global;
 use units_io::{FetchFault, Files, StoreFault, Text};
@@ -29,6 +29,8 @@ impl Files for NoFiles {
     ghost faults = { λ _. 0 };
 
     ghost store_faults = { λ f. f.store_faults };
+
+    ghost is_fetch = { λ _ _ _ _. ⊤ };
 
     fn fetch(&mut self, _alloc: Global, _name: &[u8]) -> Result<Text, FetchFault> {
         Err(FetchFault::Absent)

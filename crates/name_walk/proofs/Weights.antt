@@ -11,7 +11,7 @@ use Rattle.name_walk.specs.Steps.{Graph, steps}
 abbrev pub open_weight : List Mark → Graph → ℕ
 open_weight [] h = 0
 open_weight (m ∷ ms) [] = 0
-open_weight (Open ∷ ms) (w ∷ ws) = 2 + length w.items + open_weight ms ws
+open_weight (Open ∷ ms) (w ∷ ws) = 2 + length w + open_weight ms ws
 open_weight (OnPath ∷ ms) (w ∷ ws) = open_weight ms ws
 open_weight (Closed ∷ ms) (w ∷ ws) = open_weight ms ws
 

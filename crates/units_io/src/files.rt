@@ -1,5 +1,5 @@
 //! Files addressed by name.
-ghost use Rattle.std.specs.Prelude.{◌≡◌, ◌≤◌, ℕ, length, IfOk, IfSome};
+ghost use Rattle.std.specs.Prelude.{◌≡◌, ◌≤◌, ℕ, List, length, IfOk, IfSome, Result};
 ghost use Rattle.std.specs.declared.option.Option.{Option};
 
 use crate::text::Text;
@@ -79,6 +79,7 @@ impl<T: Drop> From<AllocFailed<T>> for StoreFault {
 
 /// Files that can be read and written.
 pub trait Files {
+    ghost use Rattle.units_io.specs.declared.files.FetchFault.{FetchFault};
     ghost use Rattle.units_io.specs.FetchResults.{FileMap, IsFetched, FailsWithCause, faults_after_fetch, longest_file};
     ghost use Rattle.units_io.specs.StoreResults.{IsStored, StoreHasCause, faults_after_store};
 
@@ -91,12 +92,17 @@ pub trait Files {
     /// The number of failed stores, up to `u64::MAX`.
     ghost store_faults: { Self → ℕ };
 
+    /// Whether a fetch of the file with this name, begun in the first state, gave this result and ended in the second
+    /// state. Only a call of `fetch` shows it, so a contract that cites it says which files were fetched.
+    ghost is_fetch: { Self → List ℕ → Result (List ℕ) FetchFault → Self → Type 0 };
+
     /// Returns the bytes of the file with this name. Returns `Absent` if there is no such file, `TooLong` if it has
     /// more than `LONGEST_FILE` bytes, and `Failed` if it could not be read. The count of failed fetches increases by
     /// one on `Failed`, and only then.
     fn fetch(&mut self, alloc: Global, name: &[u8]) -> Result<Text, FetchFault>
         ensures told { IfSome (files self.old) (λ m. IsFetched m name.now result) }
         ensures within { IfOk result (λ text. length text ≤ longest_file) }
+        ensures fetched { is_fetch self.old name.now result self.new }
         ensures kept { files self.new ≡ files self.old }
         ensures cause { FailsWithCause (faults self.old) (faults self.new) result }
         ensures counted { faults self.new ≡ faults_after_fetch (faults self.old) result }

@@ -31,8 +31,7 @@ module _ (table : Table) where
   keys_new Finished n i j = no_member n i
   keys_new (Skipped p rest) n i j = keys_new rest n i j
   keys_new (Visited {before = before} {m = m} {n = k} {rows = rows} e new rest) n i j =
-      elim (member_cases n k (visited_keys rows) (subst (λ (ks : List Key). Contains ks n) (keys_visited m k rows e) i))
-          [
+      elim (member_cases n k (visited_keys rows) (subst (λ (ks : List Key). Contains ks n) (keys_visited m k rows e) i)) [
         | inl q ↦ absurd (true≢false (sym (is_among_of before k (subst (Contains before) q j)) ∙ new))
         | inr h ↦ keys_new rest n h (Contains-append_left before (k ∷ []) n j)
       ]

@@ -1,5 +1,5 @@
 //! Files in memory.
-ghost use Rattle.std.specs.Prelude.{◌≡◌, ◌≤◌, ◌↔◌, [], length, IfOk, OnOk, OnErr, Some, Contains, IsErrOf};
+ghost use Rattle.std.specs.Prelude.{◌≡◌, ◌≤◌, ◌↔◌, [], length, IfOk, OnOk, OnErr, Some, Contains, IsErrOf, ⊤};
 ghost use Rattle.units_io.specs.Faults.{next_count};
 ghost use Rattle.units_io.specs.Memory.{KeepsFetches, KeepsStores};
 ghost use Rattle.units_io.specs.FileMap.{with_file, no_files, longest_file};
@@ -94,6 +94,8 @@ impl Files for MemFiles {
     ghost faults = { λ s. s.faults };
 
     ghost store_faults = { λ s. s.store_faults };
+
+    ghost is_fetch = { λ _ _ _ _. ⊤ };
 
     fn fetch(&mut self, alloc: Global, name: &[u8]) -> Result<Text, FetchFault>
         ensures told { IsFetched self.old.files name.now result }

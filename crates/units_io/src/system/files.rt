@@ -1,5 +1,5 @@
 //! The files of the system.
-ghost use Rattle.std.specs.Prelude.{◌≡◌, ◌≤◌, length, IfOk, None};
+ghost use Rattle.std.specs.Prelude.{◌≡◌, ◌≤◌, length, IfOk, None, ⊤};
 ghost use Rattle.std.specs.Str.{IsUtf8};
 ghost use Rattle.units_io.specs.FileMap.{longest_file};
 ghost use Rattle.units_io.specs.FetchResults.{FailsWithCause, faults_after_fetch};
@@ -48,6 +48,8 @@ impl<H: std::rt::Files + Clone + Drop> Files for DirFiles<H> {
     ghost faults = { λ s. s.faults };
 
     ghost store_faults = { λ s. s.store_faults };
+
+    ghost is_fetch = { λ _ _ _ _. ⊤ };
 
     fn fetch(&mut self, alloc: Global, name: &[u8]) -> Result<Text, FetchFault>
         ensures within { IfOk result (λ text. length text ≤ longest_file) }
