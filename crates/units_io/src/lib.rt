@@ -27,6 +27,3 @@ pub use steps::Steps;
 pub use system::{DirFiles, StdSink, StdSource};
 pub use text::Text;
 pub use vars::Vars;
-
-#[cfg(test)]
-mod tests;

@@ -8,6 +8,3 @@ mod source;
 pub use files::DirFiles;
 pub use sink::StdSink;
 pub use source::StdSource;
-
-#[cfg(test)]
-mod tests;

@@ -2,12 +2,12 @@
 ghost use Rattle.std.specs.Prelude.{◌≤◌, length};
 ghost use Rattle.units_io.specs.FileMap.{longest_file};
 
-use crate::{
-    DirFiles, Failed, FetchFault, Files, Sink, Source, StdSink, StdSource, StoreFault, Text,
-};
 use std::io::{ErrorKind, Read, Write};
 use std::os::unix::fs::symlink;
 use std::{fs, io};
+use units_io::{
+    DirFiles, Failed, FetchFault, Files, Sink, Source, StdSink, StdSource, StoreFault, Text,
+};
 
 // A reader and a writer of one byte per call, whose second call returns this error.
 #[derive(Drop)]

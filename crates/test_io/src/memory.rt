@@ -1,10 +1,10 @@
 //! Tests of a sink that fails midway, of the messages of faults, and of seeds.
-use crate::{Failed, FetchFault, HashSeed, MemSink, StoreFault, put_all};
 use std::hash::BuildHasher;
 use std::io;
 use std::io::ErrorKind;
 use std::random::RandomSource;
 use std::test::Fail;
+use units_io::{Failed, FetchFault, HashSeed, MemSink, StoreFault, put_all};
 
 // The number of the call that fails, and the bytes that are written in that case.
 const WRITTEN: &[(u64, &[u8])] = &[
@@ -39,17 +39,17 @@ const STORE_FAULTS: &[(StoreFault, &str)] = &[
 ];
 
 #[test]
-fn faults_are_told(rt: HostRuntime) -> Result<(), Fail> {
+fn faults_have_messages(rt: HostRuntime) -> Result<(), Fail> {
     for (fault, text) in FETCH_FAULTS {
-        let told = fault.to_string(rt.alloc())?;
-        assert!(rt; told.as_str() == *text);
+        let message = fault.to_string(rt.alloc())?;
+        assert!(rt; message.as_str() == *text);
     }
     for (fault, text) in STORE_FAULTS {
-        let told = fault.to_string(rt.alloc())?;
-        assert!(rt; told.as_str() == *text);
+        let message = fault.to_string(rt.alloc())?;
+        assert!(rt; message.as_str() == *text);
     }
-    let told = Failed.to_string(rt.alloc())?;
-    assert!(rt; told.as_str() == "a read or a write failed");
+    let message = Failed.to_string(rt.alloc())?;
+    assert!(rt; message.as_str() == "a read or a write failed");
     Ok(())
 }
 
