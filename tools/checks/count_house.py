@@ -6,8 +6,8 @@
 
 The counts: lines (by kind), arguments (functions with more than five besides self), clauses (those that ten functions
 or more have), names (words that two crates define), participles (functions and definitions named by a single
-participle), citations (imports of another crate's proofs), unused (lemmas that no file names). Test programs
-(`test_*`, `run_faults`) count only in `lines`.
+participle), citations (imports of another crate's proofs that cite more than its laws), unused (lemmas that no file
+names). Test programs (`test_*`, `run_faults`) count only in `lines`. `general_lemmas` is there to be cited.
 """
 
 from __future__ import annotations
@@ -28,7 +28,8 @@ REPEATED = 10
 FUNCTION = re.compile(r"^ *(?:pub(?:\(crate\))? )?(?:const )?fn (\w+)(?:<[^>]*>)?\(", re.MULTILINE)
 CLAUSE = re.compile(r"^ *((?:ensures|requires) .*)$", re.MULTILINE)
 LEMMA = re.compile(r"^(?:pub )?([a-z][^\s:({.]*) :", re.MULTILINE)
-CITATION = re.compile(r"^(?:ghost )?(?:pub )?use Rattle\.(\w+)\.proofs\.", re.MULTILINE)
+CITATION = re.compile(r"^(?:ghost )?(?:pub )?use Rattle\.(\w+)\.proofs\.([\w.]+?)(?:\.\{([^}]*)\}|[ ;]|$)", re.MULTILINE)
+LAW = re.compile(r"^pub ([^\s:({.]*) : \w*Law$", re.MULTILINE)
 IRREGULAR = {
     "told", "kept", "held", "given", "taken", "said", "made", "found", "left", "known", "written", "read", "put", "met",
     "begun", "gone", "shown", "seen", "done", "worth", "lent", "sought", "cut", "lead", "fed", "risen", "grown", "split",
@@ -116,10 +117,16 @@ def participles() -> Iterator[str]:
 
 
 def citations() -> Iterator[str]:
+    proofs = files("proofs", ".antt")
     for part, suffix in (("src", ".rt"), ("specs", ".antt"), ("proofs", ".antt")):
         for crate, path, text in product_files(part, suffix):
             for match in CITATION.finditer(text):
-                if match[1] not in (crate, "std"):
+                cited = CRATES / match[1] / "proofs" / (match[2].replace(".", "/") + ".antt")
+                if match[1] in (crate, "general_lemmas") or cited not in proofs:
+                    continue
+                laws = LAW.findall(proofs[cited])
+                names = [item.split(" as ")[0].strip() for item in (match[3] or "").split(",")]
+                if not all(name in laws for name in names):
                     yield f"{place(path, text, match.start())}: {match[1]}"
 
 
