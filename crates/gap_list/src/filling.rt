@@ -23,13 +23,13 @@ pub(crate) fn fill_gaps<T: Drop>(slots: &mut Vec<T>, gaps: &mut Gaps)
     gaps.clear();
 }
 
-/// Fills the gaps if they are more than half of the slots.
+/// Fills the gaps if there are many.
 pub(crate) fn fill_many_gaps<T: Drop>(slots: &mut Vec<T>, gaps: &mut Gaps)
     requires { AreGaps 0 (length slots.old.items) gaps.old }
     ensures gaps { AreGaps 0 (length slots.new.items) gaps.new }
     ensures items { items_without gaps.new slots.new.items ≡ items_without gaps.old slots.old.items }
 {
-    if gaps.len() > slots.len() / 2 {
+    if gaps.are_many(slots.len()) {
         fill_gaps(slots, gaps);
     }
 }

@@ -11,7 +11,7 @@ use std::alloc::{AllocError, Global};
 use std::marker::Model;
 
 /// A list from which an item is removed without moving the others: its slot becomes a gap. The removed item is dropped
-/// when the gaps are filled, which happens when they are more than half of the slots.
+/// when the gaps are filled, which happens once there are many.
 #[derive(Drop)]
 pub struct GapList<T> {
     slots: Vec<T>,

@@ -97,6 +97,7 @@ impl<'a> EditedLines<'a> {
     pub fn len(&self) -> usize
         ensures { result ≡ length self.now.new_lines }
     {
+        self.store.lines_few();
         self.store.len() - self.cut + self.put.len()
     }
 
