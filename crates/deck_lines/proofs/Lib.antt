@@ -18,4 +18,6 @@ mod PartInduction
 mod FailedLoads
 mod AskedLoads
 mod KeptLines
+mod LastFetches
+mod LoggedFetches
 mod ListTurns

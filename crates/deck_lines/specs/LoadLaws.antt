@@ -1,12 +1,13 @@
 -- Laws of loads.
-use Rattle.std.specs.Prelude.{◌≡◌, ◌⊎◌, ◌++◌, ℕ, List, [], ◌∷◌, if◌then◌else◌, Some, Result, Ok, Err}
+use Rattle.std.specs.Prelude.{◌≡◌, ◌↔◌, ◌⊎◌, ◌++◌, ℕ, List, [], ◌∷◌, if◌then◌else◌, Some, Result, Ok, Err}
 use Rattle.units_io.specs.FileMap.{FileMap}
 use Rattle.units_io.specs.declared.files.FetchFault.TheVariants.{Failed}
 use Rattle.deck_lines.specs.Excerpts.{Excerpt, in_turn}
 use Rattle.deck_lines.specs.Includes.{deck_of_file}
 use Rattle.deck_lines.specs.Limits.{pass_limit}
 use Rattle.deck_lines.specs.LineLoads.{faults_after_load, load_of_file}
-use Rattle.deck_lines.specs.Transcripts.{AreAnswersOf, Asks, Fails, Fetch, Yields, faults_after_fetches, load_outcome}
+use Rattle.deck_lines.specs.Transcripts.{AreAnswersOf, AreFetchesBetween, Asks, Fails, Fetch, FetchRelation, Yields}
+use Rattle.deck_lines.specs.Transcripts.{faults_after_fetches, load_outcome}
 use Rattle.deck_lines.specs.declared.draft.LoadFault.{LoadFault}
 use Rattle.deck_lines.specs.declared.draft.LoadFault.TheVariants.{DeckFull, OutOfMemory, ReadFailed}
 use Rattle.deck_lines.specs.declared.line.DeckLine.{DeckLine}
@@ -43,9 +44,27 @@ AskLaw =
     → load_of_file name bytes before transcript ≡ Asks file []
     → load_of_file name bytes before (transcript ++ failed_fetch file ∷ rest) ≡ Fails ReadFailed rest
 
+-- law: if a load ends with `ReadFailed`, its last fetch is the failed fetch of the file for which it asks after the
+-- others
+abbrev pub LastFetchLaw : Type 0
+LastFetchLaw =
+    (name bytes : List ℕ) (before : Excerpt) (transcript : List Fetch)
+    → load_of_file name bytes before transcript ≡ Fails ReadFailed []
+    → (others : List Fetch) × (file : List ℕ) × (transcript ≡ others ++ failed_fetch file ∷ [])
+    × (load_of_file name bytes before others ≡ Asks file [])
+
 -- law: a load keeps the lines before it and appends others
 abbrev pub KeptLinesLaw : Type 0
 KeptLinesLaw =
     (name bytes : List ℕ) (before now : Excerpt) (transcript rest : List Fetch)
     → load_of_file name bytes before transcript ≡ Yields now rest
     → (more : List DeckLine) × (now.lines ≡ before.lines ++ more)
+
+-- a fetch of files whose state is the list of all fetches that were made
+abbrev pub is_logged_fetch : FetchRelation (List Fetch)
+is_logged_fetch from name answer to = to ≡ from ++ record { name = name; answer = answer } ∷ []
+
+-- law: if the state of the files is this list, the fetches between two states are those by which the list grows
+abbrev pub LoggedFetchesLaw : Type 0
+LoggedFetchesLaw =
+    (from to fetches : List Fetch) → AreFetchesBetween is_logged_fetch from to fetches ↔ (to ≡ from ++ fetches)

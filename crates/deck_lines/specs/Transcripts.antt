@@ -1,6 +1,6 @@
 -- Transcripts of loads: the fetches that a load makes, in order.
-use Rattle.std.specs.Prelude.{◌≡◌, ◌⊎◌, ◌++◌, ℕ, List, [], ◌∷◌, if◌then◌else◌, bytes_eq, Option, IfSome, Result, Ok, Err}
-use Rattle.std.specs.Prelude.{MatchResult, ⊤}
+use Rattle.std.specs.Prelude.{◌≡◌, ◌⊎◌, ◌++◌, ℕ, List, [], ◌∷◌, if◌then◌else◌, bytes_eq, Option, IfSome}
+use Rattle.std.specs.Prelude.{Result, Ok, Err, MatchResult, ⊤}
 use Rattle.units_io.specs.FetchResults.{FileMap, IsFetched, faults_after_fetch}
 use Rattle.units_io.specs.declared.files.FetchFault.{FetchFault}
 use Rattle.deck_lines.specs.Excerpts.{Excerpt}
@@ -18,8 +18,8 @@ pub data Load (E : Type 0) : Type 0 where
   Asks : List ℕ → List Fetch → Load E
 
 -- a load that asks for the file with this name; if the next fetch is of this file, it continues with the answer
-abbrev pub load_after_fetch : {E : Type 0} → List ℕ → (Result (List ℕ) FetchFault → List Fetch → Load E) → List Fetch → Load
-    E
+abbrev pub load_after_fetch : {E : Type 0} → List ℕ → (Result (List ℕ) FetchFault → List Fetch → Load E) → List Fetch
+    → Load E
 load_after_fetch name load [] = Asks name []
 load_after_fetch name load (fetch ∷ fetches) =
     if bytes_eq name fetch.name then load fetch.answer fetches else Asks name (fetch ∷ fetches)
@@ -42,23 +42,41 @@ AreAnswersOf files [] = ⊤
 AreAnswersOf files (fetch ∷ fetches) =
     IfSome files (λ m. IsFetched m fetch.name fetch.answer) × AreAnswersOf files fetches
 
--- a load uses up some fetches of the files, and then continues as another load
-abbrev pub ContinuesAs : {E : Type 0} → Option FileMap → (List Fetch → Load E) → (List Fetch → Load E) → Type 0
-ContinuesAs files load later =
-    (transcript : List Fetch) × AreAnswersOf files transcript
-    × ((rest : List Fetch) → load (transcript ++ rest) ≡ later rest)
+-- a relation that holds if a fetch of the file with this name, begun in the first state of the files, gives this answer
+-- and ends in the second state
+abbrev pub FetchRelation : Type 0 → Type 1
+FetchRelation State = State → List ℕ → Result (List ℕ) FetchFault → State → Type 0
 
--- a load may have this outcome: there is a transcript with answers of the files that the load uses up as a whole, and
+-- all fetches between two states of the files, in order: the first begins in the state `from`, each other one in the
+-- state in which the one before it ends, and the last ends in the state `to`
+abbrev pub AreFetchesBetween : {State : Type 0} → FetchRelation State → (from to : State) → List Fetch → Type 0
+AreFetchesBetween is_fetch from to [] = to ≡ from
+AreFetchesBetween is_fetch from to (fetch ∷ fetches) =
+    (next : _) × is_fetch from fetch.name fetch.answer next × AreFetchesBetween is_fetch next to fetches
+
+-- a transcript has all fetches between two states of the files, in order, and their answers are those of the files
+abbrev pub IsTranscript : {State : Type 0} → Option FileMap → FetchRelation State → (from to : State) → List Fetch
+    → Type 0
+IsTranscript files is_fetch from to transcript =
+    AreAnswersOf files transcript × AreFetchesBetween is_fetch from to transcript
+
+-- a load uses up some fetches, of which `are_made` holds, and then continues as another load
+abbrev pub ContinuesAs : {E : Type 0} → (List Fetch → Type 0) → (List Fetch → Load E) → (List Fetch → Load E) → Type 0
+ContinuesAs are_made load later =
+    (transcript : List Fetch) × are_made transcript × ((rest : List Fetch) → load (transcript ++ rest) ≡ later rest)
+
+-- a load may have this outcome: there is a transcript, of which `are_made` holds, that the load uses up as a whole, and
 -- with which it has the outcome
-abbrev pub HasTranscript : {E : Type 0} → Option FileMap → (List Fetch → Load E) → Result Excerpt E → Type 0
-HasTranscript files load outcome = ContinuesAs files load (load_outcome outcome)
+abbrev pub HasTranscript : {E : Type 0} → (List Fetch → Type 0) → (List Fetch → Load E) → Result Excerpt E → Type 0
+HasTranscript are_made load outcome = ContinuesAs are_made load (load_outcome outcome)
 
 -- the result of a load is an outcome that it may have, or `wanting` if memory runs out; a success leaves the lines and
 -- notices `left`
-abbrev pub IsLoad : {T E : Type 0} → E → Option FileMap → (List Fetch → Load E) → (T → Excerpt) → Result T E → Type 0
-IsLoad wanting files load left result =
-    MatchResult result (λ value. HasTranscript files load (Ok (left value)))
-    (λ fault. (fault ≡ wanting) ⊎ HasTranscript files load (Err fault))
+abbrev pub IsLoad : {T E : Type 0} → E → (List Fetch → Type 0) → (List Fetch → Load E) → (T → Excerpt) → Result T E
+    → Type 0
+IsLoad wanting are_made load left result =
+    MatchResult result (λ value. HasTranscript are_made load (Ok (left value)))
+    (λ fault. (fault ≡ wanting) ⊎ HasTranscript are_made load (Err fault))
 
 -- the count of failed fetches after some fetches
 abbrev pub faults_after_fetches : ℕ → List Fetch → ℕ

@@ -2,7 +2,8 @@
 
 ghost use Rattle.deck_lines.specs.ClosedBlocks.{ClosedBlocksLaw};
 ghost use Rattle.deck_lines.specs.Examples.{LineExamplesLaw};
-ghost use Rattle.deck_lines.specs.LoadLaws.{AskLaw, FailureLaw, KeptLinesLaw, KnownLoadLaw};
+ghost use Rattle.deck_lines.specs.LoadLaws.{AskLaw, FailureLaw, KeptLinesLaw, KnownLoadLaw, LastFetchLaw};
+ghost use Rattle.deck_lines.specs.LoadLaws.{LoggedFetchesLaw};
 ghost use Rattle.deck_lines.specs.TranscriptExamples.{TranscriptExamplesLaw};
 
 /// The deck of a file is closed: every block has its own end line.
@@ -14,6 +15,7 @@ pub fn decks_are_closed()
 pub fn failed_fetches_end_loads()
     ensures failed { FailureLaw }
     ensures asked { AskLaw }
+    ensures last { LastFetchLaw }
 {}
 
 /// If the files are known, a load appends the deck of its file, unless the lines pass a limit, a fetch fails or memory
@@ -25,6 +27,12 @@ pub fn known_files_determine_loads()
 /// A load keeps the lines before it.
 pub fn loads_keep_lines()
     ensures { KeptLinesLaw }
+{}
+
+/// If the state of the files is the list of all fetches that were made, the fetches between two states are those by which
+/// the list grows.
+pub fn logged_fetches_law()
+    ensures { LoggedFetchesLaw }
 {}
 
 /// The examples hold: a few texts have the decks that were worked out by hand.

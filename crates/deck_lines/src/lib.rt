@@ -14,7 +14,7 @@ pub use draft::{Draft, LoadFault, Notices};
 pub use key_number::KeyNumber;
 pub use laws::{
     decks_are_closed, examples_law, failed_fetches_end_loads, known_files_determine_loads,
-    loads_keep_lines, transcript_examples_law,
+    loads_keep_lines, logged_fetches_law, transcript_examples_law,
 };
 pub use line::{Block, BorrowedLine, DeckLine, DeckLines, Ending, Role};
 pub use line_meaning::{Reading, read_line};

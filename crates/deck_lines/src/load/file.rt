@@ -12,7 +12,7 @@ ghost use Rattle.deck_lines.specs.LineLoads.{load_of_line};
 ghost use Rattle.deck_lines.specs.Loads.{Extends, IsExcerptPut, Leads, endings};
 ghost use Rattle.deck_lines.specs.Marks.{plain_line};
 ghost use Rattle.deck_lines.specs.Readings.{entry_in, reading_of};
-ghost use Rattle.deck_lines.specs.Transcripts.{IsLoad};
+ghost use Rattle.deck_lines.specs.Transcripts.{IsLoad, IsTranscript};
 ghost use Rattle.deck_lines.specs.declared.draft.LoadFault.TheVariants.{OutOfMemory};
 ghost use Rattle.deck_lines.specs.declared.line.Role.TheVariants.{Inside};
 
@@ -43,8 +43,8 @@ pub fn load_text<F: Files>(
     bytes: &[u8],
 ) -> Result<(), LoadFault>
     requires { length bytes.now ≤ longest_file }
-    ensures loads { IsLoad OutOfMemory (F.files files.old) (load_of_file name.now bytes.now (excerpt_in draft.old))
-        (λ _. excerpt_in draft.new) result }
+    ensures loads { IsLoad OutOfMemory (IsTranscript (F.files files.old) F.is_fetch files.old files.new)
+        (load_of_file name.now bytes.now (excerpt_in draft.old)) (λ _. excerpt_in draft.new) result }
     ensures extends { Extends draft.old.store draft.new.store }
     ensures closed { OnOk result (AreBlocksClosed draft.old.store.lines → AreBlocksClosed draft.new.store.lines) }
     ensures kept { F.files files.new ≡ F.files files.old }
@@ -65,8 +65,8 @@ fn load_file<F: Files>(
     depth: u8,
 ) -> Result<(), LoadFault>
     requires { length bytes.now ≤ longest_file }
-    ensures loads { IsLoad OutOfMemory (F.files files.old) (load_above depth name.now bytes.now (excerpt_in draft.old))
-        (λ _. excerpt_in draft.new) result }
+    ensures loads { IsLoad OutOfMemory (IsTranscript (F.files files.old) F.is_fetch files.old files.new)
+        (load_above depth name.now bytes.now (excerpt_in draft.old)) (λ _. excerpt_in draft.new) result }
     ensures leads { Leads [] [] draft.old.store draft.new.store result }
     ensures kept { F.files files.new ≡ F.files files.old }
     ensures stores { F.store_faults files.new ≡ F.store_faults files.old }
@@ -92,7 +92,7 @@ fn load_line<F: Files>(
     blocks: &mut Vec<Block>,
     line: Line,
 ) -> Result<(), LoadFault>
-    ensures loads { IsLoad OutOfMemory (F.files files.old)
+    ensures loads { IsLoad OutOfMemory (IsTranscript (F.files files.old) F.is_fetch files.old files.new)
         (load_of_line (λ word. load_below depth name.now (included_name name.now word)) name.now
         (reverse blocks.old.items) line (reading_of line.text) (excerpt_in draft.old))
         (λ _. excerpt_in draft.new) result }
@@ -130,8 +130,8 @@ fn load_include<F: Files>(
 ) -> Result<(), LoadFault>
     requires role { role_of (kind_of line.text) ≡ Inside }
     requires entry { entry_in (plain_line line.number line.text) ≡ None }
-    ensures loads { IsLoad OutOfMemory (F.files files.old) (load_below depth name.now file line (excerpt_in draft.old))
-        (λ _. excerpt_in draft.new) result }
+    ensures loads { IsLoad OutOfMemory (IsTranscript (F.files files.old) F.is_fetch files.old files.new)
+        (load_below depth name.now file line (excerpt_in draft.old)) (λ _. excerpt_in draft.new) result }
     ensures leads { Leads [] [] draft.old.store draft.new.store result }
     ensures kept { F.files files.new ≡ F.files files.old }
     ensures stores { F.store_faults files.new ≡ F.store_faults files.old }

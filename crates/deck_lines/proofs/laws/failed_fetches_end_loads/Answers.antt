@@ -1,5 +1,6 @@
 use Rattle.deck_lines.proofs.AskedLoads.{ask_law}
 use Rattle.deck_lines.proofs.FailedLoads.{failure_law}
+use Rattle.deck_lines.proofs.LastFetches.{last_fetch_law}
 use Rattle.deck_lines.proofs.laws.failed_fetches_end_loads.Goals as goal
 
 pub returns-clause-failed : goal.returns-clause-failed
@@ -7,3 +8,6 @@ returns-clause-failed c = failure_law
 
 pub returns-clause-asked : goal.returns-clause-asked
 returns-clause-asked c = ask_law
+
+pub returns-clause-last : goal.returns-clause-last
+returns-clause-last c = last_fetch_law

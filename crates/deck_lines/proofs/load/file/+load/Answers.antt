@@ -6,7 +6,7 @@ use Rattle.deck_lines.specs.LineLoads.{excerpt_in, load_above, load_below, load_
 use Rattle.deck_lines.specs.Loads.{Leads, endings}
 use Rattle.deck_lines.specs.Marks.{plain_line}
 use Rattle.deck_lines.specs.Readings.{Defines, Faulty, Includes, Stands, reading_of}
-use Rattle.deck_lines.specs.Transcripts.{IsLoad}
+use Rattle.deck_lines.specs.Transcripts.{IsLoad, IsTranscript}
 use Rattle.deck_lines.specs.Views.{seen_reading}
 use Rattle.deck_lines.specs.declared.draft.LoadFault.TheVariants.{OutOfMemory}
 use Rattle.deck_lines.proofs.DraftAppends.{then_leads, with_lines-nil}
@@ -28,11 +28,13 @@ load_file-loop-blocks-init g t c = record {
     blocks_lead = ap (λ blocks. Some (endings (reverse blocks))) (sym c.new-blocks.ensures.items);
   };
   continues =
-      continues_at_once (g.F.Files.files c.args.files.now)
+      continues_at_once
+      (IsTranscript (g.F.Files.files c.args.files.now) g.F.Files.is_fetch c.args.files.now c.args.files.now)
       (load_above c.args.depth c.args.name.now c.args.bytes.now (excerpt_in c.args.draft.now))
       (load_of_rest (λ word. load_below c.args.depth c.args.name.now (included_name c.args.name.now word))
       c.args.name.now (reverse c.new-blocks.result.items) (nonblank_lines c.new-lines.result)
       (excerpt_in c.args.draft.now))
+      (tt, refl)
       (λ fetches.
       ap (λ lines. load_of_rest (λ word. load_below c.args.depth c.args.name.now (included_name c.args.name.now word))
       c.args.name.now [] (nonblank_lines lines) (excerpt_in c.args.draft.now) fetches) (sym c.new-lines.ensures)
@@ -58,14 +60,17 @@ load_file-loop-blocks-preserved g t c =
           (endings (reverse c.load_line.new.blocks.items)) c.args.draft.now.store c.loop-blocks.draft.store
           c.load_line.new.draft.store tt (Ok tt) c.loop-blocks.invariant.leads here;
       continues =
-          line_leads_on (g.F.Files.files c.args.files.now)
+          line_leads_on (g.F.Files.files c.args.files.now) g.F.Files.is_fetch
+          c.args.files.now c.loop-blocks.files
           (λ word. load_below c.args.depth c.args.name.now (included_name c.args.name.now word)) c.args.name.now
           (reverse c.loop-blocks.blocks.items)
           (load_above c.args.depth c.args.name.now c.args.bytes.now (excerpt_in c.args.draft.now)) c.loop-blocks.draft
-          (nonblank_lines c.loop-blocks.lines) (nonblank_lines c.take_shown.new.self) c.in_ok-line-2.line taken
-          c.loop-blocks.invariant.continues c.load_line.new.draft (reverse c.load_line.new.blocks.items)
+          (nonblank_lines c.loop-blocks.lines) c.loop-blocks.invariant.continues
+          (nonblank_lines c.take_shown.new.self) c.in_ok-line-2.line taken c.load_line.new.files c.load_line.new.draft
+          (reverse c.load_line.new.blocks.items)
           c.in_ok-load_line.ensures.blocks
-          (subst (λ files. IsLoad {T = Unit {0}} OutOfMemory files
+          (subst (λ files. IsLoad {T = Unit {0}} OutOfMemory
+          (IsTranscript files g.F.Files.is_fetch c.loop-blocks.files c.load_line.new.files)
           (load_of_line (λ word. load_below c.args.depth c.args.name.now (included_name c.args.name.now word))
           c.args.name.now (reverse c.loop-blocks.blocks.items) c.in_ok-line-2.line
           (reading_of c.in_ok-line-2.line.text) (excerpt_in c.loop-blocks.draft))
@@ -162,13 +167,16 @@ load_file-returns-in_err-load_line-clause-loads g t c =
     let p = err_from_is_err_and c.from_residual-in_err-load_line.result c.from_residual-in_err-load_line.ensures.1 in
     let taken : nonblank_lines c.loop-blocks.lines ≡ c.in_ok-line-2.line ∷ nonblank_lines c.take_shown.new.self =
     line_taken _ _ _ _ _ c.in_ok-line.ensures.ok c.in-Some.is c.in_ok-line-2.ensures in
-    rw (p.1, p.2) (line_ends (g.F.Files.files c.args.files.now)
+    rw (p.1, p.2) (line_ends (g.F.Files.files c.args.files.now) g.F.Files.is_fetch c.args.files.now
+    c.loop-blocks.files
     (λ word. load_below c.args.depth c.args.name.now (included_name c.args.name.now word)) c.args.name.now
     (reverse c.loop-blocks.blocks.items)
     (load_above c.args.depth c.args.name.now c.args.bytes.now (excerpt_in c.args.draft.now)) c.loop-blocks.draft
-    (nonblank_lines c.loop-blocks.lines) (nonblank_lines c.take_shown.new.self) c.in_ok-line-2.line taken
-    c.loop-blocks.invariant.continues c.load_line.new.draft c.load_line.new.draft c.in_err-load_line.field-0.0
-    (subst (λ files. IsLoad {T = Unit {0}} OutOfMemory files
+    (nonblank_lines c.loop-blocks.lines) c.loop-blocks.invariant.continues
+    (nonblank_lines c.take_shown.new.self) c.in_ok-line-2.line taken c.load_line.new.files c.load_line.new.draft
+    c.load_line.new.draft c.in_err-load_line.field-0.0
+    (subst (λ files. IsLoad {T = Unit {0}} OutOfMemory
+    (IsTranscript files g.F.Files.is_fetch c.loop-blocks.files c.load_line.new.files)
     (load_of_line (λ word. load_below c.args.depth c.args.name.now (included_name c.args.name.now word))
     c.args.name.now (reverse c.loop-blocks.blocks.items) c.in_ok-line-2.line
     (reading_of c.in_ok-line-2.line.text) (excerpt_in c.loop-blocks.draft))
@@ -177,24 +185,25 @@ load_file-returns-in_err-load_line-clause-loads g t c =
 
 pub load_file-returns-clause-loads : goal.load_file-returns-clause-loads
 load_file-returns-clause-loads g t c =
-    file_ends (g.F.Files.files c.args.files.now)
+    file_ends (g.F.Files.files c.args.files.now) g.F.Files.is_fetch c.args.files.now c.loop-blocks.files
     (λ word. load_below c.args.depth c.args.name.now (included_name c.args.name.now word)) c.args.name.now
     (reverse c.loop-blocks.blocks.items)
     (load_above c.args.depth c.args.name.now c.args.bytes.now (excerpt_in c.args.draft.now)) c.loop-blocks.draft
-    c.push_file_end.new.draft (nonblank_lines c.loop-blocks.lines) c.push_file_end.result
-    (none_taken _ _ _ c.in_ok-line.ensures.ok c.in_default.is) c.loop-blocks.invariant.continues
-    c.push_file_end.ensures.put
+    (nonblank_lines c.loop-blocks.lines) c.loop-blocks.invariant.continues c.push_file_end.new.draft
+    c.push_file_end.result (none_taken _ _ _ c.in_ok-line.ensures.ok c.in_default.is) c.push_file_end.ensures.put
 
 pub load_include-returns-then-depth-eq0-clause-loads : goal.load_include-returns-then-depth-eq0-clause-loads
 load_include-returns-then-depth-eq0-clause-loads g t c =
     rw (← c.as_bytes-file.ensures)
-    (deep_loads (g.F.Files.files c.args.files.now) c.args.depth c.args.name.now c.as_bytes-file.result.now
+    (deep_loads (g.F.Files.files c.args.files.now) g.F.Files.is_fetch c.args.files.now c.args.depth c.args.name.now
+    c.as_bytes-file.result.now
     c.args.line c.args.draft.now c.put_unread.new.draft c.put_unread.result
     c.if-depth-eq0.true c.put_unread.ensures.put)
 
 pub load_include-returns-then-not-has_room-clause-loads : goal.load_include-returns-then-not-has_room-clause-loads
 load_include-returns-then-not-has_room-clause-loads g t c =
-    full_ends (g.F.Files.files c.args.files.now) c.args.depth c.args.name.now c.args.file c.args.line
+    full_ends (g.F.Files.files c.args.files.now) g.F.Files.is_fetch c.args.files.now c.args.depth c.args.name.now
+    c.args.file c.args.line
     c.if-depth-eq0.false c.args.draft.now c.args.draft.now
     (c.has_room.ensures (plain_line c.args.line.number c.args.line.text) (sym (ap length c.as_bytes.ensures))
     ∙ ap not c.if-not-has_room.true)
@@ -204,71 +213,85 @@ pub load_include-returns-in_err-push_line-in-Ok-clause-loads
 load_include-returns-in_err-push_line-in-Ok-clause-loads g t c =
     let p = err_from_is_err_and c.from_residual.result c.from_residual.ensures.1 in
     rw (p.1, p.2, ← c.as_bytes-file.ensures)
-    (line_fails (g.F.Files.files c.args.files.now) c.args.depth c.args.name.now c.as_bytes-file.result.now c.args.line
-    c.if-depth-eq0.false c.args.draft.now c.push_line.new.self
+    (line_fails (g.F.Files.files c.args.files.now) g.F.Files.is_fetch c.args.files.now c.args.depth c.args.name.now
+    c.as_bytes-file.result.now c.args.line
+    c.if-depth-eq0.false c.args.draft.now c.fetch.new.self c.push_line.new.self
     (c.has_room.ensures (plain_line c.args.line.number c.args.line.text) (sym (ap length c.as_bytes.ensures))
     ∙ ap not c.if-not-has_room.false)
-    c.push_line.new.self c.in-Ok.text c.in_err-push_line-in-Ok.field-0.0 c.in-Ok.ensures.told
+    c.push_line.new.self c.in-Ok.text c.in_err-push_line-in-Ok.field-0.0 c.in-Ok.ensures.told c.in-Ok.ensures.fetched
     c.in_err-push_line-in-Ok.ensures.put)
 
 pub load_include-returns-in_ok-push_line-in-Ok-clause-loads
     : goal.load_include-returns-in_ok-push_line-in-Ok-clause-loads
 load_include-returns-in_ok-push_line-in-Ok-clause-loads g t c =
     rw (← c.as_bytes-file.ensures)
-    (read_loads (g.F.Files.files c.args.files.now) c.args.depth c.args.name.now c.as_bytes-file.result.now
-    c.args.line c.if-depth-eq0.false c.args.draft.now c.load_file.new.draft
+    (read_loads (g.F.Files.files c.args.files.now) g.F.Files.is_fetch c.args.files.now c.args.depth c.args.name.now
+    c.as_bytes-file.result.now
+    c.args.line c.if-depth-eq0.false c.args.draft.now c.fetch.new.self c.load_file.new.draft
     (c.has_room.ensures (plain_line c.args.line.number c.args.line.text) (sym (ap length c.as_bytes.ensures))
     ∙ ap not c.if-not-has_room.false)
-    c.push_line.new.self c.in-Ok.text c.load_file.result c.in-Ok.ensures.told c.in_ok-push_line-in-Ok.ensures.put
-    (subst (λ files. IsLoad OutOfMemory files
+    c.load_file.new.files c.push_line.new.self c.in-Ok.text c.load_file.result c.in-Ok.ensures.told
+    c.in-Ok.ensures.fetched c.in_ok-push_line-in-Ok.ensures.put
+    (subst (λ files. IsLoad OutOfMemory
+    (IsTranscript files g.F.Files.is_fetch c.fetch.new.self c.load_file.new.files)
     (load_above (c.args.depth - 1) c.as_bytes-file.result.now c.in-Ok.text (excerpt_in c.push_line.new.self))
     (λ _. excerpt_in c.load_file.new.draft) c.load_file.result) c.fetch.ensures.kept
-    (subst (λ bytes. IsLoad OutOfMemory (g.F.Files.files c.fetch.new.self)
+    (subst (λ bytes. IsLoad OutOfMemory
+    (IsTranscript (g.F.Files.files c.fetch.new.self) g.F.Files.is_fetch c.fetch.new.self c.load_file.new.files)
     (load_above (c.args.depth - 1) c.as_bytes-file.result.now bytes (excerpt_in c.push_line.new.self))
     (λ _. excerpt_in c.load_file.new.draft) c.load_file.result) c.as_bytes-in-Ok.ensures c.load_file.ensures.loads)))
 
 pub load_include-returns-in-Err-Absent-clause-loads : goal.load_include-returns-in-Err-Absent-clause-loads
 load_include-returns-in-Err-Absent-clause-loads g t c =
     rw (← c.as_bytes-file.ensures)
-    (absent_loads (g.F.Files.files c.args.files.now) c.args.depth c.args.name.now c.as_bytes-file.result.now
-    c.args.line c.if-depth-eq0.false c.args.draft.now c.put_unread-in-Err-Absent.new.draft
+    (absent_loads (g.F.Files.files c.args.files.now) g.F.Files.is_fetch c.args.files.now c.args.depth c.args.name.now
+    c.as_bytes-file.result.now
+    c.args.line c.if-depth-eq0.false c.args.draft.now c.fetch.new.self c.put_unread-in-Err-Absent.new.draft
     (c.has_room.ensures (plain_line c.args.line.number c.args.line.text) (sym (ap length c.as_bytes.ensures))
     ∙ ap not c.if-not-has_room.false)
     c.put_unread-in-Err-Absent.result (rw c.in-Err-Absent.field-0-is at c.in-Err-Absent.ensures.told)
+    (rw c.in-Err-Absent.field-0-is at c.in-Err-Absent.ensures.fetched)
     c.put_unread-in-Err-Absent.ensures.put)
 
 pub load_include-returns-in-Err-TooLong-clause-loads : goal.load_include-returns-in-Err-TooLong-clause-loads
 load_include-returns-in-Err-TooLong-clause-loads g t c =
     rw (← c.as_bytes-file.ensures)
-    (long_loads (g.F.Files.files c.args.files.now) c.args.depth c.args.name.now c.as_bytes-file.result.now
-    c.args.line c.if-depth-eq0.false c.args.draft.now c.put_unread-in-Err-TooLong.new.draft
+    (long_loads (g.F.Files.files c.args.files.now) g.F.Files.is_fetch c.args.files.now c.args.depth c.args.name.now
+    c.as_bytes-file.result.now
+    c.args.line c.if-depth-eq0.false c.args.draft.now c.fetch.new.self c.put_unread-in-Err-TooLong.new.draft
     (c.has_room.ensures (plain_line c.args.line.number c.args.line.text) (sym (ap length c.as_bytes.ensures))
     ∙ ap not c.if-not-has_room.false)
     c.put_unread-in-Err-TooLong.result (rw c.in-Err-TooLong.field-0-is at c.in-Err-TooLong.ensures.told)
+    (rw c.in-Err-TooLong.field-0-is at c.in-Err-TooLong.ensures.fetched)
     c.put_unread-in-Err-TooLong.ensures.put)
 
 pub load_include-returns-in-Err-Failed-clause-loads : goal.load_include-returns-in-Err-Failed-clause-loads
 load_include-returns-in-Err-Failed-clause-loads g t c =
-    failed_ends (g.F.Files.files c.args.files.now) c.args.depth c.args.name.now c.args.file c.args.line
-    c.if-depth-eq0.false c.args.draft.now c.args.draft.now
+    rw (← c.as_bytes-file.ensures)
+    (failed_ends (g.F.Files.files c.args.files.now) g.F.Files.is_fetch c.args.files.now c.args.depth c.args.name.now
+    c.as_bytes-file.result.now c.args.line c.if-depth-eq0.false c.args.draft.now c.fetch.new.self c.args.draft.now
     (c.has_room.ensures (plain_line c.args.line.number c.args.line.text) (sym (ap length c.as_bytes.ensures))
     ∙ ap not c.if-not-has_room.false)
+    (rw c.in-Err-Failed.field-0-is at c.in-Err-Failed.ensures.told)
+    (rw c.in-Err-Failed.field-0-is at c.in-Err-Failed.ensures.fetched))
 
 pub load_line-returns-in-Stands-clause-loads : goal.load_line-returns-in-Stands-clause-loads
 load_line-returns-in-Stands-clause-loads g t c =
-    alone_loads (g.F.Files.files c.args.files.now)
+    alone_loads
+    (IsTranscript (g.F.Files.files c.args.files.now) g.F.Files.is_fetch c.args.files.now c.args.files.now)
     (λ word. load_below c.args.depth c.args.name.now (included_name c.args.name.now word)) c.args.name.now
     (reverse c.args.blocks.now.items) c.args.line (Stands c.in-Stands.role) c.args.draft.now
-    c.push_role_line.new.draft c.push_role_line.result tt
+    c.push_role_line.new.draft c.push_role_line.result (tt, refl) tt
     (ap (seen_reading c.as_bytes.result.now) (sym c.in-Stands.is) ∙ c.in_ok-role.ensures.means
     ∙ ap reading_of c.as_bytes.ensures) c.push_role_line.ensures.put
 
 pub load_line-returns-in-Defines-clause-loads : goal.load_line-returns-in-Defines-clause-loads
 load_line-returns-in-Defines-clause-loads g t c =
-    alone_loads (g.F.Files.files c.args.files.now)
+    alone_loads
+    (IsTranscript (g.F.Files.files c.args.files.now) g.F.Files.is_fetch c.args.files.now c.args.files.now)
     (λ word. load_below c.args.depth c.args.name.now (included_name c.args.name.now word)) c.args.name.now
     (reverse c.args.blocks.now.items) c.args.line (Defines _) c.args.draft.now c.push_line.new.self
-    c.push_line.result tt
+    c.push_line.result (tt, refl) tt
     (ap (seen_reading c.as_bytes.result.now) (sym c.in-Defines.is) ∙ c.in_ok-role.ensures.means
     ∙ ap reading_of c.as_bytes.ensures) c.push_line.ensures.put
 
@@ -277,20 +300,23 @@ load_line-returns-in_ok-file-in-Includes-clause-loads g t c =
     let means : Includes c.in-Includes.word.now ≡ reading_of c.args.line.text =
     ap (seen_reading c.as_bytes.result.now) (sym c.in-Includes.is)
     ∙ c.in_ok-role.ensures.means ∙ ap reading_of c.as_bytes.ensures in
-    subst (λ reading. IsLoad OutOfMemory (g.F.Files.files c.args.files.now)
+    subst (λ reading. IsLoad OutOfMemory
+    (IsTranscript (g.F.Files.files c.args.files.now) g.F.Files.is_fetch c.args.files.now c.load_include.new.files)
     (load_of_line (λ word. load_below c.args.depth c.args.name.now (included_name c.args.name.now word))
     c.args.name.now (reverse c.args.blocks.now.items) c.args.line reading (excerpt_in c.args.draft.now))
     (λ _. excerpt_in c.load_include.new.draft) c.load_include.result) means
-    (subst (λ file. IsLoad OutOfMemory (g.F.Files.files c.args.files.now)
+    (subst (λ file. IsLoad OutOfMemory
+    (IsTranscript (g.F.Files.files c.args.files.now) g.F.Files.is_fetch c.args.files.now c.load_include.new.files)
     (load_below c.args.depth c.args.name.now file c.args.line (excerpt_in c.args.draft.now))
     (λ _. excerpt_in c.load_include.new.draft) c.load_include.result) c.in_ok-file-in-Includes.ensures
     c.load_include.ensures.loads)
 
 pub load_line-returns-in-Faulty-clause-loads : goal.load_line-returns-in-Faulty-clause-loads
 load_line-returns-in-Faulty-clause-loads g t c =
-    alone_loads (g.F.Files.files c.args.files.now)
+    alone_loads
+    (IsTranscript (g.F.Files.files c.args.files.now) g.F.Files.is_fetch c.args.files.now c.args.files.now)
     (λ word. load_below c.args.depth c.args.name.now (included_name c.args.name.now word)) c.args.name.now
     (reverse c.args.blocks.now.items) c.args.line (Faulty c.as_bytes-in-Faulty.result.now) c.args.draft.now
-    c.refuse_line.new.self c.refuse_line.result tt
+    c.refuse_line.new.self c.refuse_line.result (tt, refl) tt
     (ap Faulty c.as_bytes-in-Faulty.ensures ∙ ap (seen_reading c.as_bytes.result.now) (sym c.in-Faulty.is)
     ∙ c.in_ok-role.ensures.means ∙ ap reading_of c.as_bytes.ensures) c.refuse_line.ensures.put

@@ -3,7 +3,7 @@ use Rattle.def_lines.specs.Lines.{nonblank_lines}
 use Rattle.deck_lines.specs.Includes.{included_name}
 use Rattle.deck_lines.specs.LineLoads.{excerpt_in, load_above, load_below, load_of_rest}
 use Rattle.deck_lines.specs.Loads.{Leads, endings}
-use Rattle.deck_lines.specs.Transcripts.{ContinuesAs}
+use Rattle.deck_lines.specs.Transcripts.{ContinuesAs, IsTranscript}
 use Rattle.deck_lines.proofs.load.file.+load.Given as goal
 
 abbrev pub decreases-load_file : goal.decreases-load_file
@@ -21,7 +21,8 @@ invariant-load_file-loop-blocks g l = record {
   stores : g.F.Files.store_faults l.files ≡ g.F.Files.store_faults l.initial.files;
   counted : g.F.Files.faults l.files ≡ g.F.Files.faults l.initial.files;
   leads : Leads [] (endings (reverse l.blocks.items)) l.initial.draft.store l.draft.store (Ok tt);
-  continues : ContinuesAs (g.F.Files.files l.initial.files)
+  continues : ContinuesAs
+      (IsTranscript (g.F.Files.files l.initial.files) g.F.Files.is_fetch l.initial.files l.files)
       (load_above l.depth l.name l.bytes (excerpt_in l.initial.draft))
       (load_of_rest (λ word. load_below l.depth l.name (included_name l.name word)) l.name (reverse l.blocks.items)
       (nonblank_lines l.lines) (excerpt_in l.draft));
