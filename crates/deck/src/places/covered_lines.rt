@@ -78,9 +78,9 @@ impl CoveredLines {
         Ok(())
     }
 
-    // Reports whether there are more than half as many gaps as lines.
+    // Reports whether there are so many gaps that the covered places should be found again.
     fn has_many_gaps(&self) -> bool {
-        self.gaps.len() > self.slots.len() / 2
+        self.gaps.are_many(self.slots.len())
     }
 }
 

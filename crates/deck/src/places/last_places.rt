@@ -97,11 +97,11 @@ impl LastPlaces {
         }
     }
 
-    // Fills the gaps if there are more than half as many as places.
+    // Fills the gaps if there are many.
     fn fill_many_gaps(&mut self)
         ensures { (kind : key_kind.Kind) → spec.places_of self.new kind ≡ spec.places_of self.old kind }
     {
-        if self.gaps.len() > self.slots.len() / 2 {
+        if self.gaps.are_many(self.slots.len()) {
             self.fill_gaps();
         }
     }
