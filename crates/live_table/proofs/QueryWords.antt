@@ -8,7 +8,8 @@ use Rattle.def_entry.specs.declared.key.Key.{Key}
 use Rattle.def_entry.specs.Tables.{Table}
 use Rattle.table_names.specs.declared.fault.NameFault.{NameFault}
 use Rattle.table_names.specs.declared.fault.NameFault.TheVariants.{Refused, Unknown}
-use Rattle.table_names.specs.Faults.{Deeper, first_some, key_fault_within, name_fault, targets_fault, word_fault}
+use Rattle.name_walk.specs.Lists.{first_some}
+use Rattle.table_names.specs.Faults.{Deeper, key_fault_within, name_fault, targets_fault, word_fault}
 use Rattle.table_names.specs.Leads.{targets}
 use Rattle.live_table.specs.declared.dead_end.DeadEnd.{DeadEnd}
 use Rattle.live_table.specs.ExploredNames.{dead_end_fault}
