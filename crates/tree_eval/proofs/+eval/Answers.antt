@@ -37,16 +37,17 @@ scope::Scope::evaluate-evaluate_operand-requires g t c κs within =
     (ap syntax c.in-Call.is
     ∙ (c.view_law.ensures.call c.in-Call.field-0 c.in-Call.operand
     ∙ ap (λ y. tree.Call c.in-Call.field-0.value (syntax y)) (sym c.deref-in-Call.ensures)))
-    c.requires _ _ _ _ c.in_ok-meaning.ensures.told c.in_ok-meaning.ensures.place in
+    c.requires _ _ _ _ c.in_ok-meaning-in-Call.ensures.told c.in_ok-meaning-in-Call.ensures.place in
     search (rules, arith, part.can, part.lighter, part.stand)
 
-pub scope::Scope::evaluate-returns-in-Call-clause-worth : goal.scope::Scope::evaluate-returns-in-Call-clause-worth
-scope::Scope::evaluate-returns-in-Call-clause-worth g t c =
+pub scope::Scope::evaluate-returns-in_ok-meaning-in-Call-clause-worth
+    : goal.scope::Scope::evaluate-returns-in_ok-meaning-in-Call-clause-worth
+scope::Scope::evaluate-returns-in_ok-meaning-in-Call-clause-worth g t c =
     use_gives Forward _ _ _ _
     (ap syntax c.in-Call.is
     ∙ (c.view_law.ensures.call c.in-Call.field-0 c.in-Call.operand
     ∙ ap (λ y. tree.Call c.in-Call.field-0.value (syntax y)) (sym c.deref-in-Call.ensures)))
-    c.requires _ _ _ _ c.in_ok-meaning.ensures.told _ _ _ c.evaluate_operand.ensures.worth
+    c.requires _ _ _ _ c.in_ok-meaning-in-Call.ensures.told _ _ _ c.evaluate_operand.ensures.worth
 
 pub scope::Scope::evaluate-next_meaning-requires-in-Inverse
     : goal.scope::Scope::evaluate-next_meaning-requires-in-Inverse
@@ -65,8 +66,9 @@ scope::Scope::evaluate-evaluate_operand-requires-in-Inverse g t c κs within =
     c.in_ok-meaning-in-Inverse.ensures.place in
     search (rules, arith, part.can, part.lighter, part.stand)
 
-pub scope::Scope::evaluate-returns-in-Inverse-clause-worth : goal.scope::Scope::evaluate-returns-in-Inverse-clause-worth
-scope::Scope::evaluate-returns-in-Inverse-clause-worth g t c =
+pub scope::Scope::evaluate-returns-in_ok-meaning-in-Inverse-clause-worth
+    : goal.scope::Scope::evaluate-returns-in_ok-meaning-in-Inverse-clause-worth
+scope::Scope::evaluate-returns-in_ok-meaning-in-Inverse-clause-worth g t c =
     use_gives Inverse _ _ _ _
     (ap syntax c.in-Inverse.is
     ∙ (c.view_law.ensures.inverse c.in-Inverse.field-0 c.in-Inverse.operand
@@ -216,19 +218,19 @@ pub scope::Scope::evaluate_juxtaposition-put_multiple-requires
     : goal.scope::Scope::evaluate_juxtaposition-put_multiple-requires
 scope::Scope::evaluate_juxtaposition-put_multiple-requires g t c =
     multiple_usable _ c.in-Some.is c.factor_of_word.ensures _ _ c.requires _ _ _ _
-    c.in_ok-meaning.ensures.told
+    c.in_ok-meaning-in-Some.ensures.told
 
-pub scope::Scope::evaluate_juxtaposition-returns-in-Some-clause-worth
-    : goal.scope::Scope::evaluate_juxtaposition-returns-in-Some-clause-worth
-scope::Scope::evaluate_juxtaposition-returns-in-Some-clause-worth g t c =
+pub scope::Scope::evaluate_juxtaposition-returns-in_ok-meaning-in-Some-clause-worth
+    : goal.scope::Scope::evaluate_juxtaposition-returns-in_ok-meaning-in-Some-clause-worth
+scope::Scope::evaluate_juxtaposition-returns-in_ok-meaning-in-Some-clause-worth g t c =
     multiple_gives _ c.in-Some.is c.factor_of_word.ensures _ _ c.requires _ _ _ _
-    c.in_ok-meaning.ensures.told _ _ _ c.put_multiple.ensures
+    c.in_ok-meaning-in-Some.ensures.told _ _ _ c.put_multiple.ensures
 
-pub scope::Scope::evaluate_juxtaposition-returns-in-Some-clause-place
-    : goal.scope::Scope::evaluate_juxtaposition-returns-in-Some-clause-place
-scope::Scope::evaluate_juxtaposition-returns-in-Some-clause-place g t c =
+pub scope::Scope::evaluate_juxtaposition-returns-in_ok-meaning-in-Some-clause-place
+    : goal.scope::Scope::evaluate_juxtaposition-returns-in_ok-meaning-in-Some-clause-place
+scope::Scope::evaluate_juxtaposition-returns-in_ok-meaning-in-Some-clause-place g t c =
     multiple_place _ c.in-Some.is c.factor_of_word.ensures c.put_multiple.result _
-    c.in_ok-meaning.ensures.place
+    c.in_ok-meaning-in-Some.ensures.place
 
 pub scope::Scope::chain-evaluate-requires : goal.scope::Scope::chain-evaluate-requires
 scope::Scope::chain-evaluate-requires g t c κs within =
