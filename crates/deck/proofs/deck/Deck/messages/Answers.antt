@@ -16,8 +16,7 @@ line-requires c =
     omega (
       arith,
       c.loop-i-test.true,
-      ap length c.in_ok-flags.ensures,
-      length-activity _ _ c.self.inside.store.lines,
+      ap length c.in_ok-flags.ensures ∙ length-activity _ _ c.self.inside.store.lines,
       c.in_ok-flags.flags.ok.0,
     )
 
@@ -48,8 +47,7 @@ returns c =
     omega (
       arith,
       c.loop-i-test.false,
-      ap length c.in_ok-flags.ensures,
-      length-activity _ _ c.self.inside.store.lines,
+      ap length c.in_ok-flags.ensures ∙ length-activity _ _ c.self.inside.store.lines,
       c.in_ok-flags.flags.ok.0,
       ap (λ (d : Contents). length d.lines) c.self.view_is,
     ) in
