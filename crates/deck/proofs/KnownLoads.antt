@@ -1,4 +1,4 @@
--- Loads of files, and of files whose contents are known.
+-- Loads of files whose contents are known, and the lines before them.
 use Rattle.std.proofs.Common.{◌≡◌, ◌⊎◌, ◌++◌, ◌∷◌, [], ℕ, List, Bool, true, false, cond, refl, sym, ap, subst, ◌∙◌}
 use Rattle.std.proofs.Common.{Result, Ok, Err, Some, inl, inr}
 use Rattle.std.proofs.lemmas.List.{append-nil}
@@ -36,7 +36,7 @@ same_fails : {E : Type 0} (a b : E) (xs ys : List Fetch) → ◌≡◌ {A = Load
 same_fails a b xs ys h = cc
 
 -- the outcome of a load of lines as that of a load of a deck
-abbrev of_load : Result Excerpt LoadFault → Result Excerpt DeckFault
+abbrev pub of_load : Result Excerpt LoadFault → Result Excerpt DeckFault
 of_load (Ok excerpt) = Ok excerpt
 of_load (Err fault) = Err (fault_of_load fault)
 
@@ -66,7 +66,7 @@ by_limit false all d = refl
 
 module _ (law : KnownLoadLaw) (m : FileMap) (name : List ℕ) (d : Contents) where
   -- an append of a file that is read
-  read_known : (bytes : List ℕ) (fetches rest : List Fetch) (o : Result Excerpt LoadFault)
+  pub read_known : (bytes : List ℕ) (fetches rest : List Fetch) (o : Result Excerpt LoadFault)
       → AreAnswersOf (Some m) fetches → load_of_file name bytes (lines_alone d.lines) fetches ≡ load_outcome o rest
       → IsErrAnd (of_load o) MayFail ⊎ (with_answer m name (Ok bytes) d ≡ deck_of_outcome d (of_load o))
   read_known bytes fetches rest o are h = by o (law m name bytes (lines_alone d.lines) o fetches rest are h)

@@ -18,6 +18,7 @@ mod KnownLoads
 mod LastLine
 mod LastPlaceSteps
 mod DistinctKeys
+mod DraftLoads
 mod MarkedLines
 mod PlaceSlots
 mod NumberedKeys

@@ -1,5 +1,6 @@
 -- The outcomes of loading a file.
-use Rattle.std.specs.Prelude.{◌≡◌, ◌⊎◌, ◌++◌, ℕ, List, [], Bool, true, false, Some, Result, Ok, Err, MatchResult, IsErrAnd}
+use Rattle.std.specs.Prelude.{◌≡◌, ◌⊎◌, ◌++◌, ℕ, List, [], Bool, true, false, Some, Result, Ok, Err, MatchResult}
+use Rattle.std.specs.Prelude.{IsErrAnd}
 use Rattle.units_io.specs.Faults.{next_count}
 use Rattle.units_io.specs.FileMap.{FileMap, file_of}
 use Rattle.units_io.specs.FetchResults.{answer_of}
@@ -9,7 +10,8 @@ use Rattle.def_entry.specs.declared.key.Key.{Key}
 use Rattle.deck_lines.specs.Excerpts.{Excerpt}
 use Rattle.deck_lines.specs.Includes.{deck_of_file, lone_deck_of}
 use Rattle.deck_lines.specs.LineLoads.{load_of_file}
-use Rattle.deck_lines.specs.Transcripts.{Asks, Fails, Fetch, HasTranscript, Load, Yields, load_after_fetch}
+use Rattle.deck_lines.specs.Transcripts.{AreAnswersOf, Asks, Fails, Fetch, HasTranscript, Load, Yields}
+use Rattle.deck_lines.specs.Transcripts.{load_after_fetch}
 use Rattle.deck_lines.specs.declared.line.DeckLine.{DeckLine}
 use Rattle.deck_lines.specs.declared.draft.LoadFault.{LoadFault}
 use Rattle.deck_lines.specs.declared.draft.LoadFault.TheVariants as load
@@ -102,7 +104,8 @@ load_with_fault of_fault (Asks name fetches) = Asks name fetches
 
 -- the load of the file with this name, given the answer of its fetch
 abbrev pub load_of_first_answer : List ℕ → Result (List ℕ) FetchFault → Excerpt → List Fetch → Load DeckFault
-load_of_first_answer name (Ok bytes) before fetches = load_with_fault fault_of_load (load_of_file name bytes before fetches)
+load_of_first_answer name (Ok bytes) before fetches = load_with_fault fault_of_load
+    (load_of_file name bytes before fetches)
 load_of_first_answer name (Err fault) before fetches = Fails (load_error fault) fetches
 
 -- the load of the file with this name, which appends to the lines and notices before it; its first fetch is of the file
@@ -118,7 +121,7 @@ deck_of_outcome d (Err fault) = Err fault
 abbrev pub KnownAppendLaw : Type 0
 KnownAppendLaw =
     (files : FileMap) (name : List ℕ) (d : Contents) (outcome : Result Excerpt DeckFault)
-    → HasTranscript (Some files) (load_of_name name (lines_alone d.lines)) outcome
+    → HasTranscript (AreAnswersOf (Some files)) (load_of_name name (lines_alone d.lines)) outcome
     → IsErrAnd outcome MayFail ⊎ (after_append files name d ≡ deck_of_outcome d outcome)
 
 -- law: an append keeps the lines before it and appends others

@@ -7,7 +7,7 @@ ghost use Rattle.deck_lines.specs.Limits.{pass_limit};
 ghost use Rattle.deck_lines.specs.Loads.{Extends};
 ghost use Rattle.deck_lines.specs.KeyNumbering.{IsNumbering};
 ghost use Rattle.deck_lines.specs.LineLoads.{excerpt_in};
-ghost use Rattle.deck_lines.specs.Transcripts.{IsLoad};
+ghost use Rattle.deck_lines.specs.Transcripts.{IsLoad, IsTranscript};
 ghost use Rattle.deck.specs.Changes.{IsChange, IsTableChange};
 ghost use Rattle.deck.specs.Decks.{Contents};
 ghost use Rattle.deck.specs.LastPlaces.{IsIndexed};
@@ -38,7 +38,7 @@ impl Deck {
     ) -> Result<Keys, DeckFault>
         ensures told { (m : FileMap) → F.files files.old ≡ Some m
             → loading.IsAppended (loading.after_append m name.now self.old) self.new result }
-        ensures loads { IsLoad OutOfMemory (F.files files.old)
+        ensures loads { IsLoad OutOfMemory (IsTranscript (F.files files.old) F.is_fetch files.old files.new)
             (loading.load_of_name name.now (loading.lines_alone self.old.lines)) (λ _. loading.excerpt_of self.new)
             result }
         ensures changed { IfOk result (λ keys. IsChange self.old self.new keys) }
@@ -92,7 +92,7 @@ fn append_file<F: Files>(
         MatchResult result
         (λ end. loading.after_append m name.now d ≡ Ok (record d { lines = store.new.lines; notices = end.notices }))
         (λ fault. loading.MayFail fault ⊎ (loading.after_append m name.now d ≡ Err fault)) }
-    ensures loads { IsLoad OutOfMemory (F.files files.old)
+    ensures loads { IsLoad OutOfMemory (IsTranscript (F.files files.old) F.is_fetch files.old files.new)
         (loading.load_of_name name.now (loading.lines_alone store.old.lines))
         (λ end. record { lines = store.new.lines; notices = end.notices }) result }
     ensures indexed { IfOk result (λ end. IsIndexed store.new settings.now end.changes.last) }
@@ -146,7 +146,7 @@ fn load_changes<F: Files>(
     requires numbering { IsNumbering draft.old.store }
     ensures told { (m : FileMap) (d : Contents) → F.files files.old ≡ Some m → d.lines ≡ draft.old.store.lines →
         loading.IsLoadRead (loading.after_append m name.now d) d draft.new.store.lines draft.new.notices result }
-    ensures loads { IsLoad OutOfMemory (F.files files.old)
+    ensures loads { IsLoad OutOfMemory (IsTranscript (F.files files.old) F.is_fetch files.old files.new)
         (loading.load_of_name name.now (loading.lines_alone draft.old.store.lines)) (λ _. excerpt_in draft.new) result }
     ensures within { OnOk result (pass_limit draft.new.store.lines ≡ false) }
     ensures extends { Extends draft.old.store draft.new.store }

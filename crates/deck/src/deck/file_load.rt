@@ -5,7 +5,7 @@ ghost use Rattle.units_io.specs.FileMap.{FileMap, longest_file};
 ghost use Rattle.deck_lines.specs.ClosedBlocks.{AreBlocksClosed};
 ghost use Rattle.deck_lines.specs.Loads.{Extends};
 ghost use Rattle.deck_lines.specs.LineLoads.{excerpt_in};
-ghost use Rattle.deck_lines.specs.Transcripts.{IsLoad};
+ghost use Rattle.deck_lines.specs.Transcripts.{IsLoad, IsTranscript};
 ghost use Rattle.deck.specs.Decks.{Contents};
 ghost use Rattle.deck.specs.FileLoads as loading;
 ghost use Rattle.deck.specs.declared.fault.DeckFault.TheVariants.{OutOfMemory};
@@ -50,7 +50,7 @@ impl Deck {
     ) -> Result<Deck, DeckFault>
         ensures told { (m : FileMap) → F.files files.old ≡ Some m
             → loading.IsLoaded (loading.after_load m name.now settings) result }
-        ensures loads { IsLoad OutOfMemory (F.files files.old)
+        ensures loads { IsLoad OutOfMemory (IsTranscript (F.files files.old) F.is_fetch files.old files.new)
             (loading.load_of_name name.now (loading.lines_alone [])) loading.excerpt_of result }
         ensures settings { IfOk result (λ d. d.settings ≡ settings) }
         ensures answers { IfErr result (λ fault. loading.is_load_fault fault ≡ true) }
@@ -74,7 +74,8 @@ pub(crate) fn load_file<F: Files>(
     requires { draft.old.notices ≡ [] }
     ensures told { (m : FileMap) (d : Contents) → F.files files.old ≡ Some m → d.lines ≡ draft.old.store.lines
         → loading.IsLoadRead (loading.after_append m name.now d) d draft.new.store.lines draft.new.notices result }
-    ensures loads { IsLoad OutOfMemory (F.files files.old) (loading.load_of_name name.now (excerpt_in draft.old))
+    ensures loads { IsLoad OutOfMemory (IsTranscript (F.files files.old) F.is_fetch files.old files.new)
+        (loading.load_of_name name.now (excerpt_in draft.old))
         (λ _. excerpt_in draft.new) result }
     ensures extends { Extends draft.old.store draft.new.store }
     ensures closed { OnOk result (AreBlocksClosed draft.old.store.lines → AreBlocksClosed draft.new.store.lines) }
