@@ -102,6 +102,13 @@ def drops(count: int) -> Run:
     return session(*many(":drop v_{i}a", count, start=1), definitions=deck)
 
 
+def drops_in_random_order(count: int) -> Run:
+    names = list(range(1, count + 1))
+    random.Random(count).shuffle(names)
+    deck = lines("m !", *many("v_{i}a {i} m", count, start=1))
+    return session(*(f":drop v_{i}a" for i in names), definitions=deck)
+
+
 def drops_of_second_lines(count: int) -> Run:
     names = range(count, 0, -1)
     deck = lines("m !", *many("v_{i}a {i} m", count, start=1), *many("v_{i}a 2 m", count, start=1))
@@ -208,6 +215,7 @@ ROWS = [
     Row("define and drop", definitions_and_drops, (20000, 40000, 80000)),
     Row("1,000 locales after undone definitions", locales_after_dead_names, (12500, 25000, 50000)),
     Row("drops over a deck of that size", drops, (4000, 8000, 16000)),
+    Row("drops in random order", drops_in_random_order, (4000, 8000, 16000)),
     Row("drops of second lines, the last first", drops_of_second_lines, (4000, 8000, 16000)),
     Row("sets of distinct variables", distinct_variables, (1000, 2000, 4000)),
     Row(

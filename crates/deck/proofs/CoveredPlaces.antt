@@ -386,11 +386,11 @@ cover_longer count ds covered rest place are more = (
 )
 
 -- known covered places, with one more line
-pub cover_step : (count : ℕ) (ds : Definitions) (covered rest : List (Option ℕ)) (active : Bool)
+pub cover_step : (count : ℕ) (ds : Definitions) (covered rest : List (Option ℕ)) (is_active : Bool)
     (o : Option (Key × Entry)) (over : Option ℕ) → MayCover count ds (Some covered) → rest ≡ covered ++ over ∷ []
-    → ((k : Key) (e : Entry) → active ≡ true → o ≡ Some (k, e) → over ≡ place_of ds k)
-    → MayCover (count + 1) (definition_by count active o ++ ds) (Some rest)
-cover_step count ds covered rest active None over are more is = cover_longer count ds covered rest over are more
+    → ((k : Key) (e : Entry) → is_active ≡ true → o ≡ Some (k, e) → over ≡ place_of ds k)
+    → MayCover (count + 1) (definition_by count is_active o ++ ds) (Some rest)
+cover_step count ds covered rest is_active None over are more is = cover_longer count ds covered rest over are more
 cover_step count ds covered rest true (Some d) over are more is =
     cover_more count ds covered rest d.0 d.1 over are (is d.0 d.1 refl refl) more
 cover_step count ds covered rest false (Some d) over are more is = cover_longer count ds covered rest over are more

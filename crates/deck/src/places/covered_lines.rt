@@ -101,7 +101,7 @@ fn slot_of(gaps: &Gaps, place: Option<usize>) -> Result<Option<usize>, AllocErro
 /// one pass over the lines finds the covered places again.
 pub(crate) fn without_line(mut covered: CoveredLines, place: usize) -> Option<CoveredLines>
     requires { place < length covered }
-    ensures { IfSome result (λ left. left ≡ map (option_map (without_gap place)) (remove covered.entry place)) }
+    ensures { IfSome result (λ left. left ≡ map (option_map (without_gap place)) (remove covered place)) }
 {
     if covered.has_many_gaps() {
         return None;

@@ -1,9 +1,10 @@
-use Rattle.std.proofs.Common.{ap, sym, ◌∙◌}
-use Rattle.def_entry.specs.LineViews.{seen_entry}
+use Rattle.std.proofs.Common.{ap, length, subst, sym, ◌∙◌}
 use Rattle.def_entry.specs.Views.{said_by}
 use Rattle.deck_lines.specs.Marks.{plain_line}
+use Rattle.deck_lines.specs.Readings.{entry_in}
+use Rattle.deck.specs.CoveredLines.{MayCover}
 use Rattle.deck.specs.Decks.{Contents}
-use Rattle.deck.specs.Tables.{last_place}
+use Rattle.deck.specs.Tables.{active_definitions, last_place}
 use Rattle.deck.proofs.PushedCover.{covers_pushed}
 use Rattle.deck.proofs.deck.Deck.push_definition.Goals as goal
 
@@ -11,9 +12,12 @@ pub invariant_of-self-2 : goal.invariant_of-self-2
 invariant_of-self-2 c =
     let s = c.self.inside in record {
       indexed = c.in_ok-put_definition.ensures.indexed s.settings c.self.invariant.indexed;
-      covers = covers_pushed s.settings s.store c.put_definition.new.store _ c.args.key
-          (said_by c.args.text.now c.args.what) s.covered_lines c.with_line.result c.args.over
-          c.self.invariant.indexed.blocks_closed c.requires.defines c.in_ok-put_definition.ensures.ok
-          c.with_line.ensures c.self.invariant.covers
+      covers = covers_pushed s.settings s.store c.put_definition.new.store (plain_line 0 c.in_ok-text.text) c.args.key
+          (said_by c.args.text.now c.args.what) c.replace-covered.result c.with_line.result c.args.over
+          c.self.invariant.indexed.blocks_closed
+          (ap (λ t. entry_in (plain_line 0 t)) c.in_ok-text.ensures ∙ c.requires.defines)
+          c.in_ok-put_definition.ensures.ok c.with_line.ensures
+          (subst (MayCover (length s.store.lines) (active_definitions s.settings s.store.lines))
+          (sym c.replace-covered.ensures.value) c.self.invariant.covers)
           (c.requires.covers ∙ ap (λ (d : Contents). last_place d.settings d.lines c.args.key) (sym c.self.view_is));
     }

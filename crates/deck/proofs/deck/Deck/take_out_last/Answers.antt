@@ -29,8 +29,8 @@ without_line-requires c =
       c.in_ok-covered.ensures.covered.0,
     )
 
-pub invariant_of-self : goal.invariant_of-self
-invariant_of-self c =
+pub invariant_of-self-2 : goal.invariant_of-self-2
+invariant_of-self-2 c =
     let s = c.self.inside in
     let uncovered =
     uncovered_drop s.settings s.store s.notices _ c.self.view_is c.args.key.now c.in-Some.place c.in-Some.ensures

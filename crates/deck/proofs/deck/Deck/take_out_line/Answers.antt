@@ -1,7 +1,10 @@
-use Rattle.std.proofs.Common.{◌≡◌, ◌++◌, ◌∷◌, ◌-◌, [], List, length, take, refl, ap, ◌∙◌, arith, length-append}
+use Rattle.std.proofs.Common.{◌≡◌, ◌++◌, ◌∷◌, ◌-◌, [], List, length, take, refl, ap, subst, sym, ◌∙◌, arith}
+use Rattle.std.proofs.Common.{length-append}
 use Rattle.deck_lines.specs.declared.line.DeckLine.{DeckLine}
+use Rattle.deck.specs.CoveredLines.{MayCover}
 use Rattle.deck.specs.Decks.{Contents}
 use Rattle.deck.specs.LineRemoval.{without_last}
+use Rattle.deck.specs.Tables.{active_definitions}
 use Rattle.deck.proofs.LastLine.{changed_undefined, covers_undefined, indexed_undefined, room_undefined}
 use Rattle.deck.proofs.LastRemoval.{last_at, last_text}
 use Rattle.deck.proofs.deck.Deck.take_out_line.Goals as goal
@@ -36,7 +39,9 @@ invariant_of-self c =
           c.truncate.ensures.names c.restore.ensures;
       covers = covers_undefined s.settings s.store s.notices _ c.self.view_is c.args.uncovered c.requires
           c.len-place.result c.len-place.ensures.count c.len-place.ensures.numbering s.last c.self.invariant.indexed
-          c.in-Some.number c.in-Some.ensures.number s.covered_lines c.self.invariant.covers c.first_lines.result
+          c.in-Some.number c.in-Some.ensures.number c.replace.result
+          (subst (MayCover (length s.store.lines) (active_definitions s.settings s.store.lines))
+          (sym c.replace.ensures.value) c.self.invariant.covers) c.first_lines.result
           c.first_lines.ensures c.truncate.new.self.lines c.truncate.ensures.lines;
     }
 
