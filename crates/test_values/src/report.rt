@@ -30,7 +30,11 @@ pub(crate) fn report_to(alloc: Global, bytes: &[u8]) -> Result<Vec<u8>, AllocErr
         entries: 0,
         refusals: 0,
     };
-    for line in split_lines(alloc, bytes)?.as_slice() {
+    let lines = split_lines(alloc, bytes)?;
+    for place in 0..lines.len() {
+        let Some(line) = lines.get(place) else {
+            break;
+        };
         let text = line.text.as_bytes();
         match classify(text) {
             LineKind::Definition | LineKind::UnitList => report.add(alloc, line.number, text)?,
