@@ -65,7 +65,7 @@ module _ (event : Event) (s : TableState) (right : IsRight s) (can : CanBe event
       record {
         later_table = event_table event s;
         names = event_kept event s can right;
-        outcomes_right = one_step event s can right;
+        outcomes = (one_step event s can right).outcomes_right;
         reductions_counted = counted.reductions;
         steps_counted = counted.steps;
       }
@@ -79,8 +79,8 @@ module _ (event : Event) (s : TableState) (right : IsRight s) (can : CanBe event
     same_at n =
         same_option (map_of.get t.kept_outcomes n) (map_of.get next.kept_outcomes n) (outcome t.table n)
         (λ i. (next_cached.names n).1 ((c.names n).0 i), λ i. (c.names n).1 ((next_cached.names n).0 i))
-        (c.outcomes_right.outcomes_right n)
-        (λ o e. next_cached.outcomes_right.outcomes_right n o e
+        (c.outcomes n)
+        (λ o e. next_cached.outcomes n o e
         ∙ ap (λ (table : Table). outcome table n) (sym same_table))
 
     same_kept : t.kept_outcomes ≡ next.kept_outcomes

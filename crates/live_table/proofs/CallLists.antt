@@ -14,6 +14,7 @@ use Rattle.deck.specs.Tables.{table}
 use Rattle.def_entry.specs.Tables.{AreChanged}
 use Rattle.live_table.specs.declared.fault.QueryFault.{QueryFault}
 use Rattle.live_table.specs.declared.fault.QueryFault.TheVariants as query_fault
+use Rattle.live_table.specs.CachingCalls.{IsPossible}
 use Rattle.live_table.specs.Calls.{IsQuery, is_name_kind, key_queries, names_among}
 use Rattle.live_table.specs.KeptNames.{IsKeptByAll}
 use Rattle.live_table.specs.Right.{IsKeySettled, IsRight}
@@ -93,7 +94,15 @@ call_right (SettleAll (Err x)) s t n m right h = h.1.is_right
 call_right AcceptedEdit s t n m right h = (h.1 n).is_right
 call_right RefusedEdit s t n m right h = subst IsRightTable (sym h.1) right
 
-call_follows : (c : Call) (s t : Shown) (n m : ℕ) → IsRightTable s → IsCall c s t n m → is_complete c ≡ true
+-- a call that was made was possible
+pub call_possible : (c : Call) (s t : Shown) (n m : ℕ) → IsCall c s t n m → IsPossible c s
+call_possible (Value e r) s t n m h = tt
+call_possible (Unapply name r) s t n m h = h.0
+call_possible (SettleAll r) s t n m h = tt
+call_possible AcceptedEdit s t n m h = tt
+call_possible RefusedEdit s t n m h = tt
+
+pub call_follows : (c : Call) (s t : Shown) (n m : ℕ) → IsRightTable s → IsCall c s t n m → is_complete c ≡ true
     → IsAfterEvents (events_in c s t) s t n m
 call_follows (Value e r) s t n m right h made = with_answer _ r s t n m made h.1
 call_follows (Unapply name r) s t n m right h made = with_answer _ r s t n m made h.2
@@ -105,6 +114,15 @@ call_follows RefusedEdit s t n m right h made =
     subst (λ (x : Shown). IsAfterEvents [] s x n m) (sym h.1)
     (subst (λ (k : ℕ). IsAfterEvents [] s s n k) (sym h.0) (run_law.empty_run s n right))
 
+-- the outcomes are right whatever the counts
+pub right_at : (s : Shown) (n m : ℕ) → IsRight (state_with_steps s n) → IsRight (state_with_steps s m)
+right_at s n m r = record {
+  settled_have_entries = r.settled_have_entries;
+  settled_closed = r.settled_closed;
+  reached_settled = r.reached_settled;
+  outcomes_right = r.outcomes_right;
+}
+
 -- ---- several calls
 right_after : (ds : List MadeCall) (s : Shown) (n : ℕ) → IsRightTable s → AreCalls ds s n
     → IsRightTable (last_shown ds s)
@@ -113,16 +131,18 @@ right_after (d ∷ ds) s n right h =
     right_after ds d.shown_after d.steps (call_right d.table_call s d.shown_after n d.steps right h.0) h.1
 
 module _ (edits : EditsCanBeLaw) (keys : TableKeysLaw) where
-  call_can : (c : Call) (s t : Shown) (n m : ℕ) → IsCall c s t n m → AllCanBe (events_in c s t) (state_with_steps s n)
-  call_can (Value e r) s t n m h = (tt, tt)
-  call_can (Unapply name r) s t n m h = (h.0, tt)
-  call_can (SettleAll r) s t n m h =
+  -- the events of a possible call are possible
+  pub possible_events : (c : Call) (s t : Shown) (n : ℕ) → IsPossible c s
+      → AllCanBe (events_in c s t) (state_with_steps s n)
+  possible_events (Value e r) s t n h = (tt, tt)
+  possible_events (Unapply name r) s t n h = (h, tt)
+  possible_events (SettleAll r) s t n h =
       names_can (table_keys (table s.deck)) (state_with_steps s n) (λ k i.
       sym ((keys (table s.deck)).key_membership k) ∙ among_member (table_keys (table s.deck)) k i)
-  call_can AcceptedEdit s t n m h = (edits s.deck t.deck (state_with_steps s n) refl, tt)
-  call_can RefusedEdit s t n m h = tt
+  possible_events AcceptedEdit s t n h = (edits s.deck t.deck (state_with_steps s n) refl, tt)
+  possible_events RefusedEdit s t n h = tt
 
-  together : (ds : List MadeCall) (s : Shown) (n : ℕ) → IsRightTable s → AreCalls ds s n → AllComplete ds
+  pub together : (ds : List MadeCall) (s : Shown) (n : ℕ) → IsRightTable s → AreCalls ds s n → AllComplete ds
       → AllCanBe (all_events ds s) (state_with_steps s n) × IsAfterEvents (all_events ds s) s (last_shown ds s) n
       (last_steps ds n)
   together [] s n right h made = (tt, run_law.empty_run s n right)
@@ -131,22 +151,12 @@ module _ (edits : EditsCanBeLaw) (keys : TableKeysLaw) where
       call_follows d.table_call s d.shown_after n d.steps right h.0 made.0 in
       let rest = together ds d.shown_after d.steps f.is_right h.1 made.1 in (
         can_both (events_in d.table_call s d.shown_after) (all_events ds d.shown_after) (state_with_steps s n)
-            (call_can d.table_call s d.shown_after n d.steps h.0)
+            (possible_events d.table_call s d.shown_after n (call_possible d.table_call s d.shown_after n d.steps h.0))
             (subst (AllCanBe (all_events ds d.shown_after)) f.stands rest.0),
         run_law.run_append (events_in d.table_call s d.shown_after) (all_events ds d.shown_after) s d.shown_after
             (last_shown ds d.shown_after)
             n d.steps (last_steps ds d.steps) f rest.1,
       )
-
-  -- the outcomes are right whatever the counts
-  right_at : (s : Shown) (n : ℕ) → IsRightTable s → IsRight (state_with_steps s n)
-  right_at s n r = record {
-    settled_have_entries = r.settled_have_entries;
-    settled_closed =
-        r.settled_closed;
-    reached_settled = r.reached_settled;
-    outcomes_right = r.outcomes_right;
-  }
 
   kept_since : (ds : List MadeCall) (s : Shown) (n : ℕ) → IsRightTable s → AreCalls ds s n → AllComplete ds
       → IsKeptSince ds s n
@@ -156,7 +166,7 @@ module _ (edits : EditsCanBeLaw) (keys : TableKeysLaw) where
         settled_names = λ k.
             subst (λ (x : TableState). IsKeySettled x k ↔ IsKeptByAll (all_events ds s) (table s.deck)
             (IsKeySettled (state_with_steps s 0)) k)
-            (sym both.1.stands) ((kept_law (all_events ds s) (state_with_steps s n) both.0 (right_at s n right)).names
+            (sym both.1.stands) ((kept_law (all_events ds s) (state_with_steps s n) both.0 (right_at s 0 n right)).names
             k);
         outcomes = both.1.is_right.outcomes_right;
       }

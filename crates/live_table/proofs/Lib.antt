@@ -5,6 +5,7 @@ pub mod AskedFor
 pub mod AskedKeys
 pub mod CachedKeys
 mod CachedNames
+mod CachingCalls
 pub mod CallLists
 pub mod NameCounts
 pub mod SettleCounts

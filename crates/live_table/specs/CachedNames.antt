@@ -1,7 +1,9 @@
 -- The effect of queries and edits, by the names whose outcomes are cached before and after each.
-use Rattle.std.specs.Prelude.{◌≡◌, ◌↔◌, ◌≤◌, ◌+◌, ◌-◌, ◌^◌, ℕ, min, List, [], ◌∷◌}
+use Rattle.std.specs.Prelude.{◌≡◌, ◌↔◌, ◌≤◌, ◌+◌, ◌-◌, ◌^◌, ℕ, min, List, [], ◌∷◌, Some}
 use Rattle.std.specs.FinMap as map_of
 use Rattle.def_entry.specs.declared.key.Key.{Key}
+use Rattle.table_names.specs.Meanings.{outcome}
+use Rattle.tree_eval.specs.declared.outcome.Outcome.{Outcome}
 use Rattle.live_table.specs.KeptNames.{IsKeptBy, table_after}
 use Rattle.live_table.specs.Right.{IsKeySettled, IsRight}
 use Rattle.live_table.specs.States.{AllCanBe, AsksKey, AsksWords, Becomes, Event, Kept, TableState, after_all}
@@ -12,12 +14,12 @@ newly_cached (AsksWords words) before after = map_of.len after - map_of.len befo
 newly_cached (AsksKey k) before after = map_of.len after - map_of.len before
 newly_cached (Becomes later) before after = 0
 
--- a query without a name fault adds the names that it reaches to the cache, each with one step and one reduction; an
--- edit removes the names that it affects; each cached outcome is that of the present table
+-- a query without a name fault adds the names that it reaches to the cache, and each new one counts as one step and as
+-- one reduction; an edit removes the names that it affects; each cached outcome is that of the present table
 pub record IsCachedBy (event : Event) (before after : TableState) : Type 0 where
   pub later_table : after.table ≡ table_after event before.table
   pub names : (n : Key) → IsKeySettled after n ↔ IsKeptBy event before.table (IsKeySettled before) n
-  pub outcomes_right : IsRight after
+  pub outcomes : (n : Key) (o : Outcome) → map_of.get after.kept_outcomes n ≡ Some o → o ≡ outcome after.table n
   pub reductions_counted :
       after.reductions
       ≡ min (2 ^ 64 - 1) (before.reductions + newly_cached event before.kept_outcomes after.kept_outcomes)

@@ -2,6 +2,7 @@ pub mod Agendas
 pub mod Answers
 pub mod QueryEffects
 pub mod CachedNames
+pub mod CachingCalls
 pub mod Callees
 pub mod CallLists
 pub mod Calls

@@ -1,6 +1,7 @@
 //! Laws of stored outcomes.
 
 ghost use Rattle.live_table.specs.CachedNames.{CachedNamesLaw};
+ghost use Rattle.live_table.specs.CachingCalls.{CachingCallsLaw};
 ghost use Rattle.live_table.specs.CallLists.{CallListLaw, DeckKindsLaw, EditsCanBeLaw};
 ghost use Rattle.live_table.specs.EventExamples.{EventExamples};
 ghost use Rattle.live_table.specs.KeptLists.{KeptListLaw};
@@ -69,6 +70,15 @@ pub fn edits_can_be_law()
 /// those that the queries reached and no later edit affected.
 pub fn call_list_law()
     ensures { CallListLaw }
+{
+    edits_can_be_law();
+    table_keys_law();
+}
+
+/// If memory sufficed for a call, its clauses say no more and no less than which names are cached after it, with which
+/// outcomes and counts.
+pub fn caching_calls_law()
+    ensures { CachingCallsLaw }
 {
     edits_can_be_law();
     table_keys_law();

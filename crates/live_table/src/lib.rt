@@ -37,7 +37,8 @@ mod worklist;
 pub use counts::Counts;
 pub use fault::QueryFault;
 pub use laws::{
-    cached_names_law, call_list_law, count_law, deck_kinds_law, edits_can_be_law, event_examples,
-    kept_law, kept_list_law, new_law, order_law, right_law, run_law, steps_law,
+    cached_names_law, caching_calls_law, call_list_law, count_law, deck_kinds_law,
+    edits_can_be_law, event_examples, kept_law, kept_list_law, new_law, order_law, right_law,
+    run_law, steps_law,
 };
 pub use live_table::LiveTable;

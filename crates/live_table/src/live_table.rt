@@ -1,6 +1,6 @@
 //! A deck with the outcome of each name that was queried.
 
-ghost use Rattle.std.specs.Prelude.{◌≡◌, ◌∷◌, [], true, length, Err, IfOk, None, OnErr, OnOk};
+ghost use Rattle.std.specs.Prelude.{◌≡◌, ◌≤◌, ◌-◌, ◌^◌, ◌∷◌, [], true, length, Err, IfOk, None, OnErr, OnOk};
 ghost use Rattle.std.specs.FinMap as map_of;
 ghost use Rattle.expr_tree.specs.Trees.{syntax};
 ghost use Rattle.expr_tree.specs.Words.{words_in};
@@ -291,6 +291,7 @@ impl LiveTable {
         ensures settled { result.settled ≡ map_of.len self.now.kept_outcomes }
         ensures names { result.names ≡ length (present_names (table self.now.deck)) }
         ensures reductions { result.reductions ≡ self.now.reductions }
+        ensures few { self.now.reductions ≤ 2 ^ 64 - 1 }
     {
         // No deck has so many lines that the sum would not fit.
         tables_are_of_lines();
