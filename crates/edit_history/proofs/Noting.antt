@@ -1,14 +1,13 @@
 -- Edits that the history records.
 use Rattle.std.proofs.Common.{◌≡◌, ◌++◌, ◌∷◌, ◌+◌, ◌-◌, ◌≤◌, [], ℕ, List, Bool, true, false, cond, length, refl, sym}
-use Rattle.std.proofs.Common.{ap, subst, ◌∙◌, arith, append_assoc, Option, Some, Result, Ok, Err}
+use Rattle.std.proofs.Common.{ap, subst, ◌∙◌, arith, append_assoc, Some, Result, Ok, Err}
 use Rattle.std.specs.Prelude.{reverse}
-use Rattle.units_io.specs.FileMap.{FileMap}
 use Rattle.def_entry.specs.declared.key.Key.{Key}
 use Rattle.deck_lines.specs.ClosedBlocks.{AreBlocksClosed}
 use Rattle.deck_lines.specs.Excerpts.{Excerpt}
 use Rattle.deck_lines.specs.Limits.{pass_limit}
 use Rattle.deck_lines.specs.Origins.{exchanged_lines}
-use Rattle.deck_lines.specs.Transcripts.{HasTranscript}
+use Rattle.deck_lines.specs.Transcripts.{Fetch, HasTranscript}
 use Rattle.deck_lines.specs.declared.line.DeckLine.{DeckLine}
 use Rattle.deck.specs.Decks.{Contents}
 use Rattle.deck.specs.Edits.{after_drop, without_line, without_some}
@@ -97,7 +96,7 @@ appended at cut put more before after lines settings here all none closed within
     gone = cut_last at cut before.lines more after.lines lines here all
 
 -- an append of a file appends lines to the present ones
-pub appended_behind : AppendedLinesLaw → (files : Option FileMap) (name : List ℕ) (lines : List DeckLine)
-    (given : Excerpt) → HasTranscript files (load_of_name name (lines_alone lines)) (Ok given)
+pub appended_behind : AppendedLinesLaw → (are_made : List Fetch → Type 0) (name : List ℕ) (lines : List DeckLine)
+    (given : Excerpt) → HasTranscript are_made (load_of_name name (lines_alone lines)) (Ok given)
     → (more : List DeckLine) × (given.lines ≡ lines ++ more)
-appended_behind law files name lines given h = law name (lines_alone lines) given (h.0 ++ []) [] (h.2 [])
+appended_behind law are_made name lines given h = law name (lines_alone lines) given (h.0 ++ []) [] (h.2 [])

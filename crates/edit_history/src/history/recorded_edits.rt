@@ -3,7 +3,7 @@
 ghost use Rattle.std.specs.Prelude.{◌≡◌, true, Some, IfErr, OnErr, OnOk};
 ghost use Rattle.units_io.specs.FileMap.{FileMap};
 ghost use Rattle.def_lines.specs.Blanks.{trim_of};
-ghost use Rattle.deck_lines.specs.Transcripts.{IsLoad};
+ghost use Rattle.deck_lines.specs.Transcripts.{IsLoad, IsTranscript};
 ghost use Rattle.deck.specs.Edits as deck_edit;
 ghost use Rattle.deck.specs.FileLoads as loading;
 ghost use Rattle.deck.specs.declared.fault.DeckFault.TheVariants.{OutOfMemory};
@@ -122,7 +122,7 @@ impl History {
         ensures answers { IfErr result (λ fault. loading.is_load_fault fault ≡ true) }
         ensures kept { F.files files.new ≡ F.files files.old }
         ensures stores { F.store_faults files.new ≡ F.store_faults files.old }
-        ensures loads { IsLoad OutOfMemory (F.files files.old)
+        ensures loads { IsLoad OutOfMemory (IsTranscript (F.files files.old) F.is_fetch files.old files.new)
             (loading.load_of_name name.now (loading.lines_alone table.old.deck.lines))
             (λ _. loading.excerpt_of table.new.deck) result }
         ensures counted { F.faults files.new ≡ loading.fetch_faults_after (F.faults files.old) result }

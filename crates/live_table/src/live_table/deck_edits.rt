@@ -3,7 +3,7 @@
 ghost use Rattle.std.specs.Prelude.{◌≡◌, Some, Ok, true, IfErr, OnOk, OnErr};
 ghost use Rattle.units_io.specs.FileMap.{FileMap};
 ghost use Rattle.def_lines.specs.Blanks.{trim_of};
-ghost use Rattle.deck_lines.specs.Transcripts.{IsLoad};
+ghost use Rattle.deck_lines.specs.Transcripts.{IsLoad, IsTranscript};
 ghost use Rattle.deck.specs.Edits as deck_edit;
 ghost use Rattle.deck.specs.FileLoads as loading;
 ghost use Rattle.deck.specs.Splices.{CanSplice};
@@ -125,7 +125,7 @@ impl LiveTable {
         ensures answers { IfErr result (λ fault. loading.is_load_fault fault ≡ true) }
         ensures kept { F.files files.new ≡ F.files files.old }
         ensures stores { F.store_faults files.new ≡ F.store_faults files.old }
-        ensures loads { IsLoad OutOfMemory (F.files files.old)
+        ensures loads { IsLoad OutOfMemory (IsTranscript (F.files files.old) F.is_fetch files.old files.new)
             (loading.load_of_name name.now (loading.lines_alone self.old.deck.lines))
             (λ _. loading.excerpt_of self.new.deck) result }
         ensures counted { F.faults files.new ≡ loading.fetch_faults_after (F.faults files.old) result }

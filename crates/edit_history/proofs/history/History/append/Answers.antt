@@ -4,6 +4,7 @@ use Rattle.std.proofs.lemmas.List.{length-map}
 use Rattle.deck_lines.specs.ClosedBlocks.{AreBlocksClosed}
 use Rattle.deck_lines.specs.Limits.{pass_limit}
 use Rattle.deck_lines.specs.Marks.{line_without_mark}
+use Rattle.deck_lines.specs.Transcripts.{IsTranscript}
 use Rattle.deck.specs.Decks.{Contents}
 use Rattle.edit_history.specs.Histories.{UndoStacks}
 use Rattle.edit_history.specs.declared.step.Step.TheVariants.{Exchange}
@@ -14,7 +15,9 @@ pub overflow_sub-cut : goal.overflow_sub-cut
 overflow_sub-cut g c =
     let old = c.args.table.now.deck in
     let new = c.append.new.self.deck in
-    let more = appended_behind c.appends_keep_lines.ensures (g.F.Files.files c.args.files.now) c.args.name.now old.lines
+    let more = appended_behind c.appends_keep_lines.ensures
+    (IsTranscript (g.F.Files.files c.args.files.now) g.F.Files.is_fetch c.args.files.now c.append.new.files)
+    c.args.name.now old.lines
     (record { lines = new.lines; notices = new.notices }) c.in_ok-append.ensures.loads in
     let before : c.len-at.result ≡ length old.lines = c.len-at.ensures ∙ ap length c.lines.ensures.is
     ∙ ap (λ (d : Contents). length (map line_without_mark d.lines)) c.deck.ensures.deck
@@ -28,7 +31,9 @@ pub returns-clause-follows : goal.returns-clause-follows
 returns-clause-follows g c =
     let old = c.args.table.now.deck in
     let new = c.append.new.self.deck in
-    let more = appended_behind c.appends_keep_lines.ensures (g.F.Files.files c.args.files.now) c.args.name.now old.lines
+    let more = appended_behind c.appends_keep_lines.ensures
+    (IsTranscript (g.F.Files.files c.args.files.now) g.F.Files.is_fetch c.args.files.now c.append.new.files)
+    c.args.name.now old.lines
     (record { lines = new.lines; notices = new.notices }) c.in_ok-append.ensures.loads in
     let before : c.len-at.result ≡ length old.lines = c.len-at.ensures ∙ ap length c.lines.ensures.is
     ∙ ap (λ (d : Contents). length (map line_without_mark d.lines)) c.deck.ensures.deck
@@ -54,7 +59,9 @@ pub returns-clause-noted : goal.returns-clause-noted
 returns-clause-noted g c =
     let old = c.args.table.now.deck in
     let new = c.append.new.self.deck in
-    let more = appended_behind c.appends_keep_lines.ensures (g.F.Files.files c.args.files.now) c.args.name.now old.lines
+    let more = appended_behind c.appends_keep_lines.ensures
+    (IsTranscript (g.F.Files.files c.args.files.now) g.F.Files.is_fetch c.args.files.now c.append.new.files)
+    c.args.name.now old.lines
     (record { lines = new.lines; notices = new.notices }) c.in_ok-append.ensures.loads in
     let before : c.len-at.result ≡ length old.lines = c.len-at.ensures ∙ ap length c.lines.ensures.is
     ∙ ap (λ (d : Contents). length (map line_without_mark d.lines)) c.deck.ensures.deck

@@ -1,6 +1,6 @@
 use Rattle.std.proofs.Common.{subst}
 use Rattle.std.specs.Prelude.{Ok}
-use Rattle.deck_lines.specs.Transcripts.{HasTranscript}
+use Rattle.deck_lines.specs.Transcripts.{HasTranscript, IsTranscript}
 use Rattle.deck.specs.FileLoads as loading
 use Rattle.live_table.specs.TableView.{Shown}
 use Rattle.live_table.specs.TableContents.{node_lists, shown_table}
@@ -40,6 +40,7 @@ returns-clause-ok g c =
 
 pub returns-clause-loads : goal.returns-clause-loads
 returns-clause-loads g c =
-    subst (λ (s : Shown). HasTranscript (g.F.Files.files c.args.files.now)
+    subst (λ (s : Shown). HasTranscript
+    (IsTranscript (g.F.Files.files c.args.files.now) g.F.Files.is_fetch c.args.files.now c.append.new.files)
     (loading.load_of_name c.args.name.now (loading.lines_alone s.deck.lines))
     (Ok (loading.excerpt_of c.append.new.self))) c.self.view_is c.in_ok-keys.ensures.loads
