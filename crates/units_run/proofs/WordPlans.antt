@@ -1,7 +1,6 @@
 -- The plan of the words.
 use Rattle.std.proofs.Common.{◌≡◌, ◌&&◌, ◌||◌, inl, inr, ℕ, List, Bool, true, false, IfOk, Result, Ok, Err, Some, None}
-use Rattle.std.proofs.Common.{refl}
-use Rattle.std.proofs.Common.{ap, subst, sym, ◌∙◌, if◌then◌else◌, is_some, not}
+use Rattle.std.proofs.Common.{refl, ap, subst, sym, ◌∙◌, if◌then◌else◌, is_some, not}
 use Rattle.std.specs.declared.option.Option.{Option}
 use Rattle.std.proofs.lemmas.Bool.{both_ways, false_from_ne_true, or_parts}
 use Rattle.units_io.specs.FileMap.{FileMap}
@@ -111,7 +110,7 @@ pub definitions_told : (words : List (List ℕ)) (input : List ℕ) (files : Opt
     → TellsIf (fetches_file words input) files m → TellsIf (needs_definitions words) files m
 definitions_told words input files m s =
     tells_less (fetches_file words input) (needs_definitions words) files m
-    (or_parts (needs_definitions words) (opens_session words && any_loads_file input) s).0
+    (λ none. (or_parts (needs_definitions words) (opens_session words && any_loads_file input) none).0) s
 
 -- words that lead to a session do not lead to a column
 both_none : (taken trial from check column : Bool) → (taken && (not trial && not (from || check))) ≡ true
