@@ -15,6 +15,7 @@ use crate::signed_number::Signed;
 use expr_tree::Tree;
 use live_table::{LiveTable, QueryFault};
 use quantity::{Quantity, QuantityFault};
+use reply::Question;
 use std::alloc::{AllocError, Global};
 use std::sync::ledger::Ledger;
 use units_io::Steps;
@@ -31,52 +32,56 @@ pub(crate) struct Known {
 pub(crate) fn ask_values<L: Ledger>(
     alloc: Global,
     table: &mut LiveTable,
-    from: &[u8],
-    to: &[u8],
+    question: &Question<'_>,
     n: &Signed,
     steps: &mut Steps<L>,
 ) -> Result<Option<Known>, AllocError>
-    ensures known { IfOk result (λ known. IfSome known (λ known. spec.AreKnown table.new from.now to.now known)) }
-    ensures asked { spec.AreQueriesBegun n.now from.now to.now result table.old table.new steps.old steps.new }
+    ensures known { IfOk result (λ known. IfSome known (λ known.
+        spec.AreKnown table.new question.now.from.now question.now.to.now known)) }
+    ensures asked { spec.AreQueriesBegun n.now question.now.from.now question.now.to.now result
+        table.old table.new steps.old steps.new }
     ensures deck { table.new.deck ≡ table.old.deck }
 {
     // The cached outcomes are right, even if no query is made.
     table.outcomes_are_right();
-    match plain_trees(alloc, table.deck(), from, to)? {
-        Some(trees) => ask_trees(alloc, table, from, to, n, &trees, steps),
+    match plain_trees(alloc, table.deck(), question.from, question.to)? {
+        Some(trees) => trees.ask_both(alloc, table, question, n, steps),
         None => Ok(None),
     }
 }
 
-// Queries the values of FROM and TO, given as trees.
-fn ask_trees<L: Ledger>(
-    alloc: Global,
-    table: &mut LiveTable,
-    from: &[u8],
-    to: &[u8],
-    n: &Signed,
-    trees: &PlainTrees,
-    steps: &mut Steps<L>,
-) -> Result<Option<Known>, AllocError>
-    requires { spec.ArePlain (tables.table table.old.deck) from.now to.now
-        (syntax trees.now.from_tree) (syntax trees.now.to_tree) }
-    ensures known { IfOk result (λ known. IfSome known (λ known. spec.AreKnown table.new from.now to.now known)) }
-    ensures asked { spec.AreQueriesBegun n.now from.now to.now result table.old table.new steps.old steps.new }
-    ensures deck { table.new.deck ≡ table.old.deck }
-{
-    let Some(from_value) = ask(alloc, table, &trees.from_tree, steps)? else {
-        return Ok(None);
-    };
-    if product(alloc, n, &from_value)?.is_none() {
-        return Ok(None);
+impl PlainTrees {
+    // Queries the values of FROM and TO, of which these are the trees.
+    fn ask_both<L: Ledger>(
+        &self,
+        alloc: Global,
+        table: &mut LiveTable,
+        question: &Question<'_>,
+        n: &Signed,
+        steps: &mut Steps<L>,
+    ) -> Result<Option<Known>, AllocError>
+        requires { spec.ArePlain (tables.table table.old.deck) question.now.from.now question.now.to.now
+            (syntax self.now.from_tree) (syntax self.now.to_tree) }
+        ensures known { IfOk result (λ known. IfSome known (λ known.
+            spec.AreKnown table.new question.now.from.now question.now.to.now known)) }
+        ensures asked { spec.AreQueriesBegun n.now question.now.from.now question.now.to.now result
+            table.old table.new steps.old steps.new }
+        ensures deck { table.new.deck ≡ table.old.deck }
+    {
+        let Some(from_value) = ask(alloc, table, &self.from_tree, steps)? else {
+            return Ok(None);
+        };
+        if product(alloc, n, &from_value)?.is_none() {
+            return Ok(None);
+        }
+        let Some(to_value) = ask(alloc, table, &self.to_tree, steps)? else {
+            return Ok(None);
+        };
+        Ok(Some(Known {
+            from_value,
+            to_value,
+        }))
     }
-    let Some(to_value) = ask(alloc, table, &trees.to_tree, steps)? else {
-        return Ok(None);
-    };
-    Ok(Some(Known {
-        from_value,
-        to_value,
-    }))
 }
 
 // Returns the value of a tree, or `None` if it has a fault.

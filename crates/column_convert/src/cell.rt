@@ -10,13 +10,13 @@ ghost use Rattle.column_convert.specs.CachedValues.{IsRemembered, IsSigned};
 ghost use Rattle.column_convert.specs.Products as products;
 
 use crate::memory::Memory;
-use crate::signed_number::{Signed, behind_minus};
+use crate::signed_number::{Signed, WrittenNumber, behind_minus};
 use deck::Deck;
 use def_entry::{Kind, cut_at};
 use def_lines::trim;
 use frac128::{NumeralFault, read_numeral};
 use live_table::LiveTable;
-use reply::{Options, Reply, convert_reply};
+use reply::{Options, Question, Reply, convert_reply};
 use std::alloc::{AllocError, Global};
 use std::sync::ledger::Ledger;
 use units_io::{Steps, Text};
@@ -28,98 +28,95 @@ pub(crate) struct Cell {
     pub(crate) refused: bool,
 }
 
-/// Converts a field to a cell, with the values remembered between fields. The only error is running out of memory.
-pub(crate) fn convert_cell<L: Ledger>(
-    alloc: Global,
-    table: &mut LiveTable,
-    options: &Options,
-    from: &[u8],
-    to: &[u8],
-    field: &[u8],
-    memory: &mut Memory,
-    steps: &mut Steps<L>,
-) -> Result<Cell, AllocError>
-    requires printable { IsPrintable options.now }
-    requires known { IsRemembered table.old (trim_of from.now) to.now memory.old }
-    ensures cell { IfOk result (λ cell.
-        cell ≡ spec.cell (tables.table table.old.deck) options.now from.now to.now field.now) }
-    ensures queries { AreQueries (spec.cell_queries (tables.table table.old.deck) options.now from.now to.now field.now)
-        result table.old table.new steps.old steps.new }
-    ensures known { OnOk result (IsRemembered table.new (trim_of from.now) to.now memory.new) }
-    ensures deck { table.new.deck ≡ table.old.deck }
-{
-    // The cached outcomes are right, even if no query is made.
-    table.outcomes_are_right();
-    let from = trim(from);
-    let number = trim(field);
-    if let Some(n) = Signed::read_signed(number) {
-        return signed_cell(alloc, table, options, from, to, number, &n, memory, steps);
+impl Memory {
+    /// Converts a field to a cell, with the values remembered between fields. The only error is running out of memory.
+    pub(crate) fn convert_cell<L: Ledger>(
+        &mut self,
+        alloc: Global,
+        table: &mut LiveTable,
+        question: &Question<'_>,
+        field: &[u8],
+        steps: &mut Steps<L>,
+    ) -> Result<Cell, AllocError>
+        requires printable { IsPrintable question.now.options.now }
+        requires known { IsRemembered table.old (trim_of question.now.from.now) question.now.to.now self.old }
+        ensures cell { IfOk result (λ cell. cell ≡ spec.cell (tables.table table.old.deck) question.now.options.now
+            question.now.from.now question.now.to.now field.now) }
+        ensures queries { AreQueries (spec.cell_queries (tables.table table.old.deck) question.now.options.now
+            question.now.from.now question.now.to.now field.now) result table.old table.new steps.old steps.new }
+        ensures known { OnOk result
+            (IsRemembered table.new (trim_of question.now.from.now) question.now.to.now self.new) }
+        ensures deck { table.new.deck ≡ table.old.deck }
+    {
+        // The cached outcomes are right, even if no query is made.
+        table.outcomes_are_right();
+        let from = trim(question.from);
+        let question = Question { from, ..*question };
+        let text = trim(field);
+        if let Some(signed) = Signed::read_signed(text) {
+            let number = WrittenNumber { text, signed };
+            return self.signed_cell(alloc, table, &question, &number, steps);
+        }
+        if is_number(text) {
+            self.forget();
+            return number_cell(alloc, table, &question, text, steps);
+        }
+        not_a_number(alloc)
     }
-    if is_number(number) {
-        memory.forget();
-        return number_cell(alloc, table, options, from, to, number, steps);
-    }
-    not_a_number(alloc)
-}
 
-// Converts a number whose numeral is within the limits.
-fn signed_cell<L: Ledger>(
-    alloc: Global,
-    table: &mut LiveTable,
-    options: &Options,
-    from: &[u8],
-    to: &[u8],
-    number: &[u8],
-    n: &Signed,
-    memory: &mut Memory,
-    steps: &mut Steps<L>,
-) -> Result<Cell, AllocError>
-    requires printable { IsPrintable options.now }
-    requires known { IsRemembered table.old from.now to.now memory.old }
-    requires signed { IsSigned number.now n.now }
-    ensures cell { IfOk result (λ cell. cell
-        ≡ spec.cell_of (spec.number_reply (tables.table table.old.deck) options.now from.now to.now number.now)) }
-    ensures queries { AreQueries
-        (spec.number_queries (tables.table table.old.deck) options.now from.now to.now number.now)
-        result table.old table.new steps.old steps.new }
-    ensures known { OnOk result (IsRemembered table.new from.now to.now memory.new) }
-    ensures deck { table.new.deck ≡ table.old.deck }
-{
-    memory.recall(alloc, table, from, to, n, steps)?;
-    if let Some(cell) = memory.cell(alloc, options, from, to, number, n)? {
-        return Ok(cell);
+    // Converts a number whose numeral is within the limits.
+    fn signed_cell<L: Ledger>(
+        &mut self,
+        alloc: Global,
+        table: &mut LiveTable,
+        question: &Question<'_>,
+        number: &WrittenNumber<'_>,
+        steps: &mut Steps<L>,
+    ) -> Result<Cell, AllocError>
+        requires printable { IsPrintable question.now.options.now }
+        requires known { IsRemembered table.old question.now.from.now question.now.to.now self.old }
+        requires signed { IsSigned number.now.text.now number.now.signed }
+        ensures cell { IfOk result (λ cell. cell ≡ spec.cell_of (spec.number_reply (tables.table table.old.deck)
+            question.now.options.now question.now.from.now question.now.to.now number.now.text.now)) }
+        ensures queries { AreQueries (spec.number_queries (tables.table table.old.deck) question.now.options.now
+            question.now.from.now question.now.to.now number.now.text.now)
+            result table.old table.new steps.old steps.new }
+        ensures known { OnOk result (IsRemembered table.new question.now.from.now question.now.to.now self.new) }
+        ensures deck { table.new.deck ≡ table.old.deck }
+    {
+        self.recall(alloc, table, question, &number.signed, steps)?;
+        if let Some(cell) = self.cell(alloc, question, number)? {
+            return Ok(cell);
+        }
+        self.forget();
+        number_cell(alloc, table, question, number.text, steps)
     }
-    memory.forget();
-    number_cell(alloc, table, options, from, to, number, steps)
 }
 
 // Converts a number.
 fn number_cell<L: Ledger>(
     alloc: Global,
     table: &mut LiveTable,
-    options: &Options,
-    from: &[u8],
-    to: &[u8],
+    question: &Question<'_>,
     number: &[u8],
     steps: &mut Steps<L>,
 ) -> Result<Cell, AllocError>
-    requires { IsPrintable options.now }
-    ensures cell { IfOk result (λ cell. cell
-        ≡ spec.cell_of (spec.number_reply (tables.table table.old.deck) options.now from.now to.now number.now)) }
-    ensures queries { AreQueries
-        (spec.number_queries (tables.table table.old.deck) options.now from.now to.now number.now)
-        result table.old table.new steps.old steps.new }
+    requires { IsPrintable question.now.options.now }
+    ensures cell { IfOk result (λ cell. cell ≡ spec.cell_of (spec.number_reply (tables.table table.old.deck)
+        question.now.options.now question.now.from.now question.now.to.now number.now)) }
+    ensures queries { AreQueries (spec.number_queries (tables.table table.old.deck) question.now.options.now
+        question.now.from.now question.now.to.now number.now) result table.old table.new steps.old steps.new }
     ensures deck { table.new.deck ≡ table.old.deck }
 {
     // The cached outcomes are right, even if no query is made.
     table.outcomes_are_right();
-    let asked = asked_text(alloc, table.deck(), from, number)?;
+    let asked = asked_text(alloc, table.deck(), question.from, number)?;
     let reply = convert_reply(
         alloc,
         table,
-        &cell_options(options),
+        &cell_options(question.options),
         asked.as_bytes(),
-        to,
+        question.to,
         steps,
     )?;
     cell_of(alloc, &reply)

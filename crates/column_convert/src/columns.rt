@@ -11,15 +11,14 @@ ghost use Rattle.column_convert.specs.Rows as spec;
 ghost use Rattle.column_convert.specs.RecordWriter.{IsNextWritten, text_in};
 
 use crate::block::Block;
-use crate::conversion::Conversion;
 use crate::draft::Draft;
 use crate::memory::Memory;
 use crate::record_writer::{finish_writer, new_writer};
 use crate::records::Records;
-use crate::row::write_row;
+use crate::row::ColumnRecord;
 use csv::ByteRecord;
 use live_table::LiveTable;
-use reply::Options;
+use reply::Question;
 use std::alloc::{AllocError, Global};
 use std::marker::Model;
 use std::sync::ledger::Ledger;
@@ -32,8 +31,6 @@ pub struct Columns {
     records: Records,
     // the record that was read last; its memory is reused
     last: ByteRecord,
-    // the record that was changed last; its memory is reused
-    changed: ByteRecord,
     place: usize,
     headed: bool,
 }
@@ -63,7 +60,6 @@ impl Columns {
         Ok(Columns {
             records: Records::new(alloc, input.into_bytes()),
             last: ByteRecord::new(alloc),
-            changed: ByteRecord::new(alloc),
             place: column - 1,
             headed: header,
         })
@@ -78,33 +74,31 @@ impl Columns {
         &mut self,
         alloc: Global,
         table: &mut LiveTable,
-        options: &Options,
-        from: &[u8],
-        to: &[u8],
+        question: &Question<'_>,
         most: usize,
         steps: &mut Steps<L>,
     ) -> Result<Block, AllocError>
-        requires { IsPrintable options.now }
+        requires { IsPrintable question.now.options.now }
         ensures block { IfOk result (λ block. block ≡ block_of
-            (spec.rows (tables.table table.old.deck) options.now from.now to.now (first_records most self.old))) }
+            (spec.rows (tables.table table.old.deck) question.now.options.now question.now.from.now question.now.to.now
+            (first_records most self.old))) }
         ensures left { OnOk result (self.new ≡ input_after most self.old) }
         ensures queries { AreQueries
-            (spec.queries (tables.table table.old.deck) options.now from.now to.now (first_records most self.old))
-            result table.old table.new steps.old steps.new }
+            (spec.queries (tables.table table.old.deck) question.now.options.now question.now.from.now
+            question.now.to.now (first_records most self.old)) result table.old table.new steps.old steps.new }
         ensures deck { table.new.deck ≡ table.old.deck }
     {
         // The cached outcomes are right, even if no query is made.
         table.outcomes_are_right();
-        let conversion = Conversion { options, from, to };
         let mut draft = Draft {
             writer: new_writer(alloc),
+            changed: ByteRecord::new(alloc),
             memory: Memory::new(),
         };
         let mut count = 0;
         let mut any = false;
         while count < most {
-            let Some(refused) = self.write_next(alloc, table, &conversion, &mut draft, steps)?
-            else {
+            let Some(refused) = self.write_next(alloc, table, question, &mut draft, steps)? else {
                 return close_draft(draft, count, any);
             };
             any = either(any, refused);
@@ -118,20 +112,20 @@ impl Columns {
         &mut self,
         alloc: Global,
         table: &mut LiveTable,
-        conversion: &Conversion<'_>,
+        question: &Question<'_>,
         draft: &mut Draft,
         steps: &mut Steps<L>,
     ) -> Result<Option<bool>, AllocError>
-        requires printable { IsPrintable conversion.now.options.now }
-        requires ready { IsReady table.old conversion.now draft.old }
-        ensures ready { OnOk result (IsReady table.new conversion.now draft.new) }
+        requires printable { IsPrintable question.now.options.now }
+        requires ready { IsReady table.old question.now draft.old }
+        ensures ready { OnOk result (IsReady table.new question.now draft.new) }
         ensures row { IfOk result (λ refused. IsNextWritten draft.old.writer draft.new.writer refused
-            (spec.next_row (tables.table table.old.deck) conversion.now.options.now conversion.now.from.now
-            conversion.now.to.now self.old)) }
+            (spec.next_row (tables.table table.old.deck) question.now.options.now question.now.from.now
+            question.now.to.now self.old)) }
         ensures left { OnOk result (self.new ≡ rest_of_input self.old) }
         ensures queries { AreQueries
-            (spec.next_queries (tables.table table.old.deck) conversion.now.options.now conversion.now.from.now
-            conversion.now.to.now self.old) result table.old table.new steps.old steps.new }
+            (spec.next_queries (tables.table table.old.deck) question.now.options.now question.now.from.now
+            question.now.to.now self.old) result table.old table.new steps.old steps.new }
         ensures deck { table.new.deck ≡ table.old.deck }
     {
         // The cached outcomes are right, even if no query is made.
@@ -139,17 +133,12 @@ impl Columns {
         if !self.records.read(&mut self.last)? {
             return Ok(None);
         }
-        let refused = write_row(
-            alloc,
-            table,
-            conversion,
-            &self.last,
-            self.place,
-            self.headed,
-            &mut self.changed,
-            draft,
-            steps,
-        )?;
+        let record = ColumnRecord {
+            fields: &self.last,
+            place: self.place,
+            headed: self.headed,
+        };
+        let refused = draft.write_row(alloc, table, question, &record, steps)?;
         self.headed = false;
         Ok(Some(refused))
     }
@@ -167,7 +156,11 @@ fn close_draft(draft: Draft, count: usize, any: bool) -> Result<Block, AllocErro
     ensures { IfOk result (λ block.
         (text_in draft.writer ≡ Some block.text) × (block.rows ≡ count) × (block.refused ≡ any)) }
 {
-    let Draft { writer, memory: _ } = draft;
+    let Draft {
+        writer,
+        changed: _,
+        memory: _,
+    } = draft;
     let text = finish_writer(writer)?;
     Ok(Block {
         text,

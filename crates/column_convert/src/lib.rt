@@ -5,7 +5,6 @@ mod block;
 mod cached_values;
 mod cell;
 mod columns;
-mod conversion;
 mod draft;
 mod laws;
 mod memory;

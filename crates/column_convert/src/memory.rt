@@ -6,10 +6,10 @@ ghost use Rattle.column_convert.specs.CachedValues as spec;
 
 use crate::cached_values::{Known, ask_values, product};
 use crate::cell::{Cell, cell_of, cell_options, product_text};
-use crate::signed_number::Signed;
+use crate::signed_number::{Signed, WrittenNumber};
 use def_lines::trim;
 use live_table::LiveTable;
-use reply::{Options, comparison_reply};
+use reply::{Question, comparison_reply};
 use std::alloc::{AllocError, Global};
 use std::sync::ledger::Ledger;
 use units_io::Steps;
@@ -46,14 +46,14 @@ impl Memory {
         &mut self,
         alloc: Global,
         table: &mut LiveTable,
-        from: &[u8],
-        to: &[u8],
+        question: &Question<'_>,
         n: &Signed,
         steps: &mut Steps<L>,
     ) -> Result<(), AllocError>
-        requires { spec.IsRemembered table.old from.now to.now self.old }
-        ensures known { OnOk result (spec.IsRemembered table.new from.now to.now self.new) }
-        ensures asked { spec.AreQueriesBegun n.now from.now to.now result table.old table.new steps.old steps.new }
+        requires { spec.IsRemembered table.old question.now.from.now question.now.to.now self.old }
+        ensures known { OnOk result (spec.IsRemembered table.new question.now.from.now question.now.to.now self.new) }
+        ensures asked { spec.AreQueriesBegun n.now question.now.from.now question.now.to.now result
+            table.old table.new steps.old steps.new }
         ensures deck { table.new.deck ≡ table.old.deck }
     {
         // The cached outcomes are right, even if no query is made.
@@ -61,7 +61,7 @@ impl Memory {
         if self.is_vain || self.known.is_some() {
             return Ok(());
         }
-        let known = ask_values(alloc, table, from, to, n, steps)?;
+        let known = ask_values(alloc, table, question, n, steps)?;
         self.is_vain = known.is_none();
         self.known = known;
         Ok(())
@@ -72,18 +72,16 @@ impl Memory {
     pub(crate) fn cell(
         &self,
         alloc: Global,
-        options: &Options,
-        from: &[u8],
-        to: &[u8],
-        number: &[u8],
-        n: &Signed,
+        question: &Question<'_>,
+        number: &WrittenNumber<'_>,
     ) -> Result<Option<Cell>, AllocError>
-        requires { IsPrintable options.now }
+        requires { IsPrintable question.now.options.now }
         ensures { IfOk result (λ cell. IfSome cell (λ cell.
-            spec.IsRememberedCell options.now self.now from.now to.now number.now n.now cell)) }
+            spec.IsRememberedCell question.now.options.now self.now question.now.from.now question.now.to.now
+            number.now.text.now number.now.signed cell)) }
     {
         match &self.known {
-            Some(known) => known_cell(alloc, options, known, from, to, number, n),
+            Some(known) => known_cell(alloc, known, question, number),
             None => Ok(None),
         }
     }
@@ -92,23 +90,26 @@ impl Memory {
 // Returns the cell of a number from the known values of FROM and TO.
 fn known_cell(
     alloc: Global,
-    options: &Options,
     known: &Known,
-    from: &[u8],
-    to: &[u8],
-    number: &[u8],
-    n: &Signed,
+    question: &Question<'_>,
+    number: &WrittenNumber<'_>,
 ) -> Result<Option<Cell>, AllocError>
-    requires { IsPrintable options.now }
+    requires { IsPrintable question.now.options.now }
     ensures { IfOk result (λ cell. IfSome cell (λ cell.
-        spec.IsKnownCell options.now known.now from.now to.now number.now n.now cell)) }
+        spec.IsKnownCell question.now.options.now known.now question.now.from.now question.now.to.now
+        number.now.text.now number.now.signed cell)) }
 {
-    let Some(x) = product(alloc, n, &known.from_value)? else {
+    let Some(x) = product(alloc, &number.signed, &known.from_value)? else {
         return Ok(None);
     };
-    let options = cell_options(options);
-    let asked = product_text(alloc, number, from)?;
-    let to = trim(to);
-    let reply = comparison_reply(alloc, &options, asked.as_bytes(), to, x, &known.to_value)?;
+    let options = cell_options(question.options);
+    let asked = product_text(alloc, number.text, question.from)?;
+    let to = trim(question.to);
+    let comparison = Question {
+        options: &options,
+        from: asked.as_bytes(),
+        to,
+    };
+    let reply = comparison_reply(alloc, &comparison, x, &known.to_value)?;
     Ok(Some(cell_of(alloc, &reply)?))
 }

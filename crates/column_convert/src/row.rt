@@ -9,53 +9,69 @@ ghost use Rattle.column_convert.specs.Drafts.{IsReady};
 ghost use Rattle.column_convert.specs.Rows as spec;
 ghost use Rattle.column_convert.specs.RecordWriter.{IsIdleWriter, IsRowWritten};
 
-use crate::cell::{Cell, convert_cell};
-use crate::conversion::Conversion;
+use crate::cell::Cell;
 use crate::draft::Draft;
 use crate::record_writer::write_record;
 use csv::{ByteRecord, Writer};
 use live_table::LiveTable;
+use reply::Question;
 use std::alloc::{AllocError, Global};
 use std::sync::ledger::Ledger;
 use units_io::Steps;
 
-/// Writes the row of a record and returns whether its cell is an error. A header, and a record without a field at
-/// `place`, stays as it is. The only error is running out of memory, after which the writer can no longer be used.
-pub(crate) fn write_row<L: Ledger>(
-    alloc: Global,
-    table: &mut LiveTable,
-    conversion: &Conversion<'_>,
-    fields: &ByteRecord,
-    place: usize,
-    headed: bool,
-    changed: &mut ByteRecord,
-    draft: &mut Draft,
-    steps: &mut Steps<L>,
-) -> Result<bool, AllocError>
-    requires printable { IsPrintable conversion.now.options.now }
-    requires ready { IsReady table.old conversion.now draft.old }
-    ensures ready { OnOk result (IsReady table.new conversion.now draft.new) }
-    ensures row { IfOk result (λ refused. IsRowWritten draft.old.writer draft.new.writer refused
-        (spec.row (tables.table table.old.deck) conversion.now.options.now conversion.now.from.now
-        conversion.now.to.now place headed (fields_of fields.now))) }
-    ensures queries { AreQueries
-        (spec.row_queries (tables.table table.old.deck) conversion.now.options.now conversion.now.from.now
-        conversion.now.to.now place headed (fields_of fields.now)) result table.old table.new steps.old steps.new }
-    ensures deck { table.new.deck ≡ table.old.deck }
-{
-    // The cached outcomes are right, even if no query is made.
-    table.outcomes_are_right();
-    if headed {
-        return write_kept(&mut draft.writer, fields);
-    }
-    match fields.get(place) {
-        Some(field) => {
-            let Conversion { options, from, to } = *conversion;
-            let memory = &mut draft.memory;
-            let cell = convert_cell(alloc, table, options, from, to, field, memory, steps)?;
-            write_cell(&mut draft.writer, changed, fields, place, &cell)
+/// A record, the place of the column in it, and whether it is the header.
+#[derive(Clone, Copy)]
+pub(crate) struct ColumnRecord<'a> {
+    pub(crate) fields: &'a ByteRecord,
+    pub(crate) place: usize,
+    pub(crate) headed: bool,
+}
+
+impl Draft {
+    /// Writes the row of a record and returns whether its cell is an error. A header, and a record without a field in
+    /// the column, stays as it is. The only error is running out of memory, after which the writer can no longer be
+    /// used.
+    pub(crate) fn write_row<L: Ledger>(
+        &mut self,
+        alloc: Global,
+        table: &mut LiveTable,
+        question: &Question<'_>,
+        record: &ColumnRecord<'_>,
+        steps: &mut Steps<L>,
+    ) -> Result<bool, AllocError>
+        requires printable { IsPrintable question.now.options.now }
+        requires ready { IsReady table.old question.now self.old }
+        ensures ready { OnOk result (IsReady table.new question.now self.new) }
+        ensures row { IfOk result (λ refused. IsRowWritten self.old.writer self.new.writer refused
+            (spec.row (tables.table table.old.deck) question.now.options.now question.now.from.now
+            question.now.to.now record.now.place record.now.headed (fields_of record.now.fields.now))) }
+        ensures queries { AreQueries
+            (spec.row_queries (tables.table table.old.deck) question.now.options.now question.now.from.now
+            question.now.to.now record.now.place record.now.headed (fields_of record.now.fields.now))
+            result table.old table.new steps.old steps.new }
+        ensures deck { table.new.deck ≡ table.old.deck }
+    {
+        // The cached outcomes are right, even if no query is made.
+        table.outcomes_are_right();
+        let fields = record.fields;
+        if record.headed {
+            return write_kept(&mut self.writer, fields);
         }
-        None => write_kept(&mut draft.writer, fields),
+        match fields.get(record.place) {
+            Some(field) => {
+                let cell = self
+                    .memory
+                    .convert_cell(alloc, table, question, field, steps)?;
+                write_cell(
+                    &mut self.writer,
+                    &mut self.changed,
+                    fields,
+                    record.place,
+                    &cell,
+                )
+            }
+            None => write_kept(&mut self.writer, fields),
+        }
     }
 }
 

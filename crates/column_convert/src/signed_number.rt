@@ -14,6 +14,13 @@ pub(crate) struct Signed {
     pub(crate) numeral: Numeral,
 }
 
+/// A number as it is written in a field: its text, and the text as a number.
+#[derive(Clone, Copy)]
+pub(crate) struct WrittenNumber<'a> {
+    pub(crate) text: &'a [u8],
+    pub(crate) signed: Signed,
+}
+
 impl Signed {
     /// Reads a text as a number. Returns `None` if it is not one, or if its numeral is past the limits.
     pub(crate) fn read_signed(text: &[u8]) -> Option<Signed>

@@ -13,6 +13,7 @@ ghost use Rattle.column_run.specs.declared.end.ColumnEnd.TheVariants as end;
 use crate::end::ColumnEnd;
 use crate::task::ColumnTask;
 use column_convert::{Columns, blocks_law};
+use reply::Question;
 use std::alloc::Global;
 use std::sync::ledger::Ledger;
 use units_io::{Sink, Steps, put_all};
@@ -46,11 +47,12 @@ impl ColumnTask {
         let options = &self.options;
         let from = self.from.as_bytes();
         let to = self.to.as_bytes();
+        let question = Question { options, from, to };
         // The cached outcomes are right, even if there is no row.
         table.outcomes_are_right();
         let mut refused = false;
         loop {
-            let block = columns.next_rows(alloc, table, options, from, to, MOST_ROWS, steps)?;
+            let block = columns.next_rows(alloc, table, &question, MOST_ROWS, steps)?;
             if block.rows == 0 {
                 return Ok(refused);
             }

@@ -10,17 +10,17 @@ ghost use Rattle.reply.specs.Options.{IsPrintable};
 use crate::edited_table::EditedTable;
 use column_convert::{Block, Columns};
 use live_table::LiveTable;
-use reply::Options;
+use reply::Question;
 use std::alloc::{AllocError, Global};
 use std::marker::Brand;
 use std::sync::ledger::{Blank, Ledger};
 use units_io::{Steps, Text};
 
-/// A column of a text of records, and the units that its fields are converted from and to.
+/// A column of a text of records, and how its fields are converted.
 #[derive(Clone, Copy)]
 pub struct Column<'a> {
-    pub from: &'a [u8],
-    pub to: &'a [u8],
+    /// The units that the fields are converted from and to, and the options for their replies.
+    pub question: Question<'a>,
     /// The number of the column, from 1.
     pub number: usize,
     /// Whether the first record is a header, which is copied unchanged.
@@ -33,19 +33,19 @@ impl EditedTable {
     pub fn convert_column(
         &mut self,
         alloc: Global,
-        options: &Options,
         column: &Column<'_>,
         text: &[u8],
     ) -> Result<Block, AllocError>
-        requires printable { IsPrintable options.now }
+        requires printable { IsPrintable column.now.question.options.now }
         requires number { 1 ≤ column.now.number }
         ensures block { IfOk result (λ block. block ≡ block_of
-            (spec.rows (tables.table self.old.table.deck) options.now column.now.from.now column.now.to.now
+            (spec.rows (tables.table self.old.table.deck) column.now.question.options.now
+            column.now.question.from.now column.now.question.to.now
             (input_of text.now column.now.number column.now.has_header))) }
         ensures deck { self.new.table.deck ≡ self.old.table.deck }
         ensures history { self.new.history ≡ self.old.history }
     {
-        counted_column::<Brand>(alloc, &mut self.table, options, column, text, Blank::new(1))
+        counted_column::<Brand>(alloc, &mut self.table, column, text, Blank::new(1))
     }
 }
 
@@ -53,7 +53,6 @@ impl EditedTable {
 fn counted_column<L: Ledger>(
     alloc: Global,
     table: &mut LiveTable,
-    options: &Options,
     column: &Column<'_>,
     text: &[u8],
     blank: Blank,
@@ -61,11 +60,11 @@ fn counted_column<L: Ledger>(
     requires name { blank.name ≡ L.name }
     requires parts { blank.parts ≡ L.parts }
     requires some { 0 < blank.parts }
-    requires printable { IsPrintable options.now }
+    requires printable { IsPrintable column.now.question.options.now }
     requires number { 1 ≤ column.now.number }
     ensures block { IfOk result (λ block. block ≡ block_of
-        (spec.rows (tables.table table.old.deck) options.now column.now.from.now column.now.to.now
-        (input_of text.now column.now.number column.now.has_header))) }
+        (spec.rows (tables.table table.old.deck) column.now.question.options.now column.now.question.from.now
+        column.now.question.to.now (input_of text.now column.now.number column.now.has_header))) }
     ensures deck { table.new.deck ≡ table.old.deck }
 {
     // A text has at most one record per byte, plus an empty last one.
@@ -75,13 +74,5 @@ fn counted_column<L: Ledger>(
     let input = Text::from_bytes(alloc, text)?;
     let mut columns = Columns::new(alloc, input, column.number, column.has_header)?;
     let mut steps: Steps<L> = Steps::new(blank);
-    columns.next_rows(
-        alloc,
-        table,
-        options,
-        column.from,
-        column.to,
-        most,
-        &mut steps,
-    )
+    columns.next_rows(alloc, table, &column.question, most, &mut steps)
 }

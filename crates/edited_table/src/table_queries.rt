@@ -7,7 +7,7 @@ ghost use Rattle.reply.specs.Replies as replies;
 
 use crate::edited_table::EditedTable;
 use live_table::LiveTable;
-use reply::{FromValue, Options, Reply, convert_reply, from_value};
+use reply::{FromValue, Options, Question, Reply, convert_reply, from_value};
 use std::alloc::{AllocError, Global};
 use std::marker::Brand;
 use std::sync::ledger::{Blank, Ledger};
@@ -28,7 +28,8 @@ impl EditedTable {
         ensures deck { self.new.table.deck ≡ self.old.table.deck }
         ensures history { self.new.history ≡ self.old.history }
     {
-        counted_conversion::<Brand>(alloc, &mut self.table, options, from, to, Blank::new(1))
+        let question = Question { options, from, to };
+        counted_conversion::<Brand>(alloc, &mut self.table, &question, Blank::new(1))
     }
 
     /// Returns the value of an expression, or the text of its first fault. Fails only if memory runs out.
@@ -52,20 +53,19 @@ impl EditedTable {
 fn counted_conversion<L: Ledger>(
     alloc: Global,
     table: &mut LiveTable,
-    options: &Options,
-    from: &[u8],
-    to: &[u8],
+    question: &Question<'_>,
     blank: Blank,
 ) -> Result<Reply, AllocError>
     requires name { blank.name ≡ L.name }
     requires parts { blank.parts ≡ L.parts }
     requires some { 0 < blank.parts }
-    requires printable { IsPrintable options.now }
-    ensures reply { IfOk result (λ reply.
-        reply ≡ replies.conversion_reply (tables.table table.old.deck) options.now from.now to.now) }
+    requires printable { IsPrintable question.now.options.now }
+    ensures reply { IfOk result (λ reply. reply ≡ replies.conversion_reply (tables.table table.old.deck)
+        question.now.options.now question.now.from.now question.now.to.now) }
     ensures deck { table.new.deck ≡ table.old.deck }
 {
     let mut steps: Steps<L> = Steps::new(blank);
+    let Question { options, from, to } = *question;
     convert_reply(alloc, table, options, from, to, &mut steps)
 }
 

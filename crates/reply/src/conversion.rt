@@ -11,7 +11,7 @@ ghost use Rattle.reply.specs.Targets as targets;
 
 use crate::comparison::{compare_quantities, count_units};
 use crate::failure::Failure;
-use crate::options::Options;
+use crate::question::Question;
 use crate::ratio::Ratio;
 use crate::target::{Target, target_of};
 use crate::text_evaluation::{evaluate_text, evaluate_texts, part_trees};
@@ -37,64 +37,83 @@ pub(crate) enum Conversion {
     NonConforming(Quantity, Quantity),
 }
 
-/// Converts one text to another.
-pub(crate) fn convert<L: Ledger>(
-    alloc: Global,
-    table: &mut LiveTable,
-    options: &Options,
-    from: &[u8],
-    to: &[u8],
-    steps: &mut Steps<L>,
-) -> Result<Conversion, Failure>
-    ensures deck { table.new.deck ≡ table.old.deck }
-    ensures inquired { call.IsInquired call.itself
-        (spec.conversion (tables.table table.old.deck) options.now from.now to.now) result
-        table.old table.new steps.old steps.new }
-{
-    let x = evaluate_text(alloc, table, from, steps)?;
-    let target = target_of(alloc, table.deck(), to)?;
-    converted_to(alloc, table, options, to, target, x, steps)
-}
-
-// Converts a quantity to a target.
-fn converted_to<L: Ledger>(
-    alloc: Global,
-    table: &mut LiveTable,
-    options: &Options,
-    to: &[u8],
-    target: Target,
-    x: Quantity,
-    steps: &mut Steps<L>,
-) -> Result<Conversion, Failure>
-    requires { target ≡ targets.conversion_target (tables.table table.old.deck) to.now }
-    ensures deck { table.new.deck ≡ table.old.deck }
-    ensures inquired { call.IsInquired call.itself
-        (spec.converted_to (tables.table table.old.deck) options.now to.now target x) result
-        table.old table.new steps.old steps.new }
-{
-    match target {
-        Target::Function => apply_inverse(alloc, table, to, x, steps),
-        Target::Parts(list) => convert_to_list(alloc, table, options, list, x, steps),
-        Target::Unit => convert_to_unit(alloc, table, options, to, x, steps),
+impl Question<'_> {
+    /// Converts FROM to TO.
+    pub(crate) fn convert<L: Ledger>(
+        &self,
+        alloc: Global,
+        table: &mut LiveTable,
+        steps: &mut Steps<L>,
+    ) -> Result<Conversion, Failure>
+        ensures deck { table.new.deck ≡ table.old.deck }
+        ensures inquired { call.IsInquired call.itself
+            (spec.conversion (tables.table table.old.deck) self.now.options.now self.now.from.now self.now.to.now)
+            result table.old table.new steps.old steps.new }
+    {
+        let x = evaluate_text(alloc, table, self.from, steps)?;
+        let target = target_of(alloc, table.deck(), self.to)?;
+        self.convert_to_target(alloc, table, target, x, steps)
     }
-}
 
-// Converts a quantity to a unit.
-fn convert_to_unit<L: Ledger>(
-    alloc: Global,
-    table: &mut LiveTable,
-    options: &Options,
-    to: &[u8],
-    x: Quantity,
-    steps: &mut Steps<L>,
-) -> Result<Conversion, Failure>
-    ensures deck { table.new.deck ≡ table.old.deck }
-    ensures inquired { call.IsInquired call.itself
-        (spec.conversion_to_unit (tables.table table.old.deck) options.now to.now x) result
-        table.old table.new steps.old steps.new }
-{
-    let y = evaluate_text(alloc, table, to, steps)?;
-    compare_quantities(alloc, options.strict, x, &y)
+    // Converts a quantity to TO, which is this target.
+    fn convert_to_target<L: Ledger>(
+        &self,
+        alloc: Global,
+        table: &mut LiveTable,
+        target: Target,
+        x: Quantity,
+        steps: &mut Steps<L>,
+    ) -> Result<Conversion, Failure>
+        requires { target ≡ targets.conversion_target (tables.table table.old.deck) self.now.to.now }
+        ensures deck { table.new.deck ≡ table.old.deck }
+        ensures inquired { call.IsInquired call.itself
+            (spec.converted_to (tables.table table.old.deck) self.now.options.now self.now.to.now target x) result
+            table.old table.new steps.old steps.new }
+    {
+        match target {
+            Target::Function => apply_inverse(alloc, table, self.to, x, steps),
+            Target::Parts(list) => self.convert_to_list(alloc, table, list, x, steps),
+            Target::Unit => self.convert_to_unit(alloc, table, x, steps),
+        }
+    }
+
+    // Converts a quantity to TO, which is a unit.
+    fn convert_to_unit<L: Ledger>(
+        &self,
+        alloc: Global,
+        table: &mut LiveTable,
+        x: Quantity,
+        steps: &mut Steps<L>,
+    ) -> Result<Conversion, Failure>
+        ensures deck { table.new.deck ≡ table.old.deck }
+        ensures inquired { call.IsInquired call.itself
+            (spec.conversion_to_unit (tables.table table.old.deck) self.now.options.now self.now.to.now x) result
+            table.old table.new steps.old steps.new }
+    {
+        let y = evaluate_text(alloc, table, self.to, steps)?;
+        compare_quantities(alloc, self.options.strict, x, &y)
+    }
+
+    // Splits a quantity into the units of a list.
+    fn convert_to_list<L: Ledger>(
+        &self,
+        alloc: Global,
+        table: &mut LiveTable,
+        list: Text,
+        x: Quantity,
+        steps: &mut Steps<L>,
+    ) -> Result<Conversion, Failure>
+        ensures deck { table.new.deck ≡ table.old.deck }
+        ensures inquired { call.IsInquired call.itself
+            (spec.conversion_to_list (tables.table table.old.deck) self.now.options.now list x) result
+            table.old table.new steps.old steps.new }
+    {
+        // The cached outcomes are right even if nothing is queried.
+        table.outcomes_are_right();
+        let trees = part_trees(alloc, list.as_bytes())?;
+        let units = evaluate_texts(alloc, table, trees.as_slice(), steps)?;
+        count_units(alloc, self.options.round, list, x, units)
+    }
 }
 
 // Applies the inverse of the function with this name.
@@ -113,25 +132,4 @@ fn apply_inverse<L: Ledger>(
 {
     let y = table.unapply(alloc, name, &x, steps)?;
     Ok(Conversion::Inverse(y))
-}
-
-// Splits a quantity into the units of a list.
-fn convert_to_list<L: Ledger>(
-    alloc: Global,
-    table: &mut LiveTable,
-    options: &Options,
-    list: Text,
-    x: Quantity,
-    steps: &mut Steps<L>,
-) -> Result<Conversion, Failure>
-    ensures deck { table.new.deck ≡ table.old.deck }
-    ensures inquired { call.IsInquired call.itself
-        (spec.conversion_to_list (tables.table table.old.deck) options.now list x) result
-        table.old table.new steps.old steps.new }
-{
-    // The cached outcomes are right even if nothing is queried.
-    table.outcomes_are_right();
-    let trees = part_trees(alloc, list.as_bytes())?;
-    let units = evaluate_texts(alloc, table, trees.as_slice(), steps)?;
-    count_units(alloc, options.round, list, x, units)
 }

@@ -10,8 +10,9 @@ ghost use Rattle.reply.specs.Subjects.{subject_text};
 
 use crate::conversion::Conversion;
 use crate::form::{Form, Layout};
+use crate::question::Question;
 use crate::ratio::Ratio;
-use crate::split_lines::put_split;
+use crate::split_lines::{PartCounts, put_split};
 use crate::text_writer::{put_number, put_quantity, put_some_number};
 use quantity::Quantity;
 use std::alloc::{AllocError, Global};
@@ -25,45 +26,74 @@ pub(crate) enum Subject<'a> {
     OneOver(&'a [u8]),
 }
 
+/// The two sides of a linear conversion in the verbose layout.
+#[derive(Clone, Copy)]
+pub(crate) struct Equation<'a> {
+    pub(crate) left: Subject<'a>,
+    /// TO.
+    pub(crate) right: &'a [u8],
+}
+
 /// Appends a conversion.
 pub(crate) fn put_conversion(
     alloc: Global,
     text: &mut Vec<u8>,
     form: Form,
-    from: &[u8],
-    to: &[u8],
+    question: &Question<'_>,
     conversion: &Conversion,
 ) -> Result<(), AllocError>
     requires { IsStyle form.style }
-    ensures { OnOk result (text.new.items
-        ≡ text.old.items ++ spec.conversion_text form from.now to.now conversion.now) }
+    ensures { OnOk result (text.new.items ≡ text.old.items
+        ++ spec.conversion_text form question.now.from.now question.now.to.now conversion.now) }
 {
     match conversion {
-        Conversion::Linear(ratio) => put_linear(alloc, text, form, Subject::Asked(from), to, ratio),
-        Conversion::Reciprocal(ratio) => put_reciprocal(alloc, text, form, from, to, ratio),
-        Conversion::Inverse(x) => put_inverse(alloc, text, form, from, to, x),
+        Conversion::Linear(ratio) => put_linear(alloc, text, form, question, ratio),
+        Conversion::Reciprocal(ratio) => put_reciprocal(alloc, text, form, question, ratio),
+        Conversion::Inverse(x) => put_inverse(alloc, text, form, question, x),
         Conversion::Split(list, counts) => {
-            put_split(alloc, text, form, from, list.as_bytes(), counts.as_slice())
+            let parts = PartCounts {
+                list: list.as_bytes(),
+                counts: counts.as_slice(),
+            };
+            put_split(alloc, text, form, question.from, parts)
         }
         Conversion::NonConforming(x, y) => put_unlike(alloc, text, form, x, y),
     }
 }
 
-// Appends a linear conversion.
+// Appends a conversion of FROM to TO.
 fn put_linear(
     alloc: Global,
     text: &mut Vec<u8>,
     form: Form,
-    subject: Subject<'_>,
-    to: &[u8],
+    question: &Question<'_>,
     ratio: &Ratio,
 ) -> Result<(), AllocError>
     requires { IsStyle form.style }
     ensures { OnOk result (text.new.items
-        ≡ text.old.items ++ spec.linear_text form (subject_text subject.entry) to.now ratio.now) }
+        ≡ text.old.items ++ spec.linear_text form question.now.from.now question.now.to.now ratio.now) }
 {
-    put_forward(alloc, text, form, subject, to, ratio)?;
-    put_backward(alloc, text, form, subject, to, ratio)
+    let equation = Equation {
+        left: Subject::Asked(question.from),
+        right: question.to,
+    };
+    put_equation(alloc, text, form, equation, ratio)
+}
+
+// Appends the two lines of a linear conversion.
+fn put_equation(
+    alloc: Global,
+    text: &mut Vec<u8>,
+    form: Form,
+    equation: Equation<'_>,
+    ratio: &Ratio,
+) -> Result<(), AllocError>
+    requires { IsStyle form.style }
+    ensures { OnOk result (text.new.items ≡ text.old.items
+        ++ spec.linear_text form (subject_text equation.entry.left) equation.entry.right.now ratio.now) }
+{
+    put_forward(alloc, text, form, equation, ratio)?;
+    put_backward(alloc, text, form, equation, ratio)
 }
 
 // Appends the line that states how often TO goes into FROM.
@@ -71,13 +101,12 @@ fn put_forward(
     alloc: Global,
     text: &mut Vec<u8>,
     form: Form,
-    subject: Subject<'_>,
-    to: &[u8],
+    equation: Equation<'_>,
     ratio: &Ratio,
 ) -> Result<(), AllocError>
     requires { IsStyle form.style }
     ensures { OnOk result (text.new.items ≡ text.old.items ++ layouts.laid form.layout
-        (layouts.forward_text form.layout (subject_text subject.entry) to.now
+        (layouts.forward_text form.layout (subject_text equation.entry.left) equation.entry.right.now
         (number_text form.style ratio.now.forward))) }
 {
     put_tab(text, form.layout)?;
@@ -88,11 +117,11 @@ fn put_forward(
         }
         Layout::Compact => put_number(alloc, text, form.style, &ratio.forward)?,
         Layout::Verbose => {
-            put_subject(text, subject)?;
+            put_subject(text, equation.left)?;
             text.extend_from_slice(b" = ".as_slice())?;
             put_number(alloc, text, form.style, &ratio.forward)?;
             text.extend_from_slice(b" ".as_slice())?;
-            text.extend_from_slice(to)?;
+            text.extend_from_slice(equation.right)?;
         }
     }
     text.extend_from_slice(b"\n".as_slice())?;
@@ -104,13 +133,12 @@ fn put_backward(
     alloc: Global,
     text: &mut Vec<u8>,
     form: Form,
-    subject: Subject<'_>,
-    to: &[u8],
+    equation: Equation<'_>,
     ratio: &Ratio,
 ) -> Result<(), AllocError>
     requires { IsStyle form.style }
-    ensures { OnOk result (text.new.items
-        ≡ text.old.items ++ spec.backward_line form (subject_text subject.entry) to.now ratio.now.back) }
+    ensures { OnOk result (text.new.items ≡ text.old.items
+        ++ spec.backward_line form (subject_text equation.entry.left) equation.entry.right.now ratio.now.back) }
 {
     if form.one_line {
         return Ok(());
@@ -123,11 +151,11 @@ fn put_backward(
         }
         Layout::Compact => put_some_number(alloc, text, form.style, &ratio.back)?,
         Layout::Verbose => {
-            put_subject(text, subject)?;
+            put_subject(text, equation.left)?;
             text.extend_from_slice(b" = (1 / ".as_slice())?;
             put_some_number(alloc, text, form.style, &ratio.back)?;
             text.extend_from_slice(b") ".as_slice())?;
-            text.extend_from_slice(to)?;
+            text.extend_from_slice(equation.right)?;
         }
     }
     text.extend_from_slice(b"\n".as_slice())?;
@@ -157,33 +185,36 @@ fn put_reciprocal(
     alloc: Global,
     text: &mut Vec<u8>,
     form: Form,
-    from: &[u8],
-    to: &[u8],
+    question: &Question<'_>,
     ratio: &Ratio,
 ) -> Result<(), AllocError>
     requires { IsStyle form.style }
     ensures { OnOk result (text.new.items
-        ≡ text.old.items ++ spec.reciprocal_text form from.now to.now ratio.now) }
+        ≡ text.old.items ++ spec.reciprocal_text form question.now.from.now question.now.to.now ratio.now) }
 {
     put_line(text, form.layout, b"reciprocal conversion")?;
-    put_linear(alloc, text, form, Subject::OneOver(from), to, ratio)
+    let equation = Equation {
+        left: Subject::OneOver(question.from),
+        right: question.to,
+    };
+    put_equation(alloc, text, form, equation, ratio)
 }
 
-// Appends the line with the argument of a function.
+// Appends the line with the argument of the function TO.
 fn put_inverse(
     alloc: Global,
     text: &mut Vec<u8>,
     form: Form,
-    from: &[u8],
-    name: &[u8],
+    question: &Question<'_>,
     x: &Quantity,
 ) -> Result<(), AllocError>
     requires { IsStyle form.style }
-    ensures { OnOk result (text.new.items ≡ text.old.items ++ spec.inverse_text form from.now name.now x.now) }
+    ensures { OnOk result (text.new.items
+        ≡ text.old.items ++ spec.inverse_text form question.now.from.now question.now.to.now x.now) }
 {
     put_tab(text, form.layout)?;
-    put_front(text, form.layout, from)?;
-    put_call(alloc, text, form, name, x)?;
+    put_front(text, form.layout, question.from)?;
+    put_call(alloc, text, form, question.to, x)?;
     text.extend_from_slice(b"\n".as_slice())?;
     Ok(())
 }

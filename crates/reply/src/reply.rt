@@ -16,7 +16,7 @@ ghost use Rattle.reply.specs.declared.reply.FromValue.TheVariants.{Bad};
 ghost use Rattle.reply.specs.Replies as spec;
 
 use crate::comparison::compare_quantities;
-use crate::conversion::{Conversion, convert};
+use crate::conversion::Conversion;
 use crate::failure::Failure;
 use crate::fault::ReplyFault;
 use crate::fault_writer::{fault_text, put_fault};
@@ -24,6 +24,7 @@ use crate::form::Form;
 use crate::laws::grant_law;
 use crate::lines::{put_conversion, put_definition};
 use crate::options::Options;
+use crate::question::Question;
 use crate::text_evaluation::evaluate_text;
 use deck::Deck;
 use def_entry::{Kind, What};
@@ -79,30 +80,30 @@ pub fn convert_reply<L: Ledger>(
     let form = Form::of(options);
     let from = trim(from);
     let to = trim(to);
-    match convert(alloc, table, options, from, to, steps) {
-        Ok(conversion) => reply_to_conversion(alloc, form, from, to, &conversion),
+    let question = Question { options, from, to };
+    match question.convert(alloc, table, steps) {
+        Ok(conversion) => reply_to_conversion(alloc, form, &question, &conversion),
         Err(Failure::Fault(fault)) => refusal(alloc, form, &fault),
         Err(Failure::OutOfMemory) => Err(AllocError),
     }
 }
 
-/// Returns the reply to the conversion of one text to another whose values are known, as `convert_reply` returns it if
-/// the second is a unit; but the texts are not trimmed. It queries nothing, and copies no value if the two conform. The
-/// only error is lack of memory.
+/// Returns the reply to a question if FROM and TO have the values `x` and `y`, as `convert_reply` returns it if TO is a
+/// unit; but FROM and TO are not trimmed. It queries nothing, and copies no value if the two conform. The only error is
+/// lack of memory.
 pub fn comparison_reply(
     alloc: Global,
-    options: &Options,
-    from: &[u8],
-    to: &[u8],
+    question: &Question<'_>,
     x: Quantity,
     y: &Quantity,
 ) -> Result<Reply, AllocError>
-    requires { IsPrintable options.now }
-    ensures { IfOk result (λ reply. reply ≡ spec.comparison_reply options.now from.now to.now x y.now) }
+    requires { IsPrintable question.now.options.now }
+    ensures { IfOk result (λ reply. reply
+        ≡ spec.comparison_reply question.now.options.now question.now.from.now question.now.to.now x y.now) }
 {
-    let form = Form::of(options);
-    match compare_quantities(alloc, options.strict, x, y) {
-        Ok(conversion) => reply_to_conversion(alloc, form, from, to, &conversion),
+    let form = Form::of(question.options);
+    match compare_quantities(alloc, question.options.strict, x, y) {
+        Ok(conversion) => reply_to_conversion(alloc, form, question, &conversion),
         Err(Failure::Fault(fault)) => refusal(alloc, form, &fault),
         Err(Failure::OutOfMemory) => Err(AllocError),
     }
@@ -174,15 +175,15 @@ fn bad(alloc: Global, options: &Options, fault: &ReplyFault) -> Result<FromValue
 fn reply_to_conversion(
     alloc: Global,
     form: Form,
-    from: &[u8],
-    to: &[u8],
+    question: &Question<'_>,
     conversion: &Conversion,
 ) -> Result<Reply, AllocError>
     requires { IsStyle form.style }
-    ensures { IfOk result (λ reply. reply ≡ spec.conversion_as form from.now to.now conversion.now) }
+    ensures { IfOk result (λ reply. reply
+        ≡ spec.conversion_as form question.now.from.now question.now.to.now conversion.now) }
 {
     let mut text = Vec::new(alloc);
-    put_conversion(alloc, &mut text, form, from, to, conversion)?;
+    put_conversion(alloc, &mut text, form, question, conversion)?;
     Ok(Reply {
         text: Text::from(text),
         refused: !is_granted(conversion),

@@ -13,22 +13,28 @@ use crate::text_writer::put_number;
 use frac128::Frac;
 use std::alloc::{AllocError, Global};
 
+/// The text of a list, and the counts of its parts.
+#[derive(Clone, Copy)]
+pub(crate) struct PartCounts<'a> {
+    pub(crate) list: &'a [u8],
+    pub(crate) counts: &'a [Frac],
+}
+
 /// Appends the line with the counts of the parts of a list.
 pub(crate) fn put_split(
     alloc: Global,
     text: &mut Vec<u8>,
     form: Form,
     from: &[u8],
-    list: &[u8],
-    counts: &[Frac],
+    parts: PartCounts<'_>,
 ) -> Result<(), AllocError>
     requires { IsStyle form.style }
     ensures { OnOk result (text.new.items
-        ≡ text.old.items ++ spec.split_text form from.now list.now counts.now) }
+        ≡ text.old.items ++ spec.split_text form from.now parts.entry.list.now parts.entry.counts.now) }
 {
     put_tab(text, form.layout)?;
     put_front(text, form.layout, from)?;
-    put_counts(alloc, text, form, list, counts)?;
+    put_counts(alloc, text, form, parts.list, parts.counts)?;
     text.extend_from_slice(b"\n".as_slice())?;
     Ok(())
 }

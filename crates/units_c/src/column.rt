@@ -13,7 +13,7 @@ use crate::options::UnitsOptions;
 use crate::status::Status;
 use crate::unit_table::UnitsTable;
 use edited_table::{Column, EditedTable};
-use reply::Options;
+use reply::{Options, Question};
 use std::alloc::{AllocError, Global};
 
 /// A column of a text of records, and the units that its fields are converted from and to.
@@ -75,13 +75,17 @@ fn answer_column(
         answer ≡ spec.column_answer (query_table content.old) options.now column.now text.now) }
     ensures unedited { definitions_of content.new ≡ definitions_of content.old }
 {
-    let column = Column {
+    let question = Question {
+        options,
         from: column.from,
         to: column.to,
+    };
+    let column = Column {
+        question,
         number: column.number,
         has_header: column.header != 0,
     };
-    let block = content.convert_column(alloc, options, &column, text)?;
+    let block = content.convert_column(alloc, &column, text)?;
     Ok(Answer {
         status: rows_status(block.refused),
         text: block.text,

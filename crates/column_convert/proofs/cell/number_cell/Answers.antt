@@ -19,7 +19,8 @@ returns-in_err-asked-clause-queries g c =
 pub returns-clause-cell : goal.returns-clause-cell
 returns-clause-cell g c =
     subst (λ (w : Reply). IfOk c.cell_of.result (λ cell. cell ≡ spec.cell_of w))
-    (asked_reply (table_of c.args.table.now.deck) c.args.options.now c.args.from.now c.args.to.now c.args.number.now
+    (asked_reply (table_of c.args.table.now.deck) c.args.question.now.options.now c.args.question.now.from.now
+    c.args.question.now.to.now c.args.number.now
     (table_of c.deck.result.now) c.cell_options.result c.in_ok-asked.asked c.as_bytes.result.now
     (ap table_of c.deck.ensures.deck) c.cell_options.ensures.is c.in_ok-asked.ensures c.as_bytes.ensures
     c.in_ok-reply.reply c.in_ok-reply.ensures.reply)
@@ -30,10 +31,12 @@ returns-clause-queries g c =
     subst (λ (es : List Event).
     AreQueries es c.cell_of.result c.args.table.now c.convert_reply.new.table c.args.steps.now
     c.convert_reply.new.steps)
-    (asked_queries (table_of c.args.table.now.deck) c.args.options.now c.args.from.now c.args.to.now c.args.number.now
+    (asked_queries (table_of c.args.table.now.deck) c.args.question.now.options.now c.args.question.now.from.now
+    c.args.question.now.to.now c.args.number.now
     (table_of c.deck.result.now) c.cell_options.result c.in_ok-asked.asked c.as_bytes.result.now
     (ap table_of c.deck.ensures.deck) c.cell_options.ensures.is c.in_ok-asked.ensures c.as_bytes.ensures)
     (queries_made c.cell_of.result
-    (conversion_queries (table_of c.args.table.now.deck) c.cell_options.result c.as_bytes.result.now c.args.to.now)
+    (conversion_queries (table_of c.args.table.now.deck) c.cell_options.result c.as_bytes.result.now
+    c.args.question.now.to.now)
     c.args.table.now c.convert_reply.new.table c.args.steps.now c.convert_reply.new.steps c.convert_reply.ensures.deck
     c.in_ok-reply.ensures.queries)

@@ -11,8 +11,9 @@ pub returns-clause-block : goal.returns-clause-block
 returns-clause-block g c =
     let enough : c.in-Some.most ≡ length c.args.text.now + 1 = omega (arith, c.in-Some.ensures) in
     subst (λ (i : Input). IfOk c.next_rows.result (λ (block : Block). block
-    ≡ block_of (rows (table c.args.table.now.deck) c.args.options.now c.args.column.now.from.now
-    c.args.column.now.to.now i)))
+    ≡ block_of (rows (table c.args.table.now.deck) c.args.column.now.question.options.now
+    c.args.column.now.question.from.now
+    c.args.column.now.question.to.now i)))
     (copy_first c.args.text.now c.in_ok-input.input c.args.column.now.number c.args.column.now.has_header
     c.in-Some.most c.in_ok-columns.columns c.in_ok-input.ensures c.in_ok-columns.ensures enough)
     c.next_rows.ensures.block

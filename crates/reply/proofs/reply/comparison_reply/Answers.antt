@@ -14,15 +14,18 @@ pub refusal-requires-clause-told : goal.refusal-requires-clause-told
 refusal-requires-clause-told c =
     ap is_reportable c.in-Err-Fault.fault-is
     ∙ subst IsTold
-    (subst (λ (x : Failure). IsRead itself (conversion_between c.args.options.now.strict c.args.x c.args.y.now) (Err x))
+    (subst (λ (x : Failure).
+    IsRead itself (conversion_between c.args.question.now.options.now.strict c.args.x c.args.y.now) (Err x))
     c.in-Err-Fault.field-0-is c.in-Err-Fault.ensures)
-    (compared-told c.args.options.now.strict c.args.x c.args.y.now)
+    (compared-told c.args.question.now.options.now.strict c.args.x c.args.y.now)
 
 pub returns-in-Ok : goal.returns-in-Ok
 returns-in-Ok c =
     subst (λ (w : Reply). IfOk c.reply_to_conversion.result (λ reply. reply ≡ w))
-    (ap (λ (f : Form). conversion_as f c.args.from.now c.args.to.now c.in-Ok.conversion) c.of-form.ensures.is
-    ∙ ap (as_conversion (reply_form c.args.options.now) c.args.from.now c.args.to.now) (sym c.in-Ok.ensures))
+    (ap (λ (f : Form). conversion_as f c.args.question.now.from.now c.args.question.now.to.now c.in-Ok.conversion)
+    c.of-form.ensures.is
+    ∙ ap (as_conversion (reply_form c.args.question.now.options.now) c.args.question.now.from.now
+    c.args.question.now.to.now) (sym c.in-Ok.ensures))
     c.reply_to_conversion.ensures
 
 pub returns-in-Err-Fault : goal.returns-in-Err-Fault
@@ -30,8 +33,10 @@ returns-in-Err-Fault c =
     subst (λ (w : Reply). IfOk c.refusal.result (λ reply. reply ≡ w))
     (ap (refusal c.of-form.result) c.in-Err-Fault.fault-is
     ∙ ap (λ (f : Form). refusal f c.in-Err-Fault.fault) c.of-form.ensures.is
-    ∙ ap (as_conversion (reply_form c.args.options.now) c.args.from.now c.args.to.now)
-    (sym (subst (λ (x : Failure). IsRead itself (conversion_between c.args.options.now.strict c.args.x c.args.y.now)
+    ∙ ap (as_conversion (reply_form c.args.question.now.options.now) c.args.question.now.from.now
+    c.args.question.now.to.now)
+    (sym (subst (λ (x : Failure).
+    IsRead itself (conversion_between c.args.question.now.options.now.strict c.args.x c.args.y.now)
     (Err x))
     c.in-Err-Fault.field-0-is c.in-Err-Fault.ensures)))
     c.refusal.ensures

@@ -23,9 +23,11 @@ pub loop-count-init : goal.loop-count-init
 loop-count-init g c = record {
   ready = record {
     writer_idle = c.new_writer.ensures.idle;
-    memory_right = nothing_known c.args.table.now (trim_of c.args.from.now) c.args.to.now c.new.result c.new.ensures;
+    memory_right = nothing_known c.args.table.now (trim_of c.args.question.now.from.now) c.args.question.now.to.now
+        c.new.result c.new.ensures;
   };
-  at = underway_start c.args.options.now c.args.from.now c.args.to.now c.args.self.now c.args.most c.args.table.now
+  at = underway_start c.args.question.now.options.now c.args.question.now.from.now c.args.question.now.to.now
+      c.args.self.now c.args.most c.args.table.now
       c.args.steps.now
       (text_in c.new_writer.result) c.new_writer.ensures.empty c.outcomes_are_right.ensures;
 }
@@ -35,7 +37,8 @@ returns-in_err-refused-clause-queries g c =
     let u = c.loop-count.invariant.at in
     not_all _ c.from_residual.result _ c.args.table.now c.write_next.new.table c.args.steps.now c.write_next.new.steps
     c.from_residual.ensures.1
-    (failed c.args.options.now c.args.from.now c.args.to.now c.args.self.now c.args.most c.args.table.now
+    (failed c.args.question.now.options.now c.args.question.now.from.now c.args.question.now.to.now c.args.self.now
+    c.args.most c.args.table.now
     c.args.steps.now
     c.loop-count.self c.loop-count.count c.loop-count.any (text_in c.loop-count.draft.writer) c.loop-count.table
     c.loop-count.steps u (omega (arith, c.loop-count-test.true)) c.write_next.new.table c.write_next.new.steps
@@ -46,11 +49,13 @@ returns-in_default-clause-left g c =
     let u = c.loop-count.invariant.at in
     let none = none_there c.loop-count.draft.writer c.write_next.new.draft.writer _ (subst
     (λ (r : Option Bool). IsNextWritten c.loop-count.draft.writer c.write_next.new.draft.writer r
-    (next_row (table c.loop-count.table.deck) c.args.options.now c.args.from.now c.args.to.now c.loop-count.self))
+    (next_row (table c.loop-count.table.deck) c.args.question.now.options.now c.args.question.now.from.now
+    c.args.question.now.to.now c.loop-count.self))
     c.in_default.is c.in_ok-refused.ensures.row) in
     whatever c.close_draft.result
     (c.in_ok-refused.ensures.left
-    ∙ sym (rows_at_end c.args.options.now c.args.from.now c.args.to.now c.args.self.now c.args.most c.args.table.now
+    ∙ sym (rows_at_end c.args.question.now.options.now c.args.question.now.from.now c.args.question.now.to.now
+    c.args.self.now c.args.most c.args.table.now
     c.args.steps.now
     c.loop-count.self c.loop-count.count c.loop-count.any (text_in c.loop-count.draft.writer) c.loop-count.table
     c.loop-count.steps u none.0).1)
@@ -60,11 +65,13 @@ returns-in_default-clause-queries g c =
     let u = c.loop-count.invariant.at in
     let none = none_there c.loop-count.draft.writer c.write_next.new.draft.writer _ (subst
     (λ (r : Option Bool). IsNextWritten c.loop-count.draft.writer c.write_next.new.draft.writer r
-    (next_row (table c.loop-count.table.deck) c.args.options.now c.args.from.now c.args.to.now c.loop-count.self))
+    (next_row (table c.loop-count.table.deck) c.args.question.now.options.now c.args.question.now.from.now
+    c.args.question.now.to.now c.loop-count.self))
     c.in_default.is c.in_ok-refused.ensures.row) in
     queries_made c.close_draft.result _ c.args.table.now c.write_next.new.table c.args.steps.now c.write_next.new.steps
     (c.write_next.ensures.deck ∙ u.deck)
-    (follows_ended c.args.options.now c.args.from.now c.args.to.now c.args.self.now c.args.most c.args.table.now
+    (follows_ended c.args.question.now.options.now c.args.question.now.from.now c.args.question.now.to.now
+    c.args.self.now c.args.most c.args.table.now
     c.args.steps.now
     c.loop-count.self c.loop-count.count c.loop-count.any (text_in c.loop-count.draft.writer) c.loop-count.table
     c.loop-count.steps u none.0 c.write_next.new.table c.write_next.new.steps c.in_ok-refused.ensures.queries)
@@ -74,17 +81,20 @@ loop-count-preserved g c =
     let u = c.loop-count.invariant.at in
     let one = row_there c.loop-count.draft.writer c.write_next.new.draft.writer c.in-Some.refused _ (subst
     (λ (r : Option Bool). IsNextWritten c.loop-count.draft.writer c.write_next.new.draft.writer r
-    (next_row (table c.loop-count.table.deck) c.args.options.now c.args.from.now c.args.to.now c.loop-count.self))
+    (next_row (table c.loop-count.table.deck) c.args.question.now.options.now c.args.question.now.from.now
+    c.args.question.now.to.now c.loop-count.self))
     c.in-Some.is c.in_ok-refused.ensures.row) in
     record {
       ready = c.in_ok-refused.ensures.ready;
       at = subst
-          (λ (i : Input). IsUnderway c.args.options.now c.args.from.now c.args.to.now c.args.self.now c.args.most
+          (λ (i : Input). IsUnderway c.args.question.now.options.now c.args.question.now.from.now
+          c.args.question.now.to.now c.args.self.now c.args.most
           c.args.table.now c.args.steps.now
           i (c.loop-count.count + 1) c.either-any.result (text_in c.write_next.new.draft.writer) c.write_next.new.table
           c.write_next.new.steps)
           (sym c.in_ok-refused.ensures.left)
-          (underway_next c.args.options.now c.args.from.now c.args.to.now c.args.self.now c.args.most c.args.table.now
+          (underway_next c.args.question.now.options.now c.args.question.now.from.now c.args.question.now.to.now
+          c.args.self.now c.args.most c.args.table.now
           c.args.steps.now
           c.loop-count.self c.loop-count.count c.loop-count.any (text_in c.loop-count.draft.writer) c.loop-count.table
           c.loop-count.steps u (omega (arith, c.loop-count-test.true)) c.write_next.new.table c.write_next.new.steps
@@ -99,7 +109,8 @@ pub returns-clause-left : goal.returns-clause-left
 returns-clause-left g c =
     let u = c.loop-count.invariant.at in
     whatever c.close_draft-2.result
-    (sym (rows_when_full c.args.options.now c.args.from.now c.args.to.now c.args.self.now c.args.most c.args.table.now
+    (sym (rows_when_full c.args.question.now.options.now c.args.question.now.from.now c.args.question.now.to.now
+    c.args.self.now c.args.most c.args.table.now
     c.args.steps.now
     c.loop-count.self c.loop-count.count c.loop-count.any (text_in c.loop-count.draft.writer) c.loop-count.table
     c.loop-count.steps u (omega (arith, c.loop-count-test.false))).2)
@@ -110,7 +121,8 @@ returns-clause-queries g c =
     queries_made c.close_draft-2.result _ c.args.table.now c.loop-count.table c.args.steps.now c.loop-count.steps u.deck
     (subst (λ (es : List Event). IsAfterEvents es c.args.table.now c.loop-count.table c.args.steps.now
     c.loop-count.steps)
-    (sym (rows_when_full c.args.options.now c.args.from.now c.args.to.now c.args.self.now c.args.most c.args.table.now
+    (sym (rows_when_full c.args.question.now.options.now c.args.question.now.from.now c.args.question.now.to.now
+    c.args.self.now c.args.most c.args.table.now
     c.args.steps.now
     c.loop-count.self c.loop-count.count c.loop-count.any (text_in c.loop-count.draft.writer) c.loop-count.table
     c.loop-count.steps u (omega (arith, c.loop-count-test.false))).1)
@@ -121,10 +133,12 @@ returns-in_default-clause-block g c =
     let u = c.loop-count.invariant.at in
     let none = none_there c.loop-count.draft.writer c.write_next.new.draft.writer _ (subst
     (λ (r : Option Bool). IsNextWritten c.loop-count.draft.writer c.write_next.new.draft.writer r
-    (next_row (table c.loop-count.table.deck) c.args.options.now c.args.from.now c.args.to.now c.loop-count.self))
+    (next_row (table c.loop-count.table.deck) c.args.question.now.options.now c.args.question.now.from.now
+    c.args.question.now.to.now c.loop-count.self))
     c.in_default.is c.in_ok-refused.ensures.row) in
     subst (λ (rs : List ColumnRow). IfOk c.close_draft.result (λ block. block ≡ block_of rs))
-    (sym (rows_at_end c.args.options.now c.args.from.now c.args.to.now c.args.self.now c.args.most c.args.table.now
+    (sym (rows_at_end c.args.question.now.options.now c.args.question.now.from.now c.args.question.now.to.now
+    c.args.self.now c.args.most c.args.table.now
     c.args.steps.now
     c.loop-count.self c.loop-count.count c.loop-count.any (text_in c.loop-count.draft.writer) c.loop-count.table
     c.loop-count.steps u none.0).0)
@@ -135,7 +149,8 @@ pub returns-clause-block : goal.returns-clause-block
 returns-clause-block g c =
     let u = c.loop-count.invariant.at in
     subst (λ (rs : List ColumnRow). IfOk c.close_draft-2.result (λ block. block ≡ block_of rs))
-    (sym (rows_when_full c.args.options.now c.args.from.now c.args.to.now c.args.self.now c.args.most c.args.table.now
+    (sym (rows_when_full c.args.question.now.options.now c.args.question.now.from.now c.args.question.now.to.now
+    c.args.self.now c.args.most c.args.table.now
     c.args.steps.now
     c.loop-count.self c.loop-count.count c.loop-count.any (text_in c.loop-count.draft.writer) c.loop-count.table
     c.loop-count.steps u

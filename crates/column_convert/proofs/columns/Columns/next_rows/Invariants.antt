@@ -6,8 +6,9 @@ use Rattle.column_convert.proofs.columns.Columns.next_rows.Given as goal
 
 abbrev pub invariant-loop-count : goal.invariant-loop-count
 invariant-loop-count g l = record {
-  ready : IsReady l.table l.conversion l.draft;
-  at : IsUnderway l.options l.from l.to l.fn.self l.most l.fn.table l.fn.steps l.self l.count l.any
+  ready : IsReady l.table l.question l.draft;
+  at : IsUnderway l.question.options.now l.question.from.now l.question.to.now l.fn.self l.most l.fn.table l.fn.steps
+      l.self l.count l.any
       (text_in l.draft.writer) l.table l.steps;
 }
 

@@ -5,21 +5,22 @@ use Rattle.reply.specs.Calls.{IsInquired, itself}
 use Rattle.reply.specs.Conversions.{conversion_between, conversion_to_unit}
 use Rattle.reply.specs.Inquiries.{text_worth, without_queries}
 use Rattle.reply.proofs.InquirySequence.{read-behind, then-failed}
-use Rattle.reply.proofs.conversion.convert_to_unit.Goals as goal
+use Rattle.reply.proofs.question.Question.convert_to_unit.Goals as goal
 
 pub returns-in_err-y-clause-inquired : goal.returns-in_err-y-clause-inquired
 returns-in_err-y-clause-inquired g c =
     let p = err_from_is_err_and c.from_residual.result c.from_residual.ensures.1 in
     subst (λ r. IsInquired itself
-    (conversion_to_unit (table c.args.table.now.deck) c.args.options.now c.args.to.now c.args.x) r
+    (conversion_to_unit (table c.args.table.now.deck) c.args.self.now.options.now c.args.self.now.to.now c.args.x) r
     c.args.table.now c.evaluate_text.new.table c.args.steps.now c.evaluate_text.new.steps) (sym (p.1 ∙ ap Err p.2))
-    (then-failed itself (text_worth (table c.args.table.now.deck) c.args.to.now)
-    (λ y. without_queries (conversion_between c.args.options.now.strict c.args.x y)) itself c.in_err-y.field-0.0
+    (then-failed itself (text_worth (table c.args.table.now.deck) c.args.self.now.to.now)
+    (λ y. without_queries (conversion_between c.args.self.now.options.now.strict c.args.x y)) itself
+    c.in_err-y.field-0.0
     c.args.table.now c.evaluate_text.new.table c.args.steps.now c.evaluate_text.new.steps c.in_err-y.ensures.inquired)
 
 pub returns-clause-inquired : goal.returns-clause-inquired
 returns-clause-inquired g c =
-    read-behind itself (text_worth (table c.args.table.now.deck) c.args.to.now) itself
-    (λ y. conversion_between c.args.options.now.strict c.args.x y) c.in_ok-y.y c.compare_quantities.result
+    read-behind itself (text_worth (table c.args.table.now.deck) c.args.self.now.to.now) itself
+    (λ y. conversion_between c.args.self.now.options.now.strict c.args.x y) c.in_ok-y.y c.compare_quantities.result
     c.args.table.now c.evaluate_text.new.table c.args.steps.now c.evaluate_text.new.steps
     c.evaluate_text.ensures.deck c.in_ok-y.ensures.inquired c.compare_quantities.ensures

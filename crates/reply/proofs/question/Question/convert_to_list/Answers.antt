@@ -11,15 +11,15 @@ use Rattle.reply.specs.Targets.{parts_of}
 use Rattle.reply.specs.Trees.{trees_in}
 use Rattle.reply.proofs.ConversionCalls.{split-counted, split-unparsed, split-unvalued}
 use Rattle.reply.proofs.UnitCounts.{units-some}
-use Rattle.reply.proofs.conversion.convert_to_list.Goals as goal
+use Rattle.reply.proofs.question.Question.convert_to_list.Goals as goal
 
 pub returns-in_err-trees-clause-inquired : goal.returns-in_err-trees-clause-inquired
 returns-in_err-trees-clause-inquired g c =
     let p = err_from_is_err_and c.from_residual.result c.from_residual.ensures.1 in
     subst (λ r. IsInquired itself
-    (conversion_to_list (table c.args.table.now.deck) c.args.options.now c.args.list c.args.x) r
+    (conversion_to_list (table c.args.table.now.deck) c.args.self.now.options.now c.args.list c.args.x) r
     c.args.table.now c.args.table.now c.args.steps.now c.args.steps.now) (sym (p.1 ∙ ap Err p.2))
-    (split-unparsed (table c.args.table.now.deck) c.args.options.now c.args.list c.args.x c.args.table.now
+    (split-unparsed (table c.args.table.now.deck) c.args.self.now.options.now c.args.list c.args.x c.args.table.now
     c.args.steps.now c.outcomes_are_right.ensures (λ (trees : Vec Tree Global). syntaxes_of trees.items)
     c.in_err-trees.field-0.0
     (subst (λ (l : List ℕ). IsRead (λ (trees : Vec Tree Global). syntaxes_of trees.items) (trees_in (parts_of l))
@@ -35,9 +35,9 @@ pub returns-in_err-units-clause-inquired : goal.returns-in_err-units-clause-inqu
 returns-in_err-units-clause-inquired g c =
     let p = err_from_is_err_and c.from_residual-in_err-units.result c.from_residual-in_err-units.ensures.1 in
     subst (λ r. IsInquired itself
-    (conversion_to_list (table c.args.table.now.deck) c.args.options.now c.args.list c.args.x) r
+    (conversion_to_list (table c.args.table.now.deck) c.args.self.now.options.now c.args.list c.args.x) r
     c.args.table.now c.evaluate_texts.new.table c.args.steps.now c.evaluate_texts.new.steps) (sym (p.1 ∙ ap Err p.2))
-    (split-unvalued (table c.args.table.now.deck) c.args.options.now c.args.list c.args.x c.args.table.now
+    (split-unvalued (table c.args.table.now.deck) c.args.self.now.options.now c.args.list c.args.x c.args.table.now
     c.args.steps.now c.outcomes_are_right.ensures (λ (units : Vec Amount Global). units.items)
     (syntaxes_of c.as_slice.result.now)
     ((λ i. trees_in (parts_of (sym c.as_bytes.ensures i))) ∙ c.in_ok-trees.ensures
@@ -47,7 +47,7 @@ returns-in_err-units-clause-inquired g c =
 
 pub returns-clause-inquired : goal.returns-clause-inquired
 returns-clause-inquired g c =
-    split-counted (table c.args.table.now.deck) c.args.options.now c.args.list c.args.x c.args.table.now
+    split-counted (table c.args.table.now.deck) c.args.self.now.options.now c.args.list c.args.x c.args.table.now
     c.args.steps.now c.outcomes_are_right.ensures (λ (units : Vec Amount Global). units.items)
     (syntaxes_of c.as_slice.result.now)
     ((λ i. trees_in (parts_of (sym c.as_bytes.ensures i))) ∙ c.in_ok-trees.ensures
