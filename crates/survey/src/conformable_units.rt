@@ -25,6 +25,13 @@ use std::alloc::{AllocError, Global};
 use std::sync::ledger::Ledger;
 use units_io::{Steps, Text};
 
+/// A search for the units whose values conform to `from`, among those whose lines are at these places.
+#[derive(Clone, Copy)]
+pub(crate) struct UnitSearch<'a> {
+    pub(crate) from: &'a Quantity,
+    pub(crate) places: &'a [usize],
+}
+
 /// Returns a row for each unit whose value conforms to `from`, in the order of keys, or one line that says that there
 /// is none. Queries each unit. Does not change the deck. The only error is running out of memory.
 pub fn conformable_report<L: Ledger>(
@@ -40,56 +47,61 @@ pub fn conformable_report<L: Ledger>(
 {
     let places = table.deck().key_places(alloc)?;
     let mut rows = Vec::new(alloc);
-    put_conforming_rows(alloc, &mut rows, table, places.as_slice(), from, steps)?;
+    let search = UnitSearch {
+        from,
+        places: places.as_slice(),
+    };
+    search.put_rows(alloc, &mut rows, table, steps)?;
     rows_or_none(rows)
 }
 
-// Appends a row for each unit at `places` whose value conforms to `from`.
-fn put_conforming_rows<L: Ledger>(
-    alloc: Global,
-    rows: &mut Vec<u8>,
-    table: &mut LiveTable,
-    places: &[usize],
-    from: &Quantity,
-    steps: &mut Steps<L>,
-) -> Result<(), AllocError>
-    requires { IsRightTable table.old }
-    ensures rows { OnOk result (rows.new.items ≡ rows.old.items
-        ++ flat_map (spec.conforming_row (tables.table table.old.deck) from.now)
-        (of_kind kinds.Unit (keys_there table.old.deck.lines places.now))) }
-    ensures queries { AreQueries
-        (spec.unit_queries (tables.table table.old.deck) (keys_there table.old.deck.lines places.now)) result
-        table.old table.new steps.old steps.new }
-    ensures deck { table.new.deck ≡ table.old.deck }
-{
-    for place in places {
-        put_row_at(alloc, rows, table, *place, from, steps)?;
+impl UnitSearch<'_> {
+    // Appends a row for each unit whose value conforms.
+    fn put_rows<L: Ledger>(
+        &self,
+        alloc: Global,
+        rows: &mut Vec<u8>,
+        table: &mut LiveTable,
+        steps: &mut Steps<L>,
+    ) -> Result<(), AllocError>
+        requires { IsRightTable table.old }
+        ensures rows { OnOk result (rows.new.items ≡ rows.old.items
+            ++ flat_map (spec.conforming_row (tables.table table.old.deck) self.now.from.now)
+            (of_kind kinds.Unit (keys_there table.old.deck.lines self.now.places.now))) }
+        ensures queries { AreQueries
+            (spec.unit_queries (tables.table table.old.deck) (keys_there table.old.deck.lines self.now.places.now))
+            result table.old table.new steps.old steps.new }
+        ensures deck { table.new.deck ≡ table.old.deck }
+    {
+        for place in self.places {
+            self.put_row_at(alloc, rows, table, *place, steps)?;
+        }
+        Ok(())
     }
-    Ok(())
-}
 
-// Appends the row of the unit at `place`, if there is one and its value conforms to `from`.
-fn put_row_at<L: Ledger>(
-    alloc: Global,
-    rows: &mut Vec<u8>,
-    table: &mut LiveTable,
-    place: usize,
-    from: &Quantity,
-    steps: &mut Steps<L>,
-) -> Result<(), AllocError>
-    requires { IsRightTable table.old }
-    ensures rows { OnOk result (rows.new.items ≡ rows.old.items
-        ++ given_by_key (spec.conforming_row (tables.table table.old.deck) from.now)
-        (unit_there table.old.deck place)) }
-    ensures queries { AreQueries (given_by_key (λ k. (spec.unit_worth (tables.table table.old.deck) k).events)
-        (unit_there table.old.deck place)) result table.old table.new steps.old steps.new }
-    ensures deck { table.new.deck ≡ table.old.deck }
-{
-    let Some(word) = unit_word(alloc, table.deck(), place)? else {
-        return Ok(());
-    };
-    let found = table.value_if_any(alloc, &word, steps);
-    put_if_conforming(rows, table.deck(), place, from, &found)
+    // Appends the row of the unit at `place`, if there is one and its value conforms.
+    fn put_row_at<L: Ledger>(
+        &self,
+        alloc: Global,
+        rows: &mut Vec<u8>,
+        table: &mut LiveTable,
+        place: usize,
+        steps: &mut Steps<L>,
+    ) -> Result<(), AllocError>
+        requires { IsRightTable table.old }
+        ensures rows { OnOk result (rows.new.items ≡ rows.old.items
+            ++ given_by_key (spec.conforming_row (tables.table table.old.deck) self.now.from.now)
+            (unit_there table.old.deck place)) }
+        ensures queries { AreQueries (given_by_key (λ k. (spec.unit_worth (tables.table table.old.deck) k).events)
+            (unit_there table.old.deck place)) result table.old table.new steps.old steps.new }
+        ensures deck { table.new.deck ≡ table.old.deck }
+    {
+        let Some(word) = unit_word(alloc, table.deck(), place)? else {
+            return Ok(());
+        };
+        let found = table.value_if_any(alloc, &word, steps);
+        put_if_conforming(rows, table.deck(), place, self.from, &found)
+    }
 }
 
 // Returns the word of the unit that the line at `place` defines, or `None` if it defines no unit.

@@ -27,6 +27,13 @@ use std::alloc::{AllocError, Global};
 use std::sync::ledger::Ledger;
 use units_io::{Steps, Text};
 
+/// A check of the keys whose lines are at these places, and the options for the lines of its report.
+#[derive(Clone, Copy)]
+pub struct KeyCheck<'a> {
+    pub options: &'a Options,
+    pub places: &'a [usize],
+}
+
 /// Returns the check report as one text: a line for each key that has a fault, in the order of keys. Queries all names
 /// first and then what each key needs. Does not change the deck. The only error is running out of memory.
 pub fn check_report<L: Ledger>(
@@ -44,7 +51,11 @@ pub fn check_report<L: Ledger>(
 {
     let places = check_places(alloc, table, steps)?;
     let mut lines = Vec::new(alloc);
-    put_checks(alloc, &mut lines, table, options, places.as_slice(), steps)?;
+    let check = KeyCheck {
+        options,
+        places: places.as_slice(),
+    };
+    check.put_checks(alloc, &mut lines, table, steps)?;
     Ok(Text::from(lines))
 }
 
@@ -66,75 +77,76 @@ pub fn check_places<L: Ledger>(
     Ok(places)
 }
 
-// Appends a line for each key at `places` that has a fault.
-fn put_checks<L: Ledger>(
-    alloc: Global,
-    lines: &mut Vec<u8>,
-    table: &mut LiveTable,
-    options: &Options,
-    places: &[usize],
-    steps: &mut Steps<L>,
-) -> Result<(), AllocError>
-    requires printable { IsPrintable options.now }
-    requires right { IsRightTable table.old }
-    ensures lines { OnOk result (lines.new.items ≡ lines.old.items
-        ++ spec.check_among (tables.table table.old.deck) (style_of options.now)
-        (keys_there table.old.deck.lines places.now)) }
-    ensures queries { AreQueries
-        (spec.queries_among (tables.table table.old.deck) (keys_there table.old.deck.lines places.now)) result
-        table.old table.new steps.old steps.new }
-    ensures deck { table.new.deck ≡ table.old.deck }
-{
-    for place in places {
-        put_check_at(alloc, lines, table, options, *place, steps)?;
+impl KeyCheck<'_> {
+    // Appends a line for each key that has a fault.
+    fn put_checks<L: Ledger>(
+        &self,
+        alloc: Global,
+        lines: &mut Vec<u8>,
+        table: &mut LiveTable,
+        steps: &mut Steps<L>,
+    ) -> Result<(), AllocError>
+        requires printable { IsPrintable self.now.options.now }
+        requires right { IsRightTable table.old }
+        ensures lines { OnOk result (lines.new.items ≡ lines.old.items
+            ++ spec.check_among (tables.table table.old.deck) (style_of self.now.options.now)
+            (keys_there table.old.deck.lines self.now.places.now)) }
+        ensures queries { AreQueries
+            (spec.queries_among (tables.table table.old.deck) (keys_there table.old.deck.lines self.now.places.now))
+            result table.old table.new steps.old steps.new }
+        ensures deck { table.new.deck ≡ table.old.deck }
+    {
+        for place in self.places {
+            self.put_check_at(alloc, lines, table, *place, steps)?;
+        }
+        Ok(())
     }
-    Ok(())
-}
 
-/// Appends the line of the key at `place`, if it has a fault.
-pub(crate) fn put_check_at<L: Ledger>(
-    alloc: Global,
-    lines: &mut Vec<u8>,
-    table: &mut LiveTable,
-    options: &Options,
-    place: usize,
-    steps: &mut Steps<L>,
-) -> Result<(), AllocError>
-    requires printable { IsPrintable options.now }
-    requires right { IsRightTable table.old }
-    ensures line { OnOk result (lines.new.items ≡ lines.old.items
-        ++ given_by_key (spec.check_line (tables.table table.old.deck) (style_of options.now))
-        (key_there table.old.deck.lines place)) }
-    ensures queries { AreQueries (given_by_key (λ k. (spec.key_finding (tables.table table.old.deck) k).events)
-        (key_there table.old.deck.lines place)) result table.old table.new steps.old steps.new }
-    ensures deck { table.new.deck ≡ table.old.deck }
-{
-    let Some(key) = table.deck().key_at(place) else {
-        return Ok(());
-    };
-    let key = copy_key(alloc, key.kind, key.name)?;
-    put_check(alloc, lines, table, options, &key, steps)
-}
+    /// Appends the line of the key at `place`, if it has a fault.
+    pub(crate) fn put_check_at<L: Ledger>(
+        &self,
+        alloc: Global,
+        lines: &mut Vec<u8>,
+        table: &mut LiveTable,
+        place: usize,
+        steps: &mut Steps<L>,
+    ) -> Result<(), AllocError>
+        requires printable { IsPrintable self.now.options.now }
+        requires right { IsRightTable table.old }
+        ensures line { OnOk result (lines.new.items ≡ lines.old.items
+            ++ given_by_key (spec.check_line (tables.table table.old.deck) (style_of self.now.options.now))
+            (key_there table.old.deck.lines place)) }
+        ensures queries { AreQueries (given_by_key (λ k. (spec.key_finding (tables.table table.old.deck) k).events)
+            (key_there table.old.deck.lines place)) result table.old table.new steps.old steps.new }
+        ensures deck { table.new.deck ≡ table.old.deck }
+    {
+        let Some(key) = table.deck().key_at(place) else {
+            return Ok(());
+        };
+        let key = copy_key(alloc, key.kind, key.name)?;
+        self.put_check(alloc, lines, table, &key, steps)
+    }
 
-// Appends the line of a key, if it has a fault.
-fn put_check<L: Ledger>(
-    alloc: Global,
-    lines: &mut Vec<u8>,
-    table: &mut LiveTable,
-    options: &Options,
-    key: &Key,
-    steps: &mut Steps<L>,
-) -> Result<(), AllocError>
-    requires printable { IsPrintable options.now }
-    requires right { IsRightTable table.old }
-    ensures line { OnOk result (lines.new.items ≡ lines.old.items
-        ++ spec.check_line (tables.table table.old.deck) (style_of options.now) key.now) }
-    ensures queries { AreQueries (spec.key_finding (tables.table table.old.deck) key.now).events result
-        table.old table.new steps.old steps.new }
-    ensures deck { table.new.deck ≡ table.old.deck }
-{
-    let found = check_key(alloc, table, key, steps);
-    put_finding(alloc, lines, options, key, found)
+    // Appends the line of a key, if it has a fault.
+    fn put_check<L: Ledger>(
+        &self,
+        alloc: Global,
+        lines: &mut Vec<u8>,
+        table: &mut LiveTable,
+        key: &Key,
+        steps: &mut Steps<L>,
+    ) -> Result<(), AllocError>
+        requires printable { IsPrintable self.now.options.now }
+        requires right { IsRightTable table.old }
+        ensures line { OnOk result (lines.new.items ≡ lines.old.items
+            ++ spec.check_line (tables.table table.old.deck) (style_of self.now.options.now) key.now) }
+        ensures queries { AreQueries (spec.key_finding (tables.table table.old.deck) key.now).events result
+            table.old table.new steps.old steps.new }
+        ensures deck { table.new.deck ≡ table.old.deck }
+    {
+        let found = check_key(alloc, table, key, steps);
+        put_finding(alloc, lines, self.options, key, found)
+    }
 }
 
 // Checks a key.

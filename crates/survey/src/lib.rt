@@ -17,7 +17,7 @@ mod units_reply;
 
 pub use check_blocks::put_check_block;
 pub use conformable_units::conformable_report;
-pub use key_checks::{check_places, check_report};
+pub use key_checks::{KeyCheck, check_places, check_report};
 pub use laws::{examples_law, prefix_law};
 pub use name_search::search_report;
 pub use units_reply::conformable_reply;

@@ -17,7 +17,7 @@ use session::leaves_law;
 use std::alloc::Global;
 use std::mem;
 use std::sync::ledger::Ledger;
-use survey::{check_places, put_check_block};
+use survey::{KeyCheck, check_places, put_check_block};
 use units_io::{Sink, Steps, put_all};
 
 /// Writes a check report, which begins with the notices of the definitions. Its lines are written as they are made, so
@@ -89,7 +89,11 @@ impl CheckPlan {
         let mut rest = places;
         let mut any = false;
         loop {
-            let Ok(done) = put_check_block(alloc, lines, table, options, rest, steps) else {
+            let check = KeyCheck {
+                options,
+                places: rest,
+            };
+            let Ok(done) = put_check_block(alloc, lines, table, &check, steps) else {
                 return Status::NoMemory;
             };
             let Ok(()) = put_all(out, lines.as_slice()) else {

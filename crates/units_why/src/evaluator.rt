@@ -9,7 +9,7 @@ use quantity::Quantity;
 use reply::{Options, ReplyFault, fault_text};
 use std::alloc::{AllocError, Global};
 use std::sync::ledger::Ledger;
-use survey::put_check_block;
+use survey::{KeyCheck, put_check_block};
 use units_io::{Steps, Text};
 use value_sources::{FailedStep, failed_step};
 
@@ -62,7 +62,12 @@ impl<L: Ledger> Evaluator<L> {
         self.table.outcomes_are_right();
         let table = &mut self.table;
         let steps = &mut self.steps;
-        let _ = put_check_block(self.alloc, lines, table, options, &[place], steps)?;
+        let places = [place];
+        let check = KeyCheck {
+            options,
+            places: places.as_slice(),
+        };
+        let _ = put_check_block(self.alloc, lines, table, &check, steps)?;
         Ok(())
     }
 

@@ -6,10 +6,11 @@ use Rattle.survey.proofs.check_blocks.put_check_block.Given as goal
 
 abbrev pub invariant-loop-done : goal.invariant-loop-done
 invariant-loop-done g l = record {
-  within : l.done ≤ length l.places;
-  at : IsUnderway (line_at l.fn.table.deck (style_of l.options)) (queries_at l.fn.table.deck) l.places l.done
+  within : l.done ≤ length l.check.places.now;
+  at : IsUnderway (line_at l.fn.table.deck (style_of l.check.options.now)) (queries_at l.fn.table.deck)
+      l.check.places.now l.done
       l.fn.lines.items l.lines.items l.fn.table l.table l.fn.steps l.steps;
 }
 
 abbrev pub decreases-loop-done : goal.decreases-loop-done
-decreases-loop-done g l = length l.places - l.done
+decreases-loop-done g l = length l.check.places.now - l.done

@@ -28,8 +28,8 @@ returns-clause-queries g c =
     ∙ subst (λ (d : Contents). keys_there d.lines c.in_ok-places.places.items ≡ table_keys (table d))
     c.deck.ensures.deck (c.in_ok-places.ensures {u = tt}) in
     subst (λ (ks : List Key). AreQueries (unit_queries (table c.args.table.now.deck) ks) c.rows_or_none.result
-    c.args.table.now c.put_conforming_rows.new.table c.args.steps.now c.put_conforming_rows.new.steps) keys
+    c.args.table.now c.put_rows.new.table c.args.steps.now c.put_rows.new.steps) keys
     (queries_made c.rows_or_none.result
     (unit_queries (table c.args.table.now.deck) (keys_there c.args.table.now.deck.lines c.as_slice.result.now))
-    c.args.table.now c.put_conforming_rows.new.table c.args.steps.now c.put_conforming_rows.new.steps
-    c.put_conforming_rows.ensures.deck c.in_ok-put_conforming_rows.ensures.queries)
+    c.args.table.now c.put_rows.new.table c.args.steps.now c.put_rows.new.steps
+    c.put_rows.ensures.deck c.in_ok-put_rows.ensures.queries)

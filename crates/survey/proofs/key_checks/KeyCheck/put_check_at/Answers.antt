@@ -5,7 +5,7 @@ use Rattle.std.proofs.lemmas.Result.{err_from_is_err_and}
 use Rattle.live_table.specs.Calls.{AreQueries}
 use Rattle.live_table.proofs.NameQueries.{cut_at_once}
 use Rattle.survey.proofs.Places.{queries_at}
-use Rattle.survey.proofs.key_checks.put_check_at.Goals as goal
+use Rattle.survey.proofs.key_checks.KeyCheck.put_check_at.Goals as goal
 
 pub returns-in_err-key-clause-queries : goal.returns-in_err-key-clause-queries
 returns-in_err-key-clause-queries g c =

@@ -20,7 +20,7 @@ use Rattle.survey.specs.Rows.{key_row}
 use Rattle.survey.proofs.Places.{unit_queries_at}
 use Rattle.survey.proofs.UnitRows.{no-query, no-row, word-asked, word-told}
 use Rattle.survey.proofs.ValuedUnits.{answer_of, value_asked, value_memory, value_row}
-use Rattle.survey.proofs.conformable_units.put_row_at.Goals as goal
+use Rattle.survey.proofs.conformable_units.UnitSearch.put_row_at.Goals as goal
 
 pub returns-in_err-word-clause-queries : goal.returns-in_err-word-clause-queries
 returns-in_err-word-clause-queries g c =
@@ -36,7 +36,7 @@ returns-in_default-clause-rows g c =
     no-row c.args.table.now.deck c.args.place
     (subst (λ (d : Contents). None ≡ option_map (λ k. Word k.name) (unit_there d c.args.place)) c.deck.ensures.deck
     (ap (option_map syntax) (sym c.in_default.is) ∙ c.in_ok-word.ensures))
-    c.args.from.now c.args.rows.now.items
+    c.args.self.now.from.now c.args.rows.now.items
 
 pub returns-in_default-clause-queries : goal.returns-in_default-clause-queries
 returns-in_default-clause-queries g c =
@@ -52,7 +52,7 @@ returns-clause-rows g c =
     let t = table c.args.table.now.deck in
     let said = table_answer t tree in
     let found = answer_of said c.value_if_any-found.result in
-    word-told c.args.from.now c.args.table.now.deck c.args.place tree
+    word-told c.args.self.now.from.now c.args.table.now.deck c.args.place tree
     (subst (λ (d : Contents). Some tree ≡ option_map (λ k. Word k.name) (unit_there d c.args.place)) c.deck.ensures.deck
     (ap (option_map syntax) (sym c.in-Some.is) ∙ c.in_ok-word.ensures))
     c.args.table.now c.value_if_any-found.new.self c.args.steps.now c.value_if_any-found.new.steps found
@@ -61,7 +61,8 @@ returns-clause-rows g c =
     c.value_if_any-found.ensures.after)
     c.deck-2.result.now (c.deck-2.ensures.deck ∙ c.value_if_any-found.ensures.deck)
     c.args.rows.now.items c.put_if_conforming.new.rows.items c.put_if_conforming.result
-    (value_row c.args.from.now said c.value_if_any-found.result c.put_if_conforming.result c.args.rows.now.items
+    (value_row c.args.self.now.from.now said c.value_if_any-found.result c.put_if_conforming.result
+    c.args.rows.now.items
     c.put_if_conforming.new.rows.items
     (given_by_key (key_row (table c.deck-2.result.now)) (key_there c.deck-2.result.now.lines c.args.place))
     c.value_if_any-found.ensures.value c.put_if_conforming.ensures.row c.put_if_conforming.ensures.memory)

@@ -2,11 +2,12 @@ use Rattle.deck.specs.Tables.{table}
 use Rattle.reply.specs.Options.{style_of}
 use Rattle.survey.specs.Checks.{key_finding}
 use Rattle.survey.proofs.Findings.{are-made, line-told}
-use Rattle.survey.proofs.key_checks.put_check.Goals as goal
+use Rattle.survey.proofs.key_checks.KeyCheck.put_check.Goals as goal
 
 pub returns-clause-line : goal.returns-clause-line
 returns-clause-line g c =
-    line-told (style_of c.args.options.now) c.args.key.now (key_finding (table c.args.table.now.deck) c.args.key.now)
+    line-told (style_of c.args.self.now.options.now) c.args.key.now
+    (key_finding (table c.args.table.now.deck) c.args.key.now)
     c.args.table.now c.check_key-found.new.table c.args.steps.now c.check_key-found.new.steps c.args.lines.now.items
     c.put_finding.new.text.items c.check_key-found.result c.check_key-found.ensures.inquired c.put_finding.result
     c.put_finding.ensures.line c.put_finding.ensures.memory
