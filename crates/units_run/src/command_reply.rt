@@ -5,34 +5,24 @@ ghost use Rattle.units_run.specs.CommandReply as spec;
 ghost use Rattle.units_run.specs.ProgramPlans.{IsReplyOf};
 
 use live_table::LiveTable;
-use reply::{Options, Reply, convert_reply, definition_reply};
+use reply::{Question, Reply, convert_reply, definition_reply};
 use std::alloc::{AllocError, Global};
 use std::sync::ledger::Ledger;
 use survey::conformable_reply;
 use units_io::Steps;
 
-/// FROM and TO on a command line. TO may be blank or `?`.
-#[derive(Clone, Copy)]
-pub(crate) struct Question<'a> {
-    pub(crate) from: &'a [u8],
-    pub(crate) to: &'a [u8],
-}
-
-/// Returns the reply to a question. The only error is running out of memory.
+/// Returns the reply to FROM and TO on a command line. TO may be blank or `?`. The only error is running out of memory.
 pub(crate) fn ask<L: Ledger>(
     alloc: Global,
     table: &mut LiveTable,
-    options: &Options,
     question: &Question<'_>,
     steps: &mut Steps<L>,
 ) -> Result<Reply, AllocError>
-    requires { IsPrintable options.now }
-    ensures { IsReplyOf
-        (spec.asked_for (tables.table table.old.deck) options.now question.now.from.now question.now.to.now) result
-        table.old table.new steps.old steps.new }
+    requires { IsPrintable question.now.options.now }
+    ensures { IsReplyOf (spec.asked_for (tables.table table.old.deck) question.now.options.now question.now.from.now
+        question.now.to.now) result table.old table.new steps.old steps.new }
 {
-    let from = question.from;
-    let to = question.to;
+    let Question { options, from, to } = *question;
     if to.is_empty() {
         return definition_reply(alloc, table, options, from, steps);
     }

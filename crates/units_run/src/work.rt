@@ -12,7 +12,7 @@ ghost use Rattle.units_run.specs.Work as spec;
 
 use crate::check_plan::CheckPlan;
 use crate::column_plan::ColumnPlan;
-use crate::command_reply::{Question, ask};
+use crate::command_reply::ask;
 use crate::options::options_of;
 use crate::plan::Plan;
 use crate::status::Status;
@@ -21,6 +21,7 @@ use command_line::CommandLine;
 use deck::Deck;
 use def_lines::line_content;
 use live_table::LiveTable;
+use reply::Question;
 use session::{Said, Session, leaves_law, notice_lines};
 use std::alloc::{AllocError, Global};
 use std::mem;
@@ -82,10 +83,11 @@ fn reply_plan<L: Ledger>(
     let notices = notice_lines(alloc, table.deck())?;
     let options = options_of(line);
     let question = Question {
+        options: &options,
         from: line_content(from),
         to: to_text(line),
     };
-    let reply = ask(alloc, table, &options, &question, steps)?;
+    let reply = ask(alloc, table, &question, steps)?;
     let status = reply_status(reply.refused);
     let said = Said {
         out: reply.text.into_bytes(),
