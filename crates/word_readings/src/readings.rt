@@ -10,7 +10,7 @@ ghost use Rattle.name_lookup.specs.Candidates as lookup;
 ghost use Rattle.name_lookup.specs.Plurals.{has_ending, without_end};
 ghost use Rattle.word_readings.specs.Readings as spec;
 
-use crate::endings::without_ending;
+use crate::endings::{PluralEnding, without_ending};
 use crate::reading::Reading;
 use deck::Deck;
 use def_entry::Kind;
@@ -23,29 +23,36 @@ pub fn word_readings(alloc: Global, deck: &Deck, word: &[u8]) -> Result<Vec<Read
     ensures { IfOk result (λ readings. spec.readings_keys readings.items ≡ spec.readings (table deck.now) word.now) }
 {
     let mut readings = Vec::new(alloc);
-    put_without(alloc, deck, &mut readings, word, 2, b"s")?;
-    put_without(alloc, deck, &mut readings, word, 3, b"es")?;
+    let s = PluralEnding {
+        letters: b"s",
+        more: 2,
+    };
+    let es = PluralEnding {
+        letters: b"es",
+        more: 3,
+    };
+    put_without(alloc, deck, &mut readings, word, &s)?;
+    put_without(alloc, deck, &mut readings, word, &es)?;
     put_with_y(alloc, deck, &mut readings, word)?;
     put_with_prefixes(alloc, deck, &mut readings, word)?;
     Ok(readings)
 }
 
-// Appends the readings of the singular, which is `word` without `ending`, if `word` ends so and has more than `more`
-// bytes.
+// Appends the readings of the singular, which is the word without an ending, if it ends so and is long enough.
 #[tactic(auto, using(crate::proofs::Present::singular_there, crate::proofs::Present::singular_absent))]
 fn put_without(
     alloc: Global,
     deck: &Deck,
     readings: &mut Vec<Reading>,
     word: &[u8],
-    more: usize,
-    ending: &[u8],
+    ending: &PluralEnding<'_>,
 ) -> Result<(), AllocError>
     ensures { OnOk result (spec.readings_keys readings.new.items ≡ spec.readings_keys readings.old.items
         ++ spec.readings_present (table deck.now) (flat_map lookup.singular_candidates
-        (if has_ending more ending.now word.now then without_end (length ending.now) word.now ∷ [] else []))) }
+        (if has_ending ending.now.more ending.now.letters.now word.now
+        then without_end (length ending.now.letters.now) word.now ∷ [] else []))) }
 {
-    match without_ending(word, more, ending) {
+    match without_ending(word, ending) {
         Some(singular) => put_singular(alloc, deck, readings, singular),
         None => Ok(()),
     }
@@ -63,7 +70,11 @@ fn put_with_y(
         ++ spec.readings_present (table deck.now) (flat_map lookup.singular_candidates
         (if has_ending 4 (codes "ies") word.now then (without_end 3 word.now ++ codes "y") ∷ [] else []))) }
 {
-    let Some(front) = without_ending(word, 4, b"ies") else {
+    let ies = PluralEnding {
+        letters: b"ies",
+        more: 4,
+    };
+    let Some(front) = without_ending(word, &ies) else {
         return Ok(());
     };
     let mut singular = Vec::from_slice(alloc, front)?;
