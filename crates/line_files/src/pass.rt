@@ -17,11 +17,13 @@ pub(crate) struct Pass<'a> {
     pub(crate) found: LineFiles,
 }
 
-/// A file that is being read: its name, and the index at which the name may be stored.
+/// A file that is being read: its name, the index at which the name may be stored, and how deep files may be nested
+/// below it.
 #[derive(Clone, Copy)]
 pub(crate) struct NamedFile<'a> {
     pub(crate) name: &'a [u8],
     pub(crate) near: usize,
+    pub(crate) depth: u8,
 }
 
 impl<'a> Pass<'a> {

@@ -39,7 +39,7 @@ pub fn find_line_files<F: Files>(
         expected: lines,
         found: LineFiles::new(alloc),
     };
-    pass_file(alloc, files, &mut pass, name, bytes, MOST_DEPTH)?;
+    pass.read_file(alloc, files, name, bytes, MOST_DEPTH)?;
     let Pass { expected: _, found } = pass;
     if found.len() != lines.len() {
         return Err(LineFilesFault::Changed);
@@ -47,99 +47,100 @@ pub fn find_line_files<F: Files>(
     Ok(found)
 }
 
-// Passes over the lines of a file with this name and these bytes. Below it, files may be nested up to `depth` deep.
-#[cycle(pass)]
-fn pass_file<F: Files>(
-    alloc: Global,
-    files: &mut F,
-    pass: &mut Pass<'_>,
-    name: &[u8],
-    bytes: &[u8],
-    depth: u8,
-) -> Result<(), LineFilesFault>
-    requires { length bytes.now ≤ longest_file }
-    ensures found { (m : FileMap) → F.files files.old ≡ Some m → OnOk result
-        (pass.new.found ≡ pass.old.found ++ spec.file_names (spec.lines_above m depth name.now bytes.now)) }
-    ensures kept { F.files files.new ≡ F.files files.old }
-{
-    let file = NamedFile {
-        name,
-        near: pass.found.name_count(),
-    };
-    let mut blocks: Vec<Block> = Vec::new(alloc);
-    let mut lines = Cursor::new(bytes);
-    while let Some(line) = lines.take_shown(alloc)? {
-        pass_line(alloc, files, pass, file, &mut blocks, &line, depth)?;
-    }
-    pass_missing_ends(alloc, pass, file, blocks)
-}
-
-// Passes over the next line of a file in which `blocks` are open.
-#[cycle(pass)]
-fn pass_line<F: Files>(
-    alloc: Global,
-    files: &mut F,
-    pass: &mut Pass<'_>,
-    file: NamedFile<'_>,
-    blocks: &mut Vec<Block>,
-    line: &LentLine<'_>,
-    depth: u8,
-) -> Result<(), LineFilesFault>
-    ensures found { (m : FileMap) → F.files files.old ≡ Some m → OnOk result
-        (pass.new.found ≡ pass.old.found ++ spec.file_names
-        (spec.lines_of_line m depth file.entry.name.now (reverse blocks.old.items) line.now)) }
-    ensures blocks { OnOk result (reverse blocks.new.items
-        ≡ excerpts.blocks_behind_line (reverse blocks.old.items) line.now (reading_of line.now.text)) }
-    ensures kept { F.files files.new ≡ F.files files.old }
-{
-    pass.push(alloc, file, line.number(), line.text())?;
-    match step_of(line.text()) {
-        Step::Includes(word) => {
-            let name = name_beside(alloc, file.name, word)?;
-            pass_include(alloc, files, pass, name.as_bytes(), depth)
+impl Pass<'_> {
+    // Reads the lines of a file with this name and these bytes. Below it, files may be nested up to `depth` deep.
+    #[cycle(pass)]
+    fn read_file<F: Files>(
+        &mut self,
+        alloc: Global,
+        files: &mut F,
+        name: &[u8],
+        bytes: &[u8],
+        depth: u8,
+    ) -> Result<(), LineFilesFault>
+        requires { length bytes.now ≤ longest_file }
+        ensures found { (m : FileMap) → F.files files.old ≡ Some m → OnOk result
+            (self.new.found ≡ self.old.found ++ spec.file_names (spec.lines_above m depth name.now bytes.now)) }
+        ensures kept { F.files files.new ≡ F.files files.old }
+    {
+        let file = NamedFile {
+            name,
+            near: self.found.name_count(),
+            depth,
+        };
+        let mut blocks: Vec<Block> = Vec::new(alloc);
+        let mut lines = Cursor::new(bytes);
+        while let Some(line) = lines.take_shown(alloc)? {
+            self.read_line(alloc, files, file, &mut blocks, &line)?;
         }
-        Step::Changes(role) => change_blocks(blocks, line.number(), role),
+        self.read_missing_ends(alloc, file, blocks)
     }
-}
 
-// Passes over the lines of the included file with this name. Files may be nested up to `depth` deep, counting this
-// file.
-#[cycle(pass)]
-fn pass_include<F: Files>(
-    alloc: Global,
-    files: &mut F,
-    pass: &mut Pass<'_>,
-    name: &[u8],
-    depth: u8,
-) -> Result<(), LineFilesFault>
-    ensures found { (m : FileMap) → F.files files.old ≡ Some m → OnOk result
-        (pass.new.found ≡ pass.old.found ++ spec.file_names (spec.lines_below m depth name.now)) }
-    ensures kept { F.files files.new ≡ F.files files.old }
-{
-    if depth == 0 {
-        return Ok(());
+    // Reads the next line of a file in which `blocks` are open.
+    #[cycle(pass)]
+    fn read_line<F: Files>(
+        &mut self,
+        alloc: Global,
+        files: &mut F,
+        file: NamedFile<'_>,
+        blocks: &mut Vec<Block>,
+        line: &LentLine<'_>,
+    ) -> Result<(), LineFilesFault>
+        ensures found { (m : FileMap) → F.files files.old ≡ Some m → OnOk result
+            (self.new.found ≡ self.old.found ++ spec.file_names
+            (spec.lines_of_line m file.entry.depth file.entry.name.now (reverse blocks.old.items) line.now)) }
+        ensures blocks { OnOk result (reverse blocks.new.items
+            ≡ excerpts.blocks_behind_line (reverse blocks.old.items) line.now (reading_of line.now.text)) }
+        ensures kept { F.files files.new ≡ F.files files.old }
+    {
+        self.push(alloc, file, line.number(), line.text())?;
+        match step_of(line.text()) {
+            Step::Includes(word) => {
+                let name = name_beside(alloc, file.name, word)?;
+                self.read_include(alloc, files, name.as_bytes(), file.depth)
+            }
+            Step::Changes(role) => change_blocks(blocks, line.number(), role),
+        }
     }
-    match files.fetch(alloc, name) {
-        Ok(text) => pass_file(alloc, files, pass, name, text.as_bytes(), depth - 1),
-        Err(FetchFault::Absent) => Ok(()),
-        Err(FetchFault::TooLong) => Ok(()),
-        Err(FetchFault::Failed) => Err(LineFilesFault::Changed),
-        Err(FetchFault::OutOfMemory) => Err(LineFilesFault::OutOfMemory),
-    }
-}
 
-// Passes over the end lines of the blocks that are not closed, innermost first.
-fn pass_missing_ends(
-    alloc: Global,
-    pass: &mut Pass<'_>,
-    file: NamedFile<'_>,
-    mut blocks: Vec<Block>,
-) -> Result<(), LineFilesFault>
-    ensures { OnOk result (pass.new.found
-        ≡ pass.old.found ++ map (λ block. file.entry.name.now) (reverse blocks.items)) }
-{
-    while let Some(block) = blocks.pop() {
-        pass.push(alloc, file, block.number, end_line_text(block.ending))?;
+    // Reads the lines of the included file with this name. Files may be nested up to `depth` deep, counting this file.
+    #[cycle(pass)]
+    fn read_include<F: Files>(
+        &mut self,
+        alloc: Global,
+        files: &mut F,
+        name: &[u8],
+        depth: u8,
+    ) -> Result<(), LineFilesFault>
+        ensures found { (m : FileMap) → F.files files.old ≡ Some m → OnOk result
+            (self.new.found ≡ self.old.found ++ spec.file_names (spec.lines_below m depth name.now)) }
+        ensures kept { F.files files.new ≡ F.files files.old }
+    {
+        if depth == 0 {
+            return Ok(());
+        }
+        match files.fetch(alloc, name) {
+            Ok(text) => self.read_file(alloc, files, name, text.as_bytes(), depth - 1),
+            Err(FetchFault::Absent) => Ok(()),
+            Err(FetchFault::TooLong) => Ok(()),
+            Err(FetchFault::Failed) => Err(LineFilesFault::Changed),
+            Err(FetchFault::OutOfMemory) => Err(LineFilesFault::OutOfMemory),
+        }
     }
-    Ok(())
+
+    // Reads the end lines of the blocks that are not closed, innermost first.
+    fn read_missing_ends(
+        &mut self,
+        alloc: Global,
+        file: NamedFile<'_>,
+        mut blocks: Vec<Block>,
+    ) -> Result<(), LineFilesFault>
+        ensures { OnOk result (self.new.found
+            ≡ self.old.found ++ map (λ block. file.entry.name.now) (reverse blocks.items)) }
+    {
+        while let Some(block) = blocks.pop() {
+            self.push(alloc, file, block.number, end_line_text(block.ending))?;
+        }
+        Ok(())
+    }
 }
