@@ -8,9 +8,6 @@ ghost use Rattle.gap_list.specs.Searches.{AreBefore};
 use std::alloc::{AllocError, Global};
 use std::marker::Model;
 
-// The number of gaps from which on they are filled, so that adding one moves few others.
-const MANY_GAPS: usize = 1_024;
-
 /// The slots of a list whose items were removed, in increasing order. The place of an item is the number of its slot
 /// less the number of gaps before it.
 #[derive(Drop)]
@@ -46,10 +43,10 @@ impl Gaps {
         self.slots.len()
     }
 
-    /// Reports whether the gaps of a list with this many slots should be filled: they are more than half of the slots,
-    /// or so many that adding one moves many others.
+    /// Reports whether the gaps of a list with this many slots should be filled: they are more than a sixteenth of the
+    /// slots. So each removal pays for sixteen moves of a later pass, and adding a gap moves few others.
     pub fn are_many(&self, slots: usize) -> bool {
-        self.len() > MANY_GAPS.min(slots / 2)
+        self.len() > slots / 16
     }
 
     /// Returns the first gap, if there is one.
